@@ -1,0 +1,4 @@
+pub mod Due
+pub mod Fault
+pub mod Run
+pub mod Watched

@@ -1,0 +1,4 @@
+mod Grids
+mod Cuts
+mod Lines
+mod Ranges

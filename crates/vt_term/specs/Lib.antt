@@ -1,0 +1,6 @@
+pub mod Grid
+pub mod State
+pub mod Tabs
+pub mod Effect
+pub mod Play
+pub mod Text

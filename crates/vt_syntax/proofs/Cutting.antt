@@ -1,0 +1,150 @@
+-- Bytes after a rest, and bytes after what is held of it.
+use Rattle.std.proofs.Common.{◌≡◌, ℕ, List, [], ◌∷◌, ◌++◌, Option, None, refl, sym, ap, subst, ◌∙◌, append_assoc, append-nil}
+use Rattle.std.specs.List.{flat_map}
+use Rattle.std.proofs.lemmas.List.Concat.{flat_map-append}
+use Rattle.vt_syntax.specs.declared.event.Event.{Event}
+use Rattle.vt_syntax.specs.declared.held.Held.{Held}
+use Rattle.vt_syntax.specs.Items.{Beginning, rest_bytes, IsRest}
+use Rattle.vt_syntax.specs.Split.{Parts, split_one, split_after, split_of}
+use Rattle.vt_syntax.specs.Reading.{reading, rest_reading, events_of}
+use Rattle.vt_syntax.specs.Held.{held_of, held_after, IsHeldPart, spell, events_from, held_from}
+use Rattle.vt_syntax.specs.Steps.{Step, step_to, step_of}
+use Rattle.vt_syntax.proofs.Splits.{last_is_rest}
+use Rattle.vt_syntax.proofs.OneSplit.{rest_reads}
+use Rattle.vt_syntax.proofs.OneByte.{Matches, byte_matches}
+use Rattle.vt_syntax.proofs.HeldSpelling.{spelled_rest, bytes_of_spelled, is_spelled}
+
+-- one step after another
+run : Held → List ℕ → Step
+run held [] = step_to held []
+run held (b ∷ bytes) =
+    let now = step_of held b in let later = run now.held bytes in step_to later.held (now.events ++ later.events)
+
+runs : (bytes : List ℕ) (rest : Option Beginning) → Matches (rest_reading rest) (split_after rest bytes) (run (held_of rest) bytes)
+unfolding split_after run
+runs [] rest = record { held = refl; events = sym (append-nil (rest_reading rest)) }
+runs (b ∷ bytes) rest =
+    let now = split_one rest b in
+    let m = byte_matches rest b in
+    let ih = runs bytes now.rest in
+    let t = step_of (held_of rest) b in
+    let later = split_after now.rest bytes in
+    subst (λ (h : Held). Matches (rest_reading rest) (split_after rest (b ∷ bytes)) (step_to (run h bytes).held (t.events ++ (run h bytes).events))) m.held
+    (record {
+      held = ih.held;
+      events =
+          ap (λ (e : List Event). e ++ rest_reading later.rest) (flat_map-append reading now.items later.items)
+          ∙ append_assoc (flat_map reading now.items) (flat_map reading later.items) (rest_reading later.rest)
+          ∙ ap (λ (e : List Event). flat_map reading now.items ++ e) ih.events
+          ∙ sym (append_assoc (flat_map reading now.items) (rest_reading now.rest) (run (held_of now.rest) bytes).events)
+          ∙ ap (λ (e : List Event). e ++ (run (held_of now.rest) bytes).events) m.events
+          ∙ append_assoc (rest_reading rest) t.events (run (held_of now.rest) bytes).events;
+    })
+
+-- what the bytes of a rest and more read, and hold
+rest_runs : (rest : Option Beginning) (more : List ℕ) → IsRest rest → Matches (rest_reading rest) (split_of (rest_bytes rest ++ more)) (run (held_of rest) more)
+rest_runs rest more h =
+    subst (λ (p : Parts). Matches (rest_reading rest) p (run (held_of rest) more)) (sym (rest_reads rest more h)) (runs more rest)
+
+-- and so of the bytes that spell what is held of it
+spell_runs : (rest : Option Beginning) (more : List ℕ) → IsRest rest → Matches [] (split_of (spell (held_of rest) ++ more)) (run (held_of rest) more)
+spell_runs rest more h =
+    let held = held_of rest in
+    let s = is_spelled rest in
+    let m = rest_runs (spelled_rest held) more s.is_rest in
+    let n : Matches (rest_reading (spelled_rest held)) (split_of (spell held ++ more)) (run (held_of (spelled_rest held)) more) = subst (λ (t : List ℕ). Matches (rest_reading (spelled_rest held)) (split_of (t ++ more)) (run (held_of (spelled_rest held)) more)) (bytes_of_spelled held) m in
+    let o : Matches (rest_reading (spelled_rest held)) (split_of (spell held ++ more)) (run held more) = subst (λ (t : Held). Matches (rest_reading (spelled_rest held)) (split_of (spell held ++ more)) (run t more)) s.holds n in
+    subst (λ (t : List Event). Matches t (split_of (spell held ++ more)) (run held more)) s.reads o
+
+-- ---- the laws
+
+-- whatever follows, a rest and the bytes that spell what is held of it go on alike
+pub same_events : (rest : Option Beginning) (more : List ℕ) → IsRest rest → events_of (rest_bytes rest ++ more) ≡ rest_reading rest ++ events_of (spell (held_of rest) ++ more)
+same_events rest more h =
+    (rest_runs rest more h).events ∙ ap (λ (e : List Event). rest_reading rest ++ e) (sym (spell_runs rest more h).events)
+
+pub same_held : (rest : Option Beginning) (more : List ℕ) → IsRest rest → held_after (rest_bytes rest ++ more) ≡ held_after (spell (held_of rest) ++ more)
+same_held rest more h = (rest_runs rest more h).held ∙ sym (spell_runs rest more h).held
+
+-- the spelling of a held part leaves it, and is read as nothing
+pub spelled_held : (held : Held) → IsHeldPart held → held_after (spell held) ≡ held
+unfolding run
+spelled_held held i =
+    subst (λ (h : Held). held_after (spell h) ≡ h) i.of_rest
+    (ap (λ (t : List ℕ). held_after t) (sym (append-nil (spell (held_of i.rest)))) ∙ (spell_runs i.rest [] i.is_rest).held)
+
+pub spelled_events : (held : Held) → IsHeldPart held → events_of (spell held) ≡ []
+unfolding run
+spelled_events held i =
+    subst (λ (h : Held). events_of (spell h) ≡ []) i.of_rest
+    (ap (λ (t : List ℕ). events_of t) (sym (append-nil (spell (held_of i.rest)))) ∙ (spell_runs i.rest [] i.is_rest).events)
+
+pub held_nil : (held : Held) → IsHeldPart held → held_from held [] ≡ held
+held_nil held i = ap (λ (t : List ℕ). held_after t) (append-nil (spell held)) ∙ spelled_held held i
+
+pub events_nil : (held : Held) → IsHeldPart held → events_from held [] ≡ []
+events_nil held i = ap (λ (t : List ℕ). events_of t) (append-nil (spell held)) ∙ spelled_events held i
+
+-- ---- one byte after what is held
+
+pub step_events : (held : Held) (b : ℕ) → IsHeldPart held → events_of (spell held ++ b ∷ []) ≡ (step_of held b).events
+unfolding run
+step_events held b i =
+    subst (λ (h : Held). events_of (spell h ++ b ∷ []) ≡ (step_of h b).events) i.of_rest
+    ((spell_runs i.rest (b ∷ []) i.is_rest).events ∙ append-nil (step_of (held_of i.rest) b).events)
+
+pub step_held : (held : Held) (b : ℕ) → IsHeldPart held → held_after (spell held ++ b ∷ []) ≡ (step_of held b).held
+unfolding run
+step_held held b i =
+    subst (λ (h : Held). held_after (spell h ++ b ∷ []) ≡ (step_of h b).held) i.of_rest
+    (spell_runs i.rest (b ∷ []) i.is_rest).held
+
+-- what bytes leave is a held part
+pub held_part : (bytes : List ℕ) → IsHeldPart (held_after bytes)
+held_part bytes =
+    record { rest = (split_of bytes).rest; is_rest = last_is_rest bytes; of_rest = refl }
+
+pub step_is_held : (held : Held) (b : ℕ) → IsHeldPart held → IsHeldPart (step_of held b).held
+step_is_held held b i = subst (λ (h : Held). IsHeldPart h) (step_held held b i) (held_part (spell held ++ b ∷ []))
+
+-- ---- bytes after bytes
+
+run_append : (held : Held) (bytes more : List ℕ) → run held (bytes ++ more) ≡ step_to (run (run held bytes).held more).held ((run held bytes).events ++ (run (run held bytes).held more).events)
+unfolding run
+run_append held [] more = refl
+run_append held (b ∷ bytes) more =
+    let now = step_of held b in
+    let e = run_append now.held bytes more in
+    ap (λ (t : Step). step_to t.held (now.events ++ t.events)) e
+    ∙ ap (λ (events : List Event). step_to (run (run now.held bytes).held more).held events) (sym (append_assoc now.events (run now.held bytes).events (run (run now.held bytes).held more).events))
+
+-- the events of bytes, and then those of more bytes after what is held
+events_append : (bytes more : List ℕ) → events_of (bytes ++ more) ≡ events_of bytes ++ events_of (spell (held_after bytes) ++ more)
+unfolding run
+events_append bytes more =
+    let a = runs bytes None in
+    let b = spell_runs (split_of bytes).rest more (last_is_rest bytes) in
+    (runs (bytes ++ more) None).events
+    ∙ ap (λ (t : Step). t.events) (run_append (held_of None) bytes more)
+    ∙ ap (λ (events : List Event). events ++ (run (run (held_of None) bytes).held more).events) (sym a.events)
+    ∙ ap (λ (h : Held). events_of bytes ++ (run h more).events) (sym a.held)
+    ∙ ap (λ (events : List Event). events_of bytes ++ events) (sym b.events)
+
+held_append : (bytes more : List ℕ) → held_after (bytes ++ more) ≡ held_after (spell (held_after bytes) ++ more)
+unfolding run
+held_append bytes more =
+    let a = runs bytes None in
+    let b = spell_runs (split_of bytes).rest more (last_is_rest bytes) in
+    (runs (bytes ++ more) None).held
+    ∙ ap (λ (t : Step). t.held) (run_append (held_of None) bytes more)
+    ∙ ap (λ (h : Held). (run h more).held) (sym a.held)
+    ∙ sym b.held
+
+-- and so after any held part
+pub events_from_append : (held : Held) (first second : List ℕ) → events_from held (first ++ second) ≡ events_from held first ++ events_from (held_from held first) second
+events_from_append held first second =
+    ap (λ (t : List ℕ). events_of t) (sym (append_assoc (spell held) first second)) ∙ events_append (spell held ++ first) second
+
+pub held_from_append : (held : Held) (first second : List ℕ) → held_from held (first ++ second) ≡ held_from (held_from held first) second
+held_from_append held first second =
+    ap (λ (t : List ℕ). held_after t) (sym (append_assoc (spell held) first second)) ∙ held_append (spell held ++ first) second

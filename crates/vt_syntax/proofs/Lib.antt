@@ -1,0 +1,11 @@
+pub mod Classes
+pub mod Splits
+pub mod OneSplit
+pub mod Steps
+pub mod ControlSequences
+pub mod OneByte
+pub mod HeldSpelling
+pub mod Cutting
+pub mod EventSpelling
+pub mod EventRanges
+pub mod PlainRuns

@@ -1,0 +1,26 @@
+-- One step after what is held is what the split of its bytes and one more reads.
+use Rattle.std.proofs.Common.{◌∷◌, [], sym, ap, ◌∙◌}
+use Rattle.vt_syntax.specs.declared.held.Held.{Held}
+use Rattle.vt_syntax.specs.Held.{events_from, held_from}
+use Rattle.vt_syntax.proofs.Cutting.{step_events, step_held, step_is_held}
+use Rattle.vt_syntax.proofs.EventRanges.{is_event}
+use Rattle.vt_syntax.proofs.parser.Parser.push.Goals as goal
+
+pub invariant_of-self : goal.invariant_of-self
+invariant_of-self c =
+    rw (c.step.ensures.holds) (step_is_held c.self.inside.held c.args.b c.self.invariant)
+
+pub returns-clause-event : goal.returns-clause-event
+returns-clause-event c =
+    c.step.ensures.tells
+    ∙ sym (step_events c.self.inside.held c.args.b c.self.invariant)
+    ∙ ap (λ (h : Held). events_from h (c.args.b ∷ [])) c.self.view_is
+
+pub returns-clause-held : goal.returns-clause-held
+returns-clause-held c =
+    c.step.ensures.holds
+    ∙ sym (step_held c.self.inside.held c.args.b c.self.invariant)
+    ∙ ap (λ (h : Held). held_from h (c.args.b ∷ [])) c.self.view_is
+
+pub returns-clause-in_range : goal.returns-clause-in_range
+returns-clause-in_range c = is_event _ c.step.result (returns-clause-event c)

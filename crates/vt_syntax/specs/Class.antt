@@ -1,0 +1,62 @@
+-- The classes of bytes (ECMA-48 5.4, ECMA-35 13; which bytes are quiet is this profile). A byte is at most 0xFF.
+use Rattle.std.specs.Prelude.{◌≡◌, ◌≤◌, ℕ, List, [], ◌∷◌, Bool, true, false, nat_lt, nat_le, ◌==◌, ◌||◌, ◌&&◌, not, if◌then◌else◌}
+use Rattle.vt_syntax.specs.declared.class.Class.{Class}
+use Rattle.vt_syntax.specs.declared.class.Class.TheVariants.{Quiet, Cancel, Esc, Intermediate, Parameter, Final, High}
+
+-- 18 and 1A cancel, 1B is ESC, the others below 20 and 7F are quiet; then 20..2F, 30..3F, 40..7E, and from 80 on
+unfoldable pub class_of : ℕ → Class
+class_of b =
+    if b == 0x18 || b == 0x1A then Cancel else (
+    if b == 0x1B then Esc else (
+    if nat_lt b 0x20 || b == 0x7F then Quiet else (
+    if nat_lt b 0x30 then Intermediate else (
+    if nat_lt b 0x40 then Parameter else (
+    if nat_lt b 0x7F then Final else High)))))
+
+abbrev pub is_quiet_class : Class → Bool
+is_quiet_class Quiet = true
+is_quiet_class _ = false
+
+abbrev pub is_intermediate_class : Class → Bool
+is_intermediate_class Intermediate = true
+is_intermediate_class _ = false
+
+abbrev pub is_parameter_class : Class → Bool
+is_parameter_class Parameter = true
+is_parameter_class _ = false
+
+abbrev pub is_quiet : ℕ → Bool
+is_quiet b = is_quiet_class (class_of b)
+
+abbrev pub is_intermediate : ℕ → Bool
+is_intermediate b = is_intermediate_class (class_of b)
+
+abbrev pub is_parameter : ℕ → Bool
+is_parameter b = is_parameter_class (class_of b)
+
+-- the C1 controls that open a string: DCS, SOS, OSC, PM and APC (ECMA-48 5.6)
+unfoldable pub opens_string : ℕ → Bool
+opens_string b = b == 0x90 || b == 0x98 || b == 0x9D || b == 0x9E || b == 0x9F
+
+-- the C1 controls that open a control sequence (CSI) or a string
+abbrev pub opens : ℕ → Bool
+opens b = b == 0x9B || opens_string b
+
+-- the bytes that open something
+abbrev pub is_opener : ℕ → Bool
+is_opener b = b == 0x1B || opens b
+
+-- the plain bytes, 20..7E: graphic bytes of the left half
+abbrev pub is_plain : ℕ → Bool
+is_plain b = nat_le 0x20 b && nat_lt b 0x7F
+
+abbrev pub is_not_plain : ℕ → Bool
+is_not_plain b = not (is_plain b)
+
+abbrev pub IsPlain : ℕ → Type 0
+IsPlain b = (0x20 ≤ b) × (b ≤ 0x7E)
+
+-- each byte of the list passes
+abbrev pub Each : (ℕ → Bool) → List ℕ → Type 0
+Each p [] = Unit {0}
+Each p (b ∷ bytes) = (p b ≡ true) × Each p bytes

@@ -1,0 +1,80 @@
+-- The held part of a rest: what of it decides how it goes on. Its spelling: short bytes that leave it.
+use Rattle.std.specs.Prelude.{◌≡◌, ℕ, List, [], ◌∷◌, ◌++◌, map, length, Bool, Option, Some, None, nat_lt, if◌then◌else◌, decimal}
+use Rattle.std.specs.List.{join_with_byte}
+use Rattle.std.specs.Option.{option_to_list}
+use Rattle.vt_syntax.specs.declared.event.Event.{Event}
+use Rattle.vt_syntax.specs.declared.held.Held.{Held}
+use Rattle.vt_syntax.specs.declared.held.Held.TheVariants.{Nothing, Escape, Control, Spoilt, Text}
+use Rattle.vt_syntax.specs.declared.held.Inters.{Inters}
+use Rattle.vt_syntax.specs.declared.held.Inters.TheVariants.{Zero, One, Many}
+use Rattle.vt_syntax.specs.declared.held.Phase.{Phase}
+use Rattle.vt_syntax.specs.declared.held.Phase.TheVariants.{Start, Values, Inter}
+use Rattle.vt_syntax.specs.Items.{Beginning, OfEscape, OfControl, OfString, inters_of, is_osc, IsRest}
+use Rattle.vt_syntax.specs.Split.{split_of}
+use Rattle.vt_syntax.specs.Reading.{without_quiet, marker_of, values_of, params_of, is_spoilt, events_of}
+
+-- `Start` with nothing after the introducer, `Inter` with an intermediate, else `Values`
+abbrev pub phase_by : List ℕ → Inters → Phase
+phase_by [] _ = Start
+phase_by (b ∷ bytes) (One i) = Inter i
+phase_by (b ∷ bytes) _ = Values
+
+abbrev pub phase_of : List ℕ → Phase
+phase_of bytes = phase_by bytes (inters_of bytes)
+
+-- of the bytes inside a control sequence, the quiet bytes taken out
+abbrev pub held_control : List ℕ → Held
+held_control bytes =
+    if is_spoilt bytes then Spoilt
+    else Control (marker_of bytes) (params_of bytes) (nat_lt 16 (length (values_of bytes))) (phase_of bytes)
+
+abbrev pub held_of_beginning : Beginning → Held
+held_of_beginning (OfEscape inside) = Escape (inters_of inside)
+held_of_beginning (OfControl opening inside) = held_control (without_quiet inside)
+held_of_beginning (OfString opening code content) = Text (is_osc code)
+
+abbrev pub held_of : Option Beginning → Held
+held_of None = Nothing
+held_of (Some beginning) = held_of_beginning beginning
+
+-- the held part after bytes
+abbrev pub held_after : List ℕ → Held
+held_after bytes = held_of (split_of bytes).rest
+
+-- a held part is that of some rest
+pub record IsHeldPart (held : Held) : Type 0 where
+  pub rest : Option Beginning
+  pub is_rest : IsRest rest
+  pub of_rest : held_of rest ≡ held
+
+-- ---- spelling
+
+-- the marker, the values in decimal with `;` between them, and a last `;` where a 17th began
+abbrev pub spell_values : Option ℕ → List ℕ → Bool → List ℕ
+spell_values marker values full =
+    option_to_list marker ++ join_with_byte 0x3B (map decimal values) ++ (if full then 0x3B ∷ [] else [])
+
+abbrev pub spell_control : Option ℕ → List ℕ → Bool → Phase → List ℕ
+spell_control marker values full Start = []
+spell_control marker values full Values = spell_values marker values full
+spell_control marker values full (Inter i) = spell_values marker values full ++ i ∷ []
+
+-- the spelling of a held part
+abbrev pub spell : Held → List ℕ
+spell Nothing = []
+spell (Escape Zero) = 0x1B ∷ []
+spell (Escape (One i)) = 0x1B ∷ i ∷ []
+spell (Escape Many) = 0x1B ∷ 0x20 ∷ 0x20 ∷ []
+spell (Control marker params full phase) = 0x9B ∷ spell_control marker params.items full phase
+spell Spoilt = 0x9B ∷ 0x3A ∷ []
+spell (Text osc) = (if osc then 0x9D else 0x90) ∷ []
+
+-- ---- bytes after a held part
+
+-- the events of bytes that come while this is held
+abbrev pub events_from : Held → List ℕ → List Event
+events_from held bytes = events_of (spell held ++ bytes)
+
+-- the held part after them
+abbrev pub held_from : Held → List ℕ → Held
+held_from held bytes = held_after (spell held ++ bytes)

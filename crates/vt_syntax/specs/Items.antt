@@ -1,0 +1,131 @@
+-- What bytes are cut into: single bytes, escape sequences (ECMA-35 13), control sequences (ECMA-48 5.4) and
+-- control strings (ECMA-48 5.6), whole or cut off. Quiet bytes inside a sequence are part of it (this profile).
+use Rattle.std.specs.Prelude.{◌≡◌, ℕ, ◌+◌, ◌-◌, List, [], ◌∷◌, ◌++◌, Bool, true, false, Option, Some, None, ◌==◌, ◌||◌, ◌&&◌, not, filter}
+use Rattle.vt_syntax.specs.declared.class.Class.{Class}
+use Rattle.vt_syntax.specs.declared.class.Class.TheVariants.{Quiet, Cancel, Esc, Intermediate, Parameter, Final, High}
+use Rattle.vt_syntax.specs.declared.held.Inters.{Inters}
+use Rattle.vt_syntax.specs.declared.held.Inters.TheVariants.{Zero, One, Many}
+use Rattle.vt_syntax.specs.Class.{class_of, is_quiet, is_intermediate, opens_string, opens, is_opener, Each}
+
+-- how a control sequence or string is opened: by the C1 control itself, or by its 7-bit form, which is ESC, here with
+-- quiet bytes after it, and the byte that is 40 lower (ECMA-48 5.3)
+pub data Opening : Type 0 where
+  EightBit : Opening
+  SevenBit : List ℕ → Opening
+
+-- the beginning of an escape sequence: ESC and bytes inside; of a control sequence: its opening and bytes inside;
+-- of a string: its opening, the C1 control that opens it, and content
+pub data Beginning : Type 0 where
+  OfEscape : List ℕ → Beginning
+  OfControl : Opening → List ℕ → Beginning
+  OfString : Opening → ℕ → List ℕ → Beginning
+
+-- a single byte; a beginning with its last byte; a beginning that the next byte, no part of it, cuts off
+pub data Item : Type 0 where
+  Single : ℕ → Item
+  Ended : Beginning → ℕ → Item
+  Cut : Beginning → Item
+
+abbrev pub opening_bytes : Opening → ℕ → List ℕ
+opening_bytes EightBit code = code ∷ []
+opening_bytes (SevenBit quiets) code = 0x1B ∷ (quiets ++ (code - 0x40) ∷ [])
+
+abbrev pub beginning_bytes : Beginning → List ℕ
+beginning_bytes (OfEscape inside) = 0x1B ∷ inside
+beginning_bytes (OfControl opening inside) = opening_bytes opening 0x9B ++ inside
+beginning_bytes (OfString opening code content) = opening_bytes opening code ++ content
+
+abbrev pub item_bytes : Item → List ℕ
+item_bytes (Single b) = b ∷ []
+item_bytes (Ended beginning last) = beginning_bytes beginning ++ last ∷ []
+item_bytes (Cut beginning) = beginning_bytes beginning
+
+abbrev pub rest_bytes : Option Beginning → List ℕ
+rest_bytes None = []
+rest_bytes (Some beginning) = beginning_bytes beginning
+
+-- no, one or more intermediates
+abbrev pub inters : List ℕ → Inters
+inters [] = Zero
+inters (i ∷ []) = One i
+inters (i ∷ j ∷ more) = Many
+
+abbrev pub inters_of : List ℕ → Inters
+inters_of inside = inters (filter is_intermediate inside)
+
+-- after ESC with no intermediate, the byte is the 7-bit form of a C1 control that opens something: `[ P X ] ^ _`
+abbrev pub introduces : Inters → ℕ → Bool
+introduces Zero b = opens (b + 0x40)
+introduces _ b = false
+
+-- a final 30..7E, CAN or SUB
+abbrev pub ends_escape : Class → Bool → Bool
+ends_escape Cancel _ = true
+ends_escape Parameter _ = true
+ends_escape Final introducing = not introducing
+ends_escape _ _ = false
+
+-- a final 40..7E, CAN or SUB
+abbrev pub ends_control : Class → Bool
+ends_control Cancel = true
+ends_control Final = true
+ends_control _ = false
+
+-- CAN, SUB, ST (9C) and, of OSC alone, BEL (this profile)
+unfoldable pub ends_string : Bool → ℕ → Bool
+ends_string osc b = b == 0x18 || b == 0x1A || b == 0x9C || osc && b == 0x07
+
+abbrev pub is_osc : ℕ → Bool
+is_osc code = code == 0x9D
+
+-- the byte ends it, as its last byte
+abbrev pub ends : Beginning → ℕ → Bool
+ends (OfEscape inside) b = ends_escape (class_of b) (introduces (inters_of inside) b)
+ends (OfControl opening inside) b = ends_control (class_of b)
+ends (OfString opening code content) b = ends_string (is_osc code) b
+
+-- ESC, or a byte 80..FF (this profile)
+abbrev pub cuts_sequence : Class → Bool
+cuts_sequence Esc = true
+cuts_sequence High = true
+cuts_sequence _ = false
+
+-- the byte cuts it off, and is no part of it; a string is cut by ESC alone
+abbrev pub cuts : Beginning → ℕ → Bool
+cuts (OfEscape inside) b = cuts_sequence (class_of b)
+cuts (OfControl opening inside) b = cuts_sequence (class_of b)
+cuts (OfString opening code content) b = b == 0x1B
+
+abbrev pub continues_escape : Class → Bool
+continues_escape Quiet = true
+continues_escape Intermediate = true
+continues_escape _ = false
+
+abbrev pub continues_control : Class → Bool
+continues_control Quiet = true
+continues_control Intermediate = true
+continues_control Parameter = true
+continues_control _ = false
+
+abbrev pub IsOpening : Opening → Type 0
+IsOpening EightBit = Unit {0}
+IsOpening (SevenBit quiets) = Each is_quiet quiets
+
+-- after ESC quiet and intermediate bytes; after CSI quiet bytes and 20..3F, in any order; in a string every byte that
+-- neither ends nor cuts it
+abbrev pub IsBeginning : Beginning → Type 0
+IsBeginning (OfEscape inside) = Each (λ b. continues_escape (class_of b)) inside
+IsBeginning (OfControl opening inside) = IsOpening opening × Each (λ b. continues_control (class_of b)) inside
+IsBeginning (OfString opening code content) =
+    IsOpening opening × (opens_string code ≡ true) × Each (λ b. not (ends_string (is_osc code) b || b == 0x1B)) content
+
+abbrev pub IsRest : Option Beginning → Type 0
+IsRest None = Unit {0}
+IsRest (Some beginning) = IsBeginning beginning
+
+-- it is an item where these bytes follow it
+abbrev pub IsItemBefore : List ℕ → Item → Type 0
+IsItemBefore after (Single b) = is_opener b ≡ false
+IsItemBefore after (Ended beginning last) = IsBeginning beginning × (ends beginning last ≡ true)
+IsItemBefore [] (Cut beginning) = ⊥
+IsItemBefore (b ∷ after) (Cut beginning) = IsBeginning beginning × (cuts beginning b ≡ true)

@@ -1,0 +1,48 @@
+//! What of an unfinished sequence still matters.
+use arrayvec::ArrayVec;
+
+/// The held part: what of an unfinished sequence or string decides how it goes on.
+#[derive(Clone, Debug, PartialEq, Eq, Drop)]
+pub enum Held {
+    /// Between sequences.
+    Nothing,
+    /// ESC and intermediates.
+    Escape(Inters),
+    /// A control sequence that isn't spoilt.
+    Control {
+        /// The private marker, 3C..3F.
+        marker: Option<u8>,
+        /// The values so far, the last one unfinished: 1 to 16, each at most 9999.
+        params: ArrayVec<u16, 16>,
+        /// Whether a 17th parameter began; it and later ones are dropped.
+        full: bool,
+        /// How far it has come.
+        phase: Phase,
+    },
+    /// A control sequence that has no function, whatever comes before its final byte.
+    Spoilt,
+    /// A string: DCS, SOS, PM or APC, or OSC, which BEL ends too.
+    Text {
+        /// Whether it is OSC.
+        osc: bool,
+    },
+}
+
+/// The intermediates of an escape sequence: of two or more, which have no function, it doesn't matter which.
+#[derive(Clone, Copy, Debug, PartialEq, Eq)]
+pub enum Inters {
+    Zero,
+    One(u8),
+    Many,
+}
+
+/// How far a control sequence has come.
+#[derive(Clone, Copy, Debug, PartialEq, Eq)]
+pub enum Phase {
+    /// No parameter byte, marker or intermediate has come, and the values are one 0.
+    Start,
+    /// A parameter byte or marker has come, and no intermediate.
+    Values,
+    /// This intermediate has come.
+    Inter(u8),
+}

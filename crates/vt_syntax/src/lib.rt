@@ -1,0 +1,22 @@
+//! The syntax of a terminal's input (ECMA-48, ECMA-35, EK-VT220-RM): bytes, one at a time, into events.
+//!
+//! A byte list has one split into items (single bytes, escape sequences, control sequences, strings and cuts) and a
+//! rest; its events are the reading of these. [`Parser`] takes the bytes one at a time and holds, in bounded room, what
+//! of the rest still matters; [`laws`] has what a caller may conclude of longer byte lists. Nothing here takes memory or
+//! refuses a byte.
+#![tactic(auto)]
+
+mod class;
+mod event;
+mod held;
+pub mod laws;
+mod parser;
+mod plain;
+
+pub use event::Event;
+pub use held::{Held, Inters, Phase};
+pub use parser::Parser;
+pub use plain::plain_run;
+
+#[cfg(test)]
+mod tests;

@@ -1,0 +1,119 @@
+//! Runs of plain bytes, found by lanes.
+ghost use Rattle.std.specs.Prelude.{◌≡◌, ◌+◌, ◌<◌, ◌≤◌, length, map, take, drop, slice_index, All};
+ghost use Rattle.std.specs.List.{prefix_len};
+ghost use Rattle.std.specs.Simd.Lanes.{mask_l};
+ghost use Rattle.vt_syntax.specs.Class.{is_plain, is_not_plain, IsPlain};
+
+use std::simd::prelude::*;
+
+/// How many bytes of `piece`, from the first on, are plain, that is 20..7E.
+pub fn plain_run(piece: &[u8]) -> usize
+    ensures within { result ≤ length piece.now }
+    ensures plain { All IsPlain (take result piece.now) }
+    ensures stops { result < length piece.now → ¬ IsPlain (slice_index piece.now result) }
+{
+    plain_end(piece)
+}
+
+/// The place of the first byte that isn't plain, or the length.
+///
+/// The first 8 bytes are looked at one by one, since that finds the end of a short run soonest.
+fn plain_end(piece: &[u8]) -> usize
+    ensures { result ≡ prefix_len is_plain piece.now }
+{
+    if piece.len() < 8 {
+        return plain_end_slowly(piece, 0);
+    }
+    for i in 0..8usize {
+        if piece[i] < 0x20 || 0x7F <= piece[i] {
+            return i;
+        }
+    }
+    plain_end_32(piece, 8)
+}
+
+/// The same, looked for from `from` on, a vector of 32 bytes at a time.
+fn plain_end_32(piece: &[u8], from: usize) -> usize
+    requires { from ≤ length piece.now }
+    ensures { result ≡ from + prefix_len is_plain (drop from piece.now) }
+{
+    let mut at = from;
+    while piece.len() - at >= 32 {
+        let stops = stops_32(u8x32::from_slice(&piece[at..]));
+        if stops != 0 {
+            return at + stops.trailing_zeros() as usize;
+        }
+        at += 32;
+    }
+    plain_end_16(piece, at)
+}
+
+/// The same, where fewer than 32 bytes are left.
+fn plain_end_16(piece: &[u8], at: usize) -> usize
+    requires { at ≤ length piece.now }
+    ensures { result ≡ at + prefix_len is_plain (drop at piece.now) }
+{
+    if piece.len() - at < 16 {
+        return plain_end_8(piece, at);
+    }
+    let stops = stops_16(u8x16::from_slice(&piece[at..]));
+    if stops != 0 {
+        return at + stops.trailing_zeros() as usize;
+    }
+    plain_end_8(piece, at + 16)
+}
+
+/// The same, where fewer than 16 bytes are left.
+fn plain_end_8(piece: &[u8], at: usize) -> usize
+    requires { at ≤ length piece.now }
+    ensures { result ≡ at + prefix_len is_plain (drop at piece.now) }
+{
+    if piece.len() - at < 8 {
+        return plain_end_slowly(piece, at);
+    }
+    let stops = stops_8(u8x8::from_slice(&piece[at..]));
+    if stops != 0 {
+        return at + stops.trailing_zeros() as usize;
+    }
+    plain_end_slowly(piece, at + 8)
+}
+
+/// The same, a byte at a time.
+fn plain_end_slowly(piece: &[u8], from: usize) -> usize
+    requires { from ≤ length piece.now }
+    ensures { result ≡ from + prefix_len is_plain (drop from piece.now) }
+{
+    let mut at = from;
+    while at < piece.len() && 0x20 <= piece[at] && piece[at] < 0x7F {
+        at += 1;
+    }
+    at
+}
+
+/// A bit for each lane that isn't plain: less 20, with wrapping, it is above 5E.
+#[inline(always)]
+fn stops_32(lanes: u8x32) -> u64
+    ensures { result ≡ mask_l (map is_not_plain lanes) }
+{
+    u8x32::splat(0x5E)
+        .simd_lt(lanes - u8x32::splat(0x20))
+        .to_bitmask()
+}
+
+#[inline(always)]
+fn stops_16(lanes: u8x16) -> u64
+    ensures { result ≡ mask_l (map is_not_plain lanes) }
+{
+    u8x16::splat(0x5E)
+        .simd_lt(lanes - u8x16::splat(0x20))
+        .to_bitmask()
+}
+
+#[inline(always)]
+fn stops_8(lanes: u8x8) -> u64
+    ensures { result ≡ mask_l (map is_not_plain lanes) }
+{
+    u8x8::splat(0x5E)
+        .simd_lt(lanes - u8x8::splat(0x20))
+        .to_bitmask()
+}

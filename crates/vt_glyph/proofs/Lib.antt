@@ -1,0 +1,6 @@
+pub mod Lists
+pub mod Charts
+pub mod Glyphs
+pub mod Reading
+pub mod Designations
+pub mod Spelled

@@ -1,0 +1,54 @@
+-- Designations, shifts, and reading a graphic byte through the sets.
+-- (VT220 manual, chapter 4: SCS, the locking shifts and the single shifts. The sets at power-up are this project's choice.)
+use Rattle.std.specs.Prelude.{ℕ, ◌%◌, List, [], ◌∷◌, Bool, Option, Some, None, ◌==◌, ◌&&◌, ◌||◌, not, nat_lt, if◌then◌else◌, unwrap_or, slice_index_or, slice_set}
+use Rattle.vt_glyph.specs.declared.set.Set.{Set}
+use Rattle.vt_glyph.specs.declared.set.Set.TheVariants.{Ascii, Supplemental}
+use Rattle.vt_glyph.specs.GraphicSets.{GraphicSets}
+use Rattle.vt_glyph.specs.Tables.{glyph_of, space}
+
+-- G0 and G1 ASCII, G2 and G3 Supplemental, GL is G0, GR is G2
+abbrev pub sets_at_power_up : GraphicSets
+sets_at_power_up =
+    record { g = Ascii ∷ Ascii ∷ Supplemental ∷ Supplemental ∷ []; left = 0; right = 2; pending = None }
+
+-- SCS
+abbrev pub designated : ℕ → Set → GraphicSets → GraphicSets
+designated slot set sets = record sets { g = slice_set sets.g slot set }
+
+-- the locking shifts to GL: LS0, LS1, LS2, LS3
+abbrev pub locked_left : ℕ → GraphicSets → GraphicSets
+locked_left slot sets = record sets { left = slot }
+
+-- the locking shifts to GR: LS1R, LS2R, LS3R
+abbrev pub locked_right : ℕ → GraphicSets → GraphicSets
+locked_right slot sets = record sets { right = slot }
+
+-- the single shifts SS2, SS3: a second one replaces the first
+abbrev pub shifted_once : ℕ → GraphicSets → GraphicSets
+shifted_once slot sets = record sets { pending = Some slot }
+
+-- DECRC gives the designations and locking shifts back, and leaves a single shift pending
+abbrev pub restored : List Set → ℕ → ℕ → GraphicSets → GraphicSets
+restored g left right sets = record sets { g = g; left = left; right = right }
+
+-- the set designated as one of G0 to G3
+abbrev pub set_at : GraphicSets → ℕ → Set
+set_at sets slot = slice_index_or sets.g slot Ascii
+
+-- 20 has a glyph, and of both halves the codes 21 to 7E: so A0 and FF have none
+abbrev pub has_no_glyph : ℕ → Bool
+has_no_glyph b = not (b == 0x20) && (nat_lt (b % 0x80) 0x21 || nat_lt 0x7E (b % 0x80))
+
+-- the set that a byte is read through: that of a pending single shift, or else GL below 80 and GR above
+abbrev pub invoked : GraphicSets → ℕ → Set
+invoked sets b = set_at sets (unwrap_or sets.pending (if nat_lt b 0x80 then sets.left else sets.right))
+
+-- the glyph of a graphic byte, 20 to 7E or A0 to FF: 20 is always the space
+unfoldable pub glyph_read : GraphicSets → ℕ → Option ℕ
+glyph_read sets b =
+    if has_no_glyph b then None else (
+    if b == 0x20 then Some space else Some (glyph_of (invoked sets b) (b % 0x80)))
+
+-- a byte that has a glyph uses a pending single shift up
+unfoldable pub after_read : GraphicSets → ℕ → GraphicSets
+after_read sets b = if has_no_glyph b then sets else record sets { pending = None }

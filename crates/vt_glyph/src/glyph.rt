@@ -1,0 +1,157 @@
+//! What a cell shows, and how it is spelled.
+ghost use Rattle.std.specs.Prelude.{◌≡◌, ◌≤◌};
+
+use std::marker::Model;
+
+/// One of the 204 glyphs that the graphic sets show. Contracts see its Unicode number.
+///
+/// It is encoded in one byte, by its spelling: an ASCII glyph is its own code, one that is spelled
+/// after a single shift to G2 its code with the high bit set, and one that is spelled after a single
+/// shift to G3 its code less 60 (hexadecimal).
+#[derive(Clone, Copy, Debug)]
+pub struct Glyph {
+    // Two bytes wide, so that a cell of the screen takes eight and is written as one word.
+    byte: u16,
+}
+
+impl Model for Glyph {
+    ghost use Rattle.std.specs.Prelude.{ℕ, ◌<◌};
+    ghost use Rattle.vt_glyph.specs.Encoding.{encoded_glyph, encoding_of, IsEncoding, fields_back};
+
+    ghost Value = { ℕ };
+
+    ghost view = { λ g. encoded_glyph g.byte };
+
+    ghost invariant = { λ g. (g.byte < 0x100) × IsEncoding g.byte };
+
+    ghost inverse = { λ n. record { byte = encoding_of n } };
+
+    ghost inverse_ok = { λ g h. fields_back g h.1 };
+}
+
+impl PartialEq for Glyph {
+    ghost use Rattle.std.specs.Prelude.{nat_eq};
+    ghost use Rattle.std.specs.Cmp.Rules.{comparing};
+    ghost use Rattle.std.proofs.Common.{rules};
+
+    ghost eq = { nat_eq };
+
+    ghost laws = { Prim.search (comparing, rules) };
+
+    fn eq(&self, other: &Glyph) -> bool {
+        self.byte == other.byte
+    }
+}
+
+impl Eq for Glyph {
+    ghost use Rattle.std.specs.Cmp.Rules.{comparing};
+    ghost use Rattle.std.proofs.Common.{rules};
+
+    ghost laws = { Prim.search (comparing, rules) };
+}
+
+impl Glyph {
+    ghost use Rattle.vt_glyph.specs.Tables.{space, substitute_glyph, IsGlyph};
+    ghost use Rattle.vt_glyph.specs.Encoding.{encoded_glyph, IsEncoding};
+    ghost use Rattle.vt_glyph.specs.Spell.{spelling_of};
+
+    /// The space, U+0020, which a blank cell shows.
+    pub fn blank() -> Glyph
+        ensures { result ≡ space }
+    {
+        Glyph { byte: b' ' as u16 }
+    }
+
+    /// U+2426, which undefined places of Supplemental show and SUB writes. (This profile)
+    pub fn substitute() -> Glyph
+        ensures { result ≡ substitute_glyph }
+    {
+        Glyph { byte: 0xA4 }
+    }
+
+    /// The ASCII glyph of a code from 20 to 7E, the space among them.
+    pub fn ascii(code: u8) -> Glyph
+        requires { (0x20 ≤ code) × (code ≤ 0x7E) }
+        ensures { result ≡ code }
+    {
+        Glyph { byte: code as u16 }
+    }
+
+    /// The glyph that this byte encodes.
+    pub(crate) fn encoded(byte: u8) -> Glyph
+        requires { IsEncoding byte }
+        ensures { result ≡ encoded_glyph byte }
+    {
+        Glyph { byte: byte as u16 }
+    }
+
+    /// The character with the glyph's Unicode number. (VT220 manual, chapter 2; the numbers of Special
+    /// Graphics are this profile's.)
+    pub fn to_char(self) -> char
+        ensures value { result ≡ self }
+        ensures is_glyph { IsGlyph self }
+    {
+        CHARACTERS[self.byte as usize]
+    }
+
+    /// The one spelling of the glyph: in ASCII if it can be, else in Supplemental, else in Special
+    /// Graphics. (This profile; [`laws::spelling`](crate::laws::spelling))
+    pub fn spelling(self) -> Spelling
+        ensures { result ≡ spelling_of self }
+    {
+        let byte = self.byte as u8;
+        match byte {
+            0x00..=0x1F => Spelling::Third(byte + 0x60),
+            0x20..=0x7F => Spelling::Plain(byte),
+            _ => Spelling::Second(byte - 0x80),
+        }
+    }
+}
+
+/// The characters of the encoded glyphs, by their bytes. A byte that encodes none has U+2426, or a
+/// character that another byte encodes.
+const CHARACTERS: [char; 256] = [
+    // 0x00: codes 60 to 7E of Special Graphics
+    '◆', '▒', '␉', '␌', '␍', '␊', '°', '±', '␤', '␋', '┘', '┐', '┌', '└', '┼', '⎺',
+    // 0x10
+    '⎻', '─', '⎼', '⎽', '├', '┤', '┴', '┬', '│', '≤', '≥', 'π', '≠', '£', '·', '␦',
+    // 0x20: ASCII
+    ' ', '!', '"', '#', '$', '%', '&', '\'', '(', ')', '*', '+', ',', '-', '.', '/',
+    // 0x30
+    '0', '1', '2', '3', '4', '5', '6', '7', '8', '9', ':', ';', '<', '=', '>', '?',
+    // 0x40
+    '@', 'A', 'B', 'C', 'D', 'E', 'F', 'G', 'H', 'I', 'J', 'K', 'L', 'M', 'N', 'O',
+    // 0x50
+    'P', 'Q', 'R', 'S', 'T', 'U', 'V', 'W', 'X', 'Y', 'Z', '[', '\\', ']', '^', '_',
+    // 0x60
+    '`', 'a', 'b', 'c', 'd', 'e', 'f', 'g', 'h', 'i', 'j', 'k', 'l', 'm', 'n', 'o',
+    // 0x70
+    'p', 'q', 'r', 's', 't', 'u', 'v', 'w', 'x', 'y', 'z', '{', '|', '}', '~', '␦',
+    // 0x80: no glyphs
+    '␦', '␦', '␦', '␦', '␦', '␦', '␦', '␦', '␦', '␦', '␦', '␦', '␦', '␦', '␦', '␦',
+    // 0x90
+    '␦', '␦', '␦', '␦', '␦', '␦', '␦', '␦', '␦', '␦', '␦', '␦', '␦', '␦', '␦', '␦',
+    // 0xA0: Supplemental
+    '␦', '¡', '¢', '£', '␦', '¥', '␦', '§', '¤', '©', 'ª', '«', '␦', '␦', '␦', '␦',
+    // 0xB0
+    '°', '±', '²', '³', '␦', 'µ', '¶', '·', '␦', '¹', 'º', '»', '¼', '½', '␦', '¿',
+    // 0xC0
+    'À', 'Á', 'Â', 'Ã', 'Ä', 'Å', 'Æ', 'Ç', 'È', 'É', 'Ê', 'Ë', 'Ì', 'Í', 'Î', 'Ï',
+    // 0xD0
+    '␦', 'Ñ', 'Ò', 'Ó', 'Ô', 'Õ', 'Ö', 'Œ', 'Ø', 'Ù', 'Ú', 'Û', 'Ü', 'Ÿ', '␦', 'ß',
+    // 0xE0
+    'à', 'á', 'â', 'ã', 'ä', 'å', 'æ', 'ç', 'è', 'é', 'ê', 'ë', 'ì', 'í', 'î', 'ï',
+    // 0xF0
+    '␦', 'ñ', 'ò', 'ó', 'ô', 'õ', 'ö', 'œ', 'ø', 'ù', 'ú', 'û', 'ü', 'ÿ', '␦', 'ÿ',
+];
+
+/// The code that writes a glyph, and the single shift before it. (This profile)
+#[derive(Clone, Copy, Debug, PartialEq, Eq)]
+pub enum Spelling {
+    /// The byte itself, through GL.
+    Plain(u8),
+    /// After a single shift to G2, `ESC N`.
+    Second(u8),
+    /// After a single shift to G3, `ESC O`.
+    Third(u8),
+}

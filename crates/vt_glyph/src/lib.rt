@@ -1,0 +1,18 @@
+//! The glyphs of the terminal, the graphic sets that show them, and the bytes that spell them.
+//!
+//! A graphic byte is read through one of four designated sets ([`Sets::read`]), chosen by the locking
+//! shifts and a pending single shift. It shows one of 204 glyphs ([`Glyph`]), and each of these has one
+//! spelling ([`Spelling`]) that writes it where G0 is ASCII, G2 Supplemental, G3 Special Graphics, GL
+//! is G0 and no single shift is pending ([`laws::spelling`]).
+#![tactic(auto)]
+
+mod glyph;
+pub mod laws;
+mod set;
+mod sets;
+#[cfg(test)]
+mod tests;
+
+pub use glyph::{Glyph, Spelling};
+pub use set::Set;
+pub use sets::Sets;

@@ -1,0 +1,222 @@
+-- Maps of maps: runs, areas, and what the cells keep.
+use Rattle.std.proofs.Common.{◌≡◌, ◌≢◌, inl, inr, Bool, true, false, ◌&&◌, ◌||◌, ◌==◌, if◌then◌else◌, ℕ, ◌+◌, ◌-◌, ◌*◌, ◌/◌, ◌%◌, ◌≤◌, ◌<◌, ◌++◌, List, [], ◌∷◌, length, get_or, IsTrue, Contains, arith, refl, sym, ap, ◌∙◌, length-append}
+use Rattle.std.proofs.lemmas.Bool.Decides.{eqb_tells}
+use Rattle.std.proofs.lemmas.Bool.{cases_lt}
+use Rattle.std.proofs.lemmas.List.{get_or-append_right, get_or_past}
+use Rattle.std.proofs.lemmas.List.Elements.{All-get_or, Contains-get_or}
+use Rattle.std.proofs.lemmas.List.FromFn.{get_or-map-range_with_len, length-map-range_with_len}
+use Rattle.std.proofs.Math.ListN.{get_or-append}
+use Rattle.std.proofs.Math.Nat.{mod-lt, div-lt_iff_lt-mul}
+use Rattle.std.proofs.Math.Dec.{leb, ltb}
+use Rattle.vt_glyph.specs.Tables.{space, glyph_of}
+use Rattle.vt_screen.proofs.Places.{grid_of-same, grid_of-cell_at, cell_at-grid_of}
+use Rattle.vt_screen.proofs.Maps.{among-before}
+use Rattle.vt_screen.specs.declared.cell.Cell.{Cell}
+use Rattle.vt_screen.specs.Cells.{blank, erased, selectively_erased, ascii_glyph, ascii_cell}
+use Rattle.vt_screen.specs.Grid.{Grid, IsGrid, AllCells, last_row, grid_of, cells_of, cell_at, with_row, put, put_inserting, put_run, insert_cells, delete_cells, erase_area, scroll_up, scroll_down, is_within}
+
+-- ---- grids
+
+pub grids-same : (g h : Grid) → IsGrid g → IsGrid h → g.width ≡ h.width
+    → ((r c : ℕ) → 1 ≤ r → r ≤ last_row → 1 ≤ c → c ≤ g.width → cell_at g r c ≡ cell_at h r c) → g ≡ h
+grids-same g h is_g is_h wide same =
+    sym (grid_of-cell_at g is_g.cells)
+    ∙ grid_of-same g.width (cell_at g) (cell_at h) same
+    ∙ ap (λ w. grid_of w (cell_at h)) wide
+    ∙ grid_of-cell_at h is_h.cells
+
+-- the row that a formula gives, and the others
+cell_at-with_row : (g : Grid) (row : ℕ) (f : ℕ → Cell) (c : ℕ) → 1 ≤ row → row ≤ last_row → 1 ≤ c → c ≤ g.width → cell_at (with_row g row f) row c ≡ f c
+cell_at-with_row g row f c row1 row24 c1 cw =
+    cell_at-grid_of g.width (λ r c. if r == row then f c else cell_at g r c) row c row1 row24 c1 cw
+    ∙ elim (eqb_tells row row) [ inl e ↦ rw e.0 refl | inr e ↦ absurd (e.1 refl) ]
+
+cell_at-other_row : (g : Grid) (row : ℕ) (f : ℕ → Cell) (r c : ℕ) → 1 ≤ r → r ≤ last_row → 1 ≤ c → c ≤ g.width → r ≢ row → cell_at (with_row g row f) r c ≡ cell_at g r c
+cell_at-other_row g row f r c r1 r24 c1 cw other =
+    cell_at-grid_of g.width (λ r c. if r == row then f c else cell_at g r c) r c r1 r24 c1 cw
+    ∙ elim (eqb_tells r row) [ inl e ↦ absurd (other e.1) | inr e ↦ rw e.0 refl ]
+
+-- ---- runs
+
+pub ascii_glyph-is : (code : ℕ) → ascii_glyph code ≡ code
+unfolding glyph_of
+ascii_glyph-is code = elim (eqb_tells code 0x20) [
+  | inl e ↦ rw e.0 (sym e.1)
+  | inr e ↦ rw e.0 refl
+]
+
+pub run-none : (g : Grid) (row col : ℕ) (like : Cell) → IsGrid g → put_run g row col [] like ≡ g
+run-none g row col like is_grid =
+    grid_of-same g.width _ (cell_at g) (λ r c r1 r24 c1 cw. elim (eqb_tells r row) [
+      | inl e ↦ elim (among-before col (col + length {A = ℕ} []) c) [
+        | inl t ↦ absurd (omega (arith, t))
+        | inr t ↦ rw (e.0, e.1, t.0) refl
+      ]
+      | inr e ↦ rw e.0 refl
+    ])
+    ∙ grid_of-cell_at g is_grid.cells
+
+pub run-one : (g : Grid) (row col code : ℕ) (like : Cell) → put_run g row col (code ∷ []) like ≡ put g row col (ascii_cell like code)
+run-one g row col code like =
+    grid_of-same g.width _ _ (λ r c r1 r24 c1 cw. elim (eqb_tells r row) [
+      | inl e ↦ elim (among-before col (col + length (code ∷ [])) c) [
+        | inl t ↦ elim (eqb_tells c col) [
+          | inl f ↦
+              let place : c - col ≡ 0 = omega arith in
+              rw (e.0, t.0, f.0, place) refl
+          | inr f ↦ absurd (f.1 (omega (arith, t)))
+        ]
+        | inr t ↦ elim (eqb_tells c col) [
+          | inl f ↦ absurd (elim t.1 [ inl l ↦ omega arith | inr l ↦ omega arith ])
+          | inr f ↦ rw (e.0, t.0, f.0) refl
+        ]
+      ]
+      | inr e ↦ rw e.0 refl
+    ])
+
+-- the cell of a column of a run
+run-cell : (old : Cell) (col : ℕ) (a b : List ℕ) (like : Cell) (c : ℕ)
+    → (if leb col c && ltb c (col + length (a ++ b)) then ascii_cell like (get_or (a ++ b) (c - col) 0) else old)
+    ≡ (if leb (col + length a) c && ltb c (col + length a + length b) then ascii_cell like (get_or b (c - (col + length a)) 0)
+    else (if leb col c && ltb c (col + length a) then ascii_cell like (get_or a (c - col) 0) else old))
+run-cell old col a b like c =
+    let long = length-append a b in
+    elim (among-before col (col + length a) c) [
+      | inl t ↦ elim (among-before (col + length a) (col + length a + length b) c) [
+        | inl u ↦ absurd (omega (arith, t, u))
+        | inr u ↦ elim (among-before col (col + length (a ++ b)) c) [
+          | inl v ↦ rw (t.0, u.0, v.0) (ap (ascii_cell like) (get_or-append a b 0 (c - col) (omega (arith, t))))
+          | inr v ↦ absurd (elim v.1 [ inl l ↦ omega (arith, t) | inr l ↦ omega (arith, t) ])
+        ]
+      ]
+      | inr t ↦ elim (among-before (col + length a) (col + length a + length b) c) [
+        | inl u ↦ elim (among-before col (col + length (a ++ b)) c) [
+          | inl v ↦
+              let place : c - col - length a ≡ c - (col + length a) = omega arith in
+              rw (t.0, u.0, v.0) (ap (ascii_cell like) (get_or-append_right a b (length a) (c - col) 0 refl (omega (arith, u)) ∙ ap (λ x. get_or b x 0) place))
+          | inr v ↦ absurd (elim v.1 [ inl l ↦ omega (arith, u) | inr l ↦ omega (arith, u) ])
+        ]
+        | inr u ↦ elim (among-before col (col + length (a ++ b)) c) [
+          | inl v ↦ absurd (elim t.1 [ inl l ↦ omega (arith, v) | inr l ↦ elim u.1 [ inl m ↦ omega (arith, v) | inr m ↦ omega (arith, v) ] ])
+          | inr v ↦ rw (t.0, u.0, v.0) refl
+        ]
+      ]
+    ]
+
+pub run-append : (g : Grid) (row col : ℕ) (a b : List ℕ) (like : Cell)
+    → put_run g row col (a ++ b) like ≡ put_run (put_run g row col a like) row (col + length a) b like
+run-append g row col a b like =
+    let first : ℕ → Cell = λ c. if leb col c && ltb c (col + length a) then ascii_cell like (get_or a (c - col) 0) else cell_at g row c in
+    grid_of-same g.width _ _ (λ r c r1 r24 c1 cw. elim (eqb_tells r row) [
+      | inl e ↦ rw e.0 (run-cell (cell_at g row c) col a b like c
+          ∙ ap (λ x. if leb (col + length a) c && ltb c (col + length a + length b) then ascii_cell like (get_or b (c - (col + length a)) 0) else x)
+          (sym (cell_at-with_row g row first c (omega (arith, e)) (omega (arith, e)) c1 cw)))
+      | inr e ↦ rw e.0 (sym (cell_at-other_row g row first r c r1 r24 c1 cw e.1))
+    ])
+
+-- ---- areas
+
+pub area-none : (g : Grid) (selective : Bool) → IsGrid g → erase_area g (λ r c. false) selective ≡ g
+area-none g selective is_grid = grid_of-cell_at g is_grid.cells
+
+pub area-same : (g : Grid) (a b : ℕ → ℕ → Bool) (selective : Bool)
+    → ((r c : ℕ) → 1 ≤ r → r ≤ last_row → 1 ≤ c → c ≤ g.width → a r c ≡ b r c) → erase_area g a selective ≡ erase_area g b selective
+area-same g a b selective same = grid_of-same g.width _ _ (λ r c r1 r24 c1 cw. rw (same r c r1 r24 c1 cw) refl)
+
+-- what is erased stays so when it is erased again
+erased-erased : (selective : Bool) (cell : Cell) → erased selective (erased selective cell) ≡ erased selective cell
+erased-erased false cell = refl
+erased-erased true cell = go cell.protected refl
+  where
+    go : (p : Bool) → cell.protected ≡ p → selectively_erased (selectively_erased cell) ≡ selectively_erased cell
+    go true h = rw h refl
+    go false h = rw h refl
+
+erased-both : (x y selective : Bool) (cell : Cell)
+    → (if y then erased selective (if x then erased selective cell else cell) else (if x then erased selective cell else cell))
+    ≡ (if x || y then erased selective cell else cell)
+erased-both true true selective cell = erased-erased selective cell
+erased-both true false selective cell = refl
+erased-both false true selective cell = refl
+erased-both false false selective cell = refl
+
+pub area-both : (g : Grid) (a b : ℕ → ℕ → Bool) (selective : Bool)
+    → erase_area (erase_area g a selective) b selective ≡ erase_area g (λ r c. a r c || b r c) selective
+area-both g a b selective = grid_of-same g.width _ _ (λ r c r1 r24 c1 cw.
+    let here = cell_at-grid_of g.width (λ r c. if a r c then erased selective (cell_at g r c) else cell_at g r c) r c r1 r24 c1 cw in
+    ap (λ x. if b r c then erased selective x else x) here ∙ erased-both (a r c) (b r c) selective (cell_at g r c))
+
+-- ---- tests
+
+pub test-at : (test : Cell → Bool) (g : Grid) (r c : ℕ) → IsTrue (test blank) → AllCells test g → IsTrue (test (cell_at g r c))
+unfolding cell_at
+test-at test g r c on_blank all = elim (cases_lt ((r - 1) * g.width + (c - 1)) (length g.cells)) [
+  | inl l ↦ All-get_or (λ cell. IsTrue (test cell)) g.cells ((r - 1) * g.width + (c - 1)) blank l all
+  | inr l ↦ rw (get_or_past g.cells ((r - 1) * g.width + (c - 1)) blank l) on_blank
+]
+
+pub test-formula : (test : Cell → Bool) (w : ℕ) (f : ℕ → ℕ → Cell)
+    → ((r c : ℕ) → 1 ≤ r → r ≤ last_row → 1 ≤ c → c ≤ w → IsTrue (test (f r c))) → AllCells test (grid_of w f)
+unfolding cells_of
+test-formula test w f each = λ k d within.
+    let F : ℕ → Cell = λ k. f (k / w + 1) (k % w + 1) in
+    let low : k < last_row * w = omega (arith, length-map-range_with_len F 0 (last_row * w)) in
+    let wide : 0 < w = omega arith in
+    let row : k / w < last_row = (div-lt_iff_lt-mul wide).1 low in
+    let col : k % w < w = mod-lt k wide in
+    rw (get_or-map-range_with_len F 0 (last_row * w) k k d low (omega arith)) (each (k / w + 1) (k % w + 1) (omega arith) (omega arith) (omega arith) (omega arith))
+
+-- a choice of two cells that pass
+chosen : (test : Cell → Bool) (which : Bool) (x y : Cell) → IsTrue (test x) → IsTrue (test y) → IsTrue (test (if which then x else y))
+chosen test true x y on_x on_y = on_x
+chosen test false x y on_x on_y = on_y
+
+pub test-with_row : (test : Cell → Bool) (g : Grid) (row : ℕ) (f : ℕ → Cell) → IsTrue (test blank) → AllCells test g
+    → ((c : ℕ) → IsTrue (test (f c))) → AllCells test (with_row g row f)
+test-with_row test g row f on_blank all each =
+    test-formula test g.width _ (λ r c r1 r24 c1 cw. chosen test (r == row) _ _ (each c) (test-at test g r c on_blank all))
+
+pub test-put : (test : Cell → Bool) (g : Grid) (row col : ℕ) (cell : Cell) → IsTrue (test blank) → AllCells test g → IsTrue (test cell) → AllCells test (put g row col cell)
+test-put test g row col cell on_blank all on_cell =
+    test-with_row test g row _ on_blank all (λ c. chosen test (c == col) _ _ on_cell (test-at test g row c on_blank all))
+
+pub test-put_inserting : (test : Cell → Bool) (g : Grid) (row col : ℕ) (cell : Cell) → IsTrue (test blank) → AllCells test g → IsTrue (test cell) → AllCells test (put_inserting g row col cell)
+test-put_inserting test g row col cell on_blank all on_cell =
+    test-with_row test g row _ on_blank all (λ c. chosen test (c == col) _ _ on_cell
+    (chosen test (ltb col c) _ _ (test-at test g row (c - 1) on_blank all) (test-at test g row c on_blank all)))
+
+pub test-put_run : (test : Cell → Bool) (g : Grid) (row col : ℕ) (codes : List ℕ) (like : Cell) → IsTrue (test blank) → AllCells test g
+    → ((code : ℕ) → Contains codes code → IsTrue (test (ascii_cell like code))) → AllCells test (put_run g row col codes like)
+test-put_run test g row col codes like on_blank all each =
+    test-with_row test g row _ on_blank all (λ c. elim (among-before col (col + length codes) c) [
+      | inl t ↦ rw t.0 (each _ (Contains-get_or codes (c - col) 0 (omega (arith, t))))
+      | inr t ↦ rw t.0 (test-at test g row c on_blank all)
+    ])
+
+pub test-insert_cells : (test : Cell → Bool) (g : Grid) (row col n : ℕ) → IsTrue (test blank) → AllCells test g → AllCells test (insert_cells g row col n)
+test-insert_cells test g row col n on_blank all =
+    test-with_row test g row _ on_blank all (λ c. chosen test (leb (col + n) c) _ _ (test-at test g row (c - n) on_blank all)
+    (chosen test (leb col c) _ _ on_blank (test-at test g row c on_blank all)))
+
+pub test-delete_cells : (test : Cell → Bool) (g : Grid) (row col n : ℕ) → IsTrue (test blank) → AllCells test g → AllCells test (delete_cells g row col n)
+test-delete_cells test g row col n on_blank all =
+    test-with_row test g row _ on_blank all (λ c. chosen test (leb col c) _ _
+    (chosen test (leb (c + n) g.width) _ _ (test-at test g row (c + n) on_blank all) on_blank) (test-at test g row c on_blank all))
+
+pub test-erase_area : (test : Cell → Bool) (g : Grid) (area : ℕ → ℕ → Bool) (selective : Bool) → IsTrue (test blank) → AllCells test g
+    → ((cell : Cell) → IsTrue (test cell) → IsTrue (test (record cell { glyph = space }))) → AllCells test (erase_area g area selective)
+test-erase_area test g area selective on_blank all on_space =
+    test-formula test g.width _ (λ r c r1 r24 c1 cw.
+    let old = test-at test g r c on_blank all in
+    chosen test (area r c) _ _
+    (chosen test selective _ _ (chosen test (cell_at g r c).protected _ _ old (on_space (cell_at g r c) old)) on_blank) old)
+
+pub test-scroll_up : (test : Cell → Bool) (g : Grid) (top bottom n : ℕ) → IsTrue (test blank) → AllCells test g → AllCells test (scroll_up g top bottom n)
+test-scroll_up test g top bottom n on_blank all =
+    test-formula test g.width _ (λ r c r1 r24 c1 cw. chosen test (is_within top bottom r) _ _
+    (chosen test (leb (r + n) bottom) _ _ (test-at test g (r + n) c on_blank all) on_blank) (test-at test g r c on_blank all))
+
+pub test-scroll_down : (test : Cell → Bool) (g : Grid) (top bottom n : ℕ) → IsTrue (test blank) → AllCells test g → AllCells test (scroll_down g top bottom n)
+test-scroll_down test g top bottom n on_blank all =
+    test-formula test g.width _ (λ r c r1 r24 c1 cw. chosen test (is_within top bottom r) _ _
+    (chosen test (leb (top + n) r) _ _ (test-at test g (r - n) c on_blank all) on_blank) (test-at test g r c on_blank all))

@@ -1,0 +1,37 @@
+use Rattle.std.proofs.Common.{◌≡◌, ℕ, ◌+◌, ◌-◌, ◌≤◌, ◌<◌, ◌++◌, List, length, take, drop, get_or, arith, ap, ◌∙◌, length-drop}
+use Rattle.std.proofs.lemmas.List.{length-take, get_or-drop, get_or-take, get_or-append_right}
+use Rattle.std.proofs.Math.ListN.{get_or-append}
+use borrow.Rule.Slice.PartMut.{put_mid, mid_of, post_of}
+
+-- an element before the part that was written
+pub before-put_mid : {X : Type 0} (a k : ℕ) (xs ys : List X) (i : ℕ) (d : X) → a ≤ length xs → i < a → get_or (put_mid a k xs ys) i d ≡ get_or xs i d
+before-put_mid a k xs ys i d long h =
+    let front : i < length (take a xs) = rw length-take (omega arith) in
+    get_or-append (take a xs) (ys ++ post_of a k xs) d i front ∙ get_or-take a xs i d h
+
+-- an element of that part
+pub within-put_mid : {X : Type 0} (a k : ℕ) (xs ys : List X) (i : ℕ) (d : X) → a ≤ length xs → length ys ≡ k → a ≤ i → i < a + k → get_or (put_mid a k xs ys) i d ≡ get_or ys (i - a) d
+within-put_mid a k xs ys i d long len low high =
+    let front : length (take a xs) ≡ a = rw length-take (omega arith) in
+    let inside : i - a < length ys = omega arith in
+    get_or-append_right (take a xs) (ys ++ post_of a k xs) a i d front low ∙ get_or-append ys (post_of a k xs) d (i - a) inside
+
+-- an element after it
+pub after-put_mid : {X : Type 0} (a k : ℕ) (xs ys : List X) (i : ℕ) (d : X) → a ≤ length xs → length ys ≡ k → a + k ≤ i → get_or (put_mid a k xs ys) i d ≡ get_or xs i d
+after-put_mid a k xs ys i d long len high =
+    let front : length (take a xs) ≡ a = rw length-take (omega arith) in
+    let low : a ≤ i = omega arith in
+    let past : k ≤ i - a = omega arith in
+    let at : a + (k + (i - a - k)) ≡ i = omega arith in
+    get_or-append_right (take a xs) (ys ++ post_of a k xs) a i d front low
+    ∙ get_or-append_right ys (post_of a k xs) k (i - a) d len past
+    ∙ get_or-drop k (drop a xs) (i - a - k) d
+    ∙ get_or-drop a xs (k + (i - a - k)) d
+    ∙ ap (λ n. get_or xs n d) at
+
+-- an element of the part that was read
+pub get_or-mid_of : {X : Type 0} (a k : ℕ) (xs : List X) (i : ℕ) (d : X) → i < k → get_or (mid_of a k xs) i d ≡ get_or xs (a + i) d
+get_or-mid_of a k xs i d h = get_or-take k (drop a xs) i d h ∙ get_or-drop a xs i d
+
+pub length-mid_of : {X : Type 0} (a k : ℕ) (xs : List X) → a + k ≤ length xs → length (mid_of a k xs) ≡ k
+length-mid_of a k xs h = rw (length-take, length-drop) (omega arith)

@@ -1,0 +1,25 @@
+use Rattle.std.proofs.Common.{arith, ◌≡◌, ◌+◌, ◌-◌, length, get_or, ap, ◌∙◌}
+use Rattle.vt_screen.specs.Cells.{blank}
+use Rattle.vt_screen.specs.Order.{start_of, stored, room}
+use Rattle.vt_screen.proofs.Lists.{get_or-mid_of, length-mid_of}
+use Rattle.vt_screen.proofs.Places.{row_of-same, IsGrid-grid_of, width-bounds}
+use Rattle.vt_screen.proofs.screen.Screen.row.Goals as goal
+
+pub returns-clause-grid : goal.returns-clause-grid
+returns-clause-grid c =
+    rw (← c.self.view_is) (IsGrid-grid_of c.self.inside.width (stored c.self.inside.order c.self.inside.cells.items) c.self.invariant.1)
+
+pub returns-clause-cells : goal.returns-clause-cells
+returns-clause-cells c =
+    let narrow = width-bounds c.self.inside.width c.self.invariant.1 in
+    let bound = c.start-start.ensures.bound in
+    let same = c.deref.ensures.value in
+    let long : length c.deref.result.now ≡ room = ap length same ∙ c.self.invariant.0 in
+    let k : c.start-start.result + c.self.inside.width - c.start-start.result ≡ c.self.inside.width = omega arith in
+    let len = length-mid_of c.start-start.result (c.start-start.result + c.self.inside.width - c.start-start.result) c.deref.result.now (omega arith) in
+    rw (← c.self.view_is) (row_of-same c.self.inside.width (stored c.self.inside.order c.self.inside.cells.items) c.args.row _ (omega arith) (omega arith) (len ∙ k)
+    (λ col col1 colw.
+    let place : c.start-start.result + (col - 1) ≡ start_of c.self.inside.order c.args.row + (col - 1) = omega (arith, c.start-start.ensures.place) in
+    get_or-mid_of c.start-start.result (c.start-start.result + c.self.inside.width - c.start-start.result) c.deref.result.now (col - 1) blank (omega arith)
+    ∙ ap (λ x. get_or c.deref.result.now x blank) place
+    ∙ ap (λ xs. get_or xs (start_of c.self.inside.order c.args.row + (col - 1)) blank) same))

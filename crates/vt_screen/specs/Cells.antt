@@ -1,0 +1,43 @@
+-- What a cell is, and what erasing makes of it.
+use Rattle.std.specs.Prelude.{ℕ, Bool, false, ◌==◌, if◌then◌else◌}
+use Rattle.vt_glyph.specs.Tables.{space, glyph_of}
+use Rattle.vt_glyph.specs.declared.set.Set.TheVariants.{Ascii}
+use Rattle.vt_screen.specs.declared.cell.Rendition.{Rendition}
+use Rattle.vt_screen.specs.declared.cell.Brush.{Brush}
+use Rattle.vt_screen.specs.declared.cell.Cell.{Cell}
+
+-- no attribute
+abbrev pub plain : Rendition
+plain = record { bold = false; underline = false; blink = false; reverse = false }
+
+-- no attribute, unprotected
+abbrev pub plain_brush : Brush
+plain_brush = record { rendition = plain; protected = false }
+
+-- a glyph as a brush writes it
+abbrev pub cell_of : ℕ → Brush → Cell
+cell_of glyph brush = record { glyph = glyph; rendition = brush.rendition; protected = brush.protected }
+
+-- the brush that writes cells like this one
+abbrev pub brush_of : Cell → Brush
+brush_of cell = record { rendition = cell.rendition; protected = cell.protected }
+
+-- a blank cell is a plainly written space
+abbrev pub blank : Cell
+blank = cell_of space plain_brush
+
+-- the glyph of a code from 20 to 7E in ASCII: 20 is the space
+abbrev pub ascii_glyph : ℕ → ℕ
+ascii_glyph code = if code == 0x20 then space else glyph_of Ascii code
+
+-- an ASCII code, written with the attributes and the protection of a cell
+abbrev pub ascii_cell : Cell → ℕ → Cell
+ascii_cell like code = record like { glyph = ascii_glyph code }
+
+-- a selective erase leaves a protected cell as it is; of another it clears the glyph and keeps the attributes
+abbrev pub selectively_erased : Cell → Cell
+selectively_erased cell = if cell.protected then cell else record cell { glyph = space }
+
+-- an erase makes a cell blank, protected or not
+abbrev pub erased : Bool → Cell → Cell
+erased selective cell = if selective then selectively_erased cell else blank

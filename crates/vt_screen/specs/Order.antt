@@ -1,0 +1,27 @@
+-- Where the rows of the screen are kept. No public clause speaks of it.
+use Rattle.std.specs.Prelude.{ℕ, true, ◌+◌, ◌-◌, ◌*◌, List, slice_index, slice_index_or}
+use Rattle.std.specs.List.{range_with_len}
+use Rattle.std.specs.List.Sorted.{IsPermutation}
+use Rattle.vt_screen.specs.declared.cell.Cell.{Cell}
+use Rattle.vt_screen.specs.Cells.{blank}
+use Rattle.vt_screen.specs.Grid.{last_row, columns}
+
+-- how far apart two rows are kept, so that a row of the wide screen fits
+abbrev pub stride : ℕ
+stride = columns true
+
+-- how many cells are kept
+abbrev pub room : ℕ
+room = last_row * stride
+
+-- each row number once
+abbrev pub IsOrder : List ℕ → Type 0
+IsOrder order = IsPermutation (range_with_len 0 last_row) order
+
+-- where the cells of a row begin
+abbrev pub start_of : List ℕ → ℕ → ℕ
+start_of order row = slice_index order (row - 1) * stride
+
+-- the cell that is kept for a place
+abbrev pub stored : List ℕ → List Cell → ℕ → ℕ → Cell
+stored order cells r c = slice_index_or cells (start_of order r + (c - 1)) blank

@@ -1,0 +1,14 @@
+//! The screen of a terminal: 24 rows of 80 or 132 cells, and every way in which a terminal changes them.
+//! Rows and columns count from 1.
+#![tactic(auto)]
+
+mod cell;
+pub mod laws;
+mod line;
+mod order;
+mod screen;
+#[cfg(test)]
+mod tests;
+
+pub use cell::{Brush, Cell, Rendition};
+pub use screen::Screen;

@@ -1,0 +1,110 @@
+//! Edits of the cells of one row. A line counts its cells from 0.
+ghost use Rattle.std.specs.Prelude.{◌≡◌, ℕ, ◌+◌, ◌-◌, ◌<◌, ◌≤◌, ◌↔◌, IsTrue, length, slice_index, slice_index_or, All};
+ghost use Rattle.vt_screen.specs.Cells.{blank, erased, selectively_erased, ascii_glyph as ascii_glyph_of, ascii_cell};
+
+use crate::cell::Cell;
+use vt_glyph::Glyph;
+
+/// Writes one cell everywhere.
+pub fn fill_cells(cells: &mut [Cell], cell: &Cell)
+    ensures { (k : ℕ) → k < length cells.old → slice_index_or cells.new k blank ≡ cell.now }
+{
+    for place in cells.iter_mut() {
+        *place = *cell;
+    }
+}
+
+/// Makes a space of each cell that isn't protected; its attributes stay.
+fn erase_selectively(cells: &mut [Cell])
+    ensures { (k : ℕ) → k < length cells.old
+        → slice_index_or cells.new k blank ≡ selectively_erased (slice_index_or cells.old k blank) }
+{
+    for cell in cells.iter_mut() {
+        if !cell.protected {
+            cell.glyph = Glyph::blank();
+        }
+    }
+}
+
+/// Erases each cell.
+pub fn erase_cells(cells: &mut [Cell], selective: bool)
+    ensures { (k : ℕ) → k < length cells.old
+        → slice_index_or cells.new k blank ≡ erased selective (slice_index_or cells.old k blank) }
+{
+    if selective {
+        erase_selectively(cells);
+    } else {
+        fill_cells(cells, &Cell::blank());
+    }
+}
+
+/// Moves the cells from `at` on right by `n`, and leaves open what stands in the gap.
+fn shift_right(line: &mut [Cell], at: usize, n: usize)
+    requires { at + n ≤ length line.old }
+    ensures moved { (k : ℕ) → at + n ≤ k → k < length line.old → slice_index_or line.new k blank ≡ slice_index_or line.old (k - n) blank }
+    ensures front { (k : ℕ) → k < at → slice_index_or line.new k blank ≡ slice_index_or line.old k blank }
+{
+    let kept = line.len() - n;
+    line.copy_within(at..kept, at + n);
+}
+
+/// Inserts a cell; the last one is lost.
+pub fn insert_cell(line: &mut [Cell], at: usize, cell: Cell)
+    requires { at < length line.old }
+    ensures here { slice_index_or line.new at blank ≡ cell }
+    ensures moved { (k : ℕ) → at < k → k < length line.old → slice_index_or line.new k blank ≡ slice_index_or line.old (k - 1) blank }
+    ensures front { (k : ℕ) → k < at → slice_index_or line.new k blank ≡ slice_index_or line.old k blank }
+{
+    shift_right(line, at, 1);
+    line[at] = cell;
+}
+
+/// Inserts `n` blank cells; the last `n` are lost.
+pub fn insert_blanks(line: &mut [Cell], at: usize, n: usize)
+    requires { at + n ≤ length line.old }
+    ensures gap { (k : ℕ) → at ≤ k → k < at + n → slice_index_or line.new k blank ≡ blank }
+    ensures moved { (k : ℕ) → at + n ≤ k → k < length line.old → slice_index_or line.new k blank ≡ slice_index_or line.old (k - n) blank }
+    ensures front { (k : ℕ) → k < at → slice_index_or line.new k blank ≡ slice_index_or line.old k blank }
+{
+    shift_right(line, at, n);
+    fill_cells(&mut line[at..at + n], &Cell::blank());
+}
+
+/// Removes `n` cells; `n` blank ones come in at the end.
+pub fn remove_cells(line: &mut [Cell], at: usize, n: usize)
+    requires { at + n ≤ length line.old }
+    ensures moved { (k : ℕ) → at ≤ k → k + n < length line.old → slice_index_or line.new k blank ≡ slice_index_or line.old (k + n) blank }
+    ensures end { (k : ℕ) → k < length line.old → length line.old ≤ k + n → slice_index_or line.new k blank ≡ blank }
+    ensures front { (k : ℕ) → k < at → slice_index_or line.new k blank ≡ slice_index_or line.old k blank }
+{
+    let len = line.len();
+    line.copy_within(at + n..len, at);
+    fill_cells(&mut line[len - n..], &Cell::blank());
+}
+
+/// The glyph of a code in ASCII.
+fn ascii_glyph(code: u8) -> Glyph
+    requires { (0x20 ≤ code) × (code ≤ 0x7E) }
+    ensures { result ≡ ascii_glyph_of code }
+{
+    Glyph::ascii(code)
+}
+
+/// Writes ASCII codes, each with the attributes and the protection of `like`.
+pub fn write_codes(cells: &mut [Cell], codes: &[u8], like: Cell)
+    requires codes { All (λ code. (0x20 ≤ code) × (code ≤ 0x7E)) codes.now }
+    requires len { length cells.old ≡ length codes.now }
+    ensures { (k : ℕ) → k < length codes.now → slice_index_or cells.new k blank ≡ ascii_cell like (slice_index codes.now k) }
+{
+    fill_cells(cells, &like);
+    for (i, code) in codes.iter().enumerate() {
+        cells[i].glyph = ascii_glyph(*code);
+    }
+}
+
+/// Whether two rows have the same cells.
+pub fn same_cells(a: &[Cell], b: &[Cell]) -> bool
+    ensures { IsTrue result ↔ (a.now ≡ b.now) }
+{
+    a == b
+}

@@ -1,0 +1,95 @@
+//! Where the rows of the screen are kept.
+ghost use Rattle.std.specs.Prelude.{◌≡◌, ℕ, ◌+◌, ◌-◌, ◌<◌, ◌≤◌, ◌⊎◌};
+ghost use Rattle.vt_screen.specs.Grid.{last_row};
+ghost use Rattle.vt_screen.specs.Order.{IsOrder, start_of, stride, room};
+
+use std::marker::Model;
+
+/// How many rows the screen has.
+pub const ROWS: usize = 24;
+
+/// How far apart two rows are kept: as many cells as the wider screen has columns.
+pub const STRIDE: usize = 132;
+
+/// The number under which each row of the screen is kept. Scrolling moves these numbers, and no cell.
+#[derive(Debug, Drop)]
+pub struct RowOrder {
+    rows: [u8; ROWS],
+}
+
+impl Model for RowOrder {
+    ghost use Rattle.std.specs.Prelude.{ℕ, List};
+    ghost use Rattle.vt_screen.specs.Order.{IsOrder};
+
+    ghost Value = { List ℕ };
+
+    ghost view = { λ order. order.rows };
+
+    ghost invariant = { λ order. IsOrder order.rows };
+}
+
+impl RowOrder {
+    /// Each row under its own number.
+    pub fn new() -> RowOrder
+        ensures { IsOrder result }
+    {
+        RowOrder {
+            rows: [
+                0, 1, 2, 3, 4, 5, 6, 7, 8, 9, 10, 11, 12, 13, 14, 15, 16, 17, 18, 19, 20, 21, 22,
+                23,
+            ],
+        }
+    }
+
+    /// Where the cells of a row begin.
+    pub fn start(&self, row: usize) -> usize
+        requires { (1 ≤ row) × (row ≤ last_row) }
+        ensures place { result ≡ start_of self.now row }
+        ensures bound { result + stride ≤ room }
+        ensures order { IsOrder self.now }
+    {
+        self.rows[row - 1] as usize * STRIDE
+    }
+
+    /// Moves the rows `top` to `bottom` up by `n`; the first of them become the last.
+    pub fn move_up(&mut self, top: usize, bottom: usize, n: usize)
+        requires rows { (1 ≤ top) × (top ≤ bottom) × (bottom ≤ last_row) }
+        requires count { n ≤ bottom + 1 - top }
+        ensures moved { (r : ℕ) → top ≤ r → r + n ≤ bottom → start_of self.new r ≡ start_of self.old (r + n) }
+        ensures outside { (r : ℕ) → 1 ≤ r → (r < top) ⊎ (bottom < r) → start_of self.new r ≡ start_of self.old r }
+    {
+        for _ in 0..n {
+            self.move_up_once(top, bottom);
+        }
+    }
+
+    /// Moves the rows `top` to `bottom` up by 1; the first of them becomes the last.
+    fn move_up_once(&mut self, top: usize, bottom: usize)
+        requires rows { (1 ≤ top) × (top ≤ bottom) × (bottom ≤ last_row) }
+        ensures moved { (r : ℕ) → top ≤ r → r + 1 ≤ bottom → start_of self.new r ≡ start_of self.old (r + 1) }
+        ensures outside { (r : ℕ) → 1 ≤ r → (r < top) ⊎ (bottom < r) → start_of self.new r ≡ start_of self.old r }
+    {
+        self.rows[top - 1..bottom].rotate_left(1);
+    }
+
+    /// Moves the rows `top` to `bottom` down by `n`; the last of them become the first.
+    pub fn move_down(&mut self, top: usize, bottom: usize, n: usize)
+        requires rows { (1 ≤ top) × (top ≤ bottom) × (bottom ≤ last_row) }
+        requires count { n ≤ bottom + 1 - top }
+        ensures moved { (r : ℕ) → top + n ≤ r → r ≤ bottom → start_of self.new r ≡ start_of self.old (r - n) }
+        ensures outside { (r : ℕ) → 1 ≤ r → (r < top) ⊎ (bottom < r) → start_of self.new r ≡ start_of self.old r }
+    {
+        for _ in 0..n {
+            self.move_down_once(top, bottom);
+        }
+    }
+
+    /// Moves the rows `top` to `bottom` down by 1; the last of them becomes the first.
+    fn move_down_once(&mut self, top: usize, bottom: usize)
+        requires rows { (1 ≤ top) × (top ≤ bottom) × (bottom ≤ last_row) }
+        ensures moved { (r : ℕ) → top + 1 ≤ r → r ≤ bottom → start_of self.new r ≡ start_of self.old (r - 1) }
+        ensures outside { (r : ℕ) → 1 ≤ r → (r < top) ⊎ (bottom < r) → start_of self.new r ≡ start_of self.old r }
+    {
+        self.rows[top - 1..bottom].rotate_right(1);
+    }
+}

@@ -1,0 +1,259 @@
+//! The screen, and every way in which a terminal changes it.
+ghost use Rattle.std.specs.Prelude.{◌≡◌, ℕ, ◌+◌, ◌<◌, ◌≤◌, ◌⊎◌, ◌↔◌, false, IsTrue, IfOk, All, length};
+ghost use Rattle.vt_screen.specs.Grid.{last_row};
+ghost use Rattle.vt_screen.specs.Order.{stored, stride, room};
+
+use crate::cell::Cell;
+use crate::line::{
+    erase_cells, fill_cells, insert_blanks, insert_cell, remove_cells, same_cells, write_codes,
+};
+use crate::order::{ROWS, RowOrder, STRIDE};
+use std::alloc::{AllocError, Global};
+use std::marker::Model;
+
+/// The columns of the narrow screen; the wide one has `STRIDE`.
+const NARROW: usize = 80;
+
+/// A grid of 24 rows of 80 or 132 cells, blank at first. (VT220 manual, chapter 4: DECCOLM sets the width)
+///
+/// Rows count from 1 to 24, and columns from 1 to the width. Nothing but `new` can fail or takes memory.
+#[derive(Debug, Drop)]
+pub struct Screen {
+    cells: Vec<Cell>,
+    order: RowOrder,
+    width: usize,
+}
+
+impl Model for Screen {
+    ghost use Rattle.std.specs.Prelude.{◌≡◌, Bool, length};
+    ghost use Rattle.vt_screen.specs.Grid.{Grid, grid_of, columns};
+    ghost use Rattle.vt_screen.specs.Order.{stored, room};
+
+    ghost Value = { Grid };
+
+    ghost view = { λ s. grid_of s.width (stored s.order s.cells.items) };
+
+    ghost invariant = { λ s. (length s.cells.items ≡ room) × ((wide : Bool) × (s.width ≡ columns wide)) };
+}
+
+/// Writes one cell all over the rows from `first` up to before `end`.
+fn fill_rows(
+    cells: &mut [Cell],
+    order: &RowOrder,
+    first: usize,
+    end: usize,
+    width: usize,
+    cell: &Cell,
+)
+    requires room { length cells.old ≡ room }
+    requires rows { (1 ≤ first) × (first ≤ end) × (end ≤ last_row + 1) }
+    requires width { width ≤ stride }
+    ensures inside { (r c : ℕ) → first ≤ r → r < end → 1 ≤ c → c ≤ width → stored order.now cells.new r c ≡ cell.now }
+    ensures outside { (r c : ℕ) → 1 ≤ r → r ≤ last_row → (r < first) ⊎ (end ≤ r) → 1 ≤ c → c ≤ width
+        → stored order.now cells.new r c ≡ stored order.now cells.old r c }
+{
+    for row in first..end {
+        let start = order.start(row);
+        fill_cells(&mut cells[start..start + width], cell);
+    }
+}
+
+impl Screen {
+    ghost use Rattle.vt_screen.specs.Grid.{IsGrid, cell_at, row_of, put, put_inserting, put_run, erase, insert_cells, delete_cells, scroll_up, scroll_down, fill, blank_grid};
+
+    /// A narrow screen, all blank. It takes the room of a wide one, 24 rows of 132 cells, and fails where
+    /// there is no memory for it.
+    pub fn new(alloc: Global) -> Result<Screen, AllocError>
+        ensures { IfOk result (λ screen. screen ≡ blank_grid false) }
+    {
+        Ok(Screen {
+            cells: vec![in alloc; Cell::blank(); ROWS * STRIDE]?,
+            order: RowOrder::new(),
+            width: NARROW,
+        })
+    }
+
+    /// How many columns the screen has: 80, or 132.
+    pub fn width(&self) -> usize
+        ensures width { result ≡ self.now.width }
+        ensures grid { IsGrid self.now }
+    {
+        self.width
+    }
+
+    /// The cell at a place.
+    pub fn cell(&self, row: usize, column: usize) -> Cell
+        requires row { (1 ≤ row) × (row ≤ last_row) }
+        requires column { (1 ≤ column) × (column ≤ self.now.width) }
+        ensures { result ≡ cell_at self.now row column }
+    {
+        self.cells[self.order.start(row) + column - 1]
+    }
+
+    /// The cells of a row, as many as the screen has columns.
+    pub fn row(&self, row: usize) -> &[Cell]
+        requires { (1 ≤ row) × (row ≤ last_row) }
+        ensures cells { result.now ≡ row_of self.now row }
+        ensures len { length result.now ≡ self.now.width }
+        ensures grid { IsGrid self.now }
+    {
+        let start = self.order.start(row);
+        &self.cells[start..start + self.width]
+    }
+
+    /// Whether the two screens have the same width and the same cells.
+    pub fn same(&self, other: &Screen) -> bool
+        ensures { IsTrue result ↔ (self.now ≡ other.now) }
+    {
+        if self.width != other.width {
+            return false;
+        }
+        for row in 1..ROWS + 1 {
+            if !same_cells(self.row(row), other.row(row)) {
+                return false;
+            }
+        }
+        true
+    }
+
+    /// Writes a cell over the one at a place.
+    pub fn put(&mut self, row: usize, column: usize, cell: Cell)
+        requires row { (1 ≤ row) × (row ≤ last_row) }
+        requires column { (1 ≤ column) × (column ≤ self.old.width) }
+        ensures { self.new ≡ put self.old row column cell }
+    {
+        let start = self.order.start(row);
+        self.cells[start + column - 1] = cell;
+    }
+
+    /// Puts a cell in at a place: the cells from there on move right by one, and the last one of the row
+    /// is lost. (VT220 manual: insert mode, IRM)
+    pub fn put_inserting(&mut self, row: usize, column: usize, cell: Cell)
+        requires row { (1 ≤ row) × (row ≤ last_row) }
+        requires column { (1 ≤ column) × (column ≤ self.old.width) }
+        ensures { self.new ≡ put_inserting self.old row column cell }
+    {
+        let start = self.order.start(row);
+        insert_cell(&mut self.cells[start..start + self.width], column - 1, cell);
+    }
+
+    /// Writes ASCII codes, each from 20 to 7E, from a place on: what writing them one after another does.
+    /// The cells get the attributes and the protection of `like`. The codes end by the last column;
+    /// without codes nothing changes.
+    pub fn put_run(&mut self, row: usize, column: usize, codes: &[u8], like: Cell)
+        requires row { (1 ≤ row) × (row ≤ last_row) }
+        requires column { (1 ≤ column) × (column ≤ self.old.width) }
+        requires codes { All (λ code. (0x20 ≤ code) × (code ≤ 0x7E)) codes.now }
+        requires room { column + length codes.now ≤ self.old.width + 1 }
+        ensures { self.new ≡ put_run self.old row column codes.now like }
+    {
+        let start = self.order.start(row) + column - 1;
+        write_codes(&mut self.cells[start..start + codes.len()], codes, like);
+    }
+
+    /// Erases the columns `from` to `to` of a row, both included. (VT220 manual: ED, EL, ECH; selectively
+    /// DECSED, DECSEL)
+    ///
+    /// Erased cells are blank, protected or not. A selective erase leaves protected cells as they are;
+    /// of the others it clears the glyph, and their attributes stay.
+    pub fn erase(&mut self, row: usize, from: usize, to: usize, selective: bool)
+        requires row { (1 ≤ row) × (row ≤ last_row) }
+        requires columns { (1 ≤ from) × (from ≤ to) × (to ≤ self.old.width) }
+        ensures { self.new ≡ erase self.old row from to selective }
+    {
+        let start = self.order.start(row);
+        erase_cells(&mut self.cells[start + from - 1..start + to], selective);
+    }
+
+    /// Inserts `n` blank cells at a place: the cells from there on move right, and those that pass the
+    /// last column are lost. (VT220 manual: ICH)
+    pub fn insert_cells(&mut self, row: usize, column: usize, n: u16)
+        requires row { (1 ≤ row) × (row ≤ last_row) }
+        requires column { (1 ≤ column) × (column ≤ self.old.width) }
+        ensures { self.new ≡ insert_cells self.old row column n }
+    {
+        let start = self.order.start(row);
+        let count = (n as usize).min(self.width + 1 - column);
+        insert_blanks(
+            &mut self.cells[start..start + self.width],
+            column - 1,
+            count,
+        );
+    }
+
+    /// Deletes `n` cells from a place on: those after them move left, and blank cells come in at the last
+    /// column. (VT220 manual: DCH)
+    pub fn delete_cells(&mut self, row: usize, column: usize, n: u16)
+        requires row { (1 ≤ row) × (row ≤ last_row) }
+        requires column { (1 ≤ column) × (column ≤ self.old.width) }
+        ensures { self.new ≡ delete_cells self.old row column n }
+    {
+        let start = self.order.start(row);
+        let count = (n as usize).min(self.width + 1 - column);
+        remove_cells(
+            &mut self.cells[start..start + self.width],
+            column - 1,
+            count,
+        );
+    }
+
+    /// Moves the rows `top` to `bottom` up by `n`: the first `n` are lost, and blank rows come in below.
+    /// (VT220 manual: IND, DL)
+    pub fn scroll_up(&mut self, top: usize, bottom: usize, n: u16)
+        requires { (1 ≤ top) × (top ≤ bottom) × (bottom ≤ last_row) }
+        ensures { self.new ≡ scroll_up self.old top bottom n }
+    {
+        let count = (n as usize).min(bottom + 1 - top);
+        self.order.move_up(top, bottom, count);
+        let (first, end) = (bottom + 1 - count, bottom + 1);
+        fill_rows(
+            &mut self.cells,
+            &self.order,
+            first,
+            end,
+            self.width,
+            &Cell::blank(),
+        );
+    }
+
+    /// Moves the rows `top` to `bottom` down by `n`: the last `n` are lost, and blank rows come in above.
+    /// (VT220 manual: RI, IL)
+    pub fn scroll_down(&mut self, top: usize, bottom: usize, n: u16)
+        requires { (1 ≤ top) × (top ≤ bottom) × (bottom ≤ last_row) }
+        ensures { self.new ≡ scroll_down self.old top bottom n }
+    {
+        let count = (n as usize).min(bottom + 1 - top);
+        self.order.move_down(top, bottom, count);
+        fill_rows(
+            &mut self.cells,
+            &self.order,
+            top,
+            top + count,
+            self.width,
+            &Cell::blank(),
+        );
+    }
+
+    /// Writes one cell at every place. (VT220 manual: DECALN)
+    pub fn fill(&mut self, cell: Cell)
+        ensures { self.new ≡ fill self.old cell }
+    {
+        fill_rows(&mut self.cells, &self.order, 1, ROWS + 1, self.width, &cell);
+    }
+
+    /// Makes the screen wide, 132 columns, or narrow, 80, and blanks every cell, also where it has that
+    /// width already. (VT220 manual: DECCOLM)
+    pub fn set_width(&mut self, wide: bool)
+        ensures { self.new ≡ blank_grid wide }
+    {
+        self.width = if wide { STRIDE } else { NARROW };
+        fill_rows(
+            &mut self.cells,
+            &self.order,
+            1,
+            ROWS + 1,
+            self.width,
+            &Cell::blank(),
+        );
+    }
+}

@@ -20,6 +20,9 @@ const BAD_WORDS: u8 = 2;
 fn what_of(word: &str) -> Option<What> {
     match word {
         "text" => Some(What::Text),
+        "reports" => Some(What::Reports),
+        "repaint" => Some(What::Repaint),
+        "status" => Some(What::Status),
         _ => None,
     }
 }

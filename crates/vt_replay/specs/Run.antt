@@ -1,10 +1,14 @@
 -- What a replay takes from its reader and gives to its writer. (this profile)
-use Rattle.std.specs.Prelude.{◌≡◌, ℕ, ◌≤◌, ◌<◌, ◌+◌, ◌++◌, List, [], length, Bool, true, false, Result, Ok, Err, Option}
+use Rattle.std.specs.Prelude.{◌≡◌, ◌≢◌, ℕ, ◌≤◌, ◌<◌, ◌+◌, ◌++◌, List, [], length, take, Bool, true, false, Result, Ok, Err, Option}
 use Rattle.std.specs.Io.KnownBytes.{Appends, Consumes}
+use Rattle.vt_syntax.specs.declared.held.Held.TheVariants.{Nothing}
+use Rattle.vt_term.specs.State.{State, power_up}
+use Rattle.vt_term.specs.Play.{play}
 use Rattle.vt_replay.specs.declared.fault.Fault.{Fault}
-use Rattle.vt_replay.specs.declared.fault.Fault.TheVariants.{Memory, Read, Write, TooLong}
+use Rattle.vt_replay.specs.declared.fault.Fault.TheVariants.{Memory, Partial, Read, Write, TooLong}
 use Rattle.vt_replay.specs.declared.what.What.{What}
-use Rattle.vt_replay.specs.Due.{due}
+use Rattle.vt_replay.specs.declared.what.What.TheVariants.{Text, Reports, Repaint, Status}
+use Rattle.vt_replay.specs.Due.{due, sent_for, IsThere}
 
 -- w is a beginning of what is due, and not all of it
 pub record IsProperBeginning (w due : List ℕ) : Type 0 where
@@ -24,13 +28,31 @@ pub record AreFlags (f : Flags) (read_fails ends write_fails : Bool) : Type 0 wh
   pub reader_ended : f.reader_ended ≡ ends
   pub writer_failed : f.writer_failed ≡ write_fails
 
+-- w has all the reports of the pieces before the last one, which has at most so many bytes
+pub record HasEarlierReports (piece : ℕ) (b w : List ℕ) : Type 0 where
+  pub before : List ℕ
+  pub last : List ℕ
+  pub joined : b ≡ before ++ last
+  pub short : length last ≤ piece
+  pub more : List ℕ
+  pub begins : w ≡ (play power_up before).reports ++ more
+
+-- where a write failed: reports go out before the input has ended, all else only then
+abbrev pub WriteRow : What → (piece : ℕ) → (b w : List ℕ) → Flags → Type 0
+WriteRow Text piece b w f = AreFlags f false true true
+WriteRow Reports piece b w f = AreFlags f false false true × HasEarlierReports piece b w
+WriteRow Repaint piece b w f = AreFlags f false true true × ((play power_up b).state.held ≡ Nothing)
+WriteRow Status piece b w f = AreFlags f false true true
+
 -- what each answer says, b being the bytes read and w the bytes written
-abbrev pub Table : Result (Unit {0}) Fault → What → (b w : List ℕ) → Flags → (limit : ℕ) → Type 0
-Table (Ok u) what b w f limit = AreFlags f false true false × (length b ≤ limit) × (w ≡ due what b)
-Table (Err Memory) what b w f limit = AreFlags f false false false × (b ≡ []) × (w ≡ [])
-Table (Err Read) what b w f limit = AreFlags f true false false × (length b ≤ limit) × (w ≡ [])
-Table (Err Write) what b w f limit = AreFlags f false true true × (length b ≤ limit) × IsProperBeginning w (due what b)
-Table (Err TooLong) what b w f limit = AreFlags f false false false × (length b ≡ limit + 1) × (w ≡ [])
+abbrev pub Table : Result (Unit {0}) Fault → What → (piece : ℕ) → (b w : List ℕ) → Flags → (limit : ℕ) → Type 0
+Table (Ok u) what piece b w f limit = AreFlags f false true false × (length b ≤ limit) × IsThere what (play power_up b).state × (w ≡ due what b)
+Table (Err Memory) what piece b w f limit = AreFlags f false false false × (b ≡ []) × (w ≡ [])
+Table (Err Partial) what piece b w f limit =
+    (what ≡ Repaint) × AreFlags f false true false × (length b ≤ limit) × ((play power_up b).state.held ≢ Nothing) × (w ≡ [])
+Table (Err Read) what piece b w f limit = AreFlags f true false false × (length b ≤ limit) × (w ≡ sent_for what b)
+Table (Err Write) what piece b w f limit = WriteRow what piece b w f × (length b ≤ limit) × IsProperBeginning w (due what b)
+Table (Err TooLong) what piece b w f limit = AreFlags f false false false × (length b ≡ limit + 1) × (w ≡ sent_for what (take limit b))
 
 -- some bytes were taken from the reader, and some by the writer, for which a fact holds
 pub record Moves (left left_after held held_after : Option (List ℕ)) (P : List ℕ → List ℕ → Type 0) : Type 0 where
@@ -42,19 +64,20 @@ pub record Moves (left left_after held held_after : Option (List ℕ)) (P : List
 
 -- ---- the parts of a replay
 
--- some bytes were taken from the reader, for which a fact holds
-pub record Takes (left left_after : Option (List ℕ)) (P : List ℕ → Type 0) : Type 0 where
-  pub b : List ℕ
-  pub taken : Consumes left left_after b
-  pub holds : P b
+-- the bytes were played, their reports counted, and sent where they are asked for
+pub record IsPlayed (what : What) (t : State) (reported : ℕ) (b w : List ℕ) : Type 0 where
+  pub state : t ≡ (play power_up b).state
+  pub counted : reported ≡ length (play power_up b).reports
+  pub sent : w ≡ sent_for what b
 
--- what each answer of the reading part says, b being the bytes read, and `played` that they were played
-abbrev pub ReadTable : Result (Unit {0}) Fault → (b : List ℕ) → (failed ended : Bool) → (limit : ℕ) → Type 0 → Type 0
-ReadTable (Ok u) b failed ended limit played = (failed ≡ false) × (ended ≡ true) × (length b ≤ limit) × played
-ReadTable (Err Read) b failed ended limit played = (failed ≡ true) × (ended ≡ false) × (length b ≤ limit)
-ReadTable (Err TooLong) b failed ended limit played = (failed ≡ false) × (ended ≡ false) × (length b ≡ limit + 1)
-ReadTable (Err Memory) b failed ended limit played = ⊥
-ReadTable (Err Write) b failed ended limit played = ⊥
+-- what each answer of the reading part says
+abbrev pub ReadTable : Result ℕ Fault → What → (t : State) → (piece : ℕ) → (b w : List ℕ) → Flags → (limit : ℕ) → Type 0
+ReadTable (Ok reported) what t piece b w f limit = AreFlags f false true false × (length b ≤ limit) × IsPlayed what t reported b w
+ReadTable (Err Memory) what t piece b w f limit = ⊥
+ReadTable (Err Partial) what t piece b w f limit = ⊥
+ReadTable (Err Read) what t piece b w f limit = AreFlags f true false false × (length b ≤ limit) × (w ≡ sent_for what b)
+ReadTable (Err Write) what t piece b w f limit = (what ≡ Reports) × AreFlags f false false true × HasEarlierReports piece b w × (length b ≤ limit) × IsProperBeginning w (play power_up b).reports
+ReadTable (Err TooLong) what t piece b w f limit = AreFlags f false false false × (length b ≡ limit + 1) × (w ≡ sent_for what (take limit b))
 
 -- some bytes were taken by the writer, for which a fact holds
 pub record Gives (held held_after : Option (List ℕ)) (P : List ℕ → Type 0) : Type 0 where

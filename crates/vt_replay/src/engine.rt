@@ -1,16 +1,19 @@
 //! The replay of an input: all memory is taken first, and the loops take none.
-ghost use Rattle.std.specs.Prelude.{◌≡◌, ◌+◌, ◌*◌, ◌≤◌, ◌<◌, ◌++◌, [], false, length, vec_len, vec_capacity};
+ghost use Rattle.std.specs.Prelude.{◌≡◌, ◌≢◌, IsTrue, ◌+◌, ◌*◌, ◌≤◌, ◌<◌, ◌++◌, [], false, length, vec_len, vec_capacity};
 ghost use Rattle.vt_term.specs.State.{power_up};
-ghost use Rattle.vt_term.specs.Play.{play};
-ghost use Rattle.vt_replay.specs.Run.{Table, Moves, Gives, WriteTable, Takes, ReadTable};
+ghost use Rattle.vt_syntax.specs.declared.held.Held.TheVariants.{Nothing};
+ghost use Rattle.vt_replay.specs.Due.{sent, due_at_end, IsThere};
+ghost use Rattle.vt_replay.specs.Run.{Table, Moves, Gives, WriteTable, ReadTable};
 
 use crate::fault::Fault;
+use crate::status::push_status;
 use crate::watched::Watched;
 use crate::what::What;
 use std::alloc::Global;
 use std::io::{Read, Write};
-use vt_term::laws::cuts;
-use vt_term::{TEXT_LIMIT, Terminal};
+use vt_paint::{PAINT_LIMIT, repaint_reserved};
+use vt_term::Terminal;
+use vt_term::laws::{cuts, soundness};
 
 /// The most report bytes for each byte of a piece.
 const REPORT_LIMIT: usize = 10;
@@ -19,11 +22,11 @@ const REPORT_LIMIT: usize = 10;
 ///
 /// It reads at most `piece` bytes at a time (1 to 65536), and at most `limit` bytes in all (up to 2 to the 40th), and
 /// one more to see whether the input goes on. All memory is taken before the first read, and no call of a device is
-/// made again after an error. The input ends where a read gives no byte. Nothing is written before the whole input
-/// was read.
+/// made again after an error. The input ends where a read gives no byte. Reports are written before the next read, all
+/// else after the whole input was read.
 ///
-/// `Err` is `Memory` where a growth was refused, `Read` or `Write` where that device failed, and `TooLong` where the
-/// input has more than `limit` bytes.
+/// `Err` is `Memory` where a growth was refused, `Read` or `Write` where that device failed, `TooLong` where the input
+/// has more than `limit` bytes, and `Partial` where a repaint is asked for and the input ends inside a sequence.
 pub fn run<R: Read, W: Write>(
     alloc: Global,
     reader: &mut Watched<R>,
@@ -38,11 +41,11 @@ pub fn run<R: Read, W: Write>(
     requires piece_in_range { (1 ≤ piece) × (piece ≤ 65536) }
     requires limit_in_range { limit ≤ 1099511627776 }
     ensures { Moves (R.remaining reader.old.device) (R.remaining reader.new.device) (W.contents writer.old.device) (W.contents writer.new.device)
-        (λ b w. Table result what b w (record { reader_failed = reader.new.failed; reader_ended = reader.new.ended; writer_failed = writer.new.failed }) limit) }
+        (λ b w. Table result what piece b w (record { reader_failed = reader.new.failed; reader_ended = reader.new.ended; writer_failed = writer.new.failed }) limit) }
 {
     let mut terminal = Terminal::new(alloc)?;
     let mut buffer = vec![in alloc; 0u8; piece]?;
-    let mut out = Vec::with_capacity(alloc, (REPORT_LIMIT * piece).max(TEXT_LIMIT))?;
+    let mut out = Vec::with_capacity(alloc, (REPORT_LIMIT * piece).max(PAINT_LIMIT))?;
     replay(
         reader,
         writer,
@@ -71,15 +74,16 @@ fn replay<R: Read, W: Write>(
     requires new { terminal.old ≡ power_up }
     requires some_room { 1 ≤ length buffer.old }
     requires room_for_reports { 10 * length buffer.old ≤ vec_capacity out.old }
-    requires room_for_text { TEXT_LIMIT ≤ vec_capacity out.old }
+    requires room_for_repaint { PAINT_LIMIT ≤ vec_capacity out.old }
     ensures { Moves (R.remaining reader.old.device) (R.remaining reader.new.device) (W.contents writer.old.device) (W.contents writer.new.device)
-        (λ b w. Table result what b w (record { reader_failed = reader.new.failed; reader_ended = reader.new.ended; writer_failed = writer.new.failed }) limit) }
+        (λ b w. Table result what (length buffer.old) b w (record { reader_failed = reader.new.failed; reader_ended = reader.new.ended; writer_failed = writer.new.failed }) limit) }
 {
-    play_input(reader, limit, terminal, buffer, out)?;
-    out.clear();
-    match what {
-        What::Text => terminal.text_reserved(out),
+    let reported = play_input(reader, writer, what, limit, terminal, buffer, out)?;
+    if !is_there(terminal, what) {
+        return Err(Fault::Partial);
     }
+    out.clear();
+    push_due_at_end(terminal, what, reported, out);
     if write_whole(writer, out) {
         Ok(())
     } else {
@@ -87,24 +91,55 @@ fn replay<R: Read, W: Write>(
     }
 }
 
-/// Plays the reader's bytes to their end.
-fn play_input<R: Read>(
+/// Whether what is asked for is there: a repaint between sequences only, all else always.
+fn is_there(terminal: &Terminal, what: What) -> bool
+    ensures yes { IsTrue result → IsThere what terminal.now }
+    ensures no { result ≡ false → (what ≡ What.Repaint) × (terminal.now.held ≢ Nothing) }
+{
+    match what {
+        What::Repaint => terminal.is_between(),
+        What::Text | What::Reports | What::Status => true,
+    }
+}
+
+/// Appends what is due after the whole input: the text, the repaint, the status, or nothing.
+fn push_due_at_end(terminal: &Terminal, what: What, reported: u64, out: &mut Vec<u8>)
+    requires room { vec_len out.old + PAINT_LIMIT ≤ vec_capacity out.old }
+    requires there { IsThere what terminal.now }
+    ensures { out.new.items ≡ out.old.items ++ due_at_end what terminal.now reported }
+{
+    match what {
+        What::Text => terminal.text_reserved(out),
+        What::Reports => {}
+        What::Repaint => repaint_reserved(terminal, out),
+        What::Status => push_status(terminal, reported, out),
+    }
+}
+
+/// Plays the reader's bytes to their end, and answers how many report bytes they gave.
+fn play_input<R: Read, W: Write>(
     reader: &mut Watched<R>,
+    writer: &mut Watched<W>,
+    what: What,
     limit: u64,
     terminal: &mut Terminal,
     buffer: &mut [u8],
     out: &mut Vec<u8>,
-) -> Result<(), Fault>
+) -> Result<u64, Fault>
     requires reader_works { reader.old.failed ≡ false }
     requires reader_goes_on { reader.old.ended ≡ false }
+    requires writer_works { writer.old.failed ≡ false }
     requires limit_in_range { limit ≤ 1099511627776 }
+    requires new { terminal.old ≡ power_up }
     requires some_room { 1 ≤ length buffer.old }
     requires room_for_reports { 10 * length buffer.old ≤ vec_capacity out.old }
-    ensures takes { Takes (R.remaining reader.old.device) (R.remaining reader.new.device)
-        (λ b. ReadTable result b reader.new.failed reader.new.ended limit (terminal.new ≡ (play terminal.old b).state)) }
+    ensures moves { Moves (R.remaining reader.old.device) (R.remaining reader.new.device) (W.contents writer.old.device) (W.contents writer.new.device)
+        (λ b w. ReadTable result what terminal.new (length buffer.old) b w (record { reader_failed = reader.new.failed; reader_ended = reader.new.ended; writer_failed = writer.new.failed }) limit) }
     ensures capacity { vec_capacity out.old ≤ vec_capacity out.new }
 {
     cuts();
+    soundness();
+    let mut reported = 0u64;
     let mut left = limit as usize;
     while left > 0 {
         let want = left.min(buffer.len());
@@ -112,16 +147,32 @@ fn play_input<R: Read>(
             return Err(Fault::Read);
         };
         if count == 0 {
-            return Ok(());
+            return Ok(reported);
         }
         out.clear();
         terminal.feed_reserved(&buffer[..count], out);
+        reported += out.len() as u64;
+        if !send(writer, what, out) {
+            return Err(Fault::Write);
+        }
         left -= count;
     }
     match reader.read(&mut buffer[..1]) {
-        Ok(0) => Ok(()),
+        Ok(0) => Ok(reported),
         Ok(_) => Err(Fault::TooLong),
         Err(_) => Err(Fault::Read),
+    }
+}
+
+/// Writes the reports of a piece, where reports are asked for, and says whether they got through.
+fn send<W: Write>(writer: &mut Watched<W>, what: What, reports: &[u8]) -> bool
+    requires { writer.old.failed ≡ false }
+    ensures gives { Gives (W.contents writer.old.device) (W.contents writer.new.device) (WriteTable result writer.new.failed (sent what reports.now)) }
+    ensures ended { writer.new.ended ≡ writer.old.ended }
+{
+    match what {
+        What::Reports => write_whole(writer, reports),
+        What::Text | What::Repaint | What::Status => true,
     }
 }
 

@@ -11,6 +11,9 @@ pub enum Fault {
     /// A growth was refused. Nothing was read or written.
     #[error("vt220: out of memory")]
     Memory,
+    /// A repaint was asked for, and the input ends inside a sequence.
+    #[error("vt220: input ends inside a sequence")]
+    Partial,
     /// A read of the input failed.
     #[error("vt220: read failed")]
     Read,
@@ -29,6 +32,7 @@ impl Fault {
     {
         match self {
             Fault::Memory => 1,
+            Fault::Partial => 3,
             Fault::Read => 4,
             Fault::Write => 5,
             Fault::TooLong => 6,
@@ -41,6 +45,7 @@ impl Fault {
     {
         match self {
             Fault::Memory => "vt220: out of memory",
+            Fault::Partial => "vt220: input ends inside a sequence",
             Fault::Read => "vt220: read failed",
             Fault::Write => "vt220: write failed",
             Fault::TooLong => "vt220: input is longer than the limit",

@@ -3,6 +3,7 @@
 
 mod engine;
 mod fault;
+mod status;
 #[cfg(test)]
 mod tests;
 mod watched;

@@ -5,4 +5,11 @@
 pub enum What {
     /// The text of the screen after the whole input.
     Text,
+    /// The terminal's reports, those of each piece before the next is read.
+    Reports,
+    /// The bytes that rebuild the terminal's state on any terminal, after the whole input.
+    Repaint,
+    /// The cursor, the wrap flag, the margins, the held part, and how many report bytes there were, after the whole
+    /// input.
+    Status,
 }

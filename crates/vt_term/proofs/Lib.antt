@@ -1,4 +1,12 @@
-mod Grids
+mod SoundGrids
+mod Stops
+mod Areas
+mod PowerUp
 mod Cuts
 mod Lines
-mod Ranges
+mod Runs
+mod Bytes
+mod GlyphSizes
+mod Equal
+mod SoundEffects
+mod SoundPlay

@@ -1,6 +1,15 @@
-pub mod Grid
 pub mod State
+pub mod Sound
+pub mod Parameters
+pub mod Moving
 pub mod Tabs
-pub mod Effect
+pub mod Writing
+pub mod Editing
+pub mod Rendition
+pub mod Modes
+pub mod Saving
+pub mod Resets
+pub mod Functions
+pub mod Reports
 pub mod Play
 pub mod Text

@@ -1,20 +1,34 @@
 -- What bytes leave and report.
 use Rattle.std.specs.Prelude.{ℕ, List, [], ◌∷◌, ◌++◌, fold}
-use Rattle.vt_term.specs.State.{State}
-use Rattle.vt_term.specs.Effect.{effect}
+use Rattle.vt_syntax.specs.declared.event.Event.{Event}
+use Rattle.vt_syntax.specs.Held.{events_from, held_from}
+use Rattle.vt_term.specs.State.{Display, State}
+use Rattle.vt_term.specs.Functions.{effect}
+use Rattle.vt_term.specs.Reports.{report}
+
+-- the state after events
+abbrev pub after_events : List Event → Display → Display
+after_events events s = fold (λ s event. effect event s) s events
+
+-- their reports, each in the state before its event
+abbrev pub reports_of : List Event → Display → List ℕ
+reports_of [] s = []
+reports_of (event ∷ events) s = report event s ++ reports_of events (effect event s)
 
 -- a state and reports
 pub record Played : Type 0 where
   pub state : State
   pub reports : List ℕ
 
--- the state after bytes
-abbrev pub after_bytes : List ℕ → State → State
-after_bytes bytes s = fold (λ s b. effect b s) s bytes
-
--- bytes are carried out in order; no byte is reported on yet
+-- bytes after what is held: the events of their one split are carried out, and what their rest leaves is held
 unfoldable pub play : State → List ℕ → Played
-play s bytes = record { state = after_bytes bytes s; reports = [] }
+play s bytes = record {
+  state = record {
+    display = after_events (events_from s.held bytes) s.display;
+    held = held_from s.held bytes;
+  };
+  reports = reports_of (events_from s.held bytes) s.display;
+}
 
 -- two plays, one after the other
 abbrev pub both : Played → Played → Played

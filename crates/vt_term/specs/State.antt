@@ -1,25 +1,110 @@
--- The state of a terminal. (EK-VT220-RM, power-up; this profile)
-use Rattle.std.specs.Prelude.{◌≡◌, ℕ, ◌≤◌, List, true, false}
-use Rattle.vt_term.specs.declared.cursor.Cursor.{Cursor}
-use Rattle.vt_term.specs.Grid.{blank_grid, last_row, last_column}
+-- The state of a terminal. (EK-VT220-RM; the values at power-up are this profile's)
+use Rattle.std.specs.Prelude.{ℕ, ◌-◌, ◌%◌, List, map, Bool, true, false, None, ◌==◌, ◌&&◌, nat_lt, slice_index_or}
+use Rattle.std.specs.List.{range_with_len}
+use Rattle.vt_syntax.specs.declared.held.Held.{Held}
+use Rattle.vt_syntax.specs.declared.held.Held.TheVariants.{Nothing}
+use Rattle.vt_glyph.specs.GraphicSets.{GraphicSets}
+use Rattle.vt_glyph.specs.Invocation.{sets_at_power_up}
+use Rattle.vt_screen.specs.declared.cell.Brush.{Brush}
+use Rattle.vt_screen.specs.Cells.{plain_brush}
+use Rattle.vt_screen.specs.Grid.{Grid, blank_grid, columns, last_row}
+use Rattle.vt_term.specs.declared.state.Cursor.{Cursor}
+use Rattle.vt_term.specs.declared.state.Margins.{Margins}
+use Rattle.vt_term.specs.declared.state.Modes.{Modes}
+use Rattle.vt_term.specs.declared.state.Saved.{Saved}
 
-pub record State : Type 0 where
-  pub grid : List ℕ
+-- all but the held part: what events change
+pub record Display : Type 0 where
+  pub grid : Grid
   pub cursor : Cursor
+  pub brush : Brush
+  pub sets : GraphicSets
+  pub margins : Margins
+  pub stops : List Bool
+  pub modes : Modes
+  pub saved : Saved
+
+-- the whole state: the display, and what of an unfinished sequence is held
+pub record State : Type 0 where
+  pub display : Display
+  pub held : Held
+
+-- the width of the screen, 80 or 132
+abbrev pub last_column : Display → ℕ
+last_column s = s.grid.width
+
+-- ---- the values at power-up
 
 -- the cursor at a place, the wrap flag reset
 abbrev pub at_place : ℕ → ℕ → Cursor
 at_place row col = record { row = row; col = col; wrap = false }
 
--- all cells blank, the cursor at home
-abbrev pub power_up : State
-power_up = record { grid = blank_grid; cursor = at_place 1 1 }
+abbrev pub full_margins : Margins
+full_margins = record { top = 1; bottom = last_row }
 
--- what holds of each cursor that bytes leave
-pub record IsSoundCursor (cursor : Cursor) : Type 0 where
-  pub row_1 : 1 ≤ cursor.row
-  pub row_24 : cursor.row ≤ last_row
-  pub col_1 : 1 ≤ cursor.col
-  pub col_last : cursor.col ≤ last_column
-  -- the wrap flag stands in the last column only
-  pub wrap : cursor.wrap ≡ true → cursor.col ≡ last_column
+-- one truth value for each of the columns 1 to 132, whatever the width
+abbrev pub stops_where : (ℕ → Bool) → List Bool
+stops_where has_stop = map has_stop (range_with_len 1 (columns true))
+
+-- columns 9, 17, .. 129
+abbrev pub is_stop_at_power_up : ℕ → Bool
+is_stop_at_power_up c = nat_lt 1 c && c % 8 == 1
+
+unfoldable pub stops_at_power_up : List Bool
+stops_at_power_up = stops_where is_stop_at_power_up
+
+abbrev pub has_stop_at : List Bool → ℕ → Bool
+has_stop_at stops c = slice_index_or stops (c - 1) false
+
+-- SRM, DECAWM, DECARM and DECTCEM are set
+abbrev pub modes_at_power_up : Modes
+modes_at_power_up = record {
+  kam = false;
+  irm = false;
+  srm = true;
+  lnm = false;
+  decckm = false;
+  decsclm = false;
+  decscnm = false;
+  decom = false;
+  decawm = true;
+  decarm = true;
+  dectcem = true;
+  keypad_application = false;
+  reports_8bit = false;
+}
+
+-- what DECSC saves
+abbrev pub saved_of : Cursor → Brush → GraphicSets → Bool → Saved
+saved_of cursor brush sets origin = record {
+  row = cursor.row;
+  col = cursor.col;
+  wrap = cursor.wrap;
+  brush = brush;
+  g = sets.g;
+  gl = sets.left;
+  gr = sets.right;
+  origin = origin;
+}
+
+abbrev pub saved_at_power_up : Saved
+saved_at_power_up = saved_of (at_place 1 1) plain_brush sets_at_power_up false
+
+-- the saved sets; a single shift isn't saved
+abbrev pub saved_sets : Saved → GraphicSets
+saved_sets saved = record { g = saved.g; left = saved.gl; right = saved.gr; pending = None }
+
+abbrev pub display_at_power_up : Display
+display_at_power_up = record {
+  grid = blank_grid false;
+  cursor = at_place 1 1;
+  brush = plain_brush;
+  sets = sets_at_power_up;
+  margins = full_margins;
+  stops = stops_at_power_up;
+  modes = modes_at_power_up;
+  saved = saved_at_power_up;
+}
+
+abbrev pub power_up : State
+power_up = record { display = display_at_power_up; held = Nothing }

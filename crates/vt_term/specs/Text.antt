@@ -1,7 +1,9 @@
 -- The text of a screen. (this profile)
-use Rattle.std.specs.Prelude.{ℕ, List, [], ◌∷◌, ◌++◌, flat_map, ◌==◌, if◌then◌else◌}
+use Rattle.std.specs.Prelude.{ℕ, List, [], ◌∷◌, ◌++◌, map, flat_map, ◌==◌, encode_utf8_all, if◌then◌else◌}
 use Rattle.std.specs.List.{range_with_len}
-use Rattle.vt_term.specs.Grid.{row_of, last_row, space}
+use Rattle.vt_glyph.specs.Tables.{space}
+use Rattle.vt_screen.specs.declared.cell.Cell.{Cell}
+use Rattle.vt_screen.specs.Grid.{Grid, row_of, last_row}
 use Rattle.vt_term.specs.State.{State}
 
 -- a glyph before others, unless it is a space and nothing is left of them
@@ -14,13 +16,20 @@ abbrev pub trimmed : List ℕ → List ℕ
 trimmed [] = []
 trimmed (glyph ∷ glyphs) = before_trimmed glyph (trimmed glyphs)
 
--- the glyphs of a row without the spaces at its end, and LF
-abbrev pub line_text : List ℕ → List ℕ
-line_text glyphs = trimmed glyphs ++ 0x0A ∷ []
+-- what the cells show
+abbrev pub glyphs_of : List Cell → List ℕ
+glyphs_of cells = map (λ cell. cell.glyph) cells
 
--- the lines from row 1 on
-unfoldable pub lines_text : ℕ → List ℕ → List ℕ
-lines_text count grid = flat_map (λ r. line_text (row_of r grid)) (range_with_len 1 count)
+-- the characters of a row in UTF-8 without the spaces at its end, whatever their attributes, and LF
+abbrev pub line_text : List Cell → List ℕ
+line_text cells = encode_utf8_all (trimmed (glyphs_of cells)) ++ 0x0A ∷ []
+
+-- the lines of the first rows
+unfoldable pub lines_text : ℕ → Grid → List ℕ
+lines_text count g = flat_map (λ r. line_text (row_of g r)) (range_with_len 1 count)
+
+abbrev pub grid_text : Grid → List ℕ
+grid_text g = lines_text last_row g
 
 abbrev pub text : State → List ℕ
-text s = lines_text last_row s.grid
+text s = grid_text s.display.grid

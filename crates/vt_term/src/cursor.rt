@@ -1,50 +1,154 @@
-//! The cursor and the functions that move it alone.
-ghost use Rattle.std.specs.Prelude.{◌≡◌, ◌+◌, ◌≤◌, ◌<◌, IsTrue, ◌↔◌};
-ghost use Rattle.vt_term.specs.State.{at_place};
-ghost use Rattle.vt_term.specs.Tabs.{next_stop, has_stop_at};
-ghost use Rattle.vt_term.specs.Grid.{last_column};
+//! Moving the cursor. Each of these resets the wrap flag.
+ghost use Rattle.std.specs.Prelude.{◌≡◌, ◌≤◌};
+ghost use Rattle.vt_term.specs.Moving.{home, backspace, carriage_return, cursor_up, cursor_down, cursor_forward, cursor_backward, cursor_position, index, reverse_index, next_line, line_feed, set_margins};
 
-use crate::screen::COLUMNS;
+use crate::display::{Display, ROWS};
+use crate::page;
+use crate::state::{Cursor, Margins};
 
-/// The place of the next glyph. Rows count from 1 to 24, columns from 1 to 80.
-#[derive(Clone, Copy, Debug, PartialEq, Eq)]
-pub struct Cursor {
-    pub row: usize,
-    pub col: usize,
-    /// The wrap flag: a glyph was written in the last column, and the next one begins a new line.
-    pub wrap: bool,
-}
-
-impl Cursor {
-    /// The cursor at a place, the wrap flag reset.
-    pub(crate) fn at(row: usize, col: usize) -> Cursor
-        ensures { result ≡ at_place row col }
+impl Display {
+    /// Column 1 of row 1, or under DECOM of the top margin's row.
+    pub(crate) fn home(&mut self)
+        ensures { self.new ≡ home self.old }
     {
-        Cursor {
-            row,
-            col,
-            wrap: false,
+        let row = if self.modes.decom {
+            self.margins.top
+        } else {
+            1
+        };
+        self.cursor = Cursor::at(row, 1);
+    }
+
+    /// BS.
+    pub(crate) fn backspace(&mut self)
+        ensures { self.new ≡ backspace self.old }
+    {
+        self.cursor = Cursor::at(self.cursor.row, (self.cursor.col - 1).max(1));
+    }
+
+    /// CR.
+    pub(crate) fn carriage_return(&mut self)
+        ensures { self.new ≡ carriage_return self.old }
+    {
+        self.cursor = Cursor::at(self.cursor.row, 1);
+    }
+
+    /// CUU: up `n`, not past the top margin, or from above it not past row 1.
+    pub(crate) fn cursor_up(&mut self, n: u16)
+        ensures { self.new ≡ cursor_up n self.old }
+    {
+        let limit = if self.margins.top <= self.cursor.row {
+            self.margins.top
+        } else {
+            1
+        };
+        let row = self.cursor.row.saturating_sub(n as usize).max(limit);
+        self.cursor = Cursor::at(row, self.cursor.col);
+    }
+
+    /// CUD: down `n`, not past the bottom margin, or from below it not past row 24.
+    pub(crate) fn cursor_down(&mut self, n: u16)
+        ensures { self.new ≡ cursor_down n self.old }
+    {
+        let limit = if self.cursor.row <= self.margins.bottom {
+            self.margins.bottom
+        } else {
+            ROWS
+        };
+        let row = (self.cursor.row + n as usize).min(limit);
+        self.cursor = Cursor::at(row, self.cursor.col);
+    }
+
+    /// CUF: right `n`, not past the last column.
+    pub(crate) fn cursor_forward(&mut self, n: u16)
+        ensures { self.new ≡ cursor_forward n self.old }
+    {
+        let col = (self.cursor.col + n as usize).min(self.screen.width());
+        self.cursor = Cursor::at(self.cursor.row, col);
+    }
+
+    /// CUB: left `n`, not past column 1.
+    pub(crate) fn cursor_backward(&mut self, n: u16)
+        ensures { self.new ≡ cursor_backward n self.old }
+    {
+        let col = self.cursor.col.saturating_sub(n as usize).max(1);
+        self.cursor = Cursor::at(self.cursor.row, col);
+    }
+
+    /// CUP and HVP: to a line and column, where 0 stands for 1. Under DECOM lines count from the top margin.
+    pub(crate) fn cursor_position(&mut self, line: u16, col: u16)
+        ensures { self.new ≡ cursor_position line col self.old }
+    {
+        let line = (line as usize).max(1);
+        let row = if self.modes.decom {
+            (self.margins.top + line - 1).min(self.margins.bottom)
+        } else {
+            line.min(ROWS)
+        };
+        let col = (col as usize).max(1).min(self.screen.width());
+        self.cursor = Cursor::at(row, col);
+    }
+
+    /// IND: down by one, staying in row 24; at the bottom margin the scroll region moves up instead.
+    pub(crate) fn index(&mut self)
+        ensures { self.new ≡ index self.old }
+    {
+        let mut row = self.cursor.row;
+        if row == self.margins.bottom {
+            page::scroll_up(&mut self.screen, self.margins.top, self.margins.bottom, 1);
+        } else {
+            row = (row + 1).min(ROWS);
+        }
+        self.cursor = Cursor::at(row, self.cursor.col);
+    }
+
+    /// RI: up by one, staying in row 1; at the top margin the scroll region moves down instead.
+    pub(crate) fn reverse_index(&mut self)
+        ensures { self.new ≡ reverse_index self.old }
+    {
+        let mut row = self.cursor.row;
+        if row == self.margins.top {
+            page::scroll_down(&mut self.screen, self.margins.top, self.margins.bottom, 1);
+        } else {
+            row = (row - 1).max(1);
+        }
+        self.cursor = Cursor::at(row, self.cursor.col);
+    }
+
+    /// NEL.
+    #[inline(never)]
+    pub(crate) fn next_line(&mut self)
+        ensures { self.new ≡ next_line self.old }
+    {
+        self.carriage_return();
+        self.index();
+    }
+
+    /// LF, VT and FF: IND, and under LNM column 1 too.
+    pub(crate) fn line_feed(&mut self)
+        ensures { self.new ≡ line_feed self.old }
+    {
+        if self.modes.lnm {
+            self.next_line();
+        } else {
+            self.index();
         }
     }
-}
 
-/// Whether there is a tab stop at a column.
-fn has_stop(col: usize) -> bool
-    ensures { result ≡ has_stop_at col }
-{
-    1 < col && col % 8 == 1
-}
-
-/// The next tab stop right of a column, or else the last column.
-pub(crate) fn next_stop(col: usize) -> usize
-    requires { (1 ≤ col) × (col ≤ 80) }
-    ensures stop { result ≡ next_stop col }
-    ensures in_row { (1 ≤ result) × (result ≤ 80) }
-{
-    for c in col + 1..COLUMNS + 1 {
-        if has_stop(c) {
-            return c;
+    /// DECSTBM: margins of at least two rows, and the cursor goes home; else no effect.
+    pub(crate) fn set_margins(&mut self, top: u16, bottom: u16)
+        ensures { self.new ≡ set_margins top bottom self.old }
+    {
+        let top = (top as usize).max(1);
+        let bottom = if bottom == 0 {
+            ROWS
+        } else {
+            (bottom as usize).min(ROWS)
+        };
+        if top < bottom {
+            self.margins = Margins { top, bottom };
+            let row = if self.modes.decom { top } else { 1 };
+            self.cursor = Cursor::at(row, 1);
         }
     }
-    COLUMNS
 }

@@ -1,13 +1,25 @@
-//! The terminal: bytes in; a screen, a cursor and report bytes out.
-//!
-//! This is the first stage: 24 rows of 80 columns, the graphic bytes 20..7E and the controls 08 to 0D.
+//! The terminal: a host's bytes in; a screen, a cursor and report bytes out.
 #![tactic(auto)]
 
 mod cursor;
+mod display;
+mod editing;
+mod functions;
 pub mod laws;
-mod screen;
+mod modes;
+mod page;
+mod readers;
+mod rendition;
+mod reports;
+mod resets;
+mod same;
+mod saving;
+mod state;
+mod tabs;
 mod terminal;
 mod text;
+mod writing;
 
-pub use cursor::Cursor;
+pub use state::{Cursor, Margins, Modes, Saved};
 pub use terminal::{TEXT_LIMIT, Terminal};
+pub use vt_screen::{Brush, Cell, Rendition};

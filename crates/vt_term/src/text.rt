@@ -1,27 +1,51 @@
 //! The text of a row.
-ghost use Rattle.std.specs.Prelude.{◌≡◌, ◌+◌, ◌≤◌, ◌++◌, length, vec_len, vec_capacity};
-ghost use Rattle.vt_term.specs.Text.{trimmed, line_text};
+ghost use Rattle.vt_glyph.specs.Tables.{space};
+ghost use Rattle.std.specs.Prelude.{◌≡◌, ◌↔◌, IsTrue, ◌+◌, ◌*◌, ◌≤◌, ◌++◌, length, vec_len, vec_capacity, map, encode_utf8};
+ghost use Rattle.vt_term.specs.Text.{glyphs_of, line_text, trimmed};
 
-/// The row without the spaces at its end.
-fn without_trailing_spaces(cells: &[u8]) -> &[u8]
-    ensures value { result.now ≡ trimmed cells.now }
+use vt_glyph::Glyph;
+use vt_screen::Cell;
+
+/// Whether a cell shows a space.
+fn shows_space(cell: &Cell) -> bool
+    ensures { IsTrue result ↔ (cell.now.glyph ≡ space) }
+{
+    cell.glyph == Glyph::blank()
+}
+
+/// The row without the cells at its end that show a space.
+fn without_trailing_spaces(cells: &[Cell]) -> &[Cell]
+    ensures value { glyphs_of result.now ≡ trimmed (glyphs_of cells.now) }
     ensures shorter { length result.now ≤ length cells.now }
 {
     let mut end = cells.len();
-    while end > 0 && cells[end - 1] == b' ' {
+    while end > 0 && shows_space(&cells[end - 1]) {
         end -= 1;
     }
     &cells[..end]
 }
 
-/// Appends the text of a row. The room is there.
-pub(crate) fn push_line(cells: &[u8], out: &mut Vec<u8>)
-    requires { vec_len out.old + length cells.now + 1 ≤ vec_capacity out.old }
-    ensures items { out.new.items ≡ out.old.items ++ line_text cells.now }
-    ensures bounded { vec_len out.new ≤ vec_len out.old + length cells.now + 1 }
+/// Appends a glyph's character in UTF-8, at most three bytes. The room is there.
+fn push_glyph(glyph: Glyph, out: &mut Vec<u8>)
+    requires { vec_len out.old + 3 ≤ vec_capacity out.old }
+    ensures items { out.new.items ≡ out.old.items ++ encode_utf8 glyph }
+    ensures bounded { vec_len out.new ≤ vec_len out.old + 3 }
     ensures capacity { vec_capacity out.old ≤ vec_capacity out.new }
 {
-    out.extend_from_slice(without_trailing_spaces(cells))
-        .unwrap();
+    let mut bytes = [0u8; 4];
+    let text = glyph.to_char().encode_utf8(&mut bytes);
+    out.extend_from_slice(text.as_bytes()).unwrap();
+}
+
+/// Appends the text of a row: its characters without the spaces at its end, and LF. The room is there.
+pub(crate) fn push_line(cells: &[Cell], out: &mut Vec<u8>)
+    requires { vec_len out.old + 3 * length cells.now + 1 ≤ vec_capacity out.old }
+    ensures items { out.new.items ≡ out.old.items ++ line_text cells.now }
+    ensures bounded { vec_len out.new ≤ vec_len out.old + 3 * length cells.now + 1 }
+    ensures capacity { vec_capacity out.old ≤ vec_capacity out.new }
+{
+    for cell in without_trailing_spaces(cells) {
+        push_glyph(cell.glyph, out);
+    }
     out.push(b'\n').unwrap();
 }

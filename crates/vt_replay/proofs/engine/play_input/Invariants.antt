@@ -1,14 +1,17 @@
-use Rattle.std.proofs.Common.{◌≡◌, ◌+◌, ◌*◌, ◌≤◌, false, length, vec_capacity}
-use Rattle.vt_term.specs.Play.{play}
-use Rattle.vt_replay.specs.Run.{Takes}
+use Rattle.std.proofs.Common.{◌≡◌, ◌+◌, ◌-◌, ◌*◌, ◌≤◌, false, length, vec_capacity}
+use Rattle.vt_replay.specs.Run.{Moves, IsPlayed}
 use Rattle.vt_replay.proofs.engine.play_input.Given as goal
 
 abbrev pub invariant-loop-left : goal.invariant-loop-left
 invariant-loop-left g l = record {
-  taken : Takes (g.R.Read.remaining l.initial.reader.device) (g.R.Read.remaining l.reader.device)
-      (λ b. (length b + l.left ≡ l.limit) × (l.terminal ≡ (play l.initial.terminal b).state));
+  moved : Moves (g.R.Read.remaining l.initial.reader.device) (g.R.Read.remaining l.reader.device)
+      (g.W.Write.contents l.initial.writer.device) (g.W.Write.contents l.writer.device)
+      (λ b w. (length b + l.left ≡ l.limit) × IsPlayed l.what l.terminal l.reported b w);
+  few : l.reported ≤ 10 * (l.limit - l.left);
+  within : l.left ≤ l.limit;
   reader_works : l.reader.failed ≡ false;
   reader_goes_on : l.reader.ended ≡ false;
+  writer_works : l.writer.failed ≡ false;
   room : 10 * length l.buffer ≤ vec_capacity l.out;
   capacity : vec_capacity l.initial.out ≤ vec_capacity l.out;
 }

@@ -13,3 +13,25 @@ returns-in_err-terminal g c =
       given = Appends-nil _;
       holds = (record { reader_failed = c.requires.reader_works; reader_ended = c.requires.reader_goes_on; writer_failed = c.requires.writer_works }, refl, refl);
     })
+
+pub returns-in_err-buffer : goal.returns-in_err-buffer
+returns-in_err-buffer g c =
+    let fault = err_from_is_err_and c.from_residual-in_err-buffer.result c.from_residual-in_err-buffer.ensures.1 in
+    rw (fault.1, fault.2) (record {
+      b = [];
+      w = [];
+      taken = Consumes-nil _;
+      given = Appends-nil _;
+      holds = (record { reader_failed = c.requires.reader_works; reader_ended = c.requires.reader_goes_on; writer_failed = c.requires.writer_works }, refl, refl);
+    })
+
+pub returns-in_err-out : goal.returns-in_err-out
+returns-in_err-out g c =
+    let fault = err_from_is_err_and c.from_residual-in_err-out.result c.from_residual-in_err-out.ensures.1 in
+    rw (fault.1, fault.2) (record {
+      b = [];
+      w = [];
+      taken = Consumes-nil _;
+      given = Appends-nil _;
+      holds = (record { reader_failed = c.requires.reader_works; reader_ended = c.requires.reader_goes_on; writer_failed = c.requires.writer_works }, refl, refl);
+    })

@@ -1,6 +1,15 @@
-use Rattle.std.proofs.Common.{◌≡◌, take}
-use Rattle.vt_term.specs.Play.{after_bytes}
+use Rattle.std.proofs.Common.{◌≡◌, ◌+◌, ◌-◌, ◌*◌, ◌≤◌, ◌++◌, length, take, vec_len, vec_capacity}
+use Rattle.vt_term.specs.Play.{play}
 use Rattle.vt_term.proofs.terminal.Terminal.feed_reserved.Given as goal
 
-abbrev pub invariant-loop-byte : goal.invariant-loop-byte
-invariant-loop-byte l = l.self ≡ after_bytes (take l.byte-index l.piece) l.initial.self
+abbrev pub invariant-loop-at : goal.invariant-loop-at
+invariant-loop-at l = record {
+  within : l.at ≤ length l.piece;
+  state : l.self ≡ (play l.initial.self (take l.at l.piece)).state;
+  reports : l.out.items ≡ l.initial.out.items ++ (play l.initial.self (take l.at l.piece)).reports;
+  bounded : vec_len l.out ≤ vec_len l.initial.out + 10 * l.at;
+  capacity : vec_capacity l.initial.out ≤ vec_capacity l.out;
+}
+
+abbrev pub decreases-loop-at : goal.decreases-loop-at
+decreases-loop-at l = length l.piece - l.at

@@ -1,0 +1,16 @@
+pub mod LowerLaws
+pub mod Running
+pub mod Equality
+pub mod Grids
+pub mod Brushes
+pub mod Glyphs
+pub mod Painting
+pub mod Stops
+pub mod ModeItems
+pub mod SavedRecord
+pub mod Chain
+pub mod Fine
+pub mod Whole
+pub mod Canonical
+pub mod Spelled
+pub mod Pushing

@@ -1,0 +1,21 @@
+-- Events one after another.
+use Rattle.std.proofs.Common.{◌≡◌, List, [], ◌∷◌, ◌++◌, refl}
+use Rattle.vt_syntax.specs.declared.event.Event.{Event}
+use Rattle.vt_term.specs.State.{Display}
+use Rattle.vt_term.specs.Functions.{effect}
+use Rattle.vt_term.specs.Play.{after_events}
+
+-- the display after events, opaque to the lemmas that don't look into it
+unfoldable pub run : Display → List Event → Display
+run s [] = s
+run s (e ∷ es) = run (effect e s) es
+
+pub run-append : (s : Display) (es fs : List Event) → run s (es ++ fs) ≡ run (run s es) fs
+unfolding run
+run-append s [] fs = refl
+run-append s (e ∷ es) fs = run-append (effect e s) es fs
+
+pub run-after_events : (s : Display) (es : List Event) → run s es ≡ after_events es s
+unfolding run
+run-after_events s [] = refl
+run-after_events s (e ∷ es) = run-after_events (effect e s) es

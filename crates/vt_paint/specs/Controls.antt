@@ -1,0 +1,135 @@
+-- The control functions that a repaint is made of, as events. (EK-VT220-RM, chapter 4; ECMA-48)
+use Rattle.std.specs.Prelude.{ℕ, List, [], ◌∷◌, ◌++◌, Bool, Some, None, ◌==◌, if◌then◌else◌, codes}
+use Rattle.vt_syntax.specs.declared.event.Event.{Event}
+use Rattle.vt_syntax.specs.declared.event.Event.TheVariants.{Print, Control, Escape, Sequence}
+use Rattle.vt_glyph.specs.declared.set.Set.{Set}
+use Rattle.vt_glyph.specs.declared.set.Set.TheVariants.{Ascii, Special, Supplemental}
+use Rattle.vt_glyph.specs.declared.glyph.Spelling.{Spelling}
+use Rattle.vt_glyph.specs.declared.glyph.Spelling.TheVariants.{Plain, Second, Third}
+use Rattle.vt_glyph.specs.GraphicSets.{GraphicSets}
+use Rattle.vt_glyph.specs.Designation.{final_of}
+use Rattle.vt_glyph.specs.Invocation.{set_at}
+use Rattle.vt_screen.specs.declared.cell.Rendition.{Rendition}
+use Rattle.vt_screen.specs.declared.cell.Brush.{Brush}
+use Rattle.vt_term.specs.Functions.{byte}
+
+-- some only where a test passes
+abbrev pub where_true : {A : Type 0} → Bool → List A → List A
+where_true test xs = if test then xs else []
+
+-- ---- control sequences
+
+-- of values alone
+abbrev pub sequence_of : List ℕ → ℕ → Event
+sequence_of values last = Sequence None (record { items = values }) None last
+
+-- SM and RM of an ANSI mode
+abbrev pub ansi_mode : ℕ → Bool → Event
+ansi_mode number on = sequence_of (number ∷ []) (if on then byte (codes "h") else byte (codes "l"))
+
+-- SM and RM of a private mode
+abbrev pub private_mode : ℕ → Bool → Event
+private_mode number on =
+    Sequence (Some (byte (codes "?"))) (record { items = number ∷ [] }) None (if on then byte (codes "h") else byte (codes "l"))
+
+abbrev pub deccolm : ℕ
+deccolm = 3
+
+abbrev pub decom : ℕ
+decom = 6
+
+-- CUP, always with both numbers
+abbrev pub cursor_to : ℕ → ℕ → Event
+cursor_to line col = sequence_of (line ∷ col ∷ []) (byte (codes "H"))
+
+-- DECSTBM
+abbrev pub margins_to : ℕ → ℕ → Event
+margins_to top bottom = sequence_of (top ∷ bottom ∷ []) (byte (codes "r"))
+
+-- TBC: all stops go
+abbrev pub clear_all_tabs : Event
+clear_all_tabs = sequence_of (3 ∷ []) (byte (codes "g"))
+
+-- SGR: 0, and then the attributes that are set
+abbrev pub rendition_values : Rendition → List ℕ
+rendition_values r =
+    0 ∷ (where_true r.bold (1 ∷ []) ++ (where_true r.underline (4 ∷ []) ++ (where_true r.blink (5 ∷ []) ++ where_true r.reverse (7 ∷ []))))
+
+abbrev pub rendition_to : Rendition → Event
+rendition_to r = sequence_of (rendition_values r) (byte (codes "m"))
+
+-- DECSCA
+abbrev pub protection_to : Bool → Event
+protection_to protected =
+    Sequence None (record { items = (if protected then 1 else 0) ∷ [] }) (Some 0x22) (byte (codes "q"))
+
+-- the attributes and the protection
+unfoldable pub brush_events : Brush → List Event
+brush_events brush = rendition_to brush.rendition ∷ protection_to brush.protected ∷ []
+
+-- ---- controls and escape sequences
+
+-- HTS, SS2 and SS3, in their 7-bit forms ESC H, ESC N and ESC O
+abbrev pub set_tab : Event
+set_tab = Control 0x88
+
+abbrev pub shift_to_2 : Event
+shift_to_2 = Control 0x8E
+
+abbrev pub shift_to_3 : Event
+shift_to_3 = Control 0x8F
+
+-- RIS
+abbrev pub reset_all : Event
+reset_all = Escape None (byte (codes "c"))
+
+-- DECSC
+abbrev pub save_cursor : Event
+save_cursor = Escape None (byte (codes "7"))
+
+-- DECKPAM
+abbrev pub application_keypad : Event
+application_keypad = Escape None (byte (codes "="))
+
+-- S8C1T
+abbrev pub reports_8bit : Event
+reports_8bit = Escape (Some (byte (codes " "))) (byte (codes "G"))
+
+-- ---- sets
+
+-- SCS, by the intermediate of G0, G1, G2 or G3
+abbrev pub designation : List ℕ → Set → Event
+designation inter set = Escape (Some (byte inter)) (final_of set)
+
+-- LS0 (SI), LS1 (SO), LS2, LS3
+abbrev pub left_event : ℕ → Event
+left_event slot =
+    if slot == 0 then Control 0x0F else (
+    if slot == 1 then Control 0x0E else (
+    if slot == 2 then Escape None (byte (codes "n")) else Escape None (byte (codes "o"))))
+
+-- LS1R, LS2R, LS3R
+abbrev pub right_event : ℕ → Event
+right_event slot =
+    if slot == 1 then Escape None (byte (codes "~")) else (
+    if slot == 2 then Escape None (byte (codes "}")) else Escape None (byte (codes "|")))
+
+-- G0 to G3, then GL, then GR
+unfoldable pub sets_events : GraphicSets → List Event
+sets_events sets =
+    designation (codes "(") (set_at sets 0) ∷ designation (codes ")") (set_at sets 1)
+    ∷ designation (codes "*") (set_at sets 2) ∷ designation (codes "+") (set_at sets 3)
+    ∷ left_event sets.left ∷ right_event sets.right ∷ []
+
+-- the sets that the spellings of glyphs are for
+abbrev pub spelling_sets_events : List Event
+spelling_sets_events =
+    designation (codes "(") Ascii ∷ designation (codes "*") Supplemental ∷ designation (codes "+") Special ∷ left_event 0 ∷ []
+
+-- ---- glyphs
+
+-- a glyph's spelling: its code, after a single shift to G2 or G3
+abbrev pub spelling_events : Spelling → List Event
+spelling_events (Plain code) = Print code ∷ []
+spelling_events (Second code) = shift_to_2 ∷ Print code ∷ []
+spelling_events (Third code) = shift_to_3 ∷ Print code ∷ []

@@ -1,0 +1,6 @@
+pub mod Same
+pub mod Controls
+pub mod Pieces
+pub mod Items
+pub mod Repaint
+pub mod Room

@@ -1,0 +1,52 @@
+-- The piece of a cell: what of the repaint writes it. (this profile)
+use Rattle.std.specs.Prelude.{ℕ, ◌-◌, List, ◌∷◌, ◌++◌, Bool, not, ◌==◌, ◌||◌, if◌then◌else◌}
+use Rattle.std.specs.List.{range_with_len, flat_map, list_all}
+use Rattle.vt_syntax.specs.declared.event.Event.{Event}
+use Rattle.vt_glyph.specs.Spell.{spelling_of}
+use Rattle.vt_screen.specs.declared.cell.Cell.{Cell}
+use Rattle.vt_screen.specs.Cells.{blank, brush_of}
+use Rattle.vt_screen.specs.Grid.{Grid, cell_at, row_of, last_row}
+use Rattle.vt_paint.specs.Same.{same_brush, is_blank}
+use Rattle.vt_paint.specs.Controls.{where_true, cursor_to, brush_events, spelling_events}
+
+-- the cell to the left of a place; left of column 1 counts as blank
+unfoldable pub left_of : Grid → ℕ → ℕ → Cell
+left_of g r c = if c == 1 then blank else cell_at g r (c - 1)
+
+-- the cell to the left is blank, or is written with another brush
+abbrev pub needs_header : Cell → Cell → Bool
+needs_header left cell = is_blank left || not (same_brush (brush_of left) (brush_of cell))
+
+-- the place and the brush of a cell
+unfoldable pub header : ℕ → ℕ → Cell → Cell → List Event
+header r c left cell = where_true (needs_header left cell) (cursor_to r c ∷ brush_events (brush_of cell))
+
+-- the glyph of a cell
+unfoldable pub glyph_events : Cell → List Event
+glyph_events cell = spelling_events (spelling_of cell.glyph)
+
+-- a blank cell has an empty piece; another has a header where it needs one, and its glyph
+unfoldable pub piece_of : ℕ → ℕ → Cell → Cell → List Event
+piece_of r c left cell = where_true (not (is_blank cell)) (header r c left cell ++ glyph_events cell)
+
+abbrev pub piece : Grid → ℕ → ℕ → List Event
+piece g r c = piece_of r c (left_of g r c) (cell_at g r c)
+
+-- the pieces of n cells of a row from a column on
+abbrev pub pieces_from : Grid → ℕ → ℕ → ℕ → List Event
+pieces_from g r c n = flat_map (λ c. piece g r c) (range_with_len c n)
+
+abbrev pub row_pieces : Grid → ℕ → List Event
+row_pieces g r = pieces_from g r 1 g.width
+
+-- the pieces of n rows
+abbrev pub rows_from : Grid → ℕ → ℕ → List Event
+rows_from g r n = flat_map (λ r. row_pieces g r) (range_with_len r n)
+
+-- the pieces of all cells, by row and column
+unfoldable pub pieces : Grid → List Event
+pieces g = rows_from g 1 last_row
+
+-- every cell of every row is blank
+unfoldable pub is_blank_grid : Grid → Bool
+is_blank_grid g = list_all (λ r. list_all is_blank (row_of g r)) (range_with_len 1 last_row)

@@ -1,0 +1,37 @@
+-- The repaint: one byte string for each state, which rebuilds it on any terminal. (this profile)
+use Rattle.std.specs.Prelude.{◌≡◌, ◌≤◌, ℕ, List, [], ◌++◌, All}
+use Rattle.vt_syntax.specs.declared.event.Event.{Event}
+use Rattle.vt_syntax.specs.Spelling.{spell_events}
+use Rattle.vt_term.specs.State.{Display, State, last_column}
+use Rattle.vt_term.specs.Sound.{IsSound}
+use Rattle.vt_term.specs.Play.{play}
+use Rattle.vt_paint.specs.Controls.{brush_events, sets_events}
+use Rattle.vt_paint.specs.Items.{reset_item, stops_item, saved_item, cells_item, margins_item, origin_item, position_item, wrap_item, modes_item, shift_item}
+
+-- what a repaint asks for: its items in order
+unfoldable pub repaint_events : Display → List Event
+repaint_events s =
+    reset_item
+    ++ (stops_item (last_column s) s.stops
+    ++ (saved_item s.saved
+    ++ (cells_item s.grid s.cursor.wrap
+    ++ (margins_item s.margins
+    ++ (origin_item s.modes.decom
+    ++ (position_item s
+    ++ (wrap_item s.grid s.cursor
+    ++ (brush_events s.brush
+    ++ (sets_events s.sets
+    ++ (modes_item s.modes
+    ++ shift_item s.sets.pending))))))))))
+
+-- in 7-bit form
+unfoldable pub paint : State → List ℕ
+paint s = spell_events (repaint_events s.display)
+
+-- played on any terminal, whatever it shows and holds, the repaint leaves this state, and asks for no report
+abbrev pub IsRebuilt : State → Type 0
+IsRebuilt s = (t : State) → IsSound t → play t (paint s) ≡ record { state = s; reports = [] }
+
+-- each number is a byte
+abbrev pub AreBytes : List ℕ → Type 0
+AreBytes bytes = All (λ b. b ≤ 0xFF) bytes

@@ -1,0 +1,6 @@
+-- The room that private contracts speak of. No public clause does.
+use Rattle.std.specs.Prelude.{ℕ, Bool, if◌then◌else◌}
+
+-- what the sets of the spellings may still take
+abbrev pub head_room : Bool → ℕ
+head_room shown = if shown then 0 else 11

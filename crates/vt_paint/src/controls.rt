@@ -1,0 +1,181 @@
+//! The control functions that a repaint is made of, in their 7-bit form. The room for each is there.
+ghost use Rattle.std.specs.Prelude.{◌≡◌, ◌+◌, ◌≤◌, ◌<◌, ◌++◌, None, slice_index_or, vec_len, vec_capacity};
+ghost use Rattle.vt_glyph.specs.declared.set.Set.TheVariants.{Ascii};
+ghost use Rattle.vt_glyph.specs.Designation.{final_of};
+ghost use Rattle.vt_syntax.specs.Spelling.{spell_event, spell_events};
+ghost use Rattle.vt_glyph.specs.Spell.{spelling_of};
+ghost use Rattle.vt_paint.specs.Controls.{cursor_to, margins_to, ansi_mode, private_mode, rendition_to, protection_to, brush_events, left_event, right_event, sets_events, spelling_events};
+
+use crate::room::{push_bytes, push_number, push_where};
+use vt_glyph::{Glyph, Set, Spelling};
+use vt_screen::{Brush, Rendition};
+
+/// CUP.
+pub(crate) fn push_cursor_to(line: usize, col: usize, out: &mut Vec<u8>)
+    requires line { line ≤ 24 }
+    requires col { col ≤ 132 }
+    requires room { vec_len out.old + 9 ≤ vec_capacity out.old }
+    ensures items { out.new.items ≡ out.old.items ++ spell_event (cursor_to line col) }
+    ensures bounded { vec_len out.new ≤ vec_len out.old + 9 }
+    ensures capacity { vec_capacity out.old ≤ vec_capacity out.new }
+{
+    push_bytes(b"\x1B[", out);
+    push_number(line as u8, out);
+    push_bytes(b";", out);
+    push_number(col as u8, out);
+    push_bytes(b"H", out);
+}
+
+/// DECSTBM.
+pub(crate) fn push_margins_to(top: usize, bottom: usize, out: &mut Vec<u8>)
+    requires top { top ≤ 24 }
+    requires bottom { bottom ≤ 24 }
+    requires room { vec_len out.old + 8 ≤ vec_capacity out.old }
+    ensures items { out.new.items ≡ out.old.items ++ spell_event (margins_to top bottom) }
+    ensures bounded { vec_len out.new ≤ vec_len out.old + 8 }
+    ensures capacity { vec_capacity out.old ≤ vec_capacity out.new }
+{
+    push_bytes(b"\x1B[", out);
+    push_number(top as u8, out);
+    push_bytes(b";", out);
+    push_number(bottom as u8, out);
+    push_bytes(b"r", out);
+}
+
+/// SM or RM of an ANSI mode.
+pub(crate) fn push_ansi_mode(number: u8, on: bool, out: &mut Vec<u8>)
+    requires number { number < 100 }
+    requires room { vec_len out.old + 6 ≤ vec_capacity out.old }
+    ensures items { out.new.items ≡ out.old.items ++ spell_event (ansi_mode number on) }
+    ensures bounded { vec_len out.new ≤ vec_len out.old + 5 }
+    ensures capacity { vec_capacity out.old ≤ vec_capacity out.new }
+{
+    push_bytes(b"\x1B[", out);
+    push_number(number, out);
+    push_bytes(if on { b"h" } else { b"l" }, out);
+}
+
+/// SM or RM of a private mode.
+pub(crate) fn push_private_mode(number: u8, on: bool, out: &mut Vec<u8>)
+    requires number { number < 100 }
+    requires room { vec_len out.old + 6 ≤ vec_capacity out.old }
+    ensures items { out.new.items ≡ out.old.items ++ spell_event (private_mode number on) }
+    ensures bounded { vec_len out.new ≤ vec_len out.old + 6 }
+    ensures capacity { vec_capacity out.old ≤ vec_capacity out.new }
+{
+    push_bytes(b"\x1B[?", out);
+    push_number(number, out);
+    push_bytes(if on { b"h" } else { b"l" }, out);
+}
+
+/// SGR: all attributes off, and then on those that are set.
+fn push_rendition(r: Rendition, out: &mut Vec<u8>)
+    requires { vec_len out.old + 12 ≤ vec_capacity out.old }
+    ensures items { out.new.items ≡ out.old.items ++ spell_event (rendition_to r) }
+    ensures bounded { vec_len out.new ≤ vec_len out.old + 12 }
+    ensures capacity { vec_capacity out.old ≤ vec_capacity out.new }
+{
+    push_bytes(b"\x1B[0", out);
+    push_where(r.bold, b";1", out);
+    push_where(r.underline, b";4", out);
+    push_where(r.blink, b";5", out);
+    push_where(r.reverse, b";7", out);
+    push_bytes(b"m", out);
+}
+
+/// DECSCA.
+fn push_protection(protected: bool, out: &mut Vec<u8>)
+    requires { vec_len out.old + 5 ≤ vec_capacity out.old }
+    ensures items { out.new.items ≡ out.old.items ++ spell_event (protection_to protected) }
+    ensures bounded { vec_len out.new ≤ vec_len out.old + 5 }
+    ensures capacity { vec_capacity out.old ≤ vec_capacity out.new }
+{
+    if protected {
+        push_bytes(b"\x1B[1\"q", out);
+    } else {
+        push_bytes(b"\x1B[0\"q", out);
+    }
+}
+
+/// SGR and DECSCA.
+#[tactic(auto, unfolding(crate::specs::Controls::brush_events))]
+pub(crate) fn push_brush(brush: Brush, out: &mut Vec<u8>)
+    requires { vec_len out.old + 17 ≤ vec_capacity out.old }
+    ensures items { out.new.items ≡ out.old.items ++ spell_events (brush_events brush) }
+    ensures bounded { vec_len out.new ≤ vec_len out.old + 17 }
+    ensures capacity { vec_capacity out.old ≤ vec_capacity out.new }
+{
+    push_rendition(brush.rendition, out);
+    push_protection(brush.protected, out);
+}
+
+/// LS0 to LS3.
+fn push_left(slot: u8, out: &mut Vec<u8>)
+    requires { vec_len out.old + 2 ≤ vec_capacity out.old }
+    ensures items { out.new.items ≡ out.old.items ++ spell_event (left_event slot) }
+    ensures bounded { vec_len out.new ≤ vec_len out.old + 2 }
+    ensures capacity { vec_capacity out.old ≤ vec_capacity out.new }
+{
+    match slot {
+        0 => push_bytes(b"\x0F", out),
+        1 => push_bytes(b"\x0E", out),
+        2 => push_bytes(b"\x1Bn", out),
+        _ => push_bytes(b"\x1Bo", out),
+    }
+}
+
+/// LS1R to LS3R.
+fn push_right(slot: u8, out: &mut Vec<u8>)
+    requires { vec_len out.old + 2 ≤ vec_capacity out.old }
+    ensures items { out.new.items ≡ out.old.items ++ spell_event (right_event slot) }
+    ensures bounded { vec_len out.new ≤ vec_len out.old + 2 }
+    ensures capacity { vec_capacity out.old ≤ vec_capacity out.new }
+{
+    match slot {
+        1 => push_bytes(b"\x1B~", out),
+        2 => push_bytes(b"\x1B}", out),
+        _ => push_bytes(b"\x1B|", out),
+    }
+}
+
+/// The final byte of the set in a slot, 0 to 3.
+fn final_at(g: &[Set; 4], slot: usize) -> u8
+    requires { slot < 4 }
+    ensures { result ≡ final_of (slice_index_or g.now slot Ascii) }
+{
+    g[slot].last()
+}
+
+/// Designates G0 to G3, and then locks GL and GR. Slots are as those of [`Sets`](vt_glyph::Sets).
+#[tactic(auto, unfolding(crate::specs::Controls::sets_events))]
+pub(crate) fn push_sets(g: &[Set; 4], left: u8, right: u8, out: &mut Vec<u8>)
+    requires { vec_len out.old + 16 ≤ vec_capacity out.old }
+    ensures items { out.new.items ≡ out.old.items ++ spell_events (sets_events (record { g = g.now; left = left; right = right; pending = None })) }
+    ensures bounded { vec_len out.new ≤ vec_len out.old + 16 }
+    ensures capacity { vec_capacity out.old ≤ vec_capacity out.new }
+{
+    push_bytes(
+        &[0x1B, b'(', final_at(g, 0), 0x1B, b')', final_at(g, 1)],
+        out,
+    );
+    push_bytes(
+        &[0x1B, b'*', final_at(g, 2), 0x1B, b'+', final_at(g, 3)],
+        out,
+    );
+    push_left(left, out);
+    push_right(right, out);
+}
+
+/// A glyph, where the sets are those of its spelling.
+pub(crate) fn push_glyph(glyph: Glyph, out: &mut Vec<u8>)
+    requires { vec_len out.old + 3 ≤ vec_capacity out.old }
+    ensures items { out.new.items ≡ out.old.items ++ spell_events (spelling_events (spelling_of glyph)) }
+    ensures bounded { vec_len out.new ≤ vec_len out.old + 3 }
+    ensures capacity { vec_capacity out.old ≤ vec_capacity out.new }
+{
+    match glyph.spelling() {
+        Spelling::Plain(code) => push_bytes(&[code], out),
+        Spelling::Second(code) => push_bytes(&[0x1B, b'N', code], out),
+        Spelling::Third(code) => push_bytes(&[0x1B, b'O', code], out),
+    }
+}

@@ -1,0 +1,287 @@
+//! The items of a repaint but for the cells. The room for each is there.
+ghost use Rattle.std.specs.Prelude.{◌≡◌, ◌↔◌, ◌+◌, ◌*◌, ◌≤◌, ◌<◌, ◌++◌, ◌∷◌, [], true, IsTrue, vec_len, vec_capacity};
+ghost use Rattle.vt_syntax.specs.Spelling.{spell_events};
+ghost use Rattle.vt_screen.specs.Grid.{columns};
+ghost use Rattle.vt_term.specs.State.{stops_at_power_up, is_stop_at_power_up as is_stop_at_power_up_of, saved_at_power_up as saved_at_power_up_is};
+ghost use Rattle.vt_screen.specs.Cells.{brush_of};
+ghost use Rattle.vt_paint.specs.Controls.{where_true, private_mode, decom, cursor_to, set_tab, brush_events};
+ghost use Rattle.vt_paint.specs.Pieces.{glyph_events};
+ghost use Rattle.vt_paint.specs.Items.{stops_from, made_stops, stops_item, saved_item, saved_events, margins_item, ansi_mode_item, private_mode_item, modes_item, shift_item};
+
+use crate::controls::{
+    push_ansi_mode, push_brush, push_cursor_to, push_glyph, push_margins_to, push_private_mode,
+    push_sets,
+};
+use crate::room::{push_bytes, push_number, push_where};
+use vt_glyph::{Set, Sets};
+use vt_screen::{Brush, Cell, Rendition};
+use vt_term::{Margins, Modes, Saved, Terminal};
+
+/// The columns that tab stops are kept for, whatever the width.
+const STOPS: usize = 132;
+
+const DECCOLM: u8 = 3;
+
+pub(crate) const DECOM: u8 = 6;
+
+/// SM or RM of a private mode, where a test passes.
+pub(crate) fn push_private_mode_where(test: bool, number: u8, on: bool, out: &mut Vec<u8>)
+    requires number { number < 100 }
+    requires room { vec_len out.old + 6 ≤ vec_capacity out.old }
+    ensures items { out.new.items ≡ out.old.items ++ spell_events (where_true test (private_mode number on ∷ [])) }
+    ensures bounded { vec_len out.new ≤ vec_len out.old + 6 }
+    ensures capacity { vec_capacity out.old ≤ vec_capacity out.new }
+{
+    if test {
+        push_private_mode(number, on, out);
+    }
+}
+
+// ---- 2: the stops and the width
+
+/// Columns 9, 17, .. 129.
+fn is_stop_at_power_up(col: usize) -> bool
+    ensures { result ≡ is_stop_at_power_up_of col }
+{
+    col > 1 && col % 8 == 1
+}
+
+fn are_stops_at_power_up(stops: &[bool; STOPS]) -> bool
+    ensures { IsTrue result ↔ (stops.now ≡ stops_at_power_up) }
+{
+    for (i, stop) in stops.iter().enumerate() {
+        if *stop != is_stop_at_power_up(i + 1) {
+            return false;
+        }
+    }
+    true
+}
+
+/// CUP and HTS, where there is a stop.
+fn push_stop(stop: bool, col: usize, out: &mut Vec<u8>)
+    requires col { col ≤ 132 }
+    requires room { vec_len out.old + 10 ≤ vec_capacity out.old }
+    ensures items { out.new.items ≡ out.old.items ++ spell_events (where_true stop (cursor_to 1 col ∷ set_tab ∷ [])) }
+    ensures bounded { vec_len out.new ≤ vec_len out.old + 10 }
+    ensures capacity { vec_capacity out.old ≤ vec_capacity out.new }
+{
+    if stop {
+        push_bytes(b"\x1B[1;", out);
+        push_number(col as u8, out);
+        push_bytes(b"H\x1BH", out);
+    }
+}
+
+fn push_each_stop(stops: &[bool; STOPS], out: &mut Vec<u8>)
+    requires { vec_len out.old + 10 * 132 ≤ vec_capacity out.old }
+    ensures items { out.new.items ≡ out.old.items ++ spell_events (stops_from stops.now 1 (columns true)) }
+    ensures bounded { vec_len out.new ≤ vec_len out.old + 10 * 132 }
+    ensures capacity { vec_capacity out.old ≤ vec_capacity out.new }
+{
+    for (i, stop) in stops.iter().enumerate() {
+        push_stop(*stop, i + 1, out);
+    }
+}
+
+/// The stops, made on a wide screen, and the width that is asked for then.
+fn push_made_stops(wide: bool, stops: &[bool; STOPS], out: &mut Vec<u8>)
+    requires { vec_len out.old + 10 * 132 + 16 ≤ vec_capacity out.old }
+    ensures items { out.new.items ≡ out.old.items ++ spell_events (made_stops wide stops.now) }
+    ensures bounded { vec_len out.new ≤ vec_len out.old + 10 * 132 + 16 }
+    ensures capacity { vec_capacity out.old ≤ vec_capacity out.new }
+{
+    push_private_mode(DECCOLM, true, out);
+    push_bytes(b"\x1B[3g", out);
+    push_each_stop(stops, out);
+    push_private_mode_where(!wide, DECCOLM, false, out);
+}
+
+/// The stops and the width.
+pub(crate) fn push_stops(width: usize, stops: &[bool; STOPS], out: &mut Vec<u8>)
+    requires { vec_len out.old + 10 * 132 + 16 ≤ vec_capacity out.old }
+    ensures items { out.new.items ≡ out.old.items ++ spell_events (stops_item width stops.now) }
+    ensures bounded { vec_len out.new ≤ vec_len out.old + 10 * 132 + 16 }
+    ensures capacity { vec_capacity out.old ≤ vec_capacity out.new }
+{
+    let wide = width == STOPS;
+    if are_stops_at_power_up(stops) {
+        push_private_mode_where(wide, DECCOLM, true, out);
+    } else {
+        push_made_stops(wide, stops, out);
+    }
+}
+
+// ---- 3: the saved record
+
+/// What DECSC would save at power-up.
+fn saved_at_power_up() -> Saved
+    ensures { result ≡ saved_at_power_up_is }
+{
+    let sets = Sets::power_up();
+    Saved {
+        row: 1,
+        col: 1,
+        wrap: false,
+        brush: Brush::plain(),
+        g: sets.designations(),
+        gl: sets.left(),
+        gr: sets.right(),
+        origin: false,
+    }
+}
+
+fn same_designations(a: &[Set; 4], b: &[Set; 4]) -> bool
+    ensures { IsTrue result ↔ (a.now ≡ b.now) }
+{
+    a == b
+}
+
+fn same_rendition(a: &Rendition, b: &Rendition) -> bool
+    ensures { IsTrue result ↔ (a.now ≡ b.now) }
+{
+    a == b
+}
+
+fn same_brush(a: &Brush, b: &Brush) -> bool
+    ensures { IsTrue result ↔ (a.now ≡ b.now) }
+{
+    same_rendition(&a.rendition, &b.rendition) && a.protected == b.protected
+}
+
+fn same_saved(a: &Saved, b: &Saved) -> bool
+    ensures { IsTrue result ↔ (a.now ≡ b.now) }
+{
+    a.row == b.row
+        && a.col == b.col
+        && a.wrap == b.wrap
+        && same_brush(&a.brush, &b.brush)
+        && same_designations(&a.g, &b.g)
+        && a.gl == b.gl
+        && a.gr == b.gr
+        && a.origin == b.origin
+}
+
+#[tactic(auto, unfolding(crate::specs::Items::saved_events))]
+fn push_saved_events(saved: &Saved, out: &mut Vec<u8>)
+    requires row { saved.now.row ≤ 24 }
+    requires col { saved.now.col ≤ 132 }
+    requires room { vec_len out.old + 57 ≤ vec_capacity out.old }
+    ensures items { out.new.items ≡ out.old.items ++ spell_events (saved_events saved.now) }
+    ensures bounded { vec_len out.new ≤ vec_len out.old + 57 }
+    ensures capacity { vec_capacity out.old ≤ vec_capacity out.new }
+{
+    push_private_mode_where(saved.origin, DECOM, true, out);
+    push_cursor_to(saved.row, saved.col, out);
+    push_where(saved.wrap, b" ", out);
+    push_brush(saved.brush, out);
+    push_sets(&saved.g, saved.gl, saved.gr, out);
+    push_bytes(b"\x1B7", out);
+    push_private_mode_where(saved.origin, DECOM, false, out);
+}
+
+/// The saved record.
+#[tactic(auto, unfolding(crate::specs::Items::saved_item))]
+pub(crate) fn push_saved(saved: &Saved, out: &mut Vec<u8>)
+    requires row { saved.now.row ≤ 24 }
+    requires col { saved.now.col ≤ 132 }
+    requires room { vec_len out.old + 57 ≤ vec_capacity out.old }
+    ensures items { out.new.items ≡ out.old.items ++ spell_events (saved_item saved.now) }
+    ensures bounded { vec_len out.new ≤ vec_len out.old + 57 }
+    ensures capacity { vec_capacity out.old ≤ vec_capacity out.new }
+{
+    if !same_saved(saved, &saved_at_power_up()) {
+        push_saved_events(saved, out);
+    }
+}
+
+// ---- 5 to 7: margins, origin and cursor
+
+/// Margins that aren't the full ones.
+#[tactic(auto, unfolding(crate::specs::Items::margins_item))]
+pub(crate) fn push_margins(m: Margins, out: &mut Vec<u8>)
+    requires top { m.top ≤ 24 }
+    requires bottom { m.bottom ≤ 24 }
+    requires room { vec_len out.old + 8 ≤ vec_capacity out.old }
+    ensures items { out.new.items ≡ out.old.items ++ spell_events (margins_item m) }
+    ensures bounded { vec_len out.new ≤ vec_len out.old + 8 }
+    ensures capacity { vec_capacity out.old ≤ vec_capacity out.new }
+{
+    if m.top != 1 || m.bottom != 24 {
+        push_margins_to(m.top, m.bottom, out);
+    }
+}
+
+/// The wrap flag: the cell under the cursor is written once more.
+pub(crate) fn push_cell(cell: &Cell, out: &mut Vec<u8>)
+    requires { vec_len out.old + 20 ≤ vec_capacity out.old }
+    ensures items { out.new.items ≡ out.old.items ++ spell_events (brush_events (brush_of cell.now) ++ glyph_events cell.now) }
+    ensures bounded { vec_len out.new ≤ vec_len out.old + 20 }
+    ensures capacity { vec_capacity out.old ≤ vec_capacity out.new }
+{
+    push_brush(cell.brush(), out);
+    push_glyph(cell.glyph, out);
+}
+
+// ---- 10: the modes
+
+fn push_ansi_mode_item(number: u8, at_power_up: bool, on: bool, out: &mut Vec<u8>)
+    requires number { number < 100 }
+    requires room { vec_len out.old + 6 ≤ vec_capacity out.old }
+    ensures items { out.new.items ≡ out.old.items ++ spell_events (ansi_mode_item number at_power_up on) }
+    ensures bounded { vec_len out.new ≤ vec_len out.old + 5 }
+    ensures capacity { vec_capacity out.old ≤ vec_capacity out.new }
+{
+    if on != at_power_up {
+        push_ansi_mode(number, on, out);
+    }
+}
+
+fn push_private_mode_item(number: u8, at_power_up: bool, on: bool, out: &mut Vec<u8>)
+    requires number { number < 100 }
+    requires room { vec_len out.old + 6 ≤ vec_capacity out.old }
+    ensures items { out.new.items ≡ out.old.items ++ spell_events (private_mode_item number at_power_up on) }
+    ensures bounded { vec_len out.new ≤ vec_len out.old + 6 }
+    ensures capacity { vec_capacity out.old ≤ vec_capacity out.new }
+{
+    if on != at_power_up {
+        push_private_mode(number, on, out);
+    }
+}
+
+/// The modes that differ from power-up, the keypad and the form of reports.
+#[tactic(auto, unfolding(crate::specs::Items::modes_item))]
+pub(crate) fn push_modes(m: Modes, out: &mut Vec<u8>)
+    requires { vec_len out.old + 61 ≤ vec_capacity out.old }
+    ensures items { out.new.items ≡ out.old.items ++ spell_events (modes_item m) }
+    ensures bounded { vec_len out.new ≤ vec_len out.old + 61 }
+    ensures capacity { vec_capacity out.old ≤ vec_capacity out.new }
+{
+    push_ansi_mode_item(2, false, m.kam, out);
+    push_ansi_mode_item(4, false, m.irm, out);
+    push_ansi_mode_item(12, true, m.srm, out);
+    push_ansi_mode_item(20, false, m.lnm, out);
+    push_private_mode_item(1, false, m.decckm, out);
+    push_private_mode_item(4, false, m.decsclm, out);
+    push_private_mode_item(5, false, m.decscnm, out);
+    push_private_mode_item(7, true, m.decawm, out);
+    push_private_mode_item(8, true, m.decarm, out);
+    push_private_mode_item(25, true, m.dectcem, out);
+    push_where(m.keypad_application, b"\x1B=", out);
+    push_where(m.reports_8bit, b"\x1B G", out);
+}
+
+// ---- 11: a pending single shift
+
+#[tactic(auto, unfolding(crate::specs::Items::shift_item))]
+pub(crate) fn push_shift(pending: Option<u8>, out: &mut Vec<u8>)
+    requires { vec_len out.old + 2 ≤ vec_capacity out.old }
+    ensures items { out.new.items ≡ out.old.items ++ spell_events (shift_item pending) }
+    ensures bounded { vec_len out.new ≤ vec_len out.old + 2 }
+    ensures capacity { vec_capacity out.old ≤ vec_capacity out.new }
+{
+    match pending {
+        None => {}
+        Some(2) => push_bytes(b"\x1BN", out),
+        Some(_) => push_bytes(b"\x1BO", out),
+    }
+}

@@ -1,0 +1,53 @@
+//! Laws over the definitions alone. A caller calls one for its clauses.
+ghost use Rattle.std.specs.Prelude.{◌≡◌, ◌↔◌, ◌≤◌, ℕ, List, length};
+ghost use Rattle.vt_syntax.specs.declared.held.Held.TheVariants.{Nothing};
+ghost use Rattle.vt_term.specs.State.{State, power_up};
+ghost use Rattle.vt_term.specs.Sound.{IsSound};
+ghost use Rattle.vt_term.specs.Play.{play};
+ghost use Rattle.std.specs.Str.{IsAscii};
+ghost use Rattle.vt_paint.specs.Repaint.{paint, IsRebuilt, AreBytes};
+
+use crate::PAINT_LIMIT;
+use vt_glyph::laws::{glyphs, spelling};
+use vt_screen::laws::{places, rows, tests};
+use vt_syntax::laws::spelled;
+use vt_term::laws::soundness;
+
+/// The repaint of a state between sequences leaves that state on every terminal, whatever it shows and holds, and asks
+/// for no report.
+pub fn rebuilds()
+    ensures { (s : State) → IsSound s → s.held ≡ Nothing → IsRebuilt s }
+{
+    spelled();
+    spelling();
+    glyphs();
+    places();
+    rows();
+    tests();
+}
+
+/// States between sequences are equal exactly where their repaints are, and a repaint that is played is painted again.
+///
+/// The sound ones are exactly those that some bytes leave from power-up.
+pub fn canonical()
+    ensures same { (s u : State) → IsSound s → IsSound u → s.held ≡ Nothing → u.held ≡ Nothing
+        → (s ≡ u) ↔ (paint s ≡ paint u) }
+    ensures again { (s t : State) → IsSound s → IsSound t → s.held ≡ Nothing → paint (play t (paint s)).state ≡ paint s }
+    ensures reached { (s : State) → s.held ≡ Nothing → IsSound s ↔ ((bytes : List ℕ) × AreBytes bytes × ((play power_up bytes).state ≡ s)) }
+{
+    rebuilds();
+    bounded();
+    soundness();
+}
+
+/// No repaint is longer than `PAINT_LIMIT`, and its bytes are ASCII.
+pub fn bounded()
+    ensures len { (s : State) → IsSound s → length (paint s) ≤ PAINT_LIMIT }
+    ensures ascii { (s : State) → IsSound s → IsAscii (paint s) }
+{
+    spelling();
+    glyphs();
+    places();
+    rows();
+    tests();
+}

@@ -1,0 +1,14 @@
+//! The repaint: one byte string for each state of a terminal, which rebuilds that state on any terminal.
+#![tactic(auto)]
+
+mod cells;
+mod controls;
+mod items;
+pub mod laws;
+mod paint;
+mod room;
+
+pub use paint::{PAINT_LIMIT, PaintError, repaint, repaint_reserved};
+
+#[cfg(test)]
+mod tests;

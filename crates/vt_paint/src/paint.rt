@@ -1,0 +1,99 @@
+//! The repaint.
+ghost use Rattle.std.specs.Prelude.{◌≡◌, ◌↔◌, ◌+◌, ◌≤◌, ◌<◌, ◌++◌, ◌≢◌, IsErrOf, OnOk, OnErr, vec_len, vec_capacity};
+ghost use Rattle.vt_syntax.specs.declared.held.Held.TheVariants.{Nothing};
+ghost use Rattle.vt_syntax.specs.Spelling.{spell_events};
+ghost use Rattle.vt_paint.specs.Items.{position_item, wrap_item};
+ghost use Rattle.vt_paint.specs.Repaint.{paint, IsRebuilt};
+
+use crate::cells::{push_cells, row_cell};
+use crate::controls::{push_brush, push_cursor_to, push_sets};
+use crate::items::{
+    DECOM, push_cell, push_margins, push_modes, push_private_mode_where, push_saved, push_shift,
+    push_stops,
+};
+use crate::laws::rebuilds;
+use crate::room::push_bytes;
+use thiserror::Error;
+use vt_term::Terminal;
+
+/// The most bytes of a repaint: 29 for each of 24 rows of 132 cells, 10 for each tab stop, and 320 for the rest.
+pub const PAINT_LIMIT: usize = 29 * 24 * 132 + 10 * 132 + 320;
+
+/// Why nothing was painted.
+#[derive(Clone, Copy, Debug, PartialEq, Eq, Error)]
+pub enum PaintError {
+    /// The terminal is inside a sequence.
+    #[error("partial")]
+    Partial,
+    /// The room for the repaint was refused.
+    #[error("memory")]
+    Memory,
+}
+
+/// The cursor, and its wrap flag.
+#[tactic(auto, unfolding(crate::specs::Items::wrap_item))]
+fn push_cursor(t: &Terminal, out: &mut Vec<u8>)
+    requires { vec_len out.old + 29 ≤ vec_capacity out.old }
+    ensures items { out.new.items ≡ out.old.items ++ spell_events (position_item t.now.display ++ wrap_item t.now.display.grid t.now.display.cursor) }
+    ensures bounded { vec_len out.new ≤ vec_len out.old + 29 }
+    ensures capacity { vec_capacity out.old ≤ vec_capacity out.new }
+{
+    let cursor = t.cursor();
+    let line = if t.modes().decom {
+        cursor.row - t.margins().top + 1
+    } else {
+        cursor.row
+    };
+    push_cursor_to(line, cursor.col, out);
+    if cursor.wrap {
+        push_cell(row_cell(t, cursor.row, cursor.col), out);
+    }
+}
+
+/// Appends the repaint to `out`: the bytes that rebuild the terminal's state on any terminal.
+///
+/// `PAINT_LIMIT` bytes of room are reserved first. On an error the contents of `out` are unchanged.
+///
+/// # Errors
+///
+/// `Partial` where the terminal is inside a sequence, which is looked at first; `Memory` where the room was refused.
+pub fn repaint(t: &Terminal, out: &mut Vec<u8>) -> Result<(), PaintError>
+    ensures items { OnOk result (out.new.items ≡ out.old.items ++ paint t.now) }
+    ensures rebuilds { OnOk result (IsRebuilt t.now) }
+    ensures partial { IsErrOf result PaintError.Partial ↔ (t.now.held ≢ Nothing) }
+    ensures memory { IsErrOf result PaintError.Memory → vec_capacity out.old < vec_len out.old + PAINT_LIMIT }
+    ensures unchanged { OnErr result (out.new.items ≡ out.old.items) }
+    ensures bounded { vec_len out.new ≤ vec_len out.old + PAINT_LIMIT }
+{
+    if !t.is_between() {
+        return Err(PaintError::Partial);
+    }
+    out.reserve(PAINT_LIMIT).map_err(|_| PaintError::Memory)?;
+    repaint_reserved(t, out);
+    Ok(())
+}
+
+/// Appends the repaint of a terminal between sequences to `out`, which has the room: `PAINT_LIMIT` bytes. It never fails
+/// and takes no memory.
+pub fn repaint_reserved(t: &Terminal, out: &mut Vec<u8>)
+    requires between { t.now.held ≡ Nothing }
+    requires room { vec_len out.old + PAINT_LIMIT ≤ vec_capacity out.old }
+    ensures items { out.new.items ≡ out.old.items ++ paint t.now }
+    ensures rebuilds { IsRebuilt t.now }
+    ensures bounded { vec_len out.new ≤ vec_len out.old + PAINT_LIMIT }
+    ensures capacity { vec_capacity out.old ≤ vec_capacity out.new }
+{
+    rebuilds();
+    let sets = t.sets();
+    push_bytes(b"\x1Bc", out);
+    push_stops(t.width(), t.stops(), out);
+    push_saved(&t.saved(), out);
+    push_cells(t, t.cursor().wrap, out);
+    push_margins(t.margins(), out);
+    push_private_mode_where(t.modes().decom, DECOM, true, out);
+    push_cursor(t, out);
+    push_brush(t.brush(), out);
+    push_sets(&sets.designations(), sets.left(), sets.right(), out);
+    push_modes(t.modes(), out);
+    push_shift(sets.pending(), out);
+}

@@ -1,0 +1,40 @@
+//! Bytes and numbers into an output that has the room.
+ghost use Rattle.std.specs.Prelude.{◌≡◌, ◌+◌, ◌≤◌, ◌<◌, ◌++◌, length, decimal, vec_len, vec_capacity};
+ghost use Rattle.vt_paint.specs.Controls.{where_true};
+
+use itoa::Buffer;
+
+/// Appends bytes. The room is there.
+pub(crate) fn push_bytes(bytes: &[u8], out: &mut Vec<u8>)
+    requires { vec_len out.old + length bytes.now ≤ vec_capacity out.old }
+    ensures items { out.new.items ≡ out.old.items ++ bytes.now }
+    ensures bounded { vec_len out.new ≤ vec_len out.old + length bytes.now }
+    ensures capacity { vec_capacity out.old ≤ vec_capacity out.new }
+{
+    out.extend_from_slice(bytes).unwrap();
+}
+
+/// Appends bytes where a test passes. The room is there.
+pub(crate) fn push_where(test: bool, bytes: &[u8], out: &mut Vec<u8>)
+    requires { vec_len out.old + length bytes.now ≤ vec_capacity out.old }
+    ensures items { out.new.items ≡ out.old.items ++ where_true test bytes.now }
+    ensures bounded { vec_len out.new ≤ vec_len out.old + length bytes.now }
+    ensures capacity { vec_capacity out.old ≤ vec_capacity out.new }
+{
+    if test {
+        push_bytes(bytes, out);
+    }
+}
+
+/// Appends a number in decimal, in three bytes of room that are there.
+pub(crate) fn push_number(n: u8, out: &mut Vec<u8>)
+    requires { vec_len out.old + 3 ≤ vec_capacity out.old }
+    ensures items { out.new.items ≡ out.old.items ++ decimal n }
+    ensures bounded { vec_len out.new ≤ vec_len out.old + 3 }
+    ensures short { n < 100 → vec_len out.new ≤ vec_len out.old + 2 }
+    ensures capacity { vec_capacity out.old ≤ vec_capacity out.new }
+{
+    let mut buffer = Buffer::new();
+    let digits = buffer.format(n);
+    push_bytes(digits.as_bytes(), out);
+}

@@ -1,0 +1,200 @@
+//! Each growth refused, one after another, until a call meets no refusal.
+use super::common::{LIMIT, Played, replayed};
+use crate::{Fault, Watched, What, run};
+use std::alloc::Global;
+use std::process::Abort;
+use std::test::Fail;
+use vt_term::{TEXT_LIMIT, Terminal};
+
+/// No input; a full line and a question; a saved cursor; and questions in the 8-bit form.
+const INPUTS: [&[u8]; 4] = [
+    b"",
+    b"xxxxxxxxxxxxxxxxxxxxxxxxxxxxxxxxxxxxxxxxxxxxxxxxxxxxxxxxxxxxxxxxxxxxxxxxxxxxxxxx\x1b[6n",
+    b"\x1b[?6h\x1b[20;3H\x1b7\x1b[2;5r\x1b8",
+    b"\x1b G\x1b[c\x1b[>c",
+];
+
+/// More growths than any call makes, and more blocks than it needs.
+const BLOCKS: u32 = 1000;
+
+/// Takes all the memory that the allocator still gives, in blocks that are never touched.
+fn take_all(alloc: Global, ballast: &mut Vec<Vec<u8>>) {
+    let mut size = 1usize << 46;
+    for _ in 0..1_000_000u32 {
+        if ballast.len() == ballast.capacity() || size == 0 {
+            return;
+        }
+        match Vec::with_capacity(alloc, size) {
+            Ok(block) => {
+                let _ = ballast.push(block);
+            }
+            Err(_) => size /= 2,
+        }
+    }
+}
+
+/// No memory, and some blocks that are freed one by one to let one more growth through.
+#[derive(Drop)]
+struct Scarce {
+    reserve: Vec<Vec<u8>>,
+    ballast: Vec<Vec<u8>>,
+}
+
+impl Scarce {
+    fn new(alloc: Global) -> Result<Scarce, Fail> {
+        let mut ballast = Vec::with_capacity(alloc, 100_000)?;
+        let mut reserve = Vec::with_capacity(alloc, BLOCKS as usize)?;
+        for _ in 0..BLOCKS {
+            reserve.push(Vec::with_capacity(alloc, 1000)?)?;
+        }
+        take_all(alloc, &mut ballast);
+        Ok(Scarce { reserve, ballast })
+    }
+
+    /// Frees a block, if one is left.
+    fn relent(&mut self) {
+        let _ = self.reserve.pop();
+    }
+}
+
+#[test]
+fn each_growth_of_new_is_refused(rt: HostRuntime) -> Result<(), Fail> {
+    let never_asked = Terminal::new(rt.alloc())?;
+    let mut scarce = Scarce::new(rt.alloc())?;
+    let mut refused = 0u32;
+    let mut made = None;
+    for _ in 0..BLOCKS {
+        match Terminal::new(rt.alloc()) {
+            Ok(terminal) => {
+                made = Some(terminal);
+                break;
+            }
+            Err(_) => refused = refused.saturating_add(1),
+        }
+        scarce.relent();
+    }
+    drop(scarce);
+    assert!(rt; refused > 0);
+    let terminal = made.ok_or("never made")?;
+    assert!(rt; terminal.same_state(&never_asked));
+    Ok(())
+}
+
+/// Asserts that a piece that was refused, also more than once, is then played as if it never had been.
+fn feed_is_refused(rt: &impl Abort, alloc: Global, input: &[u8]) -> Result<(), Fail> {
+    let expected = Played::of(alloc, &[input])?;
+    let never_asked = Terminal::new(alloc)?;
+    let mut terminal = Terminal::new(alloc)?;
+    let mut out = Vec::from_slice(alloc, b"ok")?;
+    let mut scarce = Scarce::new(alloc)?;
+    let mut refused = 0u32;
+    let mut changed = 0u32;
+    for _ in 0..BLOCKS {
+        if terminal.feed(input, &mut out).is_ok() {
+            break;
+        }
+        refused = refused.saturating_add(1);
+        if !terminal.same_state(&never_asked) || out.as_slice() != b"ok".as_slice() {
+            changed = changed.saturating_add(1);
+        }
+        scarce.relent();
+    }
+    drop(scarce);
+    assert_eq!(rt; refused > 0, !input.is_empty());
+    assert_eq!(rt; changed, 0);
+    assert!(rt; terminal.same_state(&expected.terminal));
+    assert_eq!(rt; out.get(..2), Some(b"ok".as_slice()));
+    assert_eq!(rt; out.get(2..), Some(expected.reports.as_slice()));
+    Ok(())
+}
+
+/// Asserts the same of a text.
+fn text_is_refused(rt: &impl Abort, alloc: Global, input: &[u8]) -> Result<(), Fail> {
+    let played = Played::of(alloc, &[input])?;
+    let mut expected = Vec::from_slice(alloc, b"ok")?;
+    played.terminal.text(&mut expected)?;
+    let mut out = Vec::from_slice(alloc, b"ok")?;
+    let mut scarce = Scarce::new(alloc)?;
+    let mut refused = 0u32;
+    let mut changed = 0u32;
+    for _ in 0..BLOCKS {
+        if played.terminal.text(&mut out).is_ok() {
+            break;
+        }
+        refused = refused.saturating_add(1);
+        if out.as_slice() != b"ok".as_slice() {
+            changed = changed.saturating_add(1);
+        }
+        scarce.relent();
+    }
+    drop(scarce);
+    assert!(rt; refused > 0);
+    assert_eq!(rt; changed, 0);
+    assert_eq!(rt; out.as_slice(), expected.as_slice());
+    Ok(())
+}
+
+#[test]
+fn each_growth_of_feed_and_text_is_refused(rt: HostRuntime) -> Result<(), Fail> {
+    for input in INPUTS {
+        feed_is_refused(&rt, rt.alloc(), input)?;
+        text_is_refused(&rt, rt.alloc(), input)?;
+    }
+    Ok(())
+}
+
+#[test]
+fn calls_with_room_are_never_refused(rt: HostRuntime) -> Result<(), Fail> {
+    for input in INPUTS {
+        let expected = Played::of(rt.alloc(), &[input])?;
+        let mut expected_text = Vec::new(rt.alloc());
+        expected.terminal.text(&mut expected_text)?;
+        let mut terminal = Terminal::new(rt.alloc())?;
+        let mut reports = Vec::with_capacity(rt.alloc(), 1000)?;
+        let mut text = Vec::with_capacity(rt.alloc(), TEXT_LIMIT)?;
+        let scarce = Scarce::new(rt.alloc())?;
+        let fed = terminal.feed(input, &mut reports);
+        let shown = terminal.text(&mut text);
+        drop(scarce);
+        assert!(rt; fed.is_ok());
+        assert!(rt; shown.is_ok());
+        assert_eq!(rt; reports.as_slice(), expected.reports.as_slice());
+        assert_eq!(rt; text.as_slice(), expected_text.as_slice());
+    }
+    Ok(())
+}
+
+/// Asserts that a replay that was refused, also more than once, has read and written nothing.
+fn run_is_refused(rt: &impl Abort, alloc: Global, input: &[u8], what: What) -> Result<(), Fail> {
+    let expected = replayed(rt, alloc, input, what, 4096)?;
+    let mut reader = Watched::new(input);
+    let mut writer = Watched::new(Vec::with_capacity(alloc, TEXT_LIMIT)?);
+    let mut scarce = Scarce::new(alloc)?;
+    let mut refused = 0u32;
+    let mut answered = Err(Fault::Memory);
+    for _ in 0..BLOCKS {
+        if reader.failed() || reader.ended() || writer.failed() {
+            break;
+        }
+        answered = run(alloc, &mut reader, &mut writer, what, 4096, LIMIT);
+        if answered == Err(Fault::Memory) {
+            refused = refused.saturating_add(1);
+        }
+        scarce.relent();
+    }
+    drop(scarce);
+    assert!(rt; refused > 2);
+    assert_eq!(rt; answered, Ok(()));
+    assert_eq!(rt; writer.into_inner().as_slice(), expected.as_slice());
+    Ok(())
+}
+
+#[test]
+fn each_growth_of_run_is_refused(rt: HostRuntime) -> Result<(), Fail> {
+    for what in [What::Text, What::Reports, What::Repaint, What::Status] {
+        for input in INPUTS {
+            run_is_refused(&rt, rt.alloc(), input, what)?;
+        }
+    }
+    Ok(())
+}

@@ -1,0 +1,98 @@
+-- What a piece of bytes plays.
+use Rattle.std.proofs.Common.{◌≡◌, ℕ, List, [], ◌∷◌, ◌++◌, None, ◌≤◌, ◌==◌, nat_lt, true, false, inl, arith, map, refl, sym, ap, ◌∙◌, ◌+◌, take, drop, length, ◌-◌, length-drop, append-nil, append_assoc}
+use Rattle.std.proofs.Math.Seq.{take-add, take-length}
+use Rattle.vt_syntax.specs.declared.event.Event.{Event}
+use Rattle.vt_syntax.specs.declared.event.Event.TheVariants.{Print, Control}
+use Rattle.vt_syntax.specs.declared.held.Held.{Held}
+use Rattle.vt_syntax.specs.declared.held.Held.TheVariants.{Nothing}
+use Rattle.vt_syntax.specs.Reading.{events_of}
+use Rattle.vt_syntax.specs.Laws.{SplitLaw, SpellingLaw}
+use Rattle.vt_syntax.specs.Spelling.{IsEvent, spell_event}
+use Rattle.vt_syntax.specs.Held.{events_from, held_from, held_after, IsHeldPart}
+use Rattle.vt_term.specs.State.{Display, State}
+use Rattle.vt_term.specs.Functions.{effect}
+use Rattle.vt_term.specs.Reports.{report, control_report}
+use Rattle.std.proofs.lemmas.Bool.Decides.{nat_tests}
+use Rattle.vt_term.specs.Play.{Played, play, both, after_events, reports_of}
+
+-- bytes that are events
+pub play-state : (s : State) (bytes : List ℕ) (events : List Event) (d : Display) (h : Held)
+    → events ≡ events_from s.held bytes → d ≡ after_events events s.display → h ≡ held_from s.held bytes
+    → record { display = d; held = h } ≡ (play s bytes).state
+unfolding play
+play-state s bytes events d h are left is = rw (left, is, are) refl
+
+pub play-reports : (s : State) (bytes : List ℕ) (events : List Event) → events ≡ events_from s.held bytes
+    → reports_of events s.display ≡ (play s bytes).reports
+unfolding play
+play-reports s bytes events are = ap (λ (es : List Event). reports_of es s.display) are
+
+-- graphic bytes report nothing
+pub prints-report : (codes : List ℕ) (s : Display) → reports_of (map Print codes) s ≡ []
+prints-report [] s = refl
+prints-report (code ∷ codes) s = prints-report codes (effect (Print code) s)
+
+-- the law of cuts
+abbrev pub Cuts : Type 0
+Cuts = (s : State) (a b : List ℕ) → play s (a ++ b) ≡ both (play s a) (play (play s a).state b)
+
+-- one more front of what is left of a piece
+pub play-more-state : Cuts → (s t u : State) (piece : List ℕ) (at n : ℕ) → t ≡ (play s (take at piece)).state
+    → u ≡ (play t (take n (drop at piece))).state → u ≡ (play s (take (at + n) piece)).state
+play-more-state cuts s t u piece at n is then =
+    then ∙ ap (λ (v : State). (play v (take n (drop at piece))).state) is
+    ∙ sym (ap (λ (bytes : List ℕ). (play s bytes).state) (take-add at n piece) ∙ ap (λ (p : Played). p.state) (cuts s (take at piece) (take n (drop at piece))))
+
+pub play-more-reports : Cuts → (s t : State) (piece before out more : List ℕ) (at n : ℕ) → t ≡ (play s (take at piece)).state
+    → out ≡ before ++ (play s (take at piece)).reports → more ≡ out ++ (play t (take n (drop at piece))).reports
+    → more ≡ before ++ (play s (take (at + n) piece)).reports
+play-more-reports cuts s t piece before out more at n is was then =
+    let first : List ℕ = (play s (take at piece)).reports in
+    let second : List ℕ = (play (play s (take at piece)).state (take n (drop at piece))).reports in
+    then ∙ ap (λ (v : State). out ++ (play v (take n (drop at piece))).reports) is
+    ∙ ap (λ (t : List ℕ). t ++ second) was
+    ∙ append_assoc before first second
+    ∙ ap (λ (t : List ℕ). before ++ t) (sym (ap (λ (bytes : List ℕ). (play s bytes).reports) (take-add at n piece) ∙ ap (λ (p : Played). p.reports) (cuts s (take at piece) (take n (drop at piece)))))
+
+-- nothing is a held part
+pub nothing-held : IsHeldPart Nothing
+nothing-held = record { rest = None; is_rest = tt; of_rest = refl }
+
+-- the part of a piece from a place on, to its end
+pub rest-of : (piece : List ℕ) (at : ℕ) → take (length piece - at) (drop at piece) ≡ drop at piece
+rest-of piece at = let e : length piece - at ≡ length (drop at piece) = sym (length-drop at piece) in rw e (take-length (drop at piece))
+
+-- an event that is spelled by one byte, between sequences
+one-event : SpellingLaw → SplitLaw → (event : Event) (byte : ℕ) → IsEvent event → spell_event event ≡ byte ∷ [] → event ∷ [] ≡ events_from Nothing (byte ∷ [])
+one-event spelling split event byte is spelled =
+    sym (ap (λ (bytes : List ℕ). events_of (bytes ++ [])) (sym spelled) ∙ spelling.event event [] is ∙ ap (λ (es : List Event). event ∷ es) (split.events_nil Nothing nothing-held))
+
+one-held : SpellingLaw → SplitLaw → (event : Event) (byte : ℕ) → IsEvent event → spell_event event ≡ byte ∷ [] → Nothing ≡ held_from Nothing (byte ∷ [])
+one-held spelling split event byte is spelled =
+    sym (ap (λ (bytes : List ℕ). held_after (bytes ++ [])) (sym spelled) ∙ spelling.event_held event [] is ∙ split.held_nil Nothing nothing-held)
+
+pub event-state : SpellingLaw → SplitLaw → (s : State) (d : Display) (h : Held) (event : Event) (byte : ℕ)
+    → IsEvent event → spell_event event ≡ byte ∷ [] → s.held ≡ Nothing → h ≡ s.held → d ≡ effect event s.display
+    → record { display = d; held = h } ≡ (play s (byte ∷ [])).state
+event-state spelling split s d h event byte is spelled between same then =
+    play-state s (byte ∷ []) (event ∷ []) d h
+    (one-event spelling split event byte is spelled ∙ ap (λ (k : Held). events_from k (byte ∷ [])) (sym between))
+    then
+    (same ∙ between ∙ one-held spelling split event byte is spelled ∙ ap (λ (k : Held). held_from k (byte ∷ [])) (sym between))
+
+pub event-reports : SpellingLaw → SplitLaw → (s : State) (event : Event) (byte : ℕ)
+    → IsEvent event → spell_event event ≡ byte ∷ [] → s.held ≡ Nothing → report event s.display ≡ [] → (play s (byte ∷ [])).reports ≡ []
+event-reports spelling split s event byte is spelled between silent =
+    sym (play-reports s (byte ∷ []) (event ∷ []) (one-event spelling split event byte is spelled ∙ ap (λ (k : Held). events_from k (byte ∷ [])) (sym between)))
+    ∙ append-nil (report event s.display) ∙ silent
+
+-- BS to CR are events by themselves, and report nothing
+pub c0-event : (b : ℕ) → 0x08 ≤ b → b ≤ 0x0D → IsEvent (Control b)
+c0-event b low high = inl (omega arith, λ e. omega arith, λ e. omega arith)
+
+pub c0-spelled : (b : ℕ) → b ≤ 0x0D → spell_event (Control b) ≡ b ∷ []
+c0-spelled b high = let below : nat_lt b 0x80 ≡ true = grind (arith, nat_tests) in rw below refl
+
+pub c0-silent : (b : ℕ) (s : Display) → b ≤ 0x0D → report (Control b) s ≡ []
+unfolding control_report
+c0-silent b s high = let other : (b == 0x9A) ≡ false = grind (arith, nat_tests) in rw other refl

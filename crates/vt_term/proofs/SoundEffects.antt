@@ -1,0 +1,170 @@
+-- Every function keeps the display sound.
+use Rattle.std.proofs.Common.{rules, arith, ◌≡◌, ℕ, ◌≤◌, ◌+◌, ◌-◌, Bool, true, false, cond, zero, suc, List, length, refl}
+use Rattle.std.specs.Prelude.{find, unwrap_or, if◌then◌else◌, Some}
+use Rattle.std.specs.List.{range_with_len}
+use Rattle.vt_glyph.specs.Tables.{IsGlyph, is_glyph, glyph_of}
+use Rattle.vt_screen.specs.Cells.{cell_of, plain_brush}
+use Rattle.vt_term.specs.State.{Display, last_column, has_stop_at}
+use Rattle.vt_term.specs.Sound.{IsSoundDisplay}
+use Rattle.vt_term.specs.Moving.{home, backspace, carriage_return, cursor_up, cursor_down, cursor_forward, cursor_backward, cursor_position, index, reverse_index, next_line, line_feed, set_margins}
+use Rattle.vt_term.specs.Tabs.{horizontal_tab, set_tab, clear_tabs, next_stop_of, no_stops}
+use Rattle.vt_term.specs.Writing.{wrapped, put_glyph, write_glyph}
+use Rattle.vt_term.specs.Editing.{insert_line, delete_line, insert_character, delete_character, erase_character, erase_in_display, erase_in_line}
+use Rattle.vt_term.specs.Rendition.{select_graphic_rendition, select_character_attribute}
+use Rattle.vt_term.specs.Modes.{origin_mode, autowrap_mode, column_mode, keypad_mode, report_form}
+use Rattle.vt_term.specs.Saving.{save_cursor, restore_cursor}
+use Rattle.vt_term.specs.Resets.{screen_alignment, reset_to_initial_state, soft_reset, set_conformance_level}
+use Rattle.vt_term.proofs.SoundGrids.{scroll_up-sound, scroll_down-sound, insert_cells-sound, delete_cells-sound, erase_area-sound, blank_grid-sound, fill-sound, put-sound, put_inserting-sound}
+use Rattle.vt_term.proofs.PowerUp.{display_at_power_up-sound}
+
+letter_e : IsGlyph 0x45
+unfolding is_glyph glyph_of
+letter_e = refl
+
+-- a number found in a range lies in it
+found-bounds : (p : ℕ → Bool) (a n d low high : ℕ) → low ≤ a → a + n ≤ high + 1 → low ≤ d → d ≤ high
+    → (low ≤ unwrap_or (find p (range_with_len a n)) d) × (unwrap_or (find p (range_with_len a n)) d ≤ high)
+found-bounds p a zero d low high la ah ld dh = (ld, dh)
+found-bounds p a (suc n) d low high la ah ld dh = go (p a) (found-bounds p (a + 1) n d low high (omega arith) (omega arith) ld dh)
+  where
+    go : (b : Bool) → (low ≤ unwrap_or (find p (range_with_len (a + 1) n)) d) × (unwrap_or (find p (range_with_len (a + 1) n)) d ≤ high)
+        → (low ≤ unwrap_or (if b then Some a else find p (range_with_len (a + 1) n)) d) × (unwrap_or (if b then Some a else find p (range_with_len (a + 1) n)) d ≤ high)
+    go true rest = (la, omega arith)
+    go false rest = rest
+
+next_stop-bounds : (stops : List Bool) (col last : ℕ) → 1 ≤ col → col ≤ last → (1 ≤ next_stop_of stops col last) × (next_stop_of stops col last ≤ last)
+next_stop-bounds stops col last col1 fits =
+    found-bounds (λ c. has_stop_at stops c) (col + 1) (last - col) last 1 last (omega arith) (omega arith) (omega arith) (omega arith)
+
+-- a function keeps the display sound
+abbrev pub Keeps : (Display → Display) → Type 0
+Keeps f = (s : Display) → IsSoundDisplay s → IsSoundDisplay (f s)
+
+length-no_stops : length no_stops ≡ 132
+unfolding no_stops
+length-no_stops = refl
+
+pub home-keeps : Keeps home
+home-keeps s i = search rules
+
+pub backspace-keeps : Keeps backspace
+backspace-keeps s i = search rules
+
+pub carriage_return-keeps : Keeps carriage_return
+carriage_return-keeps s i = search rules
+
+pub cursor_up-keeps : (n : ℕ) → Keeps (cursor_up n)
+cursor_up-keeps n s i = search rules
+
+pub cursor_down-keeps : (n : ℕ) → Keeps (cursor_down n)
+cursor_down-keeps n s i = search rules
+
+pub cursor_forward-keeps : (n : ℕ) → Keeps (cursor_forward n)
+cursor_forward-keeps n s i = search rules
+
+pub cursor_backward-keeps : (n : ℕ) → Keeps (cursor_backward n)
+cursor_backward-keeps n s i = search rules
+
+pub cursor_position-keeps : (line : ℕ) → (col : ℕ) → Keeps (cursor_position line col)
+cursor_position-keeps line col s i = search rules
+
+pub index-keeps : Keeps index
+index-keeps s i = search (rules, scroll_up-sound)
+
+pub reverse_index-keeps : Keeps reverse_index
+reverse_index-keeps s i = search (rules, scroll_down-sound)
+
+pub next_line-keeps : Keeps next_line
+next_line-keeps s i = search (rules, index-keeps, carriage_return-keeps)
+
+pub line_feed-keeps : Keeps line_feed
+line_feed-keeps s i = search (rules, index-keeps, next_line-keeps)
+
+pub set_margins-keeps : (p1 : ℕ) → (p2 : ℕ) → Keeps (set_margins p1 p2)
+set_margins-keeps p1 p2 s i = search rules
+
+pub horizontal_tab-keeps : Keeps horizontal_tab
+horizontal_tab-keeps s i =
+    let stop = next_stop-bounds s.stops s.cursor.col (last_column s) i.cursor.col_1 i.cursor.col_last in
+    search rules
+
+pub set_tab-keeps : Keeps set_tab
+set_tab-keeps s i = search rules
+
+pub clear_tabs-keeps : (p : ℕ) → Keeps (clear_tabs p)
+clear_tabs-keeps p s i = search (rules, length-no_stops)
+
+pub put_glyph-keeps : (g : ℕ) → IsGlyph g → Keeps (put_glyph g)
+put_glyph-keeps g shown s i = search (rules, put-sound, put_inserting-sound)
+
+pub wrapped-keeps : Keeps wrapped
+wrapped-keeps s i = go s.cursor.wrap
+  where
+    go : (b : Bool) → IsSoundDisplay (cond b (next_line s) s)
+    go true = next_line-keeps s i
+    go false = i
+
+pub write_glyph-keeps : (g : ℕ) → IsGlyph g → Keeps (write_glyph g)
+write_glyph-keeps g shown s i = put_glyph-keeps g shown (wrapped s) (wrapped-keeps s i)
+
+pub insert_line-keeps : (n : ℕ) → Keeps (insert_line n)
+insert_line-keeps n s i = search (rules, scroll_down-sound)
+
+pub delete_line-keeps : (n : ℕ) → Keeps (delete_line n)
+delete_line-keeps n s i = search (rules, scroll_up-sound)
+
+pub insert_character-keeps : (n : ℕ) → Keeps (insert_character n)
+insert_character-keeps n s i = search (rules, insert_cells-sound)
+
+pub delete_character-keeps : (n : ℕ) → Keeps (delete_character n)
+delete_character-keeps n s i = search (rules, delete_cells-sound)
+
+pub erase_character-keeps : (n : ℕ) → Keeps (erase_character n)
+erase_character-keeps n s i = search (rules, erase_area-sound)
+
+pub erase_in_display-keeps : (selective : Bool) → (p : ℕ) → Keeps (erase_in_display selective p)
+erase_in_display-keeps selective p s i = search (rules, erase_area-sound)
+
+pub erase_in_line-keeps : (selective : Bool) → (p : ℕ) → Keeps (erase_in_line selective p)
+erase_in_line-keeps selective p s i = search (rules, erase_area-sound)
+
+pub select_graphic_rendition-keeps : (params : List ℕ) → Keeps (select_graphic_rendition params)
+select_graphic_rendition-keeps params s i = search rules
+
+pub select_character_attribute-keeps : (p : ℕ) → Keeps (select_character_attribute p)
+select_character_attribute-keeps p s i = search rules
+
+pub origin_mode-keeps : (selective : Bool) → Keeps (origin_mode selective)
+origin_mode-keeps selective s i = search rules
+
+pub autowrap_mode-keeps : (selective : Bool) → Keeps (autowrap_mode selective)
+autowrap_mode-keeps selective s i = search rules
+
+pub column_mode-keeps : (selective : Bool) → Keeps (column_mode selective)
+column_mode-keeps selective s i = search (rules, blank_grid-sound)
+
+pub keypad_mode-keeps : (selective : Bool) → Keeps (keypad_mode selective)
+keypad_mode-keeps selective s i = search rules
+
+pub report_form-keeps : (selective : Bool) → Keeps (report_form selective)
+report_form-keeps selective s i = search rules
+
+pub save_cursor-keeps : Keeps save_cursor
+save_cursor-keeps s i = search rules
+
+pub restore_cursor-keeps : Keeps restore_cursor
+restore_cursor-keeps s i = search rules
+
+pub screen_alignment-keeps : Keeps screen_alignment
+screen_alignment-keeps s i =
+    let e = fill-sound s.grid (cell_of 0x45 plain_brush) i.grid letter_e in
+    search rules
+
+pub reset_to_initial_state-keeps : Keeps reset_to_initial_state
+reset_to_initial_state-keeps s i = search (rules, display_at_power_up-sound)
+
+pub soft_reset-keeps : Keeps soft_reset
+soft_reset-keeps s i = search rules
+
+pub set_conformance_level-keeps : (p1 : ℕ) → (p2 : ℕ) → Keeps (set_conformance_level p1 p2)
+set_conformance_level-keeps p1 p2 s i = search rules

@@ -1,0 +1,21 @@
+use Rattle.std.proofs.Common.{ℕ, List, take, drop, ◌≤◌, ◌<◌, ◌+◌, ◌-◌, ◌∙◌, ap, arith}
+use Rattle.vt_term.specs.State.{Display}
+use Rattle.vt_term.specs.Writing.{with_run, wrapped}
+use Rattle.vt_term.proofs.Runs.{line-of-run, with_run-writes, wrapped-writes}
+use Rattle.vt_term.proofs.display.Display.write_run.Goals as goal
+
+pub loop-at-preserved : goal.loop-at-preserved
+loop-at-preserved c =
+    let before : Display = c.loop-at.self in
+    let line : List ℕ = take (c.min-end.result - c.loop-at.at) (drop c.loop-at.at c.args.run.now) in
+    let more : c.loop-at.at < c.min-end.result = omega (arith, c.min-end.ensures, c.room.ensures.some) in
+    let fits : (wrapped before).cursor.col + (c.min-end.result - c.loop-at.at) ≤ (wrapped before).grid.width + 1 =
+    rw (← c.carry_out_wrap.ensures) (omega (arith, c.min-end.ensures, c.room.ensures.room)) in
+    record {
+      within = omega (arith, c.min-end.ensures);
+      written = c.put_run.ensures
+          ∙ ap (λ (d : Display). with_run line d) c.carry_out_wrap.ensures
+          ∙ line-of-run c.runs.ensures.one c.runs.ensures.append c.args.run.now c.loop-at.at c.min-end.result c.args.self.now before
+          c.requires.plain more (omega (arith, c.min-end.ensures)) c.loop-at.invariant.written c.loop-at.invariant.writes fits;
+      writes = rw (c.put_run.ensures, c.carry_out_wrap.ensures) (with_run-writes line (wrapped before) (wrapped-writes before c.loop-at.invariant.writes));
+    }

@@ -1,0 +1,75 @@
+-- Moving the cursor. Each of these resets the wrap flag. (EK-VT220-RM; the flag is this profile's)
+use Rattle.std.specs.Prelude.{ℕ, ◌+◌, ◌-◌, min, max, ◌==◌, nat_le, nat_lt, if◌then◌else◌}
+use Rattle.vt_screen.specs.Grid.{last_row, scroll_up, scroll_down}
+use Rattle.vt_term.specs.State.{Display, last_column, at_place}
+use Rattle.vt_term.specs.Parameters.{from_one}
+
+-- home is column 1 of row 1, or under DECOM of the top margin's row
+abbrev pub home : Display → Display
+home s = record s { cursor = at_place (if s.modes.decom then s.margins.top else 1) 1 }
+
+-- BS: left by one, staying at column 1
+abbrev pub backspace : Display → Display
+backspace s = record s { cursor = at_place s.cursor.row (max (s.cursor.col - 1) 1) }
+
+-- CR
+abbrev pub carriage_return : Display → Display
+carriage_return s = record s { cursor = at_place s.cursor.row 1 }
+
+-- CUU: up n, not past the top margin, or from above it not past row 1
+abbrev pub cursor_up : ℕ → Display → Display
+cursor_up n s =
+    let limit = if nat_le s.margins.top s.cursor.row then s.margins.top else 1 in
+    record s { cursor = at_place (max (s.cursor.row - n) limit) s.cursor.col }
+
+-- CUD: down n, not past the bottom margin, or from below it not past the last row
+abbrev pub cursor_down : ℕ → Display → Display
+cursor_down n s =
+    let limit = if nat_le s.cursor.row s.margins.bottom then s.margins.bottom else last_row in
+    record s { cursor = at_place (min (s.cursor.row + n) limit) s.cursor.col }
+
+-- CUF: right n, not past the last column
+abbrev pub cursor_forward : ℕ → Display → Display
+cursor_forward n s = record s { cursor = at_place s.cursor.row (min (s.cursor.col + n) (last_column s)) }
+
+-- CUB: left n, not past column 1
+abbrev pub cursor_backward : ℕ → Display → Display
+cursor_backward n s = record s { cursor = at_place s.cursor.row (max (s.cursor.col - n) 1) }
+
+-- the row of a line: under DECOM counted from the top margin and not past the bottom one, else not past the last row
+abbrev pub row_of_line : ℕ → Display → ℕ
+row_of_line line s = if s.modes.decom then min (s.margins.top + line - 1) s.margins.bottom else min line last_row
+
+-- CUP and HVP: to a line and column, where 0 stands for 1
+abbrev pub cursor_position : ℕ → ℕ → Display → Display
+cursor_position line col s =
+    record s { cursor = at_place (row_of_line (from_one line) s) (min (from_one col) (last_column s)) }
+
+-- IND: down by one, staying at the last row; at the bottom margin the rows between the margins move up instead
+abbrev pub index : Display → Display
+index s = record s {
+  grid = if s.cursor.row == s.margins.bottom then scroll_up s.grid s.margins.top s.margins.bottom 1 else s.grid;
+  cursor = at_place (if s.cursor.row == s.margins.bottom then s.cursor.row else min (s.cursor.row + 1) last_row) s.cursor.col;
+}
+
+-- RI: up by one, staying at row 1; at the top margin the rows between the margins move down instead
+abbrev pub reverse_index : Display → Display
+reverse_index s = record s {
+  grid = if s.cursor.row == s.margins.top then scroll_down s.grid s.margins.top s.margins.bottom 1 else s.grid;
+  cursor = at_place (if s.cursor.row == s.margins.top then s.cursor.row else max (s.cursor.row - 1) 1) s.cursor.col;
+}
+
+-- NEL
+abbrev pub next_line : Display → Display
+next_line s = index (carriage_return s)
+
+-- LF, VT and FF: IND, and under LNM column 1 too
+abbrev pub line_feed : Display → Display
+line_feed s = if s.modes.lnm then next_line s else index s
+
+-- DECSTBM: margins of at least two rows, and the cursor goes home; else no effect
+abbrev pub set_margins : ℕ → ℕ → Display → Display
+set_margins p1 p2 s =
+    let top = from_one p1 in
+    let bottom = if p2 == 0 then last_row else min p2 last_row in
+    if nat_lt top bottom then home (record s { margins = record { top = top; bottom = bottom } }) else s

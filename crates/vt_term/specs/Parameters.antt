@@ -1,0 +1,16 @@
+-- The parameters of a control sequence: the one place of the rules on empty ones. (ECMA-48 5.4.2)
+use Rattle.std.specs.Prelude.{ℕ, List, max, slice_index}
+
+-- a parameter by its number from 1; one that isn't there is 0
+abbrev pub first : List ℕ → ℕ
+first params = slice_index params 0
+
+abbrev pub second : List ℕ → ℕ
+second params = slice_index params 1
+
+-- of a place or a count, 0 stands for 1
+abbrev pub from_one : ℕ → ℕ
+from_one p = max p 1
+
+abbrev pub count : List ℕ → ℕ
+count params = from_one (first params)

@@ -1,0 +1,41 @@
+-- The brush: the attributes and the protection of what is written. (EK-VT220-RM)
+use Rattle.std.specs.Prelude.{ℕ, List, [], ◌∷◌, Bool, true, false, ◌==◌, ◌||◌, if◌then◌else◌, unwrap_or, fold}
+use Rattle.vt_glyph.specs.LookUp.{look_up}
+use Rattle.vt_screen.specs.declared.cell.Rendition.{Rendition}
+use Rattle.vt_screen.specs.Cells.{plain}
+use Rattle.vt_term.specs.State.{Display}
+
+-- 0 all off, 1 bold, 4 underline, 5 blink, 7 reverse, and 22, 24, 25, 27 these off
+abbrev pub rendition_changes : List (ℕ × (Rendition → Rendition))
+rendition_changes =
+    (0, λ r. plain)
+    ∷ (1, λ r. record r { bold = true })
+    ∷ (4, λ r. record r { underline = true })
+    ∷ (5, λ r. record r { blink = true })
+    ∷ (7, λ r. record r { reverse = true })
+    ∷ (22, λ r. record r { bold = false })
+    ∷ (24, λ r. record r { underline = false })
+    ∷ (25, λ r. record r { blink = false })
+    ∷ (27, λ r. record r { reverse = false })
+    ∷ []
+
+-- one parameter; another number does nothing
+unfoldable pub rendered : ℕ → Rendition → Rendition
+rendered p = unwrap_or (look_up rendition_changes p) (λ r. r)
+
+-- each parameter in order
+abbrev pub all_rendered : List ℕ → Rendition → Rendition
+all_rendered params r = fold (λ r p. rendered p r) r params
+
+-- SGR
+abbrev pub select_graphic_rendition : List ℕ → Display → Display
+select_graphic_rendition params s =
+    record s { brush = record s.brush { rendition = all_rendered params s.brush.rendition } }
+
+abbrev pub with_protection : Bool → Display → Display
+with_protection protected s = record s { brush = record s.brush { protected = protected } }
+
+-- DECSCA: 1 protects what is written from now on, 0 and 2 do not
+abbrev pub select_character_attribute : ℕ → Display → Display
+select_character_attribute p s =
+    if p == 1 then with_protection true s else (if p == 0 || p == 2 then with_protection false s else s)

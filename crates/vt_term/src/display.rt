@@ -1,0 +1,101 @@
+//! All of a terminal but its parser: what events change.
+ghost use Rattle.std.specs.Prelude.{◌≡◌, ◌↔◌, IsTrue, IfOk};
+ghost use Rattle.vt_term.specs.Sound.{IsSoundDisplay};
+ghost use Rattle.vt_term.specs.State.{display_at_power_up, stops_at_power_up, is_stop_at_power_up};
+
+use crate::same::{
+    same_brush, same_cursor, same_margins, same_modes, same_saved, same_sets, same_stops,
+};
+use crate::state::{Cursor, Margins, Modes, Saved};
+use std::alloc::{AllocError, Global};
+use std::marker::Model;
+use vt_glyph::Sets;
+use vt_screen::{Brush, Screen};
+
+/// The rows of the screen.
+pub(crate) const ROWS: usize = 24;
+
+/// The columns that have a tab stop or none, whatever the width.
+pub(crate) const STOPS: usize = 132;
+
+/// A terminal without its parser.
+#[derive(Drop)]
+pub(crate) struct Display {
+    pub(crate) screen: Screen,
+    pub(crate) cursor: Cursor,
+    pub(crate) brush: Brush,
+    pub(crate) sets: Sets,
+    pub(crate) margins: Margins,
+    /// Place c - 1 for column c.
+    pub(crate) stops: [bool; STOPS],
+    pub(crate) modes: Modes,
+    pub(crate) saved: Saved,
+}
+
+impl Model for Display {
+    ghost use Rattle.vt_term.specs.State.{Display as TheDisplay};
+    ghost use Rattle.vt_term.specs.Sound.{IsSoundDisplay};
+
+    ghost Value = { TheDisplay };
+
+    ghost view = { λ d. record { grid = d.screen; cursor = d.cursor; brush = d.brush; sets = d.sets; margins = d.margins; stops = d.stops; modes = d.modes; saved = d.saved } };
+
+    ghost invariant = { λ d. IsSoundDisplay (record { grid = d.screen; cursor = d.cursor; brush = d.brush; sets = d.sets; margins = d.margins; stops = d.stops; modes = d.modes; saved = d.saved }) };
+}
+
+/// Whether a column has a tab stop at power-up.
+fn has_stop_at_power_up(col: usize) -> bool
+    ensures { result ≡ is_stop_at_power_up col }
+{
+    1 < col && col % 8 == 1
+}
+
+/// The tab stops at columns 9, 17, .. 129.
+pub(crate) fn stops_at_power_up() -> [bool; STOPS]
+    ensures { result ≡ stops_at_power_up }
+{
+    let mut stops = [false; STOPS];
+    for col in 1..STOPS + 1 {
+        stops[col - 1] = has_stop_at_power_up(col);
+    }
+    stops
+}
+
+impl Display {
+    /// The display at power-up.
+    pub(crate) fn new(alloc: Global) -> Result<Display, AllocError>
+        ensures { IfOk result (λ d. d ≡ display_at_power_up) }
+    {
+        Ok(Display {
+            screen: Screen::new(alloc)?,
+            cursor: Cursor::at(1, 1),
+            brush: Brush::plain(),
+            sets: Sets::power_up(),
+            margins: Margins::full(),
+            stops: stops_at_power_up(),
+            modes: Modes::power_up(),
+            saved: Saved::power_up(),
+        })
+    }
+
+    /// That the display is sound: a clause for the proofs, and no work.
+    pub(crate) fn soundness(&self)
+        ensures { IsSoundDisplay self.now }
+    {
+        let _ = &self.cursor;
+    }
+
+    /// Whether two displays are equal in every part.
+    pub(crate) fn same(&self, other: &Display) -> bool
+        ensures { IsTrue result ↔ (self.now ≡ other.now) }
+    {
+        same_cursor(&self.cursor, &other.cursor)
+            && same_brush(&self.brush, &other.brush)
+            && same_sets(&self.sets, &other.sets)
+            && same_margins(&self.margins, &other.margins)
+            && same_stops(&self.stops, &other.stops)
+            && same_modes(&self.modes, &other.modes)
+            && same_saved(&self.saved, &other.saved)
+            && self.screen.same(&other.screen)
+    }
+}

@@ -1,0 +1,117 @@
+//! Inserting, deleting and erasing. Each of these resets the wrap flag, but for a parameter that isn't listed.
+ghost use Rattle.std.specs.Prelude.{◌≡◌, ◌≤◌};
+ghost use Rattle.vt_term.specs.Editing.{insert_line, delete_line, insert_character, delete_character, erase_character, erase_in_display, erase_in_line, rows_between};
+ghost use Rattle.vt_screen.specs.Grid.{erase_area};
+
+use crate::display::{Display, ROWS};
+use crate::page;
+use crate::state::Cursor;
+use vt_screen::laws::areas;
+
+impl Display {
+    /// IL: `n` blank rows come in at the cursor's row, above the bottom margin.
+    pub(crate) fn insert_line(&mut self, n: u16)
+        ensures { self.new ≡ insert_line n self.old }
+    {
+        let row = self.cursor.row;
+        if self.margins.top <= row && row <= self.margins.bottom {
+            page::scroll_down(&mut self.screen, row, self.margins.bottom, n);
+            self.cursor = Cursor::at(row, 1);
+        } else {
+            self.cursor.wrap = false;
+        }
+    }
+
+    /// DL: `n` rows go from the cursor's row on, above the bottom margin.
+    pub(crate) fn delete_line(&mut self, n: u16)
+        ensures { self.new ≡ delete_line n self.old }
+    {
+        let row = self.cursor.row;
+        if self.margins.top <= row && row <= self.margins.bottom {
+            page::scroll_up(&mut self.screen, row, self.margins.bottom, n);
+            self.cursor = Cursor::at(row, 1);
+        } else {
+            self.cursor.wrap = false;
+        }
+    }
+
+    /// ICH: `n` blank cells come in at the cursor.
+    pub(crate) fn insert_character(&mut self, n: u16)
+        ensures { self.new ≡ insert_character n self.old }
+    {
+        page::insert_cells(&mut self.screen, self.cursor.row, self.cursor.col, n);
+        self.cursor.wrap = false;
+    }
+
+    /// DCH: `n` cells go from the cursor on.
+    pub(crate) fn delete_character(&mut self, n: u16)
+        ensures { self.new ≡ delete_character n self.old }
+    {
+        page::delete_cells(&mut self.screen, self.cursor.row, self.cursor.col, n);
+        self.cursor.wrap = false;
+    }
+
+    /// ECH: `n` cells, at least one, from the cursor on become blank, not past the last column.
+    pub(crate) fn erase_character(&mut self, n: u16)
+        requires { 1 ≤ n }
+        ensures { self.new ≡ erase_character n self.old }
+    {
+        let Cursor { row, col, .. } = self.cursor;
+        let to = (col + n as usize - 1).min(self.screen.width());
+        page::erase(&mut self.screen, row, col, to, false);
+        self.cursor.wrap = false;
+    }
+
+    /// ED, and DECSED which is selective: 0 from the cursor on, 1 up to the cursor, 2 the whole screen.
+    pub(crate) fn erase_in_display(&mut self, selective: bool, p: u16)
+        ensures { self.new ≡ erase_in_display selective p self.old }
+    {
+        areas();
+        let row = self.cursor.row;
+        match p {
+            0 => {
+                self.erase_part_of_line(selective, 0);
+                self.erase_rows(row + 1, ROWS + 1, selective);
+            }
+            1 => {
+                self.erase_part_of_line(selective, 1);
+                self.erase_rows(1, row, selective);
+            }
+            2 => {
+                self.erase_rows(1, ROWS + 1, selective);
+                self.cursor.wrap = false;
+            }
+            _ => {}
+        }
+    }
+
+    /// EL, and DECSEL which is selective: 0 from the cursor on, 1 up to the cursor, 2 the whole line.
+    pub(crate) fn erase_in_line(&mut self, selective: bool, p: u16)
+        ensures { self.new ≡ erase_in_line selective p self.old }
+    {
+        if p <= 2 {
+            self.erase_part_of_line(selective, p);
+        }
+    }
+
+    /// The part of the line that EL erases.
+    fn erase_part_of_line(&mut self, selective: bool, p: u16)
+        requires { p ≤ 2 }
+        ensures { self.new ≡ erase_in_line selective p self.old }
+    {
+        areas();
+        let Cursor { row, col, .. } = self.cursor;
+        let from = if p == 0 { col } else { 1 };
+        let to = if p == 1 { col } else { self.screen.width() };
+        page::erase(&mut self.screen, row, from, to, selective);
+        self.cursor.wrap = false;
+    }
+
+    /// The rows from `first` up to before `end`.
+    fn erase_rows(&mut self, first: usize, end: usize, selective: bool)
+        requires { (1 ≤ first) × (first ≤ end) × (end ≤ 25) }
+        ensures { self.new ≡ record self.old { grid = erase_area self.old.grid (rows_between first end) selective } }
+    {
+        page::erase_rows(&mut self.screen, first, end, selective);
+    }
+}

@@ -1,0 +1,228 @@
+//! Which function an event asks for.
+ghost use Rattle.std.specs.Prelude.{◌≡◌, ◌<◌, ◌≤◌};
+ghost use Rattle.vt_syntax.specs.Spelling.{IsEvent};
+ghost use Rattle.vt_term.specs.Parameters.{first, second, count};
+ghost use Rattle.vt_term.specs.Functions.{effect, control, plain_escape, escape_with, designate, lock_left, lock_right, shift_once, sequence, sequence_in, plain_sequences, private_sequences, quote_sequences, exclamation_sequences};
+
+use crate::display::Display;
+use vt_glyph::{Glyph, Set};
+use vt_syntax::Event;
+
+/// The first parameter; one that isn't there is 0.
+pub(crate) fn first(params: &[u16]) -> u16
+    ensures { result ≡ first params.now }
+{
+    params.first().copied().unwrap_or(0)
+}
+
+/// The second parameter; one that isn't there is 0.
+fn second(params: &[u16]) -> u16
+    ensures { result ≡ second params.now }
+{
+    params.get(1).copied().unwrap_or(0)
+}
+
+/// The first parameter as a count, where 0 stands for 1.
+fn count(params: &[u16]) -> u16
+    ensures { result ≡ count params.now }
+{
+    first(params).max(1)
+}
+
+impl Display {
+    /// An event is carried out.
+    pub(crate) fn carry_out(&mut self, event: &Event)
+        requires { IsEvent event.now }
+        ensures { self.new ≡ effect event.now self.old }
+    {
+        match event {
+            Event::Print(b) => self.print(*b),
+            Event::Control(b) => self.control(*b),
+            Event::Escape { inter: None, last } => self.plain_escape(*last),
+            Event::Escape {
+                inter: Some(inter),
+                last,
+            } => self.escape_with(*inter, *last),
+            Event::Sequence {
+                marker,
+                params,
+                inter,
+                last,
+            } => self.sequence(*marker, params.as_slice(), *inter, *last),
+        }
+    }
+
+    /// A C0 or C1 control.
+    #[tactic(auto, unfolding(crate::specs::Functions::control))]
+    pub(crate) fn control(&mut self, b: u8)
+        ensures { self.new ≡ control b self.old }
+    {
+        match b {
+            0x08 => self.backspace(),
+            0x09 => self.horizontal_tab(),
+            0x0A => self.line_feed(),
+            0x0B => self.line_feed(),
+            0x0C => self.line_feed(),
+            0x0D => self.carriage_return(),
+            0x0E => self.lock_left(1),
+            0x0F => self.lock_left(0),
+            0x1A => self.write_glyph(Glyph::substitute()),
+            0x84 => self.index(),
+            0x85 => self.next_line(),
+            0x88 => self.set_tab(),
+            0x8D => self.reverse_index(),
+            0x8E => self.shift_once(2),
+            0x8F => self.shift_once(3),
+            _ => {}
+        }
+    }
+
+    /// An escape sequence without an intermediate.
+    #[tactic(auto, unfolding(crate::specs::Functions::plain_escape))]
+    fn plain_escape(&mut self, last: u8)
+        ensures { self.new ≡ plain_escape last self.old }
+    {
+        match last {
+            b'7' => self.save_cursor(),
+            b'8' => self.restore_cursor(),
+            b'=' => self.keypad_mode(true),
+            b'>' => self.keypad_mode(false),
+            b'c' => self.reset_to_initial_state(),
+            b'n' => self.lock_left(2),
+            b'o' => self.lock_left(3),
+            b'~' => self.lock_right(1),
+            b'}' => self.lock_right(2),
+            b'|' => self.lock_right(3),
+            _ => {}
+        }
+    }
+
+    /// An escape sequence with an intermediate.
+    #[tactic(auto, unfolding(crate::specs::Functions::escape_with))]
+    fn escape_with(&mut self, inter: u8, last: u8)
+        ensures { self.new ≡ escape_with inter last self.old }
+    {
+        match (inter, last) {
+            (b' ', b'F') => self.report_form(false),
+            (b' ', b'G') => self.report_form(true),
+            (b'#', b'8') => self.screen_alignment(),
+            (b'(', _) => self.designate(0, last),
+            (b')', _) => self.designate(1, last),
+            (b'*', _) => self.designate(2, last),
+            (b'+', _) => self.designate(3, last),
+            _ => {}
+        }
+    }
+
+    /// SCS: the set of a final byte is designated; another final byte does nothing.
+    fn designate(&mut self, slot: u8, last: u8)
+        requires { slot < 4 }
+        ensures { self.new ≡ designate slot last self.old }
+    {
+        if let Some(set) = Set::of_final(last) {
+            self.sets.designate(slot, set);
+        }
+    }
+
+    /// LS0 to LS3.
+    fn lock_left(&mut self, slot: u8)
+        requires { slot < 4 }
+        ensures { self.new ≡ lock_left slot self.old }
+    {
+        self.sets.lock_left(slot);
+    }
+
+    /// LS1R to LS3R.
+    fn lock_right(&mut self, slot: u8)
+        requires { (1 ≤ slot) × (slot < 4) }
+        ensures { self.new ≡ lock_right slot self.old }
+    {
+        self.sets.lock_right(slot);
+    }
+
+    /// SS2 and SS3.
+    fn shift_once(&mut self, slot: u8)
+        requires { (2 ≤ slot) × (slot < 4) }
+        ensures { self.new ≡ shift_once slot self.old }
+    {
+        self.sets.shift_once(slot);
+    }
+
+    /// A control sequence.
+    #[tactic(auto, unfolding(crate::specs::Functions::sequences_of, crate::specs::Functions::sequence_in))]
+    fn sequence(&mut self, marker: Option<u8>, params: &[u16], inter: Option<u8>, last: u8)
+        ensures { self.new ≡ sequence marker inter last params.now self.old }
+    {
+        match (marker, inter) {
+            (None, None) => self.plain_sequence(last, params),
+            (Some(b'?'), None) => self.private_sequence(last, params),
+            (None, Some(b'"')) => self.quote_sequence(last, params),
+            (None, Some(b'!')) => self.exclamation_sequence(last, params),
+            _ => {}
+        }
+    }
+
+    /// A control sequence without marker and intermediate.
+    #[tactic(auto, unfolding(crate::specs::Functions::sequence_in))]
+    fn plain_sequence(&mut self, last: u8, params: &[u16])
+        ensures { self.new ≡ sequence_in plain_sequences last params.now self.old }
+    {
+        match last {
+            b'@' => self.insert_character(count(params)),
+            b'A' => self.cursor_up(count(params)),
+            b'B' => self.cursor_down(count(params)),
+            b'C' => self.cursor_forward(count(params)),
+            b'D' => self.cursor_backward(count(params)),
+            b'H' => self.cursor_position(first(params), second(params)),
+            b'J' => self.erase_in_display(false, first(params)),
+            b'K' => self.erase_in_line(false, first(params)),
+            b'L' => self.insert_line(count(params)),
+            b'M' => self.delete_line(count(params)),
+            b'P' => self.delete_character(count(params)),
+            b'X' => self.erase_character(count(params)),
+            b'f' => self.cursor_position(first(params), second(params)),
+            b'g' => self.clear_tabs(first(params)),
+            b'h' => self.change_ansi_modes(params, true),
+            b'l' => self.change_ansi_modes(params, false),
+            b'm' => self.select_graphic_rendition(params),
+            b'r' => self.set_margins(first(params), second(params)),
+            _ => {}
+        }
+    }
+
+    /// A private control sequence, with the marker `?`.
+    #[tactic(auto, unfolding(crate::specs::Functions::sequence_in))]
+    fn private_sequence(&mut self, last: u8, params: &[u16])
+        ensures { self.new ≡ sequence_in private_sequences last params.now self.old }
+    {
+        match last {
+            b'J' => self.erase_in_display(true, first(params)),
+            b'K' => self.erase_in_line(true, first(params)),
+            b'h' => self.change_private_modes(params, true),
+            b'l' => self.change_private_modes(params, false),
+            _ => {}
+        }
+    }
+
+    /// A control sequence with the intermediate `"`.
+    #[tactic(auto, unfolding(crate::specs::Functions::sequence_in))]
+    fn quote_sequence(&mut self, last: u8, params: &[u16])
+        ensures { self.new ≡ sequence_in quote_sequences last params.now self.old }
+    {
+        match last {
+            b'p' => self.set_conformance_level(first(params), second(params)),
+            b'q' => self.select_character_attribute(first(params)),
+            _ => {}
+        }
+    }
+
+    /// A control sequence with the intermediate `!`.
+    #[tactic(auto, unfolding(crate::specs::Functions::sequence_in))]
+    fn exclamation_sequence(&mut self, last: u8, params: &[u16])
+        ensures { self.new ≡ sequence_in exclamation_sequences last params.now self.old }
+    {
+        if last == b'p' {
+            self.soft_reset();
+        }
+    }
+}

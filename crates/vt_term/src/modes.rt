@@ -1,0 +1,101 @@
+//! Modes.
+ghost use Rattle.std.specs.Prelude.{◌≡◌};
+ghost use Rattle.vt_term.specs.Modes.{origin_mode, autowrap_mode, column_mode, keypad_mode, report_form, with_mode, change_modes, ansi_modes, private_modes};
+
+use crate::display::Display;
+use crate::page;
+use crate::state::{Cursor, Margins};
+
+impl Display {
+    /// SM and RM of ANSI modes: each parameter in order.
+    pub(crate) fn change_ansi_modes(&mut self, params: &[u16], on: bool)
+        ensures { self.new ≡ change_modes ansi_modes on params.now self.old }
+    {
+        for p in params {
+            self.change_ansi_mode(*p, on);
+        }
+    }
+
+    /// SM and RM of private modes: each parameter in order.
+    pub(crate) fn change_private_modes(&mut self, params: &[u16], on: bool)
+        ensures { self.new ≡ change_modes private_modes on params.now self.old }
+    {
+        for p in params {
+            self.change_private_mode(*p, on);
+        }
+    }
+
+    /// One ANSI mode.
+    #[tactic(auto, unfolding(crate::specs::Modes::with_mode))]
+    fn change_ansi_mode(&mut self, p: u16, on: bool)
+        ensures { self.new ≡ with_mode ansi_modes on p self.old }
+    {
+        match p {
+            2 => self.modes.kam = on,
+            4 => self.modes.irm = on,
+            12 => self.modes.srm = on,
+            20 => self.modes.lnm = on,
+            _ => {}
+        }
+    }
+
+    /// One private mode.
+    #[tactic(auto, unfolding(crate::specs::Modes::with_mode))]
+    fn change_private_mode(&mut self, p: u16, on: bool)
+        ensures { self.new ≡ with_mode private_modes on p self.old }
+    {
+        match p {
+            1 => self.modes.decckm = on,
+            3 => self.column_mode(on),
+            4 => self.modes.decsclm = on,
+            5 => self.modes.decscnm = on,
+            6 => self.origin_mode(on),
+            7 => self.autowrap_mode(on),
+            8 => self.modes.decarm = on,
+            25 => self.modes.dectcem = on,
+            _ => {}
+        }
+    }
+
+    /// DECOM: the cursor goes home.
+    fn origin_mode(&mut self, on: bool)
+        ensures { self.new ≡ origin_mode on self.old }
+    {
+        let row = if on { self.margins.top } else { 1 };
+        self.modes.decom = on;
+        self.cursor = Cursor::at(row, 1);
+    }
+
+    /// DECAWM: without it the wrap flag is reset.
+    fn autowrap_mode(&mut self, on: bool)
+        ensures { self.new ≡ autowrap_mode on self.old }
+    {
+        self.modes.decawm = on;
+        self.cursor.wrap = self.cursor.wrap && on;
+    }
+
+    /// DECCOLM: 132 or 80 columns, all blank; full margins, home. The saved column keeps inside the width.
+    fn column_mode(&mut self, wide: bool)
+        ensures { self.new ≡ column_mode wide self.old }
+    {
+        page::set_width(&mut self.screen, wide);
+        self.margins = Margins::full();
+        self.cursor = Cursor::at(1, 1);
+        self.saved.col = self.saved.col.min(self.screen.width());
+        self.saved.wrap = false;
+    }
+
+    /// DECKPAM and DECKPNM.
+    pub(crate) fn keypad_mode(&mut self, application: bool)
+        ensures { self.new ≡ keypad_mode application self.old }
+    {
+        self.modes.keypad_application = application;
+    }
+
+    /// S8C1T and S7C1T.
+    pub(crate) fn report_form(&mut self, eight: bool)
+        ensures { self.new ≡ report_form eight self.old }
+    {
+        self.modes.reports_8bit = eight;
+    }
+}

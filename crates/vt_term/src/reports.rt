@@ -1,0 +1,116 @@
+//! What the terminal reports.
+ghost use Rattle.std.specs.Prelude.{◌≡◌, ◌+◌, ◌≤◌, ◌<◌, ◌++◌, length, decimal, vec_len, vec_capacity};
+ghost use Rattle.vt_syntax.specs.Spelling.{IsEvent};
+ghost use Rattle.vt_term.specs.Reports.{report, answer, cursor_report, control_report, sequence_report};
+
+use crate::display::Display;
+use crate::functions::first;
+use itoa::Buffer;
+use vt_syntax::Event;
+
+impl Display {
+    /// Appends the report of an event, in the state before it: at most ten bytes, whose room is there.
+    pub(crate) fn report(&self, event: &Event, out: &mut Vec<u8>)
+        requires { vec_len out.old + 10 ≤ vec_capacity out.old }
+        ensures items { out.new.items ≡ out.old.items ++ report event.now self.now }
+        ensures bounded { vec_len out.new ≤ vec_len out.old + 10 }
+        ensures capacity { vec_capacity out.old ≤ vec_capacity out.new }
+    {
+        match event {
+            Event::Control(b) => self.report_control(*b, out),
+            Event::Sequence {
+                marker,
+                params,
+                inter,
+                last,
+            } => self.report_sequence(*marker, *inter, *last, first(params.as_slice()), out),
+            _ => {}
+        }
+    }
+
+    /// DECID.
+    #[tactic(auto, unfolding(crate::specs::Reports::control_report))]
+    fn report_control(&self, b: u8, out: &mut Vec<u8>)
+        requires { vec_len out.old + 10 ≤ vec_capacity out.old }
+        ensures items { out.new.items ≡ out.old.items ++ control_report b self.now }
+        ensures bounded { vec_len out.new ≤ vec_len out.old + 10 }
+        ensures capacity { vec_capacity out.old ≤ vec_capacity out.new }
+    {
+        if b == 0x9A {
+            self.answer(b"?62;1;6c", out);
+        }
+    }
+
+    /// DA and DSR, by the first parameter.
+    #[tactic(auto, unfolding(crate::specs::Reports::sequence_report))]
+    fn report_sequence(
+        &self,
+        marker: Option<u8>,
+        inter: Option<u8>,
+        last: u8,
+        p: u16,
+        out: &mut Vec<u8>,
+    )
+        requires { vec_len out.old + 10 ≤ vec_capacity out.old }
+        ensures items { out.new.items ≡ out.old.items ++ sequence_report marker inter last p self.now }
+        ensures bounded { vec_len out.new ≤ vec_len out.old + 10 }
+        ensures capacity { vec_capacity out.old ≤ vec_capacity out.new }
+    {
+        match (marker, inter, last, p) {
+            (None, None, b'c', 0) => self.answer(b"?62;1;6c", out),
+            (None, None, b'n', 5) => self.answer(b"0n", out),
+            (None, None, b'n', 6) => self.report_cursor(out),
+            (Some(b'>'), None, b'c', 0) => self.answer(b">1;10;0c", out),
+            (Some(b'?'), None, b'n', 15) => self.answer(b"?13n", out),
+            (Some(b'?'), None, b'n', 26) => self.answer(b"?27;1n", out),
+            _ => {}
+        }
+    }
+
+    /// An answer behind the introducer in its 7-bit or 8-bit form.
+    fn answer(&self, text: &[u8], out: &mut Vec<u8>)
+        requires { vec_len out.old + length text.now + 2 ≤ vec_capacity out.old }
+        ensures items { out.new.items ≡ out.old.items ++ answer text.now self.now }
+        ensures bounded { vec_len out.new ≤ vec_len out.old + length text.now + 2 }
+        ensures capacity { vec_capacity out.old ≤ vec_capacity out.new }
+    {
+        if self.modes.reports_8bit {
+            out.push(0x9B).unwrap();
+        } else {
+            out.extend_from_slice(b"\x1B[").unwrap();
+        }
+        out.extend_from_slice(text).unwrap();
+    }
+
+    /// CPR: the cursor's row, under DECOM counted from the top margin, and its column.
+    fn report_cursor(&self, out: &mut Vec<u8>)
+        requires { vec_len out.old + 10 ≤ vec_capacity out.old }
+        ensures items { out.new.items ≡ out.old.items ++ cursor_report self.now }
+        ensures bounded { vec_len out.new ≤ vec_len out.old + 10 }
+        ensures capacity { vec_capacity out.old ≤ vec_capacity out.new }
+    {
+        let line = if self.modes.decom {
+            self.cursor.row - self.margins.top + 1
+        } else {
+            self.cursor.row
+        };
+        self.answer(b"", out);
+        push_number(line as u16, out);
+        out.push(b';').unwrap();
+        push_number(self.cursor.col as u16, out);
+        out.push(b'R').unwrap();
+    }
+}
+
+/// Appends a number of at most three digits.
+fn push_number(n: u16, out: &mut Vec<u8>)
+    requires small { n < 1000 }
+    requires room { vec_len out.old + 3 ≤ vec_capacity out.old }
+    ensures items { out.new.items ≡ out.old.items ++ decimal n }
+    ensures bounded { vec_len out.new ≤ vec_len out.old + 3 }
+    ensures capacity { vec_capacity out.old ≤ vec_capacity out.new }
+{
+    let mut buffer = Buffer::new();
+    let digits = buffer.format(n);
+    out.extend_from_slice(digits.as_bytes()).unwrap();
+}

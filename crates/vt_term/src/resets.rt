@@ -1,0 +1,66 @@
+//! Resets, and the screen alignment pattern.
+ghost use Rattle.std.specs.Prelude.{◌≡◌};
+ghost use Rattle.vt_term.specs.Resets.{screen_alignment, reset_to_initial_state, soft_reset, set_conformance_level};
+
+use crate::display::{Display, stops_at_power_up};
+use crate::page;
+use crate::state::{Cursor, Margins, Modes, Saved};
+use vt_glyph::{Glyph, Sets};
+use vt_screen::{Brush, Cell};
+
+impl Display {
+    /// DECALN: `E` everywhere, without attributes and unprotected; full margins, home.
+    pub(crate) fn screen_alignment(&mut self)
+        ensures { self.new ≡ screen_alignment self.old }
+    {
+        let cell = Cell::new(Glyph::ascii(b'E'), Brush::plain());
+        page::fill(&mut self.screen, cell);
+        self.margins = Margins::full();
+        self.cursor = Cursor::at(1, 1);
+    }
+
+    /// RIS.
+    pub(crate) fn reset_to_initial_state(&mut self)
+        ensures { self.new ≡ reset_to_initial_state self.old }
+    {
+        page::set_width(&mut self.screen, false);
+        self.cursor = Cursor::at(1, 1);
+        self.brush = Brush::plain();
+        self.sets = Sets::power_up();
+        self.margins = Margins::full();
+        self.stops = stops_at_power_up();
+        self.modes = Modes::power_up();
+        self.saved = Saved::power_up();
+    }
+
+    /// DECSTR: the cursor's place, the cells, the stops, the other modes and the report form stay.
+    pub(crate) fn soft_reset(&mut self)
+        ensures { self.new ≡ soft_reset self.old }
+    {
+        self.cursor.wrap = false;
+        self.brush = Brush::plain();
+        self.sets = Sets::power_up();
+        self.margins = Margins::full();
+        self.modes.dectcem = true;
+        self.modes.irm = false;
+        self.modes.decom = false;
+        self.modes.decawm = false;
+        self.modes.kam = false;
+        self.modes.decckm = false;
+        self.modes.keypad_application = false;
+        self.saved = Saved::power_up();
+    }
+
+    /// DECSCL: a soft reset, and then the form of reports; other values have no effect.
+    pub(crate) fn set_conformance_level(&mut self, p1: u16, p2: u16)
+        ensures { self.new ≡ set_conformance_level p1 p2 self.old }
+    {
+        let eight = match (p1, p2) {
+            (61, _) | (62, 1) => false,
+            (62, 0) | (62, 2) => true,
+            _ => return,
+        };
+        self.soft_reset();
+        self.report_form(eight);
+    }
+}

@@ -1,0 +1,55 @@
+//! Tab stops.
+ghost use Rattle.std.specs.Prelude.{◌≡◌, ◌≤◌, ◌<◌};
+ghost use Rattle.vt_term.specs.Tabs.{horizontal_tab, set_tab, clear_tabs, next_stop_of, no_stops};
+
+use crate::display::{Display, STOPS};
+use crate::state::Cursor;
+
+impl Display {
+    /// HT: to the next stop, or else to the last column.
+    pub(crate) fn horizontal_tab(&mut self)
+        ensures { self.new ≡ horizontal_tab self.old }
+    {
+        let col = next_stop(&self.stops, self.cursor.col, self.screen.width());
+        self.cursor = Cursor::at(self.cursor.row, col);
+    }
+
+    /// HTS.
+    pub(crate) fn set_tab(&mut self)
+        ensures { self.new ≡ set_tab self.old }
+    {
+        self.stops[self.cursor.col - 1] = true;
+    }
+
+    /// TBC: 0 clears the stop at the cursor's column, 3 all stops.
+    pub(crate) fn clear_tabs(&mut self, p: u16)
+        ensures { self.new ≡ clear_tabs p self.old }
+    {
+        match p {
+            0 => self.stops[self.cursor.col - 1] = false,
+            3 => self.stops = no_stops(),
+            _ => {}
+        }
+    }
+}
+
+/// The next stop right of a column, or else the last column.
+fn next_stop(stops: &[bool; STOPS], col: usize, last: usize) -> usize
+    requires { (1 ≤ col) × (col ≤ last) × (last ≤ 132) }
+    ensures stop { result ≡ next_stop_of stops.now col last }
+    ensures in_row { (1 ≤ result) × (result ≤ last) }
+{
+    for c in col + 1..last + 1 {
+        if stops[c - 1] {
+            return c;
+        }
+    }
+    last
+}
+
+/// No stop in any column.
+fn no_stops() -> [bool; STOPS]
+    ensures { result ≡ no_stops }
+{
+    [false; STOPS]
+}

@@ -1,0 +1,122 @@
+//! Writing glyphs.
+ghost use Rattle.std.specs.Prelude.{◌≡◌, ◌+◌, ◌≤◌, ◌⊎◌, All, IsTrue, false, length, map};
+ghost use Rattle.vt_syntax.specs.Class.{IsPlain};
+ghost use Rattle.vt_syntax.specs.declared.event.Event.TheVariants.{Print};
+ghost use Rattle.vt_term.specs.Play.{after_events};
+ghost use Rattle.vt_glyph.specs.Tables.{IsGlyph};
+ghost use Rattle.vt_term.specs.Writing.{WritesAscii, with_run, wrapped, put_glyph, write_glyph, print};
+
+use crate::display::Display;
+use crate::page;
+use crate::state::Cursor;
+use vt_glyph::Glyph;
+use vt_screen::Cell;
+use vt_screen::laws::runs;
+
+impl Display {
+    /// A graphic byte, 20..7E or A0..FF: it is read through the sets.
+    #[inline(always)]
+    pub(crate) fn print(&mut self, b: u8)
+        requires { ((0x20 ≤ b) × (b ≤ 0x7E)) ⊎ (0xA0 ≤ b) }
+        ensures { self.new ≡ print b self.old }
+    {
+        if let Some(glyph) = self.sets.read(b) {
+            self.write_glyph(glyph);
+        }
+    }
+
+    /// A glyph is written.
+    #[inline(always)]
+    pub(crate) fn write_glyph(&mut self, glyph: Glyph)
+        requires { IsGlyph glyph }
+        ensures { self.new ≡ write_glyph glyph self.old }
+    {
+        self.carry_out_wrap();
+        self.put_glyph(glyph);
+    }
+
+    /// A pending wrap is carried out.
+    #[inline(always)]
+    pub(crate) fn carry_out_wrap(&mut self)
+        ensures { self.new ≡ wrapped self.old }
+    {
+        if self.cursor.wrap {
+            self.next_line();
+        }
+    }
+
+    /// A glyph where no wrap is pending: under IRM the cells from the cursor on move right first.
+    #[inline(always)]
+    fn put_glyph(&mut self, glyph: Glyph)
+        requires { IsGlyph glyph }
+        ensures { self.new ≡ put_glyph glyph self.old }
+    {
+        let Cursor { row, col, .. } = self.cursor;
+        let cell = Cell::new(glyph, self.brush);
+        if self.modes.irm {
+            page::put_inserting(&mut self.screen, row, col, cell);
+        } else {
+            page::put(&mut self.screen, row, col, cell);
+        }
+        if col < self.screen.width() {
+            self.cursor = Cursor::at(row, col + 1);
+        } else {
+            self.cursor.wrap = self.modes.decawm;
+        }
+    }
+
+    /// Whether each byte 20..7E writes its ASCII glyph over the cell at the cursor: GL is ASCII, no single shift is
+    /// pending, and IRM is reset.
+    pub(crate) fn writes_ascii(&self) -> bool
+        ensures { IsTrue result → WritesAscii self.now }
+    {
+        !self.modes.irm && self.sets.reads_ascii()
+    }
+
+    /// Writes a run of plain bytes, a line at a time.
+    pub(crate) fn write_run(&mut self, run: &[u8])
+        requires plain { All IsPlain run.now }
+        requires writes { WritesAscii self.old }
+        ensures { self.new ≡ after_events (map Print run.now) self.old }
+    {
+        runs();
+        let mut at = 0;
+        while at < run.len() {
+            self.carry_out_wrap();
+            let end = run.len().min(at + self.room());
+            self.put_run(&run[at..end]);
+            at = end;
+        }
+    }
+
+    /// How many cells there are from the cursor to the end of its row.
+    fn room(&self) -> usize
+        ensures room { result + self.now.cursor.col ≡ self.now.grid.width + 1 }
+        ensures some { 1 ≤ result }
+        ensures few { result ≤ 132 }
+    {
+        self.screen.width() + 1 - self.cursor.col
+    }
+
+    /// Writes a run of plain bytes that ends in the cursor's row.
+    fn put_run(&mut self, run: &[u8])
+        requires plain { All IsPlain run.now }
+        requires some { 1 ≤ length run.now }
+        requires room { self.old.cursor.col + length run.now ≤ self.old.grid.width + 1 }
+        ensures { self.new ≡ with_run run.now self.old }
+    {
+        let Cursor { row, col, .. } = self.cursor;
+        let like = Cell::new(Glyph::blank(), self.brush);
+        page::put_run(&mut self.screen, row, col, run, like);
+        let width = self.screen.width();
+        if col + run.len() <= width {
+            self.cursor = Cursor::at(row, col + run.len());
+        } else {
+            self.cursor = Cursor {
+                row,
+                col: width,
+                wrap: self.modes.decawm,
+            };
+        }
+    }
+}

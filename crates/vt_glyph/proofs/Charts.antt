@@ -43,13 +43,21 @@ spells Special = refl
 spells Supplemental = refl
 
 -- the code's tables encode the glyphs of the charts
-pub tables : (set : Set) → list_all (λ code. slice_index (encodings set) (code - 0x21) == encoding_of (glyph_of set code)) graphic_codes ≡ true
+pub tables : (set : Set) → list_all (λ code. slice_index (encodings set) (code - 0x20) == encoding_of (glyph_of set code)) graphic_codes ≡ true
 unfolding glyph_of spelling_of encoding_of
 tables Ascii = refl
 tables British = refl
 tables German = refl
 tables Special = refl
 tables Supplemental = refl
+
+-- and the space before them
+pub table_space : (set : Set) → slice_index (encodings set) 0 ≡ 0x20
+table_space Ascii = refl
+table_space British = refl
+table_space German = refl
+table_space Special = refl
+table_space Supplemental = refl
 
 pub glyphs : (set : Set) → list_all (λ code. is_glyph (glyph_of set code)) graphic_codes ≡ true
 unfolding glyph_of is_glyph

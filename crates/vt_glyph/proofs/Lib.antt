@@ -1,6 +1,7 @@
 pub mod Lists
 pub mod Charts
 pub mod Glyphs
+pub mod ChartBytes
 pub mod Reading
 pub mod Designations
 pub mod Spelled

@@ -1,12 +1,12 @@
 -- Reading a graphic byte through the sets.
-use Rattle.std.proofs.Common.{◌≡◌, ℕ, ◌%◌, ◌≤◌, Bool, true, false, Some, None, Option, eqb, ltb, arith, rules, refl, sym, ap, ◌∙◌}
+use Rattle.std.proofs.Common.{◌≡◌, ℕ, ◌%◌, ◌≤◌, Bool, true, false, not, ◌&&◌, ◌||◌, inl, inr, Some, None, Option, eqb, ltb, arith, rules, refl, sym, ap, ◌∙◌}
 use Rattle.std.specs.Prelude.{unwrap_or, if◌then◌else◌}
 use Rattle.std.proofs.lemmas.Bool.{lt-ltb, ne_eqb, eqb-true}
 use Rattle.std.proofs.lemmas.Bool.Decides.{nat_tests}
 use Rattle.vt_glyph.specs.declared.set.Set.TheVariants.{Ascii}
 use Rattle.vt_glyph.specs.GraphicSets.{GraphicSets, AreSoundSets}
 use Rattle.vt_glyph.specs.Tables.{glyph_of, space}
-use Rattle.vt_glyph.specs.Invocation.{set_at, has_no_glyph, glyph_read, after_read}
+use Rattle.vt_glyph.specs.Invocation.{set_at, has_no_glyph, glyph_read, after_read, in_use, glyph_in_use, HasGlyph}
 
 -- the slot that a byte of the left half is read through
 abbrev pub left_slot : GraphicSets → ℕ
@@ -68,3 +68,32 @@ AreSoundSets-after_read sets b h = go (has_no_glyph b)
     go : (t : Bool) → AreSoundSets (if t then sets else record sets { pending = None })
     go true = h
     go false = record { four = h.four; left = h.left; right = h.right; pending = search rules }
+
+HasGlyph-has : (b : ℕ) → HasGlyph b → has_no_glyph b ≡ false
+HasGlyph-has b (inl h) = low_has_glyph b h.0 h.1
+HasGlyph-has b (inr h) =
+    let low : 0x21 ≤ b % 0x80 = omega arith in
+    let high : b % 0x80 ≤ 0x7E = omega arith in
+    code (b % 0x80) low high
+  where
+    code : (n : ℕ) → 0x21 ≤ n → n ≤ 0x7E → not (eqb b 0x20) && (ltb n 0x21 || ltb 0x7E n) ≡ false
+    code n low high = grind (arith, nat_tests)
+
+-- with no single shift pending a byte is read through the sets in GL and GR
+pub glyph_read-in_use : (sets : GraphicSets) (b : ℕ) → sets.pending ≡ None → HasGlyph b → glyph_read sets b ≡ Some (glyph_in_use (in_use sets) b)
+unfolding glyph_read
+glyph_read-in_use sets b none has =
+    let read : Bool → Option ℕ → Option ℕ = λ missing pending.
+    if missing then None else (if eqb b 0x20 then Some space else Some (glyph_of (set_at sets (unwrap_or pending (if ltb b 0x80 then sets.left else sets.right))) (b % 0x80))) in
+    ap (λ t. read t sets.pending) (HasGlyph-has b has) ∙ ap (λ p. read false p) none ∙ go (eqb b 0x20) (ltb b 0x80)
+  where
+    go : (blank left : Bool) → (if blank then Some space else Some (glyph_of (set_at sets (if left then sets.left else sets.right)) (b % 0x80)))
+        ≡ Some (if blank then space else glyph_of (if left then set_at sets sets.left else set_at sets sets.right) (b % 0x80))
+    go true left = refl
+    go false true = refl
+    go false false = refl
+
+pub after_read-in_use : (sets : GraphicSets) (b : ℕ) → sets.pending ≡ None → HasGlyph b → after_read sets b ≡ sets
+unfolding after_read
+after_read-in_use sets b none has =
+    ap (λ t. if t then sets else record sets { pending = None }) (HasGlyph-has b has) ∙ ap (λ p. record sets { pending = p }) (sym none)

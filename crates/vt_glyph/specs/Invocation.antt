@@ -1,6 +1,6 @@
 -- Designations, shifts, and reading a graphic byte through the sets.
 -- (VT220 manual, chapter 4: SCS, the locking shifts and the single shifts. The sets at power-up are this project's choice.)
-use Rattle.std.specs.Prelude.{ℕ, ◌%◌, List, [], ◌∷◌, Bool, Option, Some, None, ◌==◌, ◌&&◌, ◌||◌, not, nat_lt, if◌then◌else◌, unwrap_or, slice_index_or, slice_set}
+use Rattle.std.specs.Prelude.{ℕ, ◌%◌, ◌≤◌, ◌⊎◌, List, [], ◌∷◌, Bool, Option, Some, None, ◌==◌, ◌&&◌, ◌||◌, not, nat_lt, if◌then◌else◌, unwrap_or, slice_index_or, slice_set}
 use Rattle.vt_glyph.specs.declared.set.Set.{Set}
 use Rattle.vt_glyph.specs.declared.set.Set.TheVariants.{Ascii, Supplemental}
 use Rattle.vt_glyph.specs.GraphicSets.{GraphicSets}
@@ -52,3 +52,21 @@ glyph_read sets b =
 -- a byte that has a glyph uses a pending single shift up
 unfoldable pub after_read : GraphicSets → ℕ → GraphicSets
 after_read sets b = if has_no_glyph b then sets else record sets { pending = None }
+
+-- the sets in GL and GR, which graphic bytes are read through where no single shift is pending (VT220 manual, chapter 4:
+-- the in-use table)
+pub record InUseTable : Type 0 where
+  pub left : Set
+  pub right : Set
+
+abbrev pub in_use : GraphicSets → InUseTable
+in_use sets = record { left = set_at sets sets.left; right = set_at sets sets.right }
+
+-- the bytes that have a glyph in either half
+abbrev pub HasGlyph : ℕ → Type 0
+HasGlyph b = ((0x20 ≤ b) × (b ≤ 0x7E)) ⊎ ((0xA1 ≤ b) × (b ≤ 0xFE))
+
+-- the glyph of such a byte
+abbrev pub glyph_in_use : InUseTable → ℕ → ℕ
+glyph_in_use table b =
+    if b == 0x20 then space else glyph_of (if nat_lt b 0x80 then table.left else table.right) (b % 0x80)

@@ -1,11 +1,11 @@
 //! Laws of the definitions that contracts cite. A law is a function with an empty body, which a proof
 //! cites by calling it.
-ghost use Rattle.std.specs.Prelude.{◌≡◌, ◌≤◌, ◌<◌, ◌⊎◌, ℕ, List, length, IfSome};
+ghost use Rattle.std.specs.Prelude.{◌≡◌, ◌≤◌, ◌<◌, ◌⊎◌, ℕ, List, length, IfSome, Some, None};
 ghost use Rattle.vt_glyph.specs.declared.set.Set.{Set};
 ghost use Rattle.vt_glyph.specs.Tables.{space, substitute_glyph, glyph_of, IsGlyph};
 ghost use Rattle.vt_glyph.specs.Designation.{set_of_final, final_of};
 ghost use Rattle.vt_glyph.specs.GraphicSets.{GraphicSets, AreSoundSets};
-ghost use Rattle.vt_glyph.specs.Invocation.{sets_at_power_up, designated, locked_left, locked_right, shifted_once, restored, glyph_read, after_read};
+ghost use Rattle.vt_glyph.specs.Invocation.{sets_at_power_up, designated, locked_left, locked_right, shifted_once, restored, glyph_read, after_read, in_use, glyph_in_use, HasGlyph, InUseTable};
 ghost use Rattle.vt_glyph.specs.Spell.{spelling_of, code_of, shifted_for, AreSpellingSets};
 
 /// Where the sets are those that the spellings are for, each glyph's spelling writes it and leaves
@@ -26,6 +26,15 @@ pub fn glyphs()
     ensures ascii { (n : ℕ) → 0x20 ≤ n → n ≤ 0x7E → IsGlyph n }
     ensures shown { (set : Set) (code : ℕ) → 0x21 ≤ code → code ≤ 0x7E → IsGlyph (glyph_of set code) }
     ensures read { (sets : GraphicSets) (b : ℕ) → IfSome (glyph_read sets b) IsGlyph }
+    ensures in_use { (table : InUseTable) (b : ℕ) → HasGlyph b → IsGlyph (glyph_in_use table b) }
+{}
+
+/// Where no single shift is pending, a byte that has a glyph in either half is read through the sets in GL and GR, and
+/// leaves the sets.
+pub fn in_use()
+    ensures glyph { (sets : GraphicSets) (b : ℕ) → sets.pending ≡ None → HasGlyph b
+        → glyph_read sets b ≡ Some (glyph_in_use (in_use sets) b) }
+    ensures after { (sets : GraphicSets) (b : ℕ) → sets.pending ≡ None → HasGlyph b → after_read sets b ≡ sets }
 {}
 
 /// Each set's final byte designates it.

@@ -7,6 +7,7 @@
 #![tactic(auto)]
 
 mod glyph;
+mod in_use;
 pub mod laws;
 mod set;
 mod sets;
@@ -14,5 +15,6 @@ mod sets;
 mod tests;
 
 pub use glyph::{Glyph, Spelling};
+pub use in_use::InUse;
 pub use set::Set;
 pub use sets::Sets;

@@ -57,11 +57,11 @@ impl Set {
         ensures value { result ≡ glyph_of self code }
         ensures is_glyph { IsGlyph result }
     {
-        Glyph::encoded(self.encodings()[(code - 0x21) as usize])
+        Glyph::encoded(self.encodings()[(code - 0x20) as usize])
     }
 
-    /// The encodings of the set's glyphs, by their codes from 21 on.
-    fn encodings(self) -> &'static [u8; 94]
+    /// The encodings of the set's glyphs, by their codes from 20 on. The code 20 is the space in every set.
+    pub(crate) fn encodings(self) -> &'static [u8; 95]
         ensures { result.now ≡ encodings self }
     {
         match self {
@@ -74,37 +74,37 @@ impl Set {
     }
 }
 
-// The encodings of each set, in lines of the codes 21 to 2F, 30 to 3F, .. 70 to 7E.
+// The encodings of each set, a line for the codes 20 to 2F, 30 to 3F, .. 70 to 7E.
 
-const ASCII: [u8; 94] = *b"!\"#$%&'()*+,-./\
+const ASCII: [u8; 95] = *b" !\"#$%&'()*+,-./\
     0123456789:;<=>?\
     @ABCDEFGHIJKLMNO\
     PQRSTUVWXYZ[\\]^_\
     `abcdefghijklmno\
     pqrstuvwxyz{|}~";
 
-const BRITISH: [u8; 94] = *b"!\"\xA3$%&'()*+,-./\
+const BRITISH: [u8; 95] = *b" !\"\xA3$%&'()*+,-./\
     0123456789:;<=>?\
     @ABCDEFGHIJKLMNO\
     PQRSTUVWXYZ[\\]^_\
     `abcdefghijklmno\
     pqrstuvwxyz{|}~";
 
-const GERMAN: [u8; 94] = *b"!\"#$%&'()*+,-./\
+const GERMAN: [u8; 95] = *b" !\"#$%&'()*+,-./\
     0123456789:;<=>?\
     \xA7ABCDEFGHIJKLMNO\
     PQRSTUVWXYZ\xC4\xD6\xDC^_\
     `abcdefghijklmno\
     pqrstuvwxyz\xE4\xF6\xFC\xDF";
 
-const SPECIAL: [u8; 94] = *b"!\"#$%&'()*+,-./\
+const SPECIAL: [u8; 95] = *b" !\"#$%&'()*+,-./\
     0123456789:;<=>?\
     @ABCDEFGHIJKLMNO\
     PQRSTUVWXYZ[\\]^ \
     \x00\x01\x02\x03\x04\x05\xB0\xB1\x08\x09\x0A\x0B\x0C\x0D\x0E\x0F\
     \x10\x11\x12\x13\x14\x15\x16\x17\x18\x19\x1A\x1B\x1C\xA3\xB7";
 
-const SUPPLEMENTAL: [u8; 94] = *b"\xA1\xA2\xA3\xA4\xA5\xA4\xA7\xA8\xA9\xAA\xAB\xA4\xA4\xA4\xA4\
+const SUPPLEMENTAL: [u8; 95] = *b" \xA1\xA2\xA3\xA4\xA5\xA4\xA7\xA8\xA9\xAA\xAB\xA4\xA4\xA4\xA4\
     \xB0\xB1\xB2\xB3\xA4\xB5\xB6\xB7\xA4\xB9\xBA\xBB\xBC\xBD\xA4\xBF\
     \xC0\xC1\xC2\xC3\xC4\xC5\xC6\xC7\xC8\xC9\xCA\xCB\xCC\xCD\xCE\xCF\
     \xA4\xD1\xD2\xD3\xD4\xD5\xD6\xD7\xD8\xD9\xDA\xDB\xDC\xDD\xA4\xDF\

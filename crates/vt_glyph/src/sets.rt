@@ -2,6 +2,7 @@
 ghost use Rattle.std.specs.Prelude.{◌≡◌, ◌<◌, ◌≤◌, ◌⊎◌, ◌↔◌, ℕ, IsTrue, IfSome};
 
 use crate::glyph::Glyph;
+use crate::in_use::InUse;
 use crate::set::Set;
 use std::marker::Model;
 
@@ -66,7 +67,7 @@ impl Sets {
     ghost use Rattle.vt_glyph.specs.declared.set.Set.TheVariants.{Ascii};
     ghost use Rattle.vt_glyph.specs.Tables.{IsGlyph};
     ghost use Rattle.vt_glyph.specs.GraphicSets.{AreSoundSets};
-    ghost use Rattle.vt_glyph.specs.Invocation.{sets_at_power_up, designated, locked_left, locked_right, shifted_once, restored, set_at, glyph_read, after_read};
+    ghost use Rattle.vt_glyph.specs.Invocation.{sets_at_power_up, designated, locked_left, locked_right, shifted_once, restored, set_at, glyph_read, after_read, in_use};
 
     /// The sets at power-up: G0 and G1 ASCII, G2 and G3 Supplemental, G0 in GL, G2 in GR, and no
     /// single shift. (This profile)
@@ -194,6 +195,14 @@ impl Sets {
         ensures range { IfSome result (λ slot. (2 ≤ slot) × (slot < 4)) }
     {
         self.pending
+    }
+
+    /// The sets in GL and GR, to read a run of bytes through while no single shift is pending.
+    /// ([`laws::in_use`](crate::laws::in_use))
+    pub fn in_use(&self) -> InUse
+        ensures { result ≡ in_use self.now }
+    {
+        InUse::new(self.g[self.left as usize], self.g[self.right as usize])
     }
 
     /// Whether the bytes 20 to 7E show ASCII: ASCII is in GL and no single shift is pending. Reading

@@ -8,11 +8,11 @@ use Rattle.std.proofs.lemmas.List.FromFn.{get_or-map-range_with_len, length-map-
 use Rattle.std.proofs.Math.ListN.{get_or-append}
 use Rattle.std.proofs.Math.Nat.{mod-lt, div-lt_iff_lt-mul}
 use Rattle.std.proofs.Math.Dec.{leb, ltb}
-use Rattle.vt_glyph.specs.Tables.{space, glyph_of}
+use Rattle.vt_glyph.specs.Tables.{space}
 use Rattle.vt_screen.proofs.Places.{grid_of-same, grid_of-cell_at, cell_at-grid_of}
 use Rattle.vt_screen.proofs.Maps.{among-before}
 use Rattle.vt_screen.specs.declared.cell.Cell.{Cell}
-use Rattle.vt_screen.specs.Cells.{blank, erased, selectively_erased, ascii_glyph, ascii_cell}
+use Rattle.vt_screen.specs.Cells.{blank, erased, selectively_erased, cell_like}
 use Rattle.vt_screen.specs.Grid.{Grid, IsGrid, AllCells, last_row, grid_of, cells_of, cell_at, with_row, put, put_inserting, put_run, insert_cells, delete_cells, erase_area, scroll_up, scroll_down, is_within}
 
 -- ---- grids
@@ -38,13 +38,6 @@ cell_at-other_row g row f r c r1 r24 c1 cw other =
 
 -- ---- runs
 
-pub ascii_glyph-is : (code : ℕ) → ascii_glyph code ≡ code
-unfolding glyph_of
-ascii_glyph-is code = elim (eqb_tells code 0x20) [
-  | inl e ↦ rw e.0 (sym e.1)
-  | inr e ↦ rw e.0 refl
-]
-
 pub run-none : (g : Grid) (row col : ℕ) (like : Cell) → IsGrid g → put_run g row col [] like ≡ g
 run-none g row col like is_grid =
     grid_of-same g.width _ (cell_at g) (λ r c r1 r24 c1 cw. elim (eqb_tells r row) [
@@ -56,7 +49,7 @@ run-none g row col like is_grid =
     ])
     ∙ grid_of-cell_at g is_grid.cells
 
-pub run-one : (g : Grid) (row col code : ℕ) (like : Cell) → put_run g row col (code ∷ []) like ≡ put g row col (ascii_cell like code)
+pub run-one : (g : Grid) (row col code : ℕ) (like : Cell) → put_run g row col (code ∷ []) like ≡ put g row col (cell_like like code)
 run-one g row col code like =
     grid_of-same g.width _ _ (λ r c r1 r24 c1 cw. elim (eqb_tells r row) [
       | inl e ↦ elim (among-before col (col + length (code ∷ [])) c) [
@@ -76,16 +69,16 @@ run-one g row col code like =
 
 -- the cell of a column of a run
 run-cell : (old : Cell) (col : ℕ) (a b : List ℕ) (like : Cell) (c : ℕ)
-    → (if leb col c && ltb c (col + length (a ++ b)) then ascii_cell like (get_or (a ++ b) (c - col) 0) else old)
-    ≡ (if leb (col + length a) c && ltb c (col + length a + length b) then ascii_cell like (get_or b (c - (col + length a)) 0)
-    else (if leb col c && ltb c (col + length a) then ascii_cell like (get_or a (c - col) 0) else old))
+    → (if leb col c && ltb c (col + length (a ++ b)) then cell_like like (get_or (a ++ b) (c - col) 0) else old)
+    ≡ (if leb (col + length a) c && ltb c (col + length a + length b) then cell_like like (get_or b (c - (col + length a)) 0)
+    else (if leb col c && ltb c (col + length a) then cell_like like (get_or a (c - col) 0) else old))
 run-cell old col a b like c =
     let long = length-append a b in
     elim (among-before col (col + length a) c) [
       | inl t ↦ elim (among-before (col + length a) (col + length a + length b) c) [
         | inl u ↦ absurd (omega (arith, t, u))
         | inr u ↦ elim (among-before col (col + length (a ++ b)) c) [
-          | inl v ↦ rw (t.0, u.0, v.0) (ap (ascii_cell like) (get_or-append a b 0 (c - col) (omega (arith, t))))
+          | inl v ↦ rw (t.0, u.0, v.0) (ap (cell_like like) (get_or-append a b 0 (c - col) (omega (arith, t))))
           | inr v ↦ absurd (elim v.1 [ inl l ↦ omega (arith, t) | inr l ↦ omega (arith, t) ])
         ]
       ]
@@ -93,7 +86,7 @@ run-cell old col a b like c =
         | inl u ↦ elim (among-before col (col + length (a ++ b)) c) [
           | inl v ↦
               let place : c - col - length a ≡ c - (col + length a) = omega arith in
-              rw (t.0, u.0, v.0) (ap (ascii_cell like) (get_or-append_right a b (length a) (c - col) 0 refl (omega (arith, u)) ∙ ap (λ x. get_or b x 0) place))
+              rw (t.0, u.0, v.0) (ap (cell_like like) (get_or-append_right a b (length a) (c - col) 0 refl (omega (arith, u)) ∙ ap (λ x. get_or b x 0) place))
           | inr v ↦ absurd (elim v.1 [ inl l ↦ omega (arith, u) | inr l ↦ omega (arith, u) ])
         ]
         | inr u ↦ elim (among-before col (col + length (a ++ b)) c) [
@@ -106,10 +99,10 @@ run-cell old col a b like c =
 pub run-append : (g : Grid) (row col : ℕ) (a b : List ℕ) (like : Cell)
     → put_run g row col (a ++ b) like ≡ put_run (put_run g row col a like) row (col + length a) b like
 run-append g row col a b like =
-    let first : ℕ → Cell = λ c. if leb col c && ltb c (col + length a) then ascii_cell like (get_or a (c - col) 0) else cell_at g row c in
+    let first : ℕ → Cell = λ c. if leb col c && ltb c (col + length a) then cell_like like (get_or a (c - col) 0) else cell_at g row c in
     grid_of-same g.width _ _ (λ r c r1 r24 c1 cw. elim (eqb_tells r row) [
       | inl e ↦ rw e.0 (run-cell (cell_at g row c) col a b like c
-          ∙ ap (λ x. if leb (col + length a) c && ltb c (col + length a + length b) then ascii_cell like (get_or b (c - (col + length a)) 0) else x)
+          ∙ ap (λ x. if leb (col + length a) c && ltb c (col + length a + length b) then cell_like like (get_or b (c - (col + length a)) 0) else x)
           (sym (cell_at-with_row g row first c (omega (arith, e)) (omega (arith, e)) c1 cw)))
       | inr e ↦ rw e.0 (sym (cell_at-other_row g row first r c r1 r24 c1 cw e.1))
     ])
@@ -186,7 +179,7 @@ test-put_inserting test g row col cell on_blank all on_cell =
     (chosen test (ltb col c) _ _ (test-at test g row (c - 1) on_blank all) (test-at test g row c on_blank all)))
 
 pub test-put_run : (test : Cell → Bool) (g : Grid) (row col : ℕ) (codes : List ℕ) (like : Cell) → IsTrue (test blank) → AllCells test g
-    → ((code : ℕ) → Contains codes code → IsTrue (test (ascii_cell like code))) → AllCells test (put_run g row col codes like)
+    → ((code : ℕ) → Contains codes code → IsTrue (test (cell_like like code))) → AllCells test (put_run g row col codes like)
 test-put_run test g row col codes like on_blank all each =
     test-with_row test g row _ on_blank all (λ c. elim (among-before col (col + length codes) c) [
       | inl t ↦ rw t.0 (each _ (Contains-get_or codes (c - col) 0 (omega (arith, t))))

@@ -1,6 +1,12 @@
 use Rattle.std.proofs.Common.{◌≡◌, ℕ, ◌+◌, ◌-◌, ◌≤◌, ◌<◌, ◌++◌, List, length, take, drop, get_or, arith, ap, ◌∙◌, length-drop}
 use Rattle.std.proofs.lemmas.List.{length-take, get_or-drop, get_or-take, get_or-append_right}
 use Rattle.std.proofs.Math.ListN.{get_or-append}
+use Rattle.std.proofs.Common.{[], ◌∷◌, suc, refl, sym, subst, inl, inr}
+use Rattle.std.proofs.lemmas.Bool.{cases_lt}
+use Rattle.std.proofs.lemmas.Grind.{same_number_lists}
+use Rattle.std.proofs.lemmas.List.{length-append}
+use Rattle.std.proofs.lemmas.List.Sorted.{IsPermutation-sym, IsPermutation-to_front}
+use Rattle.std.specs.List.Sorted.{IsPermutation}
 use borrow.Rule.Slice.PartMut.{put_mid, mid_of, post_of}
 
 -- an element before the part that was written
@@ -35,3 +41,19 @@ get_or-mid_of a k xs i d h = get_or-take k (drop a xs) i d h ∙ get_or-drop a x
 
 pub length-mid_of : {X : Type 0} (a k : ℕ) (xs : List X) → a + k ≤ length xs → length (mid_of a k xs) ≡ k
 length-mid_of a k xs h = rw (length-take, length-drop) (omega arith)
+
+-- the first number went behind the others
+pub first-behind : (xs ys : List ℕ) → 1 ≤ length xs → length ys ≡ length xs
+    → ((k : ℕ) → k + 1 < length xs → get_or ys k 0 ≡ get_or xs (k + 1) 0) → get_or ys (length xs - 1) 0 ≡ get_or xs 0 0 → IsPermutation xs ys
+first-behind [] ys some long moved last = absurd (omega arith)
+first-behind (x ∷ rest) ys some long moved last =
+    let behind : ys ≡ rest ++ x ∷ [] = same_number_lists ys (rest ++ x ∷ []) (long ∙ omega (arith, length-append rest (x ∷ []))) (λ k h. elim (cases_lt k (length rest)) [
+      | inl low ↦
+          let next : k + 1 ≡ suc k = omega arith in
+          moved k (omega arith) ∙ ap (λ n. get_or (x ∷ rest) n 0) next ∙ sym (get_or-append rest (x ∷ []) 0 k low)
+      | inr high ↦
+          let end : k ≡ length (x ∷ rest) - 1 = omega (arith, long) in
+          let none : k - length rest ≡ 0 = omega (arith, long) in
+          ap (λ n. get_or ys n 0) end ∙ last ∙ ap (λ n. get_or (x ∷ []) n 0) (sym none) ∙ sym (get_or-append_right rest (x ∷ []) (length rest) k 0 refl high)
+    ]) in
+    subst (λ zs. IsPermutation (x ∷ rest) zs) (sym behind) (IsPermutation-sym (rest ++ x ∷ []) (x ∷ rest) (IsPermutation-to_front rest x))

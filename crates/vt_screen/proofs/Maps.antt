@@ -12,7 +12,7 @@ use Rattle.vt_screen.proofs.Places.{grid_of-same, cell_at-grid_of}
 use Rattle.vt_screen.proofs.Orders.{start-below, start-apart}
 use Rattle.vt_screen.proofs.Rows.{row-written}
 use Rattle.vt_screen.specs.declared.cell.Cell.{Cell}
-use Rattle.vt_screen.specs.Cells.{blank, erased, ascii_cell}
+use Rattle.vt_screen.specs.Cells.{blank, erased, cell_like}
 use Rattle.vt_screen.specs.Order.{IsOrder, start_of, stored, stride, room}
 use Rattle.vt_screen.specs.Grid.{Grid, grid_of, cell_at, with_row, put, put_inserting, put_run, erase, insert_cells, delete_cells, scroll_up, scroll_down, is_within, last_row}
 
@@ -157,7 +157,7 @@ among-before a b c = elim (leb_tells a c) [
 
 pub put_run-row : (o : List ℕ) (xs ys : List Cell) (w row col at k : ℕ) (codes : List ℕ) (like : Cell) → IsOrder o → length xs ≡ room → 1 ≤ row → row ≤ last_row → w ≤ stride
     → 1 ≤ col → col + length codes ≤ w + 1 → at ≡ start_of o row + col - 1 → k ≡ length codes → length ys ≡ length (mid_of at k xs)
-    → ((i : ℕ) → i < length codes → get_or ys i blank ≡ ascii_cell like (get_or codes i 0))
+    → ((i : ℕ) → i < length codes → get_or ys i blank ≡ cell_like like (get_or codes i 0))
     → grid_of w (stored o (put_mid at k xs ys)) ≡ put_run (grid_of w (stored o xs)) row col codes like
 put_run-row o xs ys w row col at k codes like order long row1 row24 narrow col1 fits here is_long len written =
     let below = start-below o order row row1 row24 in

@@ -85,7 +85,7 @@ row_of-same w f r xs r1 r24 long same =
     ∙ ap (λ x. get_or (row_of (grid_of w f) r) x d) here)
 
 -- the bounds of a width
-pub width-bounds : (w : ℕ) → (wide : Bool) × (w ≡ columns wide) → (1 ≤ w) × (w ≤ stride)
+pub width-bounds : (w : ℕ) → (wide : Bool) × (w ≡ columns wide) → (80 ≤ w) × (w ≤ stride)
 width-bounds w (true, is) = (omega arith, omega arith)
 width-bounds w (false, is) = (omega arith, omega arith)
 

@@ -1,7 +1,6 @@
 -- What a cell is, and what erasing makes of it.
-use Rattle.std.specs.Prelude.{ℕ, Bool, false, ◌==◌, if◌then◌else◌}
-use Rattle.vt_glyph.specs.Tables.{space, glyph_of}
-use Rattle.vt_glyph.specs.declared.set.Set.TheVariants.{Ascii}
+use Rattle.std.specs.Prelude.{ℕ, Bool, false, if◌then◌else◌}
+use Rattle.vt_glyph.specs.Tables.{space}
 use Rattle.vt_screen.specs.declared.cell.Rendition.{Rendition}
 use Rattle.vt_screen.specs.declared.cell.Brush.{Brush}
 use Rattle.vt_screen.specs.declared.cell.Cell.{Cell}
@@ -26,13 +25,9 @@ brush_of cell = record { rendition = cell.rendition; protected = cell.protected 
 abbrev pub blank : Cell
 blank = cell_of space plain_brush
 
--- the glyph of a code from 20 to 7E in ASCII: 20 is the space
-abbrev pub ascii_glyph : ℕ → ℕ
-ascii_glyph code = if code == 0x20 then space else glyph_of Ascii code
-
--- an ASCII code, written with the attributes and the protection of a cell
-abbrev pub ascii_cell : Cell → ℕ → Cell
-ascii_cell like code = record like { glyph = ascii_glyph code }
+-- a glyph, written with the attributes and the protection of a cell
+abbrev pub cell_like : Cell → ℕ → Cell
+cell_like like glyph = record like { glyph = glyph }
 
 -- a selective erase leaves a protected cell as it is; of another it clears the glyph and keeps the attributes
 abbrev pub selectively_erased : Cell → Cell

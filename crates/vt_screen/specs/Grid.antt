@@ -3,7 +3,7 @@
 use Rattle.std.specs.Prelude.{◌≡◌, ℕ, ◌+◌, ◌-◌, ◌*◌, ◌/◌, ◌%◌, List, map, length, All, IsTrue, Bool, ◌&&◌, ◌==◌, nat_le, nat_lt, if◌then◌else◌, slice_index, slice_index_or}
 use Rattle.std.specs.List.{range_with_len}
 use Rattle.vt_screen.specs.declared.cell.Cell.{Cell}
-use Rattle.vt_screen.specs.Cells.{blank, erased, ascii_cell}
+use Rattle.vt_screen.specs.Cells.{blank, erased, cell_like}
 
 -- the rows of the screen
 abbrev pub last_row : ℕ
@@ -72,10 +72,10 @@ abbrev pub put_inserting : Grid → ℕ → ℕ → Cell → Grid
 put_inserting g row col cell = with_row g row (λ c.
     if c == col then cell else (if nat_lt col c then cell_at g row (c - 1) else cell_at g row c))
 
--- ASCII codes are written from a place on, each like the given cell
+-- glyphs are written from a place on, each like the given cell
 abbrev pub put_run : Grid → ℕ → ℕ → List ℕ → Cell → Grid
-put_run g row col codes like = with_row g row (λ c.
-    if nat_le col c && nat_lt c (col + length codes) then ascii_cell like (slice_index codes (c - col)) else cell_at g row c)
+put_run g row col glyphs like = with_row g row (λ c.
+    if nat_le col c && nat_lt c (col + length glyphs) then cell_like like (slice_index glyphs (c - col)) else cell_at g row c)
 
 -- n blank cells come in at a place; those from there on move right, and what passes the last column is lost (ICH)
 abbrev pub insert_cells : Grid → ℕ → ℕ → ℕ → Grid

@@ -3,7 +3,7 @@
 ghost use Rattle.std.specs.Prelude.{◌≡◌, ℕ, ◌+◌, ◌*◌, ◌-◌, ◌≤◌, List, [], ◌∷◌, ◌++◌, length, slice_index_or, Bool, true, false, ◌||◌, IsTrue, Contains};
 ghost use Rattle.vt_glyph.specs.Tables.{space};
 ghost use Rattle.vt_screen.specs.declared.cell.Cell.{Cell};
-ghost use Rattle.vt_screen.specs.Cells.{blank, ascii_glyph, ascii_cell};
+ghost use Rattle.vt_screen.specs.Cells.{blank, cell_like};
 ghost use Rattle.vt_screen.specs.Grid.{Grid, IsGrid, AllCells, last_row, grid_of, cell_at, row_of, put, put_inserting, put_run, insert_cells, delete_cells, erase_area, scroll_up, scroll_down, fill, blank_grid};
 
 /// What a formula's grid has at a place, and when two grids are equal.
@@ -32,13 +32,11 @@ pub fn rows()
         → slice_index_or (row_of g r) (c - 1) d ≡ cell_at g r c }
 {}
 
-/// A run of codes is written as its codes are, one after another.
+/// A run of glyphs is written as its glyphs are, one after another.
 pub fn runs()
-    // The glyph of an ASCII code is the character of that number.
-    ensures glyph { (code : ℕ) → ascii_glyph code ≡ code }
     ensures none { (g : Grid) (row col : ℕ) (like : Cell) → IsGrid g → put_run g row col [] like ≡ g }
-    ensures one { (g : Grid) (row col code : ℕ) (like : Cell)
-        → put_run g row col (code ∷ []) like ≡ put g row col (ascii_cell like code) }
+    ensures one { (g : Grid) (row col glyph : ℕ) (like : Cell)
+        → put_run g row col (glyph ∷ []) like ≡ put g row col (cell_like like glyph) }
     ensures append { (g : Grid) (row col : ℕ) (a b : List ℕ) (like : Cell)
         → put_run g row col (a ++ b) like ≡ put_run (put_run g row col a like) row (col + length a) b like }
 {}
@@ -71,8 +69,8 @@ pub fn kept_tests()
         → IsTrue (test cell) → AllCells test (put g row col cell) }
     ensures put_inserting { (test : Cell → Bool) (g : Grid) (row col : ℕ) (cell : Cell) → IsTrue (test blank) → AllCells test g
         → IsTrue (test cell) → AllCells test (put_inserting g row col cell) }
-    ensures put_run { (test : Cell → Bool) (g : Grid) (row col : ℕ) (codes : List ℕ) (like : Cell) → IsTrue (test blank) → AllCells test g
-        → ((code : ℕ) → Contains codes code → IsTrue (test (ascii_cell like code))) → AllCells test (put_run g row col codes like) }
+    ensures put_run { (test : Cell → Bool) (g : Grid) (row col : ℕ) (glyphs : List ℕ) (like : Cell) → IsTrue (test blank) → AllCells test g
+        → ((glyph : ℕ) → Contains glyphs glyph → IsTrue (test (cell_like like glyph))) → AllCells test (put_run g row col glyphs like) }
     ensures insert_cells { (test : Cell → Bool) (g : Grid) (row col n : ℕ) → IsTrue (test blank) → AllCells test g
         → AllCells test (insert_cells g row col n) }
     ensures delete_cells { (test : Cell → Bool) (g : Grid) (row col n : ℕ) → IsTrue (test blank) → AllCells test g

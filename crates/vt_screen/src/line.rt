@@ -1,12 +1,40 @@
 //! Edits of the cells of one row. A line counts its cells from 0.
 ghost use Rattle.std.specs.Prelude.{◌≡◌, ℕ, ◌+◌, ◌-◌, ◌<◌, ◌≤◌, ◌↔◌, IsTrue, length, slice_index, slice_index_or, All};
-ghost use Rattle.vt_screen.specs.Cells.{blank, erased, selectively_erased, ascii_glyph as ascii_glyph_of, ascii_cell};
+ghost use Rattle.vt_screen.specs.Cells.{blank, erased, selectively_erased, cell_like};
+ghost use Rattle.vt_glyph.specs.Invocation.{HasGlyph, glyph_in_use};
 
 use crate::cell::Cell;
-use vt_glyph::Glyph;
+use vt_glyph::{Glyph, InUse};
+
+/// How many cells are filled at a time: a block of a fixed size is filled without a loop.
+const BLOCK: usize = 16;
 
 /// Writes one cell everywhere.
+#[inline(always)]
 pub fn fill_cells(cells: &mut [Cell], cell: &Cell)
+    ensures { (k : ℕ) → k < length cells.old → slice_index_or cells.new k blank ≡ cell.now }
+{
+    let mut at = 0;
+    while cells.len() - at >= BLOCK {
+        fill_each(&mut cells[at..at + BLOCK], cell);
+        at += BLOCK;
+    }
+    fill_each(&mut cells[at..], cell);
+}
+
+/// Writes one cell all over a line of at least 80 cells: a part of a fixed size, and then the rest.
+#[inline(always)]
+pub fn fill_line(line: &mut [Cell], cell: &Cell)
+    requires { 80 ≤ length line.old }
+    ensures { (k : ℕ) → k < length line.old → slice_index_or line.new k blank ≡ cell.now }
+{
+    fill_cells(&mut line[..80], cell);
+    fill_cells(&mut line[80..], cell);
+}
+
+/// Writes one cell everywhere, a place at a time.
+#[inline(always)]
+fn fill_each(cells: &mut [Cell], cell: &Cell)
     ensures { (k : ℕ) → k < length cells.old → slice_index_or cells.new k blank ≡ cell.now }
 {
     for place in cells.iter_mut() {
@@ -82,23 +110,43 @@ pub fn remove_cells(line: &mut [Cell], at: usize, n: usize)
     fill_cells(&mut line[len - n..], &Cell::blank());
 }
 
-/// The glyph of a code in ASCII.
-fn ascii_glyph(code: u8) -> Glyph
-    requires { (0x20 ≤ code) × (code ≤ 0x7E) }
-    ensures { result ≡ ascii_glyph_of code }
+/// Writes over a place a cell like another one, with its own glyph.
+#[inline(always)]
+fn write_like(place: &mut Cell, like: &Cell, glyph: Glyph)
+    ensures { place.new ≡ cell_like like.now glyph }
 {
-    Glyph::ascii(code)
+    let mut cell = *like;
+    cell.glyph = glyph;
+    write(place, &cell);
+}
+
+/// Writes a cell over a place. (A cell that is read through a reference is copied as one word.)
+fn write(place: &mut Cell, cell: &Cell)
+    ensures { place.new ≡ cell.now }
+{
+    *place = *cell;
 }
 
 /// Writes ASCII codes, each with the attributes and the protection of `like`.
 pub fn write_codes(cells: &mut [Cell], codes: &[u8], like: Cell)
     requires codes { All (λ code. (0x20 ≤ code) × (code ≤ 0x7E)) codes.now }
     requires len { length cells.old ≡ length codes.now }
-    ensures { (k : ℕ) → k < length codes.now → slice_index_or cells.new k blank ≡ ascii_cell like (slice_index codes.now k) }
+    ensures { (k : ℕ) → k < length codes.now → slice_index_or cells.new k blank ≡ cell_like like (slice_index codes.now k) }
 {
-    fill_cells(cells, &like);
     for (i, code) in codes.iter().enumerate() {
-        cells[i].glyph = ascii_glyph(*code);
+        write_like(&mut cells[i], &like, Glyph::ascii(*code));
+    }
+}
+
+/// Writes the glyphs of graphic bytes, each with the attributes and the protection of `like`.
+pub fn write_graphics(cells: &mut [Cell], bytes: &[u8], table: &InUse, like: Cell)
+    requires bytes { All HasGlyph bytes.now }
+    requires len { length cells.old ≡ length bytes.now }
+    ensures { (k : ℕ) → k < length bytes.now
+        → slice_index_or cells.new k blank ≡ cell_like like (glyph_in_use table.now (slice_index bytes.now k)) }
+{
+    for (i, byte) in bytes.iter().enumerate() {
+        write_like(&mut cells[i], &like, table.glyph(*byte));
     }
 }
 

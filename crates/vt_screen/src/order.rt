@@ -1,5 +1,6 @@
 //! Where the rows of the screen are kept.
-ghost use Rattle.std.specs.Prelude.{◌≡◌, ℕ, ◌+◌, ◌-◌, ◌<◌, ◌≤◌, ◌⊎◌};
+ghost use Rattle.std.specs.Prelude.{◌≡◌, ℕ, ◌+◌, ◌-◌, ◌<◌, ◌≤◌, ◌⊎◌, length, slice_index};
+ghost use Rattle.std.specs.List.Sorted.{IsPermutation};
 ghost use Rattle.vt_screen.specs.Grid.{last_row};
 ghost use Rattle.vt_screen.specs.Order.{IsOrder, start_of, stride, room};
 
@@ -64,12 +65,12 @@ impl RowOrder {
     }
 
     /// Moves the rows `top` to `bottom` up by 1; the first of them becomes the last.
-    fn move_up_once(&mut self, top: usize, bottom: usize)
+    pub fn move_up_once(&mut self, top: usize, bottom: usize)
         requires rows { (1 ≤ top) × (top ≤ bottom) × (bottom ≤ last_row) }
         ensures moved { (r : ℕ) → top ≤ r → r + 1 ≤ bottom → start_of self.new r ≡ start_of self.old (r + 1) }
         ensures outside { (r : ℕ) → 1 ≤ r → (r < top) ⊎ (bottom < r) → start_of self.new r ≡ start_of self.old r }
     {
-        self.rows[top - 1..bottom].rotate_left(1);
+        move_first_behind(&mut self.rows[top - 1..bottom]);
     }
 
     /// Moves the rows `top` to `bottom` down by `n`; the last of them become the first.
@@ -85,11 +86,37 @@ impl RowOrder {
     }
 
     /// Moves the rows `top` to `bottom` down by 1; the last of them becomes the first.
-    fn move_down_once(&mut self, top: usize, bottom: usize)
+    pub fn move_down_once(&mut self, top: usize, bottom: usize)
         requires rows { (1 ≤ top) × (top ≤ bottom) × (bottom ≤ last_row) }
         ensures moved { (r : ℕ) → top + 1 ≤ r → r ≤ bottom → start_of self.new r ≡ start_of self.old (r - 1) }
         ensures outside { (r : ℕ) → 1 ≤ r → (r < top) ⊎ (bottom < r) → start_of self.new r ≡ start_of self.old r }
     {
-        self.rows[top - 1..bottom].rotate_right(1);
+        move_last_before(&mut self.rows[top - 1..bottom]);
     }
+}
+
+/// The first number goes behind the others.
+fn move_first_behind(rows: &mut [u8])
+    requires { 1 ≤ length rows.old }
+    ensures moved { (k : ℕ) → k + 1 < length rows.old → slice_index rows.new k ≡ slice_index rows.old (k + 1) }
+    ensures last { slice_index rows.new (length rows.old - 1) ≡ slice_index rows.old 0 }
+    ensures permutation { IsPermutation rows.old rows.new }
+{
+    let last = rows.len() - 1;
+    let first = rows[0];
+    rows.copy_within(1.., 0);
+    rows[last] = first;
+}
+
+/// The last number goes before the others.
+fn move_last_before(rows: &mut [u8])
+    requires { 1 ≤ length rows.old }
+    ensures moved { (k : ℕ) → 1 ≤ k → k < length rows.old → slice_index rows.new k ≡ slice_index rows.old (k - 1) }
+    ensures first { slice_index rows.new 0 ≡ slice_index rows.old (length rows.old - 1) }
+    ensures permutation { IsPermutation rows.old rows.new }
+{
+    let end = rows.len() - 1;
+    let last = rows[end];
+    rows.copy_within(..end, 1);
+    rows[0] = last;
 }

@@ -1,15 +1,18 @@
 //! The screen, and every way in which a terminal changes it.
-ghost use Rattle.std.specs.Prelude.{◌≡◌, ℕ, ◌+◌, ◌<◌, ◌≤◌, ◌⊎◌, ◌↔◌, false, IsTrue, IfOk, All, length};
+ghost use Rattle.std.specs.Prelude.{◌≡◌, ℕ, ◌+◌, ◌<◌, ◌≤◌, ◌⊎◌, ◌↔◌, false, IsTrue, IfOk, All, length, map};
+ghost use Rattle.vt_glyph.specs.Invocation.{HasGlyph, glyph_in_use};
 ghost use Rattle.vt_screen.specs.Grid.{last_row};
 ghost use Rattle.vt_screen.specs.Order.{stored, stride, room};
 
 use crate::cell::Cell;
 use crate::line::{
-    erase_cells, fill_cells, insert_blanks, insert_cell, remove_cells, same_cells, write_codes,
+    erase_cells, fill_line, insert_blanks, insert_cell, remove_cells, same_cells, write_codes,
+    write_graphics,
 };
 use crate::order::{ROWS, RowOrder, STRIDE};
 use std::alloc::{AllocError, Global};
 use std::marker::Model;
+use vt_glyph::InUse;
 
 /// The columns of the narrow screen; the wide one has `STRIDE`.
 const NARROW: usize = 80;
@@ -37,6 +40,7 @@ impl Model for Screen {
 }
 
 /// Writes one cell all over the rows from `first` up to before `end`.
+#[inline(always)]
 fn fill_rows(
     cells: &mut [Cell],
     order: &RowOrder,
@@ -47,14 +51,14 @@ fn fill_rows(
 )
     requires room { length cells.old ≡ room }
     requires rows { (1 ≤ first) × (first ≤ end) × (end ≤ last_row + 1) }
-    requires width { width ≤ stride }
+    requires width { (80 ≤ width) × (width ≤ stride) }
     ensures inside { (r c : ℕ) → first ≤ r → r < end → 1 ≤ c → c ≤ width → stored order.now cells.new r c ≡ cell.now }
     ensures outside { (r c : ℕ) → 1 ≤ r → r ≤ last_row → (r < first) ⊎ (end ≤ r) → 1 ≤ c → c ≤ width
         → stored order.now cells.new r c ≡ stored order.now cells.old r c }
 {
     for row in first..end {
         let start = order.start(row);
-        fill_cells(&mut cells[start..start + width], cell);
+        fill_line(&mut cells[start..start + width], cell);
     }
 }
 
@@ -140,6 +144,8 @@ impl Screen {
     /// Writes ASCII codes, each from 20 to 7E, from a place on: what writing them one after another does.
     /// The cells get the attributes and the protection of `like`. The codes end by the last column;
     /// without codes nothing changes.
+    ///
+    /// (The clause speaks of glyphs: that of an ASCII code has the same number.)
     pub fn put_run(&mut self, row: usize, column: usize, codes: &[u8], like: Cell)
         requires row { (1 ≤ row) × (row ≤ last_row) }
         requires column { (1 ≤ column) × (column ≤ self.old.width) }
@@ -149,6 +155,32 @@ impl Screen {
     {
         let start = self.order.start(row) + column - 1;
         write_codes(&mut self.cells[start..start + codes.len()], codes, like);
+    }
+
+    /// Writes graphic bytes, each from 20 to 7E or from A1 to FE, from a place on, as they are read through
+    /// the sets in GL and GR: what writing them one after another does. The cells get the attributes and
+    /// the protection of `like`. The bytes end by the last column; without bytes nothing changes.
+    pub fn put_graphics(
+        &mut self,
+        row: usize,
+        column: usize,
+        bytes: &[u8],
+        table: &InUse,
+        like: Cell,
+    )
+        requires row { (1 ≤ row) × (row ≤ last_row) }
+        requires column { (1 ≤ column) × (column ≤ self.old.width) }
+        requires bytes { All HasGlyph bytes.now }
+        requires room { column + length bytes.now ≤ self.old.width + 1 }
+        ensures { self.new ≡ put_run self.old row column (map (glyph_in_use table.now) bytes.now) like }
+    {
+        let start = self.order.start(row) + column - 1;
+        write_graphics(
+            &mut self.cells[start..start + bytes.len()],
+            bytes,
+            table,
+            like,
+        );
     }
 
     /// Erases the columns `from` to `to` of a row, both included. (VT220 manual: ED, EL, ECH; selectively
@@ -199,10 +231,14 @@ impl Screen {
 
     /// Moves the rows `top` to `bottom` up by `n`: the first `n` are lost, and blank rows come in below.
     /// (VT220 manual: IND, DL)
+    #[inline(always)]
     pub fn scroll_up(&mut self, top: usize, bottom: usize, n: u16)
         requires { (1 ≤ top) × (top ≤ bottom) × (bottom ≤ last_row) }
         ensures { self.new ≡ scroll_up self.old top bottom n }
     {
+        if n == 1 {
+            return self.scroll_up_once(top, bottom);
+        }
         let count = (n as usize).min(bottom + 1 - top);
         self.order.move_up(top, bottom, count);
         let (first, end) = (bottom + 1 - count, bottom + 1);
@@ -218,10 +254,14 @@ impl Screen {
 
     /// Moves the rows `top` to `bottom` down by `n`: the last `n` are lost, and blank rows come in above.
     /// (VT220 manual: RI, IL)
+    #[inline(always)]
     pub fn scroll_down(&mut self, top: usize, bottom: usize, n: u16)
         requires { (1 ≤ top) × (top ≤ bottom) × (bottom ≤ last_row) }
         ensures { self.new ≡ scroll_down self.old top bottom n }
     {
+        if n == 1 {
+            return self.scroll_down_once(top, bottom);
+        }
         let count = (n as usize).min(bottom + 1 - top);
         self.order.move_down(top, bottom, count);
         fill_rows(
@@ -229,6 +269,40 @@ impl Screen {
             &self.order,
             top,
             top + count,
+            self.width,
+            &Cell::blank(),
+        );
+    }
+
+    /// Moves the rows `top` to `bottom` up by 1, without a loop.
+    #[inline(always)]
+    fn scroll_up_once(&mut self, top: usize, bottom: usize)
+        requires { (1 ≤ top) × (top ≤ bottom) × (bottom ≤ last_row) }
+        ensures { self.new ≡ scroll_up self.old top bottom 1 }
+    {
+        self.order.move_up_once(top, bottom);
+        fill_rows(
+            &mut self.cells,
+            &self.order,
+            bottom,
+            bottom + 1,
+            self.width,
+            &Cell::blank(),
+        );
+    }
+
+    /// Moves the rows `top` to `bottom` down by 1, without a loop.
+    #[inline(always)]
+    fn scroll_down_once(&mut self, top: usize, bottom: usize)
+        requires { (1 ≤ top) × (top ≤ bottom) × (bottom ≤ last_row) }
+        ensures { self.new ≡ scroll_down self.old top bottom 1 }
+    {
+        self.order.move_down_once(top, bottom);
+        fill_rows(
+            &mut self.cells,
+            &self.order,
+            top,
+            top + 1,
             self.width,
             &Cell::blank(),
         );

@@ -17,8 +17,8 @@ use Rattle.vt_syntax.specs.declared.held.Phase.TheVariants.{Values, Inter}
 use Rattle.vt_syntax.specs.Class.{class_of, is_intermediate, is_parameter}
 use Rattle.vt_syntax.specs.Items.{inters, inters_of}
 use Rattle.vt_syntax.specs.Reading.{is_marker, marker_of, after_marker, value_of, values_of, params_of, is_many, has_late_parameter, has_late_marker, is_spoilt, inter_of}
-use Rattle.vt_syntax.specs.Held.{phase_of, held_control}
-use Rattle.vt_syntax.specs.Steps.{one_more, change_last, with_digit, step_value, step_parameter, step_intermediate, phase_inter}
+use Rattle.vt_syntax.specs.Held.{phase_inter, phase_of, held_control}
+use Rattle.vt_syntax.specs.Steps.{one_more, change_last, with_digit, step_value, step_parameter, step_intermediate}
 use Rattle.vt_syntax.proofs.Classes.{range_of}
 
 -- ---- lists of bytes and one more

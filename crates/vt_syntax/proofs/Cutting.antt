@@ -1,24 +1,21 @@
 -- Bytes after a rest, and bytes after what is held of it.
-use Rattle.std.proofs.Common.{◌≡◌, ℕ, List, [], ◌∷◌, ◌++◌, Option, None, refl, sym, ap, subst, ◌∙◌, append_assoc, append-nil}
+use Rattle.std.proofs.Common.{◌≡◌, ℕ, List, [], ◌∷◌, ◌++◌, Option, None, false, refl, sym, ap, subst, ◌∙◌, append_assoc, append-nil}
 use Rattle.std.specs.List.{flat_map}
 use Rattle.std.proofs.lemmas.List.Concat.{flat_map-append}
 use Rattle.vt_syntax.specs.declared.event.Event.{Event}
 use Rattle.vt_syntax.specs.declared.held.Held.{Held}
+use Rattle.vt_syntax.specs.declared.held.Held.TheVariants.{Nothing}
+use Rattle.vt_syntax.specs.Class.{is_opener}
+use Rattle.vt_syntax.proofs.Classes.{not_opener}
 use Rattle.vt_syntax.specs.Items.{Beginning, rest_bytes, IsRest}
 use Rattle.vt_syntax.specs.Split.{Parts, split_one, split_after, split_of}
-use Rattle.vt_syntax.specs.Reading.{reading, rest_reading, events_of}
+use Rattle.vt_syntax.specs.Reading.{single_function, reading, rest_reading, events_of}
 use Rattle.vt_syntax.specs.Held.{held_of, held_after, IsHeldPart, spell, events_from, held_from}
-use Rattle.vt_syntax.specs.Steps.{Step, step_to, step_of}
+use Rattle.vt_syntax.specs.Steps.{Step, step_to, step_of, run}
 use Rattle.vt_syntax.proofs.Splits.{last_is_rest}
 use Rattle.vt_syntax.proofs.OneSplit.{rest_reads}
 use Rattle.vt_syntax.proofs.OneByte.{Matches, byte_matches}
 use Rattle.vt_syntax.proofs.HeldSpelling.{spelled_rest, bytes_of_spelled, is_spelled}
-
--- one step after another
-run : Held → List ℕ → Step
-run held [] = step_to held []
-run held (b ∷ bytes) =
-    let now = step_of held b in let later = run now.held bytes in step_to later.held (now.events ++ later.events)
 
 runs : (bytes : List ℕ) (rest : Option Beginning) → Matches (rest_reading rest) (split_after rest bytes) (run (held_of rest) bytes)
 unfolding split_after run
@@ -107,9 +104,36 @@ held_part bytes =
 pub step_is_held : (held : Held) (b : ℕ) → IsHeldPart held → IsHeldPart (step_of held b).held
 step_is_held held b i = subst (λ (h : Held). IsHeldPart h) (step_held held b i) (held_part (spell held ++ b ∷ []))
 
+-- a byte between sequences that opens nothing
+single_step : (b : ℕ) → is_opener b ≡ false → step_of Nothing b ≡ step_to Nothing (single_function b)
+unfolding step_of
+single_step b e = let n = not_opener b e in rw (n.0, n.1, n.2) refl
+
+nothing_held : IsHeldPart Nothing
+nothing_held = record { rest = None; is_rest = tt; of_rest = refl }
+
+pub single_events : (b : ℕ) → is_opener b ≡ false → events_of (b ∷ []) ≡ single_function b
+single_events b e = step_events Nothing b nothing_held ∙ ap (λ (t : Step). t.events) (single_step b e)
+
+pub single_held : (b : ℕ) → is_opener b ≡ false → held_after (b ∷ []) ≡ Nothing
+single_held b e = step_held Nothing b nothing_held ∙ ap (λ (t : Step). t.held) (single_step b e)
+
+-- ---- bytes after what is held
+
+pub run_events : (held : Held) (bytes : List ℕ) → IsHeldPart held → events_of (spell held ++ bytes) ≡ (run held bytes).events
+run_events held bytes i =
+    subst (λ (h : Held). events_of (spell h ++ bytes) ≡ (run h bytes).events) i.of_rest (spell_runs i.rest bytes i.is_rest).events
+
+pub run_held : (held : Held) (bytes : List ℕ) → IsHeldPart held → held_after (spell held ++ bytes) ≡ (run held bytes).held
+run_held held bytes i =
+    subst (λ (h : Held). held_after (spell h ++ bytes) ≡ (run h bytes).held) i.of_rest (spell_runs i.rest bytes i.is_rest).held
+
+pub run_is_held : (held : Held) (bytes : List ℕ) → IsHeldPart held → IsHeldPart (run held bytes).held
+run_is_held held bytes i = subst (λ (h : Held). IsHeldPart h) (run_held held bytes i) (held_part (spell held ++ bytes))
+
 -- ---- bytes after bytes
 
-run_append : (held : Held) (bytes more : List ℕ) → run held (bytes ++ more) ≡ step_to (run (run held bytes).held more).held ((run held bytes).events ++ (run (run held bytes).held more).events)
+pub run_append : (held : Held) (bytes more : List ℕ) → run held (bytes ++ more) ≡ step_to (run (run held bytes).held more).held ((run held bytes).events ++ (run (run held bytes).held more).events)
 unfolding run
 run_append held [] more = refl
 run_append held (b ∷ bytes) more =

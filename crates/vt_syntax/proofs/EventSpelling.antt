@@ -17,9 +17,8 @@ use Rattle.vt_syntax.specs.Class.{class_of, opens_string, opens, is_opener, IsPl
 use Rattle.vt_syntax.specs.Items.{SevenBit, Beginning, OfEscape, OfControl, OfString, Item, Single, Ended, Cut, item_bytes, rest_bytes, ends, cuts, IsRest, IsItemBefore}
 use Rattle.vt_syntax.specs.Split.{Parts, items_before, split_after, split_of}
 use Rattle.vt_syntax.specs.Reading.{controls, without_quiet, marker_of, values_of, params_of, is_spoilt, inter_of, is_cancel, single_function, sequence_function, reading, rest_reading, parts_reading, events_of}
-use Rattle.vt_syntax.specs.Held.{phase_of, held_control, held_of, held_after, IsHeldPart, spell, spell_values, spell_control}
+use Rattle.vt_syntax.specs.Held.{phase_inter, phase_of, held_control, held_of, held_after, IsHeldPart, spell, spell_values, spell_control}
 use Rattle.vt_syntax.specs.Spelling.{IsGraphic, IsC0, IsC1, IsMarker, IsIntermediate, IsEscapeFinal, AreValues, IsSequence, IsEvent, spell_event, spell_events}
-use Rattle.vt_syntax.specs.Steps.{phase_inter}
 use Rattle.vt_syntax.specs.Items.{inters_of}
 use Rattle.vt_syntax.proofs.Classes.{class_intermediate, class_parameter, class_final}
 use Rattle.vt_syntax.proofs.OneSplit.{item_reads}

@@ -9,3 +9,4 @@ pub mod Cutting
 pub mod EventSpelling
 pub mod EventRanges
 pub mod PlainRuns
+pub mod SilentBytes

@@ -1,10 +1,17 @@
 -- What the private functions' proofs cite.
-use Rattle.std.proofs.Common.{◌≡◌, ℕ, ◌<◌, ◌≤◌, Bool, true, false, List, [], ◌∷◌, ◌++◌, refl, ap, arith}
+use Rattle.std.proofs.Common.{◌≡◌, ℕ, ◌+◌, ◌<◌, ◌≤◌, Bool, true, false, List, [], ◌∷◌, ◌++◌, None, nat_lt, nat_le, ◌&&◌, if◌then◌else◌, inl, inr, refl, ap, ◌∙◌, arith}
 use Rattle.std.proofs.lemmas.Bool.Decides.{nat_tests}
+use Rattle.std.proofs.lemmas.Bool.{cases_lt}
+use Rattle.vt_syntax.specs.declared.event.Event.{Event}
+use Rattle.vt_syntax.specs.declared.held.Inters.{Inters}
+use Rattle.vt_syntax.specs.Items.{introduces}
+use Rattle.vt_syntax.specs.Reading.{escape_function}
 use Rattle.vt_syntax.specs.declared.class.Class.TheVariants.{Parameter, Final}
-use Rattle.vt_syntax.specs.declared.event.Event.TheVariants.{Print, Control}
-use Rattle.vt_syntax.specs.declared.held.Held.TheVariants.{Nothing, Escape, Text}
-use Rattle.vt_syntax.specs.declared.held.Inters.TheVariants.{Zero}
+use Rattle.vt_syntax.specs.declared.event.Event.TheVariants as event
+use Rattle.vt_syntax.specs.declared.held.Held.{Held}
+use Rattle.vt_syntax.specs.declared.held.Held.TheVariants.{Nothing, Escape, Control, Spoilt, Text}
+use Rattle.vt_syntax.specs.Held.{IsEnding, ended_by}
+use Rattle.vt_syntax.specs.declared.held.Inters.TheVariants.{Zero, One, Many}
 use Rattle.vt_syntax.specs.Class.{class_of, opens_string}
 use Rattle.vt_syntax.specs.Items.{ends_string}
 use Rattle.vt_syntax.specs.Steps.{step_to, opened_by, step_between, step_string, step_of, change_last}
@@ -28,7 +35,7 @@ pub final_high : (b : ℕ) → class_of b ≡ Final → b < 127
 final_high b e = (range_of b Final e).1
 
 -- a plain byte between sequences is printed
-pub between_plain : (b : ℕ) → 32 ≤ b → b < 127 → step_between b ≡ step_to Nothing (Print b ∷ [])
+pub between_plain : (b : ℕ) → 32 ≤ b → b < 127 → step_between b ≡ step_to Nothing (event.Print b ∷ [])
 unfolding opens_string
 between_plain b low high = grind (arith, nat_tests)
 
@@ -37,12 +44,12 @@ pub value_class : (b : ℕ) → 48 ≤ b → b < 60 → class_of b ≡ Parameter
 value_class b low high = class_parameter b low (omega arith)
 
 -- so is a byte A0..FF
-pub between_high : (b : ℕ) → 160 ≤ b → step_between b ≡ step_to Nothing (Print b ∷ [])
+pub between_high : (b : ℕ) → 160 ≤ b → step_between b ≡ step_to Nothing (event.Print b ∷ [])
 unfolding opens_string
 between_high b high = grind (arith, nat_tests)
 
 -- and a C0 control before CAN stands by itself
-pub between_control : (b : ℕ) → b < 24 → step_between b ≡ step_to Nothing (Control b ∷ [])
+pub between_control : (b : ℕ) → b < 24 → step_between b ≡ step_to Nothing (event.Control b ∷ [])
 unfolding opens_string
 between_control b low = grind (arith, nat_tests)
 
@@ -65,3 +72,41 @@ pub ruleset frequent_bytes = (nat_tests, between_plain, between_high, between_co
 pub ruleset byte_ranges = (nat_tests, parameter_low, parameter_high, final_low, final_high, opens_high)
 
 pub ruleset last_values = (nat_tests, change_last-push)
+
+escape_ended : (last : ℕ) → escape_function Zero last ≡ ended_by (Escape Zero) last ∷ []
+escape_ended last = go (nat_le 0x40 last && nat_lt last 0x60)
+  where
+    go : (b : Bool) → (if b then event.Control (last + 0x40) ∷ [] else event.Escape None last ∷ [])
+        ≡ (if b then event.Control (last + 0x40) else event.Escape None last) ∷ []
+    go true = refl
+    go false = refl
+
+ended_low : (inters : Inters) (last : ℕ) → 0x30 ≤ last → last < 0x40 → step_of (Escape inters) last ≡ step_to Nothing (escape_function inters last)
+unfolding step_of
+ended_low inters last low high = let k : class_of last ≡ Parameter = class_parameter last low high in rw k refl
+
+ended_high : (inters : Inters) (last : ℕ) → 0x40 ≤ last → last ≤ 0x7E → introduces inters last ≡ false
+    → step_of (Escape inters) last ≡ step_to Nothing (escape_function inters last)
+unfolding step_of
+ended_high inters last low high opens = let k : class_of last ≡ Final = class_final last low (omega arith) in rw (k, opens) refl
+
+-- an escape sequence that opens nothing
+ended_escape : (inters : Inters) (last : ℕ) → 0x30 ≤ last → last ≤ 0x7E → introduces inters last ≡ false
+    → step_of (Escape inters) last ≡ step_to Nothing (escape_function inters last)
+ended_escape inters last low high opens = elim (cases_lt last 0x40) [
+  | inl below ↦ ended_low inters last low below
+  | inr above ↦ ended_high inters last above high opens
+]
+
+-- the final byte of a sequence
+pub step_final : (held : Held) (last : ℕ) → IsEnding held last → step_of held last ≡ step_to Nothing (ended_by held last ∷ [])
+unfolding step_of
+step_final (Control marker params full phase) last ends =
+    let k : class_of last ≡ Final = class_final last ends.0 (omega arith) in rw k refl
+step_final (Escape Zero) last ends =
+    ended_escape Zero last ends.0 ends.1 ends.2 ∙ ap (λ (events : List Event). step_to Nothing events) (escape_ended last)
+step_final (Escape (One i)) last ends = ended_escape (One i) last ends.0 ends.1 refl
+step_final (Escape Many) last ends = absurd ends
+step_final Nothing last ends = absurd ends
+step_final Spoilt last ends = absurd ends
+step_final (Text osc) last ends = absurd ends

@@ -1,14 +1,16 @@
 -- The held part of a rest: what of it decides how it goes on. Its spelling: short bytes that leave it.
-use Rattle.std.specs.Prelude.{◌≡◌, ℕ, List, [], ◌∷◌, ◌++◌, map, length, Bool, Option, Some, None, nat_lt, if◌then◌else◌, decimal}
+use Rattle.std.specs.Prelude.{◌≡◌, ◌+◌, ◌≤◌, ℕ, List, [], ◌∷◌, ◌++◌, map, length, Bool, false, Option, Some, None, nat_le, nat_lt, ◌&&◌, if◌then◌else◌, decimal}
 use Rattle.std.specs.List.{join_with_byte}
 use Rattle.std.specs.Option.{option_to_list}
 use Rattle.vt_syntax.specs.declared.event.Event.{Event}
+use Rattle.vt_syntax.specs.declared.event.Event.TheVariants as event
 use Rattle.vt_syntax.specs.declared.held.Held.{Held}
 use Rattle.vt_syntax.specs.declared.held.Held.TheVariants.{Nothing, Escape, Control, Spoilt, Text}
 use Rattle.vt_syntax.specs.declared.held.Inters.{Inters}
 use Rattle.vt_syntax.specs.declared.held.Inters.TheVariants.{Zero, One, Many}
 use Rattle.vt_syntax.specs.declared.held.Phase.{Phase}
 use Rattle.vt_syntax.specs.declared.held.Phase.TheVariants.{Start, Values, Inter}
+use Rattle.vt_syntax.specs.Class.{opens}
 use Rattle.vt_syntax.specs.Items.{Beginning, OfEscape, OfControl, OfString, inters_of, is_osc, IsRest}
 use Rattle.vt_syntax.specs.Split.{split_of}
 use Rattle.vt_syntax.specs.Reading.{without_quiet, marker_of, values_of, params_of, is_spoilt, events_of}
@@ -78,3 +80,26 @@ events_from held bytes = events_of (spell held ++ bytes)
 -- the held part after them
 abbrev pub held_from : Held → List ℕ → Held
 held_from held bytes = held_after (spell held ++ bytes)
+
+-- ---- the final byte of a sequence
+
+-- the byte is a final of the sequence that is held, which then has a function: 40..7E of a control sequence that isn't
+-- spoilt, 30..7E of an escape sequence with at most one intermediate, and with none no letter that opens something
+abbrev pub IsEnding : Held → ℕ → Type 0
+IsEnding (Control marker params full phase) last = (0x40 ≤ last) × (last ≤ 0x7E)
+IsEnding (Escape Zero) last = (0x30 ≤ last) × (last ≤ 0x7E) × (opens (last + 0x40) ≡ false)
+IsEnding (Escape (One i)) last = (0x30 ≤ last) × (last ≤ 0x7E)
+IsEnding _ last = ⊥
+
+abbrev pub phase_inter : Phase → Option ℕ
+phase_inter (Inter i) = Some i
+phase_inter _ = None
+
+-- the sequence that is held, with its final byte; after ESC alone, 40..5F is the 7-bit form of a C1 control. Where none
+-- is held, the byte alone
+abbrev pub ended_by : Held → ℕ → Event
+ended_by (Control marker params full phase) last = event.Sequence marker params (phase_inter phase) last
+ended_by (Escape Zero) last =
+    if nat_le 0x40 last && nat_lt last 0x60 then event.Control (last + 0x40) else event.Escape None last
+ended_by (Escape (One i)) last = event.Escape (Some i) last
+ended_by _ last = event.Print last

@@ -1,13 +1,13 @@
 -- The laws of the syntax, each a record that the proofs of the crates above can pass on.
-use Rattle.std.specs.Prelude.{◌≡◌, ℕ, List, [], ◌∷◌, ◌++◌, map, All, Option}
+use Rattle.std.specs.Prelude.{◌≡◌, ℕ, List, [], ◌∷◌, ◌++◌, false, map, All, Option}
 use Rattle.vt_syntax.specs.declared.event.Event.{Event}
 use Rattle.vt_syntax.specs.declared.event.Event.TheVariants.{Print}
 use Rattle.vt_syntax.specs.declared.held.Held.{Held}
 use Rattle.vt_syntax.specs.declared.held.Held.TheVariants.{Nothing}
-use Rattle.vt_syntax.specs.Class.{IsPlain}
+use Rattle.vt_syntax.specs.Class.{is_opener, IsPlain}
 use Rattle.vt_syntax.specs.Items.{Item, Beginning, rest_bytes, IsRest}
 use Rattle.vt_syntax.specs.Split.{Split, split_of}
-use Rattle.vt_syntax.specs.Reading.{rest_reading, events_of}
+use Rattle.vt_syntax.specs.Reading.{single_function, rest_reading, events_of}
 use Rattle.vt_syntax.specs.Held.{held_of, held_after, IsHeldPart, spell, events_from, held_from}
 use Rattle.vt_syntax.specs.Spelling.{IsEvent, spell_event, spell_events}
 
@@ -62,6 +62,9 @@ pub record SpellingLaw : Type 0 where
       → held_after (run ++ more) ≡ held_after more
   pub all_plain : (run : List ℕ) → All IsPlain run → events_of run ≡ map Print run
   pub all_plain_held : (run : List ℕ) → All IsPlain run → held_after run ≡ Nothing
+  -- a byte between sequences that opens nothing is read by itself
+  pub single : (b : ℕ) → is_opener b ≡ false → events_of (b ∷ []) ≡ single_function b
+  pub single_held : (b : ℕ) → is_opener b ≡ false → held_after (b ∷ []) ≡ Nothing
   -- ESC ends what is held without an event, and what follows is read as if nothing had been held
   pub escape : (held : Held) (more : List ℕ) → IsHeldPart held
       → events_from held (0x1B ∷ more) ≡ events_of (0x1B ∷ more)

@@ -13,6 +13,7 @@ use Rattle.vt_syntax.specs.declared.held.Phase.{Phase}
 use Rattle.vt_syntax.specs.declared.held.Phase.TheVariants.{Start, Values, Inter}
 use Rattle.vt_syntax.specs.Class.{class_of, opens_string}
 use Rattle.vt_syntax.specs.Items.{introduces, is_osc, ends_string}
+use Rattle.vt_syntax.specs.Held.{phase_inter}
 use Rattle.vt_syntax.specs.Reading.{quiet_control, cancel_function, single_function, escape_function, is_marker}
 
 -- the next held part, and the events
@@ -84,10 +85,6 @@ abbrev pub step_intermediate : Option ℕ → List ℕ → Bool → Phase → �
 step_intermediate marker params full (Inter i) b = Spoilt
 step_intermediate marker params full _ b = Control marker (record { items = params }) full (Inter b)
 
-abbrev pub phase_inter : Phase → Option ℕ
-phase_inter (Inter i) = Some i
-phase_inter _ = None
-
 abbrev pub step_control : Option ℕ → List ℕ → Bool → Phase → Class → ℕ → Step
 step_control marker params full phase class.Quiet b =
     step_to (Control marker (record { items = params }) full phase) (quiet_control b)
@@ -129,3 +126,36 @@ InSequence (Text osc) = ⊥
 InSequence (Escape n) = Unit {0}
 InSequence (Control marker params full phase) = Unit {0}
 InSequence Spoilt = Unit {0}
+
+-- a control sequence is held, spoilt or not
+abbrev pub InControl : Held → Type 0
+InControl Nothing = ⊥
+InControl (Text osc) = ⊥
+InControl (Escape n) = ⊥
+InControl (Control marker params full phase) = Unit {0}
+InControl Spoilt = Unit {0}
+
+-- no intermediate has come
+abbrev pub IsEarly : Phase → Type 0
+IsEarly Start = Unit {0}
+IsEarly Values = Unit {0}
+IsEarly (Inter i) = ⊥
+
+-- one step after another
+unfoldable pub run : Held → List ℕ → Step
+run held [] = step_to held []
+run held (b ∷ bytes) =
+    let now = step_of held b in let later = run now.held bytes in step_to later.held (now.events ++ later.events)
+
+-- ---- bytes that give no event
+
+abbrev pub is_silent : Step → Bool
+is_silent step = is_empty step.events
+  where
+    is_empty : List Event → Bool
+    is_empty [] = true
+    is_empty (event ∷ events) = false
+
+-- a step is taken where it gives no event
+abbrev pub held_silently : Held → Step → Held
+held_silently held step = if is_silent step then step.held else held

@@ -1,4 +1,7 @@
 //! What of an unfinished sequence still matters.
+ghost use Rattle.std.specs.Prelude.{◌≡◌};
+ghost use Rattle.vt_syntax.specs.Held.{phase_inter};
+
 use arrayvec::ArrayVec;
 
 /// The held part: what of an unfinished sequence or string decides how it goes on.
@@ -45,4 +48,17 @@ pub enum Phase {
     Values,
     /// This intermediate has come.
     Inter(u8),
+}
+
+impl Phase {
+    /// The intermediate, if one has come.
+    #[inline]
+    pub fn inter(&self) -> Option<u8>
+        ensures { result ≡ phase_inter self.now }
+    {
+        match self {
+            Phase::Inter(inter) => Some(*inter),
+            Phase::Start | Phase::Values => None,
+        }
+    }
 }

@@ -12,7 +12,8 @@ pub fn one_split()
 
 /// The spelling of an event reads as that one event, whatever follows, and leaves nothing held.
 ///
-/// All that bytes ask for are such events. Plain bytes between sequences are printed. ESC ends what is held without an
+/// All that bytes ask for are such events. Plain bytes between sequences are printed, and a byte
+/// that opens nothing is read by itself. ESC ends what is held without an
 /// event, so that a list of events whose spelling begins with ESC reads as itself after any held part.
 pub fn spelled()
     ensures { SpellingLaw }

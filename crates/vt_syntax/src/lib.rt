@@ -9,6 +9,7 @@
 mod class;
 mod event;
 mod held;
+mod holding;
 pub mod laws;
 mod parser;
 mod plain;

@@ -1,15 +1,14 @@
 //! The parser: bytes, one at a time, into events.
-ghost use Rattle.std.specs.Prelude.{◌≡◌, ◌<◌, ◌≤◌, ℕ, [], ◌∷◌, IsTrue, true, false, ◌↔◌, Option, IfSome, MatchOption};
+ghost use Rattle.std.specs.Prelude.{◌≡◌, ◌≢◌, ◌<◌, ◌≤◌, [], ◌∷◌, IsTrue, false, ◌↔◌, IfSome, length, take, slice_index};
 ghost use Rattle.std.specs.Option.{option_to_list};
-ghost use Rattle.vt_syntax.specs.Class.{class_of as byte_class, opens};
-ghost use Rattle.vt_syntax.specs.Reading.{quiet_control, cancel_function, escape_function};
-ghost use Rattle.vt_syntax.specs.Held.{IsHeldPart, events_from, held_from};
+ghost use Rattle.vt_syntax.specs.Held.{IsHeldPart, IsEnding, ended_by, events_from, held_from};
 ghost use Rattle.vt_syntax.specs.Spelling.{IsEvent};
-ghost use Rattle.vt_syntax.specs.Steps.{step_to, step_of, step_between, step_value, step_string, InSequence, opened_by as opened_part};
+ghost use Rattle.vt_syntax.specs.Steps.{step_to, step_of, step_between, step_string, is_silent};
 
 use crate::class::{Class, class_of};
 use crate::event::Event;
-use crate::held::{Held, Inters, Phase};
+use crate::held::{Held, Inters};
+use crate::holding::{hold_byte, hold_run};
 use arrayvec::ArrayVec;
 use std::marker::Model;
 use std::mem;
@@ -55,6 +54,33 @@ impl Parser {
         step(&mut self.held, b)
     }
 
+    /// Takes the bytes at the front of a piece that give no event, as far as the first that gives one or the end, and
+    /// answers how many these are.
+    ///
+    /// [`Parser::push`] takes them one by one to the same held part.
+    pub fn hold(&mut self, piece: &[u8]) -> usize
+        ensures within { result ≤ length piece.now }
+        ensures silent { events_from self.old (take result piece.now) ≡ [] }
+        ensures held { self.new ≡ held_from self.old (take result piece.now) }
+        ensures stops { result < length piece.now → events_from self.new (slice_index piece.now result ∷ []) ≢ [] }
+    {
+        hold_run(&mut self.held, piece)
+    }
+
+    /// Takes the final byte of an escape or control sequence that is held and has a function. Its event is the sequence with
+    /// the parts that are held.
+    ///
+    /// A caller that has read these by [`Parser::held`] has the event without a copy; else [`Parser::push`] answers it.
+    pub fn end_sequence(&mut self, last: u8)
+        requires { IsEnding self.old last }
+        ensures event { events_from self.old (last ∷ []) ≡ ended_by self.old last ∷ [] }
+        ensures in_range { IsEvent (ended_by self.old last) }
+        ensures between { self.new ≡ Held.Nothing }
+        ensures held { self.new ≡ held_from self.old (last ∷ []) }
+    {
+        self.held = Held::Nothing;
+    }
+
     /// The held part: what of an unfinished sequence still matters.
     pub fn held(&self) -> &Held
         ensures value { result.now ≡ self.now }
@@ -71,310 +97,96 @@ impl Parser {
     }
 }
 
-/// One byte after a held part; the most frequent bytes are looked at first.
-#[inline(always)]
-#[tactic(auto, using(crate::proofs::Steps::frequent_bytes), unfolding(crate::specs::Steps::step_of))]
+/// One byte after a held part: it is taken without an event, or gives one.
 fn step(held: &mut Held, b: u8) -> Option<Event>
     ensures holds { held.new ≡ (step_of held.old b).held }
     ensures tells { option_to_list result ≡ (step_of held.old b).events }
 {
-    match held {
-        Held::Nothing if 0x20 <= b && b < 0x7F => Some(Event::Print(b)),
-        Held::Nothing if 0xA0 <= b => Some(Event::Print(b)),
-        Held::Nothing if b < 0x18 => Some(Event::Control(b)),
-        Held::Nothing if b == 0x1B => {
-            *held = Held::Escape(Inters::Zero);
-            None
-        }
-        Held::Escape(Inters::Zero) if b == 0x5B => {
-            *held = control_sequence();
-            None
-        }
-        Held::Control {
-            params,
-            full,
-            phase,
-            ..
-        } if 0x30 <= b && b < 0x3C && b != 0x3A && !matches!(phase, Phase::Inter(_)) => {
-            value(params, full, b);
-            *phase = Phase::Values;
-            None
-        }
-        Held::Control { .. } if 0x40 <= b && b < 0x7F => last(held, b),
-        Held::Text { .. } if 0x20 <= b && b < 0x7F => None,
-        _ => any_step(held, b),
+    if hold_byte(held, b) {
+        None
+    } else {
+        Some(event(held, b))
     }
 }
 
-/// One byte after a held part, whatever both are.
-#[inline(never)]
+/// The event of a byte that gives one. A quiet byte leaves what is held; another one ends it.
 #[tactic(auto, unfolding(crate::specs::Steps::step_of))]
-fn any_step(held: &mut Held, b: u8) -> Option<Event>
-    ensures holds { held.new ≡ (step_of held.old b).held }
-    ensures tells { option_to_list result ≡ (step_of held.old b).events }
+fn event(held: &mut Held, b: u8) -> Event
+    requires { is_silent (step_of held.old b) ≡ false }
+    ensures { step_of held.old b ≡ step_to held.new (result ∷ []) }
 {
     match held {
-        Held::Nothing => between(held, b),
+        Held::Nothing => alone(b),
         Held::Text { osc } => {
             let osc = *osc;
-            in_string(held, osc, b)
+            *held = Held::Nothing;
+            substitute(osc, b)
         }
         Held::Escape(_) | Held::Control { .. } | Held::Spoilt => match class_of(b) {
-            Class::Parameter => parameter(held, b),
-            Class::Final => last(held, b),
-            Class::Intermediate => {
-                intermediate(held, b);
-                None
-            }
-            Class::Quiet => carried(b),
+            Class::Parameter | Class::Final => ended(held, b),
+            Class::Quiet => Event::Control(b),
             Class::Cancel => {
                 *held = Held::Nothing;
-                substitute(b)
+                Event::Control(0x1A)
             }
-            Class::Esc | Class::High => between(held, b),
+            Class::Esc | Class::High => {
+                *held = Held::Nothing;
+                alone(b)
+            }
+            Class::Intermediate => unreachable!(),
         },
     }
 }
 
-/// A byte between sequences, or one that cuts a sequence off: it begins something, or stands by itself.
-fn between(held: &mut Held, b: u8) -> Option<Event>
-    ensures holds { held.new ≡ (step_between b).held }
-    ensures tells { option_to_list result ≡ (step_between b).events }
-{
-    if b == 0x1B {
-        *held = Held::Escape(Inters::Zero);
-        return None;
-    }
-    if let Some(opened) = opened_by(b) {
-        *held = opened;
-        return None;
-    }
-    *held = Held::Nothing;
-    match b {
-        0x18 | 0x7F => None,
-        0x20..=0x7E | 0xA0..=0xFF => Some(Event::Print(b)),
-        _ => Some(Event::Control(b)),
-    }
-}
-
-/// What a C1 control opens, if it opens something.
+/// A byte that stands by itself.
 #[tactic(auto, using(crate::proofs::Classes::class_tests), unfolding(crate::specs::Class::opens_string))]
-fn opened_by(b: u8) -> Option<Held>
-    ensures { MatchOption result (opens b ≡ false) (λ held. (opens b ≡ true) × (held ≡ opened_part b)) }
+fn alone(b: u8) -> Event
+    requires { is_silent (step_between b) ≡ false }
+    ensures { step_between b ≡ step_to Held.Nothing (result ∷ []) }
 {
     match b {
-        0x9B => Some(control_sequence()),
-        0x9D => Some(Held::Text { osc: true }),
-        0x90 | 0x98 | 0x9E | 0x9F => Some(Held::Text { osc: false }),
-        _ => None,
+        0x20..=0x7E | 0xA0..=0xFF => Event::Print(b),
+        _ => Event::Control(b),
     }
 }
 
-/// A control sequence with nothing after its introducer.
-fn control_sequence() -> Held
-    ensures { result ≡ opened_part 0x9B }
+/// The only byte of a string that gives an event, SUB, which ends it.
+#[tactic(auto, using(crate::proofs::Classes::class_tests), unfolding(crate::specs::Items::ends_string))]
+fn substitute(osc: bool, b: u8) -> Event
+    requires { is_silent (step_string osc b) ≡ false }
+    ensures { step_string osc b ≡ step_to Held.Nothing (result ∷ []) }
 {
-    Held::Control {
-        marker: None,
-        params: zero(),
-        full: false,
-        phase: Phase::Start,
-    }
+    Event::Control(b)
 }
 
-/// The one value 0.
-fn zero() -> ArrayVec<u16, 16>
-    ensures { result.items ≡ 0 ∷ [] }
-{
-    let mut params = ArrayVec::new();
-    params.push(0);
-    params
-}
-
-/// A quiet byte inside a sequence: carried out, but DEL.
-fn carried(b: u8) -> Option<Event>
-    requires { byte_class b ≡ Class.Quiet }
-    ensures { option_to_list result ≡ quiet_control b }
-{
-    if b == 0x7F {
-        None
-    } else {
-        Some(Event::Control(b))
-    }
-}
-
-/// The function of CAN, which has none, and of SUB.
-fn substitute(b: u8) -> Option<Event>
-    ensures { option_to_list result ≡ cancel_function b }
-{
-    if b == 0x1A {
-        Some(Event::Control(0x1A))
-    } else {
-        None
-    }
-}
-
-/// An intermediate in a sequence.
-#[tactic(auto, unfolding(crate::specs::Steps::step_of))]
-fn intermediate(held: &mut Held, b: u8)
-    requires class { byte_class b ≡ Class.Intermediate }
-    requires inside { InSequence held.old }
-    ensures { step_of held.old b ≡ step_to held.new [] }
-{
-    match held {
-        Held::Escape(inters) => {
-            *inters = match inters {
-                Inters::Zero => Inters::One(b),
-                _ => Inters::Many,
-            };
-        }
-        Held::Control {
-            phase: Phase::Inter(_),
-            ..
-        } => *held = Held::Spoilt,
-        Held::Control { phase, .. } => *phase = Phase::Inter(b),
-        Held::Nothing | Held::Spoilt | Held::Text { .. } => {}
-    }
-}
-
-/// A byte 30..3F in a sequence: the final of an escape sequence, or a parameter byte.
+/// The event of the final byte of a sequence, which ends it.
 #[tactic(auto, using(crate::proofs::Steps::byte_ranges), unfolding(crate::specs::Steps::step_of))]
-fn parameter(held: &mut Held, b: u8) -> Option<Event>
-    requires class { byte_class b ≡ Class.Parameter }
-    requires inside { InSequence held.old }
-    ensures holds { held.new ≡ (step_of held.old b).held }
-    ensures tells { option_to_list result ≡ (step_of held.old b).events }
-{
-    match held {
-        Held::Escape(inters) => {
-            let event = escape(*inters, b);
-            *held = Held::Nothing;
-            return event;
-        }
-        Held::Control {
-            phase: Phase::Inter(_),
-            ..
-        } => *held = Held::Spoilt,
-        Held::Control { .. } if b == 0x3A => *held = Held::Spoilt,
-        Held::Control {
-            phase: Phase::Values,
-            ..
-        } if b >= 0x3C => *held = Held::Spoilt,
-        Held::Control { marker, phase, .. } if b >= 0x3C => {
-            *marker = Some(b);
-            *phase = Phase::Values;
-        }
-        Held::Control {
-            params,
-            full,
-            phase,
-            ..
-        } => {
-            value(params, full, b);
-            *phase = Phase::Values;
-        }
-        Held::Nothing | Held::Spoilt | Held::Text { .. } => {}
-    }
-    None
-}
-
-/// A digit or `;`: one more digit of the last value, or a new value. Once 16 are there, the rest is dropped.
-#[inline(always)]
-#[tactic(auto, using(crate::proofs::Steps::last_values))]
-fn value(params: &mut ArrayVec<u16, 16>, full: &mut bool, b: u8)
-    requires low { 48 ≤ b }
-    requires high { b < 60 }
-    ensures { (marker : Option ℕ)
-        → step_value marker params.old.items full.old b ≡ Held.Control marker params.new full.new Phase.Values }
-{
-    let at_limit = params.is_full();
-    if b == 0x3B {
-        if at_limit {
-            *full = true;
-        } else {
-            params.push(0);
-        }
-    } else if !*full {
-        if let Some(last) = params.last_mut() {
-            *last = (*last as u32 * 10 + (b - 0x30) as u32).min(9999) as u16;
-        }
-    }
-}
-
-/// A byte 40..7E in a sequence: its final, or the letter after ESC that opens something.
-#[tactic(auto, using(crate::proofs::Steps::byte_ranges), unfolding(crate::specs::Steps::step_of))]
-fn last(held: &mut Held, b: u8) -> Option<Event>
-    requires class { byte_class b ≡ Class.Final }
-    requires inside { InSequence held.old }
-    ensures holds { held.new ≡ (step_of held.old b).held }
-    ensures tells { option_to_list result ≡ (step_of held.old b).events }
+fn ended(held: &mut Held, last: u8) -> Event
+    requires { IsEnding held.old last }
+    ensures tells { result ≡ ended_by held.old last }
+    ensures holds { held.new ≡ Held.Nothing }
 {
     let event = match held {
-        Held::Escape(inters) => {
-            let inters = *inters;
-            if let Inters::Zero = inters
-                && b < 0x60
-            {
-                if let Some(opened) = opened_by(b + 0x40) {
-                    *held = opened;
-                    return None;
-                }
-            }
-            escape(inters, b)
-        }
+        Held::Escape(Inters::Zero) if last >= 0x40 && last < 0x60 => Event::Control(last + 0x40),
+        Held::Escape(Inters::Zero) => Event::Escape { inter: None, last },
+        Held::Escape(Inters::One(inter)) => Event::Escape {
+            inter: Some(*inter),
+            last,
+        },
         Held::Control {
             marker,
             params,
             phase,
             ..
-        } => {
-            let inter = match phase {
-                Phase::Inter(inter) => Some(*inter),
-                _ => None,
-            };
-            Some(Event::Sequence {
-                marker: *marker,
-                params: mem::replace(params, ArrayVec::new()),
-                inter,
-                last: b,
-            })
-        }
-        Held::Nothing | Held::Spoilt | Held::Text { .. } => None,
+        } => Event::Sequence {
+            marker: *marker,
+            params: mem::replace(params, ArrayVec::new()),
+            inter: phase.inter(),
+            last,
+        },
+        Held::Escape(Inters::Many) | Held::Nothing | Held::Spoilt | Held::Text { .. } =>
+            unreachable!(),
     };
     *held = Held::Nothing;
     event
-}
-
-/// The function of an escape sequence that opens nothing.
-fn escape(inters: Inters, last: u8) -> Option<Event>
-    ensures { option_to_list result ≡ escape_function inters last }
-{
-    match inters {
-        Inters::Zero if last >= 0x40 && last < 0x60 => Some(Event::Control(last + 0x40)),
-        Inters::Zero => Some(Event::Escape { inter: None, last }),
-        Inters::One(inter) => Some(Event::Escape {
-            inter: Some(inter),
-            last,
-        }),
-        Inters::Many => None,
-    }
-}
-
-/// A byte in a string: it ends it, or ESC cuts it off, or it is content.
-#[tactic(auto, using(crate::proofs::Classes::class_tests), unfolding(crate::specs::Items::ends_string))]
-fn in_string(held: &mut Held, osc: bool, b: u8) -> Option<Event>
-    requires { held.old ≡ Held.Text osc }
-    ensures holds { held.new ≡ (step_string osc b).held }
-    ensures tells { option_to_list result ≡ (step_string osc b).events }
-{
-    match b {
-        0x1B => *held = Held::Escape(Inters::Zero),
-        0x18 | 0x1A | 0x9C => {
-            *held = Held::Nothing;
-            return substitute(b);
-        }
-        0x07 if osc => *held = Held::Nothing,
-        _ => {}
-    }
-    None
 }

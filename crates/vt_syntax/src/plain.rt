@@ -15,30 +15,12 @@ pub fn plain_run(piece: &[u8]) -> usize
     plain_end(piece)
 }
 
-/// The place of the first byte that isn't plain, or the length.
-///
-/// The first 8 bytes are looked at one by one, since that finds the end of a short run soonest.
+/// The place of the first byte that isn't plain, or the length, looked for a vector of 32 bytes at a time.
 fn plain_end(piece: &[u8]) -> usize
     ensures { result ≡ prefix_len is_plain piece.now }
 {
-    if piece.len() < 8 {
-        return plain_end_slowly(piece, 0);
-    }
-    for i in 0..8usize {
-        if piece[i] < 0x20 || 0x7F <= piece[i] {
-            return i;
-        }
-    }
-    plain_end_32(piece, 8)
-}
-
-/// The same, looked for from `from` on, a vector of 32 bytes at a time.
-fn plain_end_32(piece: &[u8], from: usize) -> usize
-    requires { from ≤ length piece.now }
-    ensures { result ≡ from + prefix_len is_plain (drop from piece.now) }
-{
-    let mut at = from;
-    while piece.len() - at >= 32 {
+    let mut at = 0;
+    while at + 32 <= piece.len() {
         let stops = stops_32(u8x32::from_slice(&piece[at..]));
         if stops != 0 {
             return at + stops.trailing_zeros() as usize;
@@ -48,7 +30,7 @@ fn plain_end_32(piece: &[u8], from: usize) -> usize
     plain_end_16(piece, at)
 }
 
-/// The same, where fewer than 32 bytes are left.
+/// The same from `at` on, where fewer than 32 bytes are left.
 fn plain_end_16(piece: &[u8], at: usize) -> usize
     requires { at ≤ length piece.now }
     ensures { result ≡ at + prefix_len is_plain (drop at piece.now) }

@@ -199,6 +199,40 @@ fn events(rt: HostRuntime) {
     leaves(&rt, b"\x1BPqabc", Held::Text { osc: false }, None);
 }
 
+/// A parser after `before` takes this many bytes of `piece` without an event.
+fn holds(rt: &impl Abort, before: &[u8], piece: &[u8], taken: usize, held: Held) {
+    let (mut parser, _) = parsed(before);
+    assert_eq!(rt; parser.hold(piece), taken);
+    assert_eq!(rt; parser.held(), &held);
+}
+
+#[test]
+fn bytes_without_an_event(rt: HostRuntime) {
+    let place = control(None, &[12, 34], false, Phase::Values);
+    holds(&rt, b"", b"\x1B[12;34H", 7, place);
+    holds(&rt, b"", b"a\x1B[", 0, Held::Nothing);
+    // in two pieces, and with a 17th value
+    let more = control(None, &[12, 3], false, Phase::Values);
+    holds(&rt, b"\x1B[1", b"2;3", 3, more);
+    let full = control(None, &[0; 16], true, Phase::Values);
+    holds(&rt, b"\x1B[", b";;;;;;;;;;;;;;;;7m", 17, full);
+    // a sequence without a function, and a string with BEL
+    holds(&rt, b"\x1B[1:", b"2H\x7F\x18\x07", 4, Held::Nothing);
+    holds(&rt, b"\x1BP", b"q\x07abc", 5, Held::Text { osc: false });
+    holds(&rt, b"\x1B]", b"0;t\x07A", 4, Held::Nothing);
+    holds(&rt, &[0x90], &[0x61, 0x9C, 0x1A], 2, Held::Nothing);
+}
+
+#[test]
+fn final_bytes(rt: HostRuntime) {
+    let (mut parser, _) = parsed(b"\x1B[5 ");
+    if let Held::Control { phase, .. } = parser.held() {
+        assert_eq!(rt; phase.inter(), Some(b' '));
+        parser.end_sequence(b'H');
+    }
+    assert!(rt; parser.is_between());
+}
+
 #[test]
 fn long_inputs(rt: HostRuntime) {
     let mut parser = Parser::new();

@@ -1,5 +1,5 @@
 -- What a piece of bytes plays.
-use Rattle.std.proofs.Common.{◌≡◌, ℕ, List, [], ◌∷◌, ◌++◌, None, ◌≤◌, ◌==◌, nat_lt, true, false, inl, arith, map, refl, sym, ap, ◌∙◌, ◌+◌, take, drop, length, ◌-◌, length-drop, append-nil, append_assoc}
+use Rattle.std.proofs.Common.{◌≡◌, ℕ, List, [], ◌∷◌, ◌++◌, None, ◌≤◌, ◌==◌, nat_lt, true, false, inl, inr, All, get_or, arith, map, refl, sym, ap, ◌∙◌, ◌+◌, take, drop, length, ◌-◌, length-drop, append-nil, append_assoc}
 use Rattle.std.proofs.Math.Seq.{take-add, take-length}
 use Rattle.vt_syntax.specs.declared.event.Event.{Event}
 use Rattle.vt_syntax.specs.declared.event.Event.TheVariants.{Print, Control}
@@ -7,7 +7,9 @@ use Rattle.vt_syntax.specs.declared.held.Held.{Held}
 use Rattle.vt_syntax.specs.declared.held.Held.TheVariants.{Nothing}
 use Rattle.vt_syntax.specs.Reading.{events_of}
 use Rattle.vt_syntax.specs.Laws.{SplitLaw, SpellingLaw}
-use Rattle.vt_syntax.specs.Spelling.{IsEvent, spell_event}
+use Rattle.vt_syntax.specs.Spelling.{IsEvent, IsGraphic, spell_event, spell_events}
+use Rattle.vt_glyph.specs.Invocation.{HasGlyph}
+use Rattle.std.proofs.lemmas.List.Elements.{All-map}
 use Rattle.vt_syntax.specs.Held.{events_from, held_from, held_after, IsHeldPart}
 use Rattle.vt_term.specs.State.{Display, State}
 use Rattle.vt_term.specs.Functions.{effect}
@@ -96,3 +98,25 @@ c0-spelled b high = let below : nat_lt b 0x80 ≡ true = grind (arith, nat_tests
 pub c0-silent : (b : ℕ) (s : Display) → b ≤ 0x0D → report (Control b) s ≡ []
 unfolding control_report
 c0-silent b s high = let other : (b == 0x9A) ≡ false = grind (arith, nat_tests) in rw other refl
+
+-- graphic bytes are printed
+prints-spelled : (bytes : List ℕ) → spell_events (map Print bytes) ≡ bytes
+prints-spelled [] = refl
+prints-spelled (b ∷ bytes) = ap (λ (rest : List ℕ). b ∷ rest) (prints-spelled bytes)
+
+graphic : (b : ℕ) → HasGlyph b → IsGraphic b
+graphic b (inl h) = inl h
+graphic b (inr h) = inr (omega arith)
+
+prints-are : (bytes : List ℕ) → All HasGlyph bytes → All IsEvent (map Print bytes)
+prints-are bytes have = All-map IsEvent Print bytes (λ k d h. graphic (get_or bytes k d) (have k d h))
+
+pub graphic-events : SpellingLaw → (bytes : List ℕ) → All HasGlyph bytes → events_of bytes ≡ map Print bytes
+graphic-events spelling bytes have =
+    ap events_of (sym (prints-spelled bytes)) ∙ spelling.all_events (map Print bytes) (prints-are bytes have)
+
+pub graphic-held : SpellingLaw → (bytes : List ℕ) → All HasGlyph bytes → held_after bytes ≡ Nothing
+graphic-held spelling bytes have =
+    ap held_after (sym (prints-spelled bytes)) ∙ spelling.all_held (map Print bytes) (prints-are bytes have)
+
+pub ruleset byte_tests = (nat_tests)

@@ -5,6 +5,7 @@ mod PowerUp
 mod Cuts
 mod Lines
 mod Runs
+mod GraphicRuns
 mod Bytes
 mod GlyphSizes
 mod Equal

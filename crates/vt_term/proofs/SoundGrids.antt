@@ -1,13 +1,15 @@
 -- Every map of the grid keeps its shape, and a glyph in each cell.
-use Rattle.std.proofs.Common.{◌≡◌, inl, inr, ℕ, ◌+◌, ◌-◌, ◌*◌, ◌/◌, ◌%◌, ◌≤◌, ◌<◌, List, length, All, Bool, true, false, cond, ◌&&◌, ◌==◌, nat_le, nat_lt, if◌then◌else◌, get_or, refl, sym, arith}
+use Rattle.std.proofs.Common.{◌≡◌, inl, inr, ℕ, ◌+◌, ◌-◌, ◌*◌, ◌/◌, ◌%◌, ◌≤◌, ◌<◌, List, length, map, All, Bool, true, false, cond, ◌&&◌, ◌==◌, nat_le, nat_lt, if◌then◌else◌, get_or, refl, arith}
 use Rattle.std.specs.List.{range_with_len}
 use Rattle.std.proofs.lemmas.List.FromFn.{length-map-range_with_len}
 use Rattle.std.proofs.lemmas.List.Elements.{All-map}
 use Rattle.std.proofs.lemmas.List.{get_or_past}
-use Rattle.std.proofs.lemmas.Bool.Decides.{leb_tells, eqb_tells, nat_tests}
-use Rattle.vt_glyph.specs.Tables.{IsGlyph, is_glyph, glyph_of, space}
+use Rattle.std.proofs.lemmas.Bool.Decides.{leb_tells, nat_tests}
+use Rattle.vt_glyph.specs.Tables.{IsGlyph, is_glyph, space}
+use Rattle.vt_glyph.specs.Invocation as invocation
+use Rattle.vt_glyph.specs.Invocation.{InUseTable, glyph_in_use}
 use Rattle.vt_screen.specs.declared.cell.Cell.{Cell}
-use Rattle.vt_screen.specs.Cells.{blank, erased, ascii_cell, ascii_glyph}
+use Rattle.vt_screen.specs.Cells.{blank, erased, cell_like}
 use Rattle.vt_screen.specs.Grid.{Grid, grid_of, cells_of, cell_at, columns, blank_grid, fill, put, put_inserting, put_run, insert_cells, delete_cells, erase_area, scroll_up, scroll_down}
 use Rattle.vt_term.specs.Sound.{IsSoundGrid}
 
@@ -101,27 +103,28 @@ either-tested : (b : Bool) (x y : Cell) → (b ≡ true → HasGlyph x) → HasG
 either-tested true x y p q = p refl
 either-tested false x y p q = q
 
--- a code from 20 to 7E stands for itself
-pub ascii_glyph-is : (code : ℕ) → ascii_glyph code ≡ code
-unfolding glyph_of
-ascii_glyph-is code = elim (eqb_tells code 0x20) [ inl e ↦ rw e.0 (sym e.1) | inr e ↦ rw e.0 refl ]
-
--- ASCII codes show glyphs
-abbrev pub AsciiShown : Type 0
-AsciiShown = (code : ℕ) → 0x20 ≤ code → code ≤ 0x7E → IsGlyph code
-
-pub put_run-sound : AsciiShown → (g : Grid) (row col : ℕ) (codes : List ℕ) (like : Cell) → IsSoundGrid g
-    → All (λ code. (0x20 ≤ code) × (code ≤ 0x7E)) codes → IsSoundGrid (put_run g row col codes like)
-put_run-sound shown g row col codes like sound plain = grid_of-sound g.width _ sound.shape.width (λ r c.
+-- a run of glyphs
+pub put_run-sound : (g : Grid) (row col : ℕ) (glyphs : List ℕ) (like : Cell) → IsSoundGrid g → All IsGlyph glyphs → IsSoundGrid (put_run g row col glyphs like)
+put_run-sound g row col glyphs like sound are = grid_of-sound g.width _ sound.shape.width (λ r c.
     either-has_glyph _ _ _
-    (either-tested (nat_le col c && nat_lt c (col + length codes)) (ascii_cell like (get_or codes (c - col) 0)) (cell_at g row c)
-    (λ inside.
-    let below : c - col < length codes = within col c (length codes) inside in
-    let code : (0x20 ≤ get_or codes (c - col) 0) × (get_or codes (c - col) 0 ≤ 0x7E) = plain (c - col) 0 below in
-    let shows : IsGlyph (get_or codes (c - col) 0) = shown (get_or codes (c - col) 0) code.0 code.1 in
-    rw ascii_glyph-is shows)
+    (either-tested (nat_le col c && nat_lt c (col + length glyphs)) (cell_like like (get_or glyphs (c - col) 0)) (cell_at g row c)
+    (λ inside. are (c - col) 0 (within col c (length glyphs) inside))
     (cell_at-has_glyph g row c sound))
     (cell_at-has_glyph g r c sound))
   where
     within : (col c n : ℕ) → nat_le col c && nat_lt c (col + n) ≡ true → c - col < n
     within col c n h = grind (arith, nat_tests)
+
+-- ASCII codes are glyphs
+abbrev pub AsciiShown : Type 0
+AsciiShown = (code : ℕ) → 0x20 ≤ code → code ≤ 0x7E → IsGlyph code
+
+pub ascii-glyphs : AsciiShown → (codes : List ℕ) → All (λ code. (0x20 ≤ code) × (code ≤ 0x7E)) codes → All IsGlyph codes
+ascii-glyphs shown codes plain = λ k d h. let code = plain k d h in shown (get_or codes k d) code.0 code.1
+
+-- what graphic bytes show are glyphs
+abbrev pub InUseShown : Type 0
+InUseShown = (table : InUseTable) (b : ℕ) → invocation.HasGlyph b → IsGlyph (glyph_in_use table b)
+
+pub in_use-glyphs : InUseShown → (table : InUseTable) (bytes : List ℕ) → All invocation.HasGlyph bytes → All IsGlyph (map (glyph_in_use table) bytes)
+in_use-glyphs shown table bytes have = All-map IsGlyph (glyph_in_use table) bytes (λ k d h. shown table (get_or bytes k d) (have k d h))

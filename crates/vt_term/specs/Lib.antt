@@ -3,6 +3,7 @@ pub mod Sound
 pub mod Parameters
 pub mod Moving
 pub mod Tabs
+pub mod Graphics
 pub mod Writing
 pub mod Editing
 pub mod Rendition

@@ -90,6 +90,7 @@ impl Display {
     }
 
     /// IND: down by one, staying in row 24; at the bottom margin the scroll region moves up instead.
+    #[inline(never)]
     pub(crate) fn index(&mut self)
         ensures { self.new ≡ index self.old }
     {
@@ -103,6 +104,7 @@ impl Display {
     }
 
     /// RI: up by one, staying in row 1; at the top margin the scroll region moves down instead.
+    #[inline(never)]
     pub(crate) fn reverse_index(&mut self)
         ensures { self.new ≡ reverse_index self.old }
     {

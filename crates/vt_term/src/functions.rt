@@ -1,12 +1,16 @@
 //! Which function an event asks for.
-ghost use Rattle.std.specs.Prelude.{◌≡◌, ◌<◌, ◌≤◌};
+ghost use Rattle.std.specs.Prelude.{◌≡◌, ◌+◌, ◌++◌, ◌<◌, ◌≤◌, vec_len, vec_capacity};
 ghost use Rattle.vt_syntax.specs.Spelling.{IsEvent};
+ghost use Rattle.vt_syntax.specs.Held.{IsEnding, ended_by};
+ghost use Rattle.vt_term.specs.Reports.{report};
+ghost use Rattle.vt_glyph.specs.Tables.{substitute_glyph};
+ghost use Rattle.vt_term.specs.Writing.{write_glyph};
 ghost use Rattle.vt_term.specs.Parameters.{first, second, count};
 ghost use Rattle.vt_term.specs.Functions.{effect, control, plain_escape, escape_with, designate, lock_left, lock_right, shift_once, sequence, sequence_in, plain_sequences, private_sequences, quote_sequences, exclamation_sequences};
 
 use crate::display::Display;
 use vt_glyph::{Glyph, Set};
-use vt_syntax::Event;
+use vt_syntax::{Event, Held, Inters};
 
 /// The first parameter; one that isn't there is 0.
 pub(crate) fn first(params: &[u16]) -> u16
@@ -31,6 +35,7 @@ fn count(params: &[u16]) -> u16
 
 impl Display {
     /// An event is carried out.
+    #[inline(never)]
     pub(crate) fn carry_out(&mut self, event: &Event)
         requires { IsEvent event.now }
         ensures { self.new ≡ effect event.now self.old }
@@ -52,6 +57,38 @@ impl Display {
         }
     }
 
+    /// The sequence that is held is carried out with its final byte, and its report appended to `out`.
+    #[inline(always)]
+    pub(crate) fn end_sequence(&mut self, held: &Held, last: u8, out: &mut Vec<u8>)
+        requires ends { IsEnding held.now last }
+        requires room { vec_len out.old + 10 ≤ vec_capacity out.old }
+        ensures display { self.new ≡ effect (ended_by held.now last) self.old }
+        ensures items { out.new.items ≡ out.old.items ++ report (ended_by held.now last) self.old }
+        ensures bounded { vec_len out.new ≤ vec_len out.old + 10 }
+        ensures capacity { vec_capacity out.old ≤ vec_capacity out.new }
+    {
+        match held {
+            Held::Control {
+                marker,
+                params,
+                phase,
+                ..
+            } => {
+                let inter = phase.inter();
+                let params = params.as_slice();
+                self.report_sequence(*marker, inter, last, first(params), out);
+                self.sequence(*marker, params, inter, last);
+            }
+            Held::Escape(Inters::Zero) if 0x40 <= last && last < 0x60 => {
+                self.report_control(last + 0x40, out);
+                self.control(last + 0x40);
+            }
+            Held::Escape(Inters::Zero) => self.plain_escape(last),
+            Held::Escape(Inters::One(inter)) => self.escape_with(*inter, last),
+            Held::Escape(Inters::Many) | Held::Nothing | Held::Spoilt | Held::Text { .. } => {}
+        }
+    }
+
     /// A C0 or C1 control.
     #[tactic(auto, unfolding(crate::specs::Functions::control))]
     pub(crate) fn control(&mut self, b: u8)
@@ -66,7 +103,7 @@ impl Display {
             0x0D => self.carriage_return(),
             0x0E => self.lock_left(1),
             0x0F => self.lock_left(0),
-            0x1A => self.write_glyph(Glyph::substitute()),
+            0x1A => self.write_substitute(),
             0x84 => self.index(),
             0x85 => self.next_line(),
             0x88 => self.set_tab(),
@@ -75,6 +112,14 @@ impl Display {
             0x8F => self.shift_once(3),
             _ => {}
         }
+    }
+
+    /// SUB.
+    #[inline(never)]
+    fn write_substitute(&mut self)
+        ensures { self.new ≡ write_glyph substitute_glyph self.old }
+    {
+        self.write_glyph(Glyph::substitute());
     }
 
     /// An escape sequence without an intermediate.
@@ -149,6 +194,7 @@ impl Display {
     }
 
     /// A control sequence.
+    #[inline(always)]
     #[tactic(auto, unfolding(crate::specs::Functions::sequences_of, crate::specs::Functions::sequence_in))]
     fn sequence(&mut self, marker: Option<u8>, params: &[u16], inter: Option<u8>, last: u8)
         ensures { self.new ≡ sequence marker inter last params.now self.old }
@@ -163,6 +209,7 @@ impl Display {
     }
 
     /// A control sequence without marker and intermediate.
+    #[inline(always)]
     #[tactic(auto, unfolding(crate::specs::Functions::sequence_in))]
     fn plain_sequence(&mut self, last: u8, params: &[u16])
         ensures { self.new ≡ sequence_in plain_sequences last params.now self.old }

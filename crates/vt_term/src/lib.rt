@@ -5,6 +5,7 @@ mod cursor;
 mod display;
 mod editing;
 mod functions;
+mod graphics;
 pub mod laws;
 mod modes;
 mod page;

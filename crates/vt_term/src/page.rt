@@ -1,15 +1,18 @@
 //! The screen's calls, which keep a glyph in every cell.
-ghost use Rattle.std.specs.Prelude.{◌≡◌, ◌+◌, ◌≤◌, All, length};
+ghost use Rattle.std.specs.Prelude.{◌≡◌, ◌+◌, ◌≤◌, All, length, map};
+ghost use Rattle.vt_glyph.specs.Invocation.{HasGlyph, glyph_in_use};
 ghost use Rattle.vt_glyph.specs.Tables.{IsGlyph};
 ghost use Rattle.vt_screen.specs.Grid.{last_row, blank_grid, fill, put, put_inserting, put_run, insert_cells, delete_cells, erase, erase_area, scroll_up, scroll_down};
 ghost use Rattle.vt_term.specs.Sound.{IsSoundGrid};
 ghost use Rattle.vt_term.specs.Editing.{rows_between};
 
+use vt_glyph::InUse;
 use vt_glyph::laws::glyphs;
 use vt_screen::laws::areas;
 use vt_screen::{Cell, Screen};
 
 /// The rows `top` to `bottom` move up by `n`.
+#[inline(always)]
 pub(crate) fn scroll_up(screen: &mut Screen, top: usize, bottom: usize, n: u16)
     requires sound { IsSoundGrid screen.old }
     requires rows { (1 ≤ top) × (top ≤ bottom) × (bottom ≤ last_row) }
@@ -20,6 +23,7 @@ pub(crate) fn scroll_up(screen: &mut Screen, top: usize, bottom: usize, n: u16)
 }
 
 /// The rows `top` to `bottom` move down by `n`.
+#[inline(always)]
 pub(crate) fn scroll_down(screen: &mut Screen, top: usize, bottom: usize, n: u16)
     requires sound { IsSoundGrid screen.old }
     requires rows { (1 ≤ top) × (top ≤ bottom) × (bottom ≤ last_row) }
@@ -132,4 +136,25 @@ pub(crate) fn put_run(screen: &mut Screen, row: usize, col: usize, codes: &[u8],
 {
     glyphs();
     screen.put_run(row, col, codes, like);
+}
+
+/// Graphic bytes from a place on, each like the given cell: they are read through a table of the sets in GL and GR.
+pub(crate) fn put_graphics(
+    screen: &mut Screen,
+    row: usize,
+    col: usize,
+    bytes: &[u8],
+    table: &InUse,
+    like: Cell,
+)
+    requires sound { IsSoundGrid screen.old }
+    requires row { (1 ≤ row) × (row ≤ last_row) }
+    requires col { (1 ≤ col) × (col ≤ screen.old.width) }
+    requires graphic { All HasGlyph bytes.now }
+    requires room { col + length bytes.now ≤ screen.old.width + 1 }
+    ensures grid { screen.new ≡ put_run screen.old row col (map (glyph_in_use table.now) bytes.now) like }
+    ensures sound { IsSoundGrid screen.new }
+{
+    glyphs();
+    screen.put_graphics(row, col, bytes, table, like);
 }

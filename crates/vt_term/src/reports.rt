@@ -29,8 +29,9 @@ impl Display {
     }
 
     /// DECID.
+    #[inline(always)]
     #[tactic(auto, unfolding(crate::specs::Reports::control_report))]
-    fn report_control(&self, b: u8, out: &mut Vec<u8>)
+    pub(crate) fn report_control(&self, b: u8, out: &mut Vec<u8>)
         requires { vec_len out.old + 10 ≤ vec_capacity out.old }
         ensures items { out.new.items ≡ out.old.items ++ control_report b self.now }
         ensures bounded { vec_len out.new ≤ vec_len out.old + 10 }
@@ -42,8 +43,9 @@ impl Display {
     }
 
     /// DA and DSR, by the first parameter.
+    #[inline(always)]
     #[tactic(auto, unfolding(crate::specs::Reports::sequence_report))]
-    fn report_sequence(
+    pub(crate) fn report_sequence(
         &self,
         marker: Option<u8>,
         inter: Option<u8>,

@@ -1,15 +1,16 @@
 //! Writing glyphs.
-ghost use Rattle.std.specs.Prelude.{◌≡◌, ◌+◌, ◌≤◌, ◌⊎◌, All, IsTrue, false, length, map};
+ghost use Rattle.std.specs.Prelude.{◌≡◌, ◌+◌, ◌≤◌, ◌⊎◌, ◌↔◌, All, IsTrue, false, length, map};
 ghost use Rattle.vt_syntax.specs.Class.{IsPlain};
 ghost use Rattle.vt_syntax.specs.declared.event.Event.TheVariants.{Print};
 ghost use Rattle.vt_term.specs.Play.{after_events};
 ghost use Rattle.vt_glyph.specs.Tables.{IsGlyph};
-ghost use Rattle.vt_term.specs.Writing.{WritesAscii, with_run, wrapped, put_glyph, write_glyph, print};
+ghost use Rattle.vt_glyph.specs.Invocation.{HasGlyph, in_use, glyph_in_use};
+ghost use Rattle.vt_term.specs.Writing.{WritesAscii, WritesInUse, with_run, advanced_by, wrapped, put_glyph, write_glyph, print};
 
 use crate::display::Display;
 use crate::page;
 use crate::state::Cursor;
-use vt_glyph::Glyph;
+use vt_glyph::{Glyph, InUse};
 use vt_screen::Cell;
 use vt_screen::laws::runs;
 
@@ -65,15 +66,15 @@ impl Display {
         }
     }
 
-    /// Whether each byte 20..7E writes its ASCII glyph over the cell at the cursor: GL is ASCII, no single shift is
-    /// pending, and IRM is reset.
-    pub(crate) fn writes_ascii(&self) -> bool
-        ensures { IsTrue result → WritesAscii self.now }
+    /// Whether a graphic byte is read through the sets in GL and GR and written over the cell at the cursor: no single
+    /// shift is pending, and IRM is reset.
+    pub(crate) fn writes_over(&self) -> bool
+        ensures { IsTrue result ↔ ((self.now.sets.pending ≡ None) × (self.now.modes.irm ≡ false)) }
     {
-        !self.modes.irm && self.sets.reads_ascii()
+        !self.modes.irm && self.sets.pending().is_none()
     }
 
-    /// Writes a run of plain bytes, a line at a time.
+    /// Writes a run of plain bytes where GL is ASCII, a line at a time.
     pub(crate) fn write_run(&mut self, run: &[u8])
         requires plain { All IsPlain run.now }
         requires writes { WritesAscii self.old }
@@ -85,6 +86,23 @@ impl Display {
             self.carry_out_wrap();
             let end = run.len().min(at + self.room());
             self.put_run(&run[at..end]);
+            at = end;
+        }
+    }
+
+    /// Writes a run of graphic bytes through the sets in GL and GR, a line at a time.
+    pub(crate) fn write_graphics(&mut self, run: &[u8])
+        requires graphic { All HasGlyph run.now }
+        requires writes { WritesInUse (in_use self.old.sets) self.old }
+        ensures { self.new ≡ after_events (map Print run.now) self.old }
+    {
+        runs();
+        let table = self.sets.in_use();
+        let mut at = 0;
+        while at < run.len() {
+            self.carry_out_wrap();
+            let end = run.len().min(at + self.room());
+            self.put_graphics(&run[at..end], &table);
             at = end;
         }
     }
@@ -108,9 +126,33 @@ impl Display {
         let Cursor { row, col, .. } = self.cursor;
         let like = Cell::new(Glyph::blank(), self.brush);
         page::put_run(&mut self.screen, row, col, run, like);
+        self.advance(run.len());
+    }
+
+    /// Writes a run of graphic bytes that ends in the cursor's row.
+    fn put_graphics(&mut self, run: &[u8], table: &InUse)
+        requires graphic { All HasGlyph run.now }
+        requires some { 1 ≤ length run.now }
+        requires room { self.old.cursor.col + length run.now ≤ self.old.grid.width + 1 }
+        ensures { self.new ≡ with_run (map (glyph_in_use table.now) run.now) self.old }
+    {
+        let Cursor { row, col, .. } = self.cursor;
+        let like = Cell::new(Glyph::blank(), self.brush);
+        page::put_graphics(&mut self.screen, row, col, run, table, like);
+        self.advance(run.len());
+    }
+
+    /// The cursor goes behind `n` glyphs that were written in its row.
+    #[inline(always)]
+    fn advance(&mut self, n: usize)
+        requires some { 1 ≤ n }
+        requires room { self.old.cursor.col + n ≤ self.old.grid.width + 1 }
+        ensures { self.new ≡ record self.old { cursor = advanced_by n self.old } }
+    {
+        let Cursor { row, col, .. } = self.cursor;
         let width = self.screen.width();
-        if col + run.len() <= width {
-            self.cursor = Cursor::at(row, col + run.len());
+        if col + n <= width {
+            self.cursor = Cursor::at(row, col + n);
         } else {
             self.cursor = Cursor {
                 row,

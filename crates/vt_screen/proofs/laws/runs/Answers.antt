@@ -1,4 +1,4 @@
-use Rattle.vt_screen.proofs.Layers.{ascii_glyph-is, run-none, run-one, run-append}
+use Rattle.vt_screen.proofs.Layers.{run-none, run-one, run-append}
 use Rattle.vt_screen.proofs.laws.runs.Goals as goal
 
 pub returns-clause-none : goal.returns-clause-none
@@ -9,6 +9,3 @@ returns-clause-one c = run-one
 
 pub returns-clause-append : goal.returns-clause-append
 returns-clause-append c = run-append
-
-pub returns-clause-glyph : goal.returns-clause-glyph
-returns-clause-glyph c = ascii_glyph-is

@@ -1,7 +1,13 @@
-use Rattle.std.proofs.Common.{◌≡◌, ℕ, ◌<◌, get_or}
+use Rattle.std.proofs.Common.{◌≡◌, ℕ, ◌<◌, ◌≤◌, ◌-◌, length, get_or}
 use Rattle.vt_screen.specs.Cells.{blank}
 use Rattle.vt_screen.proofs.line.fill_cells.Given as goal
 
--- the cells before this one are written
-abbrev pub invariant-loop-place : goal.invariant-loop-place
-invariant-loop-place l = (k : ℕ) → k < l.place-index → get_or l.cells k blank ≡ l.cell
+-- the cells before the place are written
+abbrev pub invariant-loop-cells : goal.invariant-loop-cells
+invariant-loop-cells l = record {
+  within : l.at ≤ length l.cells;
+  written : (k : ℕ) → k < l.at → get_or l.cells k blank ≡ l.cell;
+}
+
+abbrev pub decreases-loop-cells : goal.decreases-loop-cells
+decreases-loop-cells l = length l.cells - l.at

@@ -1,4 +1,6 @@
-use Rattle.std.proofs.Common.{ℕ, List, take, drop, ◌≤◌, ◌<◌, ◌+◌, ◌-◌, ◌∙◌, ap, arith}
+use Rattle.std.proofs.Common.{ℕ, List, take, drop, ◌≤◌, ◌<◌, ◌+◌, ◌-◌, ◌∙◌, ap, sym, arith}
+use Rattle.std.proofs.lemmas.List.{map-id}
+use Rattle.vt_syntax.specs.Class.{IsPlain}
 use Rattle.vt_term.specs.State.{Display}
 use Rattle.vt_term.specs.Writing.{with_run, wrapped}
 use Rattle.vt_term.proofs.Runs.{line-of-run, with_run-writes, wrapped-writes}
@@ -15,7 +17,8 @@ loop-at-preserved c =
       within = omega (arith, c.min-end.ensures);
       written = c.put_run.ensures
           ∙ ap (λ (d : Display). with_run line d) c.carry_out_wrap.ensures
-          ∙ line-of-run c.runs.ensures.one c.runs.ensures.append c.args.run.now c.loop-at.at c.min-end.result c.args.self.now before
+          ∙ ap (λ (glyphs : List ℕ). with_run glyphs (wrapped before)) (sym (map-id line))
+          ∙ line-of-run c.runs.ensures.one c.runs.ensures.append IsPlain (λ b. b) c.args.run.now c.loop-at.at c.min-end.result c.args.self.now before
           c.requires.plain more (omega (arith, c.min-end.ensures)) c.loop-at.invariant.written c.loop-at.invariant.writes fits;
-      writes = rw (c.put_run.ensures, c.carry_out_wrap.ensures) (with_run-writes line (wrapped before) (wrapped-writes before c.loop-at.invariant.writes));
+      writes = rw (c.put_run.ensures, c.carry_out_wrap.ensures) (with_run-writes IsPlain (λ b. b) line (wrapped before) (wrapped-writes IsPlain (λ b. b) before c.loop-at.invariant.writes));
     }

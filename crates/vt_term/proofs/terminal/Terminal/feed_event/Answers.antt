@@ -1,7 +1,7 @@
 use Rattle.std.proofs.Common.{◌∙◌, List, ℕ, [], ◌∷◌, ◌++◌, ap, sym, refl, append-nil}
 use Rattle.vt_term.specs.Reports.{report}
 use Rattle.vt_term.proofs.Bytes.{play-state, play-reports}
-use Rattle.vt_term.proofs.terminal.Terminal.feed_byte.Goals as goal
+use Rattle.vt_term.proofs.terminal.Terminal.feed_event.Goals as goal
 
 pub returns-in-Some-clause-state : goal.returns-in-Some-clause-state
 returns-in-Some-clause-state c =

@@ -2,7 +2,7 @@
 use Rattle.std.proofs.Common.{sym, ap, ◌∙◌, arith}
 use lib.Count.{count_trailing_zeros}
 use Rattle.vt_syntax.proofs.PlainRuns.{run_through, run_stops}
-use Rattle.vt_syntax.proofs.plain.plain_end_32.Goals as goal
+use Rattle.vt_syntax.proofs.plain.plain_end.Goals as goal
 
 pub returns-then-stops-ne0 : goal.returns-then-stops-ne0
 returns-then-stops-ne0 c =

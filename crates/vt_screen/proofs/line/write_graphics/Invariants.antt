@@ -1,0 +1,8 @@
+use Rattle.std.proofs.Common.{◌≡◌, ℕ, ◌<◌, get_or}
+use Rattle.vt_glyph.specs.Invocation.{glyph_in_use}
+use Rattle.vt_screen.specs.Cells.{blank, cell_like}
+use Rattle.vt_screen.proofs.line.write_graphics.Given as goal
+
+-- the cells before this one are written
+abbrev pub invariant-loop-i : goal.invariant-loop-i
+invariant-loop-i l = (k : ℕ) → k < l.i → get_or l.cells k blank ≡ cell_like l.fn.like (glyph_in_use l.table (get_or l.bytes k 0))

@@ -1,0 +1,23 @@
+use Rattle.std.proofs.Common.{arith, ◌≡◌, ◌+◌, ◌-◌, ℕ, List, map, length, ap, sym, ◌∙◌}
+use Rattle.std.proofs.lemmas.List.{length-map, get_or-map}
+use Rattle.vt_glyph.specs.Invocation.{glyph_in_use}
+use Rattle.vt_screen.specs.Cells.{cell_like}
+use Rattle.vt_screen.specs.Order.{room}
+use Rattle.vt_screen.specs.Grid.{Grid, put_run}
+use Rattle.vt_screen.proofs.Places.{width-bounds}
+use Rattle.vt_screen.proofs.Maps.{edited, put_run-row}
+use Rattle.vt_screen.proofs.screen.Screen.put_graphics.Goals as goal
+
+pub returns : goal.returns
+returns c =
+    let width : c.self.inside.width ≡ c.args.self.now.width = ap (λ (g : Grid). g.width) c.self.view_is in
+    let narrow = width-bounds c.self.inside.width c.self.invariant.1 in
+    let bound = c.start.ensures.bound in
+    let same = c.deref_mut.ensures.value in
+    let long : length c.deref_mut.result.now ≡ room = ap length same ∙ c.self.invariant.0 in
+    let at = c.start.result + c.args.column - 1 in
+    let k = c.start.result + c.args.column - 1 + length c.args.bytes.now - (c.start.result + c.args.column - 1) in
+    let glyphs : List ℕ = map (glyph_in_use c.args.table.now) c.args.bytes.now in
+    let count : length glyphs ≡ length c.args.bytes.now = length-map c.args.bytes.now (glyph_in_use c.args.table.now) in
+    rw (← c.self.view_is) (edited c.self.inside.cells c.self.inside.order c.self.inside.width c.deref_mut.result.now at k c.write_graphics.new.cells (λ g. put_run g c.args.row c.args.column glyphs c.args.like) same c.write_graphics.auto.cells
+    (put_run-row c.self.inside.order c.deref_mut.result.now c.write_graphics.new.cells c.self.inside.width c.args.row c.args.column at k glyphs c.args.like c.start.ensures.order long (omega arith) (omega arith) (omega arith) (omega arith) (omega arith) (omega (arith, count)) (omega (arith, count)) c.write_graphics.auto.cells (λ i below. c.write_graphics.ensures i (omega (arith, count)) ∙ ap (cell_like c.args.like) (sym (get_or-map (glyph_in_use c.args.table.now) c.args.bytes.now i 0 0 (omega (arith, count)))))))

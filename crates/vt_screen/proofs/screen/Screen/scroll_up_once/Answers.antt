@@ -1,0 +1,18 @@
+use Rattle.std.proofs.Common.{inl, inr, arith, ◌≡◌, ◌+◌, ◌-◌, List, length, min, ap, sym, ◌∙◌}
+use Rattle.std.proofs.lemmas.List.{with_items_is}
+use Rattle.vt_screen.specs.declared.cell.Cell.{Cell}
+use Rattle.vt_screen.specs.Order.{stored}
+use Rattle.vt_screen.specs.Grid.{grid_of, scroll_up}
+use Rattle.vt_screen.proofs.Maps.{scroll_up-rows}
+use Rattle.vt_screen.proofs.screen.Screen.scroll_up_once.Goals as goal
+
+pub returns : goal.returns
+returns c =
+    let same = c.deref_mut.ensures.value in
+    let whole = with_items_is c.self.inside.cells c.fill_rows.new.cells (c.fill_rows.auto.cells ∙ ap length same ∙ sym c.self.inside.cells.ok.0) in
+    let count : 1 ≡ min 1 (c.args.bottom + 1 - c.args.top) = omega arith in
+    rw (← c.self.view_is) (ap (λ (x : List Cell). grid_of c.self.inside.width (stored c.move_up_once.new.self x)) whole
+    ∙ scroll_up-rows c.self.inside.order c.move_up_once.new.self c.deref_mut.result.now c.fill_rows.new.cells c.self.inside.width c.args.top c.args.bottom 1 1
+    (omega arith) (omega arith) (omega arith) count c.move_up_once.ensures.moved c.move_up_once.ensures.outside (λ r col low high col1 colw. c.fill_rows.ensures.inside r col (omega arith) high col1 colw ∙ c.blank.ensures)
+    (λ r col r1 r24 out col1 colw. c.fill_rows.ensures.outside r col r1 r24 (elim out [ inl l ↦ inl (omega arith) | inr l ↦ inr l ]) col1 colw)
+    ∙ ap (λ (x : List Cell). scroll_up (grid_of c.self.inside.width (stored c.self.inside.order x)) c.args.top c.args.bottom 1) same)

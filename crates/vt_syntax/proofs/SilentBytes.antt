@@ -1,0 +1,210 @@
+-- Bytes that give no event, one after another.
+use Rattle.std.proofs.Common.{◌≡◌, ℕ, ◌+◌, ◌<◌, Bool, true, false, List, [], ◌∷◌, ◌++◌, length, take, drop, get_or, if◌then◌else◌, ◌==◌, ◌≤◌, nat_le, Option, length-append, length-drop, ◌-◌, arith, refl, sym, ap, ◌∙◌}
+use Rattle.std.proofs.lemmas.List.{take_more}
+use Rattle.std.proofs.Math.Seq.{take-add, take-length}
+use Rattle.arrayvec.specs.ArrayVec.{ArrayVec}
+use Rattle.vt_syntax.specs.declared.event.Event.{Event}
+use Rattle.vt_syntax.specs.declared.held.Held.{Held}
+use Rattle.vt_syntax.specs.declared.held.Held.TheVariants.{Nothing, Escape, Control, Spoilt, Text}
+use Rattle.vt_syntax.specs.declared.held.Inters.TheVariants.{Zero, One, Many}
+use Rattle.vt_syntax.specs.declared.held.Phase.{Phase}
+use Rattle.vt_syntax.specs.declared.held.Phase.TheVariants.{Start, Values, Inter}
+use Rattle.vt_syntax.specs.declared.class.Class.TheVariants.{Parameter, Final}
+use Rattle.vt_syntax.specs.Class.{class_of, opens}
+use Rattle.vt_syntax.specs.Reading.{escape_function}
+use Rattle.vt_syntax.proofs.Classes.{opens_low}
+use Rattle.vt_syntax.specs.Steps.{Step, step_to, step_of, step_value, step_string, opened_by, change_last, with_digit, IsEarly, InSequence, run, is_silent, held_silently}
+use Rattle.vt_syntax.proofs.Steps.{change_last-push, value_class, step_bracket, parameter_low, parameter_high, final_low, final_high}
+use Rattle.std.proofs.lemmas.Bool.Decides.{nat_tests}
+use Rattle.vt_syntax.specs.Held.{IsHeldPart, IsEnding, events_from}
+use Rattle.vt_syntax.proofs.Cutting.{run_append, step_events}
+
+-- a silent step has no event
+pub silent_step : (held after : Held) (step : Step) → true ≡ is_silent step → after ≡ held_silently held step → step ≡ step_to after []
+silent_step held after step silent is = go step.held step.events silent is
+  where
+    go : (h : Held) (events : List Event) → true ≡ is_silent (step_to h events) → after ≡ held_silently held (step_to h events) → step_to h events ≡ step_to after []
+    go h [] silent is = ap (λ (x : Held). step_to x []) (sym is)
+    go h (event ∷ events) silent is = absurd cc
+
+-- a step is taken, or gives one event
+pub taken : (held after : Held) (step : Step) → true ≡ is_silent step → after ≡ held_silently held step → after ≡ step.held
+taken held after step silent is = ap (λ (s : Step). s.held) (sym (silent_step held after step silent is))
+
+pub taken_events : (step : Step) → true ≡ is_silent step → [] ≡ step.events
+taken_events step silent = go step.events silent
+  where
+    go : (events : List Event) → true ≡ is_silent (step_to step.held events) → [] ≡ events
+    go [] silent = refl
+    go (event ∷ events) silent = absurd cc
+
+pub run_nil : (held : Held) → run held [] ≡ step_to held []
+unfolding run
+run_nil held = refl
+
+-- one more byte
+pub run_more : (held now after : Held) (piece : List ℕ) (at : ℕ) → at < length piece → run held (take at piece) ≡ step_to now []
+    → step_of now (get_or piece at 0) ≡ step_to after [] → run held (take (at + 1) piece) ≡ step_to after []
+unfolding run
+run_more held now after piece at inside so_far step =
+    ap (λ (bytes : List ℕ). run held bytes) (take_more piece at 0 inside)
+    ∙ run_append held (take at piece) (get_or piece at 0 ∷ [])
+    ∙ rw (so_far, step) refl
+
+-- ESC and `[`, between sequences
+pub run_introducer : (piece : List ℕ) → 2 ≤ length piece → get_or piece 0 0 ≡ 0x1B → get_or piece 1 0 ≡ 0x5B
+    → run Nothing (take 2 piece) ≡ step_to (opened_by 0x9B) []
+unfolding step_of
+run_introducer piece long first second =
+    run_more Nothing (Escape Zero) (opened_by 0x9B) piece 1 (omega arith)
+    (run_more Nothing Nothing (Escape Zero) piece 0 (omega arith) (run_nil Nothing) (rw first refl))
+    (rw second step_bracket)
+
+pub ruleset introducer = (run_nil, run_introducer)
+
+-- more bytes
+pub run_add : (held now after : Held) (piece : List ℕ) (at n : ℕ) → run held (take at piece) ≡ step_to now []
+    → run now (take n (drop at piece)) ≡ step_to after [] → run held (take (at + n) piece) ≡ step_to after []
+run_add held now after piece at n so_far more =
+    ap (λ (bytes : List ℕ). run held bytes) (take-add at n piece)
+    ∙ run_append held (take at piece) (take n (drop at piece))
+    ∙ rw (so_far, more) refl
+
+-- the part of a piece from a place on, to its end
+pub rest_of : (piece : List ℕ) (at : ℕ) → take (length piece - at) (drop at piece) ≡ drop at piece
+rest_of piece at = let e : length piece - at ≡ length (drop at piece) = sym (length-drop at piece) in rw e (take-length (drop at piece))
+
+-- more bytes of that part
+pub run_part : (held now after : Held) (piece : List ℕ) (at n : ℕ) → run held (take at piece) ≡ step_to now []
+    → run now (take n (take (length piece - at) (drop at piece))) ≡ step_to after [] → run held (take (at + n) piece) ≡ step_to after []
+run_part held now after piece at n so_far more =
+    let whole = rest_of piece at in run_add held now after piece at n so_far (rw whole at more)
+
+-- a byte that is not silent is not taken
+pub not_taken : (held after : Held) (step : Step) → false ≡ is_silent step → after ≡ held_silently held step → after ≡ held
+not_taken held after step silent is = rw (sym silent) at is
+
+-- content of a string
+pub run_content : (osc : Bool) (piece : List ℕ) (at : ℕ) → at < length piece → run (Text osc) (take at piece) ≡ step_to (Text osc) []
+    → step_string osc (get_or piece at 0) ≡ step_to (Text osc) [] → run (Text osc) (take (at + 1) piece) ≡ step_to (Text osc) []
+unfolding step_of
+run_content osc piece at inside so_far step = run_more (Text osc) (Text osc) (Text osc) piece at inside so_far step
+
+-- a byte that is not silent has an event
+pub not_silent : (held : Held) (b : ℕ) → IsHeldPart held → is_silent (step_of held b) ≡ false → events_from held (b ∷ []) ≡ [] → ⊥
+not_silent held b part gives none =
+    go (step_of held b).held (step_of held b).events gives (sym (step_events held b part) ∙ none)
+  where
+    go : (h : Held) (events : List Event) → is_silent (step_to h events) ≡ false → events ≡ [] → ⊥
+    go h [] gives none = cc
+    go h (event ∷ events) gives none = cc
+
+-- ---- values
+
+-- the phase after this many values
+abbrev pub phase_after : Phase → ℕ → Phase
+phase_after phase at = if at == 0 then phase else Values
+
+-- a digit after any early phase
+digit_value : (marker : Option ℕ) (xs : List ℕ) (v : ℕ) (b : ℕ) → 48 ≤ b → b ≤ 57
+    → step_value marker (xs ++ v ∷ []) false b ≡ Control marker (record { items = xs ++ with_digit b v ∷ [] }) false Values
+digit_value marker xs v b low high =
+    let s : (b == 0x3B) ≡ false = grind (arith, nat_tests) in
+    let l : change_last (with_digit b) (xs ++ v ∷ []) ≡ xs ++ with_digit b v ∷ [] = change_last-push (with_digit b) xs v in
+    rw (s, l) refl
+
+pub digit_step : (marker : Option ℕ) (xs : List ℕ) (v : ℕ) (phase : Phase) (b : ℕ) → IsEarly phase → 48 ≤ b → b ≤ 57
+    → step_of (Control marker (record { items = xs ++ v ∷ [] }) false phase) b
+    ≡ step_to (Control marker (record { items = xs ++ with_digit b v ∷ [] }) false Values) []
+unfolding step_of
+digit_step marker xs v Start b early low high =
+    let k : class_of b ≡ Parameter = value_class b low (omega arith) in
+    let c : (b == 0x3A) ≡ false = grind (arith, nat_tests) in
+    let m : nat_le 0x3C b ≡ false = grind (arith, nat_tests) in
+    rw (k, c, m) (ap (λ (h : Held). step_to h []) (digit_value marker xs v b low high))
+digit_step marker xs v Values b early low high =
+    let k : class_of b ≡ Parameter = value_class b low (omega arith) in
+    let c : (b == 0x3A) ≡ false = grind (arith, nat_tests) in
+    let m : nat_le 0x3C b ≡ false = grind (arith, nat_tests) in
+    rw (k, c, m) (ap (λ (h : Held). step_to h []) (digit_value marker xs v b low high))
+digit_step marker xs v (Inter i) b early low high = absurd early
+
+not_full : (xs : List ℕ) (v : ℕ) → length xs < 15 → (length (xs ++ v ∷ []) == 16) ≡ false
+not_full xs v few = simp length-append (grind (arith, nat_tests))
+
+pub separator_step : (marker : Option ℕ) (xs : List ℕ) (v : ℕ) (phase : Phase) → IsEarly phase → length xs < 15
+    → step_of (Control marker (record { items = xs ++ v ∷ [] }) false phase) 0x3B
+    ≡ step_to (Control marker (record { items = (xs ++ v ∷ []) ++ 0 ∷ [] }) false Values) []
+unfolding step_of class_of
+separator_step marker xs v Start early few = let n = not_full xs v few in rw n refl
+separator_step marker xs v Values early few = let n = not_full xs v few in rw n refl
+separator_step marker xs v (Inter i) early few = absurd early
+
+early_after : (phase : Phase) (at : ℕ) → IsEarly phase → IsEarly (phase_after phase at)
+early_after phase at early = go (at == 0)
+  where
+    go : (b : Bool) → IsEarly (if b then phase else Values)
+    go true = early
+    go false = tt
+
+values_after : (phase : Phase) (at : ℕ) → phase_after phase (at + 1) ≡ Values
+values_after phase at = let more : (at + 1 == 0) ≡ false = grind (arith, nat_tests) in rw more refl
+
+-- one more digit
+pub digit_more : (marker : Option ℕ) (params : ArrayVec ℕ) (phase : Phase) (piece xs : List ℕ) (v at : ℕ)
+    → IsEarly phase → at < length piece → 48 ≤ get_or piece at 0 → get_or piece at 0 ≤ 57
+    → run (Control marker params false phase) (take at piece) ≡ step_to (Control marker (record { items = xs ++ v ∷ [] }) false (phase_after phase at)) []
+    → run (Control marker params false phase) (take (at + 1) piece)
+    ≡ step_to (Control marker (record { items = xs ++ with_digit (get_or piece at 0) v ∷ [] }) false (phase_after phase (at + 1))) []
+digit_more marker params phase piece xs v at early inside low high so_far =
+    let e = values_after phase at in
+    rw e (run_more (Control marker params false phase) (Control marker (record { items = xs ++ v ∷ [] }) false (phase_after phase at)) _ piece at inside so_far
+    (digit_step marker xs v (phase_after phase at) (get_or piece at 0) (early_after phase at early) low high))
+
+-- one more `;`
+pub separator_more : (marker : Option ℕ) (params : ArrayVec ℕ) (phase : Phase) (piece xs : List ℕ) (v at : ℕ)
+    → IsEarly phase → at < length piece → get_or piece at 0 ≡ 0x3B → length xs < 15
+    → run (Control marker params false phase) (take at piece) ≡ step_to (Control marker (record { items = xs ++ v ∷ [] }) false (phase_after phase at)) []
+    → run (Control marker params false phase) (take (at + 1) piece)
+    ≡ step_to (Control marker (record { items = (xs ++ v ∷ []) ++ 0 ∷ [] }) false (phase_after phase (at + 1))) []
+separator_more marker params phase piece xs v at early inside is few so_far =
+    let e = values_after phase at in
+    rw e (run_more (Control marker params false phase) (Control marker (record { items = xs ++ v ∷ [] }) false (phase_after phase at)) _ piece at inside so_far
+    (rw is (separator_step marker xs v (phase_after phase at) (early_after phase at early) few)))
+
+-- ---- final bytes
+
+-- a byte 30..3F that gives an event
+pub ending_low : (held : Held) (b : ℕ) → InSequence held → class_of b ≡ Parameter → is_silent (step_of held b) ≡ false → IsEnding held b
+unfolding step_of
+ending_low (Escape Zero) b inside k gives =
+    let low = parameter_low b k in let high = parameter_high b k in (low, omega arith, opens_low b high)
+ending_low (Escape (One i)) b inside k gives =
+    let low = parameter_low b k in let high = parameter_high b k in (low, omega arith)
+ending_low (Escape Many) b inside k gives = let never = rw k at gives in absurd cc
+ending_low (Control marker params full phase) b inside k gives = let never = rw k at gives in absurd cc
+ending_low Spoilt b inside k gives = let never = rw k at gives in absurd cc
+ending_low Nothing b inside k gives = absurd inside
+ending_low (Text osc) b inside k gives = absurd inside
+
+no_opener : (b : ℕ) → is_silent (if opens (b + 0x40) then step_to (opened_by (b + 0x40)) [] else step_to Nothing (escape_function Zero b)) ≡ false
+    → opens (b + 0x40) ≡ false
+no_opener b = go (opens (b + 0x40))
+  where
+    go : (x : Bool) → is_silent (if x then step_to (opened_by (b + 0x40)) [] else step_to Nothing (escape_function Zero b)) ≡ false → x ≡ false
+    go true gives = absurd cc
+    go false gives = refl
+
+-- a byte 40..7E that gives an event
+pub ending_high : (held : Held) (b : ℕ) → InSequence held → class_of b ≡ Final → is_silent (step_of held b) ≡ false → IsEnding held b
+unfolding step_of
+ending_high (Escape Zero) b inside k gives =
+    let low = final_low b k in let high = final_high b k in (omega arith, omega arith, no_opener b (rw k at gives))
+ending_high (Escape (One i)) b inside k gives =
+    let low = final_low b k in let high = final_high b k in (omega arith, omega arith)
+ending_high (Escape Many) b inside k gives = let never = rw k at gives in absurd cc
+ending_high (Control marker params full phase) b inside k gives =
+    let low = final_low b k in let high = final_high b k in (low, omega arith)
+ending_high Spoilt b inside k gives = let never = rw k at gives in absurd cc
+ending_high Nothing b inside k gives = absurd inside
+ending_high (Text osc) b inside k gives = absurd inside

@@ -1,0 +1,8 @@
+-- The bytes that have a glyph in either half, as tests. (EK-VT220-RM, chapter 2: the graphic areas of the code table)
+use Rattle.std.specs.Prelude.{ℕ, Bool, not, ◌&&◌, ◌||◌, nat_le}
+
+abbrev pub is_graphic : ℕ → Bool
+is_graphic b = (nat_le 0x20 b && nat_le b 0x7E) || (nat_le 0xA1 b && nat_le b 0xFE)
+
+abbrev pub is_not_graphic : ℕ → Bool
+is_not_graphic b = not (is_graphic b)

@@ -5,7 +5,7 @@ use Rattle.vt_glyph.specs.Tables.{IsGlyph}
 use Rattle.vt_glyph.specs.Spell.{AreSpellingSets}
 use Rattle.vt_screen.specs.declared.cell.Brush.{Brush}
 use Rattle.vt_screen.specs.declared.cell.Cell.{Cell}
-use Rattle.vt_screen.specs.Cells.{brush_of}
+use Rattle.vt_screen.specs.Cells.{blank, brush_of}
 use Rattle.vt_screen.specs.Grid.{Grid, IsGrid, cell_at, put}
 use Rattle.vt_term.specs.declared.state.Cursor.{Cursor}
 use Rattle.vt_term.specs.State.{Display, at_place, modes_at_power_up}
@@ -58,6 +58,10 @@ cursor_to_run x r c o r1 r24 c1 cw =
 pub write_glyph_run : (x : Display) (r c : ℕ) (cell : Cell) → x.modes.irm ≡ false → x.modes.decawm ≡ true
     → write_glyph cell.glyph (record x { cursor = at_place r c; brush = brush_of cell }) ≡ shown x (put x.grid r c cell) (behind x.grid.width r c) (brush_of cell)
 write_glyph_run x r c cell irm decawm = rw (irm, decawm) refl
+
+pub left_of-first : (g : Grid) (r : ℕ) → left_of g r 1 ≡ blank
+unfolding left_of
+left_of-first g r = refl
 
 pub left_of-next : (g : Grid) (r c : ℕ) → 1 ≤ c → left_of g r (c + 1) ≡ cell_at g r c
 unfolding left_of

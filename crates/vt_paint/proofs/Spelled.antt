@@ -34,6 +34,13 @@ pub rendition_spelled : (r : Rendition) → spell_event (rendition_to r)
     ≡ (0x1B ∷ 0x5B ∷ 0x30 ∷ []) ++ (attribute r.bold 0x31 ++ (attribute r.underline 0x34 ++ (attribute r.blink 0x35 ++ (attribute r.reverse 0x37 ++ 0x6D ∷ []))))
 rendition_spelled r = rendition_four r.bold r.underline r.blink r.reverse
 
+-- what was appended is the spelling, where the attributes are known
+pub rendition_appended : (r : Rendition) (bold underline blink reverse : Bool) (before after : List ℕ)
+    → r.bold ≡ bold → r.underline ≡ underline → r.blink ≡ blink → r.reverse ≡ reverse
+    → after ≡ before ++ ((0x1B ∷ 0x5B ∷ 0x30 ∷ []) ++ (attribute bold 0x31 ++ (attribute underline 0x34 ++ (attribute blink 0x35 ++ (attribute reverse 0x37 ++ 0x6D ∷ [])))))
+    → after ≡ before ++ spell_event (rendition_to r)
+rendition_appended r bold underline blink reverse before after b u k v appended = rw (rendition_spelled r, b, u, k, v) appended
+
 pub protection_spelled : (protected : Bool) → spell_event (protection_to protected)
     ≡ (0x1B ∷ 0x5B ∷ (if protected then 0x31 else 0x30) ∷ 0x22 ∷ 0x71 ∷ [])
 unfolding digits

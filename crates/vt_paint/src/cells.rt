@@ -75,10 +75,10 @@ fn push_row(row: usize, cells: &[Cell], out: &mut Vec<u8>)
     ensures capacity { vec_capacity out.old ≤ vec_capacity out.new }
 {
     rows();
-    let mut left = Cell::blank();
+    let blank = Cell::blank();
     for (i, cell) in cells.iter().enumerate() {
-        push_piece(row, i + 1, &left, cell, out);
-        left = *cell;
+        let left = if i == 0 { &blank } else { &cells[i - 1] };
+        push_piece(row, i + 1, left, cell, out);
     }
 }
 

@@ -75,12 +75,24 @@ fn push_rendition(r: Rendition, out: &mut Vec<u8>)
     ensures bounded { vec_len out.new ≤ vec_len out.old + 12 }
     ensures capacity { vec_capacity out.old ≤ vec_capacity out.new }
 {
-    push_bytes(b"\x1B[0", out);
-    push_where(r.bold, b";1", out);
-    push_where(r.underline, b";4", out);
-    push_where(r.blink, b";5", out);
-    push_where(r.reverse, b";7", out);
-    push_bytes(b"m", out);
+    match (r.bold, r.underline, r.blink, r.reverse) {
+        (false, false, false, false) => push_bytes(b"\x1B[0m", out),
+        (false, false, false, true) => push_bytes(b"\x1B[0;7m", out),
+        (false, false, true, false) => push_bytes(b"\x1B[0;5m", out),
+        (false, false, true, true) => push_bytes(b"\x1B[0;5;7m", out),
+        (false, true, false, false) => push_bytes(b"\x1B[0;4m", out),
+        (false, true, false, true) => push_bytes(b"\x1B[0;4;7m", out),
+        (false, true, true, false) => push_bytes(b"\x1B[0;4;5m", out),
+        (false, true, true, true) => push_bytes(b"\x1B[0;4;5;7m", out),
+        (true, false, false, false) => push_bytes(b"\x1B[0;1m", out),
+        (true, false, false, true) => push_bytes(b"\x1B[0;1;7m", out),
+        (true, false, true, false) => push_bytes(b"\x1B[0;1;5m", out),
+        (true, false, true, true) => push_bytes(b"\x1B[0;1;5;7m", out),
+        (true, true, false, false) => push_bytes(b"\x1B[0;1;4m", out),
+        (true, true, false, true) => push_bytes(b"\x1B[0;1;4;7m", out),
+        (true, true, true, false) => push_bytes(b"\x1B[0;1;4;5m", out),
+        (true, true, true, true) => push_bytes(b"\x1B[0;1;4;5;7m", out),
+    }
 }
 
 /// DECSCA.
@@ -167,6 +179,7 @@ pub(crate) fn push_sets(g: &[Set; 4], left: u8, right: u8, out: &mut Vec<u8>)
 }
 
 /// A glyph, where the sets are those of its spelling.
+#[inline(always)]
 pub(crate) fn push_glyph(glyph: Glyph, out: &mut Vec<u8>)
     requires { vec_len out.old + 3 ≤ vec_capacity out.old }
     ensures items { out.new.items ≡ out.old.items ++ spell_events (spelling_events (spelling_of glyph)) }

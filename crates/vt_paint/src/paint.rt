@@ -19,6 +19,8 @@ use vt_term::Terminal;
 /// The most bytes of a repaint: 29 for each of 24 rows of 132 cells, 10 for each tab stop, and 320 for the rest.
 pub const PAINT_LIMIT: usize = 29 * 24 * 132 + 10 * 132 + 320;
 
+const _: () = prove!(PAINT_LIMIT == 93512);
+
 /// Why nothing was painted.
 #[derive(Clone, Copy, Debug, PartialEq, Eq, Error)]
 pub enum PaintError {

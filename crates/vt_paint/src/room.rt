@@ -35,6 +35,8 @@ pub(crate) fn push_number(n: u8, out: &mut Vec<u8>)
     ensures capacity { vec_capacity out.old ≤ vec_capacity out.new }
 {
     let mut buffer = Buffer::new();
-    let digits = buffer.format(n);
-    push_bytes(digits.as_bytes(), out);
+    let digits = buffer.format(n).as_bytes();
+    for digit in digits.iter() {
+        push_bytes(&[*digit], out);
+    }
 }

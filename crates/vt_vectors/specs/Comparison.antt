@@ -1,0 +1,19 @@
+-- How two outcomes compare: the text first, then the reports, then the repaint. (this profile)
+use Rattle.std.specs.Prelude.{◌≡◌, ◌≢◌, Result, Ok, Err}
+use Rattle.vt_vectors.specs.declared.mismatch.Mismatch.{Mismatch}
+use Rattle.vt_vectors.specs.declared.mismatch.Mismatch.TheVariants.{Memory, Text, Reports, Repaint}
+use Rattle.std.specs.Option.{option_copied}
+use Rattle.vt_vectors.specs.declared.expectation.Vector.{Vector}
+use Rattle.vt_vectors.specs.Outcome.{Outcome}
+
+-- what a vector says that its input must give
+abbrev pub expected_of : Vector → Outcome
+expected_of v = record { text = v.text.now; reports = v.reports.now; repaint = option_copied v.repaint }
+
+-- what each answer says of what is expected and what was given; want of memory says nothing of them
+abbrev pub Compares : Result (Unit {0}) Mismatch → (expected given : Outcome) → Type 0
+Compares (Ok u) expected given = (expected.text ≡ given.text) × (expected.reports ≡ given.reports) × (expected.repaint ≡ given.repaint)
+Compares (Err Memory) expected given = Unit {0}
+Compares (Err Text) expected given = expected.text ≢ given.text
+Compares (Err Reports) expected given = (expected.text ≡ given.text) × (expected.reports ≢ given.reports)
+Compares (Err Repaint) expected given = (expected.text ≡ given.text) × (expected.reports ≡ given.reports) × (expected.repaint ≢ given.repaint)

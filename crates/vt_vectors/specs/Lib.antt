@@ -1,0 +1,5 @@
+pub mod Outcome
+pub mod Comparison
+pub mod HeldSamples
+pub mod Devices
+pub mod Bench

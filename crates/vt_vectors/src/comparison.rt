@@ -1,0 +1,168 @@
+//! Holding the terminal against a vector.
+ghost use Rattle.std.specs.Prelude.{◌≡◌, ◌↔◌, ◌≤◌, ◌+◌, ◌*◌, ◌++◌, ℕ, List, [], IsTrue, IsErrOf, IfOk, length, vec_len, vec_capacity};
+ghost use Rattle.std.specs.Option.{option_copied};
+ghost use Rattle.vt_term.specs.Text.{text};
+ghost use Rattle.vt_vectors.specs.Outcome.{outcome_of, outcome_after, repaint_of};
+ghost use Rattle.vt_vectors.specs.Comparison.{Compares, expected_of};
+
+use crate::expectation::Vector;
+use crate::mismatch::Mismatch;
+use std::alloc::{AllocError, Global};
+use vt_paint::laws::rebuilds;
+use vt_paint::{PAINT_LIMIT, repaint_reserved};
+use vt_term::Terminal;
+use vt_term::laws::{cuts, soundness};
+
+/// The most report bytes for each byte of a piece.
+const REPORT_LIMIT: usize = 10;
+
+/// Holds the terminal against a vector: plays its input from power-up whole, byte by byte, and in every cut into two
+/// (length plus one places, empty parts included), and compares after each play the text, then the reports, then the
+/// repaint. The first difference decides.
+///
+/// All memory is taken before the first play.
+///
+/// # Errors
+///
+/// `Memory` where a growth was refused; `Text`, `Reports` or `Repaint` where that one differs and those before it don't.
+pub fn check(alloc: Global, v: &Vector<'_>) -> Result<(), Mismatch>
+    ensures { Compares result (expected_of v.now) (outcome_of v.now.input.now) }
+{
+    let mut bench = Bench::new(alloc, v.input.len())?;
+    bench.check(v)
+}
+
+/// A terminal, and the room for what it gives.
+#[derive(Drop)]
+struct Bench {
+    terminal: Terminal,
+    /// The repaint of a terminal as at power-up, which brings any terminal there.
+    power_up: Vec<u8>,
+    reports: Vec<u8>,
+    output: Vec<u8>,
+}
+
+impl Bench {
+    ghost use Rattle.vt_vectors.specs.Bench.{IsReady, HasPlayed, IsKept};
+
+    /// A bench with the room for plays of an input of so many bytes.
+    fn new(alloc: Global, longest: usize) -> Result<Bench, AllocError>
+        ensures ready { IfOk result IsReady }
+        ensures room { IfOk result (λ b. 10 * longest ≤ vec_capacity b.reports) }
+    {
+        soundness();
+        let terminal = Terminal::new(alloc)?;
+        let mut power_up = Vec::with_capacity(alloc, PAINT_LIMIT)?;
+        repaint_reserved(&terminal, &mut power_up);
+        let longest = longest.max(power_up.len());
+        let room = longest.checked_mul(REPORT_LIMIT).ok_or(AllocError)?;
+        Ok(Bench {
+            terminal,
+            power_up,
+            reports: Vec::with_capacity(alloc, room)?,
+            output: Vec::with_capacity(alloc, PAINT_LIMIT)?,
+        })
+    }
+
+    /// Plays the vector's input whole, byte by byte, and in every cut into two, and compares after each play.
+    fn check(&mut self, v: &Vector<'_>) -> Result<(), Mismatch>
+        requires ready { IsReady self.old }
+        requires room { 10 * length v.now.input.now ≤ vec_capacity self.old.reports }
+        ensures compares { Compares result (expected_of v.now) (outcome_of v.now.input.now) }
+        ensures no_memory { ¬ IsErrOf result Mismatch.Memory }
+    {
+        self.start();
+        self.feed(v.input);
+        self.compare(v)?;
+        self.start();
+        for at in 0..v.input.len() {
+            self.feed(&v.input[at..at + 1]);
+        }
+        self.compare(v)?;
+        for cut in 0..v.input.len() + 1 {
+            let (front, back) = v.input.split_at(cut);
+            self.start();
+            self.feed(front);
+            self.feed(back);
+            self.compare(v)?;
+        }
+        Ok(())
+    }
+
+    /// Brings the terminal to power-up, with no report.
+    fn start(&mut self)
+        requires { IsReady self.old }
+        ensures ready { IsReady self.new }
+        ensures played { HasPlayed [] self.new }
+        ensures reports { vec_len self.new.reports ≡ 0 }
+        ensures capacity { vec_capacity self.old.reports ≤ vec_capacity self.new.reports }
+    {
+        rebuilds();
+        soundness();
+        cuts();
+        self.reports.clear();
+        self.terminal
+            .feed_reserved(&self.power_up, &mut self.reports);
+    }
+
+    /// Plays a piece, for whose reports there is room.
+    fn feed(&mut self, piece: &[u8])
+        requires ready { IsReady self.old }
+        requires room { vec_len self.old.reports + 10 * length piece.now ≤ vec_capacity self.old.reports }
+        ensures ready { IsReady self.new }
+        ensures played { (bytes : List ℕ) → HasPlayed bytes self.old → HasPlayed (bytes ++ piece.now) self.new }
+        ensures reports { vec_len self.new.reports ≤ vec_len self.old.reports + 10 * length piece.now }
+        ensures capacity { vec_capacity self.old.reports ≤ vec_capacity self.new.reports }
+    {
+        cuts();
+        soundness();
+        self.terminal.feed_reserved(piece, &mut self.reports);
+    }
+
+    /// Compares what the terminal has given with what the vector expects.
+    fn compare(&mut self, v: &Vector<'_>) -> Result<(), Mismatch>
+        requires { IsReady self.old }
+        ensures kept { IsKept self.old self.new }
+        ensures compares { Compares result (expected_of v.now) (outcome_after (record { state = self.old.terminal; reports = self.old.reports.items })) }
+        ensures no_memory { ¬ IsErrOf result Mismatch.Memory }
+    {
+        if !self.shows(v.text) {
+            return Err(Mismatch::Text);
+        }
+        if self.reports.as_slice() != v.reports {
+            return Err(Mismatch::Reports);
+        }
+        if !self.repaints(v.repaint) {
+            return Err(Mismatch::Repaint);
+        }
+        Ok(())
+    }
+
+    /// Whether the terminal's text is the expected one.
+    fn shows(&mut self, expected: &[u8]) -> bool
+        requires { IsReady self.old }
+        ensures kept { IsKept self.old self.new }
+        ensures same { IsTrue result ↔ (expected.now ≡ text self.old.terminal) }
+    {
+        self.output.clear();
+        self.terminal.text_reserved(&mut self.output);
+        self.output.as_slice() == expected
+    }
+
+    /// Whether the terminal's repaint is the expected one, or neither is there.
+    fn repaints(&mut self, expected: Option<&[u8]>) -> bool
+        requires { IsReady self.old }
+        ensures kept { IsKept self.old self.new }
+        ensures same { IsTrue result ↔ (option_copied expected.entry ≡ repaint_of self.old.terminal) }
+    {
+        if !self.terminal.is_between() {
+            return expected.is_none();
+        }
+        let Some(expected) = expected else {
+            return false;
+        };
+        self.output.clear();
+        repaint_reserved(&self.terminal, &mut self.output);
+        self.output.as_slice() == expected
+    }
+}

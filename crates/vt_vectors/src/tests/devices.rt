@@ -1,0 +1,78 @@
+//! The devices, through the bounds that a caller has.
+use crate::{ShortReader, ShortWriter};
+use std::alloc::Global;
+use std::io::{Read, Write};
+use std::test::Fail;
+
+/// The answers of so many reads, each of at most four bytes, in one line: what was read, or `!` for an error, and `,`.
+fn reads<R: Read>(alloc: Global, reader: &mut R, count: u8) -> Result<Vec<u8>, Fail> {
+    let mut line = Vec::new(alloc);
+    for _ in 0..count {
+        let mut buffer = [0u8; 4];
+        match reader.read(&mut buffer) {
+            Ok(n) => line.extend_from_slice(buffer.get(..n).unwrap_or(b"?"))?,
+            Err(_) => line.push(b'!')?,
+        }
+        line.push(b',')?;
+    }
+    Ok(line)
+}
+
+/// The answers of so many writes of a piece's rest, in one line: how many bytes were taken, or `!` for an error, and `,`.
+fn writes<W: Write>(
+    alloc: Global,
+    writer: &mut W,
+    piece: &[u8],
+    count: u8,
+) -> Result<String, Fail> {
+    let mut line = String::new(alloc);
+    let mut left = piece;
+    for _ in 0..count {
+        match writer.write(left) {
+            Ok(n) => {
+                left = left.get(n..).unwrap_or(b"?");
+                let taken = format!(in alloc; "{n},")?;
+                line.push_str(taken.as_str())?;
+            }
+            Err(_) => line.push_str("!,")?,
+        }
+    }
+    Ok(line)
+}
+
+#[test]
+fn a_reader_gives_little_and_fails_once(rt: HostRuntime) -> Result<(), Fail> {
+    let rows: [(usize, Option<usize>, &[u8]); 6] = [
+        (1, None, b"a,b,c,d,e,f,g,,"),
+        (3, None, b"abc,def,g,,,,,,"),
+        (9, None, b"abcd,efg,,,,,,,"),
+        (1, Some(3), b"a,b,!,c,d,e,f,g,"),
+        (3, Some(1), b"!,abc,def,g,,,,,"),
+        (3, Some(0), b"abc,def,g,,,,,,"),
+    ];
+    for (most, fail, line) in rows {
+        let mut reader = ShortReader::new(b"abcdefg", most.max(1), fail);
+        let answers = reads(rt.alloc(), &mut reader, 8)?;
+        assert_eq!(rt; answers.as_slice(), line);
+    }
+    Ok(())
+}
+
+#[test]
+fn a_writer_takes_little_and_fails_once(rt: HostRuntime) -> Result<(), Fail> {
+    let rows: [(usize, usize, Option<usize>, &str, &[u8]); 5] = [
+        (9, 3, None, "3,3,1,0,", b"abcdefg"),
+        (5, 3, None, "3,2,0,0,", b"abcde"),
+        (9, 3, Some(2), "3,!,3,1,", b"abcdefg"),
+        (9, 9, Some(1), "!,7,0,0,", b"abcdefg"),
+        (0, 1, Some(5), "0,0,0,0,", b""),
+    ];
+    for (room, most, fail, line, taken) in rows {
+        let into = Vec::with_capacity(rt.alloc(), room)?;
+        let mut writer = ShortWriter::new(into, room, most.max(1), fail);
+        let answers = writes(rt.alloc(), &mut writer, b"abcdefg", 4)?;
+        assert_eq!(rt; answers.as_str(), line);
+        assert_eq!(rt; writer.taken(), taken);
+    }
+    Ok(())
+}

@@ -1,0 +1,86 @@
+//! The conformance vectors, one file a subject.
+ghost use Rattle.std.specs.Prelude.{◌≡◌, ◌≤◌, ◌<◌, length};
+
+mod attributes;
+mod cursor;
+mod editing;
+mod held;
+mod modes;
+mod parts;
+mod plain;
+mod reports;
+mod sets;
+mod syntax;
+mod width;
+
+use crate::expectation::Vector;
+
+/// A vector as its file gives it: the text and the repaint as strings.
+#[derive(Clone, Copy)]
+struct Row {
+    input: &'static [u8],
+    text: &'static str,
+    reports: &'static [u8],
+    repaint: Option<&'static str>,
+}
+
+impl Row {
+    fn vector(&self) -> Vector<'static>
+        ensures { result.input ≡ self.now.input }
+    {
+        Vector {
+            input: self.input,
+            text: self.text.as_bytes(),
+            reports: self.reports,
+            repaint: self.repaint.map(|repaint| repaint.as_bytes()),
+        }
+    }
+}
+
+const SUBJECTS: [&[Row]; 10] = [
+    &plain::ROWS,
+    &syntax::ROWS,
+    &held::ROWS,
+    &sets::ROWS,
+    &attributes::ROWS,
+    &editing::ROWS,
+    &cursor::ROWS,
+    &modes::ROWS,
+    &reports::ROWS,
+    &width::ROWS,
+];
+
+/// How many conformance vectors there are.
+pub const VECTOR_COUNT: usize = plain::ROWS.len()
+    + syntax::ROWS.len()
+    + held::ROWS.len()
+    + sets::ROWS.len()
+    + attributes::ROWS.len()
+    + editing::ROWS.len()
+    + cursor::ROWS.len()
+    + modes::ROWS.len()
+    + reports::ROWS.len()
+    + width::ROWS.len();
+
+/// How many conformance vectors there are: at least 60.
+pub fn vector_count() -> usize
+    ensures many { 60 ≤ result }
+    ensures count { result ≡ VECTOR_COUNT }
+{
+    VECTOR_COUNT
+}
+
+/// The `i`-th conformance vector, counted from 0. Its input has at most 200 bytes.
+pub fn vector(i: usize) -> Vector<'static>
+    requires { i < VECTOR_COUNT }
+    ensures { length result.input.now ≤ 200 }
+{
+    let mut left = i;
+    for rows in SUBJECTS {
+        if left < rows.len() {
+            return rows[left].vector();
+        }
+        left -= rows.len();
+    }
+    unreachable!()
+}

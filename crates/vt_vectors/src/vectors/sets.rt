@@ -1,0 +1,193 @@
+//! Graphic sets and shifts.
+use super::Row;
+use super::parts::joined;
+
+pub(super) const ROWS: [Row; 21] = [
+    // the British pound sign
+    Row {
+        input: b"\x1b(A#",
+        text: joined!("£\n" EMPTY 23),
+        reports: b"",
+        repaint: Some(joined!(
+            "\x1bc" HEAD "\x1b[1;1H" PLAIN "\x1bN#\x1b[1;2H" PLAIN
+            "\x1b(A\x1b)B\x1b*<\x1b+<\x0f\x1b}"
+        )),
+    },
+    // that of Special Graphics
+    Row {
+        input: b"\x1b(0}",
+        text: joined!("£\n" EMPTY 23),
+        reports: b"",
+        repaint: Some(joined!(
+            "\x1bc" HEAD "\x1b[1;1H" PLAIN "\x1bN#\x1b[1;2H" PLAIN
+            "\x1b(0\x1b)B\x1b*<\x1b+<\x0f\x1b}"
+        )),
+    },
+    // that of the Supplemental set
+    Row {
+        input: b"\xa3",
+        text: joined!("£\n" EMPTY 23),
+        reports: b"",
+        repaint: Some(joined!("\x1bc" HEAD "\x1b[1;1H" PLAIN "\x1bN#\x1b[1;2H" PLAIN SETS)),
+    },
+    // a cell keeps nothing of the set: British, and back to ASCII
+    Row {
+        input: b"\x1b(A#\x1b(B",
+        text: joined!("£\n" EMPTY 23),
+        reports: b"",
+        repaint: Some(joined!("\x1bc" HEAD "\x1b[1;1H" PLAIN "\x1bN#\x1b[1;2H" PLAIN SETS)),
+    },
+    // Special Graphics, and back to ASCII
+    Row {
+        input: b"\x1b(0}\x1b(B",
+        text: joined!("£\n" EMPTY 23),
+        reports: b"",
+        repaint: Some(joined!("\x1bc" HEAD "\x1b[1;1H" PLAIN "\x1bN#\x1b[1;2H" PLAIN SETS)),
+    },
+    // line drawing by G1
+    Row {
+        input: b"\x1b)0\x0elqk",
+        text: joined!("┌─┐\n" EMPTY 23),
+        reports: b"",
+        repaint: Some(joined!(
+            "\x1bc" HEAD "\x1b[1;1H" PLAIN "\x1bOl\x1bOq\x1bOk\x1b[1;4H" PLAIN
+            "\x1b(B\x1b)0\x1b*<\x1b+<\x0e\x1b}"
+        )),
+    },
+    // a single shift is pending
+    Row {
+        input: b"\x1bN",
+        text: joined!(EMPTY 24),
+        reports: b"",
+        repaint: Some(joined!("\x1bc\x1b[1;1H" PLAIN SETS "\x1bN")),
+    },
+    // a locking shift of the right half
+    Row {
+        input: b"\x1b~\xe1",
+        text: joined!("a\n" EMPTY 23),
+        reports: b"",
+        repaint: Some(joined!(
+            "\x1bc" HEAD "\x1b[1;1H" PLAIN "a\x1b[1;2H" PLAIN
+            "\x1b(B\x1b)B\x1b*<\x1b+<\x0f\x1b~"
+        )),
+    },
+    // a second single shift replaces the first
+    Row {
+        input: b"\x1b+0\x8e\x8fq",
+        text: joined!("─\n" EMPTY 23),
+        reports: b"",
+        repaint: Some(joined!(
+            "\x1bc" HEAD "\x1b[1;1H" PLAIN "\x1bOq\x1b[1;2H" PLAIN
+            "\x1b(B\x1b)B\x1b*<\x1b+0\x0f\x1b}"
+        )),
+    },
+    // A0 and DEL leave a single shift
+    Row {
+        input: b"\x1b+0\x8f\xa0\x7fq",
+        text: joined!("─\n" EMPTY 23),
+        reports: b"",
+        repaint: Some(joined!(
+            "\x1bc" HEAD "\x1b[1;1H" PLAIN "\x1bOq\x1b[1;2H" PLAIN
+            "\x1b(B\x1b)B\x1b*<\x1b+0\x0f\x1b}"
+        )),
+    },
+    // a space uses a single shift up
+    Row {
+        input: b"\x1b+0\x8f q",
+        text: joined!(" q\n" EMPTY 23),
+        reports: b"",
+        repaint: Some(joined!(
+            "\x1bc" HEAD "\x1b[1;2H" PLAIN "q\x1b[1;3H" PLAIN
+            "\x1b(B\x1b)B\x1b*<\x1b+0\x0f\x1b}"
+        )),
+    },
+    // places of the Supplemental set that differ from Latin 1
+    Row {
+        input: b"\xa8\xd7\xdd\xf7\xfd",
+        text: joined!("¤ŒŸœÿ\n" EMPTY 23),
+        reports: b"",
+        repaint: Some(joined!(
+            "\x1bc" HEAD "\x1b[1;1H" PLAIN "\x1bN(\x1bNW\x1bN]\x1bNw\x1bN}\x1b[1;6H" PLAIN
+            SETS
+        )),
+    },
+    // places of the Supplemental set that are undefined
+    Row {
+        input: b"\xa4\xfe",
+        text: joined!("␦␦\n" EMPTY 23),
+        reports: b"",
+        repaint: Some(joined!("\x1bc" HEAD "\x1b[1;1H" PLAIN "\x1bN$\x1bN$\x1b[1;3H" PLAIN SETS)),
+    },
+    // the space and the bar of Special Graphics
+    Row {
+        input: b"\x1b(0_x",
+        text: joined!(" │\n" EMPTY 23),
+        reports: b"",
+        repaint: Some(joined!(
+            "\x1bc" HEAD "\x1b[1;2H" PLAIN "\x1bOx\x1b[1;3H" PLAIN
+            "\x1b(0\x1b)B\x1b*<\x1b+<\x0f\x1b}"
+        )),
+    },
+    // a final that names no set
+    Row {
+        input: b"\x1b(Z#",
+        text: joined!("#\n" EMPTY 23),
+        reports: b"",
+        repaint: Some(joined!("\x1bc" HEAD "\x1b[1;1H" PLAIN "#\x1b[1;2H" PLAIN SETS)),
+    },
+    // the German set
+    Row {
+        input: b"\x1b(K@[\\]{|}~",
+        text: joined!("§ÄÖÜäöüß\n" EMPTY 23),
+        reports: b"",
+        repaint: Some(joined!(
+            "\x1bc" HEAD "\x1b[1;1H" PLAIN
+            "\x1bN'\x1bND\x1bNV\x1bN\\\x1bNd\x1bNv\x1bN|\x1bN_\x1b[1;9H" PLAIN
+            "\x1b(K\x1b)B\x1b*<\x1b+<\x0f\x1b}"
+        )),
+    },
+    // one German letter
+    Row {
+        input: b"\x1b(K[",
+        text: joined!("Ä\n" EMPTY 23),
+        reports: b"",
+        repaint: Some(joined!(
+            "\x1bc" HEAD "\x1b[1;1H" PLAIN "\x1bND\x1b[1;2H" PLAIN
+            "\x1b(K\x1b)B\x1b*<\x1b+<\x0f\x1b}"
+        )),
+    },
+    // German, and back to ASCII
+    Row {
+        input: b"\x1b(K[\x1b(B",
+        text: joined!("Ä\n" EMPTY 23),
+        reports: b"",
+        repaint: Some(joined!("\x1bc" HEAD "\x1b[1;1H" PLAIN "\x1bND\x1b[1;2H" PLAIN SETS)),
+    },
+    // German in the right half
+    Row {
+        input: b"\x1b)K\x1b~\xdb",
+        text: joined!("Ä\n" EMPTY 23),
+        reports: b"",
+        repaint: Some(joined!(
+            "\x1bc" HEAD "\x1b[1;1H" PLAIN "\x1bND\x1b[1;2H" PLAIN
+            "\x1b(B\x1b)K\x1b*<\x1b+<\x0f\x1b~"
+        )),
+    },
+    // German codes that are as in ASCII
+    Row {
+        input: b"\x1b(K$A",
+        text: joined!("$A\n" EMPTY 23),
+        reports: b"",
+        repaint: Some(joined!(
+            "\x1bc" HEAD "\x1b[1;1H" PLAIN "$A\x1b[1;3H" PLAIN
+            "\x1b(K\x1b)B\x1b*<\x1b+<\x0f\x1b}"
+        )),
+    },
+    // a soft reset gives ASCII back, also in what is saved
+    Row {
+        input: b"\x1b(K\x1b7\x1b[!p[",
+        text: joined!("[\n" EMPTY 23),
+        reports: b"",
+        repaint: Some(joined!("\x1bc" HEAD "\x1b[1;1H" PLAIN "[\x1b[1;2H" PLAIN SETS "\x1b[?7l")),
+    },
+];

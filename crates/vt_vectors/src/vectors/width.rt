@@ -1,0 +1,152 @@
+//! 132 columns, the alignment display, and repaints from before there were 132 columns.
+use super::Row;
+use super::parts::joined;
+
+pub(super) const ROWS: [Row; 10] = [
+    // 132 columns
+    Row {
+        input: b"\x1b[?3h",
+        text: joined!(EMPTY 24),
+        reports: b"",
+        repaint: Some(joined!("\x1bc\x1b[?3h\x1b[1;1H" PLAIN SETS)),
+    },
+    // a full line of 132 columns
+    Row {
+        input: b"\x1b[?3hxxxxxxxxxxxxxxxxxxxxxxxxxxxxxxxxxxxxxxxxxxxxxxxxxxxxxxxxxxxxxxxxxxxxxxxxxxxxxxxxxxxxxxxxxxxxxxxxxxxxxxxxxxxxxxxxxxxxxxxxxxxxxxxxxxxx\x1b[6n",
+        text: joined!(X_80 X_52 "\n" EMPTY 23),
+        reports: b"\x1b[1;132R",
+        repaint: Some(joined!(
+            "\x1bc\x1b[?3h" HEAD "\x1b[1;1H" PLAIN X_80 X_52 "\x1b[1;132H" PLAIN "x" PLAIN
+            SETS
+        )),
+    },
+    // a stop past column 80 is kept at 80 columns, where a tab goes to the last column
+    Row {
+        input: b"\x1b[?3h\x1b[3g\x1b[1;100H\x1bH\x1b[?3l\t",
+        text: joined!(EMPTY 24),
+        reports: b"",
+        repaint: Some(joined!("\x1bc\x1b[?3h\x1b[3g\x1b[1;100H\x1bH\x1b[?3l\x1b[1;80H" PLAIN SETS)),
+    },
+    // a saved column past 80 becomes 80
+    Row {
+        input: b"\x1b[?3h\x1b[5;120H\x1b7\x1b[?3l\x1b8",
+        text: joined!(EMPTY 24),
+        reports: b"",
+        repaint: Some(joined!("\x1bc\x1b[5;80H" PLAIN SETS "\x1b7\x1b[5;80H" PLAIN SETS)),
+    },
+    // 80 columns are cleared also where they are there already
+    Row {
+        input: b"A\x1b[?3lB",
+        text: joined!("B\n" EMPTY 23),
+        reports: b"",
+        repaint: Some(joined!("\x1bc" HEAD "\x1b[1;1H" PLAIN "B\x1b[1;2H" PLAIN SETS)),
+    },
+    // a soft reset keeps the columns
+    Row {
+        input: b"\x1b[?3hA\x1b[!p",
+        text: joined!("A\n" EMPTY 23),
+        reports: b"",
+        repaint: Some(
+            joined!("\x1bc\x1b[?3h" HEAD "\x1b[1;1H" PLAIN "A\x1b[1;2H" PLAIN SETS "\x1b[?7l"),
+        ),
+    },
+    // the alignment display at 80 columns
+    Row {
+        input: b"\x1b#8",
+        text: joined!(
+            E_80 "\n" E_80 "\n" E_80 "\n" E_80 "\n" E_80 "\n" E_80 "\n"
+            E_80 "\n" E_80 "\n" E_80 "\n" E_80 "\n" E_80 "\n" E_80 "\n"
+            E_80 "\n" E_80 "\n" E_80 "\n" E_80 "\n" E_80 "\n" E_80 "\n"
+            E_80 "\n" E_80 "\n" E_80 "\n" E_80 "\n" E_80 "\n" E_80 "\n"
+        ),
+        reports: b"",
+        repaint: Some(joined!(
+            "\x1bc" HEAD
+            "\x1b[1;1H" PLAIN E_80
+            "\x1b[2;1H" PLAIN E_80
+            "\x1b[3;1H" PLAIN E_80
+            "\x1b[4;1H" PLAIN E_80
+            "\x1b[5;1H" PLAIN E_80
+            "\x1b[6;1H" PLAIN E_80
+            "\x1b[7;1H" PLAIN E_80
+            "\x1b[8;1H" PLAIN E_80
+            "\x1b[9;1H" PLAIN E_80
+            "\x1b[10;1H" PLAIN E_80
+            "\x1b[11;1H" PLAIN E_80
+            "\x1b[12;1H" PLAIN E_80
+            "\x1b[13;1H" PLAIN E_80
+            "\x1b[14;1H" PLAIN E_80
+            "\x1b[15;1H" PLAIN E_80
+            "\x1b[16;1H" PLAIN E_80
+            "\x1b[17;1H" PLAIN E_80
+            "\x1b[18;1H" PLAIN E_80
+            "\x1b[19;1H" PLAIN E_80
+            "\x1b[20;1H" PLAIN E_80
+            "\x1b[21;1H" PLAIN E_80
+            "\x1b[22;1H" PLAIN E_80
+            "\x1b[23;1H" PLAIN E_80
+            "\x1b[24;1H" PLAIN E_80
+            "\x1b[1;1H" PLAIN SETS
+        )),
+    },
+    // the alignment display at 132 columns
+    Row {
+        input: b"\x1b[?3h\x1b#8",
+        text: joined!(
+            E_80 E_52 "\n" E_80 E_52 "\n" E_80 E_52 "\n" E_80 E_52 "\n"
+            E_80 E_52 "\n" E_80 E_52 "\n" E_80 E_52 "\n" E_80 E_52 "\n"
+            E_80 E_52 "\n" E_80 E_52 "\n" E_80 E_52 "\n" E_80 E_52 "\n"
+            E_80 E_52 "\n" E_80 E_52 "\n" E_80 E_52 "\n" E_80 E_52 "\n"
+            E_80 E_52 "\n" E_80 E_52 "\n" E_80 E_52 "\n" E_80 E_52 "\n"
+            E_80 E_52 "\n" E_80 E_52 "\n" E_80 E_52 "\n" E_80 E_52 "\n"
+        ),
+        reports: b"",
+        repaint: Some(joined!(
+            "\x1bc\x1b[?3h" HEAD
+            "\x1b[1;1H" PLAIN E_80 E_52
+            "\x1b[2;1H" PLAIN E_80 E_52
+            "\x1b[3;1H" PLAIN E_80 E_52
+            "\x1b[4;1H" PLAIN E_80 E_52
+            "\x1b[5;1H" PLAIN E_80 E_52
+            "\x1b[6;1H" PLAIN E_80 E_52
+            "\x1b[7;1H" PLAIN E_80 E_52
+            "\x1b[8;1H" PLAIN E_80 E_52
+            "\x1b[9;1H" PLAIN E_80 E_52
+            "\x1b[10;1H" PLAIN E_80 E_52
+            "\x1b[11;1H" PLAIN E_80 E_52
+            "\x1b[12;1H" PLAIN E_80 E_52
+            "\x1b[13;1H" PLAIN E_80 E_52
+            "\x1b[14;1H" PLAIN E_80 E_52
+            "\x1b[15;1H" PLAIN E_80 E_52
+            "\x1b[16;1H" PLAIN E_80 E_52
+            "\x1b[17;1H" PLAIN E_80 E_52
+            "\x1b[18;1H" PLAIN E_80 E_52
+            "\x1b[19;1H" PLAIN E_80 E_52
+            "\x1b[20;1H" PLAIN E_80 E_52
+            "\x1b[21;1H" PLAIN E_80 E_52
+            "\x1b[22;1H" PLAIN E_80 E_52
+            "\x1b[23;1H" PLAIN E_80 E_52
+            "\x1b[24;1H" PLAIN E_80 E_52
+            "\x1b[1;1H" PLAIN SETS
+        )),
+    },
+    // a repaint of the time of 80 columns alone, played: the one stop stays
+    Row {
+        input: b"\x1bc\x1b[3g\x1b[1;5H\x1bH\x1b[1;5H\x1b[0m\x1b[0\"q\x1b(B\x1b)B\x1b*<\x1b+<\x0f\x1b}",
+        text: joined!(EMPTY 24),
+        reports: b"",
+        repaint: Some(joined!("\x1bc\x1b[?3h\x1b[3g\x1b[1;5H\x1bH\x1b[?3l\x1b[1;5H" PLAIN SETS)),
+    },
+    // another: it knew no stop past column 80, so none is there
+    Row {
+        input: b"\x1bc\x1b[3g\x1b[1;6H\x1bH\x1b[1;9H\x1bH\x1b[1;17H\x1bH\x1b[1;25H\x1bH\x1b[1;33H\x1bH\x1b[1;41H\x1bH\x1b[1;49H\x1bH\x1b[1;57H\x1bH\x1b[1;65H\x1bH\x1b[1;73H\x1bH\x1b[1;6H\x1b[0m\x1b[0\"q\x1b(B\x1b)B\x1b*<\x1b+<\x0f\x1b}",
+        text: joined!(EMPTY 24),
+        reports: b"",
+        repaint: Some(joined!(
+            "\x1bc\x1b[?3h\x1b[3g"
+            "\x1b[1;6H\x1bH\x1b[1;9H\x1bH\x1b[1;17H\x1bH\x1b[1;25H\x1bH"
+            "\x1b[1;33H\x1bH\x1b[1;41H\x1bH\x1b[1;49H\x1bH\x1b[1;57H\x1bH"
+            "\x1b[1;65H\x1bH\x1b[1;73H\x1bH" "\x1b[?3l\x1b[1;6H" PLAIN SETS
+        )),
+    },
+];

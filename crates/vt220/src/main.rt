@@ -1,61 +1,104 @@
-//! The program: the words, standard input, the engine, the line on standard error, the status.
+//! The program: the words, the file, the engine, the line on standard error, the status.
 #![tactic(auto)]
 
-use std::env::Env;
-use std::io::Write;
+ghost use Rattle.std.specs.Prelude.{◌≤◌};
+
+use std::env::{self, Env};
+use std::fs::{File, Files};
+use std::io::{self, ErrorKind, Input, Read, Write};
 use std::process::ExitCode;
-use std::{env, io};
-use vt_replay::{Fault, Watched, What, run};
-
-/// The most bytes of one read.
-const PIECE: usize = 4096;
-
-/// The most bytes of an input.
-const LIMIT: u64 = 268435456;
+use vt_replay::{Fault, Refused, Settings, Watched, run, settings};
 
 /// The status of a wrong command line.
-const BAD_WORDS: u8 = 2;
+const BAD_COMMAND_LINE: u8 = 2;
 
-/// What the one word asks for.
-fn what_of(word: &str) -> Option<What> {
-    match word {
-        "text" => Some(What::Text),
-        "reports" => Some(What::Reports),
-        "repaint" => Some(What::Repaint),
-        "status" => Some(What::Status),
-        _ => None,
+/// Ends the program with a fault's line and status.
+fn ended_by(rt: &impl Eprint, fault: Fault) -> ExitCode {
+    let _ = eprintln!(rt; "{}", fault.line());
+    ExitCode::from(fault.status())
+}
+
+/// The words of the command line, or what the program ends with where they can't be had as text.
+fn words<R: Env + AllocGlobal + Eprint>(rt: &R) -> Result<Vec<String>, ExitCode> {
+    match env::args(rt) {
+        Ok(words) => match words.collect(rt.alloc()) {
+            Ok(words) => Ok(words),
+            Err(_) => Err(ended_by(rt, Fault::Memory)),
+        },
+        Err(error) if error.kind() == ErrorKind::OutOfMemory => Err(ended_by(rt, Fault::Memory)),
+        Err(_) => {
+            let _ = eprintln!(rt; "vt220: bad command line");
+            Err(ExitCode::from(BAD_COMMAND_LINE))
+        }
     }
 }
 
-/// What the words ask for: the program's name, and then exactly one word.
-fn asked<R: Env + Alloc>(rt: &R) -> Option<What> {
-    let mut words = env::args(rt).ok()?;
-    words.next()?;
-    let what = what_of(words.next()?.as_str());
-    match words.next() {
-        None => what,
-        Some(_) => None,
+/// Says why the words ask for no replay, and ends the program: with help, for want of memory, or for a fault of theirs.
+fn refused_by(rt: &(impl Print + Eprint), refused: &Refused) -> ExitCode {
+    match refused.status {
+        0 => match print!(rt; "{}", refused.text) {
+            Ok(()) => ExitCode::SUCCESS,
+            Err(_) => ended_by(rt, Fault::Write),
+        },
+        1 => ended_by(rt, Fault::Memory),
+        status => {
+            let _ = eprint!(rt; "{}", refused.text);
+            ExitCode::from(status)
+        }
+    }
+}
+
+/// Replays a reader's bytes to standard output.
+fn replay<R: Print + AllocGlobal, D: Read + Drop>(
+    rt: &R,
+    device: D,
+    settings: &Settings,
+) -> Result<(), Fault>
+    requires piece_in_range { (1 ≤ settings.now.piece) × (settings.now.piece ≤ 65536) }
+    requires limit_in_range { settings.now.limit ≤ 1099511627776 }
+{
+    let mut reader = Watched::new(device);
+    let mut writer = Watched::new(io::writer(rt));
+    let replayed = run(
+        rt.alloc(),
+        &mut reader,
+        &mut writer,
+        settings.what,
+        settings.piece,
+        settings.limit,
+    );
+    let flushed = writer.into_inner().flush();
+    replayed.and(flushed.map_err(|_| Fault::Write))
+}
+
+/// Opens the file, if one is named, and replays it, or standard input.
+fn replay_input<R: Files + Input + Print + AllocGlobal>(
+    rt: &R,
+    settings: &Settings,
+) -> Result<(), Fault>
+    requires piece_in_range { (1 ≤ settings.now.piece) × (settings.now.piece ≤ 65536) }
+    requires limit_in_range { settings.now.limit ≤ 1099511627776 }
+{
+    match &settings.file {
+        Some(name) => match File::open(rt, name.as_str()) {
+            Ok(file) => replay(rt, file, settings),
+            Err(_) => Err(Fault::Read),
+        },
+        None => replay(rt, rt.reader(), settings),
     }
 }
 
 fn main(rt: HostRuntime) -> ExitCode {
-    let Some(what) = asked(&rt) else {
-        let _ = eprintln!(rt; "vt220: bad command line");
-        return ExitCode::from(BAD_WORDS);
+    let words = match words(&rt) {
+        Ok(words) => words,
+        Err(ended) => return ended,
     };
-    let mut reader = Watched::new(rt.reader());
-    let mut writer = Watched::new(io::writer(&rt));
-    let replayed = run(rt.alloc(), &mut reader, &mut writer, what, PIECE, LIMIT);
-    let flushed = writer.into_inner().flush();
-    let fault = match replayed {
-        Ok(()) => flushed.err().map(|_| Fault::Write),
-        Err(fault) => Some(fault),
+    let settings = match settings(rt.alloc(), words) {
+        Ok(settings) => settings,
+        Err(refused) => return refused_by(&rt, &refused),
     };
-    match fault {
-        None => ExitCode::SUCCESS,
-        Some(fault) => {
-            let _ = eprintln!(rt; "{fault}");
-            ExitCode::from(fault.status())
-        }
+    match replay_input(&rt, &settings) {
+        Ok(()) => ExitCode::SUCCESS,
+        Err(fault) => ended_by(&rt, fault),
     }
 }

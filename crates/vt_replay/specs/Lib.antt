@@ -1,3 +1,4 @@
+pub mod CommandLine
 pub mod Due
 pub mod Fault
 pub mod Run

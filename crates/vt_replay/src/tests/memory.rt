@@ -1,9 +1,11 @@
 //! Each growth refused, one after another, until a call meets no refusal.
+use super::command_line::words_of;
 use super::common::{LIMIT, Played, replayed};
-use crate::{Fault, Watched, What, run};
+use crate::{Fault, Watched, What, run, settings};
 use std::alloc::Global;
 use std::process::Abort;
 use std::test::Fail;
+use vt_paint::{PAINT_LIMIT, PaintError, repaint};
 use vt_term::{TEXT_LIMIT, Terminal};
 
 /// No input; a full line and a question; a saved cursor; and questions in the 8-bit form.
@@ -134,11 +136,41 @@ fn text_is_refused(rt: &impl Abort, alloc: Global, input: &[u8]) -> Result<(), F
     Ok(())
 }
 
+/// Asserts the same of a repaint.
+fn repaint_is_refused(rt: &impl Abort, alloc: Global, input: &[u8]) -> Result<(), Fail> {
+    let played = Played::of(alloc, &[input])?;
+    let mut expected = Vec::from_slice(alloc, b"ok")?;
+    repaint(&played.terminal, &mut expected)?;
+    let mut out = Vec::from_slice(alloc, b"ok")?;
+    let mut scarce = Scarce::new(alloc)?;
+    let mut refused = 0u32;
+    let mut changed = 0u32;
+    let mut answered = Err(PaintError::Memory);
+    for _ in 0..BLOCKS {
+        answered = repaint(&played.terminal, &mut out);
+        if answered != Err(PaintError::Memory) {
+            break;
+        }
+        refused = refused.saturating_add(1);
+        if out.as_slice() != b"ok".as_slice() {
+            changed = changed.saturating_add(1);
+        }
+        scarce.relent();
+    }
+    drop(scarce);
+    assert!(rt; refused > 0);
+    assert_eq!(rt; answered, Ok(()));
+    assert_eq!(rt; changed, 0);
+    assert_eq!(rt; out.as_slice(), expected.as_slice());
+    Ok(())
+}
+
 #[test]
-fn each_growth_of_feed_and_text_is_refused(rt: HostRuntime) -> Result<(), Fail> {
+fn each_growth_of_feed_text_and_repaint_is_refused(rt: HostRuntime) -> Result<(), Fail> {
     for input in INPUTS {
         feed_is_refused(&rt, rt.alloc(), input)?;
         text_is_refused(&rt, rt.alloc(), input)?;
+        repaint_is_refused(&rt, rt.alloc(), input)?;
     }
     Ok(())
 }
@@ -152,12 +184,15 @@ fn calls_with_room_are_never_refused(rt: HostRuntime) -> Result<(), Fail> {
         let mut terminal = Terminal::new(rt.alloc())?;
         let mut reports = Vec::with_capacity(rt.alloc(), 1000)?;
         let mut text = Vec::with_capacity(rt.alloc(), TEXT_LIMIT)?;
+        let mut painted = Vec::with_capacity(rt.alloc(), PAINT_LIMIT)?;
         let scarce = Scarce::new(rt.alloc())?;
         let fed = terminal.feed(input, &mut reports);
         let shown = terminal.text(&mut text);
+        let repainted = repaint(&terminal, &mut painted);
         drop(scarce);
         assert!(rt; fed.is_ok());
         assert!(rt; shown.is_ok());
+        assert_eq!(rt; repainted, Ok(()));
         assert_eq!(rt; reports.as_slice(), expected.reports.as_slice());
         assert_eq!(rt; text.as_slice(), expected_text.as_slice());
     }
@@ -195,6 +230,55 @@ fn each_growth_of_run_is_refused(rt: HostRuntime) -> Result<(), Fail> {
         for input in INPUTS {
             run_is_refused(&rt, rt.alloc(), input, what)?;
         }
+    }
+    Ok(())
+}
+
+/// Asserts that words that were refused for want of memory, also more than once, are then answered as with ample
+/// memory.
+fn settings_is_refused(rt: &impl Abort, alloc: Global, line: &str) -> Result<(), Fail> {
+    let expected = settings(alloc, words_of(alloc, line)?);
+    let mut copies = Vec::with_capacity(alloc, BLOCKS as usize)?;
+    for _ in 0..BLOCKS {
+        copies.push(words_of(alloc, line)?)?;
+    }
+    let mut scarce = Scarce::new(alloc)?;
+    let mut refused = 0u32;
+    let mut with_text = 0u32;
+    let mut answered = None;
+    for _ in 0..BLOCKS {
+        let Some(words) = copies.pop() else {
+            break;
+        };
+        match settings(alloc, words) {
+            Err(memory) if memory.status == 1 => {
+                refused = refused.saturating_add(1);
+                if !memory.text.is_empty() {
+                    with_text = with_text.saturating_add(1);
+                }
+            }
+            other => {
+                answered = Some(other);
+                break;
+            }
+        }
+        scarce.relent();
+    }
+    drop(scarce);
+    assert!(rt; refused > 2, "{line}");
+    assert_eq!(rt; with_text, 0, "{line}");
+    assert_eq!(rt; answered, Some(expected), "{line}");
+    Ok(())
+}
+
+#[test]
+fn each_growth_of_settings_is_refused(rt: HostRuntime) -> Result<(), Fail> {
+    for line in [
+        "vt220 repaint --piece 1 --limit 0 a",
+        "vt220 --help",
+        "vt220 text --piece x",
+    ] {
+        settings_is_refused(&rt, rt.alloc(), line)?;
     }
     Ok(())
 }

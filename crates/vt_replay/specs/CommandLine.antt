@@ -1,0 +1,110 @@
+-- The command line: its command in clap's terms, and what its answers say. (this profile)
+use Rattle.std.specs.Prelude.{◌≡◌, ◌⊎◌, ℕ, ◌≤◌, List, [], ◌∷◌, codes, Option, Some, true, string_bytes, map, Ok}
+use Rattle.std.specs.Option.{option_map}
+use Rattle.std.specs.Str.Parse.{ParsesUnsigned}
+use Rattle.std.specs.declared.alloc.Global.{Global}
+use Rattle.std.specs.declared.string.String.{String}
+use Rattle.clap.specs.Words.{App, Rule, Row, Text, Kinds, IsAmong, new_app, new_rule, with_rule, with_subcommand, first_of, fault_of, subcommand_of}
+use Rattle.clap.specs.Simple.{on_top}
+use Rattle.clap.specs.declared.builder.value_parser.ValueParser.TheVariants.{Unsigned}
+use Rattle.clap.specs.declared.error.kind.ErrorKind.{ErrorKind}
+use Rattle.clap.specs.declared.error.kind.ErrorKind.TheVariants.{DisplayHelp}
+use Rattle.vt_replay.specs.declared.what.What.{What}
+use Rattle.vt_replay.specs.declared.what.What.TheVariants as what
+use Rattle.vt_replay.specs.declared.asked.Settings.{Settings}
+use Rattle.vt_replay.specs.declared.asked.Refused.{Refused}
+
+-- ---- the command
+
+-- an option with a number from low to high
+abbrev pub number_option : Text → ℕ → ℕ → Text → Rule
+number_option name low high default = record (new_rule name) {
+  long = Some name;
+  value_names = 1;
+  parser = Some (Unsigned low high);
+  defaults = default ∷ [];
+}
+
+abbrev pub piece_option : Rule
+piece_option = number_option (codes "piece") 1 65536 (codes "4096")
+
+abbrev pub limit_option : Rule
+limit_option = number_option (codes "limit") 0 1099511627776 (codes "268435456")
+
+abbrev pub file_argument : Rule
+file_argument = record (new_rule (codes "file")) { value_names = 1 }
+
+-- one of the four subcommands
+abbrev pub subcommand : Text → App
+subcommand name = with_rule (with_rule (with_rule (new_app name) piece_option) limit_option) file_argument
+
+abbrev pub name_of : What → Text
+name_of what.Text = codes "text"
+name_of what.Reports = codes "reports"
+name_of what.Repaint = codes "repaint"
+name_of what.Status = codes "status"
+
+abbrev pub with_subcommand_for : App → What → App
+with_subcommand_for a w = with_subcommand a (subcommand (name_of w)).top
+
+-- the program's command: one of the four subcommands is required
+abbrev pub vt220 : App
+vt220 = on_top (λ s. record s { subcommand_required = true })
+    (with_subcommand_for (with_subcommand_for (with_subcommand_for (with_subcommand_for (new_app (codes "vt220"))
+    what.Text) what.Reports) what.Repaint) what.Status)
+
+-- the faults that clap finds in the words, the first of which is the program's name
+abbrev pub faults_in : List (String Global) → Kinds
+faults_in words = fault_of vt220 (map (λ w. string_bytes w) words)
+
+-- the subcommand that clap finds in them, with its matches
+abbrev pub found_in : List (String Global) → Option (Text × List Row)
+found_in words = subcommand_of vt220 (map (λ w. string_bytes w) words)
+
+-- ---- the answers
+
+-- n is the number that the option has among a subcommand's matches, its default where it wasn't used
+pub record IsNumberOf (option : Text) (matches : List Row) (n : ℕ) : Type 0 where
+  pub text : Text
+  pub matched : first_of option matches ≡ Some text
+  pub parsed : ParsesUnsigned {E = ℕ} 64 10 text (Ok n)
+
+-- s is what the subcommand that clap found, and its matches, ask for
+pub record AreSettings (found : Option (Text × List Row)) (s : Settings) : Type 0 where
+  pub matches : List Row
+  pub what : found ≡ Some (name_of s.what, matches)
+  pub piece : IsNumberOf (codes "piece") matches s.piece
+  pub limit : IsNumberOf (codes "limit") matches s.limit
+  pub piece_in_range : (1 ≤ s.piece) × (s.piece ≤ 65536)
+  pub limit_in_range : s.limit ≤ 1099511627776
+  pub file : option_map (λ f. string_bytes f) s.file ≡ first_of (codes "file") matches
+
+-- the status of a fault of the words: help is none
+abbrev pub status_for : ErrorKind → ℕ
+status_for DisplayHelp = 0
+status_for _ = 2
+
+-- memory was wanted: status 1, and no text
+pub record IsMemory (r : Refused) : Type 0 where
+  pub status : r.status ≡ 1
+  pub text : string_bytes r.text ≡ []
+
+-- refused for a fault of this list
+pub record IsFault (faults : Kinds) (r : Refused) : Type 0 where
+  pub fault : ErrorKind
+  pub found : IsAmong fault faults
+  pub status : r.status ≡ status_for fault
+
+-- no settings are what clap found
+abbrev pub HasNoSettings : Option (Text × List Row) → Type 0
+HasNoSettings found = (s : Settings) → AreSettings found s → ⊥
+
+-- clap found no fault, and yet no settings
+pub record IsStray (faults : Kinds) (found : Option (Text × List Row)) (r : Refused) : Type 0 where
+  pub none : faults ≡ []
+  pub stray : HasNoSettings found
+  pub status : r.status ≡ 2
+
+-- why words are refused, by the faults and the subcommand that clap finds in them
+abbrev pub IsRefusal : Kinds → Option (Text × List Row) → Refused → Type 0
+IsRefusal faults found r = IsMemory r ⊎ (IsFault faults r ⊎ IsStray faults found r)

@@ -1,0 +1,274 @@
+//! The command line: which words the program takes, and what they ask for.
+ghost use Rattle.std.specs.Prelude.{◌≡◌, ◌≢◌, ◌⊎◌, ℕ, [], IfOk, IfErr, IfSome, IfNone, Some, option_map, string_bytes, codes, false};
+ghost use Rattle.clap.specs.Words.{FailsBy, app_of, first_value, found_of, kind_of, rows_of, rule_of, subcommand_rows_of};
+ghost use Rattle.clap.specs.declared.builder.command.Command.TheViews.{out-Command};
+ghost use Rattle.vt_replay.specs.declared.what.What.{What};
+ghost use Rattle.vt_replay.specs.CommandLine.{number_option, subcommand, with_subcommand_for, vt220, faults_in, found_in, name_of, status_for};
+ghost use Rattle.vt_replay.specs.CommandLine.{IsNumberOf, AreSettings, IsMemory, IsFault, IsStray, IsRefusal, HasNoSettings};
+
+use crate::asked::{Refused, Settings};
+use crate::what::What;
+use clap::builder::ValueParser;
+use clap::error::ErrorKind;
+use clap::{Arg, ArgMatches, Command, Error};
+use std::alloc::{AllocError, Global};
+
+/// The greatest piece.
+const PIECE_MOST: u64 = 65536;
+
+/// The greatest limit.
+const LIMIT_MOST: u64 = 1099511627776;
+
+/// What is said of words that clap takes and that ask for nothing.
+const BAD_COMMAND_LINE: &str = "vt220: bad command line\n";
+
+/// What the program is for.
+const ABOUT: &str =
+    "Plays what a host sent to a VT220 terminal, and writes what the terminal then shows or answers";
+
+/// What `text` is for.
+const TEXT: &str = "The screen: 24 lines of UTF-8, each without the spaces at its end";
+
+/// What `reports` is for.
+const REPORTS: &str = "What the terminal answers to the host, piece by piece as the input comes";
+
+/// What `repaint` is for.
+const REPAINT: &str = "The bytes that rebuild the terminal, hidden state included, on any terminal";
+
+/// What `status` is for.
+const STATUS: &str =
+    "The cursor, the wrap flag, the margins, the unfinished sequence, and how many bytes were answered";
+
+/// What stands below the help.
+const AFTER_HELP: &str = "\
+Each command but help plays FILE, or standard input where no file is named, and takes these options:
+  --piece N  the most bytes of one read, 1 to 65536 [default: 4096]
+  --limit N  the most bytes of the input, 0 to 1099511627776 [default: 268435456]
+
+Example, with a recording made by script(1):
+  script -q -c 'stty rows 24 cols 80; TERM=vt220 LC_ALL=C top -n 1' /dev/null > top.bin
+  vt220 text top.bin
+
+Exit status:
+  0  all was written, or help was asked for
+  1  memory was refused
+  2  the command line is wrong
+  3  a repaint was asked for, and the input ends inside a sequence
+  4  the input can't be opened or read
+  5  the output can't be written
+  6  the input is longer than the limit";
+
+/// An option with a number from `low` to `high`.
+fn number<'a>(
+    alloc: Global,
+    name: &'a str,
+    low: u64,
+    high: u64,
+    default: &'a str,
+    help: &'a str,
+) -> Arg<'a>
+    ensures rule { rule_of result ≡ number_option name.entry.now low high default.entry.now }
+    ensures local { result.global ≡ false }
+{
+    Arg::new(alloc, name)
+        .long(name)
+        .value_name("N")
+        .value_parser(ValueParser::unsigned(low, high))
+        .default_value(default)
+        .help(help)
+}
+
+/// One of the four subcommands.
+fn subcommand<'a>(alloc: Global, name: &'a str, about: &'a str) -> Result<Command<'a>, AllocError>
+    ensures app { IfOk result (λ c. app_of c ≡ subcommand name.entry.now) }
+    ensures local { IfOk result (λ c. (out-Command c).has_globals ≡ false) }
+{
+    let piece = number(
+        alloc,
+        "piece",
+        1,
+        PIECE_MOST,
+        "4096",
+        "The most bytes of one read, 1 to 65536",
+    );
+    let limit = number(
+        alloc,
+        "limit",
+        0,
+        LIMIT_MOST,
+        "268435456",
+        "The most bytes of the input, 0 to 1099511627776",
+    );
+    let file = Arg::new(alloc, "file").value_name("FILE").help(
+        "What the host sent; standard input where no file is named",
+    );
+    Command::new(alloc, name)
+        .about(about)
+        .arg(piece)?
+        .arg(limit)?
+        .arg(file)
+}
+
+/// The command with the subcommand for one thing more.
+fn with_subcommand<'a>(
+    alloc: Global,
+    command: Command<'a>,
+    what: What,
+    about: &'a str,
+) -> Result<Command<'a>, AllocError>
+    ensures { IfOk result (λ c. app_of c ≡ with_subcommand_for (app_of command.entry) what) }
+{
+    let name = match what {
+        What::Text => "text",
+        What::Reports => "reports",
+        What::Repaint => "repaint",
+        What::Status => "status",
+    };
+    command.subcommand(subcommand(alloc, name, about)?)
+}
+
+/// The program's command.
+fn command<'a>(alloc: Global) -> Result<Command<'a>, AllocError>
+    ensures { IfOk result (λ c. app_of c ≡ vt220) }
+{
+    let command = Command::new(alloc, "vt220")
+        .about(ABOUT)
+        .after_help(AFTER_HELP)
+        .subcommand_required(true);
+    let command = with_subcommand(alloc, command, What::Text, TEXT)?;
+    let command = with_subcommand(alloc, command, What::Reports, REPORTS)?;
+    let command = with_subcommand(alloc, command, What::Repaint, REPAINT)?;
+    with_subcommand(alloc, command, What::Status, STATUS)
+}
+
+/// What clap makes of the words.
+fn matches_of<'a>(alloc: Global, words: &'a [String]) -> Result<ArgMatches<'a>, Error>
+    ensures matches { IfOk result (λ m. subcommand_rows_of m ≡ found_in words.entry.now) }
+    ensures faults { FailsBy (faults_in words.entry.now) result }
+{
+    command(alloc)?.try_get_matches_from(words)
+}
+
+/// Want of memory.
+fn out_of_memory(alloc: Global) -> Refused
+    ensures { IsMemory result }
+{
+    Refused {
+        status: 1,
+        text: String::new(alloc),
+    }
+}
+
+/// A refusal with this text.
+fn refusal(alloc: Global, status: u8, text: &str) -> Refused
+    ensures { IsMemory result ⊎ (result.status ≡ status) }
+{
+    match String::from_str(alloc, text) {
+        Ok(text) => Refused { status, text },
+        Err(AllocError) => out_of_memory(alloc),
+    }
+}
+
+/// What clap refused, as it words it.
+fn refusal_of(alloc: Global, error: Error) -> Refused
+    ensures { IsMemory result
+        ⊎ ((kind_of error ≢ ErrorKind.OutOfMemory) × (result.status ≡ status_for (kind_of error))) }
+{
+    let status = match error.kind() {
+        ErrorKind::OutOfMemory => return out_of_memory(alloc),
+        ErrorKind::DisplayHelp => 0,
+        _ => 2,
+    };
+    match error.to_string(alloc) {
+        Ok(text) => Refused { status, text },
+        Err(_) => out_of_memory(alloc),
+    }
+}
+
+/// What the subcommand of this name is for.
+fn what_of(name: &str) -> Option<What>
+    ensures some { IfSome result (λ what. name.now ≡ name_of what) }
+    ensures none { IfNone result ((what : What) → name.now ≢ name_of what) }
+{
+    match name {
+        "text" => Some(What::Text),
+        "reports" => Some(What::Reports),
+        "repaint" => Some(What::Repaint),
+        "status" => Some(What::Status),
+        _ => None,
+    }
+}
+
+/// The number of an option.
+fn number_of(matches: &ArgMatches<'_>, option: &str) -> Option<u64>
+    ensures some { IfSome result (IsNumberOf option.now (rows_of (found_of matches.now))) }
+    ensures none { IfNone result ((n : ℕ) → IsNumberOf option.now (rows_of (found_of matches.now)) n → ⊥) }
+{
+    matches.get_str(option)?.parse::<u64>().ok()
+}
+
+/// The file's name, if there is one.
+fn file_of(alloc: Global, matches: &ArgMatches<'_>) -> Result<Option<String>, AllocError>
+    ensures { IfOk result (λ file. option_map (λ name. string_bytes name) file
+        ≡ first_value (found_of matches.now) (codes "file")) }
+{
+    match matches.get_str("file") {
+        Some(name) => Ok(Some(String::from_str(alloc, name)?)),
+        None => Ok(None),
+    }
+}
+
+/// The settings of a subcommand, where its numbers are in their ranges.
+fn settings_of(
+    alloc: Global,
+    name: &str,
+    matches: &ArgMatches<'_>,
+) -> Result<Option<Settings>, AllocError>
+    ensures some { IfOk result (λ o. IfSome o (AreSettings (Some (name.now, rows_of (found_of matches.now))))) }
+    ensures none { IfOk result (λ o. IfNone o (HasNoSettings (Some (name.now, rows_of (found_of matches.now))))) }
+{
+    let Some(what) = what_of(name) else {
+        return Ok(None);
+    };
+    let Some(piece) = number_of(matches, "piece") else {
+        return Ok(None);
+    };
+    let Some(limit) = number_of(matches, "limit") else {
+        return Ok(None);
+    };
+    if piece < 1 || PIECE_MOST < piece || LIMIT_MOST < limit {
+        return Ok(None);
+    }
+    let file = file_of(alloc, matches)?;
+    Ok(Some(Settings {
+        what,
+        piece: piece as usize,
+        limit,
+        file,
+    }))
+}
+
+/// The settings that the words ask for; the first word is the program's name.
+///
+/// The words are those of clap's command `vt220`: one of the four subcommands `text`, `reports`, `repaint` and
+/// `status`, each with `--piece N` (1 to 65536, else 4096), `--limit N` (0 to 1099511627776, else 268435456) and at
+/// most one FILE. `Err` is what to end with where there are no settings: the help that was asked for (status 0), want of
+/// memory (1), or what is wrong with the words (2). (this profile)
+pub fn settings(alloc: Global, words: Vec<String>) -> Result<Settings, Refused>
+    ensures ok { IfOk result (AreSettings (found_in words.items)) }
+    ensures no_fault { IfOk result (λ _. faults_in words.items ≡ []) }
+    ensures err { IfErr result (IsRefusal (faults_in words.items) (found_in words.items)) }
+{
+    let matches = match matches_of(alloc, words.as_slice()) {
+        Ok(matches) => matches,
+        Err(error) => return Err(refusal_of(alloc, error)),
+    };
+    let Some((name, inner)) = matches.subcommand() else {
+        return Err(refusal(alloc, 2, BAD_COMMAND_LINE));
+    };
+    match settings_of(alloc, name, inner) {
+        Ok(Some(settings)) => Ok(settings),
+        Ok(None) => Err(refusal(alloc, 2, BAD_COMMAND_LINE)),
+        Err(AllocError) => Err(out_of_memory(alloc)),
+    }
+}

@@ -1,0 +1,234 @@
+//! Reads and writes that are short or fail, and what a replay then answers and has written.
+use super::common::{LIMIT, Played};
+use crate::{Fault, Watched, What, run};
+use std::alloc::Global;
+use std::process::Abort;
+use std::test::Fail;
+use vt_vectors::{ShortReader, ShortWriter, vector, vector_count};
+
+/// Asks for both device attributes in the 8-bit form: ten bytes.
+const REQUESTS: &[u8] = b"\x1b G\x1b[c\x1b[>c";
+
+const ANSWERS: &[u8] = b"\x9b?62;1;6c\x9b>1;10;0c";
+
+/// More bytes than any replay here writes.
+const ROOM: usize = 100_000;
+
+/// What a replay asks for, its limit, and its devices. A read gives one byte.
+#[derive(Clone, Copy)]
+struct Replay {
+    what: What,
+    limit: u64,
+    /// The number of the read that fails.
+    failing_read: Option<usize>,
+    /// The most bytes of one write, and of all.
+    most: usize,
+    room: usize,
+    /// The number of the write that fails.
+    failing_write: Option<usize>,
+}
+
+/// Devices that neither fail nor are short of room.
+const REPORTS: Replay = Replay {
+    what: What::Reports,
+    limit: LIMIT,
+    failing_read: None,
+    most: ROOM,
+    room: ROOM,
+    failing_write: None,
+};
+
+/// What a replay answers, and what it has written.
+fn replayed(
+    alloc: Global,
+    input: &[u8],
+    replay: Replay,
+) -> Result<(Result<(), Fault>, Vec<u8>), Fail> {
+    let into = Vec::with_capacity(alloc, replay.room)?;
+    let writer = ShortWriter::new(into, replay.room, replay.most.max(1), replay.failing_write);
+    let mut reader = Watched::new(ShortReader::new(input, 1, replay.failing_read));
+    let mut writer = Watched::new(writer);
+    let limit = replay.limit.min(LIMIT);
+    let answer = run(alloc, &mut reader, &mut writer, replay.what, 1, limit);
+    let written = Vec::from_slice(alloc, writer.into_inner().taken())?;
+    Ok((answer, written))
+}
+
+/// A replay of the requests, its answer, and how many bytes of the answers it has written.
+fn table() -> [(Replay, Result<(), Fault>, usize); 11] {
+    [
+        (
+            Replay {
+                failing_read: Some(7),
+                ..REPORTS
+            },
+            Err(Fault::Read),
+            9,
+        ),
+        (
+            Replay {
+                what: What::Text,
+                failing_read: Some(7),
+                ..REPORTS
+            },
+            Err(Fault::Read),
+            0,
+        ),
+        // six writes, so that a seventh can't fail
+        (
+            Replay {
+                most: 3,
+                failing_write: Some(7),
+                ..REPORTS
+            },
+            Ok(()),
+            18,
+        ),
+        (
+            Replay {
+                most: 3,
+                failing_write: Some(6),
+                ..REPORTS
+            },
+            Err(Fault::Write),
+            15,
+        ),
+        (
+            Replay {
+                most: 3,
+                failing_write: Some(2),
+                ..REPORTS
+            },
+            Err(Fault::Write),
+            3,
+        ),
+        (
+            Replay {
+                most: 3,
+                room: 5,
+                ..REPORTS
+            },
+            Err(Fault::Write),
+            5,
+        ),
+        (
+            Replay {
+                limit: 5,
+                ..REPORTS
+            },
+            Err(Fault::TooLong),
+            0,
+        ),
+        (
+            Replay {
+                limit: 6,
+                ..REPORTS
+            },
+            Err(Fault::TooLong),
+            9,
+        ),
+        (
+            Replay {
+                limit: 10,
+                ..REPORTS
+            },
+            Ok(()),
+            18,
+        ),
+        (
+            Replay {
+                limit: 10,
+                failing_read: Some(11),
+                ..REPORTS
+            },
+            Err(Fault::Read),
+            18,
+        ),
+        (REPORTS, Ok(()), 18),
+    ]
+}
+
+#[test]
+fn the_table_of_devices_holds(rt: HostRuntime) -> Result<(), Fail> {
+    for (replay, expected, count) in table() {
+        let (answer, written) = replayed(rt.alloc(), REQUESTS, replay)?;
+        assert_eq!(rt; answer, expected);
+        assert_eq!(rt; Some(written.as_slice()), ANSWERS.get(..count));
+    }
+    Ok(())
+}
+
+/// Asserts that each read fails in turn: what was written is the reports of what was read, where they are asked for.
+fn each_read_fails(rt: &impl Abort, alloc: Global, input: &[u8], what: What) -> Result<(), Fail> {
+    let mut read = Played::of(alloc, &[])?;
+    for call in 0..input.len() + 1 {
+        let replay = Replay {
+            what,
+            failing_read: Some(call + 1),
+            ..REPORTS
+        };
+        let (answer, written) = replayed(alloc, input, replay)?;
+        assert_eq!(rt; answer, Err(Fault::Read), "read {call} of {input:?}");
+        if what == What::Reports {
+            assert_eq!(rt;
+                written.as_slice(),
+                read.reports.as_slice(),
+                "read {call} of {input:?}"
+            );
+        } else {
+            assert!(rt; written.is_empty(), "read {call} of {input:?}");
+        }
+        if let Some(byte) = input.get(call..call + 1) {
+            read.feed(byte)?;
+        }
+    }
+    Ok(())
+}
+
+/// Asserts that each write of one byte fails in turn: what was written is what is due up to there.
+fn each_write_fails(rt: &impl Abort, alloc: Global, input: &[u8], what: What) -> Result<(), Fail> {
+    let whole = Replay {
+        what,
+        most: 1,
+        ..REPORTS
+    };
+    let (answered, due) = replayed(alloc, input, whole)?;
+    for call in 0..due.len() + 1 {
+        let replay = Replay {
+            failing_write: Some(call + 1),
+            ..whole
+        };
+        let (answer, written) = replayed(alloc, input, replay)?;
+        if call < due.len() {
+            assert_eq!(rt; answer, Err(Fault::Write), "write {call} of {input:?}");
+        } else {
+            assert_eq!(rt; answer, answered, "write {call} of {input:?}");
+        }
+        assert_eq!(rt;
+            Some(written.as_slice()),
+            due.get(..call),
+            "write {call} of {input:?}"
+        );
+    }
+    Ok(())
+}
+
+#[test]
+fn each_read_of_each_vector_fails(rt: HostRuntime) -> Result<(), Fail> {
+    for i in 0..vector_count() {
+        for what in [What::Text, What::Reports, What::Repaint, What::Status] {
+            each_read_fails(&rt, rt.alloc(), vector(i).input, what)?;
+        }
+    }
+    Ok(())
+}
+
+#[test]
+fn each_write_of_each_vector_fails(rt: HostRuntime) -> Result<(), Fail> {
+    for i in 0..vector_count() {
+        for what in [What::Text, What::Reports, What::Repaint, What::Status] {
+            each_write_fails(&rt, rt.alloc(), vector(i).input, what)?;
+        }
+    }
+    Ok(())
+}

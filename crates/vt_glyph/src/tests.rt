@@ -178,3 +178,21 @@ fn spellings_are_of_the_glyph(rt: HostRuntime) {
         assert_eq!(rt; glyph.spelling(), Spelling::Second(b'#'));
     }
 }
+
+#[test]
+fn the_sets_in_use_show_both_halves(rt: HostRuntime) {
+    let mut sets = Sets::power_up();
+    sets.designate(0, Set::German);
+    let in_use = sets.in_use();
+    for (b, c) in [
+        (b' ', ' '),
+        (b'[', 'Ä'),
+        (b'~', 'ß'),
+        (0xA4, '␦'),
+        (0xE9, 'é'),
+    ] {
+        if (0x20 <= b && b <= 0x7E) || (0xA1 <= b && b <= 0xFE) {
+            assert_eq!(rt; in_use.glyph(b).to_char(), c, "byte {b}");
+        }
+    }
+}

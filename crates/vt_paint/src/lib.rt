@@ -9,6 +9,3 @@ mod paint;
 mod room;
 
 pub use paint::{PAINT_LIMIT, PaintError, repaint, repaint_reserved};
-
-#[cfg(test)]
-mod tests;

@@ -7,8 +7,6 @@ mod command_line;
 mod engine;
 mod fault;
 mod status;
-#[cfg(test)]
-mod tests;
 mod watched;
 mod what;
 

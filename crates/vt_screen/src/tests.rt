@@ -4,7 +4,7 @@ ghost use Rattle.std.specs.Prelude.{◌≤◌};
 use crate::{Brush, Cell, Rendition, Screen};
 use std::mem::size_of;
 use std::test::Fail;
-use vt_glyph::Glyph;
+use vt_glyph::{Glyph, Set, Sets};
 
 /// Writes a text from a place on, where there is room for it.
 fn write(screen: &mut Screen, row: usize, column: usize, text: &[u8], like: &Cell) {
@@ -207,5 +207,32 @@ fn a_width_blanks_and_screens_compare(rt: HostRuntime) -> Result<(), Fail> {
     // Rows that are kept elsewhere are the same rows.
     screen.scroll_up(1, 24, 7);
     assert!(rt; screen.same(&other));
+    Ok(())
+}
+
+#[test]
+fn graphic_bytes_are_written_through_the_sets(rt: HostRuntime) -> Result<(), Fail> {
+    let mut screen = Screen::new(rt.alloc())?;
+    let mut sets = Sets::power_up();
+    sets.designate(0, Set::Special);
+    let bold = Brush {
+        rendition: Rendition {
+            bold: true,
+            ..Rendition::plain()
+        },
+        protected: true,
+    };
+    assert_eq!(rt; screen.width(), 80);
+    let like = Cell::new(Glyph::blank(), bold);
+    screen.put_graphics(3, 76, b"lqk\xE9\xA3", &sets.in_use(), like);
+    for cell in screen.row(3).iter().take(75) {
+        assert_eq!(rt; *cell, Cell::blank());
+    }
+    for (i, shown) in ['┌', '─', '┐', 'é', '£'].iter().enumerate() {
+        let cell = screen.row(3).get(75 + i).ok_or("no cell")?;
+        assert_eq!(rt; cell.glyph.to_char(), *shown);
+        assert_eq!(rt; cell.brush(), bold);
+    }
+    assert!(rt; is_blank_from(&screen, 4));
     Ok(())
 }

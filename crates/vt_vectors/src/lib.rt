@@ -17,6 +17,3 @@ pub use mismatch::Mismatch;
 pub use short_reader::ShortReader;
 pub use short_writer::ShortWriter;
 pub use vectors::{VECTOR_COUNT, vector, vector_count};
-
-#[cfg(test)]
-mod tests;

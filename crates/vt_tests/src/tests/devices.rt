@@ -1,9 +1,9 @@
 //! Reads and writes that are short or fail, and what a replay then answers and has written.
 use super::common::{LIMIT, Played};
-use crate::{Fault, Watched, What, run};
 use std::alloc::Global;
 use std::process::Abort;
 use std::test::Fail;
+use vt_replay::{Fault, Watched, What, run};
 use vt_vectors::{ShortReader, ShortWriter, vector, vector_count};
 
 /// Asks for both device attributes in the 8-bit form: ten bytes.

@@ -1,10 +1,12 @@
 //! The repaints of the worked rows: their bytes, that each is its own repaint, and that they bring a used terminal into
 //! the state that they describe and ask for no report.
 use super::common::{Played, joined, replayed};
-use crate::What;
 use std::alloc::Global;
 use std::process::Abort;
 use std::test::Fail;
+use vt_paint::{PAINT_LIMIT, PaintError, repaint, repaint_reserved};
+use vt_replay::What;
+use vt_term::Terminal;
 
 /// The sets as at power-up.
 const SETS: &[u8] = b"\x1b(B\x1b)B\x1b*<\x1b+<\x0f\x1b}";
@@ -22,7 +24,7 @@ const LINE: &[u8] =
 /// The parts of an input, the length of its repaint, and the repaint's parts.
 type Repaint = (&'static [&'static [u8]], usize, &'static [&'static [u8]]);
 
-const NARROW: [Repaint; 24] = [
+const NARROW: [Repaint; 26] = [
     (&[], 32, &[b"\x1bc\x1b[1;1H", PLAIN, SETS]),
     (
         &[b"A"],
@@ -87,6 +89,19 @@ const NARROW: [Repaint; 24] = [
             b"\x1bN#\x1b[1;2H",
             PLAIN,
             b"\x1b(A\x1b)B\x1b*<\x1b+<\x0f\x1b}",
+        ],
+    ),
+    (
+        &[b"\x1b(A#\x1b(B"],
+        60,
+        &[
+            b"\x1bc",
+            HEAD,
+            b"\x1b[1;1H",
+            PLAIN,
+            b"\x1bN#\x1b[1;2H",
+            PLAIN,
+            SETS,
         ],
     ),
     (
@@ -245,6 +260,16 @@ const NARROW: [Repaint; 24] = [
             SETS,
         ],
     ),
+    // a repaint that was stored when there were 80 columns alone
+    (
+        &[b"\x1bc\x1b[3g\x1b[1;5H\x1bH\x1b[1;5H", PLAIN, SETS],
+        54,
+        &[
+            b"\x1bc\x1b[?3h\x1b[3g\x1b[1;5H\x1bH\x1b[?3l\x1b[1;5H",
+            PLAIN,
+            SETS,
+        ],
+    ),
     (
         &[b"\x1b[?3h\x1b[3g\x1b[1;100H\x1bH\x1b[?3l\t"],
         57,
@@ -339,4 +364,33 @@ fn rebuild(rt: &impl Abort, alloc: Global, rows: &[Repaint]) -> Result<(), Fail>
 fn repaints_rebuild_the_state(rt: HostRuntime) -> Result<(), Fail> {
     rebuild(&rt, rt.alloc(), &NARROW)?;
     rebuild(&rt, rt.alloc(), &WIDE)
+}
+
+#[test]
+fn a_repaint_is_refused_inside_a_sequence(rt: HostRuntime) -> Result<(), Fail> {
+    let inside = Played::of(rt.alloc(), &[b"\x1b[1"])?;
+    let mut out = Vec::from_slice(rt.alloc(), b"ok")?;
+    let answer = repaint(&inside.terminal, &mut out);
+    assert_eq!(rt; answer, Err(PaintError::Partial));
+    assert_eq!(rt; out.as_slice(), b"ok".as_slice());
+    for (error, message) in [
+        (PaintError::Partial, "partial"),
+        (PaintError::Memory, "memory"),
+    ] {
+        let shown = format!(in rt.alloc(); "{error}")?;
+        assert_eq!(rt; shown.as_str(), message);
+    }
+    Ok(())
+}
+
+#[test]
+fn a_reserved_repaint_appends(rt: HostRuntime) -> Result<(), Fail> {
+    let terminal = Terminal::new(rt.alloc())?;
+    let mut out = Vec::with_capacity(rt.alloc(), PAINT_LIMIT + 2)?;
+    out.extend_from_slice(b"ok")?;
+    assert!(rt; terminal.is_between());
+    repaint_reserved(&terminal, &mut out);
+    let expected = joined(rt.alloc(), &[b"ok\x1bc\x1b[1;1H", PLAIN, SETS])?;
+    assert_eq!(rt; out.as_slice(), expected.as_slice());
+    Ok(())
 }

@@ -1,16 +1,16 @@
 //! Every beginning of every vector: it has a repaint exactly between sequences, and that rebuilds its state on a terminal
 //! that holds whatever it may.
 use super::common::Played;
-use crate::{held_sample, held_sample_count, vector, vector_count};
 use std::alloc::Global;
 use std::process::Abort;
 use std::test::Fail;
 use vt_paint::{PaintError, repaint};
+use vt_vectors::{held_sample, held_sample_count, vector, vector_count};
 
 /// Asserts that a repaint brings a terminal that holds each of the samples into this state, and asks for no report.
 fn rebuilds(rt: &impl Abort, alloc: Global, bytes: &[u8], played: &Played) -> Result<(), Fail> {
     for i in 0..held_sample_count() {
-        let mut used = Played::of(alloc, held_sample(i))?;
+        let mut used = Played::of(alloc, &[held_sample(i)])?;
         used.feed(bytes)?;
         assert!(rt; used.terminal.same_state(&played.terminal), "sample {i}");
         assert!(rt; used.reports.is_empty(), "sample {i}");
@@ -20,7 +20,7 @@ fn rebuilds(rt: &impl Abort, alloc: Global, bytes: &[u8], played: &Played) -> Re
 
 /// Asserts what a beginning's repaint is, and says whether it ends between sequences.
 fn is_painted(rt: &impl Abort, alloc: Global, front: &[u8]) -> Result<bool, Fail> {
-    let played = Played::of(alloc, front)?;
+    let played = Played::of(alloc, &[front])?;
     let mut bytes = Vec::new(alloc);
     let answer = repaint(&played.terminal, &mut bytes);
     if played.terminal.is_between() {

@@ -1,7 +1,7 @@
 //! The coding of sequences: what a terminal holds of an unfinished one, and what a finished one does.
 use super::common::{Played, Row, all_leave, replayed};
-use crate::What;
 use std::test::Fail;
+use vt_replay::What;
 
 const ROWS: [Row; 18] = [
     ("line feed in a sequence", b"\x1b[1\n2H", b"", (12, 1), b""),

@@ -2,10 +2,10 @@
 ghost use Rattle.std.specs.Prelude.{◌≡◌, ◌≤◌, false};
 
 use super::common::LIMIT;
-use crate::{Fault, Watched, What, run};
 use std::alloc::Global;
 use std::io::Write;
 use std::test::Fail;
+use vt_replay::{Fault, Watched, What, run};
 
 /// Asks for both device attributes in the 8-bit form.
 const REQUESTS: &[u8] = b"\x1b G\x1b[c\x1b[>c";

@@ -1,8 +1,8 @@
 //! The devices, through the bounds that a caller has.
-use crate::{ShortReader, ShortWriter};
 use std::alloc::Global;
 use std::io::{Read, Write};
 use std::test::Fail;
+use vt_vectors::{ShortReader, ShortWriter};
 
 /// The answers of so many reads, each of at most four bytes, in one line: what was read, or `!` for an error, and `,`.
 fn reads<R: Read>(alloc: Global, reader: &mut R, count: u8) -> Result<Vec<u8>, Fail> {

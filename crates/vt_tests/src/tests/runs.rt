@@ -34,21 +34,10 @@ fn runs_agree(rt: &impl Abort, alloc: Global, setting: &[u8], width: usize) -> R
 }
 
 #[test]
-fn runs_with_autowrap(rt: HostRuntime) -> Result<(), Fail> {
-    runs_agree(&rt, rt.alloc(), b"", 80)
-}
-
-#[test]
-fn runs_without_autowrap(rt: HostRuntime) -> Result<(), Fail> {
-    runs_agree(&rt, rt.alloc(), b"\x1b[?7l", 80)
-}
-
-#[test]
-fn wide_runs_with_autowrap(rt: HostRuntime) -> Result<(), Fail> {
-    runs_agree(&rt, rt.alloc(), b"\x1b[?3h", 132)
-}
-
-#[test]
-fn wide_runs_without_autowrap(rt: HostRuntime) -> Result<(), Fail> {
+fn runs_leave_the_same_whole_and_byte_by_byte(rt: HostRuntime) -> Result<(), Fail> {
+    // with autowrap and without, on either width
+    runs_agree(&rt, rt.alloc(), b"", 80)?;
+    runs_agree(&rt, rt.alloc(), b"\x1b[?7l", 80)?;
+    runs_agree(&rt, rt.alloc(), b"\x1b[?3h", 132)?;
     runs_agree(&rt, rt.alloc(), b"\x1b[?3h\x1b[?7l", 132)
 }

@@ -1,8 +1,8 @@
 //! What the tests share: a terminal that was fed in pieces, a replay, and what both must leave.
-use crate::{Watched, What, run};
 use std::alloc::Global;
 use std::process::Abort;
 use std::test::Fail;
+use vt_replay::{Watched, What, run};
 use vt_term::{Brush, Cursor, Rendition, Terminal};
 
 /// The greatest input of the program, unless it is told another.

@@ -1,22 +1,12 @@
 //! The terminal meets every vector, and no wrong one.
-use crate::{Mismatch, Vector, check, vector, vector_count};
 use std::test::Fail;
+use vt_vectors::{Mismatch, Vector, check, vector, vector_count};
 
 #[test]
 fn every_vector_is_met(rt: HostRuntime) -> Result<(), Fail> {
     for i in 0..vector_count() {
         let v = vector(i);
         assert_eq!(rt; check(rt.alloc(), &v), Ok(()), "vector {i}");
-    }
-    Ok(())
-}
-
-#[test]
-fn vectors_are_short(rt: HostRuntime) -> Result<(), Fail> {
-    for i in 0..vector_count() {
-        let v = vector(i);
-        assert!(rt; v.input.len() <= 200, "vector {i}");
-        assert_eq!(rt; v.text.iter().filter(|byte| **byte == b'\n').count(), 24);
     }
     Ok(())
 }

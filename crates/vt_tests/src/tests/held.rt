@@ -1,7 +1,7 @@
 //! What a terminal holds after each of the inputs that end inside a sequence.
 use super::common::Played;
-use crate::{held_sample, held_sample_count};
 use std::test::Fail;
+use vt_vectors::{held_sample, held_sample_count};
 
 const HELD: [&str; 14] = [
     "Escape(Zero)",
@@ -24,7 +24,7 @@ const HELD: [&str; 14] = [
 fn samples_leave_their_held_parts(rt: HostRuntime) -> Result<(), Fail> {
     assert_eq!(rt; held_sample_count(), HELD.len());
     for i in 0..held_sample_count() {
-        let played = Played::of(rt.alloc(), held_sample(i))?;
+        let played = Played::of(rt.alloc(), &[held_sample(i)])?;
         let held = format!(in rt.alloc(); "{:?}", played.terminal.held())?;
         assert_eq!(rt; Some(held.as_str()), HELD.get(i).copied(), "sample {i}");
         assert!(rt; !played.terminal.is_between());

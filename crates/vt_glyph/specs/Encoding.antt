@@ -1,4 +1,4 @@
--- How a glyph is encoded in one byte: by its spelling.
+-- How a glyph is encoded in one byte: by its spelling. No public clause speaks of it.
 use Rattle.std.specs.Prelude.{◌≡◌, ℕ, ◌+◌, ◌-◌, List, nat_lt, if◌then◌else◌}
 use Rattle.std.proofs.Common.{arith, ap}
 use Rattle.std.proofs.lemmas.Bool.Decides.{nat_tests}

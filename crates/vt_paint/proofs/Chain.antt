@@ -23,7 +23,7 @@ use Rattle.vt_paint.specs.Controls.{margins_to, brush_events, sets_events, spell
 use Rattle.vt_paint.specs.Pieces.{glyph_events, pieces, is_blank_grid}
 use Rattle.vt_paint.specs.Items.{cells_item, margins_item, origin_item, position_item, wrap_item, modes_item, shift_item}
 use Rattle.vt_paint.proofs.LowerLaws.{GridLaws, GlyphLaws}
-use Rattle.vt_paint.proofs.Running.{run, run-append}
+use Rattle.vt_paint.proofs.Running.{run, run-append, run-then}
 use Rattle.vt_paint.proofs.Equality.{and_true, not_true, is_blank-is}
 use Rattle.vt_paint.proofs.Grids.{painted, painted_none, put_same}
 use Rattle.vt_paint.proofs.Brushes.{brush_run, with_sets, sets_run, spelling_sets, spelling_sets_run, spelling_sets_are, spelling_sets_four, spelling_sets_none}
@@ -81,6 +81,12 @@ module _ (grids : GridLaws) (glyphs : GlyphLaws) where
       x0 : Display
       x0 = with_saved wide s.stops s.saved cursor
 
+      t : GraphicSets
+      t = spelling_sets (saved_sets s.saved)
+
+      base : Display
+      base = record x0 { sets = t }
+
       go : (b : Bool) → is_blank_grid s.grid && not s.cursor.wrap ≡ b → HasCells s (run x0 (cond b [] (spelling_sets_events ++ pieces s.grid)))
       go true e =
           let p = and_true (is_blank_grid s.grid) (not s.cursor.wrap) e in
@@ -94,8 +100,6 @@ module _ (grids : GridLaws) (glyphs : GlyphLaws) where
             spells = λ h. absurd (cc (h, not_true s.cursor.wrap p.1));
           }
       go false e =
-          let t = spelling_sets (saved_sets s.saved) in
-          let base : Display = record x0 { sets = t } in
           let ready : IsReady base = record { sets = spelling_sets_are (saved_sets s.saved) sets.four refl; modes = refl } in
           let painted_is : run x0 spelling_sets_events ≡ shown base (painted s.grid 1 1) cursor s.saved.brush =
           spelling_sets_run x0 ∙ ap (λ g. shown base g cursor s.saved.brush) (painted_none grids wide s.grid w) in
@@ -219,10 +223,7 @@ end_run s brush sets i four none =
     let x3 : Display = record x2 { modes = s.modes } in
     let f3 = modes_item s.modes ++ shift_item s.sets.pending in
     let f2 = sets_events s.sets ++ f3 in
-    run-append x0 (brush_events s.brush) f2
-    ∙ ap (λ y. run y f2) (brush_run x0 s.brush)
-    ∙ run-append x1 (sets_events s.sets) f3
-    ∙ ap (λ y. run y f3) (sets_run x1 s.sets four i.sets)
-    ∙ run-append x2 (modes_item s.modes) (shift_item s.sets.pending)
-    ∙ ap (λ y. run y (shift_item s.sets.pending)) (modes_run x2 s.modes i.wrap)
-    ∙ shift_run x3 s.sets.pending i.sets.pending none
+    run-then x0 x1 s (brush_events s.brush) f2 (brush_run x0 s.brush)
+    (run-then x1 x2 s (sets_events s.sets) f3 (sets_run x1 s.sets four i.sets)
+    (run-then x2 x3 s (modes_item s.modes) (shift_item s.sets.pending) (modes_run x2 s.modes i.wrap)
+    (shift_run x3 s.sets.pending i.sets.pending none)))

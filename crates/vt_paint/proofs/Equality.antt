@@ -1,14 +1,15 @@
 -- The tests of equality are true exactly where the values are equal.
-use Rattle.std.proofs.Common.{◌≡◌, Bool, true, false, not, ◌&&◌, ◌||◌, ℕ, List, [], ◌∷◌, refl, ap, ◌∙◌, eqb}
+use Rattle.std.proofs.Common.{◌≡◌, Bool, true, false, not, ◌&&◌, ◌||◌, ℕ, List, refl, ap, ◌∙◌, eqb, rules}
 use Rattle.std.proofs.lemmas.Bool.{eqb-true}
+use Rattle.std.specs.Bool.{Decides}
+use Rattle.std.specs.Cmp.Lexicographic.{pointwise, pointwise_decides}
 use Rattle.vt_glyph.specs.declared.set.Set.{Set}
-use Rattle.vt_glyph.specs.declared.set.Set.TheVariants.{Ascii, British, German, Special, Supplemental}
 use Rattle.vt_screen.specs.declared.cell.Rendition.{Rendition}
 use Rattle.vt_screen.specs.declared.cell.Brush.{Brush}
 use Rattle.vt_screen.specs.declared.cell.Cell.{Cell}
 use Rattle.vt_screen.specs.Cells.{blank, brush_of, cell_of}
 use Rattle.vt_term.specs.declared.state.Saved.{Saved}
-use Rattle.vt_paint.specs.Same.{same_bool, same_list, same_rendition, same_brush, is_blank, same_set, same_saved}
+use Rattle.vt_paint.specs.Same.{same_bool, same_rendition, same_brush, is_blank, same_set, same_saved}
 
 pub and_true : (a b : Bool) → a && b ≡ true → (a ≡ true) × (b ≡ true)
 and_true true true h = (refl, refl)
@@ -27,27 +28,11 @@ pub not_false : (a : Bool) → not a ≡ false → a ≡ true
 not_false true h = refl
 not_false false h = absurd cc
 
-pub same_bool-is : (a b : Bool) → same_bool a b ≡ true → a ≡ b
-same_bool-is true true h = refl
-same_bool-is false false h = refl
-same_bool-is true false h = absurd cc
-same_bool-is false true h = absurd cc
+pub same_bool-decides : (a b : Bool) → Decides (same_bool a b) (a ≡ b)
+same_bool-decides a b = search rules
 
-pub same_bool-refl : (a : Bool) → same_bool a a ≡ true
-same_bool-refl true = refl
-same_bool-refl false = refl
-
-pub same_list-is : {A : Type 0} (same : A → A → Bool) → ((a b : A) → same a b ≡ true → a ≡ b) → (xs ys : List A) → same_list same xs ys ≡ true → xs ≡ ys
-same_list-is same is [] [] h = refl
-same_list-is same is [] (y ∷ ys) h = absurd cc
-same_list-is same is (x ∷ xs) [] h = absurd cc
-same_list-is same is (x ∷ xs) (y ∷ ys) h =
-    let p = and_true (same x y) (same_list same xs ys) h in
-    ap (λ z. z ∷ xs) (is x y p.0) ∙ ap (λ zs. y ∷ zs) (same_list-is same is xs ys p.1)
-
-pub same_list-refl : {A : Type 0} (same : A → A → Bool) → ((a : A) → same a a ≡ true) → (xs : List A) → same_list same xs xs ≡ true
-same_list-refl same here [] = refl
-same_list-refl same here (x ∷ xs) = rw (here x) (same_list-refl same here xs)
+same_bool-is : (a b : Bool) → same_bool a b ≡ true → a ≡ b
+same_bool-is a b = (same_bool-decides a b).0
 
 rendition_of : Bool → Bool → Bool → Bool → Rendition
 rendition_of b u k r = record { bold = b; underline = u; blink = k; reverse = r }
@@ -63,9 +48,6 @@ same_rendition-is a b h =
     ∙ ap (λ x. rendition_of b.bold b.underline x a.reverse) (same_bool-is a.blink b.blink p3.0)
     ∙ ap (λ x. rendition_of b.bold b.underline b.blink x) (same_bool-is a.reverse b.reverse p3.1)
 
-pub same_rendition-refl : (a : Rendition) → same_rendition a a ≡ true
-same_rendition-refl a = rw (same_bool-refl a.bold, same_bool-refl a.underline, same_bool-refl a.blink, same_bool-refl a.reverse) refl
-
 brush_with : Rendition → Bool → Brush
 brush_with r p = record { rendition = r; protected = p }
 
@@ -76,29 +58,14 @@ same_brush-is a b h =
     ap (λ x. brush_with x a.protected) (same_rendition-is a.rendition b.rendition p.0)
     ∙ ap (λ x. brush_with b.rendition x) (same_bool-is a.protected b.protected p.1)
 
-pub same_brush-refl : (a : Brush) → same_brush a a ≡ true
-same_brush-refl a = rw (same_rendition-refl a.rendition, same_bool-refl a.protected) refl
-
 pub is_blank-is : (cell : Cell) → is_blank cell ≡ true → cell ≡ blank
 is_blank-is cell h =
     let p = and_true (eqb cell.glyph blank.glyph) (same_brush (brush_of cell) (brush_of blank)) h in
     ap (λ n. cell_of n (brush_of cell)) (eqb-true cell.glyph blank.glyph p.0)
     ∙ ap (λ b. cell_of blank.glyph b) (same_brush-is (brush_of cell) (brush_of blank) p.1)
 
-pub same_set-is : (a b : Set) → same_set a b ≡ true → a ≡ b
-same_set-is Ascii Ascii h = refl
-same_set-is British British h = refl
-same_set-is German German h = refl
-same_set-is Special Special h = refl
-same_set-is Supplemental Supplemental h = refl
-same_set-is _ _ h = absurd cc
-
-pub same_set-refl : (a : Set) → same_set a a ≡ true
-same_set-refl Ascii = refl
-same_set-refl British = refl
-same_set-refl German = refl
-same_set-refl Special = refl
-same_set-refl Supplemental = refl
+same_set-decides : (a b : Set) → Decides (same_set a b) (a ≡ b)
+same_set-decides a b = search rules
 
 saved_with : ℕ → ℕ → Bool → Brush → List Set → ℕ → ℕ → Bool → Saved
 saved_with row col wrap brush g gl gr origin =
@@ -111,28 +78,14 @@ same_saved-is a b h =
     let p2 = and_true (eqb a.col b.col) _ p1.1 in
     let p3 = and_true (same_bool a.wrap b.wrap) _ p2.1 in
     let p4 = and_true (same_brush a.brush b.brush) _ p3.1 in
-    let p5 = and_true (same_list same_set a.g b.g) _ p4.1 in
+    let p5 = and_true (pointwise same_set a.g b.g) _ p4.1 in
     let p6 = and_true (eqb a.gl b.gl) _ p5.1 in
     let p7 = and_true (eqb a.gr b.gr) (same_bool a.origin b.origin) p6.1 in
     ap (λ x. saved_with x a.col a.wrap a.brush a.g a.gl a.gr a.origin) (eqb-true a.row b.row p1.0)
     ∙ ap (λ x. saved_with b.row x a.wrap a.brush a.g a.gl a.gr a.origin) (eqb-true a.col b.col p2.0)
     ∙ ap (λ x. saved_with b.row b.col x a.brush a.g a.gl a.gr a.origin) (same_bool-is a.wrap b.wrap p3.0)
     ∙ ap (λ x. saved_with b.row b.col b.wrap x a.g a.gl a.gr a.origin) (same_brush-is a.brush b.brush p4.0)
-    ∙ ap (λ x. saved_with b.row b.col b.wrap b.brush x a.gl a.gr a.origin) (same_list-is same_set same_set-is a.g b.g p5.0)
+    ∙ ap (λ x. saved_with b.row b.col b.wrap b.brush x a.gl a.gr a.origin) ((pointwise_decides same_set-decides a.g b.g).0 p5.0)
     ∙ ap (λ x. saved_with b.row b.col b.wrap b.brush b.g x a.gr a.origin) (eqb-true a.gl b.gl p6.0)
     ∙ ap (λ x. saved_with b.row b.col b.wrap b.brush b.g b.gl x a.origin) (eqb-true a.gr b.gr p7.0)
     ∙ ap (λ x. saved_with b.row b.col b.wrap b.brush b.g b.gl b.gr x) (same_bool-is a.origin b.origin p7.1)
-
--- a test that holds only of equal values fails for others
-test_fails : (b : Bool) → (b ≡ true → ⊥) → b ≡ false
-test_fails true h = absurd (h refl)
-test_fails false h = refl
-
-pub same_saved-fails : (a b : Saved) → (a ≡ b → ⊥) → same_saved a b ≡ false
-same_saved-fails a b h = test_fails (same_saved a b) (λ e. h (same_saved-is a b e))
-
-pub same_stops-fails : (a b : List Bool) → (a ≡ b → ⊥) → same_list same_bool a b ≡ false
-same_stops-fails a b h = test_fails (same_list same_bool a b) (λ e. h (same_list-is same_bool same_bool-is a b e))
-
-pub same_stops-refl : (a : List Bool) → same_list same_bool a a ≡ true
-same_stops-refl a = same_list-refl same_bool same_bool-refl a

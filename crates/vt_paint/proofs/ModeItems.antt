@@ -8,7 +8,7 @@ use Rattle.vt_term.specs.Modes.{with_mode}
 use Rattle.vt_term.specs.Functions.{control, plain_escape, escape_with, sequence_in, sequences_of}
 use Rattle.vt_paint.specs.Controls.{where_true, application_keypad, reports_8bit}
 use Rattle.vt_paint.specs.Items.{ansi_mode_item, private_mode_item, modes_item, shift_item}
-use Rattle.vt_paint.proofs.Running.{run, run-append}
+use Rattle.vt_paint.proofs.Running.{run, run-then}
 
 kam_run : (x : Display) (v : Bool) → x.modes.kam ≡ false → run x (ansi_mode_item 2 false v) ≡ record x { modes = record x.modes { kam = v } }
 unfolding run sequence_in sequences_of with_mode
@@ -101,29 +101,19 @@ modes_run x m h =
     let x9 : Display = record x8 { modes = record x8.modes { decarm = m.decarm } } in
     let x10 : Display = record x9 { modes = record x9.modes { dectcem = m.dectcem } } in
     let x11 : Display = record x10 { modes = record x10.modes { keypad_application = m.keypad_application } } in
-    run-append x0 (ansi_mode_item 2 false m.kam) r1
-    ∙ ap (λ y. run y r1) (kam_run x0 m.kam refl)
-    ∙ run-append x1 (ansi_mode_item 4 false m.irm) r2
-    ∙ ap (λ y. run y r2) (irm_run x1 m.irm refl)
-    ∙ run-append x2 (ansi_mode_item 12 true m.srm) r3
-    ∙ ap (λ y. run y r3) (srm_run x2 m.srm refl)
-    ∙ run-append x3 (ansi_mode_item 20 false m.lnm) r4
-    ∙ ap (λ y. run y r4) (lnm_run x3 m.lnm refl)
-    ∙ run-append x4 (private_mode_item 1 false m.decckm) r5
-    ∙ ap (λ y. run y r5) (decckm_run x4 m.decckm refl)
-    ∙ run-append x5 (private_mode_item 4 false m.decsclm) r6
-    ∙ ap (λ y. run y r6) (decsclm_run x5 m.decsclm refl)
-    ∙ run-append x6 (private_mode_item 5 false m.decscnm) r7
-    ∙ ap (λ y. run y r7) (decscnm_run x6 m.decscnm refl)
-    ∙ run-append x7 (private_mode_item 7 true m.decawm) r8
-    ∙ ap (λ y. run y r8) (decawm_run x7 m.decawm h refl)
-    ∙ run-append x8 (private_mode_item 8 true m.decarm) r9
-    ∙ ap (λ y. run y r9) (decarm_run x8 m.decarm refl)
-    ∙ run-append x9 (private_mode_item 25 true m.dectcem) r10
-    ∙ ap (λ y. run y r10) (dectcem_run x9 m.dectcem refl)
-    ∙ run-append x10 (where_true m.keypad_application (application_keypad ∷ [])) r11
-    ∙ ap (λ y. run y r11) (keypad_run x10 m.keypad_application refl)
-    ∙ reports_run x11 m.reports_8bit refl
+    let whole : Display = record x { modes = m } in
+    run-then x0 x1 whole (ansi_mode_item 2 false m.kam) r1 (kam_run x0 m.kam refl)
+    (run-then x1 x2 whole (ansi_mode_item 4 false m.irm) r2 (irm_run x1 m.irm refl)
+    (run-then x2 x3 whole (ansi_mode_item 12 true m.srm) r3 (srm_run x2 m.srm refl)
+    (run-then x3 x4 whole (ansi_mode_item 20 false m.lnm) r4 (lnm_run x3 m.lnm refl)
+    (run-then x4 x5 whole (private_mode_item 1 false m.decckm) r5 (decckm_run x4 m.decckm refl)
+    (run-then x5 x6 whole (private_mode_item 4 false m.decsclm) r6 (decsclm_run x5 m.decsclm refl)
+    (run-then x6 x7 whole (private_mode_item 5 false m.decscnm) r7 (decscnm_run x6 m.decscnm refl)
+    (run-then x7 x8 whole (private_mode_item 7 true m.decawm) r8 (decawm_run x7 m.decawm h refl)
+    (run-then x8 x9 whole (private_mode_item 8 true m.decarm) r9 (decarm_run x8 m.decarm refl)
+    (run-then x9 x10 whole (private_mode_item 25 true m.dectcem) r10 (dectcem_run x9 m.dectcem refl)
+    (run-then x10 x11 whole (where_true m.keypad_application (application_keypad ∷ [])) r11 (keypad_run x10 m.keypad_application refl)
+    (reports_run x11 m.reports_8bit refl)))))))))))
 
 pub shift_run : (x : Display) (pending : Option ℕ) → ForSome pending (λ slot. (2 ≤ slot) × (slot < 4)) → x.sets.pending ≡ None → run x (shift_item pending) ≡ record x { sets = record x.sets { pending = pending } }
 unfolding run shift_item control

@@ -1,5 +1,5 @@
 -- Events one after another.
-use Rattle.std.proofs.Common.{◌≡◌, List, [], ◌∷◌, ◌++◌, refl}
+use Rattle.std.proofs.Common.{◌≡◌, List, [], ◌∷◌, ◌++◌, refl, ap, ◌∙◌}
 use Rattle.vt_syntax.specs.declared.event.Event.{Event}
 use Rattle.vt_term.specs.State.{Display}
 use Rattle.vt_term.specs.Functions.{effect}
@@ -19,3 +19,7 @@ pub run-after_events : (s : Display) (es : List Event) → run s es ≡ after_ev
 unfolding run
 run-after_events s [] = refl
 run-after_events s (e ∷ es) = run-after_events (effect e s) es
+
+-- the first events, and then the rest
+pub run-then : (x y z : Display) (es rest : List Event) → run x es ≡ y → run y rest ≡ z → run x (es ++ rest) ≡ z
+run-then x y z es rest first then = run-append x es rest ∙ ap (λ w. run w rest) first ∙ then

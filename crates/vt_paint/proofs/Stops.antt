@@ -1,6 +1,6 @@
 -- Tab stops, and the width.
-use Rattle.std.proofs.Common.{◌≡◌, inl, inr, Bool, true, false, not, cond, ℕ, zero, suc, ◌+◌, ◌-◌, ◌≤◌, ◌<◌, min, max, List, [], ◌∷◌, ◌++◌, length, get_or, set, map, arith, refl, sym, ap, subst, ◌∙◌, get_or-set_same, get_or-set_other}
-use Rattle.std.specs.List.{range_with_len}
+use Rattle.std.proofs.Common.{◌≡◌, inl, inr, Bool, true, false, not, cond, ℕ, zero, suc, ◌+◌, ◌-◌, ◌≤◌, ◌<◌, min, max, List, [], ◌∷◌, ◌++◌, length, get_or, set, arith, refl, sym, ap, subst, ◌∙◌, get_or-set_same, get_or-set_other}
+use Rattle.std.specs.Cmp.Lexicographic.{pointwise, pointwise_decides}
 use Rattle.std.proofs.lemmas.List.{ext_get_or}
 use Rattle.std.proofs.Math.ListN.{length-set}
 use Rattle.std.proofs.lemmas.List.FromFn.{get_or-map-range_with_len, length-map-range_with_len}
@@ -8,15 +8,15 @@ use Rattle.std.proofs.lemmas.Bool.Decides.{eqb_tells}
 use Rattle.vt_syntax.specs.declared.event.Event.{Event}
 use Rattle.vt_screen.specs.Grid.{blank_grid, columns}
 use Rattle.vt_term.specs.declared.state.Cursor.{Cursor}
-use Rattle.vt_term.specs.State.{Display, at_place, is_stop_at_power_up, stops_at_power_up, display_at_power_up}
+use Rattle.vt_term.specs.State.{Display, at_place, stops_at_power_up, display_at_power_up}
 use Rattle.vt_term.specs.Tabs.{no_stops}
 use Rattle.vt_term.specs.Modes.{with_mode}
 use Rattle.vt_term.specs.Functions.{control, plain_escape, sequence_in, sequences_of}
-use Rattle.vt_paint.specs.Same.{same_bool, same_list}
+use Rattle.vt_paint.specs.Same.{same_bool}
 use Rattle.vt_paint.specs.Controls.{where_true, private_mode, deccolm, cursor_to, clear_all_tabs, set_tab}
 use Rattle.vt_paint.specs.Items.{reset_item, stop_events, stops_from, is_wide, made_stops, stops_item}
 use Rattle.vt_paint.proofs.Running.{run, run-append}
-use Rattle.vt_paint.proofs.Equality.{same_bool-is, same_list-is}
+use Rattle.vt_paint.proofs.Equality.{same_bool-decides}
 
 -- power-up with this width, these stops and this cursor
 abbrev pub with_stops : Bool → List Bool → Cursor → Display
@@ -128,15 +128,15 @@ start stops = record { made = no_stops; cursor = at_place 1 1; is = refl; are = 
 
 pub stops_run : (wide : Bool) (stops : List Bool) → length stops ≡ 132 → HasStops wide stops (run display_at_power_up (stops_item (columns wide) stops))
 unfolding stops_item made_stops
-stops_run wide stops long = go (same_list same_bool stops stops_at_power_up) refl
+stops_run wide stops long = go (pointwise same_bool stops stops_at_power_up) refl
   where
     narrow : List Event
     narrow = where_true (not (is_wide (columns wide))) (private_mode deccolm false ∷ [])
 
-    go : (b : Bool) → same_list same_bool stops stops_at_power_up ≡ b
+    go : (b : Bool) → pointwise same_bool stops stops_at_power_up ≡ b
         → HasStops wide stops (run display_at_power_up (cond b (where_true (is_wide (columns wide)) (private_mode deccolm true ∷ [])) (private_mode deccolm true ∷ clear_all_tabs ∷ (stops_from stops 1 132 ++ narrow))))
     go true e =
-        let is = same_list-is same_bool same_bool-is stops stops_at_power_up e in
+        let is = (pointwise_decides same_bool-decides stops stops_at_power_up).0 e in
         subst (λ (s : List Bool). HasStops wide s (run display_at_power_up (where_true (is_wide (columns wide)) (private_mode deccolm true ∷ [])))) (sym is) (wide_run wide)
     go false e =
         let x0 = run display_at_power_up (private_mode deccolm true ∷ clear_all_tabs ∷ []) in
@@ -146,18 +146,3 @@ stops_run wide stops long = go (same_list same_bool stops stops_at_power_up) ref
         ∙ run-append x0 (stops_from stops 1 132) narrow
         ∙ ap (λ y. run y narrow) (w.is ∙ ap (λ m. with_stops true m w.cursor) (all_made stops w.made long w.are))))
         (narrow_run wide stops w.cursor)
-
--- ---- the test
-
-pub stops-are : (stops : List Bool) → length stops ≡ 132 → ((k : ℕ) → k < 132 → get_or stops k false ≡ is_stop_at_power_up (k + 1)) → stops ≡ stops_at_power_up
-unfolding stops_at_power_up
-stops-are stops long same =
-    let made = map is_stop_at_power_up (range_with_len 1 132) in
-    let long_made = length-map-range_with_len is_stop_at_power_up 1 132 in
-    ext_get_or false stops made (long ∙ sym long_made)
-    (λ k l. let h : k < 132 = omega (arith, long) in same k h ∙ sym (get_or-map-range_with_len is_stop_at_power_up 1 132 k (k + 1) false h (omega arith)))
-
-pub stops-differ : (stops : List Bool) (k : ℕ) → k < 132 → (get_or stops k false ≡ is_stop_at_power_up (k + 1) → ⊥) → stops ≡ stops_at_power_up → ⊥
-unfolding stops_at_power_up
-stops-differ stops k h ne e =
-    ne (ap (λ xs. get_or xs k false) e ∙ get_or-map-range_with_len is_stop_at_power_up 1 132 k (k + 1) false h (omega arith))

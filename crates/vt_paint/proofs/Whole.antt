@@ -1,5 +1,6 @@
 -- The whole repaint: its events are fine, and they make the display.
 use Rattle.std.proofs.Common.{◌≡◌, Bool, true, false, not, cond, eqb, ◌&&◌, ℕ, zero, suc, ◌+◌, ◌-◌, ◌*◌, ◌≤◌, ◌<◌, List, [], ◌∷◌, ◌++◌, length, Option, Some, None, sym, ap, subst, ◌∙◌, arith}
+use Rattle.std.specs.Cmp.Lexicographic.{pointwise}
 use Rattle.std.specs.Str.{IsAscii}
 use Rattle.vt_syntax.specs.declared.event.Event.{Event}
 use Rattle.vt_syntax.specs.declared.held.Held.{Held}
@@ -20,13 +21,13 @@ use Rattle.vt_term.specs.State.{Display, State, last_column, at_place, full_marg
 use Rattle.vt_term.specs.Sound.{IsPlace, IsSoundDisplay, IsSound}
 use Rattle.vt_term.specs.Reports.{line_of_cursor}
 use Rattle.vt_term.specs.Play.{Played, after_events, reports_of, play}
-use Rattle.vt_paint.specs.Same.{same_bool, same_list, same_saved, is_blank}
+use Rattle.vt_paint.specs.Same.{same_bool, same_saved, is_blank}
 use Rattle.vt_paint.specs.Controls.{where_true, private_mode, deccolm, cursor_to, clear_all_tabs, set_tab, save_cursor, shift_to_2, shift_to_3, brush_events, sets_events, spelling_sets_events}
 use Rattle.vt_paint.specs.Pieces.{left_of, needs_header, header, glyph_events, piece_of, piece, pieces_from, row_pieces, rows_from, pieces, is_blank_grid}
 use Rattle.vt_paint.specs.Items.{reset_item, stop_events, stops_from, is_wide, made_stops, stops_item, saved_events, saved_item, cells_item, margins_item, origin_item, position_item, wrap_item, ansi_mode_item, private_mode_item, modes_item, shift_item}
 use Rattle.vt_paint.specs.Repaint.{repaint_events, paint}
 use Rattle.vt_paint.proofs.LowerLaws.{GridLaws, GlyphLaws}
-use Rattle.vt_paint.proofs.Running.{run, run-append, run-after_events}
+use Rattle.vt_paint.proofs.Running.{run, run-then, run-after_events}
 use Rattle.vt_paint.proofs.Fine.{AreFine, fine-append, fine-upto, fine-none, fine-where, fine-unless, fine-if, cursor_to_fine, margins_to_fine, clear_fine, column_fine, ansi_mode_fine, private_mode_fine, brush_fine, set_tab_fine, shift_to_2_fine, shift_to_3_fine, reset_fine, save_fine, keypad_fine, reports_fine, print_fine, sets_fine, spelling_sets_fine, spelling_fine}
 use Rattle.vt_paint.proofs.Painting.{AreGlyphs}
 use Rattle.vt_paint.proofs.Stops.{with_stops, reset_run, stops_run}
@@ -47,7 +48,7 @@ stops_from_fine stops (suc n) c h =
 
 stops_item_fine : (width : ℕ) (stops : List Bool) → AreFine 1336 (stops_item width stops)
 unfolding stops_item made_stops
-stops_item_fine width stops = go (same_list same_bool stops stops_at_power_up)
+stops_item_fine width stops = go (pointwise same_bool stops stops_at_power_up)
   where
     go : (b : Bool) → AreFine 1336 (cond b (where_true (is_wide width) (private_mode deccolm true ∷ [])) (private_mode deccolm true ∷ clear_all_tabs ∷ (stops_from stops 1 132 ++ where_true (not (is_wide width)) (private_mode deccolm false ∷ []))))
     go true = fine-where 1336 (is_wide width) _ (fine-upto 6 1336 _ (omega arith) (private_mode_fine 3 true (omega arith)))
@@ -205,24 +206,17 @@ module _ (grids : GridLaws) (glyphs : GlyphLaws) where
       let x4 = part s w4.cursor w3.brush w3.sets s.margins false in
       let x5 = part s w5.cursor w3.brush w3.sets s.margins s.modes.decom in
       let x6 = part s (at_place s.cursor.row s.cursor.col) w3.brush w3.sets s.margins s.modes.decom in
+      let x7 = part s s.cursor w7.brush w7.sets s.margins s.modes.decom in
       ap (λ n. run t (reset_item ++ (stops_item n s.stops ++ o2))) is_width
-      ∙ run-append t reset_item o1
-      ∙ ap (λ y. run y o1) (reset_run t)
-      ∙ run-append display_at_power_up (stops_item (columns wide) s.stops) o2
-      ∙ ap (λ y. run y o2) w1.is
-      ∙ run-append x1 (saved_item s.saved) o3
-      ∙ ap (λ y. run y o3) w2.is
-      ∙ run-append x2 (cells_item s.grid s.cursor.wrap) o4
-      ∙ ap (λ y. run y o4) w3.is
-      ∙ run-append x3 (margins_item s.margins) o5
-      ∙ ap (λ y. run y o5) w4.is
-      ∙ run-append x4 (origin_item s.modes.decom) o6
-      ∙ ap (λ y. run y o6) w5.is
-      ∙ run-append x5 (position_item s) o7
-      ∙ ap (λ y. run y o7) (position_run s w5.cursor w3.brush w3.sets i)
-      ∙ run-append x6 (wrap_item s.grid s.cursor) o8
-      ∙ ap (λ y. run y o8) w7.is
-      ∙ end_run s w7.brush w7.sets i w7.four w7.none
+      ∙ run-then t display_at_power_up s reset_item o1 (reset_run t)
+      (run-then display_at_power_up x1 s (stops_item (columns wide) s.stops) o2 w1.is
+      (run-then x1 x2 s (saved_item s.saved) o3 w2.is
+      (run-then x2 x3 s (cells_item s.grid s.cursor.wrap) o4 w3.is
+      (run-then x3 x4 s (margins_item s.margins) o5 w4.is
+      (run-then x4 x5 s (origin_item s.modes.decom) o6 w5.is
+      (run-then x5 x6 s (position_item s) o7 (position_run s w5.cursor w3.brush w3.sets i)
+      (run-then x6 x7 s (wrap_item s.grid s.cursor) o8 w7.is
+      (end_run s w7.brush w7.sets i w7.four w7.none))))))))
 
   pub short : (s : State) → IsSound s → length (paint s) ≤ 93512
   unfolding paint

@@ -1,6 +1,7 @@
 -- The eleven items of a repaint, in their order. (this profile)
 use Rattle.std.specs.Prelude.{ℕ, List, [], ◌∷◌, ◌++◌, Bool, true, false, not, Option, Some, None, ◌==◌, ◌&&◌, if◌then◌else◌}
 use Rattle.std.specs.List.{range_with_len, flat_map}
+use Rattle.std.specs.Cmp.Lexicographic.{pointwise}
 use Rattle.vt_syntax.specs.declared.event.Event.{Event}
 use Rattle.vt_syntax.specs.declared.event.Event.TheVariants.{Print}
 use Rattle.vt_glyph.specs.Tables.{space}
@@ -12,7 +13,7 @@ use Rattle.vt_term.specs.declared.state.Modes.{Modes}
 use Rattle.vt_term.specs.declared.state.Saved.{Saved}
 use Rattle.vt_term.specs.State.{Display, has_stop_at, stops_at_power_up, saved_sets, saved_at_power_up}
 use Rattle.vt_term.specs.Reports.{line_of_cursor}
-use Rattle.vt_paint.specs.Same.{same_bool, same_list, same_saved}
+use Rattle.vt_paint.specs.Same.{same_bool, same_saved}
 use Rattle.vt_paint.specs.Controls.{where_true, ansi_mode, private_mode, deccolm, decom, cursor_to, margins_to, clear_all_tabs, brush_events, set_tab, shift_to_2, shift_to_3, reset_all, save_cursor, application_keypad, reports_8bit, sets_events, spelling_sets_events}
 use Rattle.vt_paint.specs.Pieces.{glyph_events, pieces, is_blank_grid}
 
@@ -40,7 +41,7 @@ made_stops wide stops =
 
 unfoldable pub stops_item : ℕ → List Bool → List Event
 stops_item width stops =
-    if same_list same_bool stops stops_at_power_up then where_true (is_wide width) (private_mode deccolm true ∷ [])
+    if pointwise same_bool stops stops_at_power_up then where_true (is_wide width) (private_mode deccolm true ∷ [])
     else made_stops (is_wide width) stops
 
 -- 3. Where the saved record differs from power-up: the cursor is brought where it was saved, a space in the last column sets

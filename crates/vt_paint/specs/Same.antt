@@ -1,5 +1,6 @@
 -- Whether two parts of a state are equal, as tests.
-use Rattle.std.specs.Prelude.{List, [], ◌∷◌, Bool, true, false, not, ◌==◌, ◌&&◌, if◌then◌else◌}
+use Rattle.std.specs.Prelude.{Bool, not, ◌==◌, ◌&&◌, if◌then◌else◌}
+use Rattle.std.specs.Cmp.Lexicographic.{pointwise}
 use Rattle.vt_glyph.specs.declared.set.Set.{Set}
 use Rattle.vt_glyph.specs.Designation.{final_of}
 use Rattle.vt_screen.specs.declared.cell.Rendition.{Rendition}
@@ -10,12 +11,6 @@ use Rattle.vt_term.specs.declared.state.Saved.{Saved}
 
 abbrev pub same_bool : Bool → Bool → Bool
 same_bool a b = if a then b else not b
-
-abbrev pub same_list : {A : Type 0} → (A → A → Bool) → List A → List A → Bool
-same_list same [] [] = true
-same_list same [] (y ∷ ys) = false
-same_list same (x ∷ xs) [] = false
-same_list same (x ∷ xs) (y ∷ ys) = same x y && same_list same xs ys
 
 abbrev pub same_rendition : Rendition → Rendition → Bool
 same_rendition a b =
@@ -35,4 +30,4 @@ same_set a b = final_of a == final_of b
 abbrev pub same_saved : Saved → Saved → Bool
 same_saved a b =
     a.row == b.row && (a.col == b.col && (same_bool a.wrap b.wrap && (same_brush a.brush b.brush
-    && (same_list same_set a.g b.g && (a.gl == b.gl && (a.gr == b.gr && same_bool a.origin b.origin))))))
+    && (pointwise same_set a.g b.g && (a.gl == b.gl && (a.gr == b.gr && same_bool a.origin b.origin))))))

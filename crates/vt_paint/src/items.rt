@@ -1,8 +1,7 @@
 //! The items of a repaint but for the cells. The room for each is there.
-ghost use Rattle.std.specs.Prelude.{◌≡◌, ◌↔◌, ◌+◌, ◌*◌, ◌≤◌, ◌<◌, ◌++◌, ◌∷◌, [], true, IsTrue, vec_len, vec_capacity};
+ghost use Rattle.std.specs.Prelude.{◌≡◌, ◌+◌, ◌*◌, ◌≤◌, ◌<◌, ◌++◌, ◌∷◌, [], true, vec_len, vec_capacity};
 ghost use Rattle.vt_syntax.specs.Spelling.{spell_events};
 ghost use Rattle.vt_screen.specs.Grid.{columns};
-ghost use Rattle.vt_term.specs.State.{stops_at_power_up, is_stop_at_power_up as is_stop_at_power_up_of, saved_at_power_up as saved_at_power_up_is};
 ghost use Rattle.vt_screen.specs.Cells.{brush_of};
 ghost use Rattle.vt_paint.specs.Controls.{where_true, private_mode, decom, cursor_to, set_tab, brush_events};
 ghost use Rattle.vt_paint.specs.Pieces.{glyph_events};
@@ -13,9 +12,8 @@ use crate::controls::{
     push_sets,
 };
 use crate::room::{push_bytes, push_number, push_where};
-use vt_glyph::{Set, Sets};
-use vt_screen::{Brush, Cell, Rendition};
-use vt_term::{Margins, Modes, Saved, Terminal};
+use vt_screen::Cell;
+use vt_term::{Margins, Modes, Saved, stops_at_power_up};
 
 /// The columns that tab stops are kept for, whatever the width.
 const STOPS: usize = 132;
@@ -38,24 +36,6 @@ pub(crate) fn push_private_mode_where(test: bool, number: u8, on: bool, out: &mu
 }
 
 // ---- 2: the stops and the width
-
-/// Columns 9, 17, .. 129.
-fn is_stop_at_power_up(col: usize) -> bool
-    ensures { result ≡ is_stop_at_power_up_of col }
-{
-    col > 1 && col % 8 == 1
-}
-
-fn are_stops_at_power_up(stops: &[bool; STOPS]) -> bool
-    ensures { IsTrue result ↔ (stops.now ≡ stops_at_power_up) }
-{
-    for (i, stop) in stops.iter().enumerate() {
-        if *stop != is_stop_at_power_up(i + 1) {
-            return false;
-        }
-    }
-    true
-}
 
 /// CUP and HTS, where there is a stop.
 fn push_stop(stop: bool, col: usize, out: &mut Vec<u8>)
@@ -97,6 +77,7 @@ fn push_made_stops(wide: bool, stops: &[bool; STOPS], out: &mut Vec<u8>)
 }
 
 /// The stops and the width.
+#[tactic(auto, unfolding(crate::specs::Items::stops_item))]
 pub(crate) fn push_stops(width: usize, stops: &[bool; STOPS], out: &mut Vec<u8>)
     requires { vec_len out.old + 10 * 132 + 16 ≤ vec_capacity out.old }
     ensures items { out.new.items ≡ out.old.items ++ spell_events (stops_item width stops.now) }
@@ -104,7 +85,7 @@ pub(crate) fn push_stops(width: usize, stops: &[bool; STOPS], out: &mut Vec<u8>)
     ensures capacity { vec_capacity out.old ≤ vec_capacity out.new }
 {
     let wide = width == STOPS;
-    if are_stops_at_power_up(stops) {
+    if *stops == stops_at_power_up() {
         push_private_mode_where(wide, DECCOLM, true, out);
     } else {
         push_made_stops(wide, stops, out);
@@ -112,54 +93,6 @@ pub(crate) fn push_stops(width: usize, stops: &[bool; STOPS], out: &mut Vec<u8>)
 }
 
 // ---- 3: the saved record
-
-/// What DECSC would save at power-up.
-fn saved_at_power_up() -> Saved
-    ensures { result ≡ saved_at_power_up_is }
-{
-    let sets = Sets::power_up();
-    Saved {
-        row: 1,
-        col: 1,
-        wrap: false,
-        brush: Brush::plain(),
-        g: sets.designations(),
-        gl: sets.left(),
-        gr: sets.right(),
-        origin: false,
-    }
-}
-
-fn same_designations(a: &[Set; 4], b: &[Set; 4]) -> bool
-    ensures { IsTrue result ↔ (a.now ≡ b.now) }
-{
-    a == b
-}
-
-fn same_rendition(a: &Rendition, b: &Rendition) -> bool
-    ensures { IsTrue result ↔ (a.now ≡ b.now) }
-{
-    a == b
-}
-
-fn same_brush(a: &Brush, b: &Brush) -> bool
-    ensures { IsTrue result ↔ (a.now ≡ b.now) }
-{
-    same_rendition(&a.rendition, &b.rendition) && a.protected == b.protected
-}
-
-fn same_saved(a: &Saved, b: &Saved) -> bool
-    ensures { IsTrue result ↔ (a.now ≡ b.now) }
-{
-    a.row == b.row
-        && a.col == b.col
-        && a.wrap == b.wrap
-        && same_brush(&a.brush, &b.brush)
-        && same_designations(&a.g, &b.g)
-        && a.gl == b.gl
-        && a.gr == b.gr
-        && a.origin == b.origin
-}
 
 #[tactic(auto, unfolding(crate::specs::Items::saved_events))]
 fn push_saved_events(saved: &Saved, out: &mut Vec<u8>)
@@ -189,7 +122,7 @@ pub(crate) fn push_saved(saved: &Saved, out: &mut Vec<u8>)
     ensures bounded { vec_len out.new ≤ vec_len out.old + 57 }
     ensures capacity { vec_capacity out.old ≤ vec_capacity out.new }
 {
-    if !same_saved(saved, &saved_at_power_up()) {
+    if *saved != Saved::power_up() {
         push_saved_events(saved, out);
     }
 }

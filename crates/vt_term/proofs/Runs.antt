@@ -13,7 +13,8 @@ use Rattle.vt_screen.specs.Cells.{cell_of, cell_like}
 use Rattle.vt_screen.specs.Grid.{Grid, put, put_run}
 use Rattle.vt_term.specs.declared.state.Cursor.{Cursor}
 use Rattle.vt_term.specs.State.{Display, last_column, at_place}
-use Rattle.vt_term.specs.Writing.{WritesOver, print, write_glyph, put_glyph, wrapped, advanced, advanced_by, with_run}
+use Rattle.vt_term.specs.Writing.{print, write_glyph, put_glyph, wrapped, advanced}
+use Rattle.vt_term.specs.Runs.{WritesOver, advanced_by, with_run}
 use Rattle.vt_term.specs.Play.{after_events}
 
 -- the laws of the grid that this rests on

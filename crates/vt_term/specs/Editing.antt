@@ -48,14 +48,14 @@ names_area p = nat_le p 2
 -- of the row: 0 the cursor and what is right of it, 1 what is left of it and the cursor, 2 all
 abbrev pub line_area : ℕ → Cursor → ℕ → ℕ → Bool
 line_area p cursor r c =
-    r == cursor.row && (p == 2 || p == 0 && nat_le cursor.col c || p == 1 && nat_le c cursor.col)
+    r == cursor.row && (p == 2 || (p == 0 && nat_le cursor.col c) || (p == 1 && nat_le c cursor.col))
 
 -- of the screen: the same, and the rows below or above
 abbrev pub display_area : ℕ → Cursor → ℕ → ℕ → Bool
 display_area p cursor r c =
-    p == 2 || p == 0 && nat_lt cursor.row r || p == 1 && nat_lt r cursor.row || line_area p cursor r c
+    p == 2 || (p == 0 && nat_lt cursor.row r) || (p == 1 && nat_lt r cursor.row) || line_area p cursor r c
 
--- the rows from the first up to before the end
+-- the rows from the first up to before the end; private contracts alone cite it
 abbrev pub rows_between : ℕ → ℕ → ℕ → ℕ → Bool
 rows_between first end r c = nat_le first r && nat_lt r end
 

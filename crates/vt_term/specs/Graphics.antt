@@ -1,4 +1,5 @@
--- The bytes that have a glyph in either half, as tests. (EK-VT220-RM, chapter 2: the graphic areas of the code table)
+-- The bytes that have a glyph in either half, as tests. No public clause speaks of them. (EK-VT220-RM, chapter 2: the
+-- graphic areas of the code table)
 use Rattle.std.specs.Prelude.{ℕ, Bool, not, ◌&&◌, ◌||◌, nat_le}
 
 abbrev pub is_graphic : ℕ → Bool

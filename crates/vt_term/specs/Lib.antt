@@ -5,6 +5,7 @@ pub mod Moving
 pub mod Tabs
 pub mod Graphics
 pub mod Writing
+pub mod Runs
 pub mod Editing
 pub mod Rendition
 pub mod Modes

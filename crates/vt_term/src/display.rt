@@ -3,9 +3,7 @@ ghost use Rattle.std.specs.Prelude.{◌≡◌, ◌↔◌, IsTrue, IfOk};
 ghost use Rattle.vt_term.specs.Sound.{IsSoundDisplay};
 ghost use Rattle.vt_term.specs.State.{display_at_power_up, stops_at_power_up, is_stop_at_power_up};
 
-use crate::same::{
-    same_brush, same_cursor, same_margins, same_modes, same_saved, same_sets, same_stops,
-};
+use crate::same::{same_brush, same_modes, same_saved, same_stops};
 use crate::state::{Cursor, Margins, Modes, Saved};
 use std::alloc::{AllocError, Global};
 use std::marker::Model;
@@ -50,8 +48,8 @@ fn has_stop_at_power_up(col: usize) -> bool
     1 < col && col % 8 == 1
 }
 
-/// The tab stops at columns 9, 17, .. 129.
-pub(crate) fn stops_at_power_up() -> [bool; STOPS]
+/// The tab stops at power-up, at columns 9, 17, .. 129: place c - 1 for column c. (This profile)
+pub fn stops_at_power_up() -> [bool; STOPS]
     ensures { result ≡ stops_at_power_up }
 {
     let mut stops = [false; STOPS];
@@ -89,10 +87,10 @@ impl Display {
     pub(crate) fn same(&self, other: &Display) -> bool
         ensures { IsTrue result ↔ (self.now ≡ other.now) }
     {
-        same_cursor(&self.cursor, &other.cursor)
+        self.cursor == other.cursor
             && same_brush(&self.brush, &other.brush)
-            && same_sets(&self.sets, &other.sets)
-            && same_margins(&self.margins, &other.margins)
+            && self.sets == other.sets
+            && self.margins == other.margins
             && same_stops(&self.stops, &other.stops)
             && same_modes(&self.modes, &other.modes)
             && same_saved(&self.saved, &other.saved)

@@ -21,6 +21,7 @@ mod terminal;
 mod text;
 mod writing;
 
+pub use display::stops_at_power_up;
 pub use state::{Cursor, Margins, Modes, Saved};
 pub use terminal::{TEXT_LIMIT, Terminal};
 pub use vt_screen::{Brush, Cell, Rendition};

@@ -6,7 +6,6 @@ ghost use Rattle.vt_screen.specs.Grid.{row_of, last_row};
 ghost use Rattle.vt_term.specs.Sound.{IsSound};
 
 use crate::display::STOPS;
-use crate::same::same_held;
 use crate::state::{Cursor, Margins, Modes, Saved};
 use crate::terminal::Terminal;
 use vt_glyph::Sets;
@@ -33,7 +32,7 @@ impl Terminal {
         self.display.screen.width()
     }
 
-    /// The cursor.
+    /// Where the next glyph goes, and whether it begins a new line.
     pub fn cursor(&self) -> Cursor
         ensures cursor { result ≡ self.now.display.cursor }
         ensures sound { IsSound self.now }
@@ -56,7 +55,7 @@ impl Terminal {
         &self.display.sets
     }
 
-    /// The scroll region.
+    /// The scroll region: the whole screen, unless DECSTBM set another.
     pub fn margins(&self) -> Margins
         ensures { result ≡ self.now.display.margins }
     {
@@ -70,14 +69,14 @@ impl Terminal {
         &self.display.stops
     }
 
-    /// The modes.
+    /// Which modes are set, the keypad's and the form of reports among them.
     pub fn modes(&self) -> Modes
         ensures { result ≡ self.now.display.modes }
     {
         self.display.modes
     }
 
-    /// What DECSC saved.
+    /// What DECSC saved last, or what it would have saved at power-up.
     pub fn saved(&self) -> Saved
         ensures { result ≡ self.now.display.saved }
     {
@@ -103,6 +102,6 @@ impl Terminal {
     pub fn same_state(&self, other: &Terminal) -> bool
         ensures { IsTrue result ↔ (self.now ≡ other.now) }
     {
-        self.display.same(&other.display) && same_held(self.parser.held(), other.parser.held())
+        self.display.same(&other.display) && self.parser.held() == other.parser.held()
     }
 }

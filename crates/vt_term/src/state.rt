@@ -27,7 +27,7 @@ impl Cursor {
     }
 }
 
-/// The scroll region: its first and last row, of at least two.
+/// The scroll region: its first and last row, both from 1 to 24, the first above the last.
 #[derive(Clone, Copy, Debug, PartialEq, Eq)]
 pub struct Margins {
     pub top: usize,
@@ -43,21 +43,35 @@ impl Margins {
     }
 }
 
-/// The modes, named as in the manual; true where set.
+/// The modes, named as in the manual; true where set. Only IRM, LNM, DECOM, DECAWM and the form of reports change what
+/// later bytes do; the others are kept for whoever draws the screen or has a keyboard. (VT220 manual, chapter 4)
 #[derive(Clone, Copy, Debug, PartialEq, Eq)]
 pub struct Modes {
+    /// The keyboard is locked.
     pub kam: bool,
+    /// A glyph moves the rest of its row right, and doesn't write it over.
     pub irm: bool,
+    /// What is typed isn't shown by the terminal itself.
     pub srm: bool,
+    /// LF goes to column 1, too.
     pub lnm: bool,
+    /// The arrow keys send application sequences.
     pub decckm: bool,
+    /// Scrolling is smooth.
     pub decsclm: bool,
+    /// The screen is shown dark on light.
     pub decscnm: bool,
+    /// Lines are counted from the top margin, and the cursor stays inside the margins.
     pub decom: bool,
+    /// A glyph behind the last column begins a new line.
     pub decawm: bool,
+    /// Keys repeat.
     pub decarm: bool,
+    /// The cursor is shown.
     pub dectcem: bool,
+    /// The keypad sends application sequences (DECKPAM).
     pub keypad_application: bool,
+    /// Reports begin with an 8-bit control (S8C1T).
     pub reports_8bit: bool,
 }
 
@@ -84,22 +98,28 @@ impl Modes {
     }
 }
 
-/// What DECSC saves. The row may lie outside the margins.
+/// What DECSC saves. Rows count from 1 to 24, and the row may lie outside the margins; columns from 1 to the width.
 #[derive(Clone, Copy, Debug, PartialEq, Eq)]
 pub struct Saved {
     pub row: usize,
     pub col: usize,
+    /// The wrap flag. It is set in the last column alone.
     pub wrap: bool,
     pub brush: Brush,
+    /// The sets that are designated as G0 to G3.
     pub g: [Set; 4],
+    /// Which of them is in GL, 0 to 3.
     pub gl: u8,
+    /// Which of them is in GR, 1 to 3.
     pub gr: u8,
+    /// DECOM.
     pub origin: bool,
 }
 
 impl Saved {
-    /// What DECSC would save at power-up.
-    pub(crate) fn power_up() -> Saved
+    /// What is saved at power-up: the cursor in row 1 and column 1 without the wrap flag, the plain brush, the sets of
+    /// power-up, and DECOM reset. (This profile)
+    pub fn power_up() -> Saved
         ensures { result ≡ saved_at_power_up }
     {
         let sets = Sets::power_up();

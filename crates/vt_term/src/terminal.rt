@@ -14,7 +14,7 @@ ghost use Rattle.vt_term.specs.State.{power_up};
 ghost use Rattle.vt_term.specs.Sound.{IsSound};
 ghost use Rattle.vt_term.specs.Play.{play};
 ghost use Rattle.vt_term.specs.Text.{text};
-ghost use Rattle.vt_term.specs.Writing.{WritesAscii};
+ghost use Rattle.vt_term.specs.Runs.{WritesAscii};
 
 use crate::display::{Display, ROWS, STOPS};
 use crate::graphics::{graphic_run, right_half_at};
@@ -68,8 +68,8 @@ impl Terminal {
 
     /// Plays a piece of the host's bytes, and appends the reports to `out`.
     ///
-    /// Ten bytes of room for each byte of the piece are reserved first. `Err` where that is refused: then the
-    /// terminal and the contents of `out` are unchanged.
+    /// Ten bytes of room for each byte of the piece are reserved first. `Err` where that is refused, or is more than
+    /// any vector may hold: then the terminal and the contents of `out` are unchanged.
     pub fn feed(&mut self, piece: &[u8], out: &mut Vec<u8>) -> Result<(), AllocError>
         ensures state { OnOk result (self.new ≡ (play self.old piece.now).state) }
         ensures reports { OnOk result (out.new.items ≡ out.old.items ++ (play self.old piece.now).reports) }

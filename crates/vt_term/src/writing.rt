@@ -5,7 +5,8 @@ ghost use Rattle.vt_syntax.specs.declared.event.Event.TheVariants.{Print};
 ghost use Rattle.vt_term.specs.Play.{after_events};
 ghost use Rattle.vt_glyph.specs.Tables.{IsGlyph};
 ghost use Rattle.vt_glyph.specs.Invocation.{HasGlyph, in_use, glyph_in_use};
-ghost use Rattle.vt_term.specs.Writing.{WritesAscii, WritesInUse, with_run, advanced_by, wrapped, put_glyph, write_glyph, print};
+ghost use Rattle.vt_term.specs.Writing.{wrapped, put_glyph, write_glyph, print};
+ghost use Rattle.vt_term.specs.Runs.{WritesAscii, WritesInUse, with_run, advanced_by};
 
 use crate::display::Display;
 use crate::page;

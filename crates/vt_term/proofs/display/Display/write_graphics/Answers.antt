@@ -1,7 +1,8 @@
 use Rattle.std.proofs.Common.{ℕ, List, take, drop, map, ◌≡◌, ◌≤◌, ◌<◌, ◌+◌, ◌-◌, ◌∙◌, ap, arith}
 use Rattle.vt_glyph.specs.Invocation.{HasGlyph, InUseTable, in_use, glyph_in_use}
 use Rattle.vt_term.specs.State.{Display}
-use Rattle.vt_term.specs.Writing.{with_run, wrapped}
+use Rattle.vt_term.specs.Writing.{wrapped}
+use Rattle.vt_term.specs.Runs.{with_run}
 use Rattle.vt_term.proofs.Runs.{line-of-run, with_run-writes, wrapped-writes}
 use Rattle.vt_term.proofs.display.Display.write_graphics.Goals as goal
 

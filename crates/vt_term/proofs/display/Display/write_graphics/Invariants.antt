@@ -1,7 +1,7 @@
 use Rattle.std.proofs.Common.{◌≡◌, ◌-◌, ◌≤◌, length, map, take}
 use Rattle.vt_glyph.specs.Invocation.{in_use}
 use Rattle.vt_syntax.specs.declared.event.Event.TheVariants.{Print}
-use Rattle.vt_term.specs.Writing.{WritesInUse}
+use Rattle.vt_term.specs.Runs.{WritesInUse}
 use Rattle.vt_term.specs.Play.{after_events}
 use Rattle.vt_term.proofs.display.Display.write_graphics.Given as goal
 

@@ -2,7 +2,8 @@ use Rattle.std.proofs.Common.{ℕ, List, take, drop, ◌≤◌, ◌<◌, ◌+◌
 use Rattle.std.proofs.lemmas.List.{map-id}
 use Rattle.vt_syntax.specs.Class.{IsPlain}
 use Rattle.vt_term.specs.State.{Display}
-use Rattle.vt_term.specs.Writing.{with_run, wrapped}
+use Rattle.vt_term.specs.Writing.{wrapped}
+use Rattle.vt_term.specs.Runs.{with_run}
 use Rattle.vt_term.proofs.Runs.{line-of-run, with_run-writes, wrapped-writes}
 use Rattle.vt_term.proofs.display.Display.write_run.Goals as goal
 

@@ -1,6 +1,6 @@
 use Rattle.std.proofs.Common.{◌≡◌, ◌-◌, ◌≤◌, length, map, take}
 use Rattle.vt_syntax.specs.declared.event.Event.TheVariants.{Print}
-use Rattle.vt_term.specs.Writing.{WritesAscii}
+use Rattle.vt_term.specs.Runs.{WritesAscii}
 use Rattle.vt_term.specs.Play.{after_events}
 use Rattle.vt_term.proofs.display.Display.write_run.Given as goal
 

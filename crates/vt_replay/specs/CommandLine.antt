@@ -1,5 +1,5 @@
 -- The command line: its command in clap's terms, and what its answers say. (this profile)
-use Rattle.std.specs.Prelude.{◌≡◌, ◌⊎◌, ℕ, ◌≤◌, List, [], ◌∷◌, codes, Option, Some, true, string_bytes, map, Ok}
+use Rattle.std.specs.Prelude.{◌≡◌, ◌⊎◌, ℕ, ◌≤◌, List, [], ◌∷◌, ◌++◌, codes, Option, Some, true, string_bytes, map, Ok}
 use Rattle.std.specs.Option.{option_map}
 use Rattle.std.specs.Str.Parse.{ParsesUnsigned}
 use Rattle.std.specs.declared.alloc.Global.{Global}
@@ -99,11 +99,12 @@ pub record IsFault (faults : Kinds) (r : Refused) : Type 0 where
 abbrev pub HasNoSettings : Option (Text × List Row) → Type 0
 HasNoSettings found = (s : Settings) → AreSettings found s → ⊥
 
--- clap found no fault, and yet no settings
+-- clap found no fault, and yet no settings: the text says so
 pub record IsStray (faults : Kinds) (found : Option (Text × List Row)) (r : Refused) : Type 0 where
   pub none : faults ≡ []
   pub stray : HasNoSettings found
   pub status : r.status ≡ 2
+  pub text : string_bytes r.text ≡ codes "vt220: bad command line" ++ 0x0A ∷ []
 
 -- why words are refused, by the faults and the subcommand that clap finds in them
 abbrev pub IsRefusal : Kinds → Option (Text × List Row) → Refused → Type 0

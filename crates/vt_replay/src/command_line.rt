@@ -161,7 +161,7 @@ fn out_of_memory(alloc: Global) -> Refused
 
 /// A refusal with this text.
 fn refusal(alloc: Global, status: u8, text: &str) -> Refused
-    ensures { IsMemory result ⊎ (result.status ≡ status) }
+    ensures { IsMemory result ⊎ ((result.status ≡ status) × (string_bytes result.text ≡ text.now)) }
 {
     match String::from_str(alloc, text) {
         Ok(text) => Refused { status, text },

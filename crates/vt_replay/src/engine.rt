@@ -18,7 +18,8 @@ use vt_term::laws::{cuts, soundness};
 /// The most report bytes for each byte of a piece.
 const REPORT_LIMIT: usize = 10;
 
-/// Plays the reader's bytes on a new terminal, and writes what is due.
+/// Plays the reader's bytes on a new terminal, and writes what is due. Neither device has failed before, and the reader
+/// hasn't ended.
 ///
 /// It reads at most `piece` bytes at a time (1 to 65536), and at most `limit` bytes in all (up to 2 to the 40th), and
 /// one more to see whether the input goes on. All memory is taken before the first read, and no call of a device is

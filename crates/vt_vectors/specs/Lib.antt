@@ -3,3 +3,4 @@ pub mod Comparison
 pub mod HeldSamples
 pub mod Devices
 pub mod Bench
+pub mod Vectors

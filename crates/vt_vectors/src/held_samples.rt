@@ -41,7 +41,7 @@ pub fn held_sample_count() -> usize
     SAMPLES.len()
 }
 
-/// The `i`-th of the inputs that end inside a sequence, counted from 0.
+/// The `i`-th of the inputs that end inside a sequence, counted from 0 to 13.
 pub fn held_sample(i: usize) -> &'static [u8]
     requires { i < 14 }
     ensures { slice_get held_samples i ≡ Some result.now }

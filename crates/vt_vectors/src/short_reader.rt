@@ -28,8 +28,8 @@ impl<'a> Model for ShortReader<'a> {
 }
 
 impl<'a> ShortReader<'a> {
-    /// A reader over `bytes` that gives at most `most` of them a call. Call number `fail`, counted from 1, answers an
-    /// error.
+    /// A reader over `bytes` that gives at most `most` of them a call, 1 or more. Call number `fail`, counted from 1,
+    /// answers an error.
     pub fn new(bytes: &'a [u8], most: usize, fail: Option<usize>) -> ShortReader<'a>
         requires { 1 ≤ most }
         ensures { result ≡ record { bytes = bytes.entry.now; most = most; fail = fail } }

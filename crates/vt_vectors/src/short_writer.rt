@@ -30,8 +30,8 @@ impl Model for ShortWriter {
 }
 
 impl ShortWriter {
-    /// A writer into `into`, which is empty and has the room, that takes at most `most` bytes a call and `room` in all.
-    /// Call number `fail`, counted from 1, answers an error.
+    /// A writer into `into`, which is empty and has the room, that takes at most `most` bytes a call, 1 or more, and
+    /// `room` in all. Call number `fail`, counted from 1, answers an error.
     pub fn new(into: Vec<u8>, room: usize, most: usize, fail: Option<usize>) -> ShortWriter
         requires empty { vec_len into ≡ 0 }
         requires fits { room ≤ vec_capacity into }

@@ -1,5 +1,6 @@
 //! The conformance vectors, one file a subject.
-ghost use Rattle.std.specs.Prelude.{◌≡◌, ◌≤◌, ◌<◌, length};
+ghost use Rattle.std.specs.Prelude.{◌≡◌, ◌==◌, ◌≤◌, ◌<◌, length, count_by};
+ghost use Rattle.vt_vectors.specs.Vectors.{IsOfRow};
 
 mod attributes;
 mod cursor;
@@ -26,7 +27,7 @@ struct Row {
 
 impl Row {
     fn vector(&self) -> Vector<'static>
-        ensures { result.input ≡ self.now.input }
+        ensures { IsOfRow result self.now }
     {
         Vector {
             input: self.input,
@@ -70,10 +71,11 @@ pub fn vector_count() -> usize
     VECTOR_COUNT
 }
 
-/// The `i`-th conformance vector, counted from 0. Its input has at most 200 bytes.
+/// The `i`-th conformance vector, counted from 0. Its input has at most 200 bytes, and its text 24 lines.
 pub fn vector(i: usize) -> Vector<'static>
     requires { i < VECTOR_COUNT }
-    ensures { length result.input.now ≤ 200 }
+    ensures short { length result.input.now ≤ 200 }
+    ensures lines { count_by (λ b. b == 0x0A) result.text.now ≡ 24 }
 {
     let mut left = i;
     for rows in SUBJECTS {

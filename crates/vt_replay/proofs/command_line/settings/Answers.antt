@@ -10,9 +10,10 @@ returns-in-Ok-None-clause-err c =
     rw c.in-Ok-None.field-0-is at c.in-Ok-None.ensures.none in
     elim c.refusal-in-Ok-None.ensures [
       | inl memory ↦ inl memory
-      | inr status ↦ inr (inr (record {
+      | inr refused ↦ inr (inr (record {
         none = rw (← c.as_slice.ensures.value) c.in-Ok.ensures.faults;
         stray = λ s a. no_settings s (rw found a);
-        status = status;
+        status = refused.0;
+        text = refused.1;
       }))
     ]

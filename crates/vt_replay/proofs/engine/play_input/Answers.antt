@@ -1,7 +1,7 @@
 use Rattle.std.proofs.Common.{◌≡◌, ℕ, ◌*◌, ◌≤◌, ◌<◌, List, [], length, take, nat_lt, true, false, ap, sym, refl, ◌∙◌, arith, append-nil, length-append, length-drop}
 use Rattle.std.proofs.lemmas.List.{length-take, take-append-le}
 use Rattle.std.proofs.lemmas.Grind.{common_steps}
-use Rattle.std.proofs.KnownBytes.{Appends-nil, Consumes-trans}
+use Rattle.std.proofs.KnownBytes.{Consumes-trans}
 use Rattle.std.proofs.lemmas.Bool.Decides.{nat_tests}
 use Rattle.vt_replay.specs.Due.{sent, sent_for}
 use Rattle.vt_replay.specs.declared.what.What.{What}
@@ -78,10 +78,16 @@ returns-in-Ok-read-clause-moves g c =
     let long = simp length-take at c.read-2.auto.buf in
     let works : c.read-2.new.self.failed ≡ false = grind (arith, common_steps, c.in-Ok-read.ensures) in
     let goes_on : c.read-2.new.self.ended ≡ false = grind (arith, common_steps, c.in-Ok-read.ensures, c.in-Ok-read.field-0-test) in
-    Moves-step _ _ _ _ _ _ _ _ _ [] c.loop-left.invariant.moved c.in-Ok-read.ensures.bytes.0 (Appends-nil _)
-    (λ b w h.
-    let total : length b ≡ c.args.limit = omega (arith, h.0) in (
-      record { reader_failed = works; reader_ended = goes_on; writer_failed = c.loop-left.invariant.writer_works },
-      passed b _ _ _ total c.in-Ok-read.ensures.bound.0 (omega (arith, long)) c.in-Ok-read.field-0-test.1,
-      append-nil w ∙ h.1.sent ∙ ap (λ (x : List ℕ). sent_for c.args.what x) (within-limit b _ c.args.limit total),
-    ))
+    let moved = c.loop-left.invariant.moved in
+    let total : length moved.b ≡ c.args.limit = omega (arith, moved.holds.0) in
+    record {
+      b = _;
+      w = moved.w;
+      taken = Consumes-trans _ _ _ moved.b _ moved.taken c.in-Ok-read.ensures.bytes.0;
+      given = moved.given;
+      holds = (
+        record { reader_failed = works; reader_ended = goes_on; writer_failed = c.loop-left.invariant.writer_works },
+        passed moved.b _ _ _ total c.in-Ok-read.ensures.bound.0 (omega (arith, long)) c.in-Ok-read.field-0-test.1,
+        moved.holds.1.sent ∙ ap (λ (x : List ℕ). sent_for c.args.what x) (within-limit moved.b _ c.args.limit total),
+      );
+    }

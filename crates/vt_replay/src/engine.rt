@@ -1,5 +1,6 @@
 //! The replay of an input: all memory is taken first, and the loops take none.
-ghost use Rattle.std.specs.Prelude.{◌≡◌, ◌≢◌, IsTrue, ◌+◌, ◌*◌, ◌≤◌, ◌<◌, ◌++◌, [], false, length, vec_len, vec_capacity};
+ghost use Rattle.std.specs.Prelude.{◌≡◌, ◌≢◌, IsTrue, ◌+◌, ◌*◌, ◌≤◌, ◌<◌, ◌++◌, [], true, false, length, vec_len, vec_capacity};
+ghost use Rattle.std.specs.Io.KnownBytes.{IsAtEnd};
 ghost use Rattle.vt_term.specs.State.{power_up};
 ghost use Rattle.vt_syntax.specs.declared.held.Held.TheVariants.{Nothing};
 ghost use Rattle.vt_replay.specs.Due.{sent, due_at_end, IsThere};
@@ -24,7 +25,7 @@ const REPORT_LIMIT: usize = 10;
 /// It reads at most `piece` bytes at a time (1 to 65536), and at most `limit` bytes in all (up to 2 to the 40th), and
 /// one more to see whether the input goes on. All memory is taken before the first read, and no call of a device is
 /// made again after an error. The input ends where a read gives no byte. Reports are written before the next read, all
-/// else after the whole input was read.
+/// else after the whole input was read. Where the reader has ended, no byte that it tells of is left.
 ///
 /// `Err` is `Memory` where a growth was refused, `Read` or `Write` where that device failed, `TooLong` where the input
 /// has more than `limit` bytes, and `Partial` where a repaint is asked for and the input ends inside a sequence.
@@ -41,8 +42,9 @@ pub fn run<R: Read, W: Write>(
     requires writer_works { writer.old.failed ≡ false }
     requires piece_in_range { (1 ≤ piece) × (piece ≤ 65536) }
     requires limit_in_range { limit ≤ 1099511627776 }
-    ensures { Moves (R.remaining reader.old.device) (R.remaining reader.new.device) (W.contents writer.old.device) (W.contents writer.new.device)
+    ensures answer { Moves (R.remaining reader.old.device) (R.remaining reader.new.device) (W.contents writer.old.device) (W.contents writer.new.device)
         (λ b w. Table result what piece b w (record { reader_failed = reader.new.failed; reader_ended = reader.new.ended; writer_failed = writer.new.failed }) limit) }
+    ensures whole { reader.new.ended ≡ true → IsAtEnd (R.remaining reader.new.device) }
 {
     let mut terminal = Terminal::new(alloc)?;
     let mut buffer = vec![in alloc; 0u8; piece]?;
@@ -76,8 +78,9 @@ fn replay<R: Read, W: Write>(
     requires some_room { 1 ≤ length buffer.old }
     requires room_for_reports { 10 * length buffer.old ≤ vec_capacity out.old }
     requires room_for_repaint { PAINT_LIMIT ≤ vec_capacity out.old }
-    ensures { Moves (R.remaining reader.old.device) (R.remaining reader.new.device) (W.contents writer.old.device) (W.contents writer.new.device)
+    ensures answer { Moves (R.remaining reader.old.device) (R.remaining reader.new.device) (W.contents writer.old.device) (W.contents writer.new.device)
         (λ b w. Table result what (length buffer.old) b w (record { reader_failed = reader.new.failed; reader_ended = reader.new.ended; writer_failed = writer.new.failed }) limit) }
+    ensures whole { reader.new.ended ≡ true → IsAtEnd (R.remaining reader.new.device) }
 {
     let reported = play_input(reader, writer, what, limit, terminal, buffer, out)?;
     if !is_there(terminal, what) {
@@ -136,6 +139,7 @@ fn play_input<R: Read, W: Write>(
     requires room_for_reports { 10 * length buffer.old ≤ vec_capacity out.old }
     ensures moves { Moves (R.remaining reader.old.device) (R.remaining reader.new.device) (W.contents writer.old.device) (W.contents writer.new.device)
         (λ b w. ReadTable result what terminal.new (length buffer.old) b w (record { reader_failed = reader.new.failed; reader_ended = reader.new.ended; writer_failed = writer.new.failed }) limit) }
+    ensures whole { reader.new.ended ≡ true → IsAtEnd (R.remaining reader.new.device) }
     ensures capacity { vec_capacity out.old ≤ vec_capacity out.new }
 {
     cuts();

@@ -28,7 +28,10 @@ reports_of-append (x ∷ xs) ys s =
 
 pub play-append : EventsAppend → HeldAppend → (s : State) (a b : List ℕ) → play s (a ++ b) ≡ both (play s a) (play (play s a).state b)
 unfolding play
-play-append events held s a b = rw (events s.held a b, held s.held a b, after_events-append, reports_of-append) refl
+play-append events held s a b =
+    let first = events_from s.held a in
+    let second = events_from (held_from s.held a) b in
+    rw (events s.held a b, held s.held a b, after_events-append first second s.display, reports_of-append first second s.display) refl
 
 pub play-nothing : ((held : Held) → IsHeldPart held → events_from held [] ≡ []) → ((held : Held) → IsHeldPart held → held_from held [] ≡ held)
     → (s : State) → IsSound s → play s [] ≡ record { state = s; reports = [] }

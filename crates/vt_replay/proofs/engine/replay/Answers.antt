@@ -7,8 +7,8 @@ use Rattle.vt_replay.specs.Run.{IsProperBeginning}
 use Rattle.vt_replay.proofs.Steps.{due-is, due-cut, row-at-end}
 use Rattle.vt_replay.proofs.engine.replay.Goals as goal
 
-pub returns-then-write_whole : goal.returns-then-write_whole
-returns-then-write_whole g c =
+pub returns-then-write_whole-clause-answer : goal.returns-then-write_whole-clause-answer
+returns-then-write_whole-clause-answer g c =
     let moves = c.in_ok-reported.ensures.moves in
     let gives = c.if-write_whole.ensures.gives in
     let there : IsThere c.args.what (play power_up moves.b).state = λ is. ap (λ (s : State). s.held) (sym moves.holds.2.state) ∙ c.if-not-is_there.ensures.yes refl is in
@@ -26,8 +26,8 @@ returns-then-write_whole g c =
       );
     }
 
-pub returns-else-write_whole : goal.returns-else-write_whole
-returns-else-write_whole g c =
+pub returns-else-write_whole-clause-answer : goal.returns-else-write_whole-clause-answer
+returns-else-write_whole-clause-answer g c =
     let moves = c.in_ok-reported.ensures.moves in
     let gives = c.if-write_whole.ensures.gives in
     let there : IsThere c.args.what (play power_up moves.b).state = λ is. ap (λ (s : State). s.held) (sym moves.holds.2.state) ∙ c.if-not-is_there.ensures.yes refl is in

@@ -5,12 +5,12 @@ use std::marker::Model;
 
 /// One of the 204 glyphs that the graphic sets show. Contracts see its Unicode number.
 ///
-/// It is encoded in one byte, by its spelling: an ASCII glyph is its own code, one that is spelled
+/// It is encoded by a code below 256, its spelling: an ASCII glyph is its own code, one that is spelled
 /// after a single shift to G2 its code with the high bit set, and one that is spelled after a single
 /// shift to G3 its code less 60 (hexadecimal).
 #[derive(Clone, Copy, Debug)]
 pub struct Glyph {
-    // Two bytes wide, so that a cell of the screen takes eight and is written as one word.
+    // Below 256; two bytes wide, so that a cell of the screen takes eight and is written as one word.
     byte: u16,
 }
 

@@ -14,10 +14,7 @@ use crate::controls::{push_brush, push_cursor_to, push_glyph};
 use crate::room::{push_bytes, push_where};
 use vt_screen::Cell;
 use vt_screen::laws::rows;
-use vt_term::Terminal;
-
-/// The rows of the screen.
-const ROWS: usize = 24;
+use vt_term::{ROWS, Terminal};
 
 /// The sets that the spellings of glyphs are for: G0 ASCII, G2 Supplemental, G3 Special Graphics, and G0 in GL.
 const SPELLING_SETS: &[u8] = b"\x1B(B\x1B*<\x1B+0\x0F";

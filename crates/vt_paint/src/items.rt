@@ -13,10 +13,7 @@ use crate::controls::{
 };
 use crate::room::{push_bytes, push_number, push_where};
 use vt_screen::Cell;
-use vt_term::{Margins, Modes, Saved, stops_at_power_up};
-
-/// The columns that tab stops are kept for, whatever the width.
-const STOPS: usize = 132;
+use vt_term::{Margins, Modes, STOPS, Saved, stops_at_power_up};
 
 const DECCOLM: u8 = 3;
 

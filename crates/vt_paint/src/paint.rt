@@ -66,6 +66,7 @@ pub fn repaint(t: &Terminal, out: &mut Vec<u8>) -> Result<(), PaintError>
     ensures memory { IsErrOf result PaintError.Memory → vec_capacity out.old < vec_len out.old + PAINT_LIMIT }
     ensures unchanged { OnErr result (out.new.items ≡ out.old.items) }
     ensures bounded { vec_len out.new ≤ vec_len out.old + PAINT_LIMIT }
+    ensures capacity { vec_capacity out.old ≤ vec_capacity out.new }
 {
     if !t.is_between() {
         return Err(PaintError::Partial);

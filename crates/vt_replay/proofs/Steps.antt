@@ -6,8 +6,8 @@ use Rattle.std.specs.Io.KnownBytes.{Consumes, Appends}
 use Rattle.std.proofs.KnownBytes.{Consumes-trans, Appends-trans}
 use Rattle.vt_term.specs.State.{State, power_up}
 use Rattle.vt_term.specs.Play.{Played, play, both}
-use Rattle.vt_replay.specs.declared.what.What.{What}
-use Rattle.vt_replay.specs.declared.what.What.TheVariants.{Text, Reports, Repaint, Status}
+use Rattle.vt_cli.specs.declared.what.What.{What}
+use Rattle.vt_cli.specs.declared.what.What.TheVariants.{Text, Reports, Repaint, Status}
 use Rattle.vt_replay.specs.Due.{due, due_at_end, sent, sent_for, IsThere}
 use Rattle.vt_replay.specs.Run.{Moves, IsPlayed, IsProperBeginning, HasEarlierReports, Flags, AreFlags, WriteRow}
 

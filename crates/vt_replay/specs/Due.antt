@@ -5,8 +5,8 @@ use Rattle.vt_term.specs.State.{State, power_up}
 use Rattle.vt_term.specs.Play.{Played, play}
 use Rattle.vt_term.specs.Text.{text}
 use Rattle.vt_paint.specs.Repaint.{paint}
-use Rattle.vt_replay.specs.declared.what.What.{What}
-use Rattle.vt_replay.specs.declared.what.What.TheVariants.{Text, Reports, Repaint, Status}
+use Rattle.vt_cli.specs.declared.what.What.{What}
+use Rattle.vt_cli.specs.declared.what.What.TheVariants.{Text, Reports, Repaint, Status}
 use Rattle.vt_replay.specs.Status.{status}
 
 -- after a play from power-up

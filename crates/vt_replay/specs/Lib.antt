@@ -1,4 +1,3 @@
-pub mod CommandLine
 pub mod Due
 pub mod Fault
 pub mod Run

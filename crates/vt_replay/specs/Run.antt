@@ -6,8 +6,8 @@ use Rattle.vt_term.specs.State.{State, power_up}
 use Rattle.vt_term.specs.Play.{play}
 use Rattle.vt_replay.specs.declared.fault.Fault.{Fault}
 use Rattle.vt_replay.specs.declared.fault.Fault.TheVariants.{Memory, Partial, Read, Write, TooLong}
-use Rattle.vt_replay.specs.declared.what.What.{What}
-use Rattle.vt_replay.specs.declared.what.What.TheVariants.{Text, Reports, Repaint, Status}
+use Rattle.vt_cli.specs.declared.what.What.{What}
+use Rattle.vt_cli.specs.declared.what.What.TheVariants.{Text, Reports, Repaint, Status}
 use Rattle.vt_replay.specs.Due.{due, sent_for, IsThere}
 
 -- w is a beginning of what is due, and not all of it

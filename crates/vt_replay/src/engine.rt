@@ -1,5 +1,5 @@
 //! The replay of an input: all memory is taken first, and the loops take none.
-ghost use Rattle.std.specs.Prelude.{◌≡◌, ◌≢◌, IsTrue, ◌+◌, ◌*◌, ◌≤◌, ◌<◌, ◌++◌, [], true, false, length, vec_len, vec_capacity};
+ghost use Rattle.std.specs.Prelude.{◌≡◌, ◌≢◌, IsTrue, ◌+◌, ◌*◌, ◌≤◌, ◌<◌, ◌++◌, [], true, false, length, vec_len, vec_capacity, IfOk, IfErr};
 ghost use Rattle.std.specs.Io.KnownBytes.{IsAtEnd};
 ghost use Rattle.vt_term.specs.State.{power_up};
 ghost use Rattle.vt_syntax.specs.declared.held.Held.TheVariants.{Nothing};
@@ -9,15 +9,12 @@ ghost use Rattle.vt_replay.specs.Run.{Table, Moves, Gives, WriteTable, ReadTable
 use crate::fault::Fault;
 use crate::status::push_status;
 use crate::watched::Watched;
-use crate::what::What;
 use std::alloc::Global;
 use std::io::{Read, Write};
+use vt_cli::{Settings, What};
 use vt_paint::{PAINT_LIMIT, repaint_reserved};
-use vt_term::Terminal;
 use vt_term::laws::{cuts, soundness};
-
-/// The most report bytes for each byte of a piece.
-const REPORT_LIMIT: usize = 10;
+use vt_term::{REPORT_LIMIT, Terminal};
 
 /// Plays the reader's bytes on a new terminal, and writes what is due. Neither device has failed before, and the reader
 /// hasn't ended.
@@ -46,22 +43,75 @@ pub fn run<R: Read, W: Write>(
         (λ b w. Table result what piece b w (record { reader_failed = reader.new.failed; reader_ended = reader.new.ended; writer_failed = writer.new.failed }) limit) }
     ensures whole { reader.new.ended ≡ true → IsAtEnd (R.remaining reader.new.device) }
 {
-    let mut terminal = Terminal::new(alloc)?;
-    let mut buffer = vec![in alloc; 0u8; piece]?;
-    let mut out = Vec::with_capacity(alloc, (REPORT_LIMIT * piece).max(PAINT_LIMIT))?;
-    replay(
+    let mut room = Room::new(alloc, piece)?;
+    run_in_room(
         reader,
         writer,
         what,
         limit,
-        &mut terminal,
-        buffer.as_mut_slice(),
-        &mut out,
+        &mut room.terminal,
+        room.buffer.as_mut_slice(),
+        &mut room.out,
+    )
+}
+
+/// All the memory of a run.
+#[derive(Drop)]
+struct Room {
+    terminal: Terminal,
+    /// One piece.
+    buffer: Vec<u8>,
+    /// What is to be written.
+    out: Vec<u8>,
+}
+
+impl Room {
+    /// The room for pieces of so many bytes, with a terminal as at power-up. `Err` is `Memory`.
+    fn new(alloc: Global, piece: usize) -> Result<Room, Fault>
+        requires { piece ≤ 65536 }
+        ensures terminal { IfOk result (λ room. room.terminal ≡ power_up) }
+        ensures buffer { IfOk result (λ room. length room.buffer.items ≡ piece) }
+        ensures reports { IfOk result (λ room. 10 * piece ≤ vec_capacity room.out) }
+        ensures repaint { IfOk result (λ room. PAINT_LIMIT ≤ vec_capacity room.out) }
+        ensures memory { IfErr result (λ fault. fault ≡ Fault.Memory) }
+    {
+        Ok(Room {
+            terminal: Terminal::new(alloc)?,
+            buffer: vec![in alloc; 0u8; piece]?,
+            out: Vec::with_capacity(alloc, (REPORT_LIMIT * piece).max(PAINT_LIMIT))?,
+        })
+    }
+}
+
+/// Plays the reader's bytes as the settings ask, and writes what is due: `run` by their kind, piece and limit. Their file is
+/// not looked at: the reader is what it names. Neither device has failed before, and the reader hasn't ended.
+///
+/// `Err` is what `run` answers.
+pub fn replay<R: Read, W: Write>(
+    alloc: Global,
+    reader: &mut Watched<R>,
+    writer: &mut Watched<W>,
+    settings: &Settings,
+) -> Result<(), Fault>
+    requires reader_works { reader.old.failed ≡ false }
+    requires reader_goes_on { reader.old.ended ≡ false }
+    requires writer_works { writer.old.failed ≡ false }
+    ensures answer { Moves (R.remaining reader.old.device) (R.remaining reader.new.device) (W.contents writer.old.device) (W.contents writer.new.device)
+        (λ b w. Table result settings.now.what settings.now.piece b w (record { reader_failed = reader.new.failed; reader_ended = reader.new.ended; writer_failed = writer.new.failed }) settings.now.limit) }
+    ensures whole { reader.new.ended ≡ true → IsAtEnd (R.remaining reader.new.device) }
+{
+    run(
+        alloc,
+        reader,
+        writer,
+        settings.what,
+        settings.piece,
+        settings.limit,
     )
 }
 
 /// Plays the reader's bytes, and writes what is due. The buffers have the room for it.
-fn replay<R: Read, W: Write>(
+fn run_in_room<R: Read, W: Write>(
     reader: &mut Watched<R>,
     writer: &mut Watched<W>,
     what: What,

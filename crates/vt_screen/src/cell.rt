@@ -6,9 +6,13 @@ use vt_glyph::Glyph;
 /// The character attributes (VT220 manual, "select graphic rendition").
 #[derive(Clone, Copy, Debug, PartialEq, Eq)]
 pub struct Rendition {
+    /// Shown bold (SGR 1).
     pub bold: bool,
+    /// Shown underlined (SGR 4).
     pub underline: bool,
+    /// Shown blinking (SGR 5).
     pub blink: bool,
+    /// Shown in reverse (SGR 7).
     pub reverse: bool,
 }
 
@@ -31,7 +35,9 @@ impl Rendition {
 /// What a cell is written with: attributes, and protection from a selective erase.
 #[derive(Clone, Copy, Debug, PartialEq, Eq)]
 pub struct Brush {
+    /// The attributes.
     pub rendition: Rendition,
+    /// Whether a selective erase passes over what is written (DECSCA).
     pub protected: bool,
 }
 
@@ -52,8 +58,11 @@ impl Brush {
 /// One place of the screen: a glyph, its attributes, and whether a selective erase passes it over.
 #[derive(Clone, Copy, Debug, PartialEq, Eq)]
 pub struct Cell {
+    /// What it shows.
     pub glyph: Glyph,
+    /// The attributes that it is shown with.
     pub rendition: Rendition,
+    /// Whether a selective erase passes it over (DECSCA).
     pub protected: bool,
 }
 

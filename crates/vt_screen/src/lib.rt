@@ -11,4 +11,5 @@ mod screen;
 mod tests;
 
 pub use cell::{Brush, Cell, Rendition};
+pub use order::{COLUMNS, ROWS};
 pub use screen::Screen;

@@ -6,11 +6,11 @@ ghost use Rattle.vt_screen.specs.Order.{IsOrder, start_of, stride, room};
 
 use std::marker::Model;
 
-/// How many rows the screen has.
+/// The rows of the screen.
 pub const ROWS: usize = 24;
 
-/// How far apart two rows are kept: as many cells as the wider screen has columns.
-pub const STRIDE: usize = 132;
+/// The most columns of the screen: those of a wide one. Two rows are kept so many cells apart, whatever the width.
+pub const COLUMNS: usize = 132;
 
 /// The number under which each row of the screen is kept. Scrolling moves these numbers, and no cell.
 #[derive(Debug, Drop)]
@@ -49,7 +49,7 @@ impl RowOrder {
         ensures bound { result + stride ≤ room }
         ensures order { IsOrder self.now }
     {
-        self.rows[row - 1] as usize * STRIDE
+        self.rows[row - 1] as usize * COLUMNS
     }
 
     /// Moves the rows `top` to `bottom` up by `n`; the first of them become the last.

@@ -9,12 +9,12 @@ use crate::line::{
     erase_cells, fill_line, insert_blanks, insert_cell, remove_cells, same_cells, write_codes,
     write_graphics,
 };
-use crate::order::{ROWS, RowOrder, STRIDE};
+use crate::order::{COLUMNS, ROWS, RowOrder};
 use std::alloc::{AllocError, Global};
 use std::marker::Model;
 use vt_glyph::InUse;
 
-/// The columns of the narrow screen; the wide one has `STRIDE`.
+/// The columns of the narrow screen; the wide one has `COLUMNS`.
 const NARROW: usize = 80;
 
 /// A grid of 24 rows of 80 or 132 cells, blank at first. (VT220 manual, chapter 4: DECCOLM sets the width)
@@ -71,7 +71,7 @@ impl Screen {
         ensures { IfOk result (λ screen. screen ≡ blank_grid false) }
     {
         Ok(Screen {
-            cells: vec![in alloc; Cell::blank(); ROWS * STRIDE]?,
+            cells: vec![in alloc; Cell::blank(); ROWS * COLUMNS]?,
             order: RowOrder::new(),
             width: NARROW,
         })
@@ -320,7 +320,7 @@ impl Screen {
     pub fn set_width(&mut self, wide: bool)
         ensures { self.new ≡ blank_grid wide }
     {
-        self.width = if wide { STRIDE } else { NARROW };
+        self.width = if wide { COLUMNS } else { NARROW };
         fill_rows(
             &mut self.cells,
             &self.order,

@@ -34,8 +34,11 @@ pub enum Held {
 /// The intermediates of an escape sequence: of two or more, which have no function, it doesn't matter which.
 #[derive(Clone, Copy, Debug, PartialEq, Eq)]
 pub enum Inters {
+    /// None has come.
     Zero,
+    /// This one has come, 20..2F.
     One(u8),
+    /// Two or more have come.
     Many,
 }
 

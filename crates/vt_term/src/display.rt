@@ -8,16 +8,14 @@ use crate::state::{Cursor, Margins, Modes, Saved};
 use std::alloc::{AllocError, Global};
 use std::marker::Model;
 use vt_glyph::Sets;
-use vt_screen::{Brush, Screen};
-
-/// The rows of the screen.
-pub(crate) const ROWS: usize = 24;
+pub use vt_screen::ROWS;
+use vt_screen::{Brush, COLUMNS, Screen};
 
 /// The columns that have a tab stop or none, whatever the width.
-pub(crate) const STOPS: usize = 132;
+pub const STOPS: usize = COLUMNS;
 
 /// A terminal without its parser.
-#[derive(Drop)]
+#[derive(Debug, Drop)]
 pub(crate) struct Display {
     pub(crate) screen: Screen,
     pub(crate) cursor: Cursor,

@@ -21,7 +21,9 @@ mod terminal;
 mod text;
 mod writing;
 
-pub use display::stops_at_power_up;
+pub use display::{ROWS, STOPS, stops_at_power_up};
 pub use state::{Cursor, Margins, Modes, Saved};
-pub use terminal::{TEXT_LIMIT, Terminal};
+pub use terminal::{REPORT_LIMIT, TEXT_LIMIT, Terminal};
+pub use vt_glyph::{Glyph, Set, Sets};
 pub use vt_screen::{Brush, Cell, Rendition};
+pub use vt_syntax::{Held, Inters, Phase};

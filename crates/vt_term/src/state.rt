@@ -8,7 +8,9 @@ use vt_screen::Brush;
 /// The place of the next glyph. Rows count from 1 to 24, columns from 1 to the width.
 #[derive(Clone, Copy, Debug, PartialEq, Eq)]
 pub struct Cursor {
+    /// The row, 1 to 24.
     pub row: usize,
+    /// The column, 1 to the width.
     pub col: usize,
     /// The wrap flag: a glyph was written in the last column, and the next one begins a new line.
     pub wrap: bool,
@@ -30,7 +32,9 @@ impl Cursor {
 /// The scroll region: its first and last row, both from 1 to 24, the first above the last.
 #[derive(Clone, Copy, Debug, PartialEq, Eq)]
 pub struct Margins {
+    /// The first row, 1 to 23.
     pub top: usize,
+    /// The last row, 2 to 24.
     pub bottom: usize,
 }
 
@@ -101,10 +105,13 @@ impl Modes {
 /// What DECSC saves. Rows count from 1 to 24, and the row may lie outside the margins; columns from 1 to the width.
 #[derive(Clone, Copy, Debug, PartialEq, Eq)]
 pub struct Saved {
+    /// The row, 1 to 24.
     pub row: usize,
+    /// The column, 1 to the width.
     pub col: usize,
     /// The wrap flag. It is set in the last column alone.
     pub wrap: bool,
+    /// What glyphs were written with.
     pub brush: Brush,
     /// The sets that are designated as G0 to G3.
     pub g: [Set; 4],

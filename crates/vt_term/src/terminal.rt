@@ -35,13 +35,13 @@ pub const TEXT_LIMIT: usize = ROWS * (3 * STOPS + 1);
 const _: () = prove!(TEXT_LIMIT == 9528);
 
 /// The most report bytes for each byte of a piece.
-const REPORT_LIMIT: usize = 10;
+pub const REPORT_LIMIT: usize = 10;
 
 /// From how many plain bytes on they are written by themselves, also where bytes of the right half follow.
 const LONG_RUN: usize = 8;
 
 /// A terminal. All its memory is taken by `new`.
-#[derive(Drop)]
+#[derive(Debug, Drop)]
 pub struct Terminal {
     pub(crate) display: Display,
     pub(crate) parser: Parser,
@@ -77,6 +77,7 @@ impl Terminal {
         ensures same_state { OnErr result (self.new ≡ self.old) }
         ensures same_out { OnErr result (out.new.items ≡ out.old.items) }
         ensures has_room { vec_len out.old + 10 * length piece.now ≤ vec_capacity out.old → IsOk result }
+        ensures capacity { vec_capacity out.old ≤ vec_capacity out.new }
     {
         let Some(room) = piece.len().checked_mul(REPORT_LIMIT) else {
             return Err(AllocError);
@@ -341,6 +342,7 @@ impl Terminal {
         ensures err { OnErr result (out.new.items ≡ out.old.items) }
         ensures has_room { vec_len out.old + TEXT_LIMIT ≤ vec_capacity out.old → IsOk result }
         ensures bounded { vec_len out.new ≤ vec_len out.old + TEXT_LIMIT }
+        ensures capacity { vec_capacity out.old ≤ vec_capacity out.new }
     {
         out.reserve(TEXT_LIMIT)?;
         self.text_reserved(out);

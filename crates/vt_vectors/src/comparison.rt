@@ -10,11 +10,8 @@ use crate::mismatch::Mismatch;
 use std::alloc::{AllocError, Global};
 use vt_paint::laws::rebuilds;
 use vt_paint::{PAINT_LIMIT, repaint_reserved};
-use vt_term::Terminal;
 use vt_term::laws::{cuts, soundness};
-
-/// The most report bytes for each byte of a piece.
-const REPORT_LIMIT: usize = 10;
+use vt_term::{REPORT_LIMIT, Terminal};
 
 /// Holds the terminal against a vector: plays its input from power-up whole, byte by byte, and in every cut into two
 /// (length plus one places, empty parts included), and compares after each play the text, then the reports, then the

@@ -3,32 +3,10 @@ use Rattle.std.proofs.lemmas.Result.{err_from_is_err_and}
 use Rattle.std.proofs.KnownBytes.{Consumes-nil, Appends-nil}
 use Rattle.vt_replay.proofs.engine.run.Goals as goal
 
-pub returns-in_err-terminal-clause-answer : goal.returns-in_err-terminal-clause-answer
-returns-in_err-terminal-clause-answer g c =
+pub returns-in_err-room-clause-answer : goal.returns-in_err-room-clause-answer
+returns-in_err-room-clause-answer g c =
     let fault = err_from_is_err_and c.from_residual.result c.from_residual.ensures.1 in
-    rw (fault.1, fault.2) (record {
-      b = [];
-      w = [];
-      taken = Consumes-nil _;
-      given = Appends-nil _;
-      holds = (record { reader_failed = c.requires.reader_works; reader_ended = c.requires.reader_goes_on; writer_failed = c.requires.writer_works }, refl, refl);
-    })
-
-pub returns-in_err-buffer-clause-answer : goal.returns-in_err-buffer-clause-answer
-returns-in_err-buffer-clause-answer g c =
-    let fault = err_from_is_err_and c.from_residual-in_err-buffer.result c.from_residual-in_err-buffer.ensures.1 in
-    rw (fault.1, fault.2) (record {
-      b = [];
-      w = [];
-      taken = Consumes-nil _;
-      given = Appends-nil _;
-      holds = (record { reader_failed = c.requires.reader_works; reader_ended = c.requires.reader_goes_on; writer_failed = c.requires.writer_works }, refl, refl);
-    })
-
-pub returns-in_err-out-clause-answer : goal.returns-in_err-out-clause-answer
-returns-in_err-out-clause-answer g c =
-    let fault = err_from_is_err_and c.from_residual-in_err-out.result c.from_residual-in_err-out.ensures.1 in
-    rw (fault.1, fault.2) (record {
+    rw (fault.1, fault.2, c.in_err-room.ensures.memory) (record {
       b = [];
       w = [];
       taken = Consumes-nil _;

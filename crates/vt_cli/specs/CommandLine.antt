@@ -8,11 +8,11 @@ use Rattle.clap.specs.Words.{App, Rule, Row, Text, Kinds, IsAmong, new_app, new_
 use Rattle.clap.specs.Simple.{on_top}
 use Rattle.clap.specs.declared.builder.value_parser.ValueParser.TheVariants.{Unsigned}
 use Rattle.clap.specs.declared.error.kind.ErrorKind.{ErrorKind}
-use Rattle.clap.specs.declared.error.kind.ErrorKind.TheVariants.{DisplayHelp}
-use Rattle.vt_replay.specs.declared.what.What.{What}
-use Rattle.vt_replay.specs.declared.what.What.TheVariants as what
-use Rattle.vt_replay.specs.declared.asked.Settings.{Settings}
-use Rattle.vt_replay.specs.declared.asked.Refused.{Refused}
+use Rattle.clap.specs.declared.error.kind.ErrorKind.TheVariants.{DisplayHelp, DisplayVersion}
+use Rattle.vt_cli.specs.declared.what.What.{What}
+use Rattle.vt_cli.specs.declared.what.What.TheVariants as what
+use Rattle.vt_cli.specs.declared.asked.Settings.{Settings}
+use Rattle.vt_cli.specs.declared.asked.Refused.{Refused}
 
 -- ---- the command
 
@@ -47,9 +47,9 @@ name_of what.Status = codes "status"
 abbrev pub with_subcommand_for : App → What → App
 with_subcommand_for a w = with_subcommand a (subcommand (name_of w)).top
 
--- the program's command: one of the four subcommands is required
+-- the program's command: one of the four subcommands is required, and it has a version
 abbrev pub vt220 : App
-vt220 = on_top (λ s. record s { subcommand_required = true })
+vt220 = on_top (λ s. record s { subcommand_required = true; has_version = true })
     (with_subcommand_for (with_subcommand_for (with_subcommand_for (with_subcommand_for (new_app (codes "vt220"))
     what.Text) what.Reports) what.Repaint) what.Status)
 
@@ -79,9 +79,10 @@ pub record AreSettings (found : Option (Text × List Row)) (s : Settings) : Type
   pub limit_in_range : s.limit ≤ 1099511627776
   pub file : option_map (λ f. string_bytes f) s.file ≡ first_of (codes "file") matches
 
--- the status of a fault of the words: help is none
+-- the status of a fault of the words: help is none, nor is the version
 abbrev pub status_for : ErrorKind → ℕ
 status_for DisplayHelp = 0
+status_for DisplayVersion = 0
 status_for _ = 2
 
 -- memory was wanted: status 1, and no text

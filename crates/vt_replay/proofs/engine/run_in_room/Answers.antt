@@ -5,7 +5,7 @@ use Rattle.vt_term.specs.State.{State, power_up}
 use Rattle.vt_term.specs.Play.{play}
 use Rattle.vt_replay.specs.Run.{IsProperBeginning}
 use Rattle.vt_replay.proofs.Steps.{due-is, due-cut, row-at-end}
-use Rattle.vt_replay.proofs.engine.replay.Goals as goal
+use Rattle.vt_replay.proofs.engine.run_in_room.Goals as goal
 
 pub returns-then-write_whole-clause-answer : goal.returns-then-write_whole-clause-answer
 returns-then-write_whole-clause-answer g c =

@@ -2,9 +2,9 @@
 ghost use Rattle.std.specs.Prelude.{◌≡◌, ◌≢◌, ◌⊎◌, ℕ, [], IfOk, IfErr, IfSome, IfNone, Some, option_map, string_bytes, codes, false};
 ghost use Rattle.clap.specs.Words.{FailsBy, app_of, first_value, found_of, kind_of, rows_of, rule_of, subcommand_rows_of};
 ghost use Rattle.clap.specs.declared.builder.command.Command.TheViews.{out-Command};
-ghost use Rattle.vt_replay.specs.declared.what.What.{What};
-ghost use Rattle.vt_replay.specs.CommandLine.{number_option, subcommand, with_subcommand_for, vt220, faults_in, found_in, name_of, status_for};
-ghost use Rattle.vt_replay.specs.CommandLine.{IsNumberOf, AreSettings, IsMemory, IsFault, IsStray, IsRefusal, HasNoSettings};
+ghost use Rattle.vt_cli.specs.declared.what.What.{What};
+ghost use Rattle.vt_cli.specs.CommandLine.{number_option, subcommand, with_subcommand_for, vt220, faults_in, found_in, name_of, status_for};
+ghost use Rattle.vt_cli.specs.CommandLine.{IsNumberOf, AreSettings, IsMemory, IsFault, IsStray, IsRefusal, HasNoSettings};
 
 use crate::asked::{Refused, Settings};
 use crate::what::What;
@@ -21,6 +21,9 @@ const LIMIT_MOST: u64 = 1099511627776;
 
 /// What is said of words that clap takes and that ask for nothing.
 const BAD_COMMAND_LINE: &str = "vt220: bad command line\n";
+
+/// The version of the program and of all its crates: `vt220 --version` prints it after the name.
+const VERSION: &str = "0.2.0";
 
 /// What the program is for.
 const ABOUT: &str =
@@ -50,7 +53,7 @@ Example, with a recording made by script(1):
   vt220 text top.bin
 
 Exit status:
-  0  all was written, or help was asked for
+  0  all was written, or the help or the version was asked for
   1  memory was refused
   2  the command line is wrong
   3  a repaint was asked for, and the input ends inside a sequence
@@ -132,6 +135,7 @@ fn command<'a>(alloc: Global) -> Result<Command<'a>, AllocError>
     ensures { IfOk result (λ c. app_of c ≡ vt220) }
 {
     let command = Command::new(alloc, "vt220")
+        .version(VERSION)
         .about(ABOUT)
         .after_help(AFTER_HELP)
         .subcommand_required(true);
@@ -176,7 +180,7 @@ fn refusal_of(alloc: Global, error: Error) -> Refused
 {
     let status = match error.kind() {
         ErrorKind::OutOfMemory => return out_of_memory(alloc),
-        ErrorKind::DisplayHelp => 0,
+        ErrorKind::DisplayHelp | ErrorKind::DisplayVersion => 0,
         _ => 2,
     };
     match error.to_string(alloc) {
@@ -252,8 +256,8 @@ fn settings_of(
 ///
 /// The words are those of clap's command `vt220`: one of the four subcommands `text`, `reports`, `repaint` and
 /// `status`, each with `--piece N` (1 to 65536, else 4096), `--limit N` (0 to 1099511627776, else 268435456) and at
-/// most one FILE. `Err` is what to end with where there are no settings: the help that was asked for (status 0), want of
-/// memory (1), or what is wrong with the words (2). (this profile)
+/// most one FILE. `Err` is what to end with where there are no settings: the help or the version that was asked for
+/// (status 0), want of memory (1), or what is wrong with the words (2). (this profile)
 pub fn settings(alloc: Global, words: Vec<String>) -> Result<Settings, Refused>
     ensures ok { IfOk result (AreSettings (found_in words.items)) }
     ensures no_fault { IfOk result (λ _. faults_in words.items ≡ []) }

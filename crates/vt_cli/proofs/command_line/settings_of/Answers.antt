@@ -1,8 +1,8 @@
 use Rattle.std.proofs.Common.{arith, ap, ◌∙◌, Some}
 use Rattle.clap.specs.Words.{found_of, rows_of}
 use Rattle.clap.proofs.WalkLemmas.{first_value-rows}
-use Rattle.vt_replay.proofs.Words.{without_piece, without_limit}
-use Rattle.vt_replay.proofs.command_line.settings_of.Goals as goal
+use Rattle.vt_cli.proofs.Words.{without_piece, without_limit}
+use Rattle.vt_cli.proofs.command_line.settings_of.Goals as goal
 
 pub returns-clause-some : goal.returns-clause-some
 returns-clause-some c = record {

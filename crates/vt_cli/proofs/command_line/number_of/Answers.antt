@@ -1,8 +1,8 @@
 use Rattle.std.proofs.Common.{sym, ◌∙◌}
 use Rattle.clap.specs.Words.{found_of, rows_of}
 use Rattle.clap.proofs.WalkLemmas.{first_value-rows}
-use Rattle.vt_replay.proofs.Words.{some_number, no_number, unmatched_number}
-use Rattle.vt_replay.proofs.command_line.number_of.Goals as goal
+use Rattle.vt_cli.proofs.Words.{some_number, no_number, unmatched_number}
+use Rattle.vt_cli.proofs.command_line.number_of.Goals as goal
 
 pub returns : goal.returns
 returns c =

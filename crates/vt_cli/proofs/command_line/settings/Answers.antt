@@ -1,7 +1,7 @@
 use Rattle.std.proofs.Common.{rules, ◌≡◌, inl, inr, Some}
 use Rattle.clap.specs.Words.{found_of, rows_of}
-use Rattle.vt_replay.specs.CommandLine.{found_in, HasNoSettings}
-use Rattle.vt_replay.proofs.command_line.settings.Goals as goal
+use Rattle.vt_cli.specs.CommandLine.{found_in, HasNoSettings}
+use Rattle.vt_cli.proofs.command_line.settings.Goals as goal
 
 pub returns-in-Ok-None-clause-err : goal.returns-in-Ok-None-clause-err
 returns-in-Ok-None-clause-err c =

@@ -4,7 +4,7 @@ use Rattle.std.specs.Option.{unwrap_or}
 use Rattle.std.specs.Str.Parse.{ParsesUnsigned}
 use Rattle.std.specs.Result.{result_ok}
 use Rattle.clap.specs.Words.{Row, Text, first_of}
-use Rattle.vt_replay.specs.CommandLine.{IsNumberOf, HasNoSettings, name_of}
+use Rattle.vt_cli.specs.CommandLine.{IsNumberOf, HasNoSettings, name_of}
 
 -- a text is one of one option
 same_text : (a b : Text) → Some a ≡ Some b → a ≡ b

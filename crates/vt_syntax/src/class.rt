@@ -5,7 +5,7 @@ ghost use Rattle.vt_syntax.specs.Class.{class_of as byte_class};
 /// What a byte is inside an escape or control sequence.
 #[derive(Clone, Copy, Debug, PartialEq, Eq)]
 pub enum Class {
-    /// 00..17, 19, 1C..1F and 7F: carried out at once, and the sequence goes on.
+    /// 00..17, 19, 1C..1F, which are carried out at once, and 7F, which does nothing; the sequence goes on.
     Quiet,
     /// 18 and 1A: the sequence ends.
     Cancel,

@@ -1,4 +1,4 @@
-//! What of an unfinished sequence still matters.
+//! What of an unfinished sequence decides how it goes on.
 ghost use Rattle.std.specs.Prelude.{◌≡◌};
 ghost use Rattle.vt_syntax.specs.Held.{phase_inter};
 
@@ -15,7 +15,8 @@ pub enum Held {
     Control {
         /// The private marker, 3C..3F.
         marker: Option<u8>,
-        /// The values so far, the last one unfinished: 1 to 16, each at most 9999.
+        /// The values so far, 1 to 16, each at most 9999. More digits may come for the last one, until an intermediate
+        /// comes or a 17th parameter begins.
         params: ArrayVec<u16, 16>,
         /// Whether a 17th parameter began; it and later ones are dropped.
         full: bool,

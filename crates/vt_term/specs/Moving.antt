@@ -1,4 +1,5 @@
--- Moving the cursor. Each of these resets the wrap flag. (EK-VT220-RM; the flag is this profile's)
+-- Moving the cursor. Each of these resets the wrap flag, but for margins that have no effect. (EK-VT220-RM; the flag is
+-- this profile's)
 use Rattle.std.specs.Prelude.{ℕ, ◌+◌, ◌-◌, min, max, ◌==◌, nat_le, nat_lt, if◌then◌else◌}
 use Rattle.vt_screen.specs.Grid.{last_row, scroll_up, scroll_down}
 use Rattle.vt_term.specs.State.{Display, last_column, at_place}

@@ -1,4 +1,4 @@
-//! Moving the cursor. Each of these resets the wrap flag.
+//! Moving the cursor. Each of these resets the wrap flag, but for margins that have no effect.
 ghost use Rattle.std.specs.Prelude.{◌≡◌, ◌≤◌};
 ghost use Rattle.vt_term.specs.Moving.{home, backspace, carriage_return, cursor_up, cursor_down, cursor_forward, cursor_backward, cursor_position, index, reverse_index, next_line, line_feed, set_margins};
 

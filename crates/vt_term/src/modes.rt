@@ -74,7 +74,8 @@ impl Display {
         self.cursor.wrap = self.cursor.wrap && on;
     }
 
-    /// DECCOLM: 132 or 80 columns, all blank; full margins, home. The saved column keeps inside the width.
+    /// DECCOLM: 132 or 80 columns, all blank; full margins, home. The saved column is brought inside the width, and the
+    /// saved wrap flag is reset.
     fn column_mode(&mut self, wide: bool)
         ensures { self.new ≡ column_mode wide self.old }
     {

@@ -1,26 +1,16 @@
-//! Worked rows with values from outside, each whole and in pieces; the vectors; hostile inputs; failing devices; and each
-//! growth refused in turn.
-mod attributes;
+//! What no clause says: the vectors, whole and in pieces; inputs without measure; readers; the words of the command line; and
+//! each growth refused in turn.
 mod beginnings;
 mod command_line;
 mod common;
-mod cursor;
-mod devices;
-mod editing;
 mod held;
-mod hostile;
+mod long;
 mod memory;
 mod modes;
 mod pairs;
-mod plain;
-mod program;
 mod readers;
-mod repaints;
-mod reports;
+mod repaint;
 mod runs;
 mod scarce;
-mod sets;
-mod short_devices;
-mod syntax;
+mod status;
 mod vectors;
-mod width;

@@ -16,4 +16,4 @@ pub use held_samples::{held_sample, held_sample_count};
 pub use mismatch::Mismatch;
 pub use short_reader::ShortReader;
 pub use short_writer::ShortWriter;
-pub use vectors::{VECTOR_COUNT, vector, vector_count};
+pub use vectors::{VECTOR_COUNT, vector, vector_count, vector_name};

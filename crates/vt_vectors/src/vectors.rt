@@ -16,9 +16,10 @@ mod width;
 
 use crate::expectation::Vector;
 
-/// A vector as its file gives it: the text and the repaint as strings.
+/// A vector as its file gives it: its name, and the text and the repaint as strings.
 #[derive(Clone, Copy)]
 struct Row {
+    name: &'static str,
     input: &'static [u8],
     text: &'static str,
     reports: &'static [u8],
@@ -71,18 +72,36 @@ pub fn vector_count() -> usize
     VECTOR_COUNT
 }
 
-/// The `i`-th conformance vector, counted from 0. Its input has at most 200 bytes, and its text 24 lines.
-pub fn vector(i: usize) -> Vector<'static>
+/// The `i`-th row, counted from 0.
+fn row_at(i: usize) -> Row
     requires { i < VECTOR_COUNT }
+    ensures named { 1 ≤ length result.name.now }
     ensures short { length result.input.now ≤ 200 }
     ensures lines { count_by (λ b. b == 0x0A) result.text.now ≡ 24 }
 {
     let mut left = i;
     for rows in SUBJECTS {
         if left < rows.len() {
-            return rows[left].vector();
+            return rows[left];
         }
         left -= rows.len();
     }
     unreachable!()
+}
+
+/// The `i`-th conformance vector, counted from 0. Its input has at most 200 bytes, and its text 24 lines.
+pub fn vector(i: usize) -> Vector<'static>
+    requires { i < VECTOR_COUNT }
+    ensures short { length result.input.now ≤ 200 }
+    ensures lines { count_by (λ b. b == 0x0A) result.text.now ≡ 24 }
+{
+    row_at(i).vector()
+}
+
+/// The name of the `i`-th conformance vector, counted from 0: its subject, a colon, and what it shows.
+pub fn vector_name(i: usize) -> &'static str
+    requires { i < VECTOR_COUNT }
+    ensures { 1 ≤ length result.now }
+{
+    row_at(i).name
 }

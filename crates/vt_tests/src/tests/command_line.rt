@@ -99,7 +99,7 @@ fn words_ask_for_settings(rt: HostRuntime) -> Result<(), Fail> {
 }
 
 /// A line that asks for nothing, the status, and how the text begins.
-const REFUSED: [(&str, u8, &str); 17] = [
+const REFUSED: [(&str, u8, &str); 18] = [
     (
         "vt220 text --piece 0",
         2,
@@ -145,6 +145,7 @@ const REFUSED: [(&str, u8, &str); 17] = [
         "Plays what a host sent to a VT220 terminal",
     ),
     ("vt220 text --piece 9 --help", 0, "The screen"),
+    ("vt220 --version", 0, "vt220 0.2.0\n"),
 ];
 
 #[test]

@@ -30,5 +30,9 @@ fn samples_leave_their_held_parts(rt: HostRuntime) -> Result<(), Fail> {
         assert!(rt; !played.terminal.is_between());
         assert!(rt; played.reports.is_empty());
     }
+    let nothing = Played::of(rt.alloc(), &[])?;
+    let held = format!(in rt.alloc(); "{:?}", nothing.terminal.held())?;
+    assert_eq!(rt; held.as_str(), "Nothing");
+    assert!(rt; nothing.terminal.is_between());
     Ok(())
 }

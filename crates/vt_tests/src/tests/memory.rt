@@ -1,11 +1,13 @@
-//! Each growth refused, one after another, until a call meets no refusal.
+//! Each growth refused, one after another, until a call meets no refusal; and calls that take no memory.
+ghost use Rattle.std.specs.Prelude.{◌+◌, ◌≤◌, vec_len, vec_capacity};
+
 use super::command_line::words_of;
 use super::common::{LIMIT, Played, replayed};
 use super::scarce::{BLOCKS, Scarce};
 use std::alloc::Global;
 use std::process::Abort;
 use std::test::Fail;
-use vt_paint::{PAINT_LIMIT, PaintError, repaint};
+use vt_paint::{PAINT_LIMIT, PaintError, repaint, repaint_reserved};
 use vt_replay::{Fault, Watched, What, run, settings};
 use vt_term::{TEXT_LIMIT, Terminal};
 use vt_vectors::{Mismatch, Vector, check, vector, vector_count};
@@ -134,26 +136,55 @@ fn each_growth_of_feed_text_and_repaint_is_refused(rt: HostRuntime) -> Result<()
     Ok(())
 }
 
-#[test]
-fn calls_with_room_are_never_refused(rt: HostRuntime) -> Result<(), Fail> {
-    for input in INPUTS {
-        let expected = Played::of(rt.alloc(), &[input])?;
-        let mut expected_text = Vec::new(rt.alloc());
-        expected.terminal.text(&mut expected_text)?;
-        let mut terminal = Terminal::new(rt.alloc())?;
-        let mut reports = Vec::with_capacity(rt.alloc(), 1000)?;
-        let mut text = Vec::with_capacity(rt.alloc(), TEXT_LIMIT)?;
-        let mut painted = Vec::with_capacity(rt.alloc(), PAINT_LIMIT)?;
-        let scarce = Scarce::new(rt.alloc())?;
-        let fed = terminal.feed(input, &mut reports);
-        let shown = terminal.text(&mut text);
-        let repainted = repaint(&terminal, &mut painted);
+/// Asserts that calls with the room for what they append are never refused, take no memory, and append. The second round
+/// is that of the calls which can't be refused.
+fn appends_in_room(rt: &impl Abort, alloc: Global, input: &[u8]) -> Result<(), Fail> {
+    let expected = Played::of(alloc, &[input])?;
+    let mut text = Vec::new(alloc);
+    expected.terminal.text(&mut text)?;
+    let mut painted = Vec::new(alloc);
+    repaint(&expected.terminal, &mut painted)?;
+    let mut all = Vec::from_slice(alloc, b"ok")?;
+    for part in [&expected.reports, &text, &painted] {
+        all.extend_from_slice(part)?;
+    }
+    for reserved in [false, true] {
+        let mut terminal = Terminal::new(alloc)?;
+        let mut out = Vec::with_capacity(alloc, 2 * (TEXT_LIMIT + PAINT_LIMIT))?;
+        out.extend_from_slice(b"ok")?;
+        let capacity = out.capacity();
+        let scarce = Scarce::new(alloc)?;
+        let answered = if reserved && terminal.is_between() {
+            terminal.feed_reserved(input, &mut out);
+            terminal.text_reserved(&mut out);
+            repaint_where_between(&terminal, &mut out)
+        } else {
+            terminal.feed(input, &mut out).is_ok()
+                && terminal.text(&mut out).is_ok()
+                && repaint(&terminal, &mut out).is_ok()
+        };
         drop(scarce);
-        assert!(rt; fed.is_ok());
-        assert!(rt; shown.is_ok());
-        assert_eq!(rt; repainted, Ok(()));
-        assert_eq!(rt; reports.as_slice(), expected.reports.as_slice());
-        assert_eq!(rt; text.as_slice(), expected_text.as_slice());
+        assert!(rt; answered);
+        assert_eq!(rt; out.capacity(), capacity);
+        assert_eq!(rt; out.as_slice(), all.as_slice());
+    }
+    Ok(())
+}
+
+/// Appends the repaint in room that is there, and says whether there is one.
+fn repaint_where_between(terminal: &Terminal, out: &mut Vec<u8>) -> bool
+    requires { vec_len out.old + PAINT_LIMIT ≤ vec_capacity out.old }
+{
+    if terminal.is_between() {
+        repaint_reserved(terminal, out);
+    }
+    terminal.is_between()
+}
+
+#[test]
+fn calls_with_room_take_no_memory(rt: HostRuntime) -> Result<(), Fail> {
+    for input in INPUTS {
+        appends_in_room(&rt, rt.alloc(), input)?;
     }
     Ok(())
 }

@@ -1,31 +1,7 @@
-//! Modes and resets.
-use super::common::{Left, Played, Row, all_leave, at, crosses, joined, leaves, wrapping};
+//! The modes that each input leaves.
+use super::common::Played;
 use std::test::Fail;
-use vt_term::{Modes, Terminal};
-
-const ROWS: [Row; 4] = [
-    ("insertion", b"AB\x1b[H\x1b[4hX", b"XAB", (1, 2), b""),
-    ("new line", b"\x1b[20hA\nB", b"A\nB", (2, 2), b""),
-    (
-        "modes without effect here",
-        b"A\x1b[?1;2;4;5;8;42h\x1b[2;12lB",
-        b"AB",
-        (1, 3),
-        b"",
-    ),
-    (
-        "full reset",
-        b"\x1b[?3h\x1b[20h\x1b[5;10r\x1b[?6hAB\x1bcC",
-        b"C",
-        (1, 2),
-        b"",
-    ),
-];
-
-#[test]
-fn modes_change_what_bytes_do(rt: HostRuntime) -> Result<(), Fail> {
-    all_leave(&rt, rt.alloc(), &ROWS)
-}
+use vt_term::Modes;
 
 const POWER_UP: Modes = Modes {
     kam: false,
@@ -105,46 +81,9 @@ const MODES: [(&[u8], Modes); 9] = [
 #[test]
 fn modes_are_kept(rt: HostRuntime) -> Result<(), Fail> {
     for (input, modes) in MODES {
-        let whole = Played::of(rt.alloc(), &[input])?;
-        let by_bytes = Played::by_bytes(rt.alloc(), input)?;
-        assert_eq!(rt; whole.terminal.modes(), modes);
-        assert_eq!(rt; by_bytes.terminal.modes(), modes);
-        assert!(rt; whole.reports.is_empty());
-        assert!(rt; by_bytes.terminal.same_state(&whole.terminal));
+        let played = Played::of(rt.alloc(), &[input])?;
+        assert_eq!(rt; played.terminal.modes(), modes, "{input:?}");
+        assert!(rt; played.reports.is_empty(), "{input:?}");
     }
     Ok(())
-}
-
-#[test]
-fn a_full_reset_is_the_power_up_state(rt: HostRuntime) -> Result<(), Fail> {
-    let new = Terminal::new(rt.alloc())?;
-    let used = Played::of(
-        rt.alloc(),
-        &[
-            b"\x1b[?3h\x1b[5;9rA\x1b[?6h\x1b[7;1m\x1b[1\"q\x1b(0\x0e\x1b}\x1bN\x1b[3g\x1b7\x1b=\x1b[4hB",
-        ],
-    )?;
-    assert!(rt; !used.terminal.same_state(&new));
-    let mut reset = used;
-    reset.feed(b"\x1bc")?;
-    assert!(rt; reset.terminal.same_state(&new));
-    Ok(())
-}
-
-#[test]
-fn a_conformance_level_that_is_not_listed_keeps_the_wrap(rt: HostRuntime) -> Result<(), Fail> {
-    let line = crosses(rt.alloc(), 80)?;
-    let left = Left {
-        lines: line.as_slice(),
-        cursor: wrapping(1, 80),
-        reports: b"",
-    };
-    let input = joined(rt.alloc(), &[line.as_slice(), b"\x1b[62;3\"p"])?;
-    leaves(&rt, rt.alloc(), "not listed", input.as_slice(), left)?;
-    let input = joined(rt.alloc(), &[line.as_slice(), b"\x1b[62;2\"p"])?;
-    let left = Left {
-        cursor: at(1, 80),
-        ..left
-    };
-    leaves(&rt, rt.alloc(), "listed", input.as_slice(), left)
 }

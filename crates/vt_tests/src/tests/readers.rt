@@ -1,7 +1,7 @@
-//! Each reader of a terminal, and the calls that take no memory.
+//! Each reader of a terminal.
 use super::common::{NONE, PLAIN, Played, at};
 use std::test::Fail;
-use vt_term::{Brush, Margins, Rendition, TEXT_LIMIT, Terminal};
+use vt_term::{Brush, Margins, Rendition, Terminal};
 
 /// The stops at power-up.
 fn is_stop_at_power_up(col: usize) -> bool {
@@ -92,18 +92,6 @@ fn readers_tell_what_was_set(rt: HostRuntime) -> Result<(), Fail> {
     Ok(())
 }
 
-#[test]
-fn one_stop_and_one_single_shift(rt: HostRuntime) -> Result<(), Fail> {
-    let played = Played::of(rt.alloc(), &[b"\x1b[3g\x1b[1;5H\x1bH\x1bN"])?;
-    for (stop, col) in played.terminal.stops().iter().zip(1..133usize) {
-        assert_eq!(rt; *stop, col == 5, "{col}");
-    }
-    assert_eq!(rt; played.terminal.cursor(), at(1, 5));
-    assert_eq!(rt; played.terminal.sets().pending(), Some(2));
-    assert!(rt; played.terminal.is_between());
-    Ok(())
-}
-
 /// Inputs whose states differ, some only where nothing shows.
 const STATES: [&[u8]; 16] = [
     b"",
@@ -133,20 +121,5 @@ fn states_that_differ_are_not_the_same(rt: HostRuntime) -> Result<(), Fail> {
             assert_eq!(rt; one.terminal.same_state(&other.terminal), i == j, "{i} {j}");
         }
     }
-    Ok(())
-}
-
-#[test]
-fn reserved_calls_append(rt: HostRuntime) -> Result<(), Fail> {
-    let mut terminal = Terminal::new(rt.alloc())?;
-    let mut out = Vec::with_capacity(rt.alloc(), TEXT_LIMIT + 100)?;
-    terminal.feed_reserved(b"A\r\nB\x1b[5n", &mut out);
-    assert_eq!(rt; out.as_slice(), b"\x1b[0n".as_slice());
-    assert_eq!(rt; out.len(), 4);
-    terminal.text_reserved(&mut out);
-    assert_eq!(rt;
-        out.as_slice(),
-        b"\x1b[0nA\nB\n\n\n\n\n\n\n\n\n\n\n\n\n\n\n\n\n\n\n\n\n\n\n".as_slice()
-    );
     Ok(())
 }

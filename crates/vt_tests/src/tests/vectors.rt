@@ -1,12 +1,51 @@
-//! The terminal meets every vector, and no wrong one.
+//! The terminal meets every vector, alone and through a replay, and no wrong one.
+use super::common::{LIMIT, replayed};
+use std::alloc::Global;
+use std::process::Abort;
 use std::test::Fail;
-use vt_vectors::{Mismatch, Vector, check, vector, vector_count};
+use vt_replay::{Fault, Watched, What, run};
+use vt_vectors::{Mismatch, Vector, check, vector, vector_count, vector_name};
+
+/// Asserts that replays by pieces of this size write what the vector expects; inside a sequence there is no repaint.
+fn is_replayed(rt: &impl Abort, alloc: Global, v: &Vector, piece: usize) -> Result<(), Fail> {
+    let text = replayed(rt, alloc, v.input, What::Text, piece)?;
+    assert_eq!(rt; text.as_slice(), v.text, "{v:?}");
+    let reports = replayed(rt, alloc, v.input, What::Reports, piece)?;
+    assert_eq!(rt; reports.as_slice(), v.reports, "{v:?}");
+    let mut writer = Watched::new(Vec::new(alloc));
+    let mut reader = Watched::new(v.input);
+    let piece = piece.clamp(1, 65536);
+    let answer = run(alloc, &mut reader, &mut writer, What::Repaint, piece, LIMIT);
+    let due = if v.repaint.is_some() {
+        Ok(())
+    } else {
+        Err(Fault::Partial)
+    };
+    assert_eq!(rt; answer, due, "{v:?}");
+    let written = writer.into_inner();
+    assert_eq!(rt; written.as_slice(), v.repaint.unwrap_or(b""), "{v:?}");
+    Ok(())
+}
 
 #[test]
 fn every_vector_is_met(rt: HostRuntime) -> Result<(), Fail> {
     for i in 0..vector_count() {
         let v = vector(i);
-        assert_eq!(rt; check(rt.alloc(), &v), Ok(()), "vector {i}");
+        assert_eq!(rt; check(rt.alloc(), &v), Ok(()), "{v:?}");
+        is_replayed(&rt, rt.alloc(), &v, 1)?;
+        is_replayed(&rt, rt.alloc(), &v, 4096)?;
+    }
+    Ok(())
+}
+
+#[test]
+fn each_vector_has_a_name_and_an_input_of_its_own(rt: HostRuntime) -> Result<(), Fail> {
+    for i in 0..vector_count() {
+        for j in 0..i {
+            assert!(rt; vector_name(i) != vector_name(j), "{i} {j}");
+            let repeated = vector(i).input == vector(j).input;
+            assert!(rt; !repeated, "{i} {j}");
+        }
     }
     Ok(())
 }
@@ -88,57 +127,48 @@ const EMPTY: &[u8] = b"\n\n\n\n\n\n\n\n\n\n\n\n\n\n\n\n\n\n\n\n\n\n\n\n";
 
 #[test]
 fn the_first_difference_decides(rt: HostRuntime) -> Result<(), Fail> {
-    assert_eq!(rt; check(rt.alloc(), &LETTER), Ok(()));
     let wrong_text = Vector {
         text: EMPTY,
         ..LETTER
     };
-    assert_eq!(rt; check(rt.alloc(), &wrong_text), Err(Mismatch::Text));
     let wrong_reports = Vector {
         reports: b"x",
         ..LETTER
     };
-    assert_eq!(rt; check(rt.alloc(), &wrong_reports), Err(Mismatch::Reports));
     let no_repaint = Vector {
         repaint: None,
         ..LETTER
     };
-    assert_eq!(rt; check(rt.alloc(), &no_repaint), Err(Mismatch::Repaint));
+    let two_wrong = Vector {
+        repaint: None,
+        ..wrong_reports
+    };
     let all_wrong = Vector {
         text: EMPTY,
-        ..Vector {
-            reports: b"x",
-            ..no_repaint
-        }
+        ..two_wrong
     };
-    assert_eq!(rt; check(rt.alloc(), &all_wrong), Err(Mismatch::Text));
-    let two_wrong = Vector {
-        reports: b"x",
-        ..no_repaint
-    };
-    assert_eq!(rt; check(rt.alloc(), &two_wrong), Err(Mismatch::Reports));
-    Ok(())
-}
-
-#[test]
-fn a_repaint_inside_a_sequence_is_a_difference(rt: HostRuntime) -> Result<(), Fail> {
     let held = Vector {
         input: b"\x1b[1",
         text: EMPTY,
         repaint: None,
         ..LETTER
     };
-    assert_eq!(rt; check(rt.alloc(), &held), Ok(()));
-    let painted = Vector {
+    let held_with_repaint = Vector {
         repaint: Some(b"\x1bc"),
         ..held
     };
-    assert_eq!(rt; check(rt.alloc(), &painted), Err(Mismatch::Repaint));
-    Ok(())
-}
-
-#[test]
-fn messages_are_the_names_in_lower_case(rt: HostRuntime) -> Result<(), Fail> {
+    for (v, expected) in [
+        (LETTER, Ok(())),
+        (wrong_text, Err(Mismatch::Text)),
+        (wrong_reports, Err(Mismatch::Reports)),
+        (no_repaint, Err(Mismatch::Repaint)),
+        (two_wrong, Err(Mismatch::Reports)),
+        (all_wrong, Err(Mismatch::Text)),
+        (held, Ok(())),
+        (held_with_repaint, Err(Mismatch::Repaint)),
+    ] {
+        assert_eq!(rt; check(rt.alloc(), &v), expected, "{v:?}");
+    }
     for (mismatch, message) in [
         (Mismatch::Memory, "memory"),
         (Mismatch::Text, "text"),

@@ -2,16 +2,16 @@
 use super::Row;
 use super::parts::joined;
 
-pub(super) const ROWS: [Row; 14] = [
-    // under origin mode the cursor stays inside the margins, and its report counts from them
+pub(super) const ROWS: [Row; 16] = [
     Row {
+        name: "cursor: under origin mode the cursor stays inside the margins, and its report counts from them",
         input: b"\x1b[5;10r\x1b[?6h\x1b[99;99H\x1b[6n",
         text: joined!(EMPTY 24),
         reports: b"\x1b[6;80R",
         repaint: Some(joined!("\x1bc\x1b[5;10r\x1b[?6h\x1b[6;80H" PLAIN SETS)),
     },
-    // a place saved under full margins is restored into narrower ones
     Row {
+        name: "cursor: a place saved under full margins is restored into narrower ones",
         input: b"\x1b[?6h\x1b[20;3H\x1b7\x1b[2;5r\x1b8",
         text: joined!(EMPTY 24),
         reports: b"",
@@ -20,8 +20,8 @@ pub(super) const ROWS: [Row; 14] = [
             PLAIN SETS
         )),
     },
-    // the repaint of that, played: it is its own repaint
     Row {
+        name: "cursor: a repaint that is played is its own repaint",
         input: b"\x1bc\x1b[?6h\x1b[20;3H\x1b[0m\x1b[0\"q\x1b(B\x1b)B\x1b*<\x1b+<\x0f\x1b}\x1b7\x1b[?6l\x1b[2;5r\x1b[?6h\x1b[4;3H\x1b[0m\x1b[0\"q\x1b(B\x1b)B\x1b*<\x1b+<\x0f\x1b}",
         text: joined!(EMPTY 24),
         reports: b"",
@@ -30,15 +30,15 @@ pub(super) const ROWS: [Row; 14] = [
             PLAIN SETS
         )),
     },
-    // no stop but one
     Row {
+        name: "cursor: no stop but one",
         input: b"\x1b[3g\x1b[1;5H\x1bH",
         text: joined!(EMPTY 24),
         reports: b"",
         repaint: Some(joined!("\x1bc\x1b[?3h\x1b[3g\x1b[1;5H\x1bH\x1b[?3l\x1b[1;5H" PLAIN SETS)),
     },
-    // the wrap flag is saved
     Row {
+        name: "cursor: the wrap flag is saved",
         input: b"xxxxxxxxxxxxxxxxxxxxxxxxxxxxxxxxxxxxxxxxxxxxxxxxxxxxxxxxxxxxxxxxxxxxxxxxxxxxxxxx\x1b7",
         text: joined!(X_80 "\n" EMPTY 23),
         reports: b"",
@@ -47,8 +47,8 @@ pub(super) const ROWS: [Row; 14] = [
             PLAIN "x" PLAIN SETS
         )),
     },
-    // and restored: the next glyph wraps
     Row {
+        name: "cursor: the wrap flag is restored: the next glyph wraps",
         input: b"xxxxxxxxxxxxxxxxxxxxxxxxxxxxxxxxxxxxxxxxxxxxxxxxxxxxxxxxxxxxxxxxxxxxxxxxxxxxxxxx\x1b7\r\x1b8y",
         text: joined!(X_80 "\ny\n" EMPTY 22),
         reports: b"",
@@ -57,8 +57,8 @@ pub(super) const ROWS: [Row; 14] = [
             PLAIN "y\x1b[2;2H" PLAIN SETS
         )),
     },
-    // but not without DECAWM
     Row {
+        name: "cursor: the wrap flag is not restored without DECAWM",
         input: b"xxxxxxxxxxxxxxxxxxxxxxxxxxxxxxxxxxxxxxxxxxxxxxxxxxxxxxxxxxxxxxxxxxxxxxxxxxxxxxxx\x1b7\x1b[?7l\x1b8",
         text: joined!(X_80 "\n" EMPTY 23),
         reports: b"",
@@ -67,36 +67,36 @@ pub(super) const ROWS: [Row; 14] = [
             PLAIN SETS "\x1b[?7l"
         )),
     },
-    // up from above the margins: to the first row
     Row {
+        name: "cursor: up from above the margins: to the first row",
         input: b"\x1b[5;10r\x1b[3;1H\x1b[9A",
         text: joined!(EMPTY 24),
         reports: b"",
         repaint: Some(joined!("\x1bc\x1b[5;10r\x1b[1;1H" PLAIN SETS)),
     },
-    // up from inside the margins: to the top margin
     Row {
+        name: "cursor: up from inside the margins: to the top margin",
         input: b"\x1b[5;10r\x1b[7;9H\x1b[9A",
         text: joined!(EMPTY 24),
         reports: b"",
         repaint: Some(joined!("\x1bc\x1b[5;10r\x1b[5;9H" PLAIN SETS)),
     },
-    // down from below the margins: to the last row
     Row {
+        name: "cursor: down from below the margins: to the last row",
         input: b"\x1b[5;10r\x1b[12;1H\x1b[99B",
         text: joined!(EMPTY 24),
         reports: b"",
         repaint: Some(joined!("\x1bc\x1b[5;10r\x1b[24;1H" PLAIN SETS)),
     },
-    // a reverse index in the first row scrolls down
     Row {
+        name: "cursor: a reverse index in the first row scrolls down",
         input: b"A\x1b[H\x1bM",
         text: joined!("\nA\n" EMPTY 22),
         reports: b"",
         repaint: Some(joined!("\x1bc" HEAD "\x1b[2;1H" PLAIN "A\x1b[1;1H" PLAIN SETS)),
     },
-    // a stop that was set
     Row {
+        name: "cursor: a tab goes to a stop that was set",
         input: b"\x1b[5C\x1bH\r\t",
         text: joined!(EMPTY 24),
         reports: b"",
@@ -109,15 +109,15 @@ pub(super) const ROWS: [Row; 14] = [
             "\x1b[1;129H\x1bH" "\x1b[?3l\x1b[1;6H" PLAIN SETS
         )),
     },
-    // and cleared
     Row {
+        name: "cursor: a tab passes over a stop that was cleared",
         input: b"\x1b[5C\x1bH\r\t\x1b[g\r\t",
         text: joined!(EMPTY 24),
         reports: b"",
         repaint: Some(joined!("\x1bc\x1b[1;9H" PLAIN SETS)),
     },
-    // attributes and modes other than DECAWM leave the wrap flag
     Row {
+        name: "cursor: attributes and modes other than DECAWM leave the wrap flag",
         input: b"xxxxxxxxxxxxxxxxxxxxxxxxxxxxxxxxxxxxxxxxxxxxxxxxxxxxxxxxxxxxxxxxxxxxxxxxxxxxxxxx\x1b[7m\x1b[?25l\x1b[?7h\x1b7y",
         text: joined!(X_80 "\ny\n" EMPTY 22),
         reports: b"",
@@ -125,5 +125,19 @@ pub(super) const ROWS: [Row; 14] = [
             "\x1bc\x1b[1;80H " REVERSE SETS "\x1b7" HEAD "\x1b[1;1H" PLAIN X_80 "\x1b[2;1H"
             REVERSE "y\x1b[2;2H" REVERSE SETS "\x1b[?25l"
         )),
+    },
+    Row {
+        name: "cursor: the alignment display makes full margins, and home is in row 1 under origin mode",
+        input: b"\x1b[5;10r\x1b[?6h\x1b#8\x1b[2J",
+        text: joined!(EMPTY 24),
+        reports: b"",
+        repaint: Some(joined!("\x1bc\x1b[?6h\x1b[1;1H" PLAIN SETS)),
+    },
+    Row {
+        name: "cursor: a soft reset keeps the place",
+        input: b"\x1b[5;10r\x1b[?6h\x1b[3;3H\x1b[!p",
+        text: joined!(EMPTY 24),
+        reports: b"",
+        repaint: Some(joined!("\x1bc\x1b[7;3H" PLAIN SETS "\x1b[?7l")),
     },
 ];

@@ -2,9 +2,9 @@
 use super::Row;
 use super::parts::joined;
 
-pub(super) const ROWS: [Row; 12] = [
-    // a cell is erased
+pub(super) const ROWS: [Row; 14] = [
     Row {
+        name: "editing: a cell is erased",
         input: b"ABC\x1b[1;2H\x1b[X",
         text: joined!("A C\n" EMPTY 23),
         reports: b"",
@@ -12,8 +12,8 @@ pub(super) const ROWS: [Row; 12] = [
             joined!("\x1bc" HEAD "\x1b[1;1H" PLAIN "A\x1b[1;3H" PLAIN "C\x1b[1;2H" PLAIN SETS),
         ),
     },
-    // two cells are inserted
     Row {
+        name: "editing: two cells are inserted",
         input: b"ABC\x1b[1;2H\x1b[2@",
         text: joined!("A  BC\n" EMPTY 23),
         reports: b"",
@@ -21,22 +21,22 @@ pub(super) const ROWS: [Row; 12] = [
             joined!("\x1bc" HEAD "\x1b[1;1H" PLAIN "A\x1b[1;4H" PLAIN "BC\x1b[1;2H" PLAIN SETS),
         ),
     },
-    // more cells are inserted than the line has
     Row {
+        name: "editing: more cells are inserted than the line has",
         input: b"ABC\x1b[1;2H\x1b[9999@",
         text: joined!("A\n" EMPTY 23),
         reports: b"",
         repaint: Some(joined!("\x1bc" HEAD "\x1b[1;1H" PLAIN "A\x1b[1;2H" PLAIN SETS)),
     },
-    // a cell is deleted
     Row {
+        name: "editing: a cell is deleted",
         input: b"ABC\x1b[1;2H\x1b[P",
         text: joined!("AC\n" EMPTY 23),
         reports: b"",
         repaint: Some(joined!("\x1bc" HEAD "\x1b[1;1H" PLAIN "AC\x1b[1;2H" PLAIN SETS)),
     },
-    // a line is inserted
     Row {
+        name: "editing: a line is inserted",
         input: b"A\r\nB\r\nC\x1b[2;1H\x1b[L",
         text: joined!("A\n\nB\nC\n" EMPTY 20),
         reports: b"",
@@ -45,22 +45,22 @@ pub(super) const ROWS: [Row; 12] = [
             "C\x1b[2;1H" PLAIN SETS
         )),
     },
-    // more lines are deleted than there are
     Row {
+        name: "editing: more lines are deleted than there are",
         input: b"A\r\nB\r\nC\x1b[2;1H\x1b[99M",
         text: joined!("A\n" EMPTY 23),
         reports: b"",
         repaint: Some(joined!("\x1bc" HEAD "\x1b[1;1H" PLAIN "A\x1b[2;1H" PLAIN SETS)),
     },
-    // a line is inserted, and then all are deleted
     Row {
+        name: "editing: a line is inserted, and then all are deleted",
         input: b"A\r\nB\r\nC\x1b[2;1H\x1b[L\x1b[99M",
         text: joined!("A\n" EMPTY 23),
         reports: b"",
         repaint: Some(joined!("\x1bc" HEAD "\x1b[1;1H" PLAIN "A\x1b[2;1H" PLAIN SETS)),
     },
-    // an erase resets the wrap flag
     Row {
+        name: "editing: an erase resets the wrap flag",
         input: b"xxxxxxxxxxxxxxxxxxxxxxxxxxxxxxxxxxxxxxxxxxxxxxxxxxxxxxxxxxxxxxxxxxxxxxxxxxxxxxxx\x1b[Xy",
         text: joined!(X_78 "xy\n" EMPTY 23),
         reports: b"",
@@ -68,8 +68,8 @@ pub(super) const ROWS: [Row; 12] = [
             joined!("\x1bc" HEAD "\x1b[1;1H" PLAIN X_78 "xy\x1b[1;80H" PLAIN "y" PLAIN SETS),
         ),
     },
-    // an erase of a value that isn't listed leaves the wrap flag
     Row {
+        name: "editing: an erase of a value that isn't listed leaves the wrap flag",
         input: b"xxxxxxxxxxxxxxxxxxxxxxxxxxxxxxxxxxxxxxxxxxxxxxxxxxxxxxxxxxxxxxxxxxxxxxxxxxxxxxxx\x1b[3Jy",
         text: joined!(X_80 "\ny\n" EMPTY 22),
         reports: b"",
@@ -77,8 +77,8 @@ pub(super) const ROWS: [Row; 12] = [
             joined!("\x1bc" HEAD "\x1b[1;1H" PLAIN X_80 "\x1b[2;1H" PLAIN "y\x1b[2;2H" PLAIN SETS),
         ),
     },
-    // a line is inserted inside the margins: the line below them stays, the last inside is lost
     Row {
+        name: "editing: a line is inserted inside the margins: the line below them stays, the last inside is lost",
         input: b"A\x1bEB\x1bEC\x1b[2;3r\x1b[2;1H\x1b[L",
         text: joined!("A\n\nB\n" EMPTY 21),
         reports: b"",
@@ -87,8 +87,8 @@ pub(super) const ROWS: [Row; 12] = [
             SETS
         )),
     },
-    // above the margins nothing moves
     Row {
+        name: "editing: a line inserted above the margins moves nothing",
         input: b"A\x1bEB\x1bEC\x1b[2;3r\x1b[1;1H\x1b[L",
         text: joined!("A\nB\nC\n" EMPTY 21),
         reports: b"",
@@ -97,8 +97,8 @@ pub(super) const ROWS: [Row; 12] = [
             "C\x1b[2;3r\x1b[1;1H" PLAIN SETS
         )),
     },
-    // below the margins nothing moves
     Row {
+        name: "editing: a line inserted below the margins moves nothing",
         input: b"A\x1bEB\x1bEC\x1b[2;3r\x1b[4;1H\x1b[L",
         text: joined!("A\nB\nC\n" EMPTY 21),
         reports: b"",
@@ -106,5 +106,23 @@ pub(super) const ROWS: [Row; 12] = [
             "\x1bc" HEAD "\x1b[1;1H" PLAIN "A\x1b[2;1H" PLAIN "B\x1b[3;1H" PLAIN
             "C\x1b[2;3r\x1b[4;1H" PLAIN SETS
         )),
+    },
+    Row {
+        name: "editing: a line inserted outside the margins resets the wrap flag",
+        input: b"\x1b[2;3rxxxxxxxxxxxxxxxxxxxxxxxxxxxxxxxxxxxxxxxxxxxxxxxxxxxxxxxxxxxxxxxxxxxxxxxxxxxxxxxx\x1b[L",
+        text: joined!(X_80 "\n" EMPTY 23),
+        reports: b"",
+        repaint: Some(
+            joined!("\x1bc" HEAD "\x1b[1;1H" PLAIN X_80 "\x1b[2;3r\x1b[1;80H" PLAIN SETS),
+        ),
+    },
+    Row {
+        name: "editing: a line deleted outside the margins resets the wrap flag",
+        input: b"\x1b[2;3rxxxxxxxxxxxxxxxxxxxxxxxxxxxxxxxxxxxxxxxxxxxxxxxxxxxxxxxxxxxxxxxxxxxxxxxxxxxxxxxx\x1b[M",
+        text: joined!(X_80 "\n" EMPTY 23),
+        reports: b"",
+        repaint: Some(
+            joined!("\x1bc" HEAD "\x1b[1;1H" PLAIN X_80 "\x1b[2;3r\x1b[1;80H" PLAIN SETS),
+        ),
     },
 ];

@@ -3,99 +3,99 @@ use super::Row;
 use super::parts::joined;
 
 pub(super) const ROWS: [Row; 14] = [
-    // ESC
     Row {
+        name: "held: ESC",
         input: b"\x1b",
         text: joined!(EMPTY 24),
         reports: b"",
         repaint: None,
     },
-    // ESC, an intermediate, and BEL, which is carried out
     Row {
+        name: "held: ESC, an intermediate, and BEL, which is carried out",
         input: b"\x1b(\x07",
         text: joined!(EMPTY 24),
         reports: b"",
         repaint: None,
     },
-    // ESC and two intermediates
     Row {
+        name: "held: ESC and two intermediates",
         input: b"\x1b( ",
         text: joined!(EMPTY 24),
         reports: b"",
         repaint: None,
     },
-    // CSI
     Row {
+        name: "held: CSI",
         input: b"\x9b",
         text: joined!(EMPTY 24),
         reports: b"",
         repaint: None,
     },
-    // CSI and a marker
     Row {
+        name: "held: CSI and a marker",
         input: b"\x9b?",
         text: joined!(EMPTY 24),
         reports: b"",
         repaint: None,
     },
-    // CSI and two empty parameters
     Row {
+        name: "held: CSI and two empty parameters",
         input: b"\x9b;",
         text: joined!(EMPTY 24),
         reports: b"",
         repaint: None,
     },
-    // CSI, a parameter and an intermediate
     Row {
+        name: "held: CSI, a parameter and an intermediate",
         input: b"\x9b1 ",
         text: joined!(EMPTY 24),
         reports: b"",
         repaint: None,
     },
-    // a parameter after an intermediate: spoilt
     Row {
+        name: "held: a parameter after an intermediate: spoilt",
         input: b"\x9b 1",
         text: joined!(EMPTY 24),
         reports: b"",
         repaint: None,
     },
-    // a colon: spoilt
     Row {
+        name: "held: a colon: spoilt",
         input: b"\x1b[1:",
         text: joined!(EMPTY 24),
         reports: b"",
         repaint: None,
     },
-    // 16 empty parameters
     Row {
+        name: "held: 16 empty parameters",
         input: b"\x9b;;;;;;;;;;;;;;;",
         text: joined!(EMPTY 24),
         reports: b"",
         repaint: None,
     },
-    // a 17th
     Row {
+        name: "held: 17 empty parameters",
         input: b"\x9b;;;;;;;;;;;;;;;;",
         text: joined!(EMPTY 24),
         reports: b"",
         repaint: None,
     },
-    // a device control string
     Row {
+        name: "held: a device control string",
         input: b"\x90A",
         text: joined!(EMPTY 24),
         reports: b"",
         repaint: None,
     },
-    // an operating system command, with BEL before its letter
     Row {
+        name: "held: an operating system command, with BEL before its letter",
         input: b"\x1b\x07]1",
         text: joined!(EMPTY 24),
         reports: b"",
         repaint: None,
     },
-    // ESC ends a string and begins a sequence
     Row {
+        name: "held: ESC ends a string and begins a sequence",
         input: b"\x9d1\x1b",
         text: joined!(EMPTY 24),
         reports: b"",

@@ -2,23 +2,23 @@
 use super::Row;
 use super::parts::joined;
 
-pub(super) const ROWS: [Row; 6] = [
-    // a soft reset resets DECAWM
+pub(super) const ROWS: [Row; 10] = [
     Row {
+        name: "modes: a soft reset resets DECAWM",
         input: b"\x1b[!p",
         text: joined!(EMPTY 24),
         reports: b"",
         repaint: Some(joined!("\x1bc\x1b[1;1H" PLAIN SETS "\x1b[?7l")),
     },
-    // insertion
     Row {
+        name: "modes: a glyph is inserted under IRM",
         input: b"AB\x1b[H\x1b[4hX",
         text: joined!("XAB\n" EMPTY 23),
         reports: b"",
         repaint: Some(joined!("\x1bc" HEAD "\x1b[1;1H" PLAIN "XAB\x1b[1;2H" PLAIN SETS "\x1b[4h")),
     },
-    // a line feed is a new line under LNM
     Row {
+        name: "modes: a line feed is a new line under LNM",
         input: b"\x1b[20hA\nB",
         text: joined!("A\nB\n" EMPTY 22),
         reports: b"",
@@ -27,27 +27,61 @@ pub(super) const ROWS: [Row; 6] = [
             "\x1b[20h"
         )),
     },
-    // modes without effect here are kept all the same
     Row {
+        name: "modes: modes without effect here are kept all the same",
         input: b"\x1b=\x1b[?25l\x1b[2;4h",
         text: joined!(EMPTY 24),
         reports: b"",
         repaint: Some(joined!("\x1bc\x1b[1;1H" PLAIN SETS "\x1b[2h\x1b[4h\x1b[?25l\x1b=")),
     },
-    // a mode that is set at power-up
     Row {
+        name: "modes: a mode that is set at power-up",
         input: b"\x1b[12l",
         text: joined!(EMPTY 24),
         reports: b"",
         repaint: Some(joined!("\x1bc\x1b[1;1H" PLAIN SETS "\x1b[12l")),
     },
-    // the repaint of a full line, played inside a string on a terminal that was used: the state of the full line
     Row {
+        name: "modes: the repaint of a full line, played inside a string on a terminal that was used: the state of the full line",
         input: b"\x1b[?6h\x1b[2;5r\x1b G\x1b(0\x1bPq\x1bc\x1b(B\x1b*<\x1b+0\x0f\x1b[1;1H\x1b[0m\x1b[0\"qxxxxxxxxxxxxxxxxxxxxxxxxxxxxxxxxxxxxxxxxxxxxxxxxxxxxxxxxxxxxxxxxxxxxxxxxxxxxxxxx\x1b[1;80H\x1b[0m\x1b[0\"qx\x1b[0m\x1b[0\"q\x1b(B\x1b)B\x1b*<\x1b+<\x0f\x1b}",
         text: joined!(X_80 "\n" EMPTY 23),
         reports: b"",
         repaint: Some(
             joined!("\x1bc" HEAD "\x1b[1;1H" PLAIN X_80 "\x1b[1;80H" PLAIN "x" PLAIN SETS),
+        ),
+    },
+    Row {
+        name: "modes: several in one sequence, and some that aren't there",
+        input: b"A\x1b[?1;2;4;5;8;42h\x1b[2;12lB",
+        text: joined!("AB\n" EMPTY 23),
+        reports: b"",
+        repaint: Some(
+            joined!("\x1bc" HEAD "\x1b[1;1H" PLAIN "AB\x1b[1;3H" PLAIN SETS "\x1b[12l\x1b[?1h\x1b[?4h\x1b[?5h"),
+        ),
+    },
+    Row {
+        name: "modes: a full reset resets all",
+        input: b"\x1b[?3h\x1b[20h\x1b[5;10r\x1b[?6hAB\x1bcC",
+        text: joined!("C\n" EMPTY 23),
+        reports: b"",
+        repaint: Some(joined!("\x1bc" HEAD "\x1b[1;1H" PLAIN "C\x1b[1;2H" PLAIN SETS)),
+    },
+    Row {
+        name: "modes: a conformance level that isn't listed leaves the wrap flag",
+        input: b"xxxxxxxxxxxxxxxxxxxxxxxxxxxxxxxxxxxxxxxxxxxxxxxxxxxxxxxxxxxxxxxxxxxxxxxxxxxxxxxx\x1b[62;3\"p",
+        text: joined!(X_80 "\n" EMPTY 23),
+        reports: b"",
+        repaint: Some(
+            joined!("\x1bc" HEAD "\x1b[1;1H" PLAIN X_80 "\x1b[1;80H" PLAIN "x" PLAIN SETS),
+        ),
+    },
+    Row {
+        name: "modes: level 2 with 8-bit reports is a soft reset",
+        input: b"xxxxxxxxxxxxxxxxxxxxxxxxxxxxxxxxxxxxxxxxxxxxxxxxxxxxxxxxxxxxxxxxxxxxxxxxxxxxxxxx\x1b[62;2\"p",
+        text: joined!(X_80 "\n" EMPTY 23),
+        reports: b"",
+        repaint: Some(
+            joined!("\x1bc" HEAD "\x1b[1;1H" PLAIN X_80 "\x1b[1;80H" PLAIN SETS "\x1b[?7l\x1b G"),
         ),
     },
 ];

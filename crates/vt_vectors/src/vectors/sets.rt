@@ -2,9 +2,9 @@
 use super::Row;
 use super::parts::joined;
 
-pub(super) const ROWS: [Row; 21] = [
-    // the British pound sign
+pub(super) const ROWS: [Row; 24] = [
     Row {
+        name: "sets: the British pound sign",
         input: b"\x1b(A#",
         text: joined!("£\n" EMPTY 23),
         reports: b"",
@@ -13,8 +13,8 @@ pub(super) const ROWS: [Row; 21] = [
             "\x1b(A\x1b)B\x1b*<\x1b+<\x0f\x1b}"
         )),
     },
-    // that of Special Graphics
     Row {
+        name: "sets: the pound sign of Special Graphics",
         input: b"\x1b(0}",
         text: joined!("£\n" EMPTY 23),
         reports: b"",
@@ -23,29 +23,36 @@ pub(super) const ROWS: [Row; 21] = [
             "\x1b(0\x1b)B\x1b*<\x1b+<\x0f\x1b}"
         )),
     },
-    // that of the Supplemental set
     Row {
+        name: "sets: the pound sign of the Supplemental set",
         input: b"\xa3",
         text: joined!("£\n" EMPTY 23),
         reports: b"",
         repaint: Some(joined!("\x1bc" HEAD "\x1b[1;1H" PLAIN "\x1bN#\x1b[1;2H" PLAIN SETS)),
     },
-    // a cell keeps nothing of the set: British, and back to ASCII
     Row {
+        name: "sets: a cell keeps nothing of its set: British, and back to ASCII",
         input: b"\x1b(A#\x1b(B",
         text: joined!("£\n" EMPTY 23),
         reports: b"",
         repaint: Some(joined!("\x1bc" HEAD "\x1b[1;1H" PLAIN "\x1bN#\x1b[1;2H" PLAIN SETS)),
     },
-    // Special Graphics, and back to ASCII
     Row {
+        name: "sets: a cell keeps nothing of its set: Supplemental, and ASCII designated once more",
+        input: b"\xa3\x1b(B",
+        text: joined!("£\n" EMPTY 23),
+        reports: b"",
+        repaint: Some(joined!("\x1bc" HEAD "\x1b[1;1H" PLAIN "\x1bN#\x1b[1;2H" PLAIN SETS)),
+    },
+    Row {
+        name: "sets: a cell keeps nothing of its set: Special Graphics, and back to ASCII",
         input: b"\x1b(0}\x1b(B",
         text: joined!("£\n" EMPTY 23),
         reports: b"",
         repaint: Some(joined!("\x1bc" HEAD "\x1b[1;1H" PLAIN "\x1bN#\x1b[1;2H" PLAIN SETS)),
     },
-    // line drawing by G1
     Row {
+        name: "sets: line drawing by G1",
         input: b"\x1b)0\x0elqk",
         text: joined!("┌─┐\n" EMPTY 23),
         reports: b"",
@@ -54,15 +61,15 @@ pub(super) const ROWS: [Row; 21] = [
             "\x1b(B\x1b)0\x1b*<\x1b+<\x0e\x1b}"
         )),
     },
-    // a single shift is pending
     Row {
+        name: "sets: a single shift is pending",
         input: b"\x1bN",
         text: joined!(EMPTY 24),
         reports: b"",
         repaint: Some(joined!("\x1bc\x1b[1;1H" PLAIN SETS "\x1bN")),
     },
-    // a locking shift of the right half
     Row {
+        name: "sets: a locking shift of the right half",
         input: b"\x1b~\xe1",
         text: joined!("a\n" EMPTY 23),
         reports: b"",
@@ -71,8 +78,8 @@ pub(super) const ROWS: [Row; 21] = [
             "\x1b(B\x1b)B\x1b*<\x1b+<\x0f\x1b~"
         )),
     },
-    // a second single shift replaces the first
     Row {
+        name: "sets: a second single shift replaces the first",
         input: b"\x1b+0\x8e\x8fq",
         text: joined!("─\n" EMPTY 23),
         reports: b"",
@@ -81,8 +88,8 @@ pub(super) const ROWS: [Row; 21] = [
             "\x1b(B\x1b)B\x1b*<\x1b+0\x0f\x1b}"
         )),
     },
-    // A0 and DEL leave a single shift
     Row {
+        name: "sets: A0 and DEL leave a single shift",
         input: b"\x1b+0\x8f\xa0\x7fq",
         text: joined!("─\n" EMPTY 23),
         reports: b"",
@@ -91,8 +98,8 @@ pub(super) const ROWS: [Row; 21] = [
             "\x1b(B\x1b)B\x1b*<\x1b+0\x0f\x1b}"
         )),
     },
-    // a space uses a single shift up
     Row {
+        name: "sets: a space uses a single shift up",
         input: b"\x1b+0\x8f q",
         text: joined!(" q\n" EMPTY 23),
         reports: b"",
@@ -101,8 +108,8 @@ pub(super) const ROWS: [Row; 21] = [
             "\x1b(B\x1b)B\x1b*<\x1b+0\x0f\x1b}"
         )),
     },
-    // places of the Supplemental set that differ from Latin 1
     Row {
+        name: "sets: places of the Supplemental set that differ from Latin 1",
         input: b"\xa8\xd7\xdd\xf7\xfd",
         text: joined!("¤ŒŸœÿ\n" EMPTY 23),
         reports: b"",
@@ -111,15 +118,15 @@ pub(super) const ROWS: [Row; 21] = [
             SETS
         )),
     },
-    // places of the Supplemental set that are undefined
     Row {
+        name: "sets: places of the Supplemental set that are undefined",
         input: b"\xa4\xfe",
         text: joined!("␦␦\n" EMPTY 23),
         reports: b"",
         repaint: Some(joined!("\x1bc" HEAD "\x1b[1;1H" PLAIN "\x1bN$\x1bN$\x1b[1;3H" PLAIN SETS)),
     },
-    // the space and the bar of Special Graphics
     Row {
+        name: "sets: the space and the bar of Special Graphics",
         input: b"\x1b(0_x",
         text: joined!(" │\n" EMPTY 23),
         reports: b"",
@@ -128,15 +135,15 @@ pub(super) const ROWS: [Row; 21] = [
             "\x1b(0\x1b)B\x1b*<\x1b+<\x0f\x1b}"
         )),
     },
-    // a final that names no set
     Row {
+        name: "sets: a final that names no set",
         input: b"\x1b(Z#",
         text: joined!("#\n" EMPTY 23),
         reports: b"",
         repaint: Some(joined!("\x1bc" HEAD "\x1b[1;1H" PLAIN "#\x1b[1;2H" PLAIN SETS)),
     },
-    // the German set
     Row {
+        name: "sets: the German set",
         input: b"\x1b(K@[\\]{|}~",
         text: joined!("§ÄÖÜäöüß\n" EMPTY 23),
         reports: b"",
@@ -146,8 +153,8 @@ pub(super) const ROWS: [Row; 21] = [
             "\x1b(K\x1b)B\x1b*<\x1b+<\x0f\x1b}"
         )),
     },
-    // one German letter
     Row {
+        name: "sets: one letter of the German set",
         input: b"\x1b(K[",
         text: joined!("Ä\n" EMPTY 23),
         reports: b"",
@@ -156,15 +163,15 @@ pub(super) const ROWS: [Row; 21] = [
             "\x1b(K\x1b)B\x1b*<\x1b+<\x0f\x1b}"
         )),
     },
-    // German, and back to ASCII
     Row {
+        name: "sets: German, and back to ASCII",
         input: b"\x1b(K[\x1b(B",
         text: joined!("Ä\n" EMPTY 23),
         reports: b"",
         repaint: Some(joined!("\x1bc" HEAD "\x1b[1;1H" PLAIN "\x1bND\x1b[1;2H" PLAIN SETS)),
     },
-    // German in the right half
     Row {
+        name: "sets: German in the right half",
         input: b"\x1b)K\x1b~\xdb",
         text: joined!("Ä\n" EMPTY 23),
         reports: b"",
@@ -173,8 +180,8 @@ pub(super) const ROWS: [Row; 21] = [
             "\x1b(B\x1b)K\x1b*<\x1b+<\x0f\x1b~"
         )),
     },
-    // German codes that are as in ASCII
     Row {
+        name: "sets: German codes that are as in ASCII",
         input: b"\x1b(K$A",
         text: joined!("$A\n" EMPTY 23),
         reports: b"",
@@ -183,11 +190,29 @@ pub(super) const ROWS: [Row; 21] = [
             "\x1b(K\x1b)B\x1b*<\x1b+<\x0f\x1b}"
         )),
     },
-    // a soft reset gives ASCII back, also in what is saved
     Row {
+        name: "sets: a soft reset gives ASCII back, also in what is saved",
         input: b"\x1b(K\x1b7\x1b[!p[",
         text: joined!("[\n" EMPTY 23),
         reports: b"",
         repaint: Some(joined!("\x1bc" HEAD "\x1b[1;1H" PLAIN "[\x1b[1;2H" PLAIN SETS "\x1b[?7l")),
+    },
+    Row {
+        name: "sets: SUB leaves a single shift",
+        input: b"\x1b+0\x8f\x1aq",
+        text: joined!("␦─\n" EMPTY 23),
+        reports: b"",
+        repaint: Some(
+            joined!("\x1bc" HEAD "\x1b[1;1H" PLAIN "\x1bN$\x1bOq\x1b[1;3H" PLAIN "\x1b(B\x1b)B\x1b*<\x1b+0\x0f\x1b}"),
+        ),
+    },
+    Row {
+        name: "sets: a shift in after a shift out",
+        input: b"\x1b)0\x0eq\x0fq",
+        text: joined!("─q\n" EMPTY 23),
+        reports: b"",
+        repaint: Some(
+            joined!("\x1bc" HEAD "\x1b[1;1H" PLAIN "\x1bOqq\x1b[1;3H" PLAIN "\x1b(B\x1b)0\x1b*<\x1b+<\x0f\x1b}"),
+        ),
     },
 ];

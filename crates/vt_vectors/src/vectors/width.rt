@@ -2,16 +2,16 @@
 use super::Row;
 use super::parts::joined;
 
-pub(super) const ROWS: [Row; 10] = [
-    // 132 columns
+pub(super) const ROWS: [Row; 13] = [
     Row {
+        name: "width: 132 columns",
         input: b"\x1b[?3h",
         text: joined!(EMPTY 24),
         reports: b"",
         repaint: Some(joined!("\x1bc\x1b[?3h\x1b[1;1H" PLAIN SETS)),
     },
-    // a full line of 132 columns
     Row {
+        name: "width: a full line of 132 columns",
         input: b"\x1b[?3hxxxxxxxxxxxxxxxxxxxxxxxxxxxxxxxxxxxxxxxxxxxxxxxxxxxxxxxxxxxxxxxxxxxxxxxxxxxxxxxxxxxxxxxxxxxxxxxxxxxxxxxxxxxxxxxxxxxxxxxxxxxxxxxxxxxx\x1b[6n",
         text: joined!(X_80 X_52 "\n" EMPTY 23),
         reports: b"\x1b[1;132R",
@@ -20,29 +20,29 @@ pub(super) const ROWS: [Row; 10] = [
             SETS
         )),
     },
-    // a stop past column 80 is kept at 80 columns, where a tab goes to the last column
     Row {
+        name: "width: a stop past column 80 is kept at 80 columns, where a tab goes to the last column",
         input: b"\x1b[?3h\x1b[3g\x1b[1;100H\x1bH\x1b[?3l\t",
         text: joined!(EMPTY 24),
         reports: b"",
         repaint: Some(joined!("\x1bc\x1b[?3h\x1b[3g\x1b[1;100H\x1bH\x1b[?3l\x1b[1;80H" PLAIN SETS)),
     },
-    // a saved column past 80 becomes 80
     Row {
+        name: "width: a saved column past 80 becomes 80",
         input: b"\x1b[?3h\x1b[5;120H\x1b7\x1b[?3l\x1b8",
         text: joined!(EMPTY 24),
         reports: b"",
         repaint: Some(joined!("\x1bc\x1b[5;80H" PLAIN SETS "\x1b7\x1b[5;80H" PLAIN SETS)),
     },
-    // 80 columns are cleared also where they are there already
     Row {
+        name: "width: 80 columns are cleared also where they are there already",
         input: b"A\x1b[?3lB",
         text: joined!("B\n" EMPTY 23),
         reports: b"",
         repaint: Some(joined!("\x1bc" HEAD "\x1b[1;1H" PLAIN "B\x1b[1;2H" PLAIN SETS)),
     },
-    // a soft reset keeps the columns
     Row {
+        name: "width: a soft reset keeps the columns",
         input: b"\x1b[?3hA\x1b[!p",
         text: joined!("A\n" EMPTY 23),
         reports: b"",
@@ -50,8 +50,8 @@ pub(super) const ROWS: [Row; 10] = [
             joined!("\x1bc\x1b[?3h" HEAD "\x1b[1;1H" PLAIN "A\x1b[1;2H" PLAIN SETS "\x1b[?7l"),
         ),
     },
-    // the alignment display at 80 columns
     Row {
+        name: "width: the alignment display at 80 columns",
         input: b"\x1b#8",
         text: joined!(
             E_80 "\n" E_80 "\n" E_80 "\n" E_80 "\n" E_80 "\n" E_80 "\n"
@@ -89,8 +89,8 @@ pub(super) const ROWS: [Row; 10] = [
             "\x1b[1;1H" PLAIN SETS
         )),
     },
-    // the alignment display at 132 columns
     Row {
+        name: "width: the alignment display at 132 columns",
         input: b"\x1b[?3h\x1b#8",
         text: joined!(
             E_80 E_52 "\n" E_80 E_52 "\n" E_80 E_52 "\n" E_80 E_52 "\n"
@@ -130,15 +130,15 @@ pub(super) const ROWS: [Row; 10] = [
             "\x1b[1;1H" PLAIN SETS
         )),
     },
-    // a repaint of the time of 80 columns alone, played: the one stop stays
     Row {
+        name: "width: a repaint of the time of 80 columns alone, played: the one stop stays",
         input: b"\x1bc\x1b[3g\x1b[1;5H\x1bH\x1b[1;5H\x1b[0m\x1b[0\"q\x1b(B\x1b)B\x1b*<\x1b+<\x0f\x1b}",
         text: joined!(EMPTY 24),
         reports: b"",
         repaint: Some(joined!("\x1bc\x1b[?3h\x1b[3g\x1b[1;5H\x1bH\x1b[?3l\x1b[1;5H" PLAIN SETS)),
     },
-    // another: it knew no stop past column 80, so none is there
     Row {
+        name: "width: a repaint of the time of 80 columns alone that knew no stop past column 80: none is there",
         input: b"\x1bc\x1b[3g\x1b[1;6H\x1bH\x1b[1;9H\x1bH\x1b[1;17H\x1bH\x1b[1;25H\x1bH\x1b[1;33H\x1bH\x1b[1;41H\x1bH\x1b[1;49H\x1bH\x1b[1;57H\x1bH\x1b[1;65H\x1bH\x1b[1;73H\x1bH\x1b[1;6H\x1b[0m\x1b[0\"q\x1b(B\x1b)B\x1b*<\x1b+<\x0f\x1b}",
         text: joined!(EMPTY 24),
         reports: b"",
@@ -148,5 +148,26 @@ pub(super) const ROWS: [Row; 10] = [
             "\x1b[1;33H\x1bH\x1b[1;41H\x1bH\x1b[1;49H\x1bH\x1b[1;57H\x1bH"
             "\x1b[1;65H\x1bH\x1b[1;73H\x1bH" "\x1b[?3l\x1b[1;6H" PLAIN SETS
         )),
+    },
+    Row {
+        name: "width: 132 columns are cleared",
+        input: b"A\x1b[?3hB",
+        text: joined!("B\n" EMPTY 23),
+        reports: b"",
+        repaint: Some(joined!("\x1bc\x1b[?3h" HEAD "\x1b[1;1H" PLAIN "B\x1b[1;2H" PLAIN SETS)),
+    },
+    Row {
+        name: "width: a change of columns makes full margins, and home is in row 1 under origin mode",
+        input: b"\x1b[5;10r\x1b[?6h\x1b[?3h",
+        text: joined!(EMPTY 24),
+        reports: b"",
+        repaint: Some(joined!("\x1bc\x1b[?3h\x1b[?6h\x1b[1;1H" PLAIN SETS)),
+    },
+    Row {
+        name: "width: a change to the same columns drops the saved wrap flag",
+        input: b"xxxxxxxxxxxxxxxxxxxxxxxxxxxxxxxxxxxxxxxxxxxxxxxxxxxxxxxxxxxxxxxxxxxxxxxxxxxxxxxx\x1b7\x1b[?3l",
+        text: joined!(EMPTY 24),
+        reports: b"",
+        repaint: Some(joined!("\x1bc\x1b[1;80H" PLAIN SETS "\x1b7\x1b[1;1H" PLAIN SETS)),
     },
 ];

@@ -1,10 +1,13 @@
 //! Reads and writes that are short or fail, and what a replay then answers and has written.
-use super::common::{LIMIT, Played};
 use std::alloc::Global;
 use std::process::Abort;
 use std::test::Fail;
 use vt_replay::{Fault, Watched, What, run};
+use vt_term::Terminal;
 use vt_vectors::{ShortReader, ShortWriter, vector, vector_count};
+
+/// The greatest input of the program, unless it is told another.
+const LIMIT: u64 = 268435456;
 
 /// Asks for both device attributes in the 8-bit form: ten bytes.
 const REQUESTS: &[u8] = b"\x1b G\x1b[c\x1b[>c";
@@ -158,9 +161,11 @@ fn the_table_of_devices_holds(rt: HostRuntime) -> Result<(), Fail> {
     Ok(())
 }
 
-/// Asserts that each read fails in turn: what was written is the reports of what was read, where they are asked for.
+/// Asserts that each read fails in turn: what was written is the reports of what was read, where they are asked for. The
+/// read after the one that gave no byte is never made.
 fn each_read_fails(rt: &impl Abort, alloc: Global, input: &[u8], what: What) -> Result<(), Fail> {
-    let mut read = Played::of(alloc, &[])?;
+    let mut terminal = Terminal::new(alloc)?;
+    let mut reports = Vec::new(alloc);
     for call in 0..input.len() + 1 {
         let replay = Replay {
             what,
@@ -169,19 +174,28 @@ fn each_read_fails(rt: &impl Abort, alloc: Global, input: &[u8], what: What) -> 
         };
         let (answer, written) = replayed(alloc, input, replay)?;
         assert_eq!(rt; answer, Err(Fault::Read), "read {call} of {input:?}");
-        if what == What::Reports {
-            assert_eq!(rt;
-                written.as_slice(),
-                read.reports.as_slice(),
-                "read {call} of {input:?}"
-            );
+        let due = if what == What::Reports {
+            reports.as_slice()
         } else {
-            assert!(rt; written.is_empty(), "read {call} of {input:?}");
-        }
+            b""
+        };
+        assert_eq!(rt; written.as_slice(), due, "read {call} of {input:?}");
         if let Some(byte) = input.get(call..call + 1) {
-            read.feed(byte)?;
+            terminal.feed(byte, &mut reports)?;
         }
     }
+    let replay = Replay {
+        what,
+        failing_read: Some(input.len().saturating_add(2)),
+        ..REPORTS
+    };
+    let (answer, _written) = replayed(alloc, input, replay)?;
+    let expected = if what == What::Repaint && !terminal.is_between() {
+        Err(Fault::Partial)
+    } else {
+        Ok(())
+    };
+    assert_eq!(rt; answer, expected, "the read after the end of {input:?}");
     Ok(())
 }
 

@@ -5,7 +5,7 @@ use Rattle.std.proofs.lemmas.List.Sums.{sum_by_more}
 use Rattle.std.proofs.Math.Seq.{take_all}
 use Rattle.std.proofs.lemmas.Bool.Decides.{nat_tests}
 use Rattle.vt_vectors.specs.declared.vectors.Row.{Row}
-use Rattle.vt_vectors.proofs.vectors.vector.Goals as goal
+use Rattle.vt_vectors.proofs.vectors.row_at.Goals as goal
 
 -- what is true of each is true of one
 all-at : {X : Type 0} (p : X → Bool) (xs : List X) (i : ℕ) (d : X) → i < length xs → list_all p xs ≡ true → p (get_or xs i d) ≡ true
@@ -31,6 +31,11 @@ lines-among : (subjects : List (Bor (List Row))) (k i : ℕ) (e : Bor (List Row)
 lines-among subjects k i e d there within all =
     let fits = among (λ row. count_by (λ b. b == 0x0A) row.text.now == 24) subjects k i e d there within all in grind (arith, nat_tests)
 
+named-among : (subjects : List (Bor (List Row))) (k i : ℕ) (e : Bor (List Row)) (d : Row) → k < length subjects → i < length (get_or subjects k e).now
+    → list_all (λ rows. list_all (λ row. nat_le 1 (length row.name.now)) rows.now) subjects ≡ true → 1 ≤ length (get_or (get_or subjects k e).now i d).name.now
+named-among subjects k i e d there within all =
+    let has = among (λ row. nat_le 1 (length row.name.now)) subjects k i e d there within all in grind (arith, nat_tests)
+
 -- one subject more is passed
 passed-more : {X : Type 0} (f : X → ℕ) (xs : List X) (k left i : ℕ) (d : X) → k < length xs → sum_by f (take k xs) + left ≡ i → f (get_or xs k d) ≤ left
     → sum_by f (take (k + 1) xs) + (left - f (get_or xs k d)) ≡ i
@@ -45,6 +50,7 @@ pub loop-rows-preserved : goal.loop-rows-preserved
 loop-rows-preserved c = record {
   all = c.loop-rows.invariant.all;
   passed = passed-more _ _ _ _ _ _ c.loop-rows-test.true c.loop-rows.invariant.passed c.if-left-rows.false;
+  named = c.loop-rows.invariant.named;
   short = c.loop-rows.invariant.short;
   lines = c.loop-rows.invariant.lines;
 }
@@ -52,16 +58,23 @@ loop-rows-preserved c = record {
 pub unreachable-requires : goal.unreachable-requires
 unreachable-requires c = not-past _ _ _ _ _ _ c.loop-rows-test.false c.loop-rows.invariant.all c.loop-rows.invariant.passed c.requires
 
+pub returns-then-left-rows-clause-named : goal.returns-then-left-rows-clause-named
+returns-then-left-rows-clause-named c =
+    let there = c.loop-rows-test.true in
+    let within = c.if-left-rows.true in
+    let named = c.loop-rows.invariant.named in
+    search (named-among, there, within, named)
+
 pub returns-then-left-rows-clause-short : goal.returns-then-left-rows-clause-short
 returns-then-left-rows-clause-short c =
     let there = c.loop-rows-test.true in
     let within = c.if-left-rows.true in
     let short = c.loop-rows.invariant.short in
-    rw c.vector.ensures.input (search (short-among, there, within, short))
+    search (short-among, there, within, short)
 
 pub returns-then-left-rows-clause-lines : goal.returns-then-left-rows-clause-lines
 returns-then-left-rows-clause-lines c =
     let there = c.loop-rows-test.true in
     let within = c.if-left-rows.true in
     let lines = c.loop-rows.invariant.lines in
-    rw c.vector.ensures.text (search (lines-among, there, within, lines))
+    search (lines-among, there, within, lines)

@@ -1,11 +1,13 @@
-//! What the program needs of a replay: the limit, the faults, and their lines.
+//! What the program needs of a replay: a writer that is full, and the lines of faults.
 ghost use Rattle.std.specs.Prelude.{◌≡◌, ◌≤◌, false};
 
-use super::common::LIMIT;
 use std::alloc::Global;
 use std::io::Write;
 use std::test::Fail;
 use vt_replay::{Fault, Watched, What, run};
+
+/// The greatest input of the program, unless it is told another.
+const LIMIT: u64 = 268435456;
 
 /// Asks for both device attributes in the 8-bit form.
 const REQUESTS: &[u8] = b"\x1b G\x1b[c\x1b[>c";
@@ -33,55 +35,6 @@ fn answer<W: Write>(
         piece.clamp(1, 65536),
         limit,
     )
-}
-
-#[test]
-fn limit_is_the_most_that_is_read(rt: HostRuntime) -> Result<(), Fail> {
-    let mut short = Watched::new(Vec::new(rt.alloc()));
-    let answered = answer(rt.alloc(), b"ABCD", &mut short, What::Text, 3, 3);
-    assert_eq!(rt; answered, Err(Fault::TooLong));
-    assert!(rt; short.into_inner().is_empty());
-    let mut whole = Watched::new(Vec::new(rt.alloc()));
-    let answered = answer(rt.alloc(), b"ABC", &mut whole, What::Text, 3, 3);
-    assert_eq!(rt; answered, Ok(()));
-    let text = whole.into_inner();
-    assert_eq!(rt;
-        text.as_slice(),
-        b"ABC\n\n\n\n\n\n\n\n\n\n\n\n\n\n\n\n\n\n\n\n\n\n\n\n".as_slice()
-    );
-    Ok(())
-}
-
-/// A limit, the answer, and how many bytes of the reports were written.
-const LIMITS: [(u64, Result<(), Fault>, usize); 4] = [
-    (5, Err(Fault::TooLong), 0),
-    (6, Err(Fault::TooLong), 9),
-    (9, Err(Fault::TooLong), 9),
-    (10, Ok(()), 18),
-];
-
-#[test]
-fn reports_are_written_before_the_next_read(rt: HostRuntime) -> Result<(), Fail> {
-    for (limit, expected, count) in LIMITS {
-        let mut writer = Watched::new(Vec::new(rt.alloc()));
-        assert!(rt; limit <= LIMIT);
-        let answered = answer(rt.alloc(), REQUESTS, &mut writer, What::Reports, 1, limit);
-        assert_eq!(rt; answered, expected);
-        let written = writer.into_inner();
-        assert_eq!(rt; Some(written.as_slice()), ANSWERS.get(..count));
-    }
-    Ok(())
-}
-
-#[test]
-fn no_repaint_inside_a_sequence(rt: HostRuntime) -> Result<(), Fail> {
-    for input in [b"A\x1b".as_slice(), b"\x1b[1;", b"\x1bPqabc"] {
-        let mut writer = Watched::new(Vec::new(rt.alloc()));
-        let answered = answer(rt.alloc(), input, &mut writer, What::Repaint, 2, LIMIT);
-        assert_eq!(rt; answered, Err(Fault::Partial));
-        assert!(rt; writer.into_inner().is_empty());
-    }
-    Ok(())
 }
 
 #[test]

@@ -1,0 +1,5 @@
+//! What no clause says of replays: short, full and failing devices, settings at work, and what a fault prints.
+mod devices;
+mod program;
+mod settings;
+mod short_devices;

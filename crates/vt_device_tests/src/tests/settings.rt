@@ -1,0 +1,66 @@
+//! What the words ask for, at work: the piece, the limit and the kind; and a read that is passed on whole.
+use std::alloc::Global;
+use std::test::Fail;
+use vt_replay::{Fault, Watched, replay, settings};
+use vt_vectors::ShortReader;
+
+/// A line of words, a call of the reader that fails, the answer, and the first line that is written.
+type Asked = (
+    &'static str,
+    Option<usize>,
+    Result<(), Fault>,
+    &'static [u8],
+);
+
+/// Each is played on `ABCDE`, which the reader gives as fast as it is asked.
+const ASKED: [Asked; 7] = [
+    ("vt220 text", None, Ok(()), b"ABCDE\n"),
+    ("vt220 status", None, Ok(()), b"cursor 1 6\n"),
+    // the limit
+    ("vt220 text --limit 4", None, Err(Fault::TooLong), b""),
+    ("vt220 text --limit 5", None, Ok(()), b"ABCDE\n"),
+    // pieces of two bytes take four reads, one of five takes two
+    ("vt220 text --piece 2", Some(4), Err(Fault::Read), b""),
+    ("vt220 text --piece 5", Some(2), Err(Fault::Read), b""),
+    ("vt220 text --piece 5", Some(3), Ok(()), b"ABCDE\n"),
+];
+
+/// What is answered and written for a line of words.
+fn replayed(
+    alloc: Global,
+    line: &str,
+    failing_read: Option<usize>,
+) -> Result<(Result<(), Fault>, Vec<u8>), Fail> {
+    let mut words = Vec::new(alloc);
+    for word in line.split(' ') {
+        words.push(String::from_str(alloc, word)?)?;
+    }
+    let asked = settings(alloc, words).map_err(|_| "refused words")?;
+    let mut reader = Watched::new(ShortReader::new(b"ABCDE", 100, failing_read));
+    let mut writer = Watched::new(Vec::new(alloc));
+    let answer = replay(alloc, &mut reader, &mut writer, &asked);
+    Ok((answer, writer.into_inner()))
+}
+
+#[test]
+fn settings_are_at_work(rt: HostRuntime) -> Result<(), Fail> {
+    for (line, failing_read, expected, first) in ASKED {
+        let (answer, written) = replayed(rt.alloc(), line, failing_read)?;
+        assert_eq!(rt; answer, expected, "{line}");
+        assert!(rt; written.as_slice().starts_with(first), "{line}");
+        assert_eq!(rt; written.is_empty(), first.is_empty(), "{line}");
+    }
+    Ok(())
+}
+
+#[test]
+fn a_read_is_passed_on_whole(rt: HostRuntime) -> Result<(), Fail> {
+    let mut reader = Watched::new(ShortReader::new(b"ABCDE", 100, None));
+    let mut buffer = [0u8; 5];
+    assert_eq!(rt; reader.read(&mut buffer)?, 5);
+    assert_eq!(rt; buffer, *b"ABCDE");
+    assert!(rt; !reader.ended());
+    assert_eq!(rt; reader.read(&mut buffer)?, 0);
+    assert!(rt; reader.ended());
+    Ok(())
+}

@@ -10,3 +10,4 @@ pub mod EventSpelling
 pub mod EventRanges
 pub mod PlainRuns
 pub mod SilentBytes
+pub mod WholeSequences

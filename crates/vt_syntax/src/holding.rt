@@ -14,94 +14,28 @@ pub(crate) fn hold_run(held: &mut Held, piece: &[u8]) -> usize
     ensures holds { run held.old (take result piece.now) ≡ step_to held.new [] }
     ensures stops { result < length piece.now → is_silent (step_of held.new (slice_index piece.now result)) ≡ false }
 {
-    let mut at = hold_introduced(held, piece);
+    let mut at = 0;
     while at < piece.len() {
         if !hold_byte(held, piece[at]) {
             return at;
         }
         at += 1;
-        at += hold_inside(held, &piece[at..]);
+        at += hold_text(held, &piece[at..]);
     }
     at
 }
 
-/// Takes ESC, `[` and the values after it at the front of a piece, between sequences.
-#[inline(always)]
-fn hold_introduced(held: &mut Held, piece: &[u8]) -> usize
-    ensures within { result ≤ length piece.now }
-    ensures holds { run held.old (take result piece.now) ≡ step_to held.new [] }
-{
-    let introducer = hold_introducer(held, piece);
-    introducer + hold_inside(held, &piece[introducer..])
-}
-
-/// Takes ESC and `[` at the front of a piece, between sequences.
-#[inline(always)]
-#[tactic(auto, using(crate::proofs::SilentBytes::introducer))]
-fn hold_introducer(held: &mut Held, piece: &[u8]) -> usize
-    ensures within { result ≤ length piece.now }
-    ensures holds { run held.old (take result piece.now) ≡ step_to held.new [] }
-{
-    match (&*held, piece) {
-        (Held::Nothing, [0x1B, 0x5B, ..]) => {
-            *held = control_sequence();
-            2
-        }
-        _ => 0,
-    }
-}
-
-/// Takes the values at the front of a piece in a control sequence, and the content in a string: none, some or all of the
-/// bytes that give no event.
+/// Takes the content at the front of a piece, in a string: all of it or a part.
 #[inline(always)]
 #[tactic(auto, unfolding(crate::specs::Steps::run))]
-fn hold_inside(held: &mut Held, piece: &[u8]) -> usize
+fn hold_text(held: &mut Held, piece: &[u8]) -> usize
     ensures within { result ≤ length piece.now }
     ensures holds { run held.old (take result piece.now) ≡ step_to held.new [] }
 {
     match held {
-        Held::Control {
-            params,
-            full: false,
-            phase,
-            ..
-        } if !matches!(phase, Phase::Inter(_)) => hold_values(params, phase, piece),
         Held::Text { osc } => content_len(*osc, piece),
         _ => 0,
     }
-}
-
-/// Takes the digits and `;` at the front of a piece, but no 17th value. The value that grows is kept out of the list.
-#[inline(always)]
-fn hold_values(params: &mut ArrayVec<u16, 16>, phase: &mut Phase, piece: &[u8]) -> usize
-    requires { IsEarly phase.old }
-    ensures within { result ≤ length piece.now }
-    ensures holds { (marker : Option ℕ)
-        → run (Held.Control marker params.old false phase.old) (take result piece.now)
-        ≡ step_to (Held.Control marker params.new false phase.new) [] }
-{
-    // That there are at most 16, for the proof.
-    let _ = params.len();
-    let Some(mut value) = params.pop() else {
-        return 0;
-    };
-    let mut at = 0;
-    while at < piece.len() {
-        match piece[at] {
-            b @ b'0'..=b'9' => value = with_digit(value, b),
-            b';' if params.len() < 15 => {
-                params.push(value);
-                value = 0;
-            }
-            _ => break,
-        }
-        at += 1;
-    }
-    params.push(value);
-    if at > 0 {
-        *phase = Phase::Values;
-    }
-    at
 }
 
 /// How many bytes at the front of a piece are content of a string.

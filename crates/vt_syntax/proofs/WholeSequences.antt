@@ -17,7 +17,7 @@ use Rattle.vt_syntax.specs.declared.class.Class.TheVariants.{Parameter, Intermed
 use Rattle.vt_syntax.specs.Class.{class_of}
 use Rattle.vt_syntax.specs.Held.{IsEnding, ended_by, phase_inter}
 use Rattle.vt_syntax.specs.Steps.{step_to, step_of, step_between, opened_by, with_digit, IsEarly, run}
-use Rattle.vt_syntax.specs.Whole.{IsWhole, AreRead, marker_phase, begun, phase_with}
+use Rattle.vt_syntax.specs.Whole.{IsWhole, AreRead, marker_phase, begun}
 use Rattle.vt_syntax.proofs.Classes.{class_parameter, class_intermediate}
 use Rattle.vt_syntax.proofs.Cutting.{run_append}
 use Rattle.vt_syntax.proofs.Steps.{step_final}
@@ -70,14 +70,6 @@ pub run_marker : (piece : List ℕ) (at : ℕ) → at < length piece → 0x3C �
 run_marker piece at inside low high so_far =
     run_more Nothing (opened_by 0x9B) (begun (Some (get_or piece at 0))) piece at inside so_far (marker_step (get_or piece at 0) low high)
 
--- an intermediate after the values
-pub run_intermediate : (marker : Option ℕ) (values : List ℕ) (piece : List ℕ) (at : ℕ)
-    → at < length piece → 0x20 ≤ get_or piece at 0 → get_or piece at 0 < 0x30 → (read : AreRead piece at marker values)
-    → run Nothing (take (at + 1) piece) ≡ step_to (Control marker (record { items = values }) false (Inter (get_or piece at 0))) []
-run_intermediate marker values piece at inside low high read =
-    run_more Nothing (Control marker (record { items = values }) false read.phase) (Control marker (record { items = values }) false (Inter (get_or piece at 0)))
-    piece at inside read.reads (inter_step marker (record { items = values }) read.phase (get_or piece at 0) read.early low high)
-
 -- ---- values
 
 early_marker : (marker : Option ℕ) → IsEarly (marker_phase marker)
@@ -115,24 +107,36 @@ read_separator piece at marker xs v read inside is few = record {
       (rw is (separator_step marker xs v read.phase read.early few));
 }
 
--- which intermediate has come
-pub inter_of_phase : (inter : Option ℕ) (phase : Phase) → IsEarly phase → phase_inter (phase_with inter phase) ≡ inter
-inter_of_phase (Some i) phase early = refl
-inter_of_phase None Start early = refl
-inter_of_phase None Values early = refl
-inter_of_phase None (Inter i) early = absurd early
+-- no intermediate has come
+early_inter : (phase : Phase) → IsEarly phase → phase_inter phase ≡ None
+early_inter Start early = refl
+early_inter Values early = refl
+early_inter (Inter i) early = absurd early
 
--- marker, values, intermediate and final byte
-pub run_control : (piece values : List ℕ) (marker inter : Option ℕ) (at end : ℕ) (read : AreRead piece at marker values)
-    → run Nothing (take end piece) ≡ step_to (Control marker (record { items = values }) false (phase_with inter read.phase)) []
-    → end < length piece → 0x40 ≤ get_or piece end 0 → get_or piece end 0 < 0x7F
-    → IsWhole piece values (end + 1) (kind.Sequence marker inter (get_or piece end 0))
-run_control piece values marker inter at end read with inside low high =
-    let ended = run_last Nothing (Control marker (record { items = values }) false (phase_with inter read.phase)) piece end inside with (low, omega arith) in
+-- a final byte after the values
+pub run_control : (piece values : List ℕ) (marker : Option ℕ) (at : ℕ) → AreRead piece at marker values
+    → at < length piece → 0x40 ≤ get_or piece at 0 → get_or piece at 0 < 0x7F
+    → IsWhole piece values (at + 1) (kind.Sequence marker None (get_or piece at 0))
+run_control piece values marker at read inside low high = record {
+  some = omega arith;
+  within = omega arith;
+  reads = run_last Nothing (Control marker (record { items = values }) false read.phase) piece at inside read.reads (low, omega arith)
+      ∙ ap (λ (i : Option ℕ). step_to Nothing (event.Sequence marker (record { items = values }) i (get_or piece at 0) ∷ [])) (early_inter read.phase read.early);
+}
+
+-- an intermediate and a final byte after the values
+pub run_control_with : (piece values : List ℕ) (marker : Option ℕ) (at : ℕ) → AreRead piece at marker values
+    → at + 2 ≤ length piece → 0x20 ≤ get_or piece at 0 → get_or piece at 0 < 0x30 → 0x40 ≤ get_or piece (at + 1) 0 → get_or piece (at + 1) 0 < 0x7F
+    → IsWhole piece values (at + 2) (kind.Sequence marker (Some (get_or piece at 0)) (get_or piece (at + 1) 0))
+run_control_with piece values marker at read inside low high low2 high2 =
+    let inter : Held = Control marker (record { items = values }) false (Inter (get_or piece at 0)) in
+    let reads = run_more Nothing (Control marker (record { items = values }) false read.phase) inter piece at (omega arith) read.reads
+    (inter_step marker (record { items = values }) read.phase (get_or piece at 0) read.early low high) in
+    let two : at + 2 ≡ at + 1 + 1 = omega arith in
     record {
       some = omega arith;
-      within = omega arith;
-      reads = ended ∙ ap (λ (i : Option ℕ). step_to Nothing (event.Sequence marker (record { items = values }) i (get_or piece end 0) ∷ [])) (inter_of_phase inter read.phase read.early);
+      within = inside;
+      reads = rw two (run_last Nothing inter piece (at + 1) (omega arith) reads (low2, omega arith));
     }
 
 -- a byte by itself

@@ -4,7 +4,7 @@ use Rattle.vt_syntax.specs.declared.event.EventKind.{EventKind}
 use Rattle.vt_syntax.specs.declared.held.Held.{Held}
 use Rattle.vt_syntax.specs.declared.held.Held.TheVariants.{Nothing, Control}
 use Rattle.vt_syntax.specs.declared.held.Phase.{Phase}
-use Rattle.vt_syntax.specs.declared.held.Phase.TheVariants.{Start, Values, Inter}
+use Rattle.vt_syntax.specs.declared.held.Phase.TheVariants.{Start, Values}
 use Rattle.vt_syntax.specs.Event.{event_of}
 use Rattle.vt_syntax.specs.Steps.{step_to, IsEarly, run}
 
@@ -29,8 +29,3 @@ pub record AreRead (piece : List ℕ) (at : ℕ) (marker : Option ℕ) (values :
   pub phase : Phase
   pub early : IsEarly phase
   pub reads : run Nothing (take at piece) ≡ step_to (Control marker (record { items = values }) false phase) []
-
--- the phase after an intermediate, or none
-abbrev pub phase_with : Option ℕ → Phase → Phase
-phase_with None phase = phase
-phase_with (Some i) phase = Inter i

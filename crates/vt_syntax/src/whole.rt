@@ -6,7 +6,7 @@ ghost use Rattle.std.specs.Bool.{OnTrue};
 ghost use Rattle.vt_syntax.specs.Event.{event_of};
 ghost use Rattle.vt_syntax.specs.Held.{IsEnding, ended_by};
 ghost use Rattle.vt_syntax.specs.Steps.{step_to, step_between, opened_by, is_silent, run};
-ghost use Rattle.vt_syntax.specs.Whole.{IsWhole, AreRead, begun, phase_with};
+ghost use Rattle.vt_syntax.specs.Whole.{IsWhole, AreRead, begun};
 
 use crate::event::EventKind;
 use crate::parser::alone;
@@ -22,11 +22,11 @@ pub(crate) fn whole_event(piece: &[u8], values: &mut Values) -> Option<(usize, E
     if piece.len() < 2 {
         return None;
     }
+    if is_introducer(piece[0], piece[1]) {
+        return whole_control(piece, 2, values);
+    }
     let first = piece[0];
     if first == 0x1B {
-        if piece[1] == b'[' {
-            return whole_control(piece, 2, values);
-        }
         return whole_escape(piece);
     }
     if stands_alone(first) {
@@ -36,6 +36,14 @@ pub(crate) fn whole_event(piece: &[u8], values: &mut Values) -> Option<(usize, E
         return whole_control(piece, 1, values);
     }
     None
+}
+
+/// Whether two bytes are ESC and `[`, which introduce a control sequence: one comparison of both.
+#[inline(always)]
+fn is_introducer(first: u8, second: u8) -> bool
+    ensures { OnTrue result ((first ≡ 0x1B) × (second ≡ 0x5B)) }
+{
+    first as u16 + 256 * second as u16 == 0x5B1B
 }
 
 /// Whether a byte between sequences is an event by itself: it opens nothing, and isn't CAN or DEL.
@@ -59,11 +67,11 @@ fn whole_control(piece: &[u8], from: usize, values: &mut Values) -> Option<(usiz
 {
     let (marker, start) = marker_at(piece, from);
     let at = read_values(piece, start, marker, values)?;
-    let (inter, end) = intermediate_at(piece, at);
-    if end < piece.len() && 0x40 <= piece[end] && piece[end] < 0x7F {
-        let last = piece[end];
+    let last = piece[at];
+    if 0x40 <= last && last < 0x7F {
+        let inter = None;
         return Some((
-            end + 1,
+            at + 1,
             EventKind::Sequence {
                 marker,
                 inter,
@@ -71,7 +79,36 @@ fn whole_control(piece: &[u8], from: usize, values: &mut Values) -> Option<(usiz
             },
         ));
     }
-    None
+    whole_control_with(piece, at, marker, values)
+}
+
+/// A control sequence with an intermediate at `at`, behind its values.
+#[inline(never)]
+fn whole_control_with(
+    piece: &[u8],
+    at: usize,
+    marker: Option<u8>,
+    values: &Values,
+) -> Option<(usize, EventKind)>
+    requires { AreRead piece.now at marker values.now }
+    ensures { IfSome result (λ t. IsWhole piece.now values.now t.0 t.1) }
+{
+    if at + 2 > piece.len() || piece[at] < 0x20 || 0x30 <= piece[at] {
+        return None;
+    }
+    let last = piece[at + 1];
+    if last < 0x40 || 0x7F <= last {
+        return None;
+    }
+    let inter = Some(piece[at]);
+    Some((
+        at + 2,
+        EventKind::Sequence {
+            marker,
+            inter,
+            last,
+        },
+    ))
 }
 
 /// The marker at a place, and the place behind it.
@@ -95,7 +132,7 @@ fn marker_at(piece: &[u8], from: usize) -> (Option<u8>, usize)
 fn read_values(piece: &[u8], start: usize, marker: Option<u8>, values: &mut Values) -> Option<usize>
     requires within { start ≤ length piece.now }
     requires begun { run Nothing (take start piece.now) ≡ step_to (begun marker) [] }
-    ensures { IfSome result (λ at. AreRead piece.now at marker values.new) }
+    ensures { IfSome result (λ at. (at < length piece.now) × AreRead piece.now at marker values.new) }
 {
     values.clear();
     let mut at = start;
@@ -140,21 +177,6 @@ fn digit(b: u8) -> Option<u16>
         Some((b - b'0') as u16)
     } else {
         None
-    }
-}
-
-/// The intermediate at a place, and the place behind it.
-#[inline(always)]
-fn intermediate_at(piece: &[u8], at: usize) -> (Option<u8>, usize)
-    requires { at ≤ length piece.now }
-    ensures within { result.1 ≤ length piece.now }
-    ensures reads { (marker : Option ℕ) (values : List ℕ) → (read : AreRead piece.now at marker values)
-        → run Nothing (take result.1 piece.now) ≡ step_to (Control marker (record { items = values }) false (phase_with result.0 read.phase)) [] }
-{
-    if at < piece.len() && 0x20 <= piece[at] && piece[at] < 0x30 {
-        (Some(piece[at]), at + 1)
-    } else {
-        (None, at)
     }
 }
 

@@ -17,7 +17,7 @@ ghost use Rattle.vt_term.specs.Text.{text};
 ghost use Rattle.vt_term.specs.Runs.{WritesAscii};
 
 use crate::display::{Display, ROWS, STOPS};
-use crate::graphics::{graphic_run, right_half_at};
+use crate::graphics::{graphic_run, has_glyph, right_half_at};
 use crate::laws::cuts;
 use crate::state::{Cursor, Margins, Modes, Saved};
 use crate::text::push_line;
@@ -113,7 +113,8 @@ impl Terminal {
     }
 
     /// Plays the front of a piece that isn't empty, and answers how many bytes that is: between sequences a run of plain
-    /// bytes that are written at once, or CR or LF; else as far as the first event.
+    /// bytes that are written at once, or CR, and LF after it; else as far as the first event.
+    #[inline(always)]
     fn feed_front(&mut self, piece: &[u8], values: &mut Values, out: &mut Vec<u8>) -> usize
         requires some { 1 ≤ length piece.now }
         requires room { vec_len out.old + 10 * length piece.now ≤ vec_capacity out.old }
@@ -124,17 +125,13 @@ impl Terminal {
         ensures bounded { vec_len out.new ≤ vec_len out.old + 10 * result }
         ensures capacity { vec_capacity out.old ≤ vec_capacity out.new }
     {
-        let byte = piece[0];
         if self.parser.is_between() {
-            match byte {
-                0x20..=0x7E | 0xA1..=0xFE => return self.feed_graphics(piece),
-                // CR and LF have arms of their own, so that each is compiled in its place.
-                0x0D => return self.feed_carriage_return(piece),
-                0x0A => {
-                    self.feed_control(byte);
-                    return 1;
-                }
-                _ => {}
+            let byte = piece[0];
+            if has_glyph(byte) {
+                return self.feed_graphics(piece);
+            }
+            if byte == 0x0D {
+                return self.feed_carriage_return(piece);
             }
         }
         self.feed_event(piece, values, out)
@@ -236,6 +233,7 @@ impl Terminal {
     /// A run of plain bytes.
     fn feed_run(&mut self, run: &[u8])
         requires plain { All IsPlain run.now }
+        requires some { 1 ≤ length run.now }
         requires between { self.old.held ≡ Nothing }
         requires writes { WritesAscii self.old.display }
         ensures state { self.new ≡ (play self.old run.now).state }
@@ -249,6 +247,7 @@ impl Terminal {
     /// A run of graphic bytes, where the sets in GL and GR are read.
     fn feed_in_use(&mut self, run: &[u8])
         requires graphic { All HasGlyph run.now }
+        requires some { 1 ≤ length run.now }
         requires between { self.old.held ≡ Nothing }
         requires writes { (self.old.display.sets.pending ≡ None) × (self.old.display.modes.irm ≡ false) }
         ensures state { self.new ≡ (play self.old run.now).state }

@@ -11,7 +11,7 @@ loop-at-init c = record {
 
 pub returns-then-piece-end-ne59 : goal.returns-then-piece-end-ne59
 returns-then-piece-end-ne59 c =
-    rw c.push.ensures (c.read_value-value.ensures.reads c.args.marker c.loop-at.values (c.loop-at.invariant.reads (omega arith)))
+    (omega arith, rw c.push.ensures (c.read_value-value.ensures.reads c.args.marker c.loop-at.values (c.loop-at.invariant.reads (omega arith))))
 
 pub loop-at-preserved : goal.loop-at-preserved
 loop-at-preserved c = record {

@@ -1,15 +1,9 @@
 //! The terminal: bytes in; a state and report bytes out.
-ghost use Rattle.std.specs.Prelude.{◌≡◌, ◌↔◌, ◌+◌, ◌*◌, ◌≤◌, ◌<◌, ◌++◌, ◌∷◌, [], All, IsTrue, false, length, take, slice_index, vec_len, vec_capacity, IfOk, OnOk, OnErr, IsOk};
+ghost use Rattle.std.specs.Prelude.{◌≡◌, ◌+◌, ◌*◌, ◌≤◌, ◌<◌, ◌++◌, ◌∷◌, [], All, false, length, take, slice_index, vec_len, vec_capacity, IfOk, OnOk, OnErr, IsOk};
 ghost use Rattle.vt_glyph.specs.Invocation.{HasGlyph};
-ghost use Rattle.vt_syntax.specs.declared.held.Held.TheVariants.{Nothing, Escape};
-ghost use Rattle.vt_syntax.specs.Class.{is_opener, IsPlain};
-ghost use Rattle.vt_syntax.specs.Held.{IsEnding};
-ghost use Rattle.vt_syntax.specs.declared.held.Inters.TheVariants.{Zero};
-ghost use Rattle.vt_syntax.specs.declared.event.Event.TheVariants.{Control};
-ghost use Rattle.vt_syntax.specs.Reading.{single_function};
-ghost use Rattle.std.specs.Bool.{OnTrue};
+ghost use Rattle.vt_syntax.specs.declared.held.Held.TheVariants.{Nothing};
+ghost use Rattle.vt_syntax.specs.Class.{IsPlain};
 ghost use Rattle.vt_syntax.specs.Spelling.{IsGraphic};
-ghost use Rattle.vt_screen.specs.Grid.{row_of, last_row};
 ghost use Rattle.vt_term.specs.State.{power_up};
 ghost use Rattle.vt_term.specs.Sound.{IsSound};
 ghost use Rattle.vt_term.specs.Play.{play};

@@ -6,5 +6,6 @@ pub mod Reading
 pub mod Held
 pub mod Spelling
 pub mod Steps
+pub mod Content
 pub mod Whole
 pub mod Laws

@@ -5,6 +5,7 @@ ghost use Rattle.vt_syntax.specs.Class.{class_of as byte_class};
 ghost use Rattle.vt_syntax.specs.Steps.{step_to, step_of, step_between, step_value, with_digit, step_string, InSequence, InControl, IsEarly, run, is_silent, held_silently, opened_by as opened_part};
 
 use crate::class::{Class, class_of};
+use crate::content::content_len;
 use crate::held::{Held, Inters, Phase};
 use arrayvec::ArrayVec;
 
@@ -33,35 +34,8 @@ fn hold_text(held: &mut Held, piece: &[u8]) -> usize
     ensures holds { run held.old (take result piece.now) ≡ step_to held.new [] }
 {
     match held {
-        Held::Text { osc } => content_len(*osc, piece),
+        Held::Text { .. } => content_len(piece),
         _ => 0,
-    }
-}
-
-/// How many bytes at the front of a piece are content of a string.
-#[inline(always)]
-#[tactic(auto, using(crate::proofs::SilentBytes::run_content), unfolding(crate::specs::Steps::run))]
-fn content_len(osc: bool, piece: &[u8]) -> usize
-    ensures within { result ≤ length piece.now }
-    ensures content { run (Held.Text osc) (take result piece.now) ≡ step_to (Held.Text osc) [] }
-{
-    let mut at = 0;
-    while at < piece.len() && is_content(osc, piece[at]) {
-        at += 1;
-    }
-    at
-}
-
-/// Whether a byte is content of a string.
-#[inline(always)]
-#[tactic(auto, using(crate::proofs::Classes::class_tests), unfolding(crate::specs::Items::ends_string))]
-fn is_content(osc: bool, b: u8) -> bool
-    ensures { OnTrue result (step_string osc b ≡ step_to (Held.Text osc) []) }
-{
-    if b >= 0x20 {
-        b != 0x9C
-    } else {
-        !matches!(b, 0x18 | 0x1A | 0x1B) && !(osc && b == 0x07)
     }
 }
 

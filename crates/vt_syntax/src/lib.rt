@@ -7,6 +7,7 @@
 #![tactic(auto)]
 
 mod class;
+mod content;
 mod event;
 mod held;
 mod holding;

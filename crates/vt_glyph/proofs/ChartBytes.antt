@@ -1,9 +1,12 @@
 -- The charts of the sets in GL and GR.
-use Rattle.std.proofs.Common.{◌≡◌, ℕ, ◌%◌, ◌-◌, ◌≤◌, Bool, true, false, inl, inr, eqb, ltb, arith, refl, sym, ap, subst, ◌∙◌}
+use Rattle.std.proofs.Common.{◌≡◌, ℕ, [], ◌++◌, length, ◌%◌, ◌-◌, ◌≤◌, Bool, true, false, inl, inr, eqb, ltb, arith, refl, sym, ap, subst, ◌∙◌}
 use Rattle.std.specs.Prelude.{slice_index, if◌then◌else◌}
 use Rattle.std.proofs.lemmas.Bool.{eqb-true}
+use Rattle.std.proofs.Math.ListN.{get_or-append}
+use Rattle.std.proofs.lemmas.List.{get_or-append_right}
 use Rattle.std.proofs.lemmas.Bool.Decides.{nat_tests}
 use Rattle.vt_glyph.specs.declared.set.Set.{Set}
+use Rattle.vt_glyph.specs.declared.set.Set.TheVariants.{Ascii, British, German, Special, Supplemental}
 use Rattle.vt_glyph.specs.Tables.{glyph_of, space, IsGlyph}
 use Rattle.vt_glyph.specs.Encoding.{encoded_glyph, encodings, IsEncoding}
 use Rattle.vt_glyph.specs.Invocation.{InUseTable, HasGlyph, glyph_in_use}
@@ -12,7 +15,28 @@ use Rattle.vt_glyph.proofs.Glyphs.{IsEncoding-table_entry, encoded_glyph-table_e
 
 -- a byte of a chart, that of a code from 20 to 7E
 abbrev pub chart_byte : Set → ℕ → ℕ
-chart_byte set code = slice_index (encodings set) (code - 0x20)
+chart_byte set code = slice_index (encodings set) code
+
+-- a byte in the chart of two sets
+half_length : (set : Set) → length (encodings set) ≡ 0x80
+half_length Ascii = refl
+half_length British = refl
+half_length German = refl
+half_length Special = refl
+half_length Supplemental = refl
+
+pub both_halves : (left right : Set) (b : ℕ) → HasGlyph b
+    → slice_index (encodings left ++ (encodings right ++ [])) b ≡ chart_byte (if ltb b 0x80 then left else right) (b % 0x80)
+both_halves left right b (inl h) =
+    let test : ltb b 0x80 ≡ true = grind (arith, nat_tests) in
+    let code : b % 0x80 ≡ b = omega arith in
+    rw (test, code) (get_or-append (encodings left) (encodings right ++ []) 0 b (omega (arith, half_length left)))
+both_halves left right b (inr h) =
+    let test : ltb b 0x80 ≡ false = grind (arith, nat_tests) in
+    let code : b % 0x80 ≡ b - 0x80 = omega arith in
+    rw (test, code)
+    (get_or-append_right (encodings left) (encodings right ++ []) 0x80 b 0 (half_length left) (omega arith)
+    ∙ get_or-append (encodings right) [] 0 (b - 0x80) (omega (arith, half_length right)))
 
 -- the byte encodes a glyph
 pub record Encodes (byte n : ℕ) : Type 0 where

@@ -1,5 +1,5 @@
 -- The tables, checked entry by entry, by computing.
-use Rattle.std.proofs.Common.{◌≡◌, ℕ, ◌-◌, Bool, true, false, not, refl, ◌==◌, ◌&&◌, ◌||◌}
+use Rattle.std.proofs.Common.{◌≡◌, ℕ, Bool, true, false, not, refl, ◌==◌, ◌&&◌, ◌||◌}
 use Rattle.std.specs.Prelude.{nat_le, slice_index}
 use Rattle.std.specs.List.{range_with_len, list_all}
 use Rattle.vt_glyph.specs.declared.set.Set.{Set}
@@ -43,7 +43,7 @@ spells Special = refl
 spells Supplemental = refl
 
 -- the code's tables encode the glyphs of the charts
-pub tables : (set : Set) → list_all (λ code. slice_index (encodings set) (code - 0x20) == encoding_of (glyph_of set code)) graphic_codes ≡ true
+pub tables : (set : Set) → list_all (λ code. slice_index (encodings set) code == encoding_of (glyph_of set code)) graphic_codes ≡ true
 unfolding glyph_of spelling_of encoding_of
 tables Ascii = refl
 tables British = refl
@@ -52,7 +52,7 @@ tables Special = refl
 tables Supplemental = refl
 
 -- and the space before them
-pub table_space : (set : Set) → slice_index (encodings set) 0 ≡ 0x20
+pub table_space : (set : Set) → slice_index (encodings set) 0x20 ≡ 0x20
 table_space Ascii = refl
 table_space British = refl
 table_space German = refl

@@ -1,5 +1,5 @@
 -- Each glyph, its spelling and its encoding.
-use Rattle.std.proofs.Common.{◌≡◌, ℕ, ◌-◌, ◌≤◌, ◌<◌, Bool, true, false, ◌&&◌, ◌||◌, not, arith, sym, ap, subst, ◌∙◌}
+use Rattle.std.proofs.Common.{◌≡◌, ℕ, ◌≤◌, ◌<◌, Bool, true, false, ◌&&◌, ◌||◌, not, arith, sym, ap, subst, ◌∙◌}
 use Rattle.std.specs.Prelude.{nat_le, slice_index, ◌==◌}
 use Rattle.std.specs.List.{list_all}
 use Rattle.std.proofs.lemmas.Bool.{eqb-true}
@@ -82,15 +82,15 @@ pub IsGlyph-glyph_of : (set : Set) (code : ℕ) → 0x21 ≤ code → code ≤ 0
 IsGlyph-glyph_of set code low high = all_in_range (λ k. is_glyph (glyph_of set k)) 0x21 94 code (charts.glyphs set) low (omega arith)
 
 -- the table's byte encodes what the set shows
-pub table_entry : (set : Set) (code : ℕ) → 0x21 ≤ code → code ≤ 0x7E → slice_index (encodings set) (code - 0x20) ≡ encoding_of (glyph_of set code)
+pub table_entry : (set : Set) (code : ℕ) → 0x21 ≤ code → code ≤ 0x7E → slice_index (encodings set) code ≡ encoding_of (glyph_of set code)
 table_entry set code low high =
-    eqb-true _ _ (all_in_range (λ k. slice_index (encodings set) (k - 0x20) == encoding_of (glyph_of set k)) 0x21 94 code (charts.tables set) low (omega arith))
+    eqb-true _ _ (all_in_range (λ k. slice_index (encodings set) k == encoding_of (glyph_of set k)) 0x21 94 code (charts.tables set) low (omega arith))
 
-pub IsEncoding-table_entry : (set : Set) (code : ℕ) → 0x21 ≤ code → code ≤ 0x7E → IsEncoding (slice_index (encodings set) (code - 0x20))
+pub IsEncoding-table_entry : (set : Set) (code : ℕ) → 0x21 ≤ code → code ≤ 0x7E → IsEncoding (slice_index (encodings set) code)
 IsEncoding-table_entry set code low high =
     subst IsEncoding (sym (table_entry set code low high)) (IsEncoding-encoding_of _ (IsGlyph-glyph_of set code low high))
 
-pub encoded_glyph-table_entry : (set : Set) (code : ℕ) → 0x21 ≤ code → code ≤ 0x7E → encoded_glyph (slice_index (encodings set) (code - 0x20)) ≡ glyph_of set code
+pub encoded_glyph-table_entry : (set : Set) (code : ℕ) → 0x21 ≤ code → code ≤ 0x7E → encoded_glyph (slice_index (encodings set) code) ≡ glyph_of set code
 encoded_glyph-table_entry set code low high =
     ap encoded_glyph (table_entry set code low high) ∙ encoded_glyph-encoding_of _ (IsGlyph-glyph_of set code low high)
 

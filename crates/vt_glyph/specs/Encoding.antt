@@ -36,7 +36,7 @@ pub record IsEncoding (byte : ℕ) : Type 0 where
   pub glyph : IsGlyph (encoded_glyph byte)
   pub spelling : spelling_of (encoded_glyph byte) ≡ encoded_spelling byte
 
--- the encodings of a set's glyphs, by their codes from 20 on; 20 is the space in every set
+-- the encodings of a set's glyphs, by their codes; 20 is the space in every set
 abbrev pub encodings : Set → List ℕ
 encodings Ascii = ASCII
 encodings British = BRITISH

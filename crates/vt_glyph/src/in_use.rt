@@ -1,22 +1,21 @@
 //! The sets in GL and GR, for runs of graphic bytes.
 use crate::glyph::Glyph;
-use crate::set::Set;
+use crate::set::{Set, halves};
 use std::marker::Model;
 
 /// The in-use table: the sets in GL and GR, through which graphic bytes are read where no single shift is pending.
 /// (VT220 manual, chapter 4)
 ///
-/// It has their charts at hand, so that a run of bytes is read without looking the sets up again.
+/// It has their chart of both halves at hand, so that a byte of a run is read by one look-up.
 #[derive(Debug, Drop)]
 pub struct InUse {
     left: Set,
     right: Set,
-    left_chart: &'static [u8; 95],
-    right_chart: &'static [u8; 95],
+    chart: &'static [[u8; 128]; 2],
 }
 
 impl Model for InUse {
-    ghost use Rattle.std.specs.Prelude.{◌≡◌};
+    ghost use Rattle.std.specs.Prelude.{◌≡◌, [], ◌∷◌};
     ghost use Rattle.vt_glyph.specs.Encoding.{encodings};
     ghost use Rattle.vt_glyph.specs.Invocation.{InUseTable};
 
@@ -24,7 +23,7 @@ impl Model for InUse {
 
     ghost view = { λ table. record { left = table.left; right = table.right } };
 
-    ghost invariant = { λ table. (table.left_chart.now ≡ encodings table.left) × (table.right_chart.now ≡ encodings table.right) };
+    ghost invariant = { λ table. table.chart.now ≡ encodings table.left ∷ encodings table.right ∷ [] };
 }
 
 impl InUse {
@@ -39,22 +38,18 @@ impl InUse {
         InUse {
             left,
             right,
-            left_chart: left.encodings(),
-            right_chart: right.encodings(),
+            chart: halves(left, right),
         }
     }
 
     /// The glyph of a byte from 20 to 7E, or from A1 to FE. 20 is the space, whatever the sets.
+    #[inline(always)]
     pub fn glyph(&self, b: u8) -> Glyph
         requires { HasGlyph b }
         ensures value { result ≡ glyph_in_use self.now b }
         ensures is_glyph { IsGlyph result }
     {
-        let chart = if b < 0x80 {
-            self.left_chart
-        } else {
-            self.right_chart
-        };
-        Glyph::encoded(chart[(b % 0x80 - 0x20) as usize])
+        let chart = self.chart;
+        Glyph::encoded(chart.as_flattened()[b as usize])
     }
 }

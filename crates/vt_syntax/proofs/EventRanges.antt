@@ -11,6 +11,8 @@ use Rattle.vt_syntax.specs.declared.class.Class.{Class}
 use Rattle.vt_syntax.specs.declared.class.Class.TheVariants.{Quiet, Cancel, Intermediate, Parameter, Final}
 use Rattle.vt_syntax.specs.declared.event.Event.{Event}
 use Rattle.vt_syntax.specs.declared.event.Event.TheVariants.{Print, Control, Escape, Sequence}
+use Rattle.vt_syntax.specs.declared.event.EventKind.{EventKind}
+use Rattle.vt_syntax.specs.Event.{event_of, event_in}
 use Rattle.vt_syntax.specs.declared.held.Inters.{Inters}
 use Rattle.vt_syntax.specs.declared.held.Inters.TheVariants.{Zero, One, Many}
 use Rattle.vt_syntax.specs.Class.{class_of, is_quiet_class, is_parameter, is_opener}
@@ -240,3 +242,8 @@ pub is_event : (bytes : List ℕ) (event : Option Event) → option_to_list even
 is_event bytes None e = tt
 is_event bytes (Some event) e =
     All-head IsEvent event [] (subst (λ (t : List Event). All IsEvent t) (sym e) (are_events bytes))
+
+pub is_kind : (bytes : List ℕ) (kind : Option EventKind) (values : List ℕ) → event_in kind values ≡ events_of bytes
+    → IfSome kind (λ k. IsEvent (event_of k values))
+is_kind bytes None values e = tt
+is_kind bytes (Some k) values e = is_event bytes (Some (event_of k values)) e

@@ -9,4 +9,7 @@ pub mod Cutting
 pub mod EventSpelling
 pub mod EventRanges
 pub mod PlainRuns
+pub mod Lanes
 pub mod SilentBytes
+pub mod ContentRuns
+pub mod WholeSequences

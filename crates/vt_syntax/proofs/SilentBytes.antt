@@ -2,7 +2,6 @@
 use Rattle.std.proofs.Common.{◌≡◌, ℕ, ◌+◌, ◌<◌, Bool, true, false, List, [], ◌∷◌, ◌++◌, length, take, drop, get_or, if◌then◌else◌, ◌==◌, ◌≤◌, nat_le, Option, length-append, length-drop, ◌-◌, arith, refl, sym, ap, ◌∙◌}
 use Rattle.std.proofs.lemmas.List.{take_more}
 use Rattle.std.proofs.Math.Seq.{take-add, take-length}
-use Rattle.arrayvec.specs.ArrayVec.{ArrayVec}
 use Rattle.vt_syntax.specs.declared.event.Event.{Event}
 use Rattle.vt_syntax.specs.declared.held.Held.{Held}
 use Rattle.vt_syntax.specs.declared.held.Held.TheVariants.{Nothing, Escape, Control, Spoilt, Text}
@@ -60,8 +59,6 @@ run_introducer piece long first second =
     (run_more Nothing Nothing (Escape Zero) piece 0 (omega arith) (run_nil Nothing) (rw first refl))
     (rw second step_bracket)
 
-pub ruleset introducer = (run_nil, run_introducer)
-
 -- more bytes
 pub run_add : (held now after : Held) (piece : List ℕ) (at n : ℕ) → run held (take at piece) ≡ step_to now []
     → run now (take n (drop at piece)) ≡ step_to after [] → run held (take (at + n) piece) ≡ step_to after []
@@ -101,10 +98,6 @@ not_silent held b part gives none =
 
 -- ---- values
 
--- the phase after this many values
-abbrev pub phase_after : Phase → ℕ → Phase
-phase_after phase at = if at == 0 then phase else Values
-
 -- a digit after any early phase
 digit_value : (marker : Option ℕ) (xs : List ℕ) (v : ℕ) (b : ℕ) → 48 ≤ b → b ≤ 57
     → step_value marker (xs ++ v ∷ []) false b ≡ Control marker (record { items = xs ++ with_digit b v ∷ [] }) false Values
@@ -139,38 +132,6 @@ unfolding step_of class_of
 separator_step marker xs v Start early few = let n = not_full xs v few in rw n refl
 separator_step marker xs v Values early few = let n = not_full xs v few in rw n refl
 separator_step marker xs v (Inter i) early few = absurd early
-
-early_after : (phase : Phase) (at : ℕ) → IsEarly phase → IsEarly (phase_after phase at)
-early_after phase at early = go (at == 0)
-  where
-    go : (b : Bool) → IsEarly (if b then phase else Values)
-    go true = early
-    go false = tt
-
-values_after : (phase : Phase) (at : ℕ) → phase_after phase (at + 1) ≡ Values
-values_after phase at = let more : (at + 1 == 0) ≡ false = grind (arith, nat_tests) in rw more refl
-
--- one more digit
-pub digit_more : (marker : Option ℕ) (params : ArrayVec ℕ) (phase : Phase) (piece xs : List ℕ) (v at : ℕ)
-    → IsEarly phase → at < length piece → 48 ≤ get_or piece at 0 → get_or piece at 0 ≤ 57
-    → run (Control marker params false phase) (take at piece) ≡ step_to (Control marker (record { items = xs ++ v ∷ [] }) false (phase_after phase at)) []
-    → run (Control marker params false phase) (take (at + 1) piece)
-    ≡ step_to (Control marker (record { items = xs ++ with_digit (get_or piece at 0) v ∷ [] }) false (phase_after phase (at + 1))) []
-digit_more marker params phase piece xs v at early inside low high so_far =
-    let e = values_after phase at in
-    rw e (run_more (Control marker params false phase) (Control marker (record { items = xs ++ v ∷ [] }) false (phase_after phase at)) _ piece at inside so_far
-    (digit_step marker xs v (phase_after phase at) (get_or piece at 0) (early_after phase at early) low high))
-
--- one more `;`
-pub separator_more : (marker : Option ℕ) (params : ArrayVec ℕ) (phase : Phase) (piece xs : List ℕ) (v at : ℕ)
-    → IsEarly phase → at < length piece → get_or piece at 0 ≡ 0x3B → length xs < 15
-    → run (Control marker params false phase) (take at piece) ≡ step_to (Control marker (record { items = xs ++ v ∷ [] }) false (phase_after phase at)) []
-    → run (Control marker params false phase) (take (at + 1) piece)
-    ≡ step_to (Control marker (record { items = (xs ++ v ∷ []) ++ 0 ∷ [] }) false (phase_after phase (at + 1))) []
-separator_more marker params phase piece xs v at early inside is few so_far =
-    let e = values_after phase at in
-    rw e (run_more (Control marker params false phase) (Control marker (record { items = xs ++ v ∷ [] }) false (phase_after phase at)) _ piece at inside so_far
-    (rw is (separator_step marker xs v (phase_after phase at) (early_after phase at early) few)))
 
 -- ---- final bytes
 

@@ -1,8 +1,11 @@
 pub mod Class
+pub mod Event
 pub mod Items
 pub mod Split
 pub mod Reading
 pub mod Held
 pub mod Spelling
 pub mod Steps
+pub mod Content
+pub mod Whole
 pub mod Laws

@@ -29,3 +29,37 @@ pub enum Event {
         last: u8,
     },
 }
+
+/// An event without the values of a control sequence, which stand beside it.
+#[derive(Clone, Copy, Debug, PartialEq, Eq)]
+pub enum EventKind {
+    /// A graphic byte, 20..7E or A0..FF.
+    Print(u8),
+    /// A C0 control other than CAN and ESC, or a C1 control that opens nothing.
+    Control(u8),
+    /// An escape sequence.
+    Escape {
+        /// Its intermediate, 20..2F.
+        inter: Option<u8>,
+        /// Its final byte, 30..7E.
+        last: u8,
+    },
+    /// A control sequence.
+    Sequence {
+        /// The private marker, 3C..3F.
+        marker: Option<u8>,
+        /// Its intermediate, 20..2F.
+        inter: Option<u8>,
+        /// Its final byte, 40..7E.
+        last: u8,
+    },
+}
+
+/// What was taken from the front of a piece.
+#[derive(Clone, Copy, Debug, PartialEq, Eq)]
+pub struct Taken {
+    /// How many bytes.
+    pub bytes: usize,
+    /// The event that the last of them completes; none where the piece ends before an event.
+    pub event: Option<EventKind>,
+}

@@ -5,6 +5,7 @@ ghost use Rattle.vt_syntax.specs.Class.{class_of as byte_class};
 ghost use Rattle.vt_syntax.specs.Steps.{step_to, step_of, step_between, step_value, with_digit, step_string, InSequence, InControl, IsEarly, run, is_silent, held_silently, opened_by as opened_part};
 
 use crate::class::{Class, class_of};
+use crate::content::content_len;
 use crate::held::{Held, Inters, Phase};
 use arrayvec::ArrayVec;
 
@@ -14,120 +15,27 @@ pub(crate) fn hold_run(held: &mut Held, piece: &[u8]) -> usize
     ensures holds { run held.old (take result piece.now) ≡ step_to held.new [] }
     ensures stops { result < length piece.now → is_silent (step_of held.new (slice_index piece.now result)) ≡ false }
 {
-    let mut at = hold_introduced(held, piece);
+    let mut at = 0;
     while at < piece.len() {
         if !hold_byte(held, piece[at]) {
             return at;
         }
         at += 1;
-        at += hold_inside(held, &piece[at..]);
+        at += hold_text(held, &piece[at..]);
     }
     at
 }
 
-/// Takes ESC, `[` and the values after it at the front of a piece, between sequences.
-#[inline(always)]
-fn hold_introduced(held: &mut Held, piece: &[u8]) -> usize
-    ensures within { result ≤ length piece.now }
-    ensures holds { run held.old (take result piece.now) ≡ step_to held.new [] }
-{
-    let introducer = hold_introducer(held, piece);
-    introducer + hold_inside(held, &piece[introducer..])
-}
-
-/// Takes ESC and `[` at the front of a piece, between sequences.
-#[inline(always)]
-#[tactic(auto, using(crate::proofs::SilentBytes::introducer))]
-fn hold_introducer(held: &mut Held, piece: &[u8]) -> usize
-    ensures within { result ≤ length piece.now }
-    ensures holds { run held.old (take result piece.now) ≡ step_to held.new [] }
-{
-    match (&*held, piece) {
-        (Held::Nothing, [0x1B, 0x5B, ..]) => {
-            *held = control_sequence();
-            2
-        }
-        _ => 0,
-    }
-}
-
-/// Takes the values at the front of a piece in a control sequence, and the content in a string: none, some or all of the
-/// bytes that give no event.
+/// Takes the content at the front of a piece, in a string: all of it or a part.
 #[inline(always)]
 #[tactic(auto, unfolding(crate::specs::Steps::run))]
-fn hold_inside(held: &mut Held, piece: &[u8]) -> usize
+fn hold_text(held: &mut Held, piece: &[u8]) -> usize
     ensures within { result ≤ length piece.now }
     ensures holds { run held.old (take result piece.now) ≡ step_to held.new [] }
 {
     match held {
-        Held::Control {
-            params,
-            full: false,
-            phase,
-            ..
-        } if !matches!(phase, Phase::Inter(_)) => hold_values(params, phase, piece),
-        Held::Text { osc } => content_len(*osc, piece),
+        Held::Text { .. } => content_len(piece),
         _ => 0,
-    }
-}
-
-/// Takes the digits and `;` at the front of a piece, but no 17th value. The value that grows is kept out of the list.
-#[inline(always)]
-fn hold_values(params: &mut ArrayVec<u16, 16>, phase: &mut Phase, piece: &[u8]) -> usize
-    requires { IsEarly phase.old }
-    ensures within { result ≤ length piece.now }
-    ensures holds { (marker : Option ℕ)
-        → run (Held.Control marker params.old false phase.old) (take result piece.now)
-        ≡ step_to (Held.Control marker params.new false phase.new) [] }
-{
-    // That there are at most 16, for the proof.
-    let _ = params.len();
-    let Some(mut value) = params.pop() else {
-        return 0;
-    };
-    let mut at = 0;
-    while at < piece.len() {
-        match piece[at] {
-            b @ b'0'..=b'9' => value = with_digit(value, b),
-            b';' if params.len() < 15 => {
-                params.push(value);
-                value = 0;
-            }
-            _ => break,
-        }
-        at += 1;
-    }
-    params.push(value);
-    if at > 0 {
-        *phase = Phase::Values;
-    }
-    at
-}
-
-/// How many bytes at the front of a piece are content of a string.
-#[inline(always)]
-#[tactic(auto, using(crate::proofs::SilentBytes::run_content), unfolding(crate::specs::Steps::run))]
-fn content_len(osc: bool, piece: &[u8]) -> usize
-    ensures within { result ≤ length piece.now }
-    ensures content { run (Held.Text osc) (take result piece.now) ≡ step_to (Held.Text osc) [] }
-{
-    let mut at = 0;
-    while at < piece.len() && is_content(osc, piece[at]) {
-        at += 1;
-    }
-    at
-}
-
-/// Whether a byte is content of a string.
-#[inline(always)]
-#[tactic(auto, using(crate::proofs::Classes::class_tests), unfolding(crate::specs::Items::ends_string))]
-fn is_content(osc: bool, b: u8) -> bool
-    ensures { OnTrue result (step_string osc b ≡ step_to (Held.Text osc) []) }
-{
-    if b >= 0x20 {
-        b != 0x9C
-    } else {
-        !matches!(b, 0x18 | 0x1A | 0x1B) && !(osc && b == 0x07)
     }
 }
 

@@ -7,17 +7,21 @@
 #![tactic(auto)]
 
 mod class;
+mod content;
 mod event;
 mod held;
 mod holding;
 pub mod laws;
 mod parser;
 mod plain;
+mod values;
+mod whole;
 
-pub use event::Event;
+pub use event::{Event, EventKind, Taken};
 pub use held::{Held, Inters, Phase};
 pub use parser::Parser;
 pub use plain::plain_run;
+pub use values::Values;
 
 #[cfg(test)]
 mod tests;

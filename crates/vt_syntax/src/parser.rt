@@ -1,17 +1,19 @@
 //! The parser: bytes, one at a time, into events.
-ghost use Rattle.std.specs.Prelude.{◌≡◌, ◌≢◌, ◌<◌, ◌≤◌, [], ◌∷◌, IsTrue, false, ◌↔◌, IfSome, length, take, slice_index};
+ghost use Rattle.std.specs.Prelude.{◌≡◌, ◌<◌, ◌≤◌, ℕ, List, [], ◌∷◌, IsTrue, false, ◌↔◌, IfSome, IfNone, length, take};
 ghost use Rattle.std.specs.Option.{option_to_list};
 ghost use Rattle.vt_syntax.specs.Held.{IsHeldPart, IsEnding, ended_by, events_from, held_from};
 ghost use Rattle.vt_syntax.specs.Spelling.{IsEvent};
-ghost use Rattle.vt_syntax.specs.Steps.{step_to, step_of, step_between, step_string, is_silent};
+ghost use Rattle.vt_syntax.specs.Event.{event_of, event_in};
+ghost use Rattle.vt_syntax.specs.Steps.{step_to, step_of, step_between, step_string, is_silent, run};
 
 use crate::class::{Class, class_of};
-use crate::event::Event;
+use crate::event::{Event, EventKind, Taken};
 use crate::held::{Held, Inters};
 use crate::holding::{hold_byte, hold_run};
+use crate::values::Values;
+use crate::whole::{plain_escape, whole_event};
 use arrayvec::ArrayVec;
 use std::marker::Model;
-use std::mem;
 
 /// Reads bytes one at a time, and keeps the held part: what of an unfinished sequence still matters.
 #[derive(Clone, Debug, PartialEq, Eq, Drop)]
@@ -54,31 +56,21 @@ impl Parser {
         step(&mut self.held, b)
     }
 
-    /// Takes the bytes at the front of a piece that give no event, as far as the first that gives one or the end, and
-    /// answers how many these are.
+    /// Takes the front of a piece as far as the first byte that completes an event, or all of it where none does, and
+    /// answers how many bytes that is and the event. The values of a control sequence are put into `values`.
     ///
-    /// [`Parser::push`] takes them one by one to the same held part.
-    pub fn hold(&mut self, piece: &[u8]) -> usize
-        ensures within { result ≤ length piece.now }
-        ensures silent { events_from self.old (take result piece.now) ≡ [] }
-        ensures held { self.new ≡ held_from self.old (take result piece.now) }
-        ensures stops { result < length piece.now → events_from self.new (slice_index piece.now result ∷ []) ≢ [] }
+    /// [`Parser::push`] takes these bytes one by one to the same event and held part. A sequence that stands whole in the piece
+    /// is read from it, and one that pieces cut from what is held: both come in this one form.
+    #[inline(always)]
+    pub fn next(&mut self, piece: &[u8], values: &mut Values) -> Taken
+        ensures some { 1 ≤ length piece.now → 1 ≤ result.bytes }
+        ensures within { result.bytes ≤ length piece.now }
+        ensures event { event_in result.event values.new ≡ events_from self.old (take result.bytes piece.now) }
+        ensures held { self.new ≡ held_from self.old (take result.bytes piece.now) }
+        ensures all { IfNone result.event (result.bytes ≡ length piece.now) }
+        ensures in_range { IfSome result.event (λ kind. IsEvent (event_of kind values.new)) }
     {
-        hold_run(&mut self.held, piece)
-    }
-
-    /// Takes the final byte of an escape or control sequence that is held and has a function. Its event is the sequence with
-    /// the parts that are held.
-    ///
-    /// A caller that has read these by [`Parser::held`] has the event without a copy; else [`Parser::push`] answers it.
-    pub fn end_sequence(&mut self, last: u8)
-        requires { IsEnding self.old last }
-        ensures event { events_from self.old (last ∷ []) ≡ ended_by self.old last ∷ [] }
-        ensures in_range { IsEvent (ended_by self.old last) }
-        ensures between { self.new ≡ Held.Nothing }
-        ensures held { self.new ≡ held_from self.old (last ∷ []) }
-    {
-        self.held = Held::Nothing;
+        next_event(&mut self.held, piece, values)
     }
 
     /// The held part: what of an unfinished sequence still matters.
@@ -97,23 +89,90 @@ impl Parser {
     }
 }
 
+/// The front of a piece as far as the first event: a sequence that stands whole in it, or bytes one by one.
+#[inline(always)]
+fn next_event(held: &mut Held, piece: &[u8], values: &mut Values) -> Taken
+    ensures some { 1 ≤ length piece.now → 1 ≤ result.bytes }
+    ensures within { result.bytes ≤ length piece.now }
+    ensures reads { run held.old (take result.bytes piece.now) ≡ step_to held.new (event_in result.event values.new) }
+    ensures all { IfNone result.event (result.bytes ≡ length piece.now) }
+{
+    if matches!(held, Held::Nothing) {
+        if let Some((bytes, kind)) = whole_event(piece, values) {
+            return Taken {
+                bytes,
+                event: Some(kind),
+            };
+        }
+    }
+    next_held(held, piece, values)
+}
+
+/// The same, byte by byte.
+#[inline(never)]
+fn next_held(held: &mut Held, piece: &[u8], values: &mut Values) -> Taken
+    ensures some { 1 ≤ length piece.now → 1 ≤ result.bytes }
+    ensures within { result.bytes ≤ length piece.now }
+    ensures reads { run held.old (take result.bytes piece.now) ≡ step_to held.new (event_in result.event values.new) }
+    ensures all { IfNone result.event (result.bytes ≡ length piece.now) }
+{
+    let silent = hold_run(held, piece);
+    if silent == piece.len() {
+        return Taken {
+            bytes: silent,
+            event: None,
+        };
+    }
+    let kind = event(held, piece[silent], values);
+    Taken {
+        bytes: silent + 1,
+        event: Some(kind),
+    }
+}
+
 /// One byte after a held part: it is taken without an event, or gives one.
 fn step(held: &mut Held, b: u8) -> Option<Event>
     ensures holds { held.new ≡ (step_of held.old b).held }
     ensures tells { option_to_list result ≡ (step_of held.old b).events }
 {
     if hold_byte(held, b) {
-        None
-    } else {
-        Some(event(held, b))
+        return None;
+    }
+    let mut values = Values::new();
+    let kind = event(held, b, &mut values);
+    Some(with_values(kind, &values))
+}
+
+/// The event of this kind, with these values where it is a control sequence.
+fn with_values(kind: EventKind, values: &Values) -> Event
+    ensures { result ≡ event_of kind values.now }
+{
+    match kind {
+        EventKind::Print(b) => Event::Print(b),
+        EventKind::Control(b) => Event::Control(b),
+        EventKind::Escape { inter, last } => Event::Escape { inter, last },
+        EventKind::Sequence {
+            marker,
+            inter,
+            last,
+        } => {
+            let mut params = ArrayVec::new();
+            let _ = params.try_extend_from_slice(values.as_slice());
+            Event::Sequence {
+                marker,
+                params,
+                inter,
+                last,
+            }
+        }
     }
 }
 
 /// The event of a byte that gives one. A quiet byte leaves what is held; another one ends it.
 #[tactic(auto, unfolding(crate::specs::Steps::step_of))]
-fn event(held: &mut Held, b: u8) -> Event
+fn event(held: &mut Held, b: u8, values: &mut Values) -> EventKind
     requires { is_silent (step_of held.old b) ≡ false }
-    ensures { step_of held.old b ≡ step_to held.new (result ∷ []) }
+    ensures { step_of held.old b ≡ step_to held.new (event_of result values.new ∷ []) }
 {
     match held {
         Held::Nothing => alone(b),
@@ -123,11 +182,11 @@ fn event(held: &mut Held, b: u8) -> Event
             substitute(osc, b)
         }
         Held::Escape(_) | Held::Control { .. } | Held::Spoilt => match class_of(b) {
-            Class::Parameter | Class::Final => ended(held, b),
-            Class::Quiet => Event::Control(b),
+            Class::Parameter | Class::Final => ended(held, b, values),
+            Class::Quiet => EventKind::Control(b),
             Class::Cancel => {
                 *held = Held::Nothing;
-                Event::Control(0x1A)
+                EventKind::Control(0x1A)
             }
             Class::Esc | Class::High => {
                 *held = Held::Nothing;
@@ -139,37 +198,37 @@ fn event(held: &mut Held, b: u8) -> Event
 }
 
 /// A byte that stands by itself.
+#[inline(always)]
 #[tactic(auto, using(crate::proofs::Classes::class_tests), unfolding(crate::specs::Class::opens_string))]
-fn alone(b: u8) -> Event
+pub(crate) fn alone(b: u8) -> EventKind
     requires { is_silent (step_between b) ≡ false }
-    ensures { step_between b ≡ step_to Held.Nothing (result ∷ []) }
+    ensures { (values : List ℕ) → step_between b ≡ step_to Held.Nothing (event_of result values ∷ []) }
 {
     match b {
-        0x20..=0x7E | 0xA0..=0xFF => Event::Print(b),
-        _ => Event::Control(b),
+        0x20..=0x7E | 0xA0..=0xFF => EventKind::Print(b),
+        _ => EventKind::Control(b),
     }
 }
 
 /// The only byte of a string that gives an event, SUB, which ends it.
 #[tactic(auto, using(crate::proofs::Classes::class_tests), unfolding(crate::specs::Items::ends_string))]
-fn substitute(osc: bool, b: u8) -> Event
+fn substitute(osc: bool, b: u8) -> EventKind
     requires { is_silent (step_string osc b) ≡ false }
-    ensures { step_string osc b ≡ step_to Held.Nothing (result ∷ []) }
+    ensures { (values : List ℕ) → step_string osc b ≡ step_to Held.Nothing (event_of result values ∷ []) }
 {
-    Event::Control(b)
+    EventKind::Control(b)
 }
 
 /// The event of the final byte of a sequence, which ends it.
 #[tactic(auto, using(crate::proofs::Steps::byte_ranges), unfolding(crate::specs::Steps::step_of))]
-fn ended(held: &mut Held, last: u8) -> Event
+fn ended(held: &mut Held, last: u8, values: &mut Values) -> EventKind
     requires { IsEnding held.old last }
-    ensures tells { result ≡ ended_by held.old last }
+    ensures tells { event_of result values.new ≡ ended_by held.old last }
     ensures holds { held.new ≡ Held.Nothing }
 {
-    let event = match held {
-        Held::Escape(Inters::Zero) if last >= 0x40 && last < 0x60 => Event::Control(last + 0x40),
-        Held::Escape(Inters::Zero) => Event::Escape { inter: None, last },
-        Held::Escape(Inters::One(inter)) => Event::Escape {
+    let kind = match held {
+        Held::Escape(Inters::Zero) => plain_escape(last),
+        Held::Escape(Inters::One(inter)) => EventKind::Escape {
             inter: Some(*inter),
             last,
         },
@@ -178,15 +237,17 @@ fn ended(held: &mut Held, last: u8) -> Event
             params,
             phase,
             ..
-        } => Event::Sequence {
-            marker: *marker,
-            params: mem::replace(params, ArrayVec::new()),
-            inter: phase.inter(),
-            last,
-        },
+        } => {
+            values.set(params.as_slice());
+            EventKind::Sequence {
+                marker: *marker,
+                inter: phase.inter(),
+                last,
+            }
+        }
         Held::Escape(Inters::Many) | Held::Nothing | Held::Spoilt | Held::Text { .. } =>
             unreachable!(),
     };
     *held = Held::Nothing;
-    event
+    kind
 }

@@ -199,38 +199,49 @@ fn events(rt: HostRuntime) {
     leaves(&rt, b"\x1BPqabc", Held::Text { osc: false }, None);
 }
 
-/// A parser after `before` takes this many bytes of `piece` without an event.
-fn holds(rt: &impl Abort, before: &[u8], piece: &[u8], taken: usize, held: Held) {
+/// A new parser that has taken `before` takes this many bytes at the front of `piece`, to this event and held part.
+fn takes(
+    rt: &impl Abort,
+    before: &[u8],
+    piece: &[u8],
+    bytes: usize,
+    event: Option<EventKind>,
+    held: Held,
+) -> Values {
     let (mut parser, _) = parsed(before);
-    assert_eq!(rt; parser.hold(piece), taken);
+    let mut values = Values::new();
+    let taken = parser.next(piece, &mut values);
+    assert_eq!(rt; taken, Taken { bytes, event });
     assert_eq!(rt; parser.held(), &held);
+    values
 }
 
 #[test]
-fn bytes_without_an_event(rt: HostRuntime) {
-    let place = control(None, &[12, 34], false, Phase::Values);
-    holds(&rt, b"", b"\x1B[12;34H", 7, place);
-    holds(&rt, b"", b"a\x1B[", 0, Held::Nothing);
-    // in two pieces, and with a 17th value
-    let more = control(None, &[12, 3], false, Phase::Values);
-    holds(&rt, b"\x1B[1", b"2;3", 3, more);
-    let full = control(None, &[0; 16], true, Phase::Values);
-    holds(&rt, b"\x1B[", b";;;;;;;;;;;;;;;;7m", 17, full);
-    // a sequence without a function, and a string with BEL
-    holds(&rt, b"\x1B[1:", b"2H\x7F\x18\x07", 4, Held::Nothing);
-    holds(&rt, b"\x1BP", b"q\x07abc", 5, Held::Text { osc: false });
-    holds(&rt, b"\x1B]", b"0;t\x07A", 4, Held::Nothing);
-    holds(&rt, &[0x90], &[0x61, 0x9C, 0x1A], 2, Held::Nothing);
-}
-
-#[test]
-fn final_bytes(rt: HostRuntime) {
-    let (mut parser, _) = parsed(b"\x1B[5 ");
-    if let Held::Control { phase, .. } = parser.held() {
-        assert_eq!(rt; phase.inter(), Some(b' '));
-        parser.end_sequence(b'H');
-    }
-    assert!(rt; parser.is_between());
+fn next_events(rt: HostRuntime) {
+    let cup = Some(EventKind::Sequence {
+        marker: None,
+        inter: None,
+        last: b'H',
+    });
+    let whole = takes(&rt, b"", b"\x1B[12;7HA", 7, cup, Held::Nothing);
+    assert_eq!(rt; whole.as_slice(), [12u16, 7].as_slice());
+    let cut = takes(&rt, b"\x1B[1", b"2;7HA", 4, cup, Held::Nothing);
+    assert_eq!(rt; cut.as_slice(), [12u16, 7].as_slice());
+    let escape = Some(EventKind::Escape {
+        inter: Some(b'('),
+        last: b'0',
+    });
+    takes(&rt, b"", b"\x1B(0", 3, escape, Held::Nothing);
+    takes(&rt, b"\x1B(", b"0", 1, escape, Held::Nothing);
+    let index = Some(EventKind::Control(0x84));
+    takes(&rt, b"", b"\x1BD", 2, index, Held::Nothing);
+    takes(&rt, b"", b"\x84", 1, index, Held::Nothing);
+    let held = control(None, &[12], false, Phase::Values);
+    takes(&rt, b"", b"\x1B[12", 4, None, held);
+    let inside = control(None, &[1], false, Phase::Values);
+    let bell = Some(EventKind::Control(0x07));
+    takes(&rt, b"", b"\x1B[1\x07H", 4, bell, inside);
+    takes(&rt, b"", b"\x9D0;title\x07", 9, None, Held::Nothing);
 }
 
 #[test]

@@ -1,8 +1,7 @@
 //! Which function an event asks for.
-ghost use Rattle.std.specs.Prelude.{◌≡◌, ◌+◌, ◌++◌, ◌<◌, ◌≤◌, vec_len, vec_capacity};
+ghost use Rattle.std.specs.Prelude.{◌≡◌, ◌<◌, ◌≤◌};
 ghost use Rattle.vt_syntax.specs.Spelling.{IsEvent};
-ghost use Rattle.vt_syntax.specs.Held.{IsEnding, ended_by};
-ghost use Rattle.vt_term.specs.Reports.{report};
+ghost use Rattle.vt_syntax.specs.Event.{event_of};
 ghost use Rattle.vt_glyph.specs.Tables.{substitute_glyph};
 ghost use Rattle.vt_term.specs.Writing.{write_glyph};
 ghost use Rattle.vt_term.specs.Parameters.{first, second, count};
@@ -10,7 +9,7 @@ ghost use Rattle.vt_term.specs.Functions.{effect, control, plain_escape, escape_
 
 use crate::display::Display;
 use vt_glyph::{Glyph, Set};
-use vt_syntax::{Event, Held, Inters};
+use vt_syntax::EventKind;
 
 /// The first parameter; one that isn't there is 0.
 pub(crate) fn first(params: &[u16]) -> u16
@@ -34,58 +33,25 @@ fn count(params: &[u16]) -> u16
 }
 
 impl Display {
-    /// An event is carried out.
-    #[inline(never)]
-    pub(crate) fn carry_out(&mut self, event: &Event)
-        requires { IsEvent event.now }
-        ensures { self.new ≡ effect event.now self.old }
+    /// An event is carried out: its kind, and the values of a control sequence.
+    #[inline(always)]
+    pub(crate) fn carry_out(&mut self, kind: EventKind, values: &[u16])
+        requires { IsEvent (event_of kind values.now) }
+        ensures { self.new ≡ effect (event_of kind values.now) self.old }
     {
-        match event {
-            Event::Print(b) => self.print(*b),
-            Event::Control(b) => self.control(*b),
-            Event::Escape { inter: None, last } => self.plain_escape(*last),
-            Event::Escape {
+        match kind {
+            EventKind::Print(b) => self.print(b),
+            EventKind::Control(b) => self.control(b),
+            EventKind::Escape { inter: None, last } => self.plain_escape(last),
+            EventKind::Escape {
                 inter: Some(inter),
                 last,
-            } => self.escape_with(*inter, *last),
-            Event::Sequence {
+            } => self.escape_with(inter, last),
+            EventKind::Sequence {
                 marker,
-                params,
                 inter,
                 last,
-            } => self.sequence(*marker, params.as_slice(), *inter, *last),
-        }
-    }
-
-    /// The sequence that is held is carried out with its final byte, and its report appended to `out`.
-    #[inline(always)]
-    pub(crate) fn end_sequence(&mut self, held: &Held, last: u8, out: &mut Vec<u8>)
-        requires ends { IsEnding held.now last }
-        requires room { vec_len out.old + 10 ≤ vec_capacity out.old }
-        ensures display { self.new ≡ effect (ended_by held.now last) self.old }
-        ensures items { out.new.items ≡ out.old.items ++ report (ended_by held.now last) self.old }
-        ensures bounded { vec_len out.new ≤ vec_len out.old + 10 }
-        ensures capacity { vec_capacity out.old ≤ vec_capacity out.new }
-    {
-        match held {
-            Held::Control {
-                marker,
-                params,
-                phase,
-                ..
-            } => {
-                let inter = phase.inter();
-                let params = params.as_slice();
-                self.report_sequence(*marker, inter, last, first(params), out);
-                self.sequence(*marker, params, inter, last);
-            }
-            Held::Escape(Inters::Zero) if 0x40 <= last && last < 0x60 => {
-                self.report_control(last + 0x40, out);
-                self.control(last + 0x40);
-            }
-            Held::Escape(Inters::Zero) => self.plain_escape(last),
-            Held::Escape(Inters::One(inter)) => self.escape_with(*inter, last),
-            Held::Escape(Inters::Many) | Held::Nothing | Held::Spoilt | Held::Text { .. } => {}
+            } => self.sequence(marker, values, inter, last),
         }
     }
 

@@ -1,5 +1,6 @@
 //! Runs of graphic bytes, found by lanes.
 ghost use Rattle.std.specs.Prelude.{◌≡◌, ◌+◌, ◌≤◌, length, map, take, drop, slice_index, All};
+ghost use Rattle.std.specs.Bool.{OnTrue};
 ghost use Rattle.std.specs.List.{prefix_len};
 ghost use Rattle.std.specs.Simd.Lanes.{mask_l};
 ghost use Rattle.vt_glyph.specs.Invocation.{HasGlyph};
@@ -48,8 +49,11 @@ pub(crate) fn right_half_at(piece: &[u8], at: usize) -> bool {
     at < piece.len() && piece[at] >= 0xA0
 }
 
-fn has_glyph(b: u8) -> bool
-    ensures { result ≡ is_graphic b }
+/// Whether a byte has a glyph in either half.
+#[inline(always)]
+pub(crate) fn has_glyph(b: u8) -> bool
+    ensures tells { result ≡ is_graphic b }
+    ensures graphic { OnTrue result (HasGlyph b) }
 {
     (0x20 <= b && b <= 0x7E) || (0xA1 <= b && b <= 0xFE)
 }

@@ -1,30 +1,30 @@
 //! What the terminal reports.
 ghost use Rattle.std.specs.Prelude.{◌≡◌, ◌+◌, ◌≤◌, ◌<◌, ◌++◌, length, decimal, vec_len, vec_capacity};
-ghost use Rattle.vt_syntax.specs.Spelling.{IsEvent};
+ghost use Rattle.vt_syntax.specs.Event.{event_of};
 ghost use Rattle.vt_term.specs.Reports.{report, answer, cursor_report, control_report, sequence_report};
 
 use crate::display::Display;
 use crate::functions::first;
 use itoa::Buffer;
-use vt_syntax::Event;
+use vt_syntax::EventKind;
 
 impl Display {
     /// Appends the report of an event, in the state before it: at most ten bytes, whose room is there.
-    pub(crate) fn report(&self, event: &Event, out: &mut Vec<u8>)
+    #[inline(always)]
+    pub(crate) fn report(&self, kind: EventKind, values: &[u16], out: &mut Vec<u8>)
         requires { vec_len out.old + 10 ≤ vec_capacity out.old }
-        ensures items { out.new.items ≡ out.old.items ++ report event.now self.now }
+        ensures items { out.new.items ≡ out.old.items ++ report (event_of kind values.now) self.now }
         ensures bounded { vec_len out.new ≤ vec_len out.old + 10 }
         ensures capacity { vec_capacity out.old ≤ vec_capacity out.new }
     {
-        match event {
-            Event::Control(b) => self.report_control(*b, out),
-            Event::Sequence {
+        match kind {
+            EventKind::Control(b) => self.report_control(b, out),
+            EventKind::Sequence {
                 marker,
-                params,
                 inter,
                 last,
-            } => self.report_sequence(*marker, *inter, *last, first(params.as_slice()), out),
-            _ => {}
+            } => self.report_sequence(marker, inter, last, first(values), out),
+            EventKind::Print(_) | EventKind::Escape { .. } => {}
         }
     }
 

@@ -1,15 +1,9 @@
 //! The terminal: bytes in; a state and report bytes out.
-ghost use Rattle.std.specs.Prelude.{◌≡◌, ◌↔◌, ◌+◌, ◌*◌, ◌≤◌, ◌<◌, ◌++◌, ◌∷◌, [], All, IsTrue, false, length, take, slice_index, vec_len, vec_capacity, IfOk, OnOk, OnErr, IsOk};
+ghost use Rattle.std.specs.Prelude.{◌≡◌, ◌+◌, ◌*◌, ◌≤◌, ◌<◌, ◌++◌, ◌∷◌, [], All, false, length, take, slice_index, vec_len, vec_capacity, IfOk, OnOk, OnErr, IsOk};
 ghost use Rattle.vt_glyph.specs.Invocation.{HasGlyph};
-ghost use Rattle.vt_syntax.specs.declared.held.Held.TheVariants.{Nothing, Escape};
-ghost use Rattle.vt_syntax.specs.Class.{is_opener, IsPlain};
-ghost use Rattle.vt_syntax.specs.Held.{IsEnding};
-ghost use Rattle.vt_syntax.specs.declared.held.Inters.TheVariants.{Zero};
-ghost use Rattle.vt_syntax.specs.declared.event.Event.TheVariants.{Control};
-ghost use Rattle.vt_syntax.specs.Reading.{single_function};
-ghost use Rattle.std.specs.Bool.{OnTrue};
+ghost use Rattle.vt_syntax.specs.declared.held.Held.TheVariants.{Nothing};
+ghost use Rattle.vt_syntax.specs.Class.{IsPlain};
 ghost use Rattle.vt_syntax.specs.Spelling.{IsGraphic};
-ghost use Rattle.vt_screen.specs.Grid.{row_of, last_row};
 ghost use Rattle.vt_term.specs.State.{power_up};
 ghost use Rattle.vt_term.specs.Sound.{IsSound};
 ghost use Rattle.vt_term.specs.Play.{play};
@@ -17,7 +11,7 @@ ghost use Rattle.vt_term.specs.Text.{text};
 ghost use Rattle.vt_term.specs.Runs.{WritesAscii};
 
 use crate::display::{Display, ROWS, STOPS};
-use crate::graphics::{graphic_run, right_half_at};
+use crate::graphics::{graphic_run, has_glyph, right_half_at};
 use crate::laws::cuts;
 use crate::state::{Cursor, Margins, Modes, Saved};
 use crate::text::push_line;
@@ -27,7 +21,7 @@ use vt_glyph::Sets;
 use vt_glyph::laws::in_use;
 use vt_screen::{Brush, Cell};
 use vt_syntax::laws::{one_split, spelled};
-use vt_syntax::{Held, Inters, Parser, plain_run};
+use vt_syntax::{Parser, Taken, Values, plain_run};
 
 /// The most bytes of a text: for each row three for each of 132 cells, and LF.
 pub const TEXT_LIMIT: usize = ROWS * (3 * STOPS + 1);
@@ -98,9 +92,10 @@ impl Terminal {
     {
         self.soundness();
         cuts();
+        let mut values = Values::new();
         let mut at = 0;
         while at < piece.len() {
-            at += self.feed_front(&piece[at..], out);
+            at += self.feed_front(&piece[at..], &mut values, out);
         }
     }
 
@@ -113,8 +108,9 @@ impl Terminal {
     }
 
     /// Plays the front of a piece that isn't empty, and answers how many bytes that is: between sequences a run of plain
-    /// bytes that are written at once, or a byte that is an event by itself; else through the parser.
-    fn feed_front(&mut self, piece: &[u8], out: &mut Vec<u8>) -> usize
+    /// bytes that are written at once, or CR, and LF after it; else as far as the first event.
+    #[inline(always)]
+    fn feed_front(&mut self, piece: &[u8], values: &mut Values, out: &mut Vec<u8>) -> usize
         requires some { 1 ≤ length piece.now }
         requires room { vec_len out.old + 10 * length piece.now ≤ vec_capacity out.old }
         ensures some { 1 ≤ result }
@@ -124,20 +120,16 @@ impl Terminal {
         ensures bounded { vec_len out.new ≤ vec_len out.old + 10 * result }
         ensures capacity { vec_capacity out.old ≤ vec_capacity out.new }
     {
-        let byte = piece[0];
         if self.parser.is_between() {
-            match byte {
-                0x20..=0x7E | 0xA1..=0xFE => return self.feed_graphics(piece),
-                // CR and LF have arms of their own, so that each is compiled in its place.
-                0x0D => return self.feed_carriage_return(piece),
-                0x0A => {
-                    self.feed_control(byte);
-                    return 1;
-                }
-                _ => {}
+            let byte = piece[0];
+            if has_glyph(byte) {
+                return self.feed_graphics(piece);
+            }
+            if byte == 0x0D {
+                return self.feed_carriage_return(piece);
             }
         }
-        self.feed_parsed(piece, out)
+        self.feed_event(piece, values, out)
     }
 
     /// Plays the graphic bytes at the front of a piece, between sequences: a run of them where they may be written at
@@ -213,8 +205,9 @@ impl Terminal {
         self.display.control(byte);
     }
 
-    /// Plays the front of a piece that isn't empty through the parser, as far as the first byte that gives an event.
-    fn feed_parsed(&mut self, piece: &[u8], out: &mut Vec<u8>) -> usize
+    /// Plays the front of a piece that isn't empty as far as the first event, and answers how many bytes that is.
+    #[inline(always)]
+    fn feed_event(&mut self, piece: &[u8], values: &mut Values, out: &mut Vec<u8>) -> usize
         requires some { 1 ≤ length piece.now }
         requires room { vec_len out.old + 10 ≤ vec_capacity out.old }
         ensures some { 1 ≤ result }
@@ -224,91 +217,18 @@ impl Terminal {
         ensures bounded { vec_len out.new ≤ vec_len out.old + 10 }
         ensures capacity { vec_capacity out.old ≤ vec_capacity out.new }
     {
-        if self.parser.is_between() && is_single_control(piece[0]) {
-            self.feed_single(piece[0], out);
-            return 1;
+        let Taken { bytes, event } = self.parser.next(piece, values);
+        if let Some(kind) = event {
+            self.display.report(kind, values.as_slice(), out);
+            self.display.carry_out(kind, values.as_slice());
         }
-        let silent = self.feed_silent(piece);
-        if silent == piece.len() {
-            return silent;
-        }
-        cuts();
-        self.feed_byte(piece[silent], out);
-        silent + 1
-    }
-
-    /// Plays the bytes at the front of a piece that give no event, and answers how many these are.
-    fn feed_silent(&mut self, piece: &[u8]) -> usize
-        ensures within { result ≤ length piece.now }
-        ensures state { self.new ≡ (play self.old (take result piece.now)).state }
-        ensures reports { (play self.old (take result piece.now)).reports ≡ [] }
-    {
-        self.parser.hold(piece)
-    }
-
-    /// One byte.
-    fn feed_byte(&mut self, byte: u8, out: &mut Vec<u8>)
-        requires { vec_len out.old + 10 ≤ vec_capacity out.old }
-        ensures state { self.new ≡ (play self.old (byte ∷ [])).state }
-        ensures reports { out.new.items ≡ out.old.items ++ (play self.old (byte ∷ [])).reports }
-        ensures bounded { vec_len out.new ≤ vec_len out.old + 10 }
-        ensures capacity { vec_capacity out.old ≤ vec_capacity out.new }
-    {
-        match self.parser.held() {
-            Held::Control { .. } if 0x40 <= byte && byte < 0x7F => self.feed_final(byte, out),
-            Held::Escape(Inters::Zero) if is_c1_letter(byte) => self.feed_final(byte, out),
-            _ => self.feed_event(byte, out),
-        }
-    }
-
-    /// The final byte of a sequence, whose parts are read where they are held.
-    #[inline(always)]
-    fn feed_final(&mut self, last: u8, out: &mut Vec<u8>)
-        requires ends { IsEnding self.old.held last }
-        requires room { vec_len out.old + 10 ≤ vec_capacity out.old }
-        ensures state { self.new ≡ (play self.old (last ∷ [])).state }
-        ensures reports { out.new.items ≡ out.old.items ++ (play self.old (last ∷ [])).reports }
-        ensures bounded { vec_len out.new ≤ vec_len out.old + 10 }
-        ensures capacity { vec_capacity out.old ≤ vec_capacity out.new }
-    {
-        self.display.end_sequence(self.parser.held(), last, out);
-        self.parser.end_sequence(last);
-    }
-
-    /// A control between sequences, which is an event by itself.
-    fn feed_single(&mut self, byte: u8, out: &mut Vec<u8>)
-        requires single { is_opener byte ≡ false }
-        requires control { single_function byte ≡ Control byte ∷ [] }
-        requires between { self.old.held ≡ Nothing }
-        requires room { vec_len out.old + 10 ≤ vec_capacity out.old }
-        ensures state { self.new ≡ (play self.old (byte ∷ [])).state }
-        ensures reports { out.new.items ≡ out.old.items ++ (play self.old (byte ∷ [])).reports }
-        ensures bounded { vec_len out.new ≤ vec_len out.old + 10 }
-        ensures capacity { vec_capacity out.old ≤ vec_capacity out.new }
-    {
-        spelled();
-        self.display.report_control(byte, out);
-        self.display.control(byte);
-    }
-
-    /// A byte that may complete any event.
-    #[inline(never)]
-    fn feed_event(&mut self, byte: u8, out: &mut Vec<u8>)
-        requires { vec_len out.old + 10 ≤ vec_capacity out.old }
-        ensures state { self.new ≡ (play self.old (byte ∷ [])).state }
-        ensures reports { out.new.items ≡ out.old.items ++ (play self.old (byte ∷ [])).reports }
-        ensures bounded { vec_len out.new ≤ vec_len out.old + 10 }
-        ensures capacity { vec_capacity out.old ≤ vec_capacity out.new }
-    {
-        if let Some(event) = self.parser.push(byte) {
-            self.display.report(&event, out);
-            self.display.carry_out(&event);
-        }
+        bytes
     }
 
     /// A run of plain bytes.
     fn feed_run(&mut self, run: &[u8])
         requires plain { All IsPlain run.now }
+        requires some { 1 ≤ length run.now }
         requires between { self.old.held ≡ Nothing }
         requires writes { WritesAscii self.old.display }
         ensures state { self.new ≡ (play self.old run.now).state }
@@ -322,6 +242,7 @@ impl Terminal {
     /// A run of graphic bytes, where the sets in GL and GR are read.
     fn feed_in_use(&mut self, run: &[u8])
         requires graphic { All HasGlyph run.now }
+        requires some { 1 ≤ length run.now }
         requires between { self.old.held ≡ Nothing }
         requires writes { (self.old.display.sets.pending ≡ None) × (self.old.display.modes.irm ≡ false) }
         ensures state { self.new ≡ (play self.old run.now).state }
@@ -360,34 +281,5 @@ impl Terminal {
         for row in 1..ROWS + 1 {
             push_line(self.row(row), out);
         }
-    }
-}
-
-/// Whether a byte is a control that is an event by itself between sequences: it opens nothing, and isn't CAN or DEL.
-#[inline(always)]
-#[tactic(auto, using(crate::proofs::Bytes::byte_tests), unfolding(vt_syntax::specs::Class::opens_string))]
-fn is_single_control(b: u8) -> bool
-    ensures single { OnTrue result (is_opener b ≡ false) }
-    ensures control { OnTrue result (single_function b ≡ Control b ∷ []) }
-{
-    match b {
-        0x18 | 0x1B => false,
-        0x00..=0x1F => true,
-        0x90 | 0x98 | 0x9B | 0x9D..=0x9F => false,
-        0x80..=0x9F => true,
-        _ => false,
-    }
-}
-
-/// Whether a byte after ESC stands for a C1 control that opens nothing.
-#[inline(always)]
-#[tactic(auto, using(crate::proofs::Bytes::byte_tests), unfolding(vt_syntax::specs::Class::opens_string))]
-fn is_c1_letter(b: u8) -> bool
-    ensures { OnTrue result (IsEnding (Escape Zero) b) }
-{
-    match b {
-        b'P' | b'X' | b'[' | b']'..=b'_' => false,
-        0x40..=0x5F => true,
-        _ => false,
     }
 }

@@ -1,5 +1,6 @@
 //! Writing glyphs.
 ghost use Rattle.std.specs.Prelude.{◌≡◌, ◌+◌, ◌≤◌, ◌⊎◌, ◌↔◌, All, IsTrue, false, length, map};
+ghost use Rattle.std.specs.Bool.{OnTrue};
 ghost use Rattle.vt_syntax.specs.Class.{IsPlain};
 ghost use Rattle.vt_syntax.specs.declared.event.Event.TheVariants.{Print};
 ghost use Rattle.vt_term.specs.Play.{after_events};
@@ -75,8 +76,25 @@ impl Display {
         !self.modes.irm && self.sets.pending().is_none()
     }
 
-    /// Writes a run of plain bytes where GL is ASCII, a line at a time.
+    /// Writes a run of plain bytes where GL is ASCII. Most runs end in the cursor's row.
+    #[inline(always)]
     pub(crate) fn write_run(&mut self, run: &[u8])
+        requires plain { All IsPlain run.now }
+        requires some { 1 ≤ length run.now }
+        requires writes { WritesAscii self.old }
+        ensures { self.new ≡ after_events (map Print run.now) self.old }
+    {
+        runs();
+        if self.fits(run.len()) {
+            self.put_run(run);
+        } else {
+            self.write_lines(run);
+        }
+    }
+
+    /// The same, a line at a time.
+    #[inline(never)]
+    fn write_lines(&mut self, run: &[u8])
         requires plain { All IsPlain run.now }
         requires writes { WritesAscii self.old }
         ensures { self.new ≡ after_events (map Print run.now) self.old }
@@ -91,21 +109,47 @@ impl Display {
         }
     }
 
-    /// Writes a run of graphic bytes through the sets in GL and GR, a line at a time.
+    /// Writes a run of graphic bytes through the sets in GL and GR. Most runs end in the cursor's row.
+    #[inline(always)]
     pub(crate) fn write_graphics(&mut self, run: &[u8])
         requires graphic { All HasGlyph run.now }
+        requires some { 1 ≤ length run.now }
         requires writes { WritesInUse (in_use self.old.sets) self.old }
         ensures { self.new ≡ after_events (map Print run.now) self.old }
     {
         runs();
         let table = self.sets.in_use();
+        if self.fits(run.len()) {
+            self.put_graphics(run, &table);
+        } else {
+            self.write_graphic_lines(run, &table);
+        }
+    }
+
+    /// The same, a line at a time.
+    #[inline(never)]
+    fn write_graphic_lines(&mut self, run: &[u8], table: &InUse)
+        requires graphic { All HasGlyph run.now }
+        requires table { table.now ≡ in_use self.old.sets }
+        requires writes { WritesInUse (in_use self.old.sets) self.old }
+        ensures { self.new ≡ after_events (map Print run.now) self.old }
+    {
+        runs();
         let mut at = 0;
         while at < run.len() {
             self.carry_out_wrap();
             let end = run.len().min(at + self.room());
-            self.put_graphics(&run[at..end], &table);
+            self.put_graphics(&run[at..end], table);
             at = end;
         }
+    }
+
+    /// Whether no wrap is pending, and so many cells end before the last column.
+    #[inline(always)]
+    fn fits(&self, n: usize) -> bool
+        ensures { OnTrue result ((self.now.cursor.wrap ≡ false) × (self.now.cursor.col + n ≤ self.now.grid.width)) }
+    {
+        !self.cursor.wrap && n < self.room()
     }
 
     /// How many cells there are from the cursor to the end of its row.

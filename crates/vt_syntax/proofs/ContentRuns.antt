@@ -1,0 +1,86 @@
+-- Runs of content of a string, seen a vector at a time through the mask of the lanes that may end it.
+use Rattle.std.proofs.Common.{◌≡◌, ℕ, zero, suc, ◌+◌, ◌-◌, ◌%◌, ◌^◌, ◌<◌, ◌≤◌, Bool, true, false, not, ◌||◌, cond, ltb, List, [], ◌∷◌, map, length, take, replicate, get_or, refl, ap, ap₂, ◌∙◌, arith, bit_or, w8, Fits, inl, inr}
+use Rattle.std.specs.List.{prefix_len}
+use Rattle.std.proofs.lemmas.Bool.{cases_lt}
+use Rattle.std.proofs.lemmas.Bool.Decides.{nat_tests}
+use Rattle.std.proofs.lemmas.List.{length-map}
+use Rattle.std.proofs.lemmas.List.Sums.{prefix_len-le-length, prefix_len_passes}
+use Rattle.std.proofs.lemmas.Simd.{mask_l-mod}
+use lib.Lanes.{zip2, mask_l, top, Each1}
+use Rattle.vt_syntax.specs.declared.held.Held.TheVariants.{Text}
+use Rattle.vt_syntax.specs.Items.{ends_string}
+use Rattle.vt_syntax.specs.Steps.{step_to, step_string, run}
+use Rattle.vt_syntax.specs.Content.{goes_on}
+use Rattle.vt_syntax.proofs.SilentBytes.{run_nil, run_content}
+
+-- ---- the mask of a vector
+
+-- a byte from 18 to 1B, 9C or 07: less the first of each, with wrapping, it is below how many there are
+stops : (x : ℕ) → x < 256 → ltb ((x + 232) % 256) 4 || (ltb ((x + 100) % 256) 1 || ltb ((x + 249) % 256) 1) ≡ not (goes_on x)
+stops x h = elim (cases_lt x 7) [
+  | inl below ↦
+      let a : (x + 232) % 256 ≡ x + 232 = omega arith in
+      let b : (x + 100) % 256 ≡ x + 100 = omega arith in
+      let c : (x + 249) % 256 ≡ x + 249 = omega arith in
+      rw (a, b, c) (grind (arith, nat_tests))
+  | inr from_7 ↦
+      let c : (x + 249) % 256 ≡ x - 7 = omega arith in
+      elim (cases_lt x 24) [
+        | inl below ↦
+            let a : (x + 232) % 256 ≡ x + 232 = omega arith in
+            let b : (x + 100) % 256 ≡ x + 100 = omega arith in
+            rw (a, b, c) (grind (arith, nat_tests))
+        | inr from_24 ↦
+            let a : (x + 232) % 256 ≡ x - 24 = omega arith in
+            elim (cases_lt x 156) [
+              | inl below ↦ let b : (x + 100) % 256 ≡ x + 100 = omega arith in rw (a, b, c) (grind (arith, nat_tests))
+              | inr from_156 ↦ let b : (x + 100) % 256 ≡ x - 156 = omega arith in rw (a, b, c) (grind (arith, nat_tests))
+            ]
+      ]
+]
+
+any_tops : (a b c : Bool) → top 7 (bit_or (cond a 255 0) (bit_or (cond b 255 0) (cond c 255 0))) ≡ a || (b || c)
+any_tops true true true = refl
+any_tops true true false = refl
+any_tops true false true = refl
+any_tops true false false = refl
+any_tops false true true = refl
+any_tops false true false = refl
+any_tops false false true = refl
+any_tops false false false = refl
+
+-- the lanes below a limit, less a byte
+abbrev below : ℕ → ℕ → ℕ → List ℕ → List ℕ
+below n first many v = zip2 (λ a b. cond (ltb a b) 255 0) (zip2 (λ a b. (a + (256 - b)) % 256) v (replicate n first)) (replicate n many)
+
+lanes : (n : ℕ) (v : List ℕ) → length v ≡ n → Each1 (Fits w8) v
+    → map (top 7) (zip2 bit_or (below n 24 4 v) (zip2 bit_or (below n 156 1 v) (below n 7 1 v))) ≡ map (λ b. not (goes_on b)) v
+lanes zero [] long fits = refl
+lanes (suc n) [] long fits = absurd (omega arith)
+lanes zero (x ∷ v) long fits = absurd (omega arith)
+lanes (suc n) (x ∷ v) long fits =
+    ap₂ (λ b bs. b ∷ bs) (any_tops (ltb ((x + 232) % 256) 4) (ltb ((x + 100) % 256) 1) (ltb ((x + 249) % 256) 1) ∙ stops x fits.0.fits) (lanes n v (omega arith) fits.1)
+
+pub stops_mask : (n : ℕ) (v : List ℕ) → length v ≡ n → n ≤ 64 → Each1 (Fits w8) v
+    → mask_l (map (top 7) (zip2 bit_or (below n 24 4 v) (zip2 bit_or (below n 156 1 v) (below n 7 1 v)))) % 2 ^ 64 ≡ mask_l (map (λ b. not (goes_on b)) v)
+stops_mask n v long few fits =
+    ap (λ m. mask_l m % 2 ^ 64) (lanes n v long fits) ∙ mask_l-mod (map (λ b. not (goes_on b)) v) 64 (omega (arith, length-map v (λ b. not (goes_on b))))
+
+-- ---- what goes on is content
+
+content_byte : (osc : Bool) (b : ℕ) → goes_on b ≡ true → step_string osc b ≡ step_to (Text osc) []
+unfolding ends_string
+content_byte true b is = grind (arith, nat_tests)
+content_byte false b is = grind (arith, nat_tests)
+
+run_front : (osc : Bool) (piece : List ℕ) (n : ℕ) → n ≤ prefix_len goes_on piece → run (Text osc) (take n piece) ≡ step_to (Text osc) []
+run_front osc piece zero few = run_nil (Text osc)
+run_front osc piece (suc n) few =
+    let below : n < prefix_len goes_on piece = omega arith in
+    let inside : n < length piece = omega (arith, prefix_len-le-length goes_on piece) in
+    let next : n + 1 ≡ suc n = omega arith in
+    rw (← next) (run_content osc piece n inside (run_front osc piece n (omega arith)) (content_byte osc (get_or piece n 0) (prefix_len_passes goes_on piece n 0 below)))
+
+-- the front of bytes that go on
+pub run_goes_on : (osc : Bool) (piece : List ℕ) → run (Text osc) (take (prefix_len goes_on piece) piece) ≡ step_to (Text osc) []
+run_goes_on osc piece = run_front osc piece (prefix_len goes_on piece) (omega arith)

@@ -1,0 +1,40 @@
+-- Runs of bytes that pass a test, seen a vector at a time through the mask of the lanes that fail it.
+use Rattle.std.proofs.Common.{◌≡◌, ℕ, ◌+◌, ◌*◌, ◌<◌, ◌≤◌, Bool, true, false, not, cond, eqb, List, [], ◌∷◌, map, length, drop, refl, sym, ap, ap₂, ◌∙◌, arith}
+use Rattle.std.specs.List.{prefix_len}
+use Rattle.std.proofs.lemmas.Bool.{eq-eqb, ne_eqb}
+use Rattle.std.proofs.lemmas.List.Folds.{prefix_len-append}
+use Rattle.std.proofs.lemmas.List.Sums.{prefix_len-le-length}
+use Rattle.std.proofs.lemmas.Simd.{chunk-drop, length-chunk, leading_from_mask_l, trailing_mask_l}
+use lib.Lanes.{chunk, mask_l}
+use lib.Count.{count_trailing_zeros}
+
+none_stops : (b : Bool) (n l m : ℕ) → n ≤ l → cond b (1 + n) 0 ≡ 1 + l → (n ≡ l → m ≡ 0) → cond (not b) 1 0 + 2 * m ≡ 0
+none_stops true n l m le e ih = let z = ih (omega arith) in omega arith
+none_stops false n l m le e ih = let no : ⊥ = omega arith in absurd no
+
+all_pass : (p : ℕ → Bool) (xs : List ℕ) → prefix_len p xs ≡ length xs → mask_l (map (λ b. not (p b)) xs) ≡ 0
+all_pass p [] e = refl
+all_pass p (x ∷ xs) e = none_stops (p x) _ (length xs) _ (prefix_len-le-length p xs) (omega arith) (all_pass p xs)
+
+not-not : (b : Bool) → b ≡ not (not b)
+not-not true = refl
+not-not false = refl
+
+same_run : (p : ℕ → Bool) (xs : List ℕ) → prefix_len p xs ≡ prefix_len (λ x. not (not (p x))) xs
+same_run p [] = refl
+same_run p (x ∷ xs) = ap₂ (λ b n. cond b (1 + n) 0) (not-not (p x)) (same_run p xs)
+
+split : (p : ℕ → Bool) (xs : List ℕ) (i n : ℕ) → prefix_len p (drop i xs) ≡ cond (eqb (prefix_len p (chunk i n xs)) (length (chunk i n xs))) (length (chunk i n xs) + prefix_len p (drop (i + n) xs)) (prefix_len p (chunk i n xs))
+split p xs i n = ap (prefix_len p) (chunk-drop i n xs) ∙ prefix_len-append p (chunk i n xs) (drop (i + n) xs)
+
+pub run_through : (p : ℕ → Bool) (xs : List ℕ) (i n : ℕ) → i + n ≤ length xs → mask_l (map (λ b. not (p b)) (chunk i n xs)) ≡ 0 → prefix_len p (drop i xs) ≡ n + prefix_len p (drop (i + n) xs)
+run_through p xs i n room none =
+    let c = chunk i n xs in
+    split p xs i n ∙ ap (λ b. cond b (length c + prefix_len p (drop (i + n) xs)) (prefix_len p c)) (eq-eqb _ _ (same_run p c ∙ leading_from_mask_l (λ b. not (p b)) c none))
+    ∙ ap (λ k. k + prefix_len p (drop (i + n) xs)) (length-chunk i n xs room)
+
+pub run_stops : (p : ℕ → Bool) (xs : List ℕ) (i n : ℕ) → i + n ≤ length xs → n ≤ 64 → 0 < mask_l (map (λ b. not (p b)) (chunk i n xs)) → prefix_len p (drop i xs) ≡ count_trailing_zeros 64 (mask_l (map (λ b. not (p b)) (chunk i n xs)))
+run_stops p xs i n room few some =
+    let c = chunk i n xs in
+    split p xs i n ∙ ap (λ b. cond b (length c + prefix_len p (drop (i + n) xs)) (prefix_len p c)) (ne_eqb _ _ (λ (e : prefix_len p c ≡ length c). omega (arith, all_pass p c e)))
+    ∙ same_run p c ∙ sym (trailing_mask_l (λ b. not (p b)) 64 c (omega (arith, length-chunk i n xs room)) some)

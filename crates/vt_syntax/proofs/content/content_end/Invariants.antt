@@ -1,0 +1,14 @@
+-- The bytes passed so far go on a string.
+use Rattle.std.proofs.Common.{◌≡◌, ◌+◌, ◌-◌, ◌≤◌, length, drop}
+use Rattle.std.specs.List.{prefix_len}
+use Rattle.vt_syntax.specs.Content.{goes_on}
+use Rattle.vt_syntax.proofs.content.content_end.Given as goal
+
+abbrev pub invariant-loop-at : goal.invariant-loop-at
+invariant-loop-at l = record {
+  within : l.at ≤ length l.piece;
+  so_far : prefix_len goes_on l.piece ≡ l.at + prefix_len goes_on (drop l.at l.piece);
+}
+
+abbrev pub decreases-loop-at : goal.decreases-loop-at
+decreases-loop-at l = length l.piece - l.at

@@ -1,0 +1,18 @@
+-- An event by its parts: its kind, and the values of a control sequence.
+use Rattle.std.specs.Prelude.{ℕ, List, [], ◌∷◌, Option, Some, None}
+use Rattle.vt_syntax.specs.declared.event.Event.{Event}
+use Rattle.vt_syntax.specs.declared.event.Event.TheVariants as event
+use Rattle.vt_syntax.specs.declared.event.EventKind.{EventKind}
+use Rattle.vt_syntax.specs.declared.event.EventKind.TheVariants.{Print, Control, Escape, Sequence}
+
+-- the event of this kind, with these values where it is a control sequence
+abbrev pub event_of : EventKind → List ℕ → Event
+event_of (Print b) values = event.Print b
+event_of (Control b) values = event.Control b
+event_of (Escape inter last) values = event.Escape inter last
+event_of (Sequence marker inter last) values = event.Sequence marker (record { items = values }) inter last
+
+-- the one event, or none
+abbrev pub event_in : Option EventKind → List ℕ → List Event
+event_in None values = []
+event_in (Some kind) values = event_of kind values ∷ []

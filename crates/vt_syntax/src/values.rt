@@ -1,0 +1,78 @@
+//! The values of a control sequence, beside its other parts.
+ghost use Rattle.std.specs.Prelude.{◌≡◌, ◌<◌, ◌≤◌, [], ◌∷◌, ◌++◌, length};
+
+use std::marker::Model;
+
+/// The values of a control sequence: at most 16. They stand in the value itself.
+#[derive(Drop)]
+pub struct Values {
+    list: [u16; 16],
+    len: usize,
+}
+
+impl Model for Values {
+    ghost use Rattle.std.specs.Prelude.{◌≡◌, ◌≤◌, ℕ, List, length, take};
+
+    ghost Value = { List ℕ };
+
+    ghost view = { λ v. take v.len v.list };
+
+    ghost invariant = { λ v. (v.len ≤ 16) × (length v.list ≡ 16) };
+}
+
+impl Values {
+    /// No value.
+    pub fn new() -> Values
+        ensures { result ≡ [] }
+    {
+        Values {
+            list: [0; 16],
+            len: 0,
+        }
+    }
+
+    /// The values.
+    #[inline(always)]
+    pub fn as_slice(&self) -> &[u16]
+        ensures value { result.now ≡ self.now }
+        ensures few { length result.now ≤ 16 }
+    {
+        &self.list[..self.len]
+    }
+
+    /// How many values there are.
+    #[inline(always)]
+    pub(crate) fn len(&self) -> usize
+        ensures value { result ≡ length self.now }
+        ensures few { result ≤ 16 }
+    {
+        self.len
+    }
+
+    /// Takes all values out.
+    #[inline(always)]
+    pub(crate) fn clear(&mut self)
+        ensures { self.new ≡ [] }
+    {
+        self.len = 0;
+    }
+
+    /// Puts a value at the end.
+    #[inline(always)]
+    pub(crate) fn push(&mut self, value: u16)
+        requires { length self.old < 16 }
+        ensures { self.new ≡ self.old ++ value ∷ [] }
+    {
+        self.list[self.len] = value;
+        self.len += 1;
+    }
+
+    /// Puts these values in place of all that there are.
+    pub(crate) fn set(&mut self, values: &[u16])
+        requires { length values.now ≤ 16 }
+        ensures { self.new ≡ values.now }
+    {
+        self.list[..values.len()].copy_from_slice(values);
+        self.len = values.len();
+    }
+}

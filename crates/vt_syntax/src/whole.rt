@@ -1,0 +1,226 @@
+//! Events that stand whole at the front of a piece, between sequences: read from the piece, and never held.
+ghost use Rattle.std.specs.Prelude.{◌≡◌, ◌+◌, ◌-◌, ◌<◌, ◌≤◌, ℕ, List, [], ◌∷◌, ◌++◌, Option, IfSome, false, length, take, slice_index};
+ghost use Rattle.vt_syntax.specs.declared.held.Held.TheVariants.{Nothing, Escape, Control};
+ghost use Rattle.vt_syntax.specs.declared.held.Inters.TheVariants.{Zero};
+ghost use Rattle.std.specs.Bool.{OnTrue};
+ghost use Rattle.vt_syntax.specs.Event.{event_of};
+ghost use Rattle.vt_syntax.specs.Held.{IsEnding, ended_by};
+ghost use Rattle.vt_syntax.specs.Steps.{step_to, step_between, opened_by, is_silent, run};
+ghost use Rattle.vt_syntax.specs.Whole.{IsWhole, AreRead, begun};
+
+use crate::event::EventKind;
+use crate::parser::alone;
+use crate::values::Values;
+
+/// Reads the event that stands whole at the front of a piece: a byte by itself, or a sequence. Answers how many bytes it
+/// has. `None` where none stands there, and for what isn't common: more than 16 values, a value of four digits, a byte inside
+/// that has a function of its own, or the piece ends soon.
+#[inline(always)]
+pub(crate) fn whole_event(piece: &[u8], values: &mut Values) -> Option<(usize, EventKind)>
+    ensures { IfSome result (λ t. IsWhole piece.now values.new t.0 t.1) }
+{
+    if piece.len() < 2 {
+        return None;
+    }
+    if is_introducer(piece[0], piece[1]) {
+        return whole_control(piece, 2, values);
+    }
+    let first = piece[0];
+    if first == 0x1B {
+        return whole_escape(piece);
+    }
+    if stands_alone(first) {
+        return Some((1, alone(first)));
+    }
+    if first == 0x9B {
+        return whole_control(piece, 1, values);
+    }
+    None
+}
+
+/// Whether two bytes are ESC and `[`, which introduce a control sequence: one comparison of both.
+#[inline(always)]
+fn is_introducer(first: u8, second: u8) -> bool
+    ensures { OnTrue result ((first ≡ 0x1B) × (second ≡ 0x5B)) }
+{
+    first as u16 + 256 * second as u16 == 0x5B1B
+}
+
+/// Whether a byte between sequences is an event by itself: it opens nothing, and isn't CAN or DEL.
+#[inline(always)]
+#[tactic(auto, using(crate::proofs::Classes::class_tests), unfolding(crate::specs::Class::opens_string))]
+fn stands_alone(b: u8) -> bool
+    ensures { OnTrue result (is_silent (step_between b) ≡ false) }
+{
+    match b {
+        0x18 | 0x1B | 0x7F | 0x90 | 0x98 | 0x9B | 0x9D..=0x9F => false,
+        _ => true,
+    }
+}
+
+/// A control sequence whose introducer ends at `from`.
+#[inline(always)]
+fn whole_control(piece: &[u8], from: usize, values: &mut Values) -> Option<(usize, EventKind)>
+    requires within { from ≤ length piece.now }
+    requires introduced { run Nothing (take from piece.now) ≡ step_to (opened_by 0x9B) [] }
+    ensures { IfSome result (λ t. IsWhole piece.now values.new t.0 t.1) }
+{
+    let (marker, start) = marker_at(piece, from);
+    let at = read_values(piece, start, marker, values)?;
+    let last = piece[at];
+    if 0x40 <= last && last < 0x7F {
+        let inter = None;
+        return Some((
+            at + 1,
+            EventKind::Sequence {
+                marker,
+                inter,
+                last,
+            },
+        ));
+    }
+    whole_control_with(piece, at, marker, values)
+}
+
+/// A control sequence with an intermediate at `at`, behind its values.
+#[inline(never)]
+fn whole_control_with(
+    piece: &[u8],
+    at: usize,
+    marker: Option<u8>,
+    values: &Values,
+) -> Option<(usize, EventKind)>
+    requires { AreRead piece.now at marker values.now }
+    ensures { IfSome result (λ t. IsWhole piece.now values.now t.0 t.1) }
+{
+    if at + 2 > piece.len() || piece[at] < 0x20 || 0x30 <= piece[at] {
+        return None;
+    }
+    let last = piece[at + 1];
+    if last < 0x40 || 0x7F <= last {
+        return None;
+    }
+    let inter = Some(piece[at]);
+    Some((
+        at + 2,
+        EventKind::Sequence {
+            marker,
+            inter,
+            last,
+        },
+    ))
+}
+
+/// The marker at a place, and the place behind it.
+#[inline(always)]
+fn marker_at(piece: &[u8], from: usize) -> (Option<u8>, usize)
+    requires { from ≤ length piece.now }
+    ensures within { result.1 ≤ length piece.now }
+    ensures reads { run Nothing (take from piece.now) ≡ step_to (opened_by 0x9B) []
+        → run Nothing (take result.1 piece.now) ≡ step_to (begun result.0) [] }
+{
+    if from < piece.len() && 0x3C <= piece[from] && piece[from] < 0x40 {
+        (Some(piece[from]), from + 1)
+    } else {
+        (None, from)
+    }
+}
+
+/// Reads the values from a place on, and answers the place behind them. `None` after the 16th, and where fewer than four
+/// bytes are left.
+#[inline(always)]
+fn read_values(piece: &[u8], start: usize, marker: Option<u8>, values: &mut Values) -> Option<usize>
+    requires within { start ≤ length piece.now }
+    requires begun { run Nothing (take start piece.now) ≡ step_to (begun marker) [] }
+    ensures { IfSome result (λ at. (at < length piece.now) × AreRead piece.now at marker values.new) }
+{
+    values.clear();
+    let mut at = start;
+    while at + 4 <= piece.len() && values.len() < 16 {
+        let (value, end) = read_value(piece, at);
+        values.push(value);
+        if piece[end] != b';' {
+            return Some(end);
+        }
+        at = end + 1;
+    }
+    None
+}
+
+/// Reads a value of at most three digits, and answers it and the place behind it.
+#[inline(always)]
+fn read_value(piece: &[u8], at: usize) -> (u16, usize)
+    requires { at + 4 ≤ length piece.now }
+    ensures low { at ≤ result.1 }
+    ensures high { result.1 ≤ at + 3 }
+    ensures reads { (marker : Option ℕ) (xs : List ℕ) → AreRead piece.now at marker (xs ++ 0 ∷ [])
+        → AreRead piece.now result.1 marker (xs ++ result.0 ∷ []) }
+{
+    let Some(a) = digit(piece[at]) else {
+        return (0, at);
+    };
+    let Some(b) = digit(piece[at + 1]) else {
+        return (a, at + 1);
+    };
+    let Some(c) = digit(piece[at + 2]) else {
+        return (10 * a + b, at + 2);
+    };
+    (100 * a + 10 * b + c, at + 3)
+}
+
+/// The number that a digit stands for.
+#[inline(always)]
+fn digit(b: u8) -> Option<u16>
+    ensures { IfSome result (λ d. (48 ≤ b) × (b ≤ 57) × (d ≡ b - 48)) }
+{
+    if b'0' <= b && b <= b'9' {
+        Some((b - b'0') as u16)
+    } else {
+        None
+    }
+}
+
+/// An escape sequence.
+#[inline(always)]
+fn whole_escape(piece: &[u8]) -> Option<(usize, EventKind)>
+    requires long { 2 ≤ length piece.now }
+    requires first { slice_index piece.now 0 ≡ 0x1B }
+    ensures { (values : List ℕ) → IfSome result (λ t. IsWhole piece.now values t.0 t.1) }
+{
+    let second = piece[1];
+    if ends_escape(second) {
+        return Some((2, plain_escape(second)));
+    }
+    if piece.len() > 2 && 0x20 <= second && second < 0x30 && 0x30 <= piece[2] && piece[2] < 0x7F {
+        let inter = Some(second);
+        let last = piece[2];
+        return Some((3, EventKind::Escape { inter, last }));
+    }
+    None
+}
+
+/// Whether a byte after ESC ends an escape sequence: it is a final byte, and the letter of no C1 control that opens something.
+#[inline(always)]
+#[tactic(auto, using(crate::proofs::Classes::class_tests), unfolding(crate::specs::Class::opens_string))]
+pub(crate) fn ends_escape(b: u8) -> bool
+    ensures { OnTrue result (IsEnding (Escape Zero) b) }
+{
+    match b {
+        b'P' | b'X' | b'[' | b']'..=b'_' => false,
+        0x30..=0x7E => true,
+        _ => false,
+    }
+}
+
+/// The event of ESC and a final byte: 40..5F stand for the C1 control that is 40 higher.
+#[inline(always)]
+pub(crate) fn plain_escape(last: u8) -> EventKind
+    requires { last < 0x80 }
+    ensures { (values : List ℕ) → event_of result values ≡ ended_by (Escape Zero) last }
+{
+    if 0x40 <= last && last < 0x60 {
+        EventKind::Control(last + 0x40)
+    } else {
+        EventKind::Escape { inter: None, last }
+    }
+}

@@ -30,7 +30,9 @@ fn put_front(part: &[u8], len: usize, at: usize, line: &mut [u8; LINE]) -> usize
     ensures items { take result line.new ≡ take at line.old ++ take len part.now }
     ensures next { result ≡ at + len }
 {
-    line[at..at + part.len()].copy_from_slice(part);
+    for (i, byte) in part.iter().enumerate() {
+        line[at + i] = *byte;
+    }
     at + len
 }
 
@@ -82,6 +84,18 @@ pub(crate) fn put_header(
     put_brush(brush, at, line)
 }
 
+/// A code behind a single shift.
+#[inline(always)]
+fn put_shifted(shift: u8, code: u8, at: usize, line: &mut [u8; LINE]) -> usize
+    requires { at + 3 ≤ 3828 }
+    ensures items { take result line.new ≡ take at line.old ++ 0x1B ∷ shift ∷ code ∷ [] }
+    ensures next { result ≡ at + 3 }
+{
+    let at = put(0x1B, at, line);
+    let at = put(shift, at, line);
+    put(code, at, line)
+}
+
 /// A glyph, where the sets are those of its spelling.
 #[inline(always)]
 pub(crate) fn put_glyph(glyph: Glyph, at: usize, line: &mut [u8; LINE]) -> usize
@@ -89,12 +103,9 @@ pub(crate) fn put_glyph(glyph: Glyph, at: usize, line: &mut [u8; LINE]) -> usize
     ensures items { take result line.new ≡ take at line.old ++ spell_events (spelling_events (spelling_of glyph)) }
     ensures bounded { result ≤ at + 3 }
 {
-    let (shift, code) = match glyph.spelling() {
-        Spelling::Plain(code) => return put(code, at, line),
-        Spelling::Second(code) => (b'N', code),
-        Spelling::Third(code) => (b'O', code),
-    };
-    let at = put(0x1B, at, line);
-    let at = put(shift, at, line);
-    put(code, at, line)
+    match glyph.spelling() {
+        Spelling::Plain(code) => put(code, at, line),
+        Spelling::Second(code) => put_shifted(b'N', code, at, line),
+        Spelling::Third(code) => put_shifted(b'O', code, at, line),
+    }
 }

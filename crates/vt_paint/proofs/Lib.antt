@@ -14,3 +14,5 @@ pub mod Whole
 pub mod Canonical
 pub mod Spelled
 pub mod Pushing
+pub mod Entries
+pub mod RowRuns

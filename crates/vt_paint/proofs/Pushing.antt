@@ -58,11 +58,11 @@ all-suc p a n m e =
     ∙ ap (λ b. list_all p (range_with_len a n) && b) (and_true (p m))
 
 -- a cell of a row
-pub cell-is : ((g : Grid) (r c : ℕ) (d : Cell) → 1 ≤ c → c ≤ g.width → get_or (row_of g r) (c - 1) d ≡ cell_at g r c)
-    → (g : Grid) (r i : ℕ) (cells : List Cell) (x : Cell) → cells ≡ row_of g r → i < g.width → x ≡ get_or cells i x → x ≡ cell_at g r (i + 1)
-cell-is law g r i cells x h l is =
+pub cell-is : ((g : Grid) (r c : ℕ) (d : Cell) → 1 ≤ c → c ≤ g.width → get_or (row_of g r) (c - 1) d ≡ cell_at g r c) → ((g : Grid) (r : ℕ) → length (row_of g r) ≡ g.width)
+    → (g : Grid) (r i : ℕ) (cells : List Cell) (x : Cell) → cells ≡ row_of g r → i < length cells → x ≡ get_or cells i x → x ≡ cell_at g r (i + 1)
+cell-is law long g r i cells x h l is =
     let back : i ≡ i + 1 - 1 = omega arith in
-    is ∙ ap (λ xs. get_or xs i x) h ∙ ap (λ n. get_or (row_of g r) n x) back ∙ law g r (i + 1) x (omega arith) (omega arith)
+    is ∙ ap (λ xs. get_or xs i x) h ∙ ap (λ n. get_or (row_of g r) n x) back ∙ law g r (i + 1) x (omega arith) (omega (arith, long g r, ap length h))
 
 -- ---- one item after another
 

@@ -4,3 +4,4 @@ pub mod Pieces
 pub mod Items
 pub mod Repaint
 pub mod Room
+pub mod HeaderParts

@@ -1,17 +1,21 @@
 //! The cells of the screen. The room for them is there.
-ghost use Rattle.std.specs.Prelude.{◌≡◌, ◌+◌, ◌*◌, ◌≤◌, ◌++◌, ◌||◌, not, length, vec_len, vec_capacity};
+ghost use Rattle.std.specs.Prelude.{◌≡◌, ◌+◌, ◌*◌, ◌≤◌, ◌++◌, ◌||◌, ◌&&◌, not, length, take, vec_len, vec_capacity};
 ghost use Rattle.std.specs.List.{list_all};
 ghost use Rattle.vt_syntax.specs.Spelling.{spell_events};
+ghost use Rattle.vt_screen.specs.declared.cell.Brush.{Brush};
 ghost use Rattle.vt_screen.specs.Cells.{brush_of};
 ghost use Rattle.vt_screen.specs.Grid.{Grid, cell_at, row_of, last_row};
 ghost use Rattle.vt_paint.specs.Same.{is_blank as is_blank_cell, same_brush};
 ghost use Rattle.vt_paint.specs.Controls.{where_true, spelling_sets_events};
-ghost use Rattle.vt_paint.specs.Pieces.{piece_of, row_pieces};
+ghost use Rattle.vt_paint.specs.Pieces.{row_pieces};
 ghost use Rattle.vt_paint.specs.Items.{cells_item};
 ghost use Rattle.vt_paint.specs.Room.{head_room};
+ghost use Rattle.vt_paint.specs.HeaderParts.{brush_number};
 
-use crate::controls::{push_brush, push_cursor_to, push_glyph};
+use crate::line::{LINE, put_glyph, put_header};
 use crate::room::{push_bytes, push_where};
+use crate::tables::brush_number;
+use vt_glyph::Glyph;
 use vt_screen::Cell;
 use vt_screen::laws::rows;
 use vt_term::{ROWS, Terminal};
@@ -29,41 +33,50 @@ pub(crate) fn row_cell(t: &Terminal, row: usize, col: usize) -> &Cell
     &t.row(row)[col - 1]
 }
 
+/// Whether a cell is blank.
+#[inline(always)]
 fn is_blank(cell: &Cell) -> bool
     ensures { result ≡ is_blank_cell cell.now }
 {
-    *cell == Cell::blank()
+    cell.glyph == Glyph::blank() && brush_number(cell.brush()) == 0
 }
 
-/// Whether two cells are written with one brush.
-fn same_brush_of(a: &Cell, b: &Cell) -> bool
-    ensures { result ≡ same_brush (brush_of a.now) (brush_of b.now) }
+/// Whether a cell isn't blank and is written with the brush of this number.
+#[inline(always)]
+fn goes_on(number: u64, cell: &Cell) -> bool
+    ensures { (brush : Brush) → number ≡ brush_number brush → result ≡ (same_brush brush (brush_of cell.now) && not (is_blank_cell cell.now)) }
 {
-    a.brush() == b.brush()
+    brush_number(cell.brush()) == number && !(number == 0 && cell.glyph == Glyph::blank())
 }
 
-/// The piece of a cell, from the cell to its left.
-#[tactic(auto, unfolding(crate::specs::Pieces::piece_of, crate::specs::Pieces::header, crate::specs::Pieces::glyph_events))]
-fn push_piece(row: usize, col: usize, left: &Cell, cell: &Cell, out: &mut Vec<u8>)
-    requires row { row ≤ 24 }
-    requires col { col ≤ 132 }
-    requires room { vec_len out.old + 29 ≤ vec_capacity out.old }
-    ensures items { out.new.items ≡ out.old.items ++ spell_events (piece_of row col left.now cell.now) }
-    ensures bounded { vec_len out.new ≤ vec_len out.old + 29 }
-    ensures capacity { vec_capacity out.old ≤ vec_capacity out.new }
+/// The pieces of a row by runs: blank cells are passed over, and the cells of one brush are written behind one header.
+fn put_row(row: usize, cells: &[Cell], line: &mut [u8; LINE]) -> usize
+    requires row { (1 ≤ row) × (row ≤ last_row) }
+    requires len { length cells.now ≤ 132 }
+    ensures items { (g : Grid) → cells.now ≡ row_of g row → take result line.new ≡ spell_events (row_pieces g row) }
+    ensures bounded { result ≤ 3828 }
 {
-    if is_blank(cell) {
-        return;
+    rows();
+    let mut at = 0;
+    let mut i = 0;
+    while i < cells.len() {
+        let first = &cells[i];
+        i += 1;
+        if !is_blank(first) {
+            let number = brush_number(first.brush());
+            at = put_header(row, i, first.brush(), at, line);
+            at = put_glyph(first.glyph, at, line);
+            while i < cells.len() && goes_on(number, &cells[i]) {
+                at = put_glyph(cells[i].glyph, at, line);
+                i += 1;
+            }
+        }
     }
-    if is_blank(left) || !same_brush_of(left, cell) {
-        push_cursor_to(row, col, out);
-        push_brush(cell.brush(), out);
-    }
-    push_glyph(cell.glyph, out);
+    at
 }
 
-/// The pieces of a row.
-fn push_row(row: usize, cells: &[Cell], out: &mut Vec<u8>)
+/// The pieces of a row, gathered in the line.
+fn push_row(row: usize, cells: &[Cell], line: &mut [u8; LINE], out: &mut Vec<u8>)
     requires row { (1 ≤ row) × (row ≤ last_row) }
     requires len { length cells.now ≤ 132 }
     requires room { vec_len out.old + 29 * 132 ≤ vec_capacity out.old }
@@ -71,12 +84,8 @@ fn push_row(row: usize, cells: &[Cell], out: &mut Vec<u8>)
     ensures bounded { vec_len out.new ≤ vec_len out.old + 29 * 132 }
     ensures capacity { vec_capacity out.old ≤ vec_capacity out.new }
 {
-    rows();
-    let blank = Cell::blank();
-    for (i, cell) in cells.iter().enumerate() {
-        let left = if i == 0 { &blank } else { &cells[i - 1] };
-        push_piece(row, i + 1, left, cell, out);
-    }
+    let end = put_row(row, cells, line);
+    push_bytes(&line[..end], out);
 }
 
 fn is_blank_row(cells: &[Cell]) -> bool
@@ -86,7 +95,13 @@ fn is_blank_row(cells: &[Cell]) -> bool
 }
 
 /// A row, behind the sets of the spellings where nothing was shown before. Answers whether something is shown now.
-fn push_shown_row(row: usize, cells: &[Cell], shown: bool, out: &mut Vec<u8>) -> bool
+fn push_shown_row(
+    row: usize,
+    cells: &[Cell],
+    shown: bool,
+    line: &mut [u8; LINE],
+    out: &mut Vec<u8>,
+) -> bool
     requires row { (1 ≤ row) × (row ≤ last_row) }
     requires len { length cells.now ≤ 132 }
     requires room { vec_len out.old + 29 * 132 + head_room shown ≤ vec_capacity out.old }
@@ -97,14 +112,14 @@ fn push_shown_row(row: usize, cells: &[Cell], shown: bool, out: &mut Vec<u8>) ->
     ensures capacity { vec_capacity out.old ≤ vec_capacity out.new }
 {
     if shown {
-        push_row(row, cells, out);
+        push_row(row, cells, line, out);
         return true;
     }
     if is_blank_row(cells) {
         return false;
     }
     push_bytes(SPELLING_SETS, out);
-    push_row(row, cells, out);
+    push_row(row, cells, line, out);
     true
 }
 
@@ -117,8 +132,9 @@ pub(crate) fn push_cells(t: &Terminal, wrap: bool, out: &mut Vec<u8>)
 {
     rows();
     let mut shown = wrap;
+    let mut line = [0; LINE];
     push_where(wrap, SPELLING_SETS, out);
     for row in 1..ROWS + 1 {
-        shown = push_shown_row(row, t.row(row), shown, out);
+        shown = push_shown_row(row, t.row(row), shown, &mut line, out);
     }
 }

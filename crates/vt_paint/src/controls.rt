@@ -4,11 +4,12 @@ ghost use Rattle.vt_glyph.specs.declared.set.Set.TheVariants.{Ascii};
 ghost use Rattle.vt_glyph.specs.Designation.{final_of};
 ghost use Rattle.vt_syntax.specs.Spelling.{spell_event, spell_events};
 ghost use Rattle.vt_glyph.specs.Spell.{spelling_of};
-ghost use Rattle.vt_paint.specs.Controls.{cursor_to, margins_to, ansi_mode, private_mode, rendition_to, protection_to, brush_events, left_event, right_event, sets_events, spelling_events};
+ghost use Rattle.vt_paint.specs.Controls.{cursor_to, margins_to, ansi_mode, private_mode, brush_events, left_event, right_event, sets_events, spelling_events};
 
 use crate::room::{push_bytes, push_number, push_where};
+use crate::tables::brush_part;
 use vt_glyph::{Glyph, Set, Spelling};
-use vt_screen::{Brush, Rendition};
+use vt_screen::Brush;
 
 /// CUP.
 pub(crate) fn push_cursor_to(line: usize, col: usize, out: &mut Vec<u8>)
@@ -68,57 +69,16 @@ pub(crate) fn push_private_mode(number: u8, on: bool, out: &mut Vec<u8>)
     push_bytes(if on { b"h" } else { b"l" }, out);
 }
 
-/// SGR: all attributes off, and then on those that are set.
-fn push_rendition(r: Rendition, out: &mut Vec<u8>)
-    requires { vec_len out.old + 12 ≤ vec_capacity out.old }
-    ensures items { out.new.items ≡ out.old.items ++ spell_event (rendition_to r) }
-    ensures bounded { vec_len out.new ≤ vec_len out.old + 12 }
-    ensures capacity { vec_capacity out.old ≤ vec_capacity out.new }
-{
-    match (r.bold, r.underline, r.blink, r.reverse) {
-        (false, false, false, false) => push_bytes(b"\x1B[0m", out),
-        (false, false, false, true) => push_bytes(b"\x1B[0;7m", out),
-        (false, false, true, false) => push_bytes(b"\x1B[0;5m", out),
-        (false, false, true, true) => push_bytes(b"\x1B[0;5;7m", out),
-        (false, true, false, false) => push_bytes(b"\x1B[0;4m", out),
-        (false, true, false, true) => push_bytes(b"\x1B[0;4;7m", out),
-        (false, true, true, false) => push_bytes(b"\x1B[0;4;5m", out),
-        (false, true, true, true) => push_bytes(b"\x1B[0;4;5;7m", out),
-        (true, false, false, false) => push_bytes(b"\x1B[0;1m", out),
-        (true, false, false, true) => push_bytes(b"\x1B[0;1;7m", out),
-        (true, false, true, false) => push_bytes(b"\x1B[0;1;5m", out),
-        (true, false, true, true) => push_bytes(b"\x1B[0;1;5;7m", out),
-        (true, true, false, false) => push_bytes(b"\x1B[0;1;4m", out),
-        (true, true, false, true) => push_bytes(b"\x1B[0;1;4;7m", out),
-        (true, true, true, false) => push_bytes(b"\x1B[0;1;4;5m", out),
-        (true, true, true, true) => push_bytes(b"\x1B[0;1;4;5;7m", out),
-    }
-}
-
-/// DECSCA.
-fn push_protection(protected: bool, out: &mut Vec<u8>)
-    requires { vec_len out.old + 5 ≤ vec_capacity out.old }
-    ensures items { out.new.items ≡ out.old.items ++ spell_event (protection_to protected) }
-    ensures bounded { vec_len out.new ≤ vec_len out.old + 5 }
-    ensures capacity { vec_capacity out.old ≤ vec_capacity out.new }
-{
-    if protected {
-        push_bytes(b"\x1B[1\"q", out);
-    } else {
-        push_bytes(b"\x1B[0\"q", out);
-    }
-}
-
 /// SGR and DECSCA.
-#[tactic(auto, unfolding(crate::specs::Controls::brush_events))]
 pub(crate) fn push_brush(brush: Brush, out: &mut Vec<u8>)
     requires { vec_len out.old + 17 ≤ vec_capacity out.old }
     ensures items { out.new.items ≡ out.old.items ++ spell_events (brush_events brush) }
     ensures bounded { vec_len out.new ≤ vec_len out.old + 17 }
     ensures capacity { vec_capacity out.old ≤ vec_capacity out.new }
 {
-    push_rendition(brush.rendition, out);
-    push_protection(brush.protected, out);
+    let (rest, len) = brush_part(brush);
+    push_bytes(b"\x1B[0", out);
+    push_bytes(&rest[..len], out);
 }
 
 /// LS0 to LS3.

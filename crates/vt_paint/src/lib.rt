@@ -5,7 +5,9 @@ mod cells;
 mod controls;
 mod items;
 pub mod laws;
+mod line;
 mod paint;
 mod room;
+mod tables;
 
 pub use paint::{PAINT_LIMIT, PaintError, repaint, repaint_reserved};

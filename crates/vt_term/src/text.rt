@@ -32,8 +32,13 @@ fn push_glyph(glyph: Glyph, out: &mut Vec<u8>)
     ensures bounded { vec_len out.new ≤ vec_len out.old + 3 }
     ensures capacity { vec_capacity out.old ≤ vec_capacity out.new }
 {
+    let character = glyph.to_char();
+    if character.is_ascii() {
+        out.push(character as u8).unwrap();
+        return;
+    }
     let mut bytes = [0u8; 4];
-    let text = glyph.to_char().encode_utf8(&mut bytes);
+    let text = character.encode_utf8(&mut bytes);
     out.extend_from_slice(text.as_bytes()).unwrap();
 }
 

@@ -1,0 +1,31 @@
+-- The parts of a header, and a brush as a number. No public clause speaks of them.
+use Rattle.std.specs.Prelude.{ℕ, ◌+◌, ◌*◌, Bool, List, [], ◌∷◌, ◌++◌, if◌then◌else◌, decimal, drop}
+use Rattle.vt_syntax.specs.Spelling.{spell_events}
+use Rattle.vt_screen.specs.declared.cell.Brush.{Brush}
+use Rattle.vt_paint.specs.Controls.{brush_events}
+
+-- CUP up to its column, and the rest of it
+unfoldable pub row_part : ℕ → List ℕ
+row_part row = 0x1B ∷ 0x5B ∷ (decimal row ++ 0x3B ∷ [])
+
+unfoldable pub column_part : ℕ → List ℕ
+column_part col = decimal col ++ 0x48 ∷ []
+
+-- SGR behind its 0, and DECSCA
+unfoldable pub brush_part : Brush → List ℕ
+brush_part brush = drop 3 (spell_events (brush_events brush))
+
+abbrev pub bit : Bool → ℕ
+bit set = if set then 1 else 0
+
+-- a byte for each attribute, and one for the protection
+abbrev pub brush_number : Brush → ℕ
+brush_number brush =
+    bit brush.rendition.bold + 0x100 * bit brush.rendition.underline + 0x10000 * bit brush.rendition.blink
+    + 0x1000000 * bit brush.rendition.reverse + 0x100000000 * bit brush.protected
+
+-- the place of a brush among the 32
+abbrev pub brush_index : Brush → ℕ
+brush_index brush =
+    bit brush.rendition.bold + 2 * bit brush.rendition.underline + 4 * bit brush.rendition.blink
+    + 8 * bit brush.rendition.reverse + 16 * bit brush.protected

@@ -1,0 +1,111 @@
+//! The bytes of a row, written one behind another into a line that is appended at once. Each call takes the place where
+//! it writes, and answers the place behind what it wrote.
+ghost use Rattle.std.specs.Prelude.{◌≡◌, ◌+◌, ◌≤◌, ◌<◌, ◌++◌, ◌∷◌, [], take, length};
+ghost use Rattle.vt_syntax.specs.Spelling.{spell_event, spell_events};
+ghost use Rattle.vt_glyph.specs.Spell.{spelling_of};
+ghost use Rattle.vt_paint.specs.Controls.{cursor_to, brush_events, spelling_events};
+
+use crate::tables::{brush_part, column_part, row_part};
+use vt_glyph::{Glyph, Spelling};
+use vt_screen::Brush;
+
+/// The most bytes of a row: 29 for each of 132 cells.
+pub(crate) const LINE: usize = 29 * 132;
+
+#[inline(always)]
+fn put(byte: u8, at: usize, line: &mut [u8; LINE]) -> usize
+    requires { at < 3828 }
+    ensures items { take result line.new ≡ take at line.old ++ byte ∷ [] }
+    ensures next { result ≡ at + 1 }
+{
+    line[at] = byte;
+    at + 1
+}
+
+/// The first `len` bytes of a part, which is copied whole.
+#[inline(always)]
+fn put_front(part: &[u8], len: usize, at: usize, line: &mut [u8; LINE]) -> usize
+    requires len { len ≤ length part.now }
+    requires room { at + length part.now ≤ 3828 }
+    ensures items { take result line.new ≡ take at line.old ++ take len part.now }
+    ensures next { result ≡ at + len }
+{
+    for (i, byte) in part.iter().enumerate() {
+        line[at + i] = *byte;
+    }
+    at + len
+}
+
+/// CUP.
+#[inline(always)]
+fn put_cursor_to(row: usize, col: usize, at: usize, line: &mut [u8; LINE]) -> usize
+    requires row { (1 ≤ row) × (row ≤ 24) }
+    requires col { (1 ≤ col) × (col ≤ 132) }
+    requires room { at + 9 ≤ 3828 }
+    ensures items { take result line.new ≡ take at line.old ++ spell_event (cursor_to row col) }
+    ensures bounded { result ≤ at + 9 }
+{
+    let (start, len) = row_part(row);
+    let at = put_front(start, len, at, line);
+    let (end, len) = column_part(col);
+    put_front(end, len, at, line)
+}
+
+/// SGR and DECSCA.
+#[inline(always)]
+fn put_brush(brush: Brush, at: usize, line: &mut [u8; LINE]) -> usize
+    requires { at + 19 ≤ 3828 }
+    ensures items { take result line.new ≡ take at line.old ++ spell_events (brush_events brush) }
+    ensures bounded { result ≤ at + 17 }
+{
+    let at = put(0x1B, at, line);
+    let at = put(b'[', at, line);
+    let at = put(b'0', at, line);
+    let (rest, len) = brush_part(brush);
+    put_front(rest, len, at, line)
+}
+
+/// The place and the brush of cells.
+#[inline(always)]
+pub(crate) fn put_header(
+    row: usize,
+    col: usize,
+    brush: Brush,
+    at: usize,
+    line: &mut [u8; LINE],
+) -> usize
+    requires row { (1 ≤ row) × (row ≤ 24) }
+    requires col { (1 ≤ col) × (col ≤ 132) }
+    requires room { at + 29 ≤ 3828 }
+    ensures items { take result line.new ≡ take at line.old ++ spell_events (cursor_to row col ∷ brush_events brush) }
+    ensures bounded { result ≤ at + 26 }
+{
+    let at = put_cursor_to(row, col, at, line);
+    put_brush(brush, at, line)
+}
+
+/// A code behind a single shift.
+#[inline(always)]
+fn put_shifted(shift: u8, code: u8, at: usize, line: &mut [u8; LINE]) -> usize
+    requires { at + 3 ≤ 3828 }
+    ensures items { take result line.new ≡ take at line.old ++ 0x1B ∷ shift ∷ code ∷ [] }
+    ensures next { result ≡ at + 3 }
+{
+    let at = put(0x1B, at, line);
+    let at = put(shift, at, line);
+    put(code, at, line)
+}
+
+/// A glyph, where the sets are those of its spelling.
+#[inline(always)]
+pub(crate) fn put_glyph(glyph: Glyph, at: usize, line: &mut [u8; LINE]) -> usize
+    requires { at + 3 ≤ 3828 }
+    ensures items { take result line.new ≡ take at line.old ++ spell_events (spelling_events (spelling_of glyph)) }
+    ensures bounded { result ≤ at + 3 }
+{
+    match glyph.spelling() {
+        Spelling::Plain(code) => put(code, at, line),
+        Spelling::Second(code) => put_shifted(b'N', code, at, line),
+        Spelling::Third(code) => put_shifted(b'O', code, at, line),
+    }
+}

@@ -1,8 +1,12 @@
 //! The update: bytes that bring a terminal from one state to another, few where little differs.
 #![tactic(auto)]
 
+mod cells;
 mod choice;
+mod chosen;
 pub mod laws;
+mod remote;
+mod scrolling;
 mod updating;
 
 pub use updating::{UPDATE_LIMIT, UpdateError, update, update_reserved};

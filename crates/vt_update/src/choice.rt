@@ -1,8 +1,10 @@
 //! The choice of bytes. Nothing rests on it but their number: they are played before they are sent.
 ghost use Rattle.std.specs.Prelude.{◌≡◌, ◌+◌, ◌≤◌, ◌++◌, drop, vec_len, vec_capacity};
 
+use crate::cells::Rows;
 use crate::chosen::CHOICE_LIMIT;
 use crate::remote::Remote;
+use crate::scrolling::Scroll;
 use vt_term::Terminal;
 
 /// Appends bytes that should lead from one state to another.
@@ -30,7 +32,11 @@ impl Remote {
     fn bring(&mut self, shown: &Terminal, to: &Terminal) {
         let cursor = to.cursor();
         self.set_margins(to.margins());
-        self.set_cells(shown, to);
+        let scroll = Scroll::find(shown, to);
+        if let Some(scroll) = scroll {
+            self.scroll(scroll, to);
+        }
+        self.set_cells(&Rows::new(shown, scroll), to);
         self.set_saved(to.saved(), to);
         self.set_origin(to.modes().decom);
         self.stand(cursor, to);

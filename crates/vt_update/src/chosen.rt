@@ -51,10 +51,12 @@ impl Chosen {
         self.put(buffer.format(n).as_bytes());
     }
 
-    /// A control sequence of one number.
+    /// A control sequence of one number, which is left out where it is 1.
     pub(crate) fn control(&mut self, n: usize, last: u8) {
         self.put(b"\x1B[");
-        self.number(n);
+        if n != 1 {
+            self.number(n);
+        }
         self.push(last);
     }
 

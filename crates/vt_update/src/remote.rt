@@ -103,9 +103,18 @@ impl Remote {
             } else {
                 row
             };
-            self.chosen.control_of_two(line, col, b'H');
+            self.cursor_position(line, col);
         }
         self.stands_at(row, col);
+    }
+
+    /// CUP.
+    fn cursor_position(&mut self, line: usize, col: usize) {
+        if col == 1 {
+            self.chosen.control(line, b'H');
+        } else {
+            self.chosen.control_of_two(line, col, b'H');
+        }
     }
 
     /// LF to the next row, which is `row`; under LNM it goes to column 1.
@@ -133,10 +142,7 @@ impl Remote {
         }
         let start = self.cursor.col;
         if start < col && !self.write_again(row, col, to) {
-            match col - start {
-                1 => self.chosen.put(b"\x1B[C"),
-                n => self.chosen.control(n, b'C'),
-            }
+            self.chosen.control(col - start, b'C');
         }
     }
 

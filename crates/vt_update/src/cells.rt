@@ -130,7 +130,11 @@ impl Remote {
         let (mut here, below) = gains;
         let mut erased = Erased::Nothing;
         for (i, cell) in to.row(row).iter().enumerate() {
-            let was = if erased == Erased::Nothing { old.get(i) } else { Some(&blank) };
+            let was = if erased == Erased::Nothing {
+                old.get(i)
+            } else {
+                Some(&blank)
+            };
             if was != Some(cell) {
                 if *cell == blank && erased == Erased::Nothing {
                     erased = self.erase(row, i + 1, (here, below), to);

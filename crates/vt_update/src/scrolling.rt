@@ -46,7 +46,12 @@ impl Scroll {
         let mut found = None;
         for by in 1..bottom - top + 1 {
             for up in [true, false] {
-                let whole = Scroll { top, bottom, by, up };
+                let whole = Scroll {
+                    top,
+                    bottom,
+                    by,
+                    up,
+                };
                 let votes = filled.votes(whole, shown, to);
                 if votes > most {
                     most = votes;
@@ -127,20 +132,34 @@ impl Gains {
 
     /// The rows of a scroll that are best moved. All rows between the margins are better than as good a part.
     fn best(&self, scroll: Scroll) -> Option<Scroll> {
-        let Scroll { top, bottom, by, up } = scroll;
+        let Scroll {
+            top,
+            bottom,
+            by,
+            up,
+        } = scroll;
         let mut most = 3i32;
         let mut found = None;
         for first in top..bottom - by + 1 {
             let mut sum = 0i32;
             for last in first..bottom - by + 1 {
-                let (moved, blank) = if up { (last, last + 1) } else { (last + by, first) };
+                let (moved, blank) = if up {
+                    (last, last + 1)
+                } else {
+                    (last + by, first)
+                };
                 sum = sum.wrapping_add(self.moved[moved - 1]);
                 let spared = sum.wrapping_add(total(&self.blank[blank - 1..blank - 1 + by]));
                 let whole = first == top && last + by == bottom;
                 let gain = spared.wrapping_mul(2).wrapping_add(whole as i32);
                 if gain > most {
                     most = gain;
-                    found = Some(Scroll { top: first, bottom: last + by, by, up });
+                    found = Some(Scroll {
+                        top: first,
+                        bottom: last + by,
+                        by,
+                        up,
+                    });
                 }
             }
         }
@@ -159,7 +178,12 @@ fn total(counts: &[i32]) -> i32 {
 impl Remote {
     /// DL and IL, or one LF where that does it.
     pub(crate) fn scroll(&mut self, scroll: Scroll, to: &Terminal) {
-        let Scroll { top, bottom, by, up } = scroll;
+        let Scroll {
+            top,
+            bottom,
+            by,
+            up,
+        } = scroll;
         let margins = self.margins;
         let whole = margins.top == top && margins.bottom == bottom;
         if whole && up && by == 1 && self.cursor.row == bottom {

@@ -23,6 +23,11 @@ impl Sent {
         })
     }
 
+    fn restart(&mut self) {
+        self.bytes = 0;
+        self.nanos = 0;
+    }
+
     fn count(&mut self, rt: &impl Clock, start: Instant) -> io::Result<()> {
         let nanos = start.elapsed(rt)?.subsec_nanos() as u64;
         self.nanos = self.nanos.saturating_add(nanos);
@@ -57,6 +62,18 @@ impl Server {
             updates: Sent::new(alloc, UPDATE_LIMIT)?,
             repaints: Sent::new(alloc, PAINT_LIMIT)?,
         })
+    }
+
+    /// Everything as at power-up, and nothing sent. The room stays.
+    pub(crate) fn restart(&mut self, alloc: Global) -> Result<(), AllocError> {
+        self.terminal = Terminal::new(alloc)?;
+        self.shown = Terminal::new(alloc)?;
+        self.frames = 0;
+        self.inside = 0;
+        self.repainted = 0;
+        self.updates.restart();
+        self.repaints.restart();
+        Ok(())
     }
 
     /// Plays a frame, and sends what it changed where it ends between sequences.

@@ -3,95 +3,24 @@ ghost use Rattle.std.specs.Prelude.{◌≤◌};
 ghost use Rattle.vt_screen.specs.Grid.{last_row};
 
 use crate::remote::Remote;
-use crate::scrolling::Scroll;
+use crate::rows::{ROWS, Rows, gain, is_blank, is_same};
 use vt_screen::Cell;
 use vt_term::Terminal;
 
-/// The rows of the screen.
-pub(crate) const ROWS: usize = 24;
-
-/// The columns of a wide screen.
-const WIDE: usize = 132;
-
-/// An erasure pays where it spares more cells than it has bytes.
+/// An erasure pays where it spares more cells than this: so many bytes it takes.
 const ERASURE: i32 = 3;
 
-/// What no erasure pays for: a row that isn't to be touched.
+/// What erasing a row that is not to be touched spares: no other row makes that good.
 const NEVER: i32 = -10_000;
 
-/// In how many places the cells differ.
-pub(crate) fn unlike(old: &[Cell], new: &[Cell]) -> i32 {
-    let mut count = 0i32;
-    for (old, new) in old.iter().zip(new) {
-        count = count.wrapping_add((old != new) as i32);
-    }
-    count
+/// What erasing spares: the rest of the row, and the rows below.
+#[derive(Clone, Copy)]
+struct Spared {
+    here: i32,
+    below: i32,
 }
 
-/// How many cells aren't blank.
-pub(crate) fn filled(cells: &[Cell]) -> i32 {
-    let blank = Cell::blank();
-    let mut count = 0i32;
-    for cell in cells.iter() {
-        count = count.wrapping_add((*cell != blank) as i32);
-    }
-    count
-}
-
-/// The cells of the other side: those that are shown, after a scroll.
-#[derive(Drop)]
-pub(crate) struct Rows<'a> {
-    shown: &'a Terminal,
-    scroll: Option<Scroll>,
-    blanks: [Cell; WIDE],
-    width: usize,
-    ghost narrow: { width ≤ 132 },
-}
-
-impl Rows<'_> {
-    /// The rows as they are shown.
-    pub(crate) fn new(shown: &Terminal, scroll: Option<Scroll>) -> Rows<'_> {
-        Rows {
-            shown,
-            scroll,
-            blanks: [Cell::blank(); WIDE],
-            width: shown.width().min(WIDE),
-        }
-    }
-
-    /// A blank row.
-    fn blank(&self) -> &[Cell] {
-        &self.blanks[..self.width]
-    }
-
-    /// A row.
-    fn row(&self, row: usize) -> &[Cell] {
-        let source = match &self.scroll {
-            Some(scroll) => scroll.source(row),
-            None => row,
-        };
-        if 1 <= source && source <= ROWS {
-            self.shown.row(source)
-        } else {
-            self.blank()
-        }
-    }
-
-    /// How many bytes erasing a row spares: its cells that differ less those that aren't to be blank. A row that is as it
-    /// is to be, and isn't blank, is never erased.
-    fn gain(&self, row: usize, new: &[Cell]) -> i32 {
-        let old = self.row(row);
-        if old != new {
-            unlike(old, new).wrapping_sub(filled(new))
-        } else if new == self.blank() {
-            0
-        } else {
-            NEVER
-        }
-    }
-}
-
-/// What of the screen is erased yet.
+/// What was erased.
 #[derive(Clone, Copy, PartialEq, Eq)]
 enum Erased {
     Nothing,
@@ -105,47 +34,46 @@ impl Remote {
         let mut gains = [0i32; ROWS];
         let mut below = 0i32;
         for row in 1..ROWS + 1 {
-            let gain = rows.gain(row, to.row(row));
-            gains[row - 1] = gain;
-            below = below.wrapping_add(gain);
+            gains[row - 1] = row_gain(rows, row, to);
+            below = below.wrapping_add(gains[row - 1]);
         }
         let mut erased = false;
         for row in 1..ROWS + 1 {
-            below = below.wrapping_sub(gains[row - 1]);
-            let old = if erased { rows.blank() } else { rows.row(row) };
-            if old != to.row(row) {
-                let here = if erased { 0 } else { gains[row - 1] };
-                let below = if erased { 0 } else { below };
-                erased = self.set_row(row, old, (here, below), to) || erased;
+            let here = gains[row - 1];
+            below = below.wrapping_sub(here);
+            if erased {
+                self.set_row(row, rows.blank(), Spared { here: 0, below: 0 }, to);
+            } else if rows.differs(row) {
+                erased = self.set_row(row, rows.row(row), Spared { here, below }, to);
             }
         }
     }
 
-    /// The cells of a row. `gains` are what erasing the rest of the row and the rows below spares. Answers whether the
-    /// rows below were erased.
-    fn set_row(&mut self, row: usize, old: &[Cell], gains: (i32, i32), to: &Terminal) -> bool
+    /// The cells of a row. Answers whether the rows below were erased.
+    fn set_row(&mut self, row: usize, old: &[Cell], spared: Spared, to: &Terminal) -> bool
         requires { (1 ≤ row) × (row ≤ last_row) }
     {
-        let blank = Cell::blank();
-        let (mut here, below) = gains;
+        let mut here = spared.here;
         let mut erased = Erased::Nothing;
-        for (i, cell) in to.row(row).iter().enumerate() {
-            let was = if erased == Erased::Nothing {
-                old.get(i)
-            } else {
-                Some(&blank)
-            };
-            if was != Some(cell) {
-                if *cell == blank && erased == Erased::Nothing {
-                    erased = self.erase(row, i + 1, (here, below), to);
-                }
-                if *cell != blank || erased == Erased::Nothing {
+        for (i, (old, new)) in old.iter().zip(to.row(row)).enumerate() {
+            let blank = is_blank(new);
+            if erased != Erased::Nothing {
+                if !blank {
                     self.go(row, i + 1, to);
-                    self.write(*cell);
+                    self.write(*new);
                 }
-                here = here.wrapping_sub(1);
+            } else if !is_same(old, new) {
+                if blank {
+                    let spared = Spared { here, ..spared };
+                    erased = self.erase(row, i + 1, spared, to);
+                }
+                if erased == Erased::Nothing {
+                    self.go(row, i + 1, to);
+                    self.write(*new);
+                    here = here.wrapping_sub(1);
+                }
             }
-            if *cell != blank {
+            if !blank {
                 here = here.wrapping_add(1);
             }
         }
@@ -153,10 +81,10 @@ impl Remote {
     }
 
     /// ED or EL from a place on, where that pays.
-    fn erase(&mut self, row: usize, col: usize, gains: (i32, i32), to: &Terminal) -> Erased
+    fn erase(&mut self, row: usize, col: usize, spared: Spared, to: &Terminal) -> Erased
         requires { (1 ≤ row) × (row ≤ last_row) }
     {
-        let (here, below) = gains;
+        let Spared { here, below } = spared;
         if here < 0 {
             Erased::Nothing
         } else if below > 0 && here.wrapping_add(below) > ERASURE {
@@ -170,5 +98,18 @@ impl Remote {
         } else {
             Erased::Nothing
         }
+    }
+}
+
+/// What erasing a row spares. A row that is as it is to be, and isn't blank, is never erased.
+fn row_gain(rows: &Rows<'_>, row: usize, to: &Terminal) -> i32
+    requires { (1 ≤ row) × (row ≤ last_row) }
+{
+    if rows.differs(row) {
+        gain(rows.row(row), to.row(row))
+    } else if to.row(row) == rows.blank() {
+        0
+    } else {
+        NEVER
     }
 }

@@ -1,9 +1,9 @@
 //! The choice of bytes. Nothing rests on it but their number: they are played before they are sent.
 ghost use Rattle.std.specs.Prelude.{◌≡◌, ◌+◌, ◌≤◌, ◌++◌, drop, vec_len, vec_capacity};
 
-use crate::cells::Rows;
 use crate::chosen::CHOICE_LIMIT;
 use crate::remote::Remote;
+use crate::rows::Rows;
 use crate::scrolling::Scroll;
 use vt_term::Terminal;
 
@@ -32,11 +32,14 @@ impl Remote {
     fn bring(&mut self, shown: &Terminal, to: &Terminal) {
         let cursor = to.cursor();
         self.set_margins(to.margins());
-        let scroll = Scroll::find(shown, to);
-        if let Some(scroll) = scroll {
-            self.scroll(scroll, to);
+        let rows = Rows::new(shown, to);
+        match Scroll::find(&rows, shown, to) {
+            Some(scroll) => {
+                self.scroll(scroll, to);
+                self.set_cells(&Rows::scrolled(shown, scroll, to), to);
+            }
+            None => self.set_cells(&rows, to),
         }
-        self.set_cells(&Rows::new(shown, scroll), to);
         self.set_saved(to.saved(), to);
         self.set_origin(to.modes().decom);
         self.stand(cursor, to);

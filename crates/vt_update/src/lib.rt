@@ -6,6 +6,7 @@ mod choice;
 mod chosen;
 pub mod laws;
 mod remote;
+mod rows;
 mod scrolling;
 mod updating;
 

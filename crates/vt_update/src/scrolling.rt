@@ -2,8 +2,8 @@
 ghost use Rattle.std.specs.Prelude.{◌≤◌, ◌<◌, ◌+◌};
 ghost use Rattle.vt_screen.specs.Grid.{last_row};
 
-use crate::cells::{ROWS, filled, unlike};
 use crate::remote::Remote;
+use crate::rows::{ROWS, Rows, filled, unlike};
 use vt_term::{Margins, Terminal};
 
 /// The fewest cells that have to come to their rows by a scroll, for it to be looked at.
@@ -38,70 +38,76 @@ impl Scroll {
 
     /// A scroll inside the margins that leaves at least two cells fewer to be written, if one is found. Where it isn't the
     /// best one, a few bytes more are sent.
-    pub(crate) fn find(shown: &Terminal, to: &Terminal) -> Option<Scroll> {
+    pub(crate) fn find(rows: &Rows<'_>, shown: &Terminal, to: &Terminal) -> Option<Scroll> {
         let _ = to.width();
         let Margins { top, bottom } = to.margins();
-        let filled = Filled::new(shown, to);
+        let votes = Votes::new(rows, shown, to);
         let mut most = FEW;
-        let mut found = None;
+        let mut voted = None;
         for by in 1..bottom - top + 1 {
             for up in [true, false] {
-                let whole = Scroll {
-                    top,
-                    bottom,
-                    by,
-                    up,
-                };
-                let votes = filled.votes(whole, shown, to);
-                if votes > most {
-                    most = votes;
-                    found = Gains::new(whole, shown, to).best(whole);
+                let cells = votes.of(by, up);
+                if cells > most {
+                    most = cells;
+                    voted = Some(Scroll {
+                        top,
+                        bottom,
+                        by,
+                        up,
+                    });
                 }
             }
         }
-        found
+        let voted = voted?;
+        Gains::new(voted, shown, to).best(voted)
     }
 }
 
-/// How many cells of each row are filled, where the row differs; else 0.
+/// How many filled cells come to their rows, as whole rows that differ, where all move by so many rows up or down.
 #[derive(Drop)]
-struct Filled {
-    old: [i32; ROWS],
-    new: [i32; ROWS],
+struct Votes {
+    up: [i32; ROWS],
+    down: [i32; ROWS],
 }
 
-impl Filled {
-    fn new(shown: &Terminal, to: &Terminal) -> Filled {
-        let mut counts = Filled {
-            old: [0; ROWS],
-            new: [0; ROWS],
+impl Votes {
+    fn new(rows: &Rows<'_>, shown: &Terminal, to: &Terminal) -> Votes {
+        let mut votes = Votes {
+            up: [0; ROWS],
+            down: [0; ROWS],
         };
         for row in 1..ROWS + 1 {
-            let (old, new) = (shown.row(row), to.row(row));
-            if old != new {
-                counts.old[row - 1] = filled(old);
-                counts.new[row - 1] = filled(new);
-            }
-        }
-        counts
-    }
-
-    /// How many filled cells a scroll of all rows between the margins brings to their rows, as whole rows.
-    fn votes(&self, scroll: Scroll, shown: &Terminal, to: &Terminal) -> i32 {
-        let mut votes = 0i32;
-        for row in scroll.top..scroll.bottom + 1 {
-            let source = scroll.source(row);
-            let new = self.new[row - 1];
-            if 1 <= source
-                && source <= ROWS
-                && new > 0
-                && self.old[source - 1] == new
-                && shown.row(source) == to.row(row)
-            {
-                votes = votes.wrapping_add(new);
+            if rows.differs(row) {
+                votes.count(row, rows, shown, to);
             }
         }
         votes
+    }
+
+    /// The votes of one row.
+    fn count(&mut self, row: usize, rows: &Rows<'_>, shown: &Terminal, to: &Terminal)
+        requires { (1 ≤ row) × (row ≤ last_row) }
+    {
+        let new = to.row(row);
+        let cells = filled(new);
+        if cells == 0 {
+            return;
+        }
+        for source in 1..ROWS + 1 {
+            if rows.differs(source) && shown.row(source) == new {
+                if row < source {
+                    self.up[source - row] = self.up[source - row].wrapping_add(cells);
+                } else {
+                    self.down[row - source] = self.down[row - source].wrapping_add(cells);
+                }
+            }
+        }
+    }
+
+    fn of(&self, by: usize, up: bool) -> i32
+        requires { by < last_row }
+    {
+        if up { self.up[by] } else { self.down[by] }
     }
 }
 

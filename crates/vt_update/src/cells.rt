@@ -3,15 +3,12 @@ ghost use Rattle.std.specs.Prelude.{◌≤◌};
 ghost use Rattle.vt_screen.specs.Grid.{last_row};
 
 use crate::remote::Remote;
-use crate::rows::{ROWS, Rows, gain, is_blank, is_same};
+use crate::rows::{ROWS, Rows, is_blank};
 use vt_screen::Cell;
 use vt_term::Terminal;
 
 /// An erasure pays where it spares more cells than this: so many bytes it takes.
 const ERASURE: i32 = 3;
-
-/// What erasing a row that is not to be touched spares: no other row makes that good.
-const NEVER: i32 = -10_000;
 
 /// What erasing spares: the rest of the row, and the rows below.
 #[derive(Clone, Copy)]
@@ -34,7 +31,7 @@ impl Remote {
         let mut gains = [0i32; ROWS];
         let mut below = 0i32;
         for row in 1..ROWS + 1 {
-            gains[row - 1] = row_gain(rows, row, to);
+            gains[row - 1] = rows.gain(row, to);
             below = below.wrapping_add(gains[row - 1]);
         }
         let mut erased = false;
@@ -62,7 +59,7 @@ impl Remote {
                     self.go(row, i + 1, to);
                     self.write(*new);
                 }
-            } else if !is_same(old, new) {
+            } else if old != new {
                 if blank {
                     let spared = Spared { here, ..spared };
                     erased = self.erase(row, i + 1, spared, to);
@@ -98,18 +95,5 @@ impl Remote {
         } else {
             Erased::Nothing
         }
-    }
-}
-
-/// What erasing a row spares. A row that is as it is to be, and isn't blank, is never erased.
-fn row_gain(rows: &Rows<'_>, row: usize, to: &Terminal) -> i32
-    requires { (1 ≤ row) × (row ≤ last_row) }
-{
-    if rows.differs(row) {
-        gain(rows.row(row), to.row(row))
-    } else if to.row(row) == rows.blank() {
-        0
-    } else {
-        NEVER
     }
 }

@@ -3,7 +3,6 @@ ghost use Rattle.std.specs.Prelude.{◌≤◌, ◌<◌};
 ghost use Rattle.vt_screen.specs.Grid.{last_row};
 
 use crate::scrolling::Scroll;
-use vt_glyph::Glyph;
 use vt_screen::Cell;
 use vt_term::Terminal;
 
@@ -13,13 +12,18 @@ pub(crate) const ROWS: usize = 24;
 /// The columns of a wide screen.
 const WIDE: usize = 132;
 
+/// What erasing a row that is not to be touched spares: no other row makes that good.
+const NEVER: i32 = -10_000;
+
 /// The cells of the other side: those that are shown, after a scroll.
 #[derive(Drop)]
 pub(crate) struct Rows<'a> {
     shown: &'a Terminal,
     scroll: Option<Scroll>,
-    /// Whether each row is to be another.
-    differs: [bool; ROWS],
+    /// In how many places each row differs from what it is to be.
+    differing: [i32; ROWS],
+    /// How many cells of each row aren't to be blank, where the row differs; else 0.
+    filled: [i32; ROWS],
     blanks: [Cell; WIDE],
     width: usize,
     ghost narrow: { width ≤ 132 },
@@ -31,7 +35,8 @@ impl Rows<'_> {
         let mut rows = Rows {
             shown,
             scroll: None,
-            differs: [false; ROWS],
+            differing: [0; ROWS],
+            filled: [0; ROWS],
             blanks: [Cell::blank(); WIDE],
             width: shown.width().min(WIDE),
         };
@@ -44,7 +49,8 @@ impl Rows<'_> {
         let mut rows = Rows {
             shown,
             scroll: Some(scroll),
-            differs: [false; ROWS],
+            differing: [0; ROWS],
+            filled: [0; ROWS],
             blanks: [Cell::blank(); WIDE],
             width: shown.width().min(WIDE),
         };
@@ -54,8 +60,12 @@ impl Rows<'_> {
 
     fn compare(&mut self, to: &Terminal) {
         for row in 1..ROWS + 1 {
-            let differs = self.row(row) != to.row(row);
-            self.differs[row - 1] = differs;
+            let new = to.row(row);
+            let differing = unlike(self.row(row), new);
+            self.differing[row - 1] = differing;
+            if differing != 0 {
+                self.filled[row - 1] = filled(new);
+            }
         }
     }
 
@@ -81,34 +91,42 @@ impl Rows<'_> {
     pub(crate) fn differs(&self, row: usize) -> bool
         requires { (1 ≤ row) × (row ≤ last_row) }
     {
-        self.differs[row - 1]
+        self.differing[row - 1] != 0
     }
-}
 
-/// The attributes as one number, which compares by one load.
-#[inline(always)]
-fn attributes(cell: &Cell) -> u32 {
-    let r = cell.rendition;
-    r.bold as u32 | (r.underline as u32) << 8 | (r.blink as u32) << 16 | (r.reverse as u32) << 24
-}
+    /// How many cells of a row that differs aren't to be blank.
+    pub(crate) fn filled(&self, row: usize) -> i32
+        requires { (1 ≤ row) × (row ≤ last_row) }
+    {
+        self.filled[row - 1]
+    }
 
-/// Whether two cells are equal; without a branch, for the loops below.
-#[inline(always)]
-pub(crate) fn is_same(a: &Cell, b: &Cell) -> bool {
-    (a.glyph == b.glyph) & (attributes(a) == attributes(b)) & (a.protected == b.protected)
+    /// How many cells erasing a row spares: those that differ, less those that aren't to be blank. A row that is as it is
+    /// to be, and isn't blank, is never erased.
+    pub(crate) fn gain(&self, row: usize, to: &Terminal) -> i32
+        requires { (1 ≤ row) × (row ≤ last_row) }
+    {
+        if self.differs(row) {
+            self.differing[row - 1].wrapping_sub(self.filled[row - 1])
+        } else if filled(to.row(row)) == 0 {
+            0
+        } else {
+            NEVER
+        }
+    }
 }
 
 /// Whether a cell is blank.
 #[inline(always)]
 pub(crate) fn is_blank(cell: &Cell) -> bool {
-    (cell.glyph == Glyph::blank()) & (attributes(cell) == 0) & !cell.protected
+    *cell == Cell::blank()
 }
 
 /// In how many places the cells differ.
 pub(crate) fn unlike(old: &[Cell], new: &[Cell]) -> i32 {
     let mut count = 0i32;
     for (old, new) in old.iter().zip(new) {
-        count = count.wrapping_add(!is_same(old, new) as i32);
+        count = count.wrapping_add((old != new) as i32);
     }
     count
 }
@@ -118,17 +136,6 @@ pub(crate) fn filled(cells: &[Cell]) -> i32 {
     let mut count = 0i32;
     for cell in cells.iter() {
         count = count.wrapping_add(!is_blank(cell) as i32);
-    }
-    count
-}
-
-/// How many cells erasing a row spares: those that differ, less those that aren't to be blank.
-pub(crate) fn gain(old: &[Cell], new: &[Cell]) -> i32 {
-    let mut count = 0i32;
-    for (old, new) in old.iter().zip(new) {
-        count = count
-            .wrapping_add(!is_same(old, new) as i32)
-            .wrapping_sub(!is_blank(new) as i32);
     }
     count
 }

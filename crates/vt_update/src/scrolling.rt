@@ -89,7 +89,7 @@ impl Votes {
         requires { (1 ≤ row) × (row ≤ last_row) }
     {
         let new = to.row(row);
-        let cells = filled(new);
+        let cells = rows.filled(row);
         if cells == 0 {
             return;
         }

@@ -1,0 +1,82 @@
+//! Plays a recording from standard input a frame at a time, as a server would: after each frame that ends between sequences,
+//! one client is sent an update and another a repaint. Prints how many bytes each was sent.
+//!
+//! `frames N [--time]`: frames of N bytes. With `--time` also how long an update and a repaint took, on the average of the
+//! quickest round of many.
+#![tactic(auto)]
+
+ghost use Rattle.std.specs.Prelude.{◌≤◌};
+
+mod server;
+
+use crate::server::Server;
+use std::alloc::Global;
+use std::env;
+use std::io::{self, Input, Read};
+use std::time::Clock;
+
+/// How often the recording is played to measure the time; the quickest round counts.
+const ROUNDS: u64 = 200;
+
+/// Plays the recording from power-up.
+fn play(
+    rt: &impl Clock,
+    alloc: Global,
+    server: &mut Server,
+    recording: &[u8],
+    size: usize,
+) -> io::Result<()>
+    requires { 1 ≤ size }
+{
+    server.restart(alloc)?;
+    for frame in recording.chunks(size) {
+        server.play(rt, frame)?;
+    }
+    Ok(())
+}
+
+/// How many nanoseconds an update and a repaint took.
+fn least_times(
+    rt: &impl Clock,
+    alloc: Global,
+    server: &mut Server,
+    recording: &[u8],
+    size: usize,
+) -> io::Result<(u64, u64)>
+    requires { 1 ≤ size }
+{
+    let mut updates = u64::MAX;
+    let mut repaints = u64::MAX;
+    for _ in 0..ROUNDS {
+        play(rt, alloc, server, recording, size)?;
+        updates = updates.min(server.updates.nanos);
+        repaints = repaints.min(server.repaints.nanos);
+    }
+    let sent = server.frames.saturating_sub(server.inside).max(1);
+    Ok((updates / sent, repaints / sent))
+}
+
+fn main(rt: HostRuntime) -> io::Result<()> {
+    let words: Vec<String> = env::args(&rt)?.collect(rt.alloc())?;
+    let size = match words.get(1) {
+        Some(word) => word.as_str().parse::<usize>().unwrap_or(1024),
+        None => 1024,
+    };
+    let size = size.max(1);
+    let mut recording = Vec::new(rt.alloc());
+    rt.reader().read_to_end(&mut recording)?;
+    let mut server = Server::new(rt.alloc())?;
+    play(&rt, rt.alloc(), &mut server, &recording, size)?;
+    let (sent, painted) = (server.updates.bytes, server.repaints.bytes);
+    println!(rt;
+        "{} frames, {} inside a sequence",
+        server.frames, server.inside
+    )?;
+    println!(rt; "{sent} bytes of updates, {painted} of repaints")?;
+    println!(rt; "{} updates are the repaint", server.repainted)?;
+    if words.len() > 2 {
+        let (update, repaint) = least_times(&rt, rt.alloc(), &mut server, &recording, size)?;
+        println!(rt; "{update} ns an update, {repaint} ns a repaint")?;
+    }
+    Ok(())
+}

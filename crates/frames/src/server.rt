@@ -1,0 +1,101 @@
+//! A server with two clients.
+use std::alloc::{AllocError, Global};
+use std::io;
+use std::time::{Clock, Instant};
+use vt_paint::{PAINT_LIMIT, repaint};
+use vt_term::Terminal;
+use vt_update::{UPDATE_LIMIT, update};
+
+/// What a client was sent, and how long it took to make.
+#[derive(Drop)]
+pub(crate) struct Sent {
+    pub(crate) bytes: u64,
+    pub(crate) nanos: u64,
+    out: Vec<u8>,
+}
+
+impl Sent {
+    fn new(alloc: Global, room: usize) -> Result<Sent, AllocError> {
+        Ok(Sent {
+            bytes: 0,
+            nanos: 0,
+            out: Vec::with_capacity(alloc, room)?,
+        })
+    }
+
+    fn restart(&mut self) {
+        self.bytes = 0;
+        self.nanos = 0;
+    }
+
+    fn count(&mut self, rt: &impl Clock, start: Instant) -> io::Result<()> {
+        let nanos = start.elapsed(rt)?.subsec_nanos() as u64;
+        self.nanos = self.nanos.saturating_add(nanos);
+        self.bytes = self.bytes.saturating_add(self.out.len() as u64);
+        Ok(())
+    }
+}
+
+/// The server's terminal, the one that a client shows, and what was sent.
+#[derive(Drop)]
+pub(crate) struct Server {
+    terminal: Terminal,
+    shown: Terminal,
+    reports: Vec<u8>,
+    pub(crate) frames: u64,
+    pub(crate) inside: u64,
+    pub(crate) repainted: u64,
+    pub(crate) updates: Sent,
+    pub(crate) repaints: Sent,
+}
+
+impl Server {
+    /// Terminals as at power-up.
+    pub(crate) fn new(alloc: Global) -> Result<Server, AllocError> {
+        Ok(Server {
+            terminal: Terminal::new(alloc)?,
+            shown: Terminal::new(alloc)?,
+            reports: Vec::new(alloc),
+            frames: 0,
+            inside: 0,
+            repainted: 0,
+            updates: Sent::new(alloc, UPDATE_LIMIT)?,
+            repaints: Sent::new(alloc, PAINT_LIMIT)?,
+        })
+    }
+
+    /// Everything as at power-up, and nothing sent. The room stays.
+    pub(crate) fn restart(&mut self, alloc: Global) -> Result<(), AllocError> {
+        self.terminal = Terminal::new(alloc)?;
+        self.shown = Terminal::new(alloc)?;
+        self.frames = 0;
+        self.inside = 0;
+        self.repainted = 0;
+        self.updates.restart();
+        self.repaints.restart();
+        Ok(())
+    }
+
+    /// Plays a frame, and sends what it changed where it ends between sequences.
+    pub(crate) fn play(&mut self, rt: &impl Clock, frame: &[u8]) -> io::Result<()> {
+        self.frames = self.frames.saturating_add(1);
+        self.reports.clear();
+        self.terminal.feed(frame, &mut self.reports)?;
+        if !self.terminal.is_between() {
+            self.inside = self.inside.saturating_add(1);
+            return Ok(());
+        }
+        self.updates.out.clear();
+        let start = Instant::now(rt)?;
+        update(&mut self.shown, &self.terminal, &mut self.updates.out).map_err(|_| AllocError)?;
+        self.updates.count(rt, start)?;
+        self.repaints.out.clear();
+        let start = Instant::now(rt)?;
+        repaint(&self.terminal, &mut self.repaints.out).map_err(|_| AllocError)?;
+        self.repaints.count(rt, start)?;
+        if self.updates.out.as_slice() == self.repaints.out.as_slice() {
+            self.repainted = self.repainted.saturating_add(1);
+        }
+        Ok(())
+    }
+}

@@ -1,0 +1,51 @@
+//! The choice of bytes. Nothing rests on it but their number: they are played before they are sent.
+ghost use Rattle.std.specs.Prelude.{◌≡◌, ◌+◌, ◌≤◌, ◌++◌, drop, vec_len, vec_capacity};
+
+use crate::chosen::CHOICE_LIMIT;
+use crate::remote::Remote;
+use crate::rows::Rows;
+use crate::scrolling::Scroll;
+use vt_term::Terminal;
+
+/// Appends bytes that should lead from one state to another.
+///
+/// None where the width or the tab stops are others, or a single shift is pending: the repaint is for that.
+pub(crate) fn push_choice(shown: &Terminal, to: &Terminal, out: &mut Vec<u8>)
+    requires { vec_len out.old + CHOICE_LIMIT ≤ vec_capacity out.old }
+    ensures items { out.new.items ≡ out.old.items ++ drop (vec_len out.old) out.new.items }
+    ensures bounded { vec_len out.new ≤ vec_len out.old + CHOICE_LIMIT }
+    ensures capacity { vec_capacity out.old ≤ vec_capacity out.new }
+{
+    if shown.width() != to.width()
+        || shown.stops() != to.stops()
+        || shown.sets().pending().is_some()
+    {
+        return;
+    }
+    let mut remote = Remote::new(shown);
+    remote.bring(shown, to);
+    out.extend_from_slice(remote.chosen.as_slice()).unwrap();
+}
+
+impl Remote {
+    /// Brings the other side, whose cells are those of `shown`, to the state that is asked for.
+    fn bring(&mut self, shown: &Terminal, to: &Terminal) {
+        let cursor = to.cursor();
+        self.set_margins(to.margins());
+        let rows = Rows::new(shown, to);
+        match Scroll::find(&rows, shown, to) {
+            Some(scroll) => {
+                self.scroll(scroll, to);
+                self.set_cells(&Rows::scrolled(shown, scroll, to), to);
+            }
+            None => self.set_cells(&rows, to),
+        }
+        self.set_saved(to.saved(), to);
+        self.set_origin(to.modes().decom);
+        self.stand(cursor, to);
+        self.set_brush(to.brush());
+        self.set_sets(to.sets());
+        self.set_modes(to.modes());
+        self.set_shift(to.sets().pending());
+    }
+}

@@ -1,0 +1,13 @@
+//! The update: bytes that bring a terminal from one state to another, few where little differs.
+#![tactic(auto)]
+
+mod cells;
+mod choice;
+mod chosen;
+pub mod laws;
+mod remote;
+mod rows;
+mod scrolling;
+mod updating;
+
+pub use updating::{UPDATE_LIMIT, UpdateError, update, update_reserved};

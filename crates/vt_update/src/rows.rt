@@ -1,0 +1,141 @@
+//! The rows of the other side, and counts of cells.
+ghost use Rattle.std.specs.Prelude.{◌≤◌, ◌<◌};
+ghost use Rattle.vt_screen.specs.Grid.{last_row};
+
+use crate::scrolling::Scroll;
+use vt_screen::Cell;
+use vt_term::Terminal;
+
+/// The rows of the screen.
+pub(crate) const ROWS: usize = 24;
+
+/// The columns of a wide screen.
+const WIDE: usize = 132;
+
+/// What erasing a row that is not to be touched spares: no other row makes that good.
+const NEVER: i32 = -10_000;
+
+/// The cells of the other side: those that are shown, after a scroll.
+#[derive(Drop)]
+pub(crate) struct Rows<'a> {
+    shown: &'a Terminal,
+    scroll: Option<Scroll>,
+    /// In how many places each row differs from what it is to be.
+    differing: [i32; ROWS],
+    /// How many cells of each row aren't to be blank, where the row differs; else 0.
+    filled: [i32; ROWS],
+    blanks: [Cell; WIDE],
+    width: usize,
+    ghost narrow: { width ≤ 132 },
+}
+
+impl Rows<'_> {
+    /// The rows as they are shown.
+    pub(crate) fn new<'a>(shown: &'a Terminal, to: &Terminal) -> Rows<'a> {
+        let mut rows = Rows {
+            shown,
+            scroll: None,
+            differing: [0; ROWS],
+            filled: [0; ROWS],
+            blanks: [Cell::blank(); WIDE],
+            width: shown.width().min(WIDE),
+        };
+        rows.compare(to);
+        rows
+    }
+
+    /// The rows after a scroll.
+    pub(crate) fn scrolled<'a>(shown: &'a Terminal, scroll: Scroll, to: &Terminal) -> Rows<'a> {
+        let mut rows = Rows {
+            shown,
+            scroll: Some(scroll),
+            differing: [0; ROWS],
+            filled: [0; ROWS],
+            blanks: [Cell::blank(); WIDE],
+            width: shown.width().min(WIDE),
+        };
+        rows.compare(to);
+        rows
+    }
+
+    fn compare(&mut self, to: &Terminal) {
+        for row in 1..ROWS + 1 {
+            let new = to.row(row);
+            let differing = unlike(self.row(row), new);
+            self.differing[row - 1] = differing;
+            if differing != 0 {
+                self.filled[row - 1] = filled(new);
+            }
+        }
+    }
+
+    /// A blank row.
+    pub(crate) fn blank(&self) -> &[Cell] {
+        &self.blanks[..self.width]
+    }
+
+    /// A row.
+    pub(crate) fn row(&self, row: usize) -> &[Cell] {
+        let source = match &self.scroll {
+            Some(scroll) => scroll.source(row),
+            None => row,
+        };
+        if 1 <= source && source <= ROWS {
+            self.shown.row(source)
+        } else {
+            self.blank()
+        }
+    }
+
+    /// Whether a row is to be another.
+    pub(crate) fn differs(&self, row: usize) -> bool
+        requires { (1 ≤ row) × (row ≤ last_row) }
+    {
+        self.differing[row - 1] != 0
+    }
+
+    /// How many cells of a row that differs aren't to be blank.
+    pub(crate) fn filled(&self, row: usize) -> i32
+        requires { (1 ≤ row) × (row ≤ last_row) }
+    {
+        self.filled[row - 1]
+    }
+
+    /// How many cells erasing a row spares: those that differ, less those that aren't to be blank. A row that is as it is
+    /// to be, and isn't blank, is never erased.
+    pub(crate) fn gain(&self, row: usize, to: &Terminal) -> i32
+        requires { (1 ≤ row) × (row ≤ last_row) }
+    {
+        if self.differs(row) {
+            self.differing[row - 1].wrapping_sub(self.filled[row - 1])
+        } else if filled(to.row(row)) == 0 {
+            0
+        } else {
+            NEVER
+        }
+    }
+}
+
+/// Whether a cell is blank.
+#[inline(always)]
+pub(crate) fn is_blank(cell: &Cell) -> bool {
+    *cell == Cell::blank()
+}
+
+/// In how many places the cells differ.
+pub(crate) fn unlike(old: &[Cell], new: &[Cell]) -> i32 {
+    let mut count = 0i32;
+    for (old, new) in old.iter().zip(new) {
+        count = count.wrapping_add((old != new) as i32);
+    }
+    count
+}
+
+/// How many cells aren't blank.
+pub(crate) fn filled(cells: &[Cell]) -> i32 {
+    let mut count = 0i32;
+    for cell in cells.iter() {
+        count = count.wrapping_add(!is_blank(cell) as i32);
+    }
+    count
+}

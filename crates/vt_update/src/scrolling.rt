@@ -1,0 +1,210 @@
+//! Scrolls: rows that move up or down, which spares writing them.
+ghost use Rattle.std.specs.Prelude.{◌≤◌, ◌<◌, ◌+◌};
+ghost use Rattle.vt_screen.specs.Grid.{last_row};
+
+use crate::remote::Remote;
+use crate::rows::{ROWS, Rows, filled, unlike};
+use vt_term::{Margins, Terminal};
+
+/// The fewest cells that have to come to their rows by a scroll, for it to be looked at.
+const FEW: i32 = 8;
+
+/// Rows `top` to `bottom` move by `by`, up or down; blank ones come in.
+#[derive(Clone, Copy)]
+pub(crate) struct Scroll {
+    top: usize,
+    bottom: usize,
+    by: usize,
+    up: bool,
+    ghost from_row_1: { 1 ≤ top },
+    ghost some: { 1 ≤ by },
+    ghost inside: { top + by ≤ bottom },
+    ghost to_last_row: { bottom ≤ 24 },
+}
+
+impl Scroll {
+    /// Which row comes to a row; 0 where that is a blank one.
+    pub(crate) fn source(&self, row: usize) -> usize {
+        if row < self.top || self.bottom < row {
+            row
+        } else if self.up && row <= self.bottom - self.by {
+            row + self.by
+        } else if !self.up && self.top + self.by <= row {
+            row - self.by
+        } else {
+            0
+        }
+    }
+
+    /// A scroll inside the margins that leaves at least two cells fewer to be written, if one is found. Where it isn't the
+    /// best one, a few bytes more are sent.
+    pub(crate) fn find(rows: &Rows<'_>, shown: &Terminal, to: &Terminal) -> Option<Scroll> {
+        let _ = to.width();
+        let Margins { top, bottom } = to.margins();
+        let votes = Votes::new(rows, shown, to);
+        let mut most = FEW;
+        let mut voted = None;
+        for by in 1..bottom - top + 1 {
+            for up in [true, false] {
+                let cells = votes.of(by, up);
+                if cells > most {
+                    most = cells;
+                    voted = Some(Scroll {
+                        top,
+                        bottom,
+                        by,
+                        up,
+                    });
+                }
+            }
+        }
+        let voted = voted?;
+        Gains::new(voted, shown, to).best(voted)
+    }
+}
+
+/// How many filled cells come to their rows, as whole rows that differ, where all move by so many rows up or down.
+#[derive(Drop)]
+struct Votes {
+    up: [i32; ROWS],
+    down: [i32; ROWS],
+}
+
+impl Votes {
+    fn new(rows: &Rows<'_>, shown: &Terminal, to: &Terminal) -> Votes {
+        let mut votes = Votes {
+            up: [0; ROWS],
+            down: [0; ROWS],
+        };
+        for row in 1..ROWS + 1 {
+            if rows.differs(row) {
+                votes.count(row, rows, shown, to);
+            }
+        }
+        votes
+    }
+
+    /// The votes of one row.
+    fn count(&mut self, row: usize, rows: &Rows<'_>, shown: &Terminal, to: &Terminal)
+        requires { (1 ≤ row) × (row ≤ last_row) }
+    {
+        let new = to.row(row);
+        let cells = rows.filled(row);
+        if cells == 0 {
+            return;
+        }
+        for source in 1..ROWS + 1 {
+            if rows.differs(source) && shown.row(source) == new {
+                if row < source {
+                    self.up[source - row] = self.up[source - row].wrapping_add(cells);
+                } else {
+                    self.down[row - source] = self.down[row - source].wrapping_add(cells);
+                }
+            }
+        }
+    }
+
+    fn of(&self, by: usize, up: bool) -> i32
+        requires { by < last_row }
+    {
+        if up { self.up[by] } else { self.down[by] }
+    }
+}
+
+/// How many cells fewer differ at each row between the margins, where it comes from another row, and where it is blank.
+#[derive(Drop)]
+struct Gains {
+    moved: [i32; ROWS],
+    blank: [i32; ROWS],
+}
+
+impl Gains {
+    fn new(scroll: Scroll, shown: &Terminal, to: &Terminal) -> Gains {
+        let mut gains = Gains {
+            moved: [0; ROWS],
+            blank: [0; ROWS],
+        };
+        for row in scroll.top..scroll.bottom + 1 {
+            let new = to.row(row);
+            let differing = unlike(shown.row(row), new);
+            let source = scroll.source(row);
+            if 1 <= source && source <= ROWS {
+                gains.moved[row - 1] = differing.wrapping_sub(unlike(shown.row(source), new));
+            }
+            gains.blank[row - 1] = differing.wrapping_sub(filled(new));
+        }
+        gains
+    }
+
+    /// The rows of a scroll that are best moved. All rows between the margins are better than as good a part.
+    fn best(&self, scroll: Scroll) -> Option<Scroll> {
+        let Scroll {
+            top,
+            bottom,
+            by,
+            up,
+        } = scroll;
+        let mut most = 3i32;
+        let mut found = None;
+        for first in top..bottom - by + 1 {
+            let mut sum = 0i32;
+            for last in first..bottom - by + 1 {
+                let (moved, blank) = if up {
+                    (last, last + 1)
+                } else {
+                    (last + by, first)
+                };
+                sum = sum.wrapping_add(self.moved[moved - 1]);
+                let spared = sum.wrapping_add(total(&self.blank[blank - 1..blank - 1 + by]));
+                let whole = first == top && last + by == bottom;
+                let gain = spared.wrapping_mul(2).wrapping_add(whole as i32);
+                if gain > most {
+                    most = gain;
+                    found = Some(Scroll {
+                        top: first,
+                        bottom: last + by,
+                        by,
+                        up,
+                    });
+                }
+            }
+        }
+        found
+    }
+}
+
+fn total(counts: &[i32]) -> i32 {
+    let mut sum = 0i32;
+    for count in counts.iter() {
+        sum = sum.wrapping_add(*count);
+    }
+    sum
+}
+
+impl Remote {
+    /// DL and IL, or one LF where that does it.
+    pub(crate) fn scroll(&mut self, scroll: Scroll, to: &Terminal) {
+        let Scroll {
+            top,
+            bottom,
+            by,
+            up,
+        } = scroll;
+        let margins = self.margins;
+        let whole = margins.top == top && margins.bottom == bottom;
+        if whole && up && by == 1 && self.cursor.row == bottom {
+            self.line_feed(bottom);
+            return;
+        }
+        let low = bottom - by + 1;
+        let (deleted, inserted) = if up { (top, low) } else { (low, top) };
+        if up || bottom != margins.bottom {
+            self.go(deleted, 1, to);
+            self.chosen.control(by, b'M');
+        }
+        if !up || bottom != margins.bottom {
+            self.go(inserted, 1, to);
+            self.chosen.control(by, b'L');
+        }
+    }
+}

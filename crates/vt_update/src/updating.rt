@@ -1,0 +1,179 @@
+//! The update: bytes are chosen, played on what the other side shows, and sent where that led to the state asked for.
+ghost use Rattle.std.specs.Prelude.{◌≡◌, ◌↔◌, ◌⊎◌, ◌+◌, ◌*◌, ◌≤◌, ◌<◌, ◌≢◌, [], IsTrue, IsErrOf, OnOk, OnErr, drop, length, take, vec_len, vec_capacity};
+ghost use Rattle.std.specs.Bool.{OnTrue, OnFalse};
+ghost use Rattle.vt_syntax.specs.declared.held.Held.TheVariants.{Nothing};
+ghost use Rattle.vt_term.specs.State.{State};
+ghost use Rattle.vt_term.specs.Sound.{IsSound};
+ghost use Rattle.vt_term.specs.Play.{play};
+ghost use Rattle.vt_update.specs.Leads.{Leads, Updates};
+
+use crate::choice::push_choice;
+use crate::laws::leading;
+use thiserror::Error;
+use vt_paint::{PAINT_LIMIT, repaint_reserved};
+use vt_term::Terminal;
+use vt_term::laws::cuts;
+
+/// How many bytes of an update are played at a time.
+const CHUNK: usize = 64;
+
+/// The room for the reports of a chunk, ten bytes for each byte. None ever stays.
+const REPORT_ROOM: usize = 10 * CHUNK;
+
+/// The most bytes of an update, and the room that it needs: that of a repaint, and room for the play of it.
+pub const UPDATE_LIMIT: usize = PAINT_LIMIT + REPORT_ROOM;
+
+const _: () = prove!(UPDATE_LIMIT == 94152);
+
+/// Why no update was sent.
+#[derive(Clone, Copy, Debug, PartialEq, Eq, Error)]
+pub enum UpdateError {
+    /// One of the two terminals is inside a sequence.
+    #[error("partial")]
+    Partial,
+    /// The room for the update was refused.
+    #[error("memory")]
+    Memory,
+}
+
+/// That a terminal is sound: a clause for the proofs, and no work.
+fn soundness(t: &Terminal)
+    ensures { IsSound t.now }
+{
+    let _ = t.width();
+}
+
+/// Plays the bytes of `out` from `start` on. Answers whether nothing was reported. `out` has room for the reports of a
+/// chunk, and none stays in it.
+fn play_back(start: usize, shown: &mut Terminal, out: &mut Vec<u8>) -> bool
+    requires sound { IsSound shown.old }
+    requires start { start ≤ vec_len out.old }
+    requires room { vec_len out.old + REPORT_ROOM ≤ vec_capacity out.old }
+    ensures state { shown.new ≡ (play shown.old (drop start out.old.items)).state }
+    ensures silent { IsTrue result → (play shown.old (drop start out.old.items)).reports ≡ [] }
+    ensures items { out.new.items ≡ out.old.items }
+    ensures capacity { vec_capacity out.old ≤ vec_capacity out.new }
+{
+    cuts();
+    let all = out.len() - start;
+    let mut silent = true;
+    let mut at = 0;
+    while at < all {
+        let count = CHUNK.min(all - at);
+        silent = play_chunk(start + at, count, shown, out) && silent;
+        at += count;
+    }
+    silent
+}
+
+/// Plays a few bytes of `out` from a place on. Answers whether nothing was reported.
+fn play_chunk(from: usize, count: usize, shown: &mut Terminal, out: &mut Vec<u8>) -> bool
+    requires count { count ≤ CHUNK }
+    requires within { from + count ≤ vec_len out.old }
+    requires room { vec_len out.old + REPORT_ROOM ≤ vec_capacity out.old }
+    ensures state { shown.new ≡ (play shown.old (take count (drop from out.old.items))).state }
+    ensures silent { IsTrue result → (play shown.old (take count (drop from out.old.items))).reports ≡ [] }
+    ensures items { out.new.items ≡ out.old.items }
+    ensures capacity { vec_capacity out.old ≤ vec_capacity out.new }
+{
+    let end = out.len();
+    let mut chunk = [0; CHUNK];
+    copy_part(from, out, &mut chunk[..count]);
+    shown.feed_reserved(&chunk[..count], out);
+    let silent = out.len() == end;
+    out.truncate(end);
+    silent
+}
+
+/// Fills `part` with the bytes that stand in `all` from a place on.
+fn copy_part(from: usize, all: &[u8], part: &mut [u8])
+    requires { from + length part.old ≤ length all.now }
+    ensures { part.new ≡ take (length part.old) (drop from all.now) }
+{
+    part.copy_from_slice(&all[from..from + part.len()]);
+}
+
+/// Appends bytes to `out` that lead from `shown` to `to`, and brings `shown` there.
+///
+/// `UPDATE_LIMIT` bytes of room are reserved first. On an error `shown` and the contents of `out` are unchanged.
+///
+/// # Errors
+///
+/// `Partial` where one of the two is inside a sequence, which is looked at first; `Memory` where the room was refused.
+pub fn update(shown: &mut Terminal, to: &Terminal, out: &mut Vec<u8>) -> Result<(), UpdateError>
+    ensures leads { OnOk result (Updates shown.old to.now out.old.items out.new.items) }
+    ensures shown { OnOk result (shown.new ≡ to.now) }
+    ensures nothing { OnOk result ((out.new.items ≡ out.old.items) ↔ (shown.old ≡ to.now)) }
+    ensures partial { IsErrOf result UpdateError.Partial ↔ ((shown.old.held ≢ Nothing) ⊎ (to.now.held ≢ Nothing)) }
+    ensures memory { IsErrOf result UpdateError.Memory → vec_capacity out.old < vec_len out.old + UPDATE_LIMIT }
+    ensures same_out { OnErr result (out.new.items ≡ out.old.items) }
+    ensures same_shown { OnErr result (shown.new ≡ shown.old) }
+    ensures bounded { vec_len out.new ≤ vec_len out.old + UPDATE_LIMIT }
+    ensures capacity { vec_capacity out.old ≤ vec_capacity out.new }
+{
+    if !shown.is_between() || !to.is_between() {
+        return Err(UpdateError::Partial);
+    }
+    out.reserve(UPDATE_LIMIT).map_err(|_| UpdateError::Memory)?;
+    update_reserved(shown, to, out);
+    Ok(())
+}
+
+/// Appends bytes to `out` that lead from `shown` to `to`, both between sequences, and brings `shown` there. `out` has the
+/// room: `UPDATE_LIMIT` bytes. It never fails and takes no memory.
+pub fn update_reserved(shown: &mut Terminal, to: &Terminal, out: &mut Vec<u8>)
+    requires shown { shown.old.held ≡ Nothing }
+    requires to { to.now.held ≡ Nothing }
+    requires room { vec_len out.old + UPDATE_LIMIT ≤ vec_capacity out.old }
+    ensures leads { Updates shown.old to.now out.old.items out.new.items }
+    ensures shown { shown.new ≡ to.now }
+    ensures nothing { (out.new.items ≡ out.old.items) ↔ (shown.old ≡ to.now) }
+    ensures bounded { vec_len out.new ≤ vec_len out.old + UPDATE_LIMIT }
+    ensures capacity { vec_capacity out.old ≤ vec_capacity out.new }
+{
+    leading();
+    soundness(shown);
+    if shown.same_state(to) {
+        return;
+    }
+    if !send_choice(shown, to, out) {
+        send_repaint(shown, to, out);
+    }
+}
+
+/// Appends the chosen bytes and plays them on `shown`. Where that doesn't lead to `to` in silence, the bytes are taken back,
+/// and the answer is false; `shown` is then in any state.
+fn send_choice(shown: &mut Terminal, to: &Terminal, out: &mut Vec<u8>) -> bool
+    requires sound { IsSound shown.old }
+    requires room { vec_len out.old + UPDATE_LIMIT ≤ vec_capacity out.old }
+    ensures leads { OnTrue result (Updates shown.old to.now out.old.items out.new.items) }
+    ensures shown { OnTrue result (shown.new ≡ to.now) }
+    ensures taken_back { OnFalse result (out.new.items ≡ out.old.items) }
+    ensures bounded { vec_len out.new ≤ vec_len out.old + UPDATE_LIMIT }
+    ensures capacity { vec_capacity out.old ≤ vec_capacity out.new }
+{
+    leading();
+    let start = out.len();
+    push_choice(shown, to, out);
+    if play_back(start, shown, out) && shown.same_state(to) {
+        return true;
+    }
+    out.truncate(start);
+    false
+}
+
+/// Appends the repaint of `to`, which leads there from any state, and plays it on `shown`.
+fn send_repaint(shown: &mut Terminal, to: &Terminal, out: &mut Vec<u8>)
+    requires to { to.now.held ≡ Nothing }
+    requires room { vec_len out.old + UPDATE_LIMIT ≤ vec_capacity out.old }
+    ensures leads { (s : State) → IsSound s → Updates s to.now out.old.items out.new.items }
+    ensures shown { shown.new ≡ to.now }
+    ensures bounded { vec_len out.new ≤ vec_len out.old + PAINT_LIMIT }
+    ensures capacity { vec_capacity out.old ≤ vec_capacity out.new }
+{
+    leading();
+    soundness(shown);
+    let start = out.len();
+    repaint_reserved(to, out);
+    let _ = play_back(start, shown, out);
+}

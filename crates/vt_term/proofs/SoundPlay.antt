@@ -12,10 +12,9 @@ use Rattle.vt_glyph.specs.GraphicSets.{GraphicSets, AreSoundSets}
 use Rattle.vt_glyph.specs.declared.set.Set.{Set}
 use Rattle.vt_term.specs.State.{Display, State}
 use Rattle.vt_term.specs.Sound.{IsSoundDisplay, IsSound}
-use Rattle.vt_term.specs.Parameters.{first, second, count}
-use Rattle.vt_term.specs.Writing.{print, printed}
+use Rattle.vt_term.specs.Writing.{print, printed, write_glyph}
 use Rattle.vt_term.specs.Modes.{with_mode, change_modes, ansi_modes, private_modes}
-use Rattle.vt_term.specs.Functions.{unchanged, function_in, control_functions, control, plain_escapes, plain_escape, space_escapes, number_escapes, escape_tables, escape_with, designate, designate_to, lock_left, lock_right, shift_once, plain_sequences, private_sequences, quote_sequences, exclamation_sequences, sequence_in, sequences_of, SequenceTable, effect, byte}
+use Rattle.vt_term.specs.Functions.{unchanged, control_functions, control, plain_escapes, plain_escape, space_escapes, number_escapes, escape_tables, escape_with, designate, designate_to, lock_left, lock_right, shift_once, plain_sequences, private_sequences, quote_sequences, exclamation_sequences, sequence_in, sequences_of, SequenceTable, effect, byte}
 use Rattle.vt_term.specs.Play.{play, after_events}
 use Rattle.vt_term.proofs.SoundEffects.{Keeps, backspace-keeps, horizontal_tab-keeps, line_feed-keeps, carriage_return-keeps, write_glyph-keeps, index-keeps, next_line-keeps, set_tab-keeps, reverse_index-keeps, save_cursor-keeps, restore_cursor-keeps, keypad_mode-keeps, reset_to_initial_state-keeps, report_form-keeps, screen_alignment-keeps, insert_character-keeps, cursor_up-keeps, cursor_down-keeps, cursor_forward-keeps, cursor_backward-keeps, cursor_position-keeps, erase_in_display-keeps, erase_in_line-keeps, insert_line-keeps, delete_line-keeps, delete_character-keeps, erase_character-keeps, clear_tabs-keeps, select_graphic_rendition-keeps, set_margins-keeps, column_mode-keeps, origin_mode-keeps, autowrap_mode-keeps, set_conformance_level-keeps, select_character_attribute-keeps, soft_reset-keeps}
 
@@ -79,261 +78,162 @@ designate-keeps sets slot last s i = go (set_of_final last)
 
 -- ---- tables
 
-AllKeep : List (ℕ × (Display → Display)) → Type 0
-AllKeep [] = Unit {0}
-AllKeep (row ∷ rows) = Keeps row.1 × AllKeep rows
+-- each function of a table keeps the display sound, and so does the one that is looked up
+module _ {X : Type 0} (kept : X → Type 0) where
+  AllKeep : List (ℕ × X) → Type 0
+  AllKeep [] = Unit {0}
+  AllKeep (row ∷ rows) = kept row.1 × AllKeep rows
 
-function_in-keeps : (table : List (ℕ × (Display → Display))) (b : ℕ) → AllKeep table → Keeps (function_in table b)
-unfolding AllKeep
-function_in-keeps [] b h = unchanged-keeps
-function_in-keeps (row ∷ rows) b h = go (b == row.0) (function_in-keeps rows b h.1)
-  where
-    go : (t : Bool) → Keeps (function_in rows b) → Keeps (unwrap_or (if t then Some row.1 else look_up rows b) unchanged)
-    go true rest = h.0
-    go false rest = rest
+  looked_up-keeps : (table : List (ℕ × X)) (b : ℕ) (otherwise : X) → kept otherwise → AllKeep table
+      → kept (unwrap_or (look_up table b) otherwise)
+  unfolding AllKeep
+  looked_up-keeps [] b otherwise h all = h
+  looked_up-keeps (row ∷ rows) b otherwise h all = go (b == row.0) (looked_up-keeps rows b otherwise h all.1)
+    where
+      go : (t : Bool) → kept (unwrap_or (look_up rows b) otherwise) → kept (unwrap_or (if t then Some row.1 else look_up rows b) otherwise)
+      go true rest = all.0
+      go false rest = rest
 
-control-keeps : ReadsGlyphs → KeepSets → IsGlyph substitute_glyph → (b : ℕ) → Keeps (control b)
-unfolding control AllKeep
-control-keeps reads sets shown b = function_in-keeps control_functions b (
+-- what each function by itself needs; a new function's rule stands here
+ruleset keeping = (
   backspace-keeps,
-  (
-    horizontal_tab-keeps,
-    (
-      line_feed-keeps,
-      (
-        line_feed-keeps,
-        (
-          line_feed-keeps,
-          (
-            carriage_return-keeps,
-            (
-              lock_left-keeps sets 1 (omega arith),
-              (
-                lock_left-keeps sets 0 (omega arith),
-                (
-                  write_glyph-keeps substitute_glyph shown,
-                  (
-                    index-keeps,
-                    (
-                      next_line-keeps,
-                      (
-                        set_tab-keeps,
-                        (
-                          reverse_index-keeps,
-                          (shift_once-keeps sets 2 (omega arith) (omega arith), (shift_once-keeps sets 3 (omega arith) (omega arith), tt)),
-                        ),
-                      ),
-                    ),
-                  ),
-                ),
-              ),
-            ),
-          ),
-        ),
-      ),
-    ),
-  ),
-)
-
-plain_escape-keeps : KeepSets → (last : ℕ) → Keeps (plain_escape last)
-unfolding plain_escape AllKeep
-plain_escape-keeps sets last = function_in-keeps plain_escapes last (
+  horizontal_tab-keeps,
+  line_feed-keeps,
+  carriage_return-keeps,
+  index-keeps,
+  next_line-keeps,
+  set_tab-keeps,
+  reverse_index-keeps,
   save_cursor-keeps,
-  (
-    restore_cursor-keeps,
-    (
-      keypad_mode-keeps true,
-      (
-        keypad_mode-keeps false,
-        (
-          reset_to_initial_state-keeps,
-          (
-            lock_left-keeps sets 2 (omega arith),
-            (
-              lock_left-keeps sets 3 (omega arith),
-              (
-                lock_right-keeps sets 1 (omega arith) (omega arith),
-                (
-                  lock_right-keeps sets 2 (omega arith) (omega arith),
-                  (lock_right-keeps sets 3 (omega arith) (omega arith), tt),
-                ),
-              ),
-            ),
-          ),
-        ),
-      ),
-    ),
-  ),
-)
-
--- tables of functions of the final byte
-AllKeepWith : List (ℕ × (ℕ → Display → Display)) → ℕ → Type 0
-AllKeepWith [] last = Unit {0}
-AllKeepWith (row ∷ rows) last = Keeps (row.1 last) × AllKeepWith rows last
-
-escape_in-keeps : (table : List (ℕ × (ℕ → Display → Display))) (inter last : ℕ) → AllKeepWith table last
-    → Keeps (unwrap_or (look_up table inter) (λ last. unchanged) last)
-unfolding AllKeepWith
-escape_in-keeps [] inter last h = unchanged-keeps
-escape_in-keeps (row ∷ rows) inter last h = go (inter == row.0) (escape_in-keeps rows inter last h.1)
-  where
-    go : (t : Bool) → Keeps (unwrap_or (look_up rows inter) (λ last. unchanged) last) → Keeps (unwrap_or (if t then Some row.1 else look_up rows inter) (λ last. unchanged) last)
-    go true rest = h.0
-    go false rest = rest
-
-escape_with-keeps : KeepSets → (inter last : ℕ) → Keeps (escape_with inter last)
-unfolding escape_with AllKeep AllKeepWith
-escape_with-keeps sets inter last = escape_in-keeps escape_tables inter last (
-  function_in-keeps space_escapes last (report_form-keeps false, (report_form-keeps true, tt)),
-  (
-    function_in-keeps number_escapes last (screen_alignment-keeps, tt),
-    (designate-keeps sets 0 last, (designate-keeps sets 1 last, (designate-keeps sets 2 last, (designate-keeps sets 3 last, tt)))),
-  ),
+  restore_cursor-keeps,
+  keypad_mode-keeps,
+  reset_to_initial_state-keeps,
+  report_form-keeps,
+  screen_alignment-keeps,
+  insert_character-keeps,
+  cursor_up-keeps,
+  cursor_down-keeps,
+  cursor_forward-keeps,
+  cursor_backward-keeps,
+  cursor_position-keeps,
+  erase_in_display-keeps,
+  erase_in_line-keeps,
+  insert_line-keeps,
+  delete_line-keeps,
+  delete_character-keeps,
+  erase_character-keeps,
+  clear_tabs-keeps,
+  select_graphic_rendition-keeps,
+  set_margins-keeps,
+  set_conformance_level-keeps,
+  select_character_attribute-keeps,
+  soft_reset-keeps,
+  column_mode-keeps,
+  origin_mode-keeps,
+  autowrap_mode-keeps,
 )
 
 -- ---- modes
 
-AllModesKeep : List (ℕ × (Bool → Display → Display)) → Type 0
-AllModesKeep [] = Unit {0}
-AllModesKeep (row ∷ rows) = ((on : Bool) → Keeps (row.1 on)) × AllModesKeep rows
+KeepsOnAndOff : (Bool → Display → Display) → Type 0
+KeepsOnAndOff f = (on : Bool) → Keeps (f on)
 
-with_mode-keeps : (table : List (ℕ × (Bool → Display → Display))) (on : Bool) (p : ℕ) → AllModesKeep table → Keeps (with_mode table on p)
-unfolding with_mode AllModesKeep
-with_mode-keeps [] on p h = λ s i. i
-with_mode-keeps (row ∷ rows) on p h = go (p == row.0) (with_mode-keeps rows on p h.1)
-  where
-    go : (t : Bool) → Keeps (unwrap_or (look_up rows p) (λ on s. s) on) → Keeps (unwrap_or (if t then Some row.1 else look_up rows p) (λ on s. s) on)
-    go true rest = h.0 on
-    go false rest = rest
+module _ (table : List (ℕ × (Bool → Display → Display))) (on : Bool) (all : AllKeep KeepsOnAndOff table) where
+  change_modes-keeps : (params : List ℕ) → Keeps (change_modes table on params)
+  unfolding with_mode KeepsOnAndOff
+  change_modes-keeps [] s i = i
+  change_modes-keeps (p ∷ params) s i =
+      change_modes-keeps params (with_mode table on p s) (looked_up-keeps KeepsOnAndOff table p (λ on s. s) (λ on s i. i) all on s i)
 
-change_modes-keeps : (table : List (ℕ × (Bool → Display → Display))) (on : Bool) (params : List ℕ) → AllModesKeep table → Keeps (change_modes table on params)
-change_modes-keeps table on [] h s i = i
-change_modes-keeps table on (p ∷ params) h s i = change_modes-keeps table on params h (with_mode table on p s) (with_mode-keeps table on p h s i)
+ansi_modes-keep : AllKeep KeepsOnAndOff ansi_modes
+unfolding AllKeep KeepsOnAndOff
+ansi_modes-keep = search (keeping, rules)
 
-ansi_modes-keep : AllModesKeep ansi_modes
-unfolding AllModesKeep
-ansi_modes-keep = (λ on s i. search rules, (λ on s i. search rules, (λ on s i. search rules, (λ on s i. search rules, tt))))
+private_modes-keep : AllKeep KeepsOnAndOff private_modes
+unfolding AllKeep KeepsOnAndOff
+private_modes-keep = search (keeping, rules)
 
-private_modes-keep : AllModesKeep private_modes
-unfolding AllModesKeep
-private_modes-keep = (
-  λ on s i. search rules,
-  (
-    column_mode-keeps,
-    (
-      λ on s i. search rules,
-      (
-        λ on s i. search rules,
-        (origin_mode-keeps, (autowrap_mode-keeps, (λ on s i. search rules, (λ on s i. search rules, tt)))),
-      ),
-    ),
-  ),
-)
+-- ---- controls and escape sequences
+
+control-keeps : ReadsGlyphs → KeepSets → IsGlyph substitute_glyph → (b : ℕ) → Keeps (control b)
+unfolding control AllKeep
+control-keeps reads sets shown b =
+    let left0 : Keeps (lock_left 0) = lock_left-keeps sets 0 (omega arith) in
+    let left1 : Keeps (lock_left 1) = lock_left-keeps sets 1 (omega arith) in
+    let once2 : Keeps (shift_once 2) = shift_once-keeps sets 2 (omega arith) (omega arith) in
+    let once3 : Keeps (shift_once 3) = shift_once-keeps sets 3 (omega arith) (omega arith) in
+    let substitute : Keeps (write_glyph substitute_glyph) = write_glyph-keeps substitute_glyph shown in
+    looked_up-keeps Keeps control_functions b unchanged unchanged-keeps (search (keeping, left0, left1, once2, once3, substitute))
+
+plain_escape-keeps : KeepSets → (last : ℕ) → Keeps (plain_escape last)
+unfolding plain_escape AllKeep
+plain_escape-keeps sets last =
+    let left2 : Keeps (lock_left 2) = lock_left-keeps sets 2 (omega arith) in
+    let left3 : Keeps (lock_left 3) = lock_left-keeps sets 3 (omega arith) in
+    let right1 : Keeps (lock_right 1) = lock_right-keeps sets 1 (omega arith) (omega arith) in
+    let right2 : Keeps (lock_right 2) = lock_right-keeps sets 2 (omega arith) (omega arith) in
+    let right3 : Keeps (lock_right 3) = lock_right-keeps sets 3 (omega arith) (omega arith) in
+    looked_up-keeps Keeps plain_escapes last unchanged unchanged-keeps (search (keeping, left2, left3, right1, right2, right3))
+
+escape_with-keeps : KeepSets → (inter last : ℕ) → Keeps (escape_with inter last)
+unfolding escape_with AllKeep
+escape_with-keeps sets inter last =
+    let space = looked_up-keeps Keeps space_escapes last unchanged unchanged-keeps (search keeping) in
+    let number = looked_up-keeps Keeps number_escapes last unchanged unchanged-keeps (search keeping) in
+    looked_up-keeps (λ f. Keeps (f last)) escape_tables inter (λ last. unchanged) unchanged-keeps
+    (space, (number, (designate-keeps sets 0 last, (designate-keeps sets 1 last, (designate-keeps sets 2 last, (designate-keeps sets 3 last, tt))))))
 
 -- ---- control sequences
 
-AllSequencesKeep : SequenceTable → List ℕ → Type 0
-AllSequencesKeep [] params = Unit {0}
-AllSequencesKeep (row ∷ rows) params = Keeps (row.1 params) × AllSequencesKeep rows params
+module _ (params : List ℕ) where
+  AllSequencesKeep : SequenceTable → Type 0
+  AllSequencesKeep = AllKeep (λ f. Keeps (f params))
 
-sequence_in-keeps : (table : SequenceTable) (last : ℕ) (params : List ℕ) → AllSequencesKeep table params → Keeps (sequence_in table last params)
-unfolding sequence_in AllSequencesKeep
-sequence_in-keeps [] last params h = unchanged-keeps
-sequence_in-keeps (row ∷ rows) last params h = go (last == row.0) (sequence_in-keeps rows last params h.1)
-  where
-    go : (t : Bool) → Keeps (unwrap_or (look_up rows last) (λ params. unchanged) params) → Keeps (unwrap_or (if t then Some row.1 else look_up rows last) (λ params. unchanged) params)
-    go true rest = h.0
-    go false rest = rest
+  sequence_in-keeps : (table : SequenceTable) (last : ℕ) → AllSequencesKeep table → Keeps (sequence_in table last params)
+  unfolding sequence_in AllSequencesKeep
+  sequence_in-keeps table last all = looked_up-keeps (λ f. Keeps (f params)) table last (λ params. unchanged) unchanged-keeps all
 
-plain_sequences-keep : (params : List ℕ) → AllSequencesKeep plain_sequences params
-unfolding AllSequencesKeep
-plain_sequences-keep params = (
-  insert_character-keeps (count params),
-  (
-    cursor_up-keeps (count params),
-    (
-      cursor_down-keeps (count params),
-      (
-        cursor_forward-keeps (count params),
-        (
-          cursor_backward-keeps (count params),
-          (
-            cursor_position-keeps (first params) (second params),
-            (
-              erase_in_display-keeps false (first params),
-              (
-                erase_in_line-keeps false (first params),
-                (
-                  insert_line-keeps (count params),
-                  (
-                    delete_line-keeps (count params),
-                    (
-                      delete_character-keeps (count params),
-                      (
-                        erase_character-keeps (count params),
-                        (
-                          cursor_position-keeps (first params) (second params),
-                          (
-                            clear_tabs-keeps (first params),
-                            (
-                              change_modes-keeps ansi_modes true params ansi_modes-keep,
-                              (
-                                change_modes-keeps ansi_modes false params ansi_modes-keep,
-                                (select_graphic_rendition-keeps params, (set_margins-keeps (first params) (second params), tt)),
-                              ),
-                            ),
-                          ),
-                        ),
-                      ),
-                    ),
-                  ),
-                ),
-              ),
-            ),
-          ),
-        ),
-      ),
-    ),
-  ),
-)
+  plain_sequences-keep : AllSequencesKeep plain_sequences
+  unfolding AllKeep AllSequencesKeep
+  plain_sequences-keep =
+      let set : Keeps (change_modes ansi_modes true params) = change_modes-keeps ansi_modes true ansi_modes-keep params in
+      let reset : Keeps (change_modes ansi_modes false params) = change_modes-keeps ansi_modes false ansi_modes-keep params in
+      search (keeping, set, reset)
 
-private_sequences-keep : (params : List ℕ) → AllSequencesKeep private_sequences params
-unfolding AllSequencesKeep
-private_sequences-keep params = (
-  erase_in_display-keeps true (first params),
-  (
-    erase_in_line-keeps true (first params),
-    (change_modes-keeps private_modes true params private_modes-keep, (change_modes-keeps private_modes false params private_modes-keep, tt)),
-  ),
-)
+  private_sequences-keep : AllSequencesKeep private_sequences
+  unfolding AllKeep AllSequencesKeep
+  private_sequences-keep =
+      let set : Keeps (change_modes private_modes true params) = change_modes-keeps private_modes true private_modes-keep params in
+      let reset : Keeps (change_modes private_modes false params) = change_modes-keeps private_modes false private_modes-keep params in
+      search (keeping, set, reset)
 
-quote_sequences-keep : (params : List ℕ) → AllSequencesKeep quote_sequences params
-unfolding AllSequencesKeep
-quote_sequences-keep params = (set_conformance_level-keeps (first params) (second params), (select_character_attribute-keeps (first params), tt))
+  quote_sequences-keep : AllSequencesKeep quote_sequences
+  unfolding AllKeep AllSequencesKeep
+  quote_sequences-keep = search keeping
 
-exclamation_sequences-keep : (params : List ℕ) → AllSequencesKeep exclamation_sequences params
-unfolding AllSequencesKeep
-exclamation_sequences-keep params = (soft_reset-keeps, tt)
+  exclamation_sequences-keep : AllSequencesKeep exclamation_sequences
+  unfolding AllKeep AllSequencesKeep
+  exclamation_sequences-keep = search keeping
 
-no_sequences-keep : (params : List ℕ) → AllSequencesKeep [] params
-unfolding AllSequencesKeep
-no_sequences-keep params = tt
+  no_sequences-keep : AllSequencesKeep []
+  unfolding AllKeep AllSequencesKeep
+  no_sequences-keep = tt
 
-sequences_of-keep : (marker inter : Option ℕ) (params : List ℕ) → AllSequencesKeep (sequences_of marker inter) params
-unfolding sequences_of
-sequences_of-keep None None params = plain_sequences-keep params
-sequences_of-keep (Some marker) None params = go (marker == byte (codes "?"))
-  where
-    go : (t : Bool) → AllSequencesKeep (unwrap_or (if t then Some private_sequences else None) []) params
-    go true = private_sequences-keep params
-    go false = no_sequences-keep params
-sequences_of-keep None (Some inter) params = go (inter == 0x22) (inter == byte (codes "!"))
-  where
-    go : (t u : Bool) → AllSequencesKeep (unwrap_or (if t then Some quote_sequences else (if u then Some exclamation_sequences else None)) []) params
-    go true u = quote_sequences-keep params
-    go false true = exclamation_sequences-keep params
-    go false false = no_sequences-keep params
-sequences_of-keep (Some marker) (Some inter) params = no_sequences-keep params
+  sequences_of-keep : (marker inter : Option ℕ) → AllSequencesKeep (sequences_of marker inter)
+  unfolding sequences_of
+  sequences_of-keep None None = plain_sequences-keep
+  sequences_of-keep (Some marker) None = go (marker == byte (codes "?"))
+    where
+      go : (t : Bool) → AllSequencesKeep (unwrap_or (if t then Some private_sequences else None) [])
+      go true = private_sequences-keep
+      go false = no_sequences-keep
+  sequences_of-keep None (Some inter) = go (inter == 0x22) (inter == byte (codes "!"))
+    where
+      go : (t u : Bool) → AllSequencesKeep (unwrap_or (if t then Some quote_sequences else (if u then Some exclamation_sequences else None)) [])
+      go true u = quote_sequences-keep
+      go false true = exclamation_sequences-keep
+      go false false = no_sequences-keep
+  sequences_of-keep (Some marker) (Some inter) = no_sequences-keep
 
 -- ---- events and bytes
 
@@ -343,7 +243,7 @@ effect-keeps reads sets shown (Control b) = control-keeps reads sets shown b
 effect-keeps reads sets shown (Escape None last) = plain_escape-keeps sets last
 effect-keeps reads sets shown (Escape (Some inter) last) = escape_with-keeps sets inter last
 effect-keeps reads sets shown (Sequence marker params inter last) =
-    sequence_in-keeps (sequences_of marker inter) last params.items (sequences_of-keep marker inter params.items)
+    sequence_in-keeps params.items (sequences_of marker inter) last (sequences_of-keep params.items marker inter)
 
 after_events-keeps : ReadsGlyphs → KeepSets → IsGlyph substitute_glyph → (events : List Event) → Keeps (after_events events)
 after_events-keeps reads sets shown [] s i = i

@@ -1,0 +1,94 @@
+"""The benchmark's inputs: five workloads and three screens, the same bytes on every machine."""
+
+LETTERS = b"      eeeeettttaaaaooooiiinnnssshhrrddllccuummwwffggyyppbbvkxjqz.,0123456789"
+
+
+class Source:
+    """Numbers from a seed (a 64-bit linear congruential generator, its upper half)."""
+
+    def __init__(self, seed):
+        self.state = seed
+
+    def below(self, n):
+        self.state = (self.state * 6364136223846793005 + 1442695040888963407) % 2**64
+        return (self.state >> 33) % n
+
+    def among(self, choices):
+        return choices[self.below(len(choices))]
+
+    def text(self, n):
+        return bytes(self.among(LETTERS) for _ in range(n))
+
+
+def plain(source):
+    """A line of up to 100 characters."""
+    return source.text(source.below(101)) + b"\r\n"
+
+
+def addressing(source):
+    """A place, attributes, and a word."""
+    values = source.among((b"", b"0", b"1", b"4", b"5", b"7", b"0;1", b"0;7", b"1;4;7", b"22", b"24;27"))
+    place = b"\x1b[%d;%dH" % (1 + source.below(24), 1 + source.below(80))
+    return place + b"\x1b[%sm" % values + source.text(source.below(6))
+
+
+def region(source):
+    """Margins now and then, lines in and out, text, and a scroll."""
+    out = b""
+    if source.below(20) == 0:
+        top = 1 + source.below(20)
+        out = b"\x1b[%d;%dr" % (top, top + 1 + source.below(24 - top))
+    out += b"\x1b[%d;1H\x1b[%d%s" % (1 + source.below(24), 1 + source.below(3), source.among((b"L", b"M")))
+    return out + source.text(source.below(40)) + source.among((b"\r\n", b"\x1bM", b"\x1bD", b""))
+
+
+def supplemental(source):
+    """A line in which every other letter is of the right half."""
+    line = (0xC0 + source.below(61) if source.below(2) else source.among(LETTERS) for _ in range(source.below(80)))
+    return bytes(line) + b"\r\n"
+
+
+def random_bytes(source):
+    return bytes(source.below(256) for _ in range(64))
+
+
+WORKLOADS = {"plain lines": plain, "addressing, SGR": addressing, "region, IL, DL": region,
+             "supplemental": supplemental, "random bytes": random_bytes}
+
+
+def make(name, size):
+    """The first `size` bytes of a workload."""
+    source = Source(1 + list(WORKLOADS).index(name))
+    parts, length = [], 0
+    while length < size:
+        parts.append(WORKLOADS[name](source))
+        length += len(parts[-1])
+    return b"".join(parts)[:size]
+
+
+def fields():
+    """Every cell shows a letter; the attributes change behind some thirty of them, as on a form."""
+    source = Source(11)
+    out, left = b"", 0
+    for row in range(1, 25):
+        out += b"\x1b[%d;1H" % row
+        for _ in range(80):
+            if left == 0:
+                left = 10 + source.below(40)
+                out += b"\x1b[%sm" % source.among((b"0", b"0;1", b"0;4", b"0;7", b"0;1;7"))
+            out += bytes((source.among(LETTERS) if source.below(16) else 0xC0 + source.below(15),))
+            left -= 1
+    return out
+
+
+def words():
+    """What 64 KB of addressing leave: most cells shown, the attributes change behind every second or third."""
+    return make("addressing, SGR", 65536) + b"\x18\x1b[m"
+
+
+def dense():
+    """Every cell has another brush than the one to its left, and a glyph spelled in three bytes."""
+    return b"\x1b[H" + b"".join(b"\x1b[0;1;4;5;7m\x1b[%d\"q\xe4" % (i % 2) for i in range(24 * 80))
+
+
+SCREENS = {"fields": fields, "words": words, "every cell another brush": dense}

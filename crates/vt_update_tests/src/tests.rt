@@ -1,0 +1,6 @@
+//! What no clause says of the update: that little is sent where little differs, and that memory is granted when it is there.
+mod common;
+mod examples;
+mod memory;
+mod pairs;
+mod scarce;

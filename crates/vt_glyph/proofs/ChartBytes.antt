@@ -26,7 +26,8 @@ half_length Special = refl
 half_length Supplemental = refl
 
 pub both_halves : (left right : Set) (b : ℕ) → HasGlyph b
-    → slice_index (encodings left ++ (encodings right ++ [])) b ≡ chart_byte (if ltb b 0x80 then left else right) (b % 0x80)
+    → slice_index (encodings left ++ (encodings right ++ [])) b ≡ chart_byte (if ltb b 0x80 then left else right)
+    (b % 0x80)
 both_halves left right b (inl h) =
     let test : ltb b 0x80 ≡ true = grind (arith, nat_tests) in
     let code : b % 0x80 ≡ b = omega arith in

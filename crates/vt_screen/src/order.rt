@@ -65,6 +65,7 @@ impl RowOrder {
     }
 
     /// Moves the rows `top` to `bottom` up by 1; the first of them becomes the last.
+    #[inline(always)]
     pub fn move_up_once(&mut self, top: usize, bottom: usize)
         requires rows { (1 ≤ top) × (top ≤ bottom) × (bottom ≤ last_row) }
         ensures moved { (r : ℕ) → top ≤ r → r + 1 ≤ bottom → start_of self.new r ≡ start_of self.old (r + 1) }
@@ -96,6 +97,7 @@ impl RowOrder {
 }
 
 /// The first number goes behind the others.
+#[inline(always)]
 fn move_first_behind(rows: &mut [u8])
     requires { 1 ≤ length rows.old }
     ensures moved { (k : ℕ) → k + 1 < length rows.old → slice_index rows.new k ≡ slice_index rows.old (k + 1) }

@@ -237,6 +237,10 @@ impl Screen {
         ensures { self.new ≡ scroll_up self.old top bottom n }
     {
         if n == 1 {
+            // The whole screen has a call of its own: its table is moved by a copy of a fixed size.
+            if top == 1 && bottom == ROWS {
+                return self.scroll_up_once(1, ROWS);
+            }
             return self.scroll_up_once(top, bottom);
         }
         let count = (n as usize).min(bottom + 1 - top);

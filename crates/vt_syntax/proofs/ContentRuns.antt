@@ -16,7 +16,8 @@ use Rattle.vt_syntax.proofs.SilentBytes.{run_nil, run_content}
 -- ---- the mask of a vector
 
 -- a byte from 18 to 1B, 9C or 07: less the first of each, with wrapping, it is below how many there are
-stops : (x : ℕ) → x < 256 → ltb ((x + 232) % 256) 4 || (ltb ((x + 100) % 256) 1 || ltb ((x + 249) % 256) 1) ≡ not (goes_on x)
+stops : (x : ℕ) → x < 256
+    → ltb ((x + 232) % 256) 4 || (ltb ((x + 100) % 256) 1 || ltb ((x + 249) % 256) 1) ≡ not (goes_on x)
 stops x h = elim (cases_lt x 7) [
   | inl below ↦
       let a : (x + 232) % 256 ≡ x + 232 = omega arith in
@@ -34,7 +35,8 @@ stops x h = elim (cases_lt x 7) [
             let a : (x + 232) % 256 ≡ x - 24 = omega arith in
             elim (cases_lt x 156) [
               | inl below ↦ let b : (x + 100) % 256 ≡ x + 100 = omega arith in rw (a, b, c) (grind (arith, nat_tests))
-              | inr from_156 ↦ let b : (x + 100) % 256 ≡ x - 156 = omega arith in rw (a, b, c) (grind (arith, nat_tests))
+              | inr from_156 ↦ let b : (x + 100) % 256 ≡ x - 156 =
+                  omega arith in rw (a, b, c) (grind (arith, nat_tests))
             ]
       ]
 ]
@@ -51,20 +53,25 @@ any_tops false false false = refl
 
 -- the lanes below a limit, less a byte
 abbrev below : ℕ → ℕ → ℕ → List ℕ → List ℕ
-below n first many v = zip2 (λ a b. cond (ltb a b) 255 0) (zip2 (λ a b. (a + (256 - b)) % 256) v (replicate n first)) (replicate n many)
+below n first many v = zip2 (λ a b. cond (ltb a b) 255 0) (zip2 (λ a b. (a + (256 - b)) % 256) v (replicate n first))
+    (replicate n many)
 
 lanes : (n : ℕ) (v : List ℕ) → length v ≡ n → Each1 (Fits w8) v
-    → map (top 7) (zip2 bit_or (below n 24 4 v) (zip2 bit_or (below n 156 1 v) (below n 7 1 v))) ≡ map (λ b. not (goes_on b)) v
+    → map (top 7) (zip2 bit_or (below n 24 4 v) (zip2 bit_or (below n 156 1 v) (below n 7 1 v))) ≡ map
+    (λ b. not (goes_on b)) v
 lanes zero [] long fits = refl
 lanes (suc n) [] long fits = absurd (omega arith)
 lanes zero (x ∷ v) long fits = absurd (omega arith)
 lanes (suc n) (x ∷ v) long fits =
-    ap₂ (λ b bs. b ∷ bs) (any_tops (ltb ((x + 232) % 256) 4) (ltb ((x + 100) % 256) 1) (ltb ((x + 249) % 256) 1) ∙ stops x fits.0.fits) (lanes n v (omega arith) fits.1)
+    ap₂ (λ b bs. b ∷ bs) (any_tops (ltb ((x + 232) % 256) 4) (ltb ((x + 100) % 256) 1) (ltb ((x + 249) % 256) 1)
+    ∙ stops x fits.0.fits) (lanes n v (omega arith) fits.1)
 
 pub stops_mask : (n : ℕ) (v : List ℕ) → length v ≡ n → n ≤ 64 → Each1 (Fits w8) v
-    → mask_l (map (top 7) (zip2 bit_or (below n 24 4 v) (zip2 bit_or (below n 156 1 v) (below n 7 1 v)))) % 2 ^ 64 ≡ mask_l (map (λ b. not (goes_on b)) v)
+    → mask_l (map (top 7) (zip2 bit_or (below n 24 4 v) (zip2 bit_or (below n 156 1 v) (below n 7 1 v)))) % 2 ^ 64 ≡
+    mask_l (map (λ b. not (goes_on b)) v)
 stops_mask n v long few fits =
-    ap (λ m. mask_l m % 2 ^ 64) (lanes n v long fits) ∙ mask_l-mod (map (λ b. not (goes_on b)) v) 64 (omega (arith, length-map v (λ b. not (goes_on b))))
+    ap (λ m. mask_l m % 2 ^ 64) (lanes n v long fits)
+    ∙ mask_l-mod (map (λ b. not (goes_on b)) v) 64 (omega (arith, length-map v (λ b. not (goes_on b))))
 
 -- ---- what goes on is content
 
@@ -73,14 +80,17 @@ unfolding ends_string
 content_byte true b is = grind (arith, nat_tests)
 content_byte false b is = grind (arith, nat_tests)
 
-run_front : (osc : Bool) (piece : List ℕ) (n : ℕ) → n ≤ prefix_len goes_on piece → run (Text osc) (take n piece) ≡ step_to (Text osc) []
+run_front : (osc : Bool) (piece : List ℕ) (n : ℕ) → n ≤ prefix_len goes_on piece
+    → run (Text osc) (take n piece) ≡ step_to (Text osc) []
 run_front osc piece zero few = run_nil (Text osc)
 run_front osc piece (suc n) few =
     let below : n < prefix_len goes_on piece = omega arith in
     let inside : n < length piece = omega (arith, prefix_len-le-length goes_on piece) in
     let next : n + 1 ≡ suc n = omega arith in
-    rw (← next) (run_content osc piece n inside (run_front osc piece n (omega arith)) (content_byte osc (get_or piece n 0) (prefix_len_passes goes_on piece n 0 below)))
+    rw (← next) (run_content osc piece n inside (run_front osc piece n (omega arith))
+    (content_byte osc (get_or piece n 0) (prefix_len_passes goes_on piece n 0 below)))
 
 -- the front of bytes that go on
-pub run_goes_on : (osc : Bool) (piece : List ℕ) → run (Text osc) (take (prefix_len goes_on piece) piece) ≡ step_to (Text osc) []
+pub run_goes_on : (osc : Bool) (piece : List ℕ)
+    → run (Text osc) (take (prefix_len goes_on piece) piece) ≡ step_to (Text osc) []
 run_goes_on osc piece = run_front osc piece (prefix_len goes_on piece) (omega arith)

@@ -24,17 +24,26 @@ same_run : (p : ℕ → Bool) (xs : List ℕ) → prefix_len p xs ≡ prefix_len
 same_run p [] = refl
 same_run p (x ∷ xs) = ap₂ (λ b n. cond b (1 + n) 0) (not-not (p x)) (same_run p xs)
 
-split : (p : ℕ → Bool) (xs : List ℕ) (i n : ℕ) → prefix_len p (drop i xs) ≡ cond (eqb (prefix_len p (chunk i n xs)) (length (chunk i n xs))) (length (chunk i n xs) + prefix_len p (drop (i + n) xs)) (prefix_len p (chunk i n xs))
+split : (p : ℕ → Bool) (xs : List ℕ) (i n : ℕ)
+    → prefix_len p (drop i xs) ≡ cond (eqb (prefix_len p (chunk i n xs)) (length (chunk i n xs)))
+    (length (chunk i n xs) + prefix_len p (drop (i + n) xs)) (prefix_len p (chunk i n xs))
 split p xs i n = ap (prefix_len p) (chunk-drop i n xs) ∙ prefix_len-append p (chunk i n xs) (drop (i + n) xs)
 
-pub run_through : (p : ℕ → Bool) (xs : List ℕ) (i n : ℕ) → i + n ≤ length xs → mask_l (map (λ b. not (p b)) (chunk i n xs)) ≡ 0 → prefix_len p (drop i xs) ≡ n + prefix_len p (drop (i + n) xs)
+pub run_through : (p : ℕ → Bool) (xs : List ℕ) (i n : ℕ) → i + n ≤ length xs
+    → mask_l (map (λ b. not (p b)) (chunk i n xs)) ≡ 0 → prefix_len p (drop i xs) ≡ n + prefix_len p (drop (i + n) xs)
 run_through p xs i n room none =
     let c = chunk i n xs in
-    split p xs i n ∙ ap (λ b. cond b (length c + prefix_len p (drop (i + n) xs)) (prefix_len p c)) (eq-eqb _ _ (same_run p c ∙ leading_from_mask_l (λ b. not (p b)) c none))
+    split p xs i n
+    ∙ ap (λ b. cond b (length c + prefix_len p (drop (i + n) xs)) (prefix_len p c)) (eq-eqb _ _ (same_run p c
+    ∙ leading_from_mask_l (λ b. not (p b)) c none))
     ∙ ap (λ k. k + prefix_len p (drop (i + n) xs)) (length-chunk i n xs room)
 
-pub run_stops : (p : ℕ → Bool) (xs : List ℕ) (i n : ℕ) → i + n ≤ length xs → n ≤ 64 → 0 < mask_l (map (λ b. not (p b)) (chunk i n xs)) → prefix_len p (drop i xs) ≡ count_trailing_zeros 64 (mask_l (map (λ b. not (p b)) (chunk i n xs)))
+pub run_stops : (p : ℕ → Bool) (xs : List ℕ) (i n : ℕ) → i + n ≤ length xs → n ≤ 64
+    → 0 < mask_l (map (λ b. not (p b)) (chunk i n xs))
+    → prefix_len p (drop i xs) ≡ count_trailing_zeros 64 (mask_l (map (λ b. not (p b)) (chunk i n xs)))
 run_stops p xs i n room few some =
     let c = chunk i n xs in
-    split p xs i n ∙ ap (λ b. cond b (length c + prefix_len p (drop (i + n) xs)) (prefix_len p c)) (ne_eqb _ _ (λ (e : prefix_len p c ≡ length c). omega (arith, all_pass p c e)))
+    split p xs i n
+    ∙ ap (λ b. cond b (length c + prefix_len p (drop (i + n) xs)) (prefix_len p c))
+    (ne_eqb _ _ (λ (e : prefix_len p c ≡ length c). omega (arith, all_pass p c e)))
     ∙ same_run p c ∙ sym (trailing_mask_l (λ b. not (p b)) 64 c (omega (arith, length-chunk i n xs room)) some)

@@ -25,7 +25,8 @@ each_above [] h = refl
 each_above (x ∷ v) h = ap₂ (λ a b. a ∷ b) (above x h.0.fits) (each_above v h.1)
 
 pub stops_mask : (n : ℕ) (v : List ℕ) → length v ≡ n → n ≤ 64 → Each1 (Fits w8) v
-    → mask_l (map (top 7) (zip2 (λ a b. cond (ltb a b) 255 0) (replicate n 94) (zip2 (λ a b. (a + (256 - b)) % 256) v (replicate n 32)))) % 2 ^ 64 ≡ mask_l (map is_not_plain v)
+    → mask_l (map (top 7) (zip2 (λ a b. cond (ltb a b) 255 0) (replicate n 94) (zip2 (λ a b. (a + (256 - b)) % 256) v
+    (replicate n 32)))) % 2 ^ 64 ≡ mask_l (map is_not_plain v)
 stops_mask n v long few fits =
     let shift = λ (x : ℕ). (x + 224) % 256 in
     ap (λ m. mask_l m % 2 ^ 64)
@@ -48,9 +49,12 @@ pub front_plain : (xs : List ℕ) → All IsPlain (take (prefix_len is_plain xs)
 front_plain xs =
     let n = prefix_len is_plain xs in
     All-from_get_or IsPlain (take n xs) 0
-    (λ k h. let below : k < n = omega (arith, h, length-take n xs) in subst (λ (b : ℕ). IsPlain b) (sym (get_or-take n xs k 0 below)) (plain_byte _ (prefix_len_passes is_plain xs k 0 below)))
+    (λ k h. let below : k < n =
+    omega (arith, h, length-take n xs) in subst (λ (b : ℕ). IsPlain b) (sym (get_or-take n xs k 0 below))
+    (plain_byte _ (prefix_len_passes is_plain xs k 0 below)))
 
-pub next_not_plain : (xs : List ℕ) → prefix_len is_plain xs < length xs → IsPlain (get_or xs (prefix_len is_plain xs) 0) → ⊥
+pub next_not_plain : (xs : List ℕ) → prefix_len is_plain xs < length xs
+    → IsPlain (get_or xs (prefix_len is_plain xs) 0) → ⊥
 next_not_plain xs h p =
     let e = plain_test (get_or xs (prefix_len is_plain xs) 0) p in
     let f = prefix_len_stops is_plain xs 0 h in

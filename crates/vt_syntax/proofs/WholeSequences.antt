@@ -24,8 +24,10 @@ use Rattle.vt_syntax.proofs.Steps.{step_final}
 use Rattle.vt_syntax.proofs.SilentBytes.{run_nil, run_more, digit_step, separator_step}
 
 -- one more byte, which gives an event
-pub run_event : (held now after : Held) (piece : List ℕ) (at : ℕ) (event : Event) → at < length piece → run held (take at piece) ≡ step_to now []
-    → step_of now (get_or piece at 0) ≡ step_to after (event ∷ []) → run held (take (at + 1) piece) ≡ step_to after (event ∷ [])
+pub run_event : (held now after : Held) (piece : List ℕ) (at : ℕ) (event : Event) → at < length piece
+    → run held (take at piece) ≡ step_to now []
+    → step_of now (get_or piece at 0) ≡ step_to after (event ∷ [])
+    → run held (take (at + 1) piece) ≡ step_to after (event ∷ [])
 unfolding run
 run_event held now after piece at event inside so_far step =
     ap (λ (bytes : List ℕ). run held bytes) (take_more piece at 0 inside)
@@ -33,20 +35,27 @@ run_event held now after piece at event inside so_far step =
     ∙ rw (so_far, step) refl
 
 -- one more byte, which ends a sequence
-pub run_last : (held now : Held) (piece : List ℕ) (at : ℕ) → at < length piece → run held (take at piece) ≡ step_to now []
-    → IsEnding now (get_or piece at 0) → run held (take (at + 1) piece) ≡ step_to Nothing (ended_by now (get_or piece at 0) ∷ [])
+pub run_last : (held now : Held) (piece : List ℕ) (at : ℕ) → at < length piece
+    → run held (take at piece) ≡ step_to now []
+    → IsEnding now (get_or piece at 0)
+    → run held (take (at + 1) piece) ≡ step_to Nothing (ended_by now (get_or piece at 0) ∷ [])
 run_last held now piece at inside so_far ends =
-    run_event held now Nothing piece at (ended_by now (get_or piece at 0)) inside so_far (step_final now (get_or piece at 0) ends)
+    run_event held now Nothing piece at (ended_by now (get_or piece at 0)) inside so_far
+    (step_final now (get_or piece at 0) ends)
 
 -- ESC at the front of a piece
-pub run_escape : (piece : List ℕ) → 1 ≤ length piece → get_or piece 0 0 ≡ 0x1B → run Nothing (take 1 piece) ≡ step_to (Escape Zero) []
+pub run_escape : (piece : List ℕ) → 1 ≤ length piece → get_or piece 0 0 ≡ 0x1B
+    → run Nothing (take 1 piece) ≡ step_to (Escape Zero) []
 unfolding step_of
-run_escape piece long first = run_more Nothing Nothing (Escape Zero) piece 0 (omega arith) (run_nil Nothing) (rw first refl)
+run_escape piece long first = run_more Nothing Nothing (Escape Zero) piece 0 (omega arith) (run_nil Nothing)
+    (rw first refl)
 
 -- CSI in its 8-bit form
-pub run_csi : (piece : List ℕ) → 1 ≤ length piece → get_or piece 0 0 ≡ 0x9B → run Nothing (take 1 piece) ≡ step_to (opened_by 0x9B) []
+pub run_csi : (piece : List ℕ) → 1 ≤ length piece → get_or piece 0 0 ≡ 0x9B
+    → run Nothing (take 1 piece) ≡ step_to (opened_by 0x9B) []
 unfolding step_of
-run_csi piece long first = run_more Nothing Nothing (opened_by 0x9B) piece 0 (omega arith) (run_nil Nothing) (rw first refl)
+run_csi piece long first = run_more Nothing Nothing (opened_by 0x9B) piece 0 (omega arith) (run_nil Nothing)
+    (rw first refl)
 
 marker_step : (b : ℕ) → 0x3C ≤ b → b < 0x40 → step_of (opened_by 0x9B) b ≡ step_to (begun (Some b)) []
 unfolding step_of
@@ -60,15 +69,19 @@ marker_step b low high =
 inter_step : (marker : Option ℕ) (params : ArrayVec ℕ) (phase : Phase) (b : ℕ) → IsEarly phase → 0x20 ≤ b → b < 0x30
     → step_of (Control marker params false phase) b ≡ step_to (Control marker params false (Inter b)) []
 unfolding step_of
-inter_step marker params Start b early low high = let k : class_of b ≡ Intermediate = class_intermediate b low high in rw k refl
-inter_step marker params Values b early low high = let k : class_of b ≡ Intermediate = class_intermediate b low high in rw k refl
+inter_step marker params Start b early low high = let k : class_of b ≡ Intermediate =
+    class_intermediate b low high in rw k refl
+inter_step marker params Values b early low high = let k : class_of b ≡ Intermediate =
+    class_intermediate b low high in rw k refl
 inter_step marker params (Inter i) b early low high = absurd early
 
 -- a marker after the introducer
 pub run_marker : (piece : List ℕ) (at : ℕ) → at < length piece → 0x3C ≤ get_or piece at 0 → get_or piece at 0 < 0x40
-    → run Nothing (take at piece) ≡ step_to (opened_by 0x9B) [] → run Nothing (take (at + 1) piece) ≡ step_to (begun (Some (get_or piece at 0))) []
+    → run Nothing (take at piece) ≡ step_to (opened_by 0x9B) []
+    → run Nothing (take (at + 1) piece) ≡ step_to (begun (Some (get_or piece at 0))) []
 run_marker piece at inside low high so_far =
-    run_more Nothing (opened_by 0x9B) (begun (Some (get_or piece at 0))) piece at inside so_far (marker_step (get_or piece at 0) low high)
+    run_more Nothing (opened_by 0x9B) (begun (Some (get_or piece at 0))) piece at inside so_far
+    (marker_step (get_or piece at 0) low high)
 
 -- ---- values
 
@@ -77,14 +90,17 @@ early_marker None = tt
 early_marker (Some m) = tt
 
 -- no digit has come
-pub read_none : (piece : List ℕ) (at : ℕ) (marker : Option ℕ) → at ≤ length piece → run Nothing (take at piece) ≡ step_to (begun marker) []
+pub read_none : (piece : List ℕ) (at : ℕ) (marker : Option ℕ) → at ≤ length piece
+    → run Nothing (take at piece) ≡ step_to (begun marker) []
     → AreRead piece at marker ([] ++ 0 ∷ [])
 read_none piece at marker inside begins =
     record { within = inside; phase = marker_phase marker; early = early_marker marker; reads = begins }
 
 -- one more digit of the last value
-pub read_digit : (piece : List ℕ) (at next : ℕ) (marker : Option ℕ) (xs : List ℕ) (v d w : ℕ) → AreRead piece at marker (xs ++ v ∷ [])
-    → next ≡ at + 1 → next ≤ length piece → (48 ≤ get_or piece at 0) × (get_or piece at 0 ≤ 57) × (d ≡ get_or piece at 0 - 48)
+pub read_digit : (piece : List ℕ) (at next : ℕ) (marker : Option ℕ) (xs : List ℕ) (v d w : ℕ)
+    → AreRead piece at marker (xs ++ v ∷ [])
+    → next ≡ at + 1 → next ≤ length piece
+    → (48 ≤ get_or piece at 0) × (get_or piece at 0 ≤ 57) × (d ≡ get_or piece at 0 - 48)
     → v ≤ 99 → w ≡ v * 10 + d → AreRead piece next marker (xs ++ w ∷ [])
 read_digit piece at next marker xs v d w read follows inside digit small is =
     let e : w ≡ with_digit (get_or piece at 0) v = omega (arith, digit.0, digit.1, digit.2) in
@@ -97,13 +113,16 @@ read_digit piece at next marker xs v d w read follows inside digit small is =
     })
 
 -- one more `;`
-pub read_separator : (piece : List ℕ) (at : ℕ) (marker : Option ℕ) (xs : List ℕ) (v : ℕ) → AreRead piece at marker (xs ++ v ∷ [])
-    → at < length piece → get_or piece at 0 ≡ 0x3B → length xs < 15 → AreRead piece (at + 1) marker ((xs ++ v ∷ []) ++ 0 ∷ [])
+pub read_separator : (piece : List ℕ) (at : ℕ) (marker : Option ℕ) (xs : List ℕ) (v : ℕ)
+    → AreRead piece at marker (xs ++ v ∷ [])
+    → at < length piece → get_or piece at 0 ≡ 0x3B → length xs < 15
+    → AreRead piece (at + 1) marker ((xs ++ v ∷ []) ++ 0 ∷ [])
 read_separator piece at marker xs v read inside is few = record {
   within = omega arith;
   phase = Values;
   early = tt;
-  reads = run_more Nothing (Control marker (record { items = xs ++ v ∷ [] }) false read.phase) _ piece at inside read.reads
+  reads = run_more Nothing (Control marker (record { items = xs ++ v ∷ [] }) false read.phase) _ piece at inside
+      read.reads
       (rw is (separator_step marker xs v read.phase read.early few));
 }
 
@@ -120,17 +139,21 @@ pub run_control : (piece values : List ℕ) (marker : Option ℕ) (at : ℕ) →
 run_control piece values marker at read inside low high = record {
   some = omega arith;
   within = omega arith;
-  reads = run_last Nothing (Control marker (record { items = values }) false read.phase) piece at inside read.reads (low, omega arith)
-      ∙ ap (λ (i : Option ℕ). step_to Nothing (event.Sequence marker (record { items = values }) i (get_or piece at 0) ∷ [])) (early_inter read.phase read.early);
+  reads = run_last Nothing (Control marker (record { items = values }) false read.phase) piece at inside read.reads
+      (low, omega arith)
+      ∙ ap (λ (i : Option ℕ). step_to Nothing (event.Sequence marker (record { items = values }) i (get_or piece at 0)
+      ∷ [])) (early_inter read.phase read.early);
 }
 
 -- an intermediate and a final byte after the values
 pub run_control_with : (piece values : List ℕ) (marker : Option ℕ) (at : ℕ) → AreRead piece at marker values
-    → at + 2 ≤ length piece → 0x20 ≤ get_or piece at 0 → get_or piece at 0 < 0x30 → 0x40 ≤ get_or piece (at + 1) 0 → get_or piece (at + 1) 0 < 0x7F
+    → at + 2 ≤ length piece → 0x20 ≤ get_or piece at 0 → get_or piece at 0 < 0x30 → 0x40 ≤ get_or piece (at + 1) 0
+    → get_or piece (at + 1) 0 < 0x7F
     → IsWhole piece values (at + 2) (kind.Sequence marker (Some (get_or piece at 0)) (get_or piece (at + 1) 0))
 run_control_with piece values marker at read inside low high low2 high2 =
     let inter : Held = Control marker (record { items = values }) false (Inter (get_or piece at 0)) in
-    let reads = run_more Nothing (Control marker (record { items = values }) false read.phase) inter piece at (omega arith) read.reads
+    let reads = run_more Nothing (Control marker (record { items = values }) false read.phase) inter piece at
+    (omega arith) read.reads
     (inter_step marker (record { items = values }) read.phase (get_or piece at 0) read.early low high) in
     let two : at + 2 ≡ at + 1 + 1 = omega arith in
     record {
@@ -157,7 +180,8 @@ unfolding step_of
 escape_inter_step b low high = let k : class_of b ≡ Intermediate = class_intermediate b low high in rw k refl
 
 -- ESC and a final byte
-pub escape_whole : (piece : List ℕ) (kind : EventKind) → 2 ≤ length piece → get_or piece 0 0 ≡ 0x1B → IsEnding (Escape Zero) (get_or piece 1 0)
+pub escape_whole : (piece : List ℕ) (kind : EventKind) → 2 ≤ length piece → get_or piece 0 0 ≡ 0x1B
+    → IsEnding (Escape Zero) (get_or piece 1 0)
     → ((values : List ℕ) → event_of kind values ≡ ended_by (Escape Zero) (get_or piece 1 0))
     → (values : List ℕ) → IsWhole piece values 2 kind
 escape_whole piece kind long first ends is values = record {
@@ -168,14 +192,16 @@ escape_whole piece kind long first ends is values = record {
 }
 
 -- ESC, an intermediate and a final byte
-pub escape_with_whole : (piece : List ℕ) → 3 ≤ length piece → get_or piece 0 0 ≡ 0x1B → 0x20 ≤ get_or piece 1 0 → get_or piece 1 0 < 0x30
+pub escape_with_whole : (piece : List ℕ) → 3 ≤ length piece → get_or piece 0 0 ≡ 0x1B → 0x20 ≤ get_or piece 1 0
+    → get_or piece 1 0 < 0x30
     → 0x30 ≤ get_or piece 2 0 → get_or piece 2 0 < 0x7F
     → (values : List ℕ) → IsWhole piece values 3 (kind.Escape (Some (get_or piece 1 0)) (get_or piece 2 0))
 escape_with_whole piece long first low high low2 high2 values = record {
   some = omega arith;
   within = long;
   reads = run_last Nothing (Escape (One (get_or piece 1 0))) piece 2 (omega arith)
-      (run_more Nothing (Escape Zero) (Escape (One (get_or piece 1 0))) piece 1 (omega arith) (run_escape piece (omega arith) first)
+      (run_more Nothing (Escape Zero) (Escape (One (get_or piece 1 0))) piece 1 (omega arith)
+      (run_escape piece (omega arith) first)
       (escape_inter_step (get_or piece 1 0) low high))
       (low2, omega arith);
 }

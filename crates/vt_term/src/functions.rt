@@ -55,7 +55,8 @@ impl Display {
         }
     }
 
-    /// A C0 or C1 control.
+    /// A C0 or C1 control. (It is compiled in the place of each call, so that CR and LF cost no dispatch.)
+    #[inline(always)]
     #[tactic(auto, unfolding(crate::specs::Functions::control))]
     pub(crate) fn control(&mut self, b: u8)
         ensures { self.new ≡ control b self.old }

@@ -3,4 +3,5 @@ use Rattle.vt_syntax.proofs.whole.marker_at.Goals as goal
 
 pub returns-then-piece-from-lt64-clause-reads : goal.returns-then-piece-from-lt64-clause-reads
 returns-then-piece-from-lt64-clause-reads c =
-    λ so_far. run_marker c.args.piece.now c.args.from c.if-from-piece.true c.if-piece-from-ge60.true c.if-piece-from-lt64.true so_far
+    λ so_far. run_marker c.args.piece.now c.args.from c.if-from-piece.true c.if-piece-from-ge60.true
+    c.if-piece-from-lt64.true so_far

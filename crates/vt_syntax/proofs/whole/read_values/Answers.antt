@@ -10,8 +10,11 @@ loop-at-init c = record {
 }
 
 pub returns-then-piece-end-ne59 : goal.returns-then-piece-end-ne59
-returns-then-piece-end-ne59 c =
-    (omega arith, rw c.push.ensures (c.read_value-value.ensures.reads c.args.marker c.loop-at.values (c.loop-at.invariant.reads (omega arith))))
+returns-then-piece-end-ne59 c = (
+  omega arith,
+  rw c.push.ensures (c.read_value-value.ensures.reads c.args.marker c.loop-at.values
+      (c.loop-at.invariant.reads (omega arith))),
+)
 
 pub loop-at-preserved : goal.loop-at-preserved
 loop-at-preserved c = record {
@@ -19,7 +22,8 @@ loop-at-preserved c = record {
   few = rw c.push.ensures (simp length-append (omega arith));
   reads = rw c.push.ensures (λ few.
       let more = simp length-append at few in
-      read_separator c.args.piece.now c.read_value-value.result.1 c.args.marker c.loop-at.values c.read_value-value.result.0
+      read_separator c.args.piece.now c.read_value-value.result.1 c.args.marker c.loop-at.values
+      c.read_value-value.result.0
       (c.read_value-value.ensures.reads c.args.marker c.loop-at.values (c.loop-at.invariant.reads (omega arith)))
       (omega arith) c.if-piece-end-ne59.false (omega (arith, more)));
 }

@@ -4,7 +4,8 @@ use Rattle.vt_syntax.proofs.WholeSequences.{run_csi, run_alone}
 use Rattle.vt_syntax.proofs.whole.whole_event.Goals as goal
 
 pub whole_control-requires-clause-introduced : goal.whole_control-requires-clause-introduced
-whole_control-requires-clause-introduced c = run_introducer c.args.piece.now c.if-piece-lt2.false c.if-is_introducer.ensures.0 c.if-is_introducer.ensures.1
+whole_control-requires-clause-introduced c =
+    run_introducer c.args.piece.now c.if-piece-lt2.false c.if-is_introducer.ensures.0 c.if-is_introducer.ensures.1
 
 pub returns-then-stands_alone : goal.returns-then-stands_alone
 returns-then-stands_alone c = run_alone c.args.piece.now c.alone.result (omega arith) c.alone.ensures c.args.values.now

@@ -1,5 +1,5 @@
 -- The table of the brushes, entry by entry, by computing.
-use Rattle.std.proofs.Common.{◌≡◌, ◌+◌, ◌-◌, ◌*◌, ◌≤◌, ◌==◌, ◌∷◌, ◌++◌, ℕ, Bool, true, false, List, take, length, slice_index_or, get_or, nat_le, refl, sym, ap, ◌∙◌, arith}
+use Rattle.std.proofs.Common.{◌≡◌, ◌+◌, ◌-◌, ◌*◌, ◌≤◌, ◌==◌, ◌∷◌, ℕ, Bool, true, false, List, take, slice_index_or, get_or, nat_le, refl, sym, ap, ◌∙◌, arith}
 use Rattle.std.specs.List.{range_with_len, list_all}
 use Rattle.std.specs.Cmp.Lexicographic.{pointwise, pointwise_decides}
 use Rattle.std.proofs.lemmas.Bool.Decides.{Decides-eqb}
@@ -7,8 +7,6 @@ use Rattle.std.proofs.lemmas.List.FromFn.{length-range_with_len, get_or-range_wi
 use Rattle.std.proofs.lemmas.List.Sums.{AllPass-from_list_all}
 use borrow.Rule.Slice.PartMut.{mid_of}
 use mir.Val.{bool_byte}
-use Rattle.std.proofs.Math.Seq.{take-append-add}
-use Rattle.std.proofs.lemmas.List.{take-append-le}
 use Rattle.vt_syntax.specs.Spelling.{spell_events}
 use Rattle.vt_screen.specs.declared.cell.Brush.{Brush}
 use Rattle.vt_paint.specs.declared.tables.TheConstants.{ROWS, COLUMNS, BRUSHES, BRUSH_LENGTHS}
@@ -98,9 +96,3 @@ row_at row low high = (pointwise_decides Decides-eqb (row_entry row) (row_part r
 pub column_at : (col : ℕ) → 1 ≤ col → col ≤ 132 → column_entry col ≡ column_part col
 column_at col low high =
     (pointwise_decides Decides-eqb (column_entry col) (column_part col)).0 (at_number (λ col. same_bytes (column_entry col) (column_part col)) 132 col columns_are low high)
-
--- ---- a part in the line
-
-pub fronts : (xs ys zs : List ℕ) (at n : ℕ) → length xs ≡ at → n ≤ length ys → take (at + n) (xs ++ (ys ++ zs)) ≡ xs ++ take n ys
-fronts xs ys zs at n is le =
-    ap (λ m. take (m + n) (xs ++ (ys ++ zs))) (sym is) ∙ take-append-add xs (ys ++ zs) n ∙ ap (λ (t : List ℕ). xs ++ t) (take-append-le n ys zs le)

@@ -1,5 +1,5 @@
 //! Worked rows, and every glyph.
-use super::{Glyph, Set, Sets, Spelling, laws};
+use super::{Glyph, Set, Sets, Spelling};
 use std::alloc::{AllocError, Global};
 use std::process::Abort;
 use std::test::Fail;
@@ -54,8 +54,6 @@ fn assert_shows(rt: &impl Abort, sets: &mut Sets, bytes: &[u8], text: &str) {
 
 #[test]
 fn every_glyph_is_spelled(rt: HostRuntime) -> Result<(), Fail> {
-    laws::spelling();
-    laws::glyphs();
     let glyphs = all_glyphs(rt.alloc())?;
     assert_eq!(rt; glyphs.len(), 204);
     assert!(rt; glyphs.contains(&Glyph::blank()));
@@ -81,7 +79,6 @@ fn every_glyph_is_spelled(rt: HostRuntime) -> Result<(), Fail> {
 
 #[test]
 fn finals_designate(rt: HostRuntime) {
-    laws::designation();
     for (last, set) in [
         (b'B', Set::Ascii),
         (b'A', Set::British),
@@ -97,8 +94,6 @@ fn finals_designate(rt: HostRuntime) {
 
 #[test]
 fn shifts_choose_the_set(rt: HostRuntime) {
-    laws::soundness();
-
     // LS1R: the right half shows ASCII
     let mut sets = Sets::power_up();
     sets.lock_right(1);

@@ -1,4 +1,6 @@
 //! Reads and writes that are short or fail, and what a replay then answers and has written.
+ghost use Rattle.std.specs.Prelude.{◌≤◌};
+
 use std::alloc::Global;
 use std::process::Abort;
 use std::test::Fail;
@@ -17,26 +19,51 @@ const ANSWERS: &[u8] = b"\x9b?62;1;6c\x9b>1;10;0c";
 /// More bytes than any replay here writes.
 const ROOM: usize = 100_000;
 
-/// What a replay asks for, its limit, and its devices. A read gives one byte.
+/// The limit of a replay, and the most bytes of one write, which are some.
+#[derive(Clone, Copy)]
+struct Bounds {
+    limit: u64,
+    most: usize,
+    ghost limit_in_range: { limit ≤ 1099511627776 },
+    ghost some: { 1 ≤ most },
+}
+
+/// What a replay asks for, and its devices. A read gives one byte.
 #[derive(Clone, Copy)]
 struct Replay {
     what: What,
-    limit: u64,
+    bounds: Bounds,
     /// The number of the read that fails.
     failing_read: Option<usize>,
-    /// The most bytes of one write, and of all.
-    most: usize,
+    /// The most bytes that are written in all.
     room: usize,
     /// The number of the write that fails.
     failing_write: Option<usize>,
 }
 
+/// The greatest input, and writes that take all.
+const WIDE: Bounds = Bounds {
+    limit: LIMIT,
+    most: ROOM,
+};
+
+/// Writes of three bytes.
+const THREE: Bounds = Bounds {
+    limit: LIMIT,
+    most: 3,
+};
+
+/// Writes of one byte.
+const ONE: Bounds = Bounds {
+    limit: LIMIT,
+    most: 1,
+};
+
 /// Devices that neither fail nor are short of room.
 const REPORTS: Replay = Replay {
     what: What::Reports,
-    limit: LIMIT,
+    bounds: WIDE,
     failing_read: None,
-    most: ROOM,
     room: ROOM,
     failing_write: None,
 };
@@ -48,11 +75,17 @@ fn replayed(
     replay: Replay,
 ) -> Result<(Result<(), Fault>, Vec<u8>), Fail> {
     let into = Vec::with_capacity(alloc, replay.room)?;
-    let writer = ShortWriter::new(into, replay.room, replay.most.max(1), replay.failing_write);
+    let writer = ShortWriter::new(into, replay.room, replay.bounds.most, replay.failing_write);
     let mut reader = Watched::new(ShortReader::new(input, 1, replay.failing_read));
     let mut writer = Watched::new(writer);
-    let limit = replay.limit.min(LIMIT);
-    let answer = run(alloc, &mut reader, &mut writer, replay.what, 1, limit);
+    let answer = run(
+        alloc,
+        &mut reader,
+        &mut writer,
+        replay.what,
+        1,
+        replay.bounds.limit,
+    );
     let written = Vec::from_slice(alloc, writer.into_inner().taken())?;
     Ok((answer, written))
 }
@@ -80,7 +113,7 @@ fn table() -> [(Replay, Result<(), Fault>, usize); 11] {
         // six writes, so that a seventh can't fail
         (
             Replay {
-                most: 3,
+                bounds: THREE,
                 failing_write: Some(7),
                 ..REPORTS
             },
@@ -89,7 +122,7 @@ fn table() -> [(Replay, Result<(), Fault>, usize); 11] {
         ),
         (
             Replay {
-                most: 3,
+                bounds: THREE,
                 failing_write: Some(6),
                 ..REPORTS
             },
@@ -98,7 +131,7 @@ fn table() -> [(Replay, Result<(), Fault>, usize); 11] {
         ),
         (
             Replay {
-                most: 3,
+                bounds: THREE,
                 failing_write: Some(2),
                 ..REPORTS
             },
@@ -107,7 +140,7 @@ fn table() -> [(Replay, Result<(), Fault>, usize); 11] {
         ),
         (
             Replay {
-                most: 3,
+                bounds: THREE,
                 room: 5,
                 ..REPORTS
             },
@@ -116,7 +149,10 @@ fn table() -> [(Replay, Result<(), Fault>, usize); 11] {
         ),
         (
             Replay {
-                limit: 5,
+                bounds: Bounds {
+                    limit: 5,
+                    most: ROOM,
+                },
                 ..REPORTS
             },
             Err(Fault::TooLong),
@@ -124,7 +160,10 @@ fn table() -> [(Replay, Result<(), Fault>, usize); 11] {
         ),
         (
             Replay {
-                limit: 6,
+                bounds: Bounds {
+                    limit: 6,
+                    most: ROOM,
+                },
                 ..REPORTS
             },
             Err(Fault::TooLong),
@@ -132,7 +171,10 @@ fn table() -> [(Replay, Result<(), Fault>, usize); 11] {
         ),
         (
             Replay {
-                limit: 10,
+                bounds: Bounds {
+                    limit: 10,
+                    most: ROOM,
+                },
                 ..REPORTS
             },
             Ok(()),
@@ -140,7 +182,10 @@ fn table() -> [(Replay, Result<(), Fault>, usize); 11] {
         ),
         (
             Replay {
-                limit: 10,
+                bounds: Bounds {
+                    limit: 10,
+                    most: ROOM,
+                },
                 failing_read: Some(11),
                 ..REPORTS
             },
@@ -186,7 +231,7 @@ fn each_read_fails(rt: &impl Abort, alloc: Global, input: &[u8], what: What) -> 
     }
     let replay = Replay {
         what,
-        failing_read: Some(input.len().saturating_add(2)),
+        failing_read: Some(input.len() + 2),
         ..REPORTS
     };
     let (answer, _written) = replayed(alloc, input, replay)?;
@@ -203,7 +248,7 @@ fn each_read_fails(rt: &impl Abort, alloc: Global, input: &[u8], what: What) -> 
 fn each_write_fails(rt: &impl Abort, alloc: Global, input: &[u8], what: What) -> Result<(), Fail> {
     let whole = Replay {
         what,
-        most: 1,
+        bounds: ONE,
         ..REPORTS
     };
     let (answered, due) = replayed(alloc, input, whole)?;

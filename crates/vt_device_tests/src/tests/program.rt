@@ -24,17 +24,11 @@ fn answer<W: Write>(
     limit: u64,
 ) -> Result<(), Fault>
     requires works { writer.old.failed ≡ false }
+    requires piece_in_range { (1 ≤ piece) × (piece ≤ 65536) }
     requires limit_in_range { limit ≤ 1099511627776 }
 {
     let mut reader = Watched::new(input);
-    run(
-        alloc,
-        &mut reader,
-        writer,
-        what,
-        piece.clamp(1, 65536),
-        limit,
-    )
+    run(alloc, &mut reader, writer, what, piece, limit)
 }
 
 #[test]

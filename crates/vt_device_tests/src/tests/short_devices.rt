@@ -1,4 +1,6 @@
 //! The devices, through the bounds that a caller has.
+ghost use Rattle.std.specs.Prelude.{◌≤◌};
+
 use std::alloc::Global;
 use std::io::{Read, Write};
 use std::test::Fail;
@@ -40,18 +42,32 @@ fn writes<W: Write>(
     Ok(line)
 }
 
+/// The most bytes of a call.
+#[derive(Clone, Copy)]
+struct Most {
+    count: usize,
+    ghost some: { 1 ≤ count },
+}
+
+/// One, three and nine bytes.
+const ONE: Most = Most { count: 1 };
+
+const THREE: Most = Most { count: 3 };
+
+const NINE: Most = Most { count: 9 };
+
 #[test]
 fn a_reader_gives_little_and_fails_once(rt: HostRuntime) -> Result<(), Fail> {
-    let rows: [(usize, Option<usize>, &[u8]); 6] = [
-        (1, None, b"a,b,c,d,e,f,g,,"),
-        (3, None, b"abc,def,g,,,,,,"),
-        (9, None, b"abcd,efg,,,,,,,"),
-        (1, Some(3), b"a,b,!,c,d,e,f,g,"),
-        (3, Some(1), b"!,abc,def,g,,,,,"),
-        (3, Some(0), b"abc,def,g,,,,,,"),
+    let rows: [(Most, Option<usize>, &[u8]); 6] = [
+        (ONE, None, b"a,b,c,d,e,f,g,,"),
+        (THREE, None, b"abc,def,g,,,,,,"),
+        (NINE, None, b"abcd,efg,,,,,,,"),
+        (ONE, Some(3), b"a,b,!,c,d,e,f,g,"),
+        (THREE, Some(1), b"!,abc,def,g,,,,,"),
+        (THREE, Some(0), b"abc,def,g,,,,,,"),
     ];
     for (most, fail, line) in rows {
-        let mut reader = ShortReader::new(b"abcdefg", most.max(1), fail);
+        let mut reader = ShortReader::new(b"abcdefg", most.count, fail);
         let answers = reads(rt.alloc(), &mut reader, 8)?;
         assert_eq!(rt; answers.as_slice(), line);
     }
@@ -60,16 +76,16 @@ fn a_reader_gives_little_and_fails_once(rt: HostRuntime) -> Result<(), Fail> {
 
 #[test]
 fn a_writer_takes_little_and_fails_once(rt: HostRuntime) -> Result<(), Fail> {
-    let rows: [(usize, usize, Option<usize>, &str, &[u8]); 5] = [
-        (9, 3, None, "3,3,1,0,", b"abcdefg"),
-        (5, 3, None, "3,2,0,0,", b"abcde"),
-        (9, 3, Some(2), "3,!,3,1,", b"abcdefg"),
-        (9, 9, Some(1), "!,7,0,0,", b"abcdefg"),
-        (0, 1, Some(5), "0,0,0,0,", b""),
+    let rows: [(usize, Most, Option<usize>, &str, &[u8]); 5] = [
+        (9, THREE, None, "3,3,1,0,", b"abcdefg"),
+        (5, THREE, None, "3,2,0,0,", b"abcde"),
+        (9, THREE, Some(2), "3,!,3,1,", b"abcdefg"),
+        (9, NINE, Some(1), "!,7,0,0,", b"abcdefg"),
+        (0, ONE, Some(5), "0,0,0,0,", b""),
     ];
     for (room, most, fail, line, taken) in rows {
         let into = Vec::with_capacity(rt.alloc(), room)?;
-        let mut writer = ShortWriter::new(into, room, most.max(1), fail);
+        let mut writer = ShortWriter::new(into, room, most.count, fail);
         let answers = writes(rt.alloc(), &mut writer, b"abcdefg", 4)?;
         assert_eq!(rt; answers.as_str(), line);
         assert_eq!(rt; writer.taken(), taken);

@@ -1,4 +1,6 @@
 //! What the tests share: a terminal that was fed in pieces, and a replay.
+ghost use Rattle.std.specs.Prelude.{◌≤◌};
+
 use std::alloc::Global;
 use std::process::Abort;
 use std::test::Fail;
@@ -63,17 +65,12 @@ pub(super) fn replayed(
     input: &[u8],
     what: What,
     piece: usize,
-) -> Result<Vec<u8>, Fail> {
+) -> Result<Vec<u8>, Fail>
+    requires { (1 ≤ piece) × (piece ≤ 65536) }
+{
     let mut reader = Watched::new(input);
     let mut writer = Watched::new(Vec::new(alloc));
-    run(
-        alloc,
-        &mut reader,
-        &mut writer,
-        what,
-        piece.clamp(1, 65536),
-        LIMIT,
-    )?;
+    run(alloc, &mut reader, &mut writer, what, piece, LIMIT)?;
     assert!(rt; reader.ended() && !reader.failed() && !writer.failed());
     Ok(writer.into_inner())
 }

@@ -1,4 +1,6 @@
 //! Inputs without measure: whole, byte by byte, and in pieces of 7.
+ghost use Rattle.std.specs.Prelude.{◌≤◌};
+
 use super::common::Played;
 use std::alloc::Global;
 use std::process::Abort;
@@ -8,8 +10,33 @@ use vt_term::Cursor;
 /// How often a byte is repeated.
 const MILLION: usize = 1_000_000;
 
-/// Asserts what an input leaves, in pieces of some sizes: its first lines, with LF after each, and the cursor. The other
+/// Asserts what an input leaves, in pieces of this size: its first lines, with LF after each, and the cursor. The other
 /// lines are empty.
+fn leaves_by(
+    rt: &impl Abort,
+    alloc: Global,
+    size: usize,
+    input: &[u8],
+    lines: &[u8],
+    cursor: Cursor,
+) -> Result<(), Fail>
+    requires { 1 ≤ size }
+{
+    let mut played = Played::of(alloc, &[])?;
+    for piece in input.chunks(size) {
+        played.feed(piece)?;
+    }
+    let mut text = Vec::new(alloc);
+    played.terminal.text(&mut text)?;
+    assert_eq!(rt; text.get(..lines.len()), Some(lines));
+    let empty = text.get(lines.len()..).unwrap_or(b"");
+    assert!(rt; empty.iter().all(|byte| *byte == b'\n'));
+    assert_eq!(rt; played.terminal.cursor(), cursor);
+    assert!(rt; played.reports.is_empty());
+    Ok(())
+}
+
+/// Asserts the same whole, byte by byte, and in pieces of 7.
 fn leaves(
     rt: &impl Abort,
     alloc: Global,
@@ -17,20 +44,9 @@ fn leaves(
     lines: &[u8],
     cursor: Cursor,
 ) -> Result<(), Fail> {
-    for size in [1usize, 7, MILLION] {
-        let mut played = Played::of(alloc, &[])?;
-        for piece in input.chunks(size.max(1)) {
-            played.feed(piece)?;
-        }
-        let mut text = Vec::new(alloc);
-        played.terminal.text(&mut text)?;
-        let (shown, empty) = text.split_at(lines.len().min(text.len()));
-        assert_eq!(rt; shown, lines);
-        assert!(rt; empty.iter().all(|byte| *byte == b'\n'));
-        assert_eq!(rt; played.terminal.cursor(), cursor);
-        assert!(rt; played.reports.is_empty());
-    }
-    Ok(())
+    leaves_by(rt, alloc, MILLION, input, lines, cursor)?;
+    leaves_by(rt, alloc, 7, input, lines, cursor)?;
+    leaves_by(rt, alloc, 1, input, lines, cursor)
 }
 
 /// So many times this byte, between a front and an end.

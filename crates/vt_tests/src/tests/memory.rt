@@ -136,55 +136,65 @@ fn each_growth_of_feed_text_and_repaint_is_refused(rt: HostRuntime) -> Result<()
     Ok(())
 }
 
-/// Asserts that calls with the room for what they append are never refused, take no memory, and append. The second round
-/// is that of the calls which can't be refused.
-fn appends_in_room(rt: &impl Abort, alloc: Global, input: &[u8]) -> Result<(), Fail> {
-    let expected = Played::of(alloc, &[input])?;
-    let mut text = Vec::new(alloc);
-    expected.terminal.text(&mut text)?;
-    let mut painted = Vec::new(alloc);
-    repaint(&expected.terminal, &mut painted)?;
-    let mut all = Vec::from_slice(alloc, b"ok")?;
-    for part in [&expected.reports, &text, &painted] {
-        all.extend_from_slice(part)?;
+/// The longest input of these tests.
+const LONGEST: usize = 100;
+
+/// Appends the reports of an input, the text and the repaint by the calls that can't be refused. False where the input is too
+/// long or ends inside a sequence.
+fn append_reserved(terminal: &mut Terminal, input: &[u8], out: &mut Vec<u8>) -> bool
+    requires { vec_len out.old + (1000 + TEXT_LIMIT + PAINT_LIMIT) ≤ vec_capacity out.old }
+{
+    if input.len() > LONGEST {
+        return false;
     }
-    for reserved in [false, true] {
-        let mut terminal = Terminal::new(alloc)?;
-        let mut out = Vec::with_capacity(alloc, 2 * (TEXT_LIMIT + PAINT_LIMIT))?;
-        out.extend_from_slice(b"ok")?;
-        let capacity = out.capacity();
-        let scarce = Scarce::new(alloc)?;
-        let answered = if reserved && terminal.is_between() {
-            terminal.feed_reserved(input, &mut out);
-            terminal.text_reserved(&mut out);
-            repaint_where_between(&terminal, &mut out)
-        } else {
-            terminal.feed(input, &mut out).is_ok()
-                && terminal.text(&mut out).is_ok()
-                && repaint(&terminal, &mut out).is_ok()
-        };
-        drop(scarce);
-        assert!(rt; answered);
-        assert_eq!(rt; out.capacity(), capacity);
-        assert_eq!(rt; out.as_slice(), all.as_slice());
+    terminal.feed_reserved(input, out);
+    terminal.text_reserved(out);
+    if !terminal.is_between() {
+        return false;
     }
-    Ok(())
+    repaint_reserved(terminal, out);
+    true
 }
 
-/// Appends the repaint in room that is there, and says whether there is one.
-fn repaint_where_between(terminal: &Terminal, out: &mut Vec<u8>) -> bool
-    requires { vec_len out.old + PAINT_LIMIT ≤ vec_capacity out.old }
-{
-    if terminal.is_between() {
-        repaint_reserved(terminal, out);
-    }
-    terminal.is_between()
+/// The same by the calls that can be refused, and whether none was.
+fn append(terminal: &mut Terminal, input: &[u8], out: &mut Vec<u8>) -> bool {
+    terminal.feed(input, out).is_ok()
+        && terminal.text(out).is_ok()
+        && repaint(terminal, out).is_ok()
+}
+
+/// Asserts that calls with the room for what they append are never refused, take no memory, and append.
+fn appends_in_room(
+    rt: &impl Abort,
+    alloc: Global,
+    input: &[u8],
+    reserved: bool,
+) -> Result<(), Fail> {
+    let mut expected = Vec::from_slice(alloc, b"ok")?;
+    let mut amply = Terminal::new(alloc)?;
+    assert!(rt; append(&mut amply, input, &mut expected));
+    let mut terminal = Terminal::new(alloc)?;
+    let mut out = Vec::with_capacity(alloc, 2000 + TEXT_LIMIT + PAINT_LIMIT)?;
+    out.extend_from_slice(b"ok")?;
+    let capacity = out.capacity();
+    let scarce = Scarce::new(alloc)?;
+    let answered = if reserved {
+        append_reserved(&mut terminal, input, &mut out)
+    } else {
+        append(&mut terminal, input, &mut out)
+    };
+    drop(scarce);
+    assert!(rt; answered);
+    assert_eq!(rt; out.capacity(), capacity);
+    assert_eq!(rt; out.as_slice(), expected.as_slice());
+    Ok(())
 }
 
 #[test]
 fn calls_with_room_take_no_memory(rt: HostRuntime) -> Result<(), Fail> {
     for input in INPUTS {
-        appends_in_room(&rt, rt.alloc(), input)?;
+        appends_in_room(&rt, rt.alloc(), input, false)?;
+        appends_in_room(&rt, rt.alloc(), input, true)?;
     }
     Ok(())
 }

@@ -37,7 +37,7 @@ fn runs_agree(
     width: usize,
     run: &[u8],
 ) -> Result<(), Fail> {
-    for col in 1..width.saturating_add(1) {
+    for col in 1..=width {
         let place = format!(in alloc; "\x1b#8\x1b[1m\x1b[24;{col}H")?;
         let mut by_bytes = Played::of(alloc, &[SETS, setting, place.as_bytes()])?;
         assert_eq!(rt; by_bytes.terminal.cursor().col, col);

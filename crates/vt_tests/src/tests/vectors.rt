@@ -1,4 +1,6 @@
 //! The terminal meets every vector, alone and through a replay, and no wrong one.
+ghost use Rattle.std.specs.Prelude.{◌≤◌};
+
 use super::common::{LIMIT, replayed};
 use std::alloc::Global;
 use std::process::Abort;
@@ -7,14 +9,15 @@ use vt_replay::{Fault, Watched, What, run};
 use vt_vectors::{Mismatch, Vector, check, vector, vector_count, vector_name};
 
 /// Asserts that replays by pieces of this size write what the vector expects; inside a sequence there is no repaint.
-fn is_replayed(rt: &impl Abort, alloc: Global, v: &Vector, piece: usize) -> Result<(), Fail> {
+fn is_replayed(rt: &impl Abort, alloc: Global, v: &Vector, piece: usize) -> Result<(), Fail>
+    requires { (1 ≤ piece) × (piece ≤ 65536) }
+{
     let text = replayed(rt, alloc, v.input, What::Text, piece)?;
     assert_eq!(rt; text.as_slice(), v.text, "{v:?}");
     let reports = replayed(rt, alloc, v.input, What::Reports, piece)?;
     assert_eq!(rt; reports.as_slice(), v.reports, "{v:?}");
     let mut writer = Watched::new(Vec::new(alloc));
     let mut reader = Watched::new(v.input);
-    let piece = piece.clamp(1, 65536);
     let answer = run(alloc, &mut reader, &mut writer, What::Repaint, piece, LIMIT);
     let due = if v.repaint.is_some() {
         Ok(())

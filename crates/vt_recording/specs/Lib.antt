@@ -1,0 +1,6 @@
+pub mod Fault
+pub mod Run
+pub mod Script
+pub mod Taken
+pub mod Ttyrec
+pub mod Watched

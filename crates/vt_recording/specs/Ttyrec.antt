@@ -1,0 +1,55 @@
+-- A recording by ttyrec: pieces, each after a header of 12 bytes. (the format of ttyrec)
+use Rattle.std.specs.Prelude.{◌≡◌, ℕ, ◌+◌, ◌*◌, ◌<◌, ◌⊎◌, List, [], ◌++◌, length, slice_index, Bool, true, Option, Some, None, nat_le}
+use Rattle.std.specs.List.{All, filter, flat_map}
+
+-- the number of 32 bits at a place, its lowest byte first
+abbrev pub number_at : ℕ → List ℕ → ℕ
+number_at at bytes =
+    slice_index bytes at + 0x100 * slice_index bytes (at + 1) + 0x10000 * slice_index bytes (at + 2) + 0x1000000 * slice_index bytes (at + 3)
+
+-- when a piece came, in microseconds: its header's seconds, and the microseconds beside them
+abbrev pub time_of : List ℕ → ℕ
+time_of header = 1000000 * number_at 0 header + number_at 4 header
+
+-- how many bytes it has
+abbrev pub size_of : List ℕ → ℕ
+size_of header = number_at 8 header
+
+pub record Piece : Type 0 where
+  pub header : List ℕ
+  pub bytes : List ℕ
+
+-- the header has 12 bytes, and the piece as many as it says
+pub record IsWhole (p : Piece) : Type 0 where
+  pub header : length p.header ≡ 12
+  pub bytes : length p.bytes ≡ size_of p.header
+
+abbrev pub spelled : Piece → List ℕ
+spelled p = p.header ++ p.bytes
+
+-- bytes that are less than a piece: less than a header, or than the header and the bytes that it promises
+abbrev pub IsCut : List ℕ → Type 0
+IsCut rest = (length rest < 12) ⊎ (length rest < 12 + size_of rest)
+
+-- a piece of this time is wanted: all are, or those that came so many microseconds after the first one at the latest
+abbrev pub is_due : (until : Option ℕ) → (start time : ℕ) → Bool
+is_due None start time = true
+is_due (Some until) start time = nat_le time (start + until)
+
+-- the content: the pieces that are wanted, one after another
+abbrev pub due : (until : Option ℕ) → (start : ℕ) → List Piece → List ℕ
+due until start pieces = flat_map (λ p. p.bytes) (filter (λ p. is_due until start (time_of p.header)) pieces)
+
+-- where whole pieces end: at the end of the bytes, or before less than a piece
+abbrev pub EndsBefore : (at : ℕ) → (rest : List ℕ) → (broken : Option ℕ) → Type 0
+EndsBefore at rest None = rest ≡ []
+EndsBefore at rest (Some n) = (n ≡ at) × (0 < length rest) × IsCut rest
+
+-- what was taken: the content, and the byte at which the format is broken. The bytes begin with the first header.
+pub record IsOfTtyrec (until : Option ℕ) (bytes content : List ℕ) (broken : Option ℕ) : Type 0 where
+  pub pieces : List Piece
+  pub rest : List ℕ
+  pub joined : bytes ≡ flat_map (λ p. spelled p) pieces ++ rest
+  pub whole : All (λ p. IsWhole p) pieces
+  pub ends : EndsBefore (length (flat_map (λ p. spelled p) pieces)) rest broken
+  pub wanted : content ≡ due until (time_of bytes) pieces

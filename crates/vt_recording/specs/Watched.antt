@@ -1,0 +1,22 @@
+use Rattle.std.specs.Prelude.{◌==◌, ◌&&◌, ℕ, List, length, Bool, true, false, Ok, Err, Result, nat_lt}
+
+-- a device, whether it has failed, and whether it has ended
+pub record Watch (D : Type 0) : Type 0 where
+  pub device : D
+  pub failed : Bool
+  pub ended : Bool
+
+-- the device answered a read by an error
+abbrev pub read_failed : {E : Type 0} → Result ℕ E → Bool
+read_failed (Ok n) = false
+read_failed (Err e) = true
+
+-- a read into a buffer that isn't empty gave no byte
+abbrev pub read_ended : {E : Type 0} → Result ℕ E → List ℕ → Bool
+read_ended (Ok n) buf = (n == 0) && nat_lt 0 (length buf)
+read_ended (Err e) buf = false
+
+-- the device answered a write by an error, or took no byte of a piece that isn't empty
+abbrev pub write_failed : {E : Type 0} → Result ℕ E → List ℕ → Bool
+write_failed (Ok n) piece = (n == 0) && nat_lt 0 (length piece)
+write_failed (Err e) piece = true

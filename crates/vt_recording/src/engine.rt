@@ -1,0 +1,100 @@
+//! A recording is read whole, taken apart, and its content written.
+ghost use Rattle.std.specs.Prelude.{◌≡◌, ◌≤◌, ◌+◌, ℕ, true, false, length};
+ghost use Rattle.std.specs.Io.KnownBytes.{IsAtEnd};
+ghost use Rattle.vt_recording.specs.Run.{Table, Moves, Takes, Gives, WriteTable, ReadTable};
+
+use crate::fault::Fault;
+use crate::format::Format;
+use crate::taking::take_apart;
+use crate::watched::Watched;
+use std::alloc::Global;
+use std::io::{Read, Write};
+
+/// The most bytes of a recording that the program takes.
+pub const INPUT_LIMIT: usize = 268_435_456;
+
+/// The most bytes of one read.
+const PIECE: usize = 65536;
+
+/// Reads a recording to its end, and writes its content: what `take_apart` says of the bytes. Neither device has failed
+/// before, and the reader hasn't ended.
+///
+/// At most `limit` bytes are read (up to 2 to the 40th), and one more to see whether the input goes on. Nothing is written
+/// before the input has ended, no memory is taken after the first write, and no call of a device is made again after an
+/// error. Where the reader has ended, no byte that it tells of is left.
+///
+/// `Err` is `Memory` where a growth was refused, `Read` or `Write` where that device failed, `TooLong` where the input has
+/// more than `limit` bytes, and `Broken` where the recording breaks its format, after all content before that was written.
+pub fn run<R: Read, W: Write>(
+    alloc: Global,
+    reader: &mut Watched<R>,
+    writer: &mut Watched<W>,
+    format: Format,
+    limit: usize,
+) -> Result<(), Fault>
+    requires reader_works { reader.old.failed ≡ false }
+    requires reader_goes_on { reader.old.ended ≡ false }
+    requires writer_works { writer.old.failed ≡ false }
+    requires limit_in_range { limit ≤ 1099511627776 }
+    ensures answer { Moves (R.remaining reader.old.device) (R.remaining reader.new.device) (W.contents writer.old.device) (W.contents writer.new.device)
+        (λ b w. Table result format b w (record { reader_failed = reader.new.failed; reader_ended = reader.new.ended; writer_failed = writer.new.failed }) limit) }
+    ensures whole { reader.new.ended ≡ true → IsAtEnd (R.remaining reader.new.device) }
+{
+    let mut buffer = vec![in alloc; 0u8; PIECE]?;
+    let bytes = read_whole(alloc, reader, buffer.as_mut_slice(), limit)?;
+    let taken = take_apart(alloc, &bytes, format)?;
+    if !write_whole(writer, &taken.content) {
+        return Err(Fault::Write);
+    }
+    match taken.broken {
+        Some(at) => Err(Fault::Broken(at as u64)),
+        None => Ok(()),
+    }
+}
+
+/// Reads to the end of the input, a buffer at a time.
+fn read_whole<R: Read>(
+    alloc: Global,
+    reader: &mut Watched<R>,
+    buffer: &mut [u8],
+    limit: usize,
+) -> Result<Vec<u8>, Fault>
+    requires works { reader.old.failed ≡ false }
+    requires goes_on { reader.old.ended ≡ false }
+    requires some_room { 1 ≤ length buffer.old }
+    requires limit_in_range { limit ≤ 1099511627776 }
+    ensures takes { Takes (R.remaining reader.old.device) (R.remaining reader.new.device)
+        (λ b. ReadTable result b reader.new.failed reader.new.ended limit) }
+    ensures whole { reader.new.ended ≡ true → IsAtEnd (R.remaining reader.new.device) }
+{
+    let mut bytes = Vec::new(alloc);
+    let mut left = limit + 1;
+    while left > 0 {
+        let want = left.min(buffer.len());
+        let Ok(count) = reader.read(&mut buffer[..want]) else {
+            return Err(Fault::Read);
+        };
+        if count == 0 {
+            return Ok(bytes);
+        }
+        bytes.extend_from_slice(&buffer[..count])?;
+        left -= count;
+    }
+    Err(Fault::TooLong)
+}
+
+/// Writes the whole piece, by as many writes as it takes, and says whether it got through.
+fn write_whole<W: Write>(writer: &mut Watched<W>, piece: &[u8]) -> bool
+    requires { writer.old.failed ≡ false }
+    ensures gives { Gives (W.contents writer.old.device) (W.contents writer.new.device) (WriteTable result writer.new.failed piece.now) }
+{
+    let mut at = 0;
+    while at < piece.len() {
+        match writer.write(&piece[at..]) {
+            Ok(0) => return false,
+            Ok(n) => at += n,
+            Err(_) => return false,
+        }
+    }
+    true
+}

@@ -1,0 +1,63 @@
+//! Why a recording was not taken apart to its end.
+ghost use Rattle.std.specs.Prelude.{◌≡◌, Some};
+ghost use Rattle.vt_recording.specs.Fault.{status_of, line_of};
+
+use std::alloc::AllocError;
+use std::error::Error;
+use std::fmt;
+
+/// Why a recording was not taken apart to its end. The message is the line that the program prints.
+#[derive(Clone, Copy, Debug, PartialEq, Eq)]
+pub enum Fault {
+    /// A growth was refused. Nothing was written.
+    Memory,
+    /// The recording breaks its format from this byte on, counted from 0. The content before it was written.
+    Broken(u64),
+    /// A read of the input failed. Nothing was written.
+    Read,
+    /// A write of the output failed.
+    Write,
+    /// The input has more bytes than the limit. Nothing was written.
+    TooLong,
+}
+
+impl Fault {
+    /// The status with which the program ends.
+    pub fn status(&self) -> u8
+        ensures { result ≡ status_of self.now }
+    {
+        match self {
+            Fault::Memory => 1,
+            Fault::Broken(_) => 3,
+            Fault::Read => 4,
+            Fault::Write => 5,
+            Fault::TooLong => 6,
+        }
+    }
+}
+
+impl fmt::Display for Fault {
+    ghost output = { λ fault. Some (line_of fault) };
+
+    fn fmt<W: fmt::Write>(&self, f: &mut fmt::Formatter<W>) -> fmt::Result {
+        match self {
+            Fault::Memory => write!(f, "recording: out of memory"),
+            Fault::Broken(at) => write!(f, "recording: broken at byte {at}"),
+            Fault::Read => write!(f, "recording: read failed"),
+            Fault::Write => write!(f, "recording: write failed"),
+            Fault::TooLong => write!(f, "recording: input is longer than the limit"),
+        }
+    }
+}
+
+impl Error for Fault {}
+
+impl From<AllocError> for Fault {
+    ghost use Rattle.vt_recording.specs.declared.fault.Fault.TheVariants.{Memory};
+
+    ghost from_gives = { λ _ fault. fault ≡ Memory };
+
+    fn from(_: AllocError) -> Fault {
+        Fault::Memory
+    }
+}

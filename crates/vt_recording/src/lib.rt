@@ -1,0 +1,17 @@
+//! Recordings of terminal sessions: their content, taken out of what script(1) and ttyrec write around it, from any reader to
+//! any writer.
+#![tactic(auto)]
+
+mod engine;
+mod fault;
+mod format;
+mod script;
+mod taking;
+mod ttyrec;
+mod watched;
+
+pub use engine::{INPUT_LIMIT, run};
+pub use fault::Fault;
+pub use format::{Format, Taken};
+pub use taking::take_apart;
+pub use watched::Watched;

@@ -1,0 +1,65 @@
+//! A recording is taken apart.
+ghost use Rattle.std.specs.Prelude.{◌≡◌, IfOk};
+ghost use Rattle.vt_recording.specs.Script.{IsOfScript};
+ghost use Rattle.vt_recording.specs.Ttyrec.{IsOfTtyrec};
+ghost use Rattle.vt_recording.specs.Taken.{IsTaken};
+
+use crate::format::{Format, Taken};
+use crate::script::{end_of, first_line};
+use crate::ttyrec::{HEADER, header_of, is_due, time_of};
+use std::alloc::{AllocError, Global};
+
+/// The content of a recording, and the byte at which it breaks its format, if it does: without a first line at byte 0, else
+/// at the first piece that is cut short. What came before that is content. `Err` where memory was refused.
+pub fn take_apart(alloc: Global, bytes: &[u8], format: Format) -> Result<Taken, AllocError>
+    ensures { IfOk result (λ t. IsTaken format bytes.now t.content.items t.broken) }
+{
+    match format {
+        Format::Script => script_content(alloc, bytes),
+        Format::Ttyrec { until } => ttyrec_content(alloc, bytes, until),
+    }
+}
+
+/// What stands between the first and the last line.
+fn script_content(alloc: Global, bytes: &[u8]) -> Result<Taken, AllocError>
+    ensures { IfOk result (λ t. IsOfScript bytes.now t.content.items t.broken) }
+{
+    match first_line(bytes) {
+        Some(line) => {
+            let body = &bytes[line + 1..];
+            Ok(Taken {
+                content: Vec::from_slice(alloc, &body[..end_of(body)])?,
+                broken: None,
+            })
+        }
+        None => Ok(Taken {
+            content: Vec::new(alloc),
+            broken: Some(0),
+        }),
+    }
+}
+
+/// The pieces that are wanted.
+fn ttyrec_content(alloc: Global, bytes: &[u8], until: Option<u64>) -> Result<Taken, AllocError>
+    ensures { IfOk result (λ t. IsOfTtyrec until bytes.now t.content.items t.broken) }
+{
+    let mut content = Vec::with_capacity(alloc, bytes.len())?;
+    let mut at = 0;
+    while at < bytes.len() {
+        let Some(piece) = header_of(&bytes[at..]) else {
+            return Ok(Taken {
+                content,
+                broken: Some(at),
+            });
+        };
+        let from = at + HEADER;
+        at = from + piece.size;
+        if is_due(until, time_of(bytes), piece.time) {
+            content.extend_from_slice(&bytes[from..at])?;
+        }
+    }
+    Ok(Taken {
+        content,
+        broken: None,
+    })
+}

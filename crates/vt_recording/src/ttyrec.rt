@@ -1,0 +1,65 @@
+//! A recording by ttyrec.
+ghost use Rattle.std.specs.Prelude.{◌≡◌, ◌+◌, ◌*◌, ◌≤◌, ◌<◌, ◌^◌, length, drop, IfSome, IfNone};
+ghost use Rattle.vt_recording.specs.Ttyrec.{number_at, time_of, size_of, is_due, IsCut};
+
+/// The bytes of a piece's header.
+pub(crate) const HEADER: usize = 12;
+
+/// What a header says.
+#[derive(Clone, Copy, Debug, PartialEq, Eq)]
+pub(crate) struct Header {
+    /// When the piece came, in microseconds.
+    pub(crate) time: u64,
+    /// How many bytes it has.
+    pub(crate) size: usize,
+}
+
+/// The number of 32 bits at a place, its lowest byte first.
+fn number_at(at: usize, bytes: &[u8]) -> u64
+    requires { at + 4 ≤ length bytes.now }
+    ensures value { result ≡ number_at at bytes.now }
+    ensures small { result < 2 ^ 32 }
+{
+    bytes[at] as u64
+        + 0x100 * bytes[at + 1] as u64
+        + 0x1_0000 * bytes[at + 2] as u64
+        + 0x100_0000 * bytes[at + 3] as u64
+}
+
+/// The time that a header says, in microseconds.
+pub(crate) fn time_of(header: &[u8]) -> u64
+    requires { 12 ≤ length header.now }
+    ensures { result ≡ time_of header.now }
+{
+    1_000_000 * number_at(0, header) + number_at(4, header)
+}
+
+/// The header of the piece with which the bytes begin, if the whole piece is there.
+pub(crate) fn header_of(bytes: &[u8]) -> Option<Header>
+    ensures time { IfSome result (λ h. h.time ≡ time_of bytes.now) }
+    ensures size { IfSome result (λ h. h.size ≡ size_of bytes.now) }
+    ensures whole { IfSome result (λ h. 12 + h.size ≤ length bytes.now) }
+    ensures cut { IfNone result (IsCut bytes.now) }
+{
+    if bytes.len() < HEADER {
+        return None;
+    }
+    let size = number_at(8, bytes) as usize;
+    if bytes.len() - HEADER < size {
+        return None;
+    }
+    Some(Header {
+        time: time_of(bytes),
+        size,
+    })
+}
+
+/// Whether a piece of this time is wanted.
+pub(crate) fn is_due(until: Option<u64>, start: u64, time: u64) -> bool
+    ensures { result ≡ is_due until start time }
+{
+    match until {
+        None => true,
+        Some(until) => time.saturating_sub(start) <= until,
+    }
+}

@@ -1,5 +1,5 @@
 -- The two words of a box and of a `Loose`: a pointer and an allocator's handle. Assumes `Logic`.
-use Rattle.std.proofs.Common.{◌≡◌, ◌∙◌, ap, ℕ, List, [], ◌∷◌, ◌++◌, refl, sym}
+use Rattle.std.proofs.Common.{◌≡◌, ◌∙◌, ap, ℕ, List, [], ◌∷◌, ◌++◌, refl}
 use lib.Dec.{T}
 use mathlib.Core.Bool.{true, ◌&&◌}
 use seplogic.Ra.Ura.{Ura}
@@ -9,7 +9,7 @@ use mir.Val.{Val, vptr, vstruct, vcons, vnil, of_list, has_ty, WT}
 use base.Logic.{never, fst∗}
 use base.Fml.{Fml}
 use types.Logic.{Logic, sem}
-use types.Kit.{Item, Goal, Seq, Step, step, ‵, ◌$◌, move, drop, fsplit, fjoin, fpick, fpack, feq_i, feq_l, rewrite}
+use types.Kit.{Item, Goal, Seq, Step, step, ‵, ◌$◌, move, drop, fsplit, fjoin, fpick, fpack, feq_i, feq_l}
 use denote.RattleType.{RattleType, Valss}
 use denote.Builtin.{RawPtr}
 use denote.Memory.{lone}

@@ -1,0 +1,36 @@
+//! Bytes that are written into a slice of the caller's.
+ghost use Rattle.std.specs.Prelude.{◌≡◌, ◌↔◌, ◌+◌, ◌≤◌, ◌++◌, IsTrue, true, false, length, take, drop};
+ghost use Rattle.vt220_c.specs.Written.{written_over};
+
+/// How many bytes there are, and whether they were written.
+#[derive(Drop)]
+pub(crate) struct Copied {
+    pub(crate) len: usize,
+    pub(crate) fits: bool,
+}
+
+/// Puts bytes into a slice, from a place on.
+pub(crate) fn put(out: &mut [u8], at: usize, bytes: &[u8])
+    requires { at + length bytes.now ≤ length out.old }
+    ensures { out.new ≡ take at out.old ++ written_over bytes.now (drop at out.old) }
+{
+    let end = at + bytes.len();
+    out[at..end].copy_from_slice(bytes);
+}
+
+/// Bytes into the front of a slice, where they fit.
+pub(crate) fn copy_out(bytes: &[u8], out: &mut [u8]) -> Copied
+    ensures len { result.len ≡ length bytes.now }
+    ensures fits { IsTrue result.fits ↔ (length bytes.now ≤ length out.old) }
+    ensures out { result.fits ≡ true → out.new ≡ written_over bytes.now out.old }
+    ensures unchanged { result.fits ≡ false → out.new ≡ out.old }
+{
+    let fits = bytes.len() <= out.len();
+    if fits {
+        put(out, 0, bytes);
+    }
+    Copied {
+        len: bytes.len(),
+        fits,
+    }
+}

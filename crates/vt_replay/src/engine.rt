@@ -26,6 +26,10 @@ use vt_term::{REPORT_LIMIT, Terminal};
 ///
 /// `Err` is `Memory` where a growth was refused, `Read` or `Write` where that device failed, `TooLong` where the input
 /// has more than `limit` bytes, and `Partial` where a repaint is asked for and the input ends inside a sequence.
+///
+/// The table of answers speaks of the bytes that the reader tells of (`remaining`) and those that the writer tells of
+/// (`contents`), as those over memory do. A file, a pipe, standard input and standard output tell none: of these it says
+/// which flags go with which answer, and that what was written is what is due for some bytes.
 pub fn run<R: Read, W: Write>(
     alloc: Global,
     reader: &mut Watched<R>,

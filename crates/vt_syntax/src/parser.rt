@@ -15,7 +15,7 @@ use crate::whole::{plain_escape, whole_event};
 use arrayvec::ArrayVec;
 use std::marker::Model;
 
-/// Reads bytes one at a time, and keeps the held part: what of an unfinished sequence still matters.
+/// Reads bytes, and keeps the held part: as much of an unfinished sequence as decides how it goes on.
 #[derive(Clone, Debug, PartialEq, Eq, Drop)]
 pub struct Parser {
     held: Held,
@@ -73,7 +73,7 @@ impl Parser {
         next_event(&mut self.held, piece, values)
     }
 
-    /// The held part: what of an unfinished sequence still matters.
+    /// The held part: as much of an unfinished sequence as decides how it goes on.
     pub fn held(&self) -> &Held
         ensures value { result.now ≡ self.now }
         ensures held_part { IsHeldPart self.now }

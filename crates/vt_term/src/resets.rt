@@ -33,7 +33,7 @@ impl Display {
         self.saved = Saved::power_up();
     }
 
-    /// DECSTR: the cursor's place, the cells, the stops, the other modes and the report form stay.
+    /// DECSTR. It leaves the place of the cursor, the cells, the stops, and the modes that the definition doesn't name.
     pub(crate) fn soft_reset(&mut self)
         ensures { self.new ≡ soft_reset self.old }
     {

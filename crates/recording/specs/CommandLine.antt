@@ -4,9 +4,8 @@ use Rattle.std.specs.Option.{option_map, option_and_then}
 use Rattle.std.specs.declared.alloc.Global.{Global}
 use Rattle.std.specs.declared.string.String.{String}
 use Rattle.clap.specs.Words.{App, Rule, Row, Text, Kinds, IsAmong, new_app, new_rule, with_rule, first_of, fault_of, matches_of}
-use Rattle.clap.specs.Simple.{on_top}
 use Rattle.clap.specs.declared.error.kind.ErrorKind.{ErrorKind}
-use Rattle.clap.specs.declared.error.kind.ErrorKind.TheVariants.{DisplayHelp, DisplayVersion}
+use Rattle.clap.specs.declared.error.kind.ErrorKind.TheVariants.{DisplayHelp}
 use Rattle.vt_recording.specs.declared.format.Format.{Format}
 use Rattle.vt_recording.specs.declared.format.Format.TheVariants.{Script, Ttyrec}
 use Rattle.recording.specs.Moment.{micros}
@@ -24,9 +23,9 @@ until_option = record (new_rule (codes "until")) { long = Some (codes "until"); 
 abbrev pub file_argument : Rule
 file_argument = record (new_rule (codes "file")) { value_names = 1 }
 
--- the command, which has a version, without its arguments
+-- the command without its arguments
 abbrev pub bare_command : App
-bare_command = on_top (λ s. record s { has_version = true }) (new_app (codes "recording"))
+bare_command = new_app (codes "recording")
 
 -- the program's command: the format is required
 abbrev pub recording : App
@@ -59,10 +58,9 @@ pub record AreSettings (rows : List Row) (s : Settings) : Type 0 where
   pub format : format_in rows ≡ Some s.format
   pub file : option_map (λ f. string_bytes f) s.file ≡ first_of (codes "file") rows
 
--- the status of a fault of the words: help is none, nor is the version
+-- the status of a fault of the words: help is none
 abbrev pub status_for : ErrorKind → ℕ
 status_for DisplayHelp = 0
-status_for DisplayVersion = 0
 status_for _ = 2
 
 -- memory was wanted: status 1, and no text

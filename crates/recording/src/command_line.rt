@@ -15,9 +15,6 @@ use vt_recording::Format;
 /// What is said of words that clap takes and that ask for nothing.
 const BAD_COMMAND_LINE: &str = "recording: bad command line\n";
 
-/// The version of the program: `recording --version` prints it after the name.
-const VERSION: &str = "0.2.0";
-
 /// What the program is for.
 const ABOUT: &str = "Writes the content of a recording by script(1) or ttyrec, for vt220 to play";
 
@@ -31,7 +28,7 @@ Example, the screen as it stood twelve and a half seconds after the start:
   recording --format ttyrec --until 12.5 demo.tty | ./vt220 text
 
 Exit status:
-  0  all was written, or the help or the version was asked for
+  0  all was written, or the help was asked for
   1  memory was refused
   2  the command line is wrong
   3  the recording breaks its format; what came before that was written
@@ -78,7 +75,6 @@ fn bare_command<'a>(alloc: Global) -> Command<'a>
     ensures local { (out-Command result).has_globals ≡ false }
 {
     Command::new(alloc, "recording")
-        .version(VERSION)
         .about(ABOUT)
         .after_help(AFTER_HELP)
 }
@@ -129,7 +125,7 @@ fn refusal_of(alloc: Global, error: Error) -> Refused
 {
     let status = match error.kind() {
         ErrorKind::OutOfMemory => return out_of_memory(alloc),
-        ErrorKind::DisplayHelp | ErrorKind::DisplayVersion => 0,
+        ErrorKind::DisplayHelp => 0,
         _ => 2,
     };
     match error.to_string(alloc) {
@@ -179,7 +175,7 @@ fn settings_of(alloc: Global, matches: &ArgMatches<'_>) -> Result<Option<Setting
 ///
 /// The words are those of clap's command `recording`: `--format script` or `--format ttyrec`, with ttyrec `--until
 /// SECONDS`, of up to nine digits and, after a point, up to six decimals, and at most one FILE. `Err` is what to end with
-/// where there are no settings: the help or the version that was asked for (status 0), want of memory (1), or what is wrong
+/// where there are no settings: the help that was asked for (status 0), want of memory (1), or what is wrong
 /// with the words (2). (this profile)
 pub(crate) fn settings(alloc: Global, words: Vec<String>) -> Result<Settings, Refused>
     ensures ok { IfOk result (AreSettings (found_in words.items)) }

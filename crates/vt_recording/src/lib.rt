@@ -7,6 +7,8 @@ mod fault;
 mod format;
 mod script;
 mod taking;
+#[cfg(test)]
+mod tests;
 mod ttyrec;
 mod watched;
 

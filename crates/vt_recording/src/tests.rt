@@ -1,0 +1,121 @@
+//! Recordings written by hand, with the content that they have, and runs from end to end.
+use crate::{Fault, Format, Watched, run, take_apart};
+use std::alloc::Global;
+use std::process::Abort;
+use std::test::Fail;
+
+const ALL: Format = Format::Ttyrec { until: None };
+
+/// Pieces at 1000.9 s, 1001.0 s (none of its bytes), 1001.4 s and 1001.400001 s.
+const PIECES: &[u8] = b"\xe8\x03\0\0\xa0\xbb\x0d\0\x05\0\0\0one\r\n\
+\xe9\x03\0\0\0\0\0\0\0\0\0\0\
+\xe9\x03\0\0\x80\x1a\x06\0\x05\0\0\0two\r\n\
+\xe9\x03\0\0\x81\x1a\x06\0\x06\0\0\0late\r\n";
+
+/// A recording, its format, its content, and the byte at which it breaks the format.
+type Row = (&'static [u8], Format, &'static [u8], Option<usize>);
+
+fn until(micros: u64) -> Format {
+    Format::Ttyrec {
+        until: Some(micros),
+    }
+}
+
+fn scripts() -> [Row; 8] {
+    let script = Format::Script;
+    [
+        (
+            b"Script started on 2026-11-22 10:00:00+00:00 [TERM=\"vt220\" TTY=\"/dev/pts/0\"]\n\
+$ ls\r\na\r\n\nScript done on 2026-11-22 10:00:01+00:00 [COMMAND_EXIT_CODE=\"0\"]\n",
+            script,
+            b"$ ls\r\na\r\n",
+            None,
+        ),
+        (
+            b"Script started on Sun\nkilled\r\n",
+            script,
+            b"killed\r\n",
+            None,
+        ),
+        (
+            b"Script started on x\na\nScript done on y\nb\nScript done on z\n",
+            script,
+            b"a\nScript done on y\nb",
+            None,
+        ),
+        (b"Script started on x\n", script, b"", None),
+        (b"Script started on x\n\nScript done on ", script, b"", None),
+        (b"Script started on x", script, b"", Some(0)),
+        (b"script started on x\nabc", script, b"", Some(0)),
+        (b"", script, b"", Some(0)),
+    ]
+}
+
+fn ttyrecs() -> [Row; 8] {
+    [
+        (PIECES, ALL, b"one\r\ntwo\r\nlate\r\n", None),
+        (PIECES, until(0), b"one\r\n", None),
+        (PIECES, until(499_999), b"one\r\n", None),
+        (PIECES, until(500_000), b"one\r\ntwo\r\n", None),
+        (PIECES, until(500_001), b"one\r\ntwo\r\nlate\r\n", None),
+        (b"", ALL, b"", None),
+        (b"\0\0\0\0\0\0\0\0\x01\0\0\0ab", ALL, b"a", Some(13)),
+        (b"\0\0\0\0\0\0\0\0\x03\0\0\0ab", ALL, b"", Some(0)),
+    ]
+}
+
+fn holds(rt: &impl Abort, alloc: Global, rows: &[Row]) -> Result<(), Fail> {
+    for (input, format, content, broken) in rows {
+        let taken = take_apart(alloc, input, *format)?;
+        assert_eq!(rt; taken.content.as_slice(), *content);
+        assert_eq!(rt; taken.broken, *broken);
+    }
+    Ok(())
+}
+
+#[test]
+fn scripts_by_hand(rt: HostRuntime) -> Result<(), Fail> {
+    holds(&rt, rt.alloc(), &scripts())
+}
+
+#[test]
+fn ttyrecs_by_hand(rt: HostRuntime) -> Result<(), Fail> {
+    holds(&rt, rt.alloc(), &ttyrecs())
+}
+
+/// What a run answers, and what it has written.
+fn written(
+    alloc: Global,
+    input: &[u8],
+    format: Format,
+    limit: usize,
+) -> Result<(Result<(), Fault>, Vec<u8>), Fail> {
+    let mut reader = Watched::new(input);
+    let mut writer = Watched::new(Vec::new(alloc));
+    let answer = run(alloc, &mut reader, &mut writer, format, limit.min(1000));
+    Ok((answer, writer.into_inner()))
+}
+
+#[test]
+fn runs_from_end_to_end(rt: HostRuntime) -> Result<(), Fail> {
+    let alloc = rt.alloc();
+    let cut = &PIECES[..60];
+    for (input, limit, answer, content) in [
+        (PIECES, 1000, Ok(()), b"one\r\ntwo\r\nlate\r\n".as_slice()),
+        (PIECES, 64, Ok(()), b"one\r\ntwo\r\nlate\r\n"),
+        (PIECES, 63, Err(Fault::TooLong), b""),
+        (cut, 1000, Err(Fault::Broken(46)), b"one\r\ntwo\r\n"),
+    ] {
+        let (ended, bytes) = written(alloc, input, ALL, limit)?;
+        assert_eq!(rt; ended, answer);
+        assert_eq!(rt; bytes.as_slice(), content);
+    }
+    Ok(())
+}
+
+#[test]
+fn faults_say_where(rt: HostRuntime) -> Result<(), Fail> {
+    let line = Fault::Broken(46).to_string(rt.alloc())?;
+    assert_eq!(rt; line.as_str(), "recording: broken at byte 46");
+    Ok(())
+}

@@ -7,7 +7,7 @@
  * memory until it is closed. Only the two open calls take memory; no other call can fail for want of it. Every call may be
  * made on a closed handle, and then says so.
  *
- * A terminal takes 31 KB. The calls that write a whole screen (vt220_text, vt220_repaint, vt220_update) work in a scratch
+ * A terminal takes 30 KB. The calls that write a whole screen (vt220_text, vt220_repaint, vt220_update) work in a scratch
  * room of 94 KB, of which one is enough for any number of terminals; nothing is kept in it from call to call.
  *
  * What the caller owes, and nothing checks:

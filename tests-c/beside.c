@@ -1,0 +1,108 @@
+/* beside PROGRAM [COUNT [SEED]]: random inputs through the library and through the program, whose bytes must be equal. */
+#include "check.h"
+#include <fcntl.h>
+#include <spawn.h>
+#include <sys/wait.h>
+#include <unistd.h>
+
+extern char **environ;
+
+static uint64_t seed = 1;
+
+static unsigned pick(unsigned below) {
+    seed ^= seed << 13, seed ^= seed >> 7, seed ^= seed << 17;
+    return (unsigned)((seed >> 11) % below);
+}
+
+/* A piece of an input: text, a control, a sequence of some form, or any bytes. */
+static void add_piece(bytes *b) {
+    static const char finals[] = "@ABCDHJKLMPXcfghilmnqrx";
+    static const char *const known[] = {"\033[?3h", "\033[?3l", "\033[?6h", "\033[?7h", "\033[4h", "\033[20h", "\033[6n", "\033[5n", "\033[c", "\033[>c", "\033[?15n",
+        "\0337", "\0338", "\033c", "\033[!p", "\033(0", "\033(B", "\033)<", "\033*A", "\033n", "\033o", "\033N", "\033O", "\016", "\017", "\033#8", "\033D", "\033M", "\033E",
+        "\033H", "\033[3g", "\033 F", "\033 G", "\033[1\"q", "\033[?2J", "\033[?1K", "\033P1;2q", "\033\\", "\r\n", "\t", "\b", "\032", "\030"};
+    char piece[64];
+    int n = 0;
+    switch (pick(6)) {
+    case 0:
+        n = (int)pick(60);
+        for (int i = 0; i < n; i++) piece[i] = (char)(0x20 + pick(95));
+        break;
+    case 1:
+        n = snprintf(piece, sizeof piece, "\033[%s%u;%u%c", pick(8) == 0 ? "?" : "", pick(140), pick(140), finals[pick(sizeof finals - 1)]);
+        break;
+    case 2:
+        n = snprintf(piece, sizeof piece, "\033[%u%c", pick(30), finals[pick(sizeof finals - 1)]);
+        break;
+    case 3:
+        n = snprintf(piece, sizeof piece, "%s", known[pick(sizeof known / sizeof known[0])]);
+        break;
+    case 4:
+        n = snprintf(piece, sizeof piece, "\033[%u;%uH", 1 + pick(24), 1 + pick(132));
+        break;
+    default:
+        n = 1 + (int)pick(6);
+        for (int i = 0; i < n; i++) piece[i] = (char)pick(256);
+    }
+    append(b, (const uint8_t *)piece, (size_t)n);
+}
+
+/* What the program prints of the file on `input`, and its status. */
+static int program(const char *path, const char *word, int input, bytes *out) {
+    int two[2], status;
+    pid_t child;
+    posix_spawn_file_actions_t acts;
+    char *argv[] = {(char *)path, (char *)word, NULL};
+    uint8_t room[65536];
+    if (lseek(input, 0, SEEK_SET) != 0 || pipe(two) != 0) abort();
+    posix_spawn_file_actions_init(&acts);
+    posix_spawn_file_actions_adddup2(&acts, input, 0);
+    posix_spawn_file_actions_adddup2(&acts, two[1], 1);
+    posix_spawn_file_actions_addclose(&acts, two[0]);
+    posix_spawn_file_actions_addclose(&acts, two[1]);
+    posix_spawn_file_actions_addopen(&acts, 2, "/dev/null", O_WRONLY, 0);
+    if (posix_spawn(&child, path, &acts, NULL, argv, environ) != 0) abort();
+    posix_spawn_file_actions_destroy(&acts);
+    close(two[1]);
+    out->len = 0;
+    for (ssize_t n; (n = read(two[0], room, sizeof room)) > 0;) append(out, room, (size_t)n);
+    close(two[0]);
+    if (waitpid(child, &status, 0) != child || !WIFEXITED(status)) abort();
+    return WEXITSTATUS(status);
+}
+
+int main(int argc, char **argv) {
+    static uint8_t room[8192], out[VT220_UPDATE_LIMIT];
+    unsigned count = argc > 2 ? (unsigned)strtoul(argv[2], NULL, 10) : 10000;
+    if (argc > 3) seed = strtoull(argv[3], NULL, 10) | 1;
+    vt220_scratch s = VT220_INIT;
+    vt220 t = VT220_INIT;
+    char name[] = "/tmp/vt220-beside-XXXXXX";
+    int input = mkstemp(name);
+    if (argc < 2 || input < 0 || vt220_scratch_open(&s) != VT220_OK) return 2;
+    unlink(name);
+    bytes bytes_in = {NULL, 0, 0}, reports = {NULL, 0, 0}, printed = {NULL, 0, 0};
+    for (unsigned i = 0; i < count; i++) {
+        size_t written;
+        bytes_in.len = reports.len = 0;
+        append(&reports, NULL, 0);
+        for (unsigned n = pick(40); n > 0; n--) add_piece(&bytes_in);
+        if (ftruncate(input, 0) != 0 || pwrite(input, bytes_in.at, bytes_in.len, 0) != (ssize_t)bytes_in.len) abort();
+        CHECK(vt220_open(&t) == VT220_OK);
+        for (size_t at = 0; at < bytes_in.len;) {
+            size_t piece = 1 + pick(700), size = 10 + pick(pick(2) == 0 ? 50 : 8000);
+            if (piece > bytes_in.len - at) piece = bytes_in.len - at;
+            play(&t, bytes_in.at + at, piece, room, size, &reports);
+            at += piece;
+        }
+        CHECK(program(argv[1], "reports", input, &printed) == 0 && same_bytes(&printed, reports.at, reports.len));
+        CHECK(program(argv[1], "text", input, &printed) == 0 && vt220_text(&t, &s, out, sizeof out, &written) == VT220_OK && same_bytes(&printed, out, written));
+        int status = program(argv[1], "repaint", input, &printed);
+        uint32_t answer = vt220_repaint(&t, &s, out, sizeof out, &written);
+        CHECK(answer == VT220_OK ? status == 0 && same_bytes(&printed, out, written) : answer == VT220_PARTIAL && status == 3);
+        vt220_close(&t);
+    }
+    vt220_scratch_close(&s);
+    free(bytes_in.at), free(reports.at), free(printed.at);
+    close(input);
+    return finish("beside");
+}

@@ -1,0 +1,17 @@
+// The header from C++.
+#include "check.h"
+
+static_assert(sizeof(vt220_cell) == 12, "a cell is twelve bytes");
+
+int main() {
+    vt220 t = VT220_INIT;
+    vt220_scratch s = VT220_INIT;
+    static uint8_t out[VT220_TEXT_LIMIT];
+    size_t written = 0;
+    CHECK(vt220_open(&t) == VT220_OK && vt220_scratch_open(&s) == VT220_OK);
+    CHECK(vt220_feed(&t, BYTES("C++"), out, sizeof out, &written) == 3);
+    CHECK(vt220_text(&t, &s, out, sizeof out, &written) == VT220_OK && memcmp(out, "C++\n", 4) == 0);
+    vt220_close(&t);
+    vt220_scratch_close(&s);
+    return finish("header");
+}

@@ -1,0 +1,90 @@
+/* refused: each allocation refused in turn. Linked with --wrap=malloc,--wrap=realloc,--wrap=free. */
+#include "check.h"
+
+void *__real_malloc(size_t size);
+void *__real_realloc(void *at, size_t size);
+void __real_free(void *at);
+void *__wrap_malloc(size_t size);
+void *__wrap_realloc(void *at, size_t size);
+void __wrap_free(void *at);
+
+/* How many calls are granted before one is refused; how many there were; how many blocks are out. */
+static unsigned long granted = ~0ul, calls;
+static long blocks;
+
+static bool refuses(void) { return calls++ == granted; }
+
+void *__wrap_malloc(size_t size) {
+    void *at = refuses() ? NULL : __real_malloc(size);
+    blocks += at != NULL;
+    return at;
+}
+
+void *__wrap_realloc(void *at, size_t size) {
+    void *to = refuses() ? NULL : __real_realloc(at, size);
+    blocks += at == NULL && to != NULL;
+    return to;
+}
+
+void __wrap_free(void *at) {
+    blocks -= at != NULL;
+    __real_free(at);
+}
+
+static uint32_t open_one(void *handle, bool is_terminal) {
+    return is_terminal ? vt220_open((vt220 *)handle) : vt220_scratch_open((vt220_scratch *)handle);
+}
+
+static void each_refused(bool is_terminal) {
+    union { vt220 t; vt220_scratch s; } handle, closed;
+    memset(&closed, 0, sizeof closed);
+    unsigned long needed = 0;
+    for (unsigned long n = 0;; n++) {
+        memset(&handle, 0, sizeof handle);
+        granted = n, calls = 0;
+        uint32_t status = open_one(&handle, is_terminal);
+        granted = ~0ul;
+        if (status == VT220_OK) break;
+        CHECK(status == VT220_MEMORY && blocks == 0);
+        CHECK(is_terminal ? !vt220_is_open(&handle.t) && handle.t.terminal == NULL : !vt220_scratch_is_open(&handle.s) && handle.s.room == NULL);
+        needed = n + 1;
+    }
+    CHECK(needed >= 2 && blocks > 0);
+    /* open already: no memory is taken */
+    calls = 0;
+    CHECK(open_one(&handle, is_terminal) == VT220_IN_USE && calls == 0);
+    if (is_terminal) vt220_close(&handle.t); else vt220_scratch_close(&handle.s);
+    CHECK(blocks == 0);
+}
+
+/* No call but the two that open takes memory. */
+static void none_taken(void) {
+    static uint8_t out[VT220_UPDATE_LIMIT];
+    static vt220_cell cells[VT220_COLUMNS];
+    vt220 t = VT220_INIT, to = VT220_INIT;
+    vt220_scratch s = VT220_INIT;
+    vt220_cursor_place cursor = {0, 0, false};
+    vt220_margin_rows margins = {0, 0};
+    vt220_mode_set modes;
+    memset(&modes, 0, sizeof modes);
+    size_t written;
+    CHECK(vt220_open(&t) == VT220_OK && vt220_open(&to) == VT220_OK && vt220_scratch_open(&s) == VT220_OK);
+    calls = 0;
+    CHECK(vt220_feed(&t, BYTES("\033[?3h\033[6nx\n"), out, 110, &written) == 11 && written == 6);
+    CHECK(vt220_text(&t, &s, out, sizeof out, &written) == VT220_OK && vt220_repaint(&t, &s, out, sizeof out, &written) == VT220_OK);
+    CHECK(vt220_update(&to, &t, &s, out, sizeof out, &written) == VT220_OK && vt220_same_state(&t, &to));
+    CHECK(vt220_row(&t, 1, cells, VT220_COLUMNS) == 132 && vt220_cursor(&t, &cursor) && vt220_margins(&t, &margins) && vt220_modes(&t, &modes));
+    CHECK(vt220_width(&t) == 132 && vt220_is_between(&t) && vt220_held_kind(&t) == VT220_HELD_NOTHING && vt220_version() > 0);
+    CHECK(calls == 0);
+    vt220_close(&t);
+    vt220_close(&to);
+    vt220_scratch_close(&s);
+    CHECK(blocks == 0 && calls == 0);
+}
+
+int main(void) {
+    each_refused(true);
+    each_refused(false);
+    none_taken();
+    return finish("refused");
+}

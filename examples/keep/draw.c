@@ -1,0 +1,152 @@
+/* Draws a terminal on the one that standard output is, whatever that is: characters in UTF-8, CUP, SGR 0 1 4 5 7, and the cursor
+ * shown or hidden. What is drawn there is remembered, and only what differs is drawn. The screens may have any two sizes: what
+ * doesn't fit isn't drawn, and what is beyond the kept screen is blank. */
+#include "keep.h"
+#include <errno.h>
+#include <poll.h>
+#include <stdio.h>
+#include <stdlib.h>
+#include <string.h>
+#include <sys/ioctl.h>
+#include <unistd.h>
+
+enum { BOLD = 1, UNDERLINE = 2, BLINK = 4, REVERSE = 8, PIECE = 64 };
+
+struct place {
+    uint32_t glyph; /* its Unicode number; 0 where it isn't known what is there */
+    uint32_t brush; /* of the four attributes above */
+};
+
+static struct {
+    size_t rows, cols;   /* of the screen that is drawn on */
+    struct place *drawn; /* what is on it, row by row */
+    size_t row, col;     /* where its cursor is; row 0 where that isn't known */
+    uint32_t brush;      /* what its SGR is */
+    bool has_cursor;     /* whether its cursor is shown */
+} outer;
+
+static char out[1 << 16];
+static size_t length;
+
+static void flush(void) {
+    for (size_t at = 0; at < length;) {
+        ssize_t n = write(STDOUT_FILENO, out + at, length - at);
+        if (n > 0) {
+            at += (size_t)n;
+        } else if (n < 0 && errno == EAGAIN) {
+            struct pollfd room = {STDOUT_FILENO, POLLOUT, 0};
+            poll(&room, 1, -1);
+        } else if (n == 0 || errno != EINTR) {
+            break; /* the terminal is gone, which standard input tells, too */
+        }
+    }
+    length = 0;
+}
+
+static void put(const char *text) {
+    size_t len = strlen(text);
+    if (sizeof out - length < len) flush();
+    memcpy(out + length, text, len);
+    length += len;
+}
+
+static void put_glyph(uint32_t glyph) {
+    char utf8[5] = {0};
+    if (glyph < 0x80) {
+        utf8[0] = (char)glyph;
+    } else if (glyph < 0x800) {
+        utf8[0] = (char)(0xC0 | glyph >> 6);
+        utf8[1] = (char)(0x80 | (glyph & 0x3F));
+    } else {
+        utf8[0] = (char)(0xE0 | glyph >> 12);
+        utf8[1] = (char)(0x80 | (glyph >> 6 & 0x3F));
+        utf8[2] = (char)(0x80 | (glyph & 0x3F));
+    }
+    put(utf8);
+}
+
+static void show_cursor(bool is_shown) {
+    if (outer.has_cursor != is_shown) put(is_shown ? "\033[?25h" : "\033[?25l");
+    outer.has_cursor = is_shown;
+}
+
+static void go(size_t row, size_t col) {
+    char text[PIECE];
+    if (outer.row == row && outer.col == col) return;
+    snprintf(text, sizeof text, "\033[%zu;%zuH", row, col);
+    put(text);
+    outer.row = row;
+    outer.col = col;
+}
+
+static void set_brush(uint32_t brush) {
+    char text[PIECE];
+    if (outer.brush == brush) return;
+    snprintf(text, sizeof text, "\033[0%s%s%s%sm", brush & BOLD ? ";1" : "", brush & UNDERLINE ? ";4" : "", brush & BLINK ? ";5" : "",
+             brush & REVERSE ? ";7" : "");
+    put(text);
+    outer.brush = brush;
+}
+
+/* The cursor of the outer terminal stays in the last column, or doesn't: so there its place isn't known. */
+static void draw_place(size_t row, size_t col, struct place it) {
+    struct place *drawn = &outer.drawn[(row - 1) * outer.cols + col - 1];
+    if (drawn->glyph == it.glyph && drawn->brush == it.brush) return;
+    show_cursor(false);
+    go(row, col);
+    set_brush(it.brush);
+    put_glyph(it.glyph);
+    *drawn = it;
+    if (col == outer.cols) outer.row = 0;
+    else outer.col++;
+}
+
+static struct place place_of(const vt220_cell *cell, bool is_reversed) {
+    uint32_t brush = (cell->bold ? BOLD : 0) | (cell->underline ? UNDERLINE : 0) | (cell->blink ? BLINK : 0);
+    return (struct place){cell->glyph, brush | (cell->reverse != is_reversed ? REVERSE : 0)};
+}
+
+void draw(vt220 *t) {
+    static const struct place blank = {' ', 0};
+    vt220_cell cells[VT220_COLUMNS];
+    vt220_mode_set modes;
+    vt220_cursor_place cursor;
+    memset(cells, 0, sizeof cells);
+    memset(&modes, 0, sizeof modes);
+    memset(&cursor, 0, sizeof cursor);
+    vt220_modes(t, &modes);
+    vt220_cursor(t, &cursor);
+    for (size_t row = 1; row <= outer.rows; row++) {
+        size_t width = vt220_row(t, row, cells, VT220_COLUMNS);
+        for (size_t col = 1; col <= outer.cols; col++) draw_place(row, col, col <= width ? place_of(&cells[col - 1], modes.decscnm) : blank);
+    }
+    bool is_inside = cursor.row <= outer.rows && cursor.col <= outer.cols;
+    if (is_inside) go(cursor.row, cursor.col);
+    show_cursor(is_inside && modes.dectcem);
+    flush();
+}
+
+/* Asks for the size of the outer screen. All of it is then drawn anew. */
+void draw_resize(void) {
+    struct winsize size = {0};
+    ioctl(STDOUT_FILENO, TIOCGWINSZ, &size);
+    outer.rows = size.ws_row > 0 ? size.ws_row : VT220_ROWS;
+    outer.cols = size.ws_col > 0 ? size.ws_col : 80;
+    free(outer.drawn);
+    outer.drawn = calloc(outer.rows * outer.cols, sizeof *outer.drawn);
+    if (outer.drawn == NULL) outer.rows = outer.cols = 0;
+    outer.row = 0;
+}
+
+/* The alternate screen of the outer terminal, and back to its own with its cursor. */
+void draw_enter(void) {
+    put("\033[?1049h\033[0m\033[?25h");
+    outer.has_cursor = true;
+    outer.brush = 0;
+    draw_resize();
+}
+
+void draw_leave(void) {
+    put("\033[0m\033[?25h\033[?1049l");
+    flush();
+}

@@ -1,0 +1,3 @@
+module vt220
+
+go 1.19

@@ -1,0 +1,136 @@
+package vt220
+
+import (
+	"bytes"
+	"encoding/hex"
+	"os"
+	"strings"
+	"testing"
+)
+
+func open(t *testing.T, start string) *Terminal {
+	terminal, err := New()
+	if err != nil {
+		t.Fatal(err)
+	}
+	terminal.Feed([]byte(start))
+	return terminal
+}
+
+func scratch(t *testing.T) *Scratch {
+	s, err := NewScratch()
+	if err != nil {
+		t.Fatal(err)
+	}
+	return s
+}
+
+func unhex(t *testing.T, field string) []byte {
+	content, err := hex.DecodeString(field)
+	if err != nil {
+		t.Fatal(err)
+	}
+	return content
+}
+
+// Each vector whole, byte by byte and in cuts: VT220_VECTORS names their file, else this repository's is read.
+func TestVectors(t *testing.T) {
+	path := os.Getenv("VT220_VECTORS")
+	if path == "" {
+		path = "../../crates/vectors/stdout"
+	}
+	file, err := os.ReadFile(path)
+	if err != nil {
+		t.Fatal(err)
+	}
+	lines := strings.Split(strings.TrimSuffix(string(file), "\n"), "\n")[1:]
+	if len(lines) < 147 {
+		t.Fatalf("%d vectors", len(lines))
+	}
+	s := scratch(t)
+	for _, line := range lines {
+		fields := strings.Split(line, "\t")
+		for _, cut := range []int{1 << 30, 1, 5} {
+			oneWay(t, s, cut, fields)
+		}
+	}
+}
+
+func oneWay(t *testing.T, s *Scratch, cut int, fields []string) {
+	const start = "any\x1b[5mthing\x1b[?3h"
+	expect := func(is bool, what string) {
+		if !is {
+			t.Errorf("%s: %s", fields[0], what)
+		}
+	}
+	terminal, other, shown, played := open(t, ""), open(t, start), open(t, start), open(t, start)
+	var reports []byte
+	for input := unhex(t, fields[1]); len(input) > 0; {
+		piece := input
+		if len(piece) > cut {
+			piece = piece[:cut]
+		}
+		reports = append(reports, terminal.Feed(piece)...)
+		input = input[len(piece):]
+	}
+	text, err := terminal.Text(s)
+	expect(bytes.Equal(reports, unhex(t, fields[3])), "reports")
+	expect(err == nil && text == string(unhex(t, fields[2])), "text")
+	repaint, err := terminal.Repaint(s)
+	update, err2 := shown.Update(terminal, s)
+	if fields[4] == "-" {
+		expect(err == ErrPartial && err2 == ErrPartial, "refused")
+		expect(!terminal.IsBetween() && terminal.Held() != HeldNothing, "held")
+		return
+	}
+	expect(err == nil && bytes.Equal(repaint, unhex(t, fields[4])), "repaint")
+	expect(len(other.Feed(repaint)) == 0 && other.SameState(terminal), "the repaint, played")
+	expect(err2 == nil && shown.SameState(terminal), "the update")
+	expect(len(played.Feed(update)) == 0 && played.SameState(terminal), "the update, played")
+	update, err = shown.Update(terminal, s)
+	expect(err == nil && len(update) == 0, "no update")
+}
+
+func TestReaders(t *testing.T) {
+	terminal := open(t, "\x1b[2;3H\x1b[1;4mx\x1b[5;9r\x1b[4h")
+	if cell := terminal.Row(2)[2]; cell != (Cell{'x', true, true, false, false, false}) {
+		t.Error("row", cell)
+	}
+	if len(terminal.Row(24)) != 80 || terminal.Width() != 80 || terminal.Row(0) != nil || terminal.Row(25) != nil || terminal.Row(-1) != nil {
+		t.Error("rows")
+	}
+	if terminal.Cursor() != (Cursor{1, 1, false}) || terminal.Margins() != (Margins{5, 9}) {
+		t.Error("cursor, margins")
+	}
+	if !terminal.Modes().IRM || terminal.Modes().LNM || !terminal.Modes().DECTCEM {
+		t.Error("modes")
+	}
+	if update, err := terminal.Update(terminal, scratch(t)); len(update) != 0 || err != nil || !terminal.SameState(terminal) {
+		t.Error("itself")
+	}
+	if string(terminal.Feed([]byte("\x1b[6n"))) != "\x1b[1;1R" || LibraryVersion() != Version {
+		t.Error("reports, version")
+	}
+}
+
+func TestClosed(t *testing.T) {
+	terminal, other, s := open(t, "x"), open(t, ""), scratch(t)
+	terminal.Close()
+	terminal.Close()
+	_, err1 := terminal.Text(s)
+	_, err2 := terminal.Repaint(s)
+	_, err3 := terminal.Update(other, s)
+	_, err4 := other.Update(terminal, s)
+	for _, err := range []error{err1, err2, err3, err4} {
+		if err != ErrClosed {
+			t.Error(err)
+		}
+	}
+	if terminal.IsOpen() || terminal.Feed([]byte("x")) != nil || len(terminal.Row(1)) != 0 || terminal.Width() != 0 || terminal.SameState(other) || terminal.SameState(terminal) {
+		t.Error("closed")
+	}
+	s.Close()
+	if _, err := other.Text(s); err != ErrClosed {
+		t.Error("closed scratch", err)
+	}
+}

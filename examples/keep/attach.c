@@ -21,8 +21,10 @@ static struct {
     size_t frames_len;
     uint8_t keys[KEYS_LIMIT]; /* what was typed and isn't sent */
     size_t keys_at, keys_len;
+    bool is_behind;        /* whether there is something new to draw */
     struct termios before; /* how the outer terminal was */
-    char why;              /* the frame that ended it; 'k' for the key, 's' for a signal, '?' where the keeper is gone; 0 */
+    char why;              /* the frame that ended it; 'k' for the key, 's' for a signal, 'm' for want of memory, '?' where the
+                            * keeper is gone; 0 as long as it goes on */
     int ending;            /* how the command ended */
 } it;
 
@@ -53,7 +55,7 @@ static void enter(sigset_t *open_mask) {
     sigprocmask(SIG_BLOCK, &held, open_mask);
     for (size_t i = 0; i < sizeof numbers / sizeof *numbers; i++) sigdelset(open_mask, numbers[i]);
     set_raw();
-    draw_enter();
+    if (!draw_enter()) it.why = 'm';
 }
 
 /* The key that detaches: Ctrl-\, or Ctrl with the character that KEEP_KEY is. */
@@ -102,6 +104,7 @@ static void take_frames(void) {
         if (len > FRAME_LIMIT || it.frames_len - at - FRAME_HEAD < len) break;
         if (*frame == FRAME_PLAY) play(frame + FRAME_HEAD, len);
         else it.why = (char)*frame;
+        it.is_behind = true;
         if (*frame == FRAME_ENDED && len == sizeof it.ending) memcpy(&it.ending, frame + FRAME_HEAD, len);
         at += FRAME_HEAD + len;
     }
@@ -120,19 +123,33 @@ static void read_frames(void) {
     take_frames();
 }
 
-static void turn(const sigset_t *open_mask) {
-    bool has_keys = it.keys_at < it.keys_len;
-    struct pollfd polled[2] = {{has_keys ? -1 : STDIN_FILENO, POLLIN, 0}, {it.socket, (short)(POLLIN | (has_keys ? POLLOUT : 0)), 0}};
-    if (ppoll(polled, 2, NULL, open_mask) < 0) polled[0].revents = polled[1].revents = 0;
+static void obey_signals(void) {
     if (is_told_to_go) it.why = 's';
     if (was_continued) set_raw();
-    if (was_continued || has_new_size) draw_resize();
-    bool is_changed = was_continued || has_new_size || polled[1].revents & POLLIN;
+    if (was_continued || has_new_size) {
+        if (!draw_resize()) it.why = 'm';
+        it.is_behind = true;
+    }
     was_continued = has_new_size = 0;
+}
+
+static void turn(const sigset_t *open_mask) {
+    bool has_keys = it.keys_at < it.keys_len;
+    struct pollfd polled[3] = {
+        {has_keys ? -1 : STDIN_FILENO, POLLIN, 0},
+        {it.socket, (short)(POLLIN | (has_keys ? POLLOUT : 0)), 0},
+        {draw_is_done() ? -1 : draw_line(), POLLOUT, 0},
+    };
+    if (ppoll(polled, 3, NULL, open_mask) < 0) polled[0].revents = polled[1].revents = polled[2].revents = 0;
+    obey_signals();
     if (polled[1].revents & (POLLIN | POLLHUP | POLLERR)) read_frames();
     if (polled[0].revents) read_keys();
     send_keys();
-    if (is_changed) draw(&it.terminal);
+    if (polled[2].revents) draw_on();
+    if (it.is_behind && draw_is_done() && it.why == 0) {
+        it.is_behind = false;
+        draw(&it.terminal);
+    }
 }
 
 /* Says how it ended; the status is the command's own, as a shell tells it, where that has ended. */
@@ -141,6 +158,7 @@ static int say(const char *name) {
     case 'k':
     case FRAME_DETACHED: printf("keep: detached from %s\n", name); return 0;
     case 's': return 0;
+    case 'm': fprintf(stderr, "keep: out of memory\n"); return 1;
     case FRAME_FULL: fprintf(stderr, "keep: %s takes no more clients\n", name); return 1;
     case FRAME_ENDED:
         if (WIFSIGNALED(it.ending)) {

@@ -1,8 +1,10 @@
 /* Draws a terminal on the one that standard output is, whatever that is: characters in UTF-8, CUP, SGR 0 1 4 5 7, and the cursor
  * shown or hidden. What is drawn there is remembered, and only what differs is drawn. The screens may have any two sizes: what
- * doesn't fit isn't drawn, and what is beyond the kept screen is blank. */
+ * doesn't fit isn't drawn, and what is beyond the kept screen is blank. A drawing is gathered and written as the outer terminal
+ * takes it; the next one is made when that is done. */
 #include "keep.h"
 #include <errno.h>
+#include <fcntl.h>
 #include <poll.h>
 #include <stdio.h>
 #include <stdlib.h>
@@ -10,7 +12,8 @@
 #include <sys/ioctl.h>
 #include <unistd.h>
 
-enum { BOLD = 1, UNDERLINE = 2, BLINK = 4, REVERSE = 8, PIECE = 64 };
+enum { BOLD = 1, UNDERLINE = 2, BLINK = 4, REVERSE = 8 };
+enum { PIECE = 64, PLACE_LIMIT = 48 /* the most bytes that a place takes, with its CUP and SGR */, PATIENCE = 1000 };
 
 struct place {
     uint32_t glyph; /* its Unicode number; 0 where it isn't known what is there */
@@ -18,6 +21,7 @@ struct place {
 };
 
 static struct {
+    int line;            /* where it is written, without waiting */
     size_t rows, cols;   /* of the screen that is drawn on */
     struct place *drawn; /* what is on it, row by row */
     size_t row, col;     /* where its cursor is; row 0 where that isn't known */
@@ -25,29 +29,28 @@ static struct {
     bool has_cursor;     /* whether its cursor is shown */
 } outer;
 
-static char out[1 << 16];
-static size_t length;
-
-static void flush(void) {
-    for (size_t at = 0; at < length;) {
-        ssize_t n = write(STDOUT_FILENO, out + at, length - at);
-        if (n > 0) {
-            at += (size_t)n;
-        } else if (n < 0 && errno == EAGAIN) {
-            struct pollfd room = {STDOUT_FILENO, POLLOUT, 0};
-            poll(&room, 1, -1);
-        } else if (n == 0 || errno != EINTR) {
-            break; /* the terminal is gone, which standard input tells, too */
-        }
-    }
-    length = 0;
-}
+static char *out; /* what is written as far as `at`; the room is for one whole drawing, and what enters or leaves */
+static size_t at, length;
 
 static void put(const char *text) {
     size_t len = strlen(text);
-    if (sizeof out - length < len) flush();
     memcpy(out + length, text, len);
     length += len;
+}
+
+bool draw_is_done(void) {
+    return at == length;
+}
+
+int draw_line(void) {
+    return outer.line;
+}
+
+void draw_on(void) {
+    ssize_t n = at < length ? write(outer.line, out + at, length - at) : 0;
+    if (n < 0 && errno != EAGAIN && errno != EINTR) at = length; /* the terminal is gone, which standard input tells, too */
+    if (n > 0) at += (size_t)n;
+    if (at == length) at = length = 0;
 }
 
 static void put_glyph(uint32_t glyph) {
@@ -123,30 +126,39 @@ void draw(vt220 *t) {
     bool is_inside = cursor.row <= outer.rows && cursor.col <= outer.cols;
     if (is_inside) go(cursor.row, cursor.col);
     show_cursor(is_inside && modes.dectcem);
-    flush();
+    draw_on();
 }
 
-/* Asks for the size of the outer screen. All of it is then drawn anew. */
-void draw_resize(void) {
+/* Asks for the size of the outer screen. All of it is then drawn anew. False where there is no memory for it. */
+bool draw_resize(void) {
     struct winsize size = {0};
-    ioctl(STDOUT_FILENO, TIOCGWINSZ, &size);
+    ioctl(outer.line, TIOCGWINSZ, &size);
     outer.rows = size.ws_row > 0 ? size.ws_row : VT220_ROWS;
     outer.cols = size.ws_col > 0 ? size.ws_col : 80;
+    outer.row = 0;
     free(outer.drawn);
     outer.drawn = calloc(outer.rows * outer.cols, sizeof *outer.drawn);
-    if (outer.drawn == NULL) outer.rows = outer.cols = 0;
-    outer.row = 0;
+    char *more = realloc(out, length + outer.rows * outer.cols * PLACE_LIMIT + 4 * PIECE);
+    if (more != NULL) out = more;
+    return outer.drawn != NULL && more != NULL;
 }
 
-/* The alternate screen of the outer terminal, and back to its own with its cursor. */
-void draw_enter(void) {
+/* The alternate screen of the outer terminal. It is opened once more, so that only this program's writes don't wait. */
+bool draw_enter(void) {
+    const char *name = ttyname(STDOUT_FILENO);
+    outer.line = name != NULL ? open(name, O_WRONLY | O_NONBLOCK | O_NOCTTY | O_CLOEXEC) : -1;
+    if (outer.line < 0) outer.line = STDOUT_FILENO;
+    if (!draw_resize()) return false;
     put("\033[?1049h\033[0m\033[?25h");
     outer.has_cursor = true;
-    outer.brush = 0;
-    draw_resize();
+    return true;
 }
 
+/* Back to its own screen and cursor. What is begun is written to its end, if that takes no longer than a second. */
 void draw_leave(void) {
+    struct pollfd line = {outer.line, POLLOUT, 0};
+    if (out == NULL) return;
     put("\033[0m\033[?25h\033[?1049l");
-    flush();
+    do draw_on();
+    while (!draw_is_done() && poll(&line, 1, PATIENCE) > 0);
 }

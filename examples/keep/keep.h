@@ -39,9 +39,12 @@ void start_session(int folder, const char *name, char **command);
 int attach(int socket, const char *name);
 
 /* draw.c: draws a terminal on the one that standard output is. */
-void draw_resize(void);
-void draw(vt220 *t);
-void draw_enter(void);
+bool draw_enter(void);
+bool draw_resize(void);
+void draw(vt220 *t);     /* only where all is written that was drawn before */
+bool draw_is_done(void); /* whether it is */
+void draw_on(void);      /* writes what the outer terminal takes now */
+int draw_line(void);     /* the file to wait for, until it takes more */
 void draw_leave(void);
 
 #endif

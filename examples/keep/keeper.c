@@ -24,6 +24,7 @@ enum {
     CLIENT_LIMIT = 32,
     INTERVAL = 20,          /* milliseconds from one update of a client to its next */
     PATIENCE = 2000,        /* milliseconds that a client has to ask, or to take the last frames */
+    PAUSE = 100,            /* milliseconds until a line that nobody has open is looked at again */
     PIECE = 4096,           /* the most bytes of one read of the program */
     INPUT_LIMIT = 16384,    /* the most bytes that wait for the program; reports take at most half */
     DRAIN_LIMIT = 256,      /* the most pieces that are read once the command has ended */
@@ -46,7 +47,8 @@ static struct {
     vt220_scratch scratch;
     unsigned long changes; /* of `settled`, so far */
     size_t width;
-    int master, listener; /* the program's terminal line; -1 once it is closed */
+    int master, listener; /* the program's terminal line, and where clients come in; -1 once they are closed */
+    long long pause;      /* the line isn't looked at before this time */
     pid_t command;
     bool is_over;
     int ending; /* as waitpid tells it */
@@ -252,9 +254,8 @@ static bool read_program(void) {
     static uint8_t piece[PIECE];
     ssize_t n = read(the.master, piece, sizeof piece);
     if (n < 0 && (errno == EAGAIN || errno == EINTR)) return false;
-    if (n <= 0) { /* nobody has the line open any more */
-        close(the.master);
-        the.master = -1;
+    if (n <= 0) { /* nobody has the line open, until the command ends or opens it again; to close it would hang the command up */
+        the.pause = now() + PAUSE;
         return false;
     }
     size_t len = (size_t)n, cut = len;
@@ -277,8 +278,8 @@ static void look_for_end(void) {
     has_child_ended = 0;
     if (the.is_over || waitpid(the.command, &the.ending, WNOHANG) != the.command) return;
     the.is_over = true;
-    for (int i = 0; i < DRAIN_LIMIT && the.master >= 0 && read_program(); i++) {}
-    if (the.master >= 0) close(the.master);
+    for (int i = 0; i < DRAIN_LIMIT && read_program(); i++) {}
+    close(the.master);
     the.master = -1;
     for (size_t i = 0; i < CLIENT_LIMIT; i++) {
         if (the.clients[i] != NULL) the.clients[i]->deadline = now() + PATIENCE;
@@ -305,7 +306,8 @@ static void turn(const sigset_t *open_mask) {
     struct pollfd polled[2 + CLIENT_LIMIT];
     long long until = LLONG_MAX, time = now();
     polled[0] = (struct pollfd){the.is_over ? -1 : the.listener, POLLIN, 0};
-    polled[1] = (struct pollfd){the.master, (short)(POLLIN | (the.waiting > 0 ? POLLOUT : 0)), 0};
+    polled[1] = (struct pollfd){time < the.pause ? -1 : the.master, (short)(POLLIN | (the.waiting > 0 ? POLLOUT : 0)), 0};
+    if (time < the.pause) until = the.pause;
     for (size_t i = 0; i < CLIENT_LIMIT; i++) {
         struct client *c = the.clients[i];
         polled[2 + i] = (struct pollfd){-1, 0, 0};

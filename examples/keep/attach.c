@@ -143,7 +143,7 @@ static void turn(const sigset_t *open_mask) {
     if (ppoll(polled, 3, NULL, open_mask) < 0) polled[0].revents = polled[1].revents = polled[2].revents = 0;
     obey_signals();
     if (polled[1].revents & (POLLIN | POLLHUP | POLLERR)) read_frames();
-    if (polled[0].revents) read_keys();
+    if (polled[0].revents && it.why == 0) read_keys();
     send_keys();
     if (polled[2].revents) draw_on();
     if (it.is_behind && draw_is_done() && it.why == 0) {

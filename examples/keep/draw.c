@@ -121,7 +121,9 @@ void draw(vt220 *t) {
     vt220_cursor(t, &cursor);
     for (size_t row = 1; row <= outer.rows; row++) {
         size_t width = vt220_row(t, row, cells, VT220_COLUMNS);
-        for (size_t col = 1; col <= outer.cols; col++) draw_place(row, col, col <= width ? place_of(&cells[col - 1], modes.decscnm) : blank);
+        for (size_t col = 1; col <= outer.cols; col++) {
+            draw_place(row, col, col <= width ? place_of(&cells[col - 1], modes.decscnm) : blank);
+        }
     }
     bool is_inside = cursor.row <= outer.rows && cursor.col <= outer.cols;
     if (is_inside) go(cursor.row, cursor.col);

@@ -116,7 +116,8 @@ static void put_repaint(struct client *c) {
 static void put_update(struct client *c) {
     uint8_t *room = frame_room(c);
     size_t len = 0;
-    if (vt220_update(&c->shown, &the.settled, &the.scratch, room, FRAME_LIMIT, &len) == VT220_OK && len > 0) put_frame(c, FRAME_PLAY, len);
+    vt220_update(&c->shown, &the.settled, &the.scratch, room, FRAME_LIMIT, &len);
+    if (len > 0) put_frame(c, FRAME_PLAY, len);
     c->changes = the.changes;
 }
 
@@ -166,7 +167,8 @@ static void answer(struct client *c, char letter) {
             leave(other);
         }
     } else if (letter == ASK_LIST) {
-        len = (size_t)snprintf((char *)room, SMALL_FRAMES, "24x%-3zu  %zu attached  %ld  %s\n", vt220_width(&the.terminal), attached, (long)the.command, the.title);
+        len = (size_t)snprintf((char *)room, SMALL_FRAMES, "24x%-3zu  %zu attached  %ld  %s\n", vt220_width(&the.terminal), attached,
+                               (long)the.command, the.title);
     } else if (letter == ASK_TEXT) {
         vt220_text(&the.terminal, &the.scratch, room, FRAME_LIMIT, &len);
     } else if (letter == ASK_REPAINT) {
@@ -338,26 +340,32 @@ static void turn(const sigset_t *open_mask) {
     if (polled[0].revents & POLLIN) let_in();
 }
 
-static void hold_signals(sigset_t *before) {
+static void hold_signals(void) {
     sigset_t held;
     struct sigaction action = {.sa_handler = on_signal};
     sigemptyset(&held);
     sigaddset(&held, SIGCHLD);
     sigaddset(&held, SIGTERM);
-    sigprocmask(SIG_BLOCK, &held, before);
+    sigprocmask(SIG_SETMASK, &held, NULL);
     sigaction(SIGCHLD, &action, NULL);
     sigaction(SIGTERM, &action, NULL);
 }
 
+/* The command has every signal, also those that whoever started it ignores: Ctrl-C is to end it. */
+static void free_signals(void) {
+    sigset_t none;
+    sigemptyset(&none);
+    for (int number = 1; number < NSIG; number++) signal(number, SIG_DFL);
+    sigprocmask(SIG_SETMASK, &none, NULL);
+}
+
 /* Runs the command on a new line; in its process this doesn't return. `told` is closed when it runs, or gets why it can't. */
-static void run_command(char **command, int told, const sigset_t *mask) {
+static void run_command(char **command, int told) {
     struct winsize size = {.ws_row = VT220_ROWS, .ws_col = 80};
     the.width = 80;
     the.command = forkpty(&the.master, NULL, NULL, &size);
     if (the.command == 0) {
-        signal(SIGCHLD, SIG_DFL);
-        signal(SIGTERM, SIG_DFL);
-        sigprocmask(SIG_SETMASK, mask, NULL);
+        free_signals();
         setenv("TERM", "vt220", 1);
         unsetenv("LINES"), unsetenv("COLUMNS");
         execvp(command[0], command);
@@ -375,21 +383,21 @@ static void run_command(char **command, int told, const sigset_t *mask) {
 static void set_title(char **command) {
     size_t len = 0;
     for (; *command != NULL; command++) {
-        for (const char *at = *command; *at != 0 && len < sizeof the.title - 2; at++) the.title[len++] = *at >= ' ' && *at <= '~' ? *at : '?';
+        for (const char *at = *command; *at != 0 && len < sizeof the.title - 2; at++) {
+            the.title[len++] = *at >= ' ' && *at <= '~' ? *at : '?';
+        }
         if (command[1] != NULL && len < sizeof the.title - 2) the.title[len++] = ' ';
     }
 }
 
 static noreturn void keep(int folder, const char *name, char **command, int told) {
-    sigset_t before, open_mask;
+    sigset_t open_mask;
+    sigemptyset(&open_mask);
     setsid();
     setenv("KEEP_SESSION", name, 1);
     set_title(command);
-    hold_signals(&before);
-    open_mask = before;
-    sigdelset(&open_mask, SIGCHLD);
-    sigdelset(&open_mask, SIGTERM);
-    run_command(command, told, &before);
+    hold_signals();
+    run_command(command, told);
     close(told);
     int null = open("/dev/null", O_RDWR);
     for (int i = 0; i < 3; i++) dup2(null, i);
@@ -411,7 +419,8 @@ void start_session(int folder, const char *name, char **command) {
     int pipes[2], why = 0;
     the.listener = open_listener(folder, name);
     fcntl(the.listener, F_SETFL, O_NONBLOCK);
-    bool is_open = vt220_open(&the.terminal) == VT220_OK && vt220_open(&the.settled) == VT220_OK && vt220_scratch_open(&the.scratch) == VT220_OK;
+    bool is_open = vt220_open(&the.terminal) == VT220_OK && vt220_open(&the.settled) == VT220_OK;
+    is_open = is_open && vt220_scratch_open(&the.scratch) == VT220_OK;
     if (!is_open || pipe2(pipes, O_CLOEXEC) != 0) {
         remove_socket(folder, name);
         fail(1, "out of %s", is_open ? "files" : "memory");

@@ -53,9 +53,15 @@ def readers():
         check(terminal.modes().irm and not terminal.modes().lnm, "readers", "modes")
         check(all(raises(IndexError, terminal.row, row) for row in (-1, 0, 25)), "readers", "rows 0 and 25")
         check(terminal.same_state(terminal) and terminal.update(terminal) == b"", "readers", "itself")
+    with vt220.Terminal() as terminal:
+        parts = [b"ab\033[c", b"\033[2;3H\033[6n", b"cd\033["]
+        told = [terminal.feed_until_report(b"".join(parts[at:])) for at in range(3)]
+        check([count for count, _ in told] == [len(part) for part in parts], "reports one by one", "bytes played")
+        check([report for _, report in told] == [b"\033[?62;1;6c", b"\033[2;3R", b""], "reports one by one", "reports")
+        check(terminal.held() == "control", "reports one by one", "the rest is played")
     check(vt220.version() == vt220.VERSION, "readers", "version")
     other = vt220.Terminal()
-    for name, arguments in [("feed", [b"x"]), ("text", []), ("repaint", []), ("update", [other]), ("row", [1]), ("cursor", []),
+    for name, arguments in [("feed", [b"x"]), ("feed_until_report", [b"x"]), ("text", []), ("repaint", []), ("update", [other]), ("row", [1]), ("cursor", []),
                             ("margins", []), ("modes", []), ("width", []), ("is_between", []), ("held", []), ("same_state", [other])]:
         check(raises(vt220.Closed, getattr(terminal, name), *arguments), "closed", name)
     check(raises(vt220.Closed, other.update, terminal), "closed", "update to it")

@@ -178,6 +178,14 @@ class Terminal:
             reports.append(self._reports[: written.value])
         return b"".join(reports)
 
+    def feed_until_report(self, data):
+        """Plays bytes of the host up to the first report to it. Returns how many were played, and the report; all of them and
+        b"" where there was none. So a report is known with the byte that it answers."""
+        handle, data, written = self._opened(), bytes(data), ctypes.c_size_t()
+        # Room for one report alone: the call ends behind the byte that made one.
+        played = _library.vt220_feed(handle, data, len(data), self._reports, REPORT_LIMIT, written)
+        return played, self._reports[: written.value]
+
     def _written(self, function, *handles):
         written = ctypes.c_size_t()
         _expect(function(*handles, _work.scratch, _work.out, UPDATE_LIMIT, written))

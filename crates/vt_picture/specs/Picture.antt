@@ -33,7 +33,7 @@ abbrev pub top_of : ℕ → ℕ
 top_of row = 18 * (row - 1)
 
 abbrev pub baseline_of : ℕ → ℕ
-baseline_of row = top_of row + 14
+baseline_of row = top_of row + 13
 
 -- a rectangle over some cells of a row, from a column on
 unfoldable pub rectangle : List ℕ → ℕ → ℕ → ℕ → List ℕ

@@ -37,7 +37,7 @@ fn baseline_of(row: usize) -> u16
     requires { (1 ≤ row) × (row ≤ last_row) }
     ensures { result ≡ baseline_of row }
 {
-    top_of(row) + 14
+    top_of(row) + 13
 }
 
 /// A rectangle over some cells of a row, from a column on.

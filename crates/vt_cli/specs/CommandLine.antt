@@ -34,7 +34,7 @@ limit_option = number_option (codes "limit") 0 1099511627776 (codes "268435456")
 abbrev pub file_argument : Rule
 file_argument = record (new_rule (codes "file")) { value_names = 1 }
 
--- one of the four subcommands
+-- one of the six subcommands
 abbrev pub subcommand : Text → App
 subcommand name = with_rule (with_rule (with_rule (new_app name) piece_option) limit_option) file_argument
 
@@ -43,15 +43,24 @@ name_of what.Text = codes "text"
 name_of what.Reports = codes "reports"
 name_of what.Repaint = codes "repaint"
 name_of what.Status = codes "status"
+name_of what.Show = codes "show"
+name_of what.Picture = codes "picture"
 
 abbrev pub with_subcommand_for : App → What → App
 with_subcommand_for a w = with_subcommand a (subcommand (name_of w)).top
 
--- the program's command: one of the four subcommands is required, and it has a version
+-- with the subcommands for what the terminal holds and answers
+abbrev pub with_answers : App → App
+with_answers a =
+    with_subcommand_for (with_subcommand_for (with_subcommand_for (with_subcommand_for a what.Text) what.Reports) what.Repaint) what.Status
+
+-- with those for the eye
+abbrev pub with_views : App → App
+with_views a = with_subcommand_for (with_subcommand_for a what.Show) what.Picture
+
+-- the program's command: one of the six subcommands is required, and it has a version
 abbrev pub vt220 : App
-vt220 = on_top (λ s. record s { subcommand_required = true; has_version = true })
-    (with_subcommand_for (with_subcommand_for (with_subcommand_for (with_subcommand_for (new_app (codes "vt220"))
-    what.Text) what.Reports) what.Repaint) what.Status)
+vt220 = on_top (λ s. record s { subcommand_required = true; has_version = true }) (with_views (with_answers (new_app (codes "vt220"))))
 
 -- the faults that clap finds in the words, the first of which is the program's name
 abbrev pub faults_in : List (String Global) → Kinds

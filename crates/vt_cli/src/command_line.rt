@@ -3,7 +3,7 @@ ghost use Rattle.std.specs.Prelude.{◌≡◌, ◌≢◌, ◌⊎◌, ℕ, [], If
 ghost use Rattle.clap.specs.Words.{FailsBy, app_of, first_value, found_of, kind_of, rows_of, rule_of, subcommand_rows_of};
 ghost use Rattle.clap.specs.declared.builder.command.Command.TheViews.{out-Command};
 ghost use Rattle.vt_cli.specs.declared.what.What.{What};
-ghost use Rattle.vt_cli.specs.CommandLine.{number_option, subcommand, with_subcommand_for, vt220, faults_in, found_in, name_of, status_for};
+ghost use Rattle.vt_cli.specs.CommandLine.{number_option, subcommand, with_answers, with_subcommand_for, with_views, vt220, faults_in, found_in, name_of, status_for};
 ghost use Rattle.vt_cli.specs.CommandLine.{IsNumberOf, AreSettings, IsMemory, IsFault, IsStray, IsRefusal, HasNoSettings};
 
 use crate::asked::{Refused, Settings};
@@ -42,6 +42,13 @@ const REPAINT: &str = "The bytes that rebuild the terminal, hidden state include
 const STATUS: &str =
     "The cursor, the wrap flag, the margins, the unfinished sequence, and how many bytes were answered";
 
+/// What `show` is for.
+const SHOW: &str =
+    "The screen with its attributes, for a terminal of today or less -R: lines of UTF-8 with SGR";
+
+/// What `picture` is for.
+const PICTURE: &str = "The screen as a picture (SVG)";
+
 /// What stands below the help.
 const AFTER_HELP: &str = "\
 Each command but help plays FILE, or standard input where no file is named, and takes these options:
@@ -51,6 +58,8 @@ Each command but help plays FILE, or standard input where no file is named, and 
 Example, with a recording made by script(1):
   script -q -c 'stty rows 24 cols 80; TERM=vt220 LC_ALL=C top -n 1' /dev/null > top.bin
   vt220 text top.bin
+  vt220 show top.bin | less -R
+  vt220 picture top.bin > top.svg
 
 Exit status:
   0  all was written, or the help or the version was asked for
@@ -81,7 +90,7 @@ fn number<'a>(
         .help(help)
 }
 
-/// One of the four subcommands.
+/// One of the six subcommands.
 fn subcommand<'a>(alloc: Global, name: &'a str, about: &'a str) -> Result<Command<'a>, AllocError>
     ensures app { IfOk result (λ c. app_of c ≡ subcommand name.entry.now) }
     ensures local { IfOk result (λ c. (out-Command c).has_globals ≡ false) }
@@ -126,8 +135,28 @@ fn with_subcommand<'a>(
         What::Reports => "reports",
         What::Repaint => "repaint",
         What::Status => "status",
+        What::Show => "show",
+        What::Picture => "picture",
     };
     command.subcommand(subcommand(alloc, name, about)?)
+}
+
+/// The command with the subcommands `text`, `reports`, `repaint` and `status`.
+fn with_answers<'a>(alloc: Global, command: Command<'a>) -> Result<Command<'a>, AllocError>
+    ensures { IfOk result (λ c. app_of c ≡ with_answers (app_of command.entry)) }
+{
+    let command = with_subcommand(alloc, command, What::Text, TEXT)?;
+    let command = with_subcommand(alloc, command, What::Reports, REPORTS)?;
+    let command = with_subcommand(alloc, command, What::Repaint, REPAINT)?;
+    with_subcommand(alloc, command, What::Status, STATUS)
+}
+
+/// The command with the subcommands `show` and `picture`.
+fn with_views<'a>(alloc: Global, command: Command<'a>) -> Result<Command<'a>, AllocError>
+    ensures { IfOk result (λ c. app_of c ≡ with_views (app_of command.entry)) }
+{
+    let command = with_subcommand(alloc, command, What::Show, SHOW)?;
+    with_subcommand(alloc, command, What::Picture, PICTURE)
 }
 
 /// The program's command.
@@ -139,10 +168,7 @@ fn command<'a>(alloc: Global) -> Result<Command<'a>, AllocError>
         .about(ABOUT)
         .after_help(AFTER_HELP)
         .subcommand_required(true);
-    let command = with_subcommand(alloc, command, What::Text, TEXT)?;
-    let command = with_subcommand(alloc, command, What::Reports, REPORTS)?;
-    let command = with_subcommand(alloc, command, What::Repaint, REPAINT)?;
-    with_subcommand(alloc, command, What::Status, STATUS)
+    with_views(alloc, with_answers(alloc, command)?)
 }
 
 /// What clap makes of the words.
@@ -199,6 +225,8 @@ fn what_of(name: &str) -> Option<What>
         "reports" => Some(What::Reports),
         "repaint" => Some(What::Repaint),
         "status" => Some(What::Status),
+        "show" => Some(What::Show),
+        "picture" => Some(What::Picture),
         _ => None,
     }
 }
@@ -254,8 +282,8 @@ fn settings_of(
 
 /// The settings that the words ask for; the first word is the program's name.
 ///
-/// The words are those of clap's command `vt220`: one of the four subcommands `text`, `reports`, `repaint` and
-/// `status`, each with `--piece N` (1 to 65536, else 4096), `--limit N` (0 to 1099511627776, else 268435456) and at
+/// The words are those of clap's command `vt220`: one of the six subcommands `text`, `reports`, `repaint`, `status`,
+/// `show` and `picture`, each with `--piece N` (1 to 65536, else 4096), `--limit N` (0 to 1099511627776, else 268435456) and at
 /// most one FILE. `Err` is what to end with where there are no settings: the help or the version that was asked for
 /// (status 0), want of memory (1), or what is wrong with the words (2). (this profile)
 pub fn settings(alloc: Global, words: Vec<String>) -> Result<Settings, Refused>

@@ -12,4 +12,8 @@ pub enum What {
     /// The cursor, the wrap flag, the margins, the held part, and how many report bytes there were, after the whole
     /// input.
     Status,
+    /// The text of the screen with its attributes, as today's terminals take them, after the whole input.
+    Show,
+    /// The screen as a picture (SVG), after the whole input.
+    Picture,
 }

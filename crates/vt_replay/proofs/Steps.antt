@@ -7,7 +7,7 @@ use Rattle.std.proofs.KnownBytes.{Consumes-trans, Appends-trans}
 use Rattle.vt_term.specs.State.{State, power_up}
 use Rattle.vt_term.specs.Play.{Played, play, both}
 use Rattle.vt_cli.specs.declared.what.What.{What}
-use Rattle.vt_cli.specs.declared.what.What.TheVariants.{Text, Reports, Repaint, Status}
+use Rattle.vt_cli.specs.declared.what.What.TheVariants.{Text, Reports, Repaint, Status, Show, Picture}
 use Rattle.vt_replay.specs.Due.{due, due_at_end, sent, sent_for, IsThere}
 use Rattle.vt_replay.specs.Run.{Moves, IsPlayed, IsProperBeginning, HasEarlierReports, Flags, AreFlags, WriteRow}
 
@@ -53,6 +53,8 @@ sent-more Text first second = refl
 sent-more Reports first second = refl
 sent-more Repaint first second = refl
 sent-more Status first second = refl
+sent-more Show first second = refl
+sent-more Picture first second = refl
 
 -- one more piece is played
 pub played-more : Cuts → (what : What) (t u : State) (b chunk w : List ℕ) (reported more : ℕ) (out written : List ℕ)
@@ -97,6 +99,8 @@ sent-failed Reports w out p = (refl, p)
 sent-failed Text w out p = absurd (nothing-missing w p)
 sent-failed Repaint w out p = absurd (nothing-missing w p)
 sent-failed Status w out p = absurd (nothing-missing w p)
+sent-failed Show w out p = absurd (nothing-missing w p)
+sent-failed Picture w out p = absurd (nothing-missing w p)
 
 -- ---- at the end of the input
 
@@ -107,6 +111,8 @@ due-is Text t reported b w written played is = rw (played.sent, is, played.state
 due-is Reports t reported b w written played is = rw (played.sent, is) (append-nil (play power_up b).reports)
 due-is Repaint t reported b w written played is = rw (played.sent, is, played.state) refl
 due-is Status t reported b w written played is = rw (played.sent, is, played.counted, played.state) refl
+due-is Show t reported b w written played is = rw (played.sent, is, played.state) refl
+due-is Picture t reported b w written played is = rw (played.sent, is, played.state) refl
 
 -- a proper beginning of what is due at the end
 pub due-cut : (what : What) (t : State) (reported : ℕ) (b w written : List ℕ) → IsPlayed what t reported b w
@@ -124,3 +130,5 @@ row-at-end Text t reported piece b w written f flags part there = flags
 row-at-end Reports t reported piece b w written f flags part there = absurd (nothing-missing written part)
 row-at-end Repaint t reported piece b w written f flags part there = (flags, there refl)
 row-at-end Status t reported piece b w written f flags part there = flags
+row-at-end Show t reported piece b w written f flags part there = flags
+row-at-end Picture t reported piece b w written f flags part there = flags

@@ -4,10 +4,17 @@ use Rattle.vt_syntax.specs.declared.held.Held.TheVariants.{Nothing}
 use Rattle.vt_term.specs.State.{State, power_up}
 use Rattle.vt_term.specs.Play.{Played, play}
 use Rattle.vt_term.specs.Text.{text}
+use Rattle.vt_term.specs.declared.terminal.TheConstants.{TEXT_LIMIT}
 use Rattle.vt_paint.specs.Repaint.{paint}
+use Rattle.vt_paint.specs.declared.paint.TheConstants.{PAINT_LIMIT}
+use Rattle.vt_picture.specs.Show.{show}
+use Rattle.vt_picture.specs.Picture.{picture}
+use Rattle.vt_picture.specs.declared.showing.TheConstants.{SHOW_LIMIT}
+use Rattle.vt_picture.specs.declared.document.TheConstants.{PICTURE_LIMIT}
 use Rattle.vt_cli.specs.declared.what.What.{What}
-use Rattle.vt_cli.specs.declared.what.What.TheVariants.{Text, Reports, Repaint, Status}
+use Rattle.vt_cli.specs.declared.what.What.TheVariants.{Text, Reports, Repaint, Status, Show, Picture}
 use Rattle.vt_replay.specs.Status.{status}
+use Rattle.vt_replay.specs.declared.status.TheConstants.{STATUS_LIMIT}
 
 -- after a play from power-up
 abbrev pub due_after : What → Played → List ℕ
@@ -15,6 +22,8 @@ due_after Text played = text played.state
 due_after Reports played = played.reports
 due_after Repaint played = paint played.state
 due_after Status played = status played.state (length played.reports)
+due_after Show played = show played.state
+due_after Picture played = picture played.state
 
 abbrev pub due : What → List ℕ → List ℕ
 due what bytes = due_after what (play power_up bytes)
@@ -25,6 +34,8 @@ sent Text reports = []
 sent Reports reports = reports
 sent Repaint reports = []
 sent Status reports = []
+sent Show reports = []
+sent Picture reports = []
 
 -- what of it goes out for these bytes
 abbrev pub sent_for : What → List ℕ → List ℕ
@@ -36,6 +47,17 @@ due_at_end Text s reported = text s
 due_at_end Reports s reported = []
 due_at_end Repaint s reported = paint s
 due_at_end Status s reported = status s reported
+due_at_end Show s reported = show s
+due_at_end Picture s reported = picture s
+
+-- the most bytes of it; private contracts alone speak of this
+abbrev pub room_for : What → ℕ
+room_for Text = TEXT_LIMIT
+room_for Reports = 0
+room_for Repaint = PAINT_LIMIT
+room_for Status = STATUS_LIMIT
+room_for Show = SHOW_LIMIT
+room_for Picture = PICTURE_LIMIT
 
 -- a repaint is there between sequences only, all else always
 abbrev pub IsThere : What → State → Type 0

@@ -7,7 +7,7 @@ use Rattle.vt_term.specs.Play.{play}
 use Rattle.vt_replay.specs.declared.fault.Fault.{Fault}
 use Rattle.vt_replay.specs.declared.fault.Fault.TheVariants.{Memory, Partial, Read, Write, TooLong}
 use Rattle.vt_cli.specs.declared.what.What.{What}
-use Rattle.vt_cli.specs.declared.what.What.TheVariants.{Text, Reports, Repaint, Status}
+use Rattle.vt_cli.specs.declared.what.What.TheVariants.{Text, Reports, Repaint, Status, Show, Picture}
 use Rattle.vt_replay.specs.Due.{due, sent_for, IsThere}
 
 -- w is a beginning of what is due, and not all of it
@@ -43,6 +43,8 @@ WriteRow Text piece b w f = AreFlags f false true true
 WriteRow Reports piece b w f = AreFlags f false false true × HasEarlierReports piece b w
 WriteRow Repaint piece b w f = AreFlags f false true true × ((play power_up b).state.held ≡ Nothing)
 WriteRow Status piece b w f = AreFlags f false true true
+WriteRow Show piece b w f = AreFlags f false true true
+WriteRow Picture piece b w f = AreFlags f false true true
 
 -- what each answer says, b being the bytes read and w the bytes written
 abbrev pub Table : Result (Unit {0}) Fault → What → (piece : ℕ) → (b w : List ℕ) → Flags → (limit : ℕ) → Type 0

@@ -3,18 +3,19 @@ ghost use Rattle.std.specs.Prelude.{◌≡◌, ◌≢◌, IsTrue, ◌+◌, ◌*�
 ghost use Rattle.std.specs.Io.KnownBytes.{IsAtEnd};
 ghost use Rattle.vt_term.specs.State.{power_up};
 ghost use Rattle.vt_syntax.specs.declared.held.Held.TheVariants.{Nothing};
-ghost use Rattle.vt_replay.specs.Due.{sent, due_at_end, IsThere};
+ghost use Rattle.vt_replay.specs.Due.{sent, due_at_end, room_for, IsThere};
 ghost use Rattle.vt_replay.specs.Run.{Table, Moves, Gives, WriteTable, ReadTable};
 
 use crate::fault::Fault;
-use crate::status::push_status;
+use crate::status::{STATUS_LIMIT, push_status};
 use crate::watched::Watched;
 use std::alloc::Global;
 use std::io::{Read, Write};
 use vt_cli::{Settings, What};
 use vt_paint::{PAINT_LIMIT, repaint_reserved};
+use vt_picture::{PICTURE_LIMIT, SHOW_LIMIT, picture_reserved, show_reserved};
 use vt_term::laws::{cuts, soundness};
-use vt_term::{REPORT_LIMIT, Terminal};
+use vt_term::{REPORT_LIMIT, TEXT_LIMIT, Terminal};
 
 /// Plays the reader's bytes on a new terminal, and writes what is due. Neither device has failed before, and the reader
 /// hasn't ended.
@@ -47,7 +48,7 @@ pub fn run<R: Read, W: Write>(
         (λ b w. Table result what piece b w (record { reader_failed = reader.new.failed; reader_ended = reader.new.ended; writer_failed = writer.new.failed }) limit) }
     ensures whole { reader.new.ended ≡ true → IsAtEnd (R.remaining reader.new.device) }
 {
-    let mut room = Room::new(alloc, piece)?;
+    let mut room = Room::new(alloc, what, piece)?;
     run_in_room(
         reader,
         writer,
@@ -70,19 +71,19 @@ struct Room {
 }
 
 impl Room {
-    /// The room for pieces of so many bytes, with a terminal as at power-up. `Err` is `Memory`.
-    fn new(alloc: Global, piece: usize) -> Result<Room, Fault>
+    /// The room for pieces of so many bytes and for what is due at the end, with a terminal as at power-up. `Err` is `Memory`.
+    fn new(alloc: Global, what: What, piece: usize) -> Result<Room, Fault>
         requires { piece ≤ 65536 }
         ensures terminal { IfOk result (λ room. room.terminal ≡ power_up) }
         ensures buffer { IfOk result (λ room. length room.buffer.items ≡ piece) }
         ensures reports { IfOk result (λ room. 10 * piece ≤ vec_capacity room.out) }
-        ensures repaint { IfOk result (λ room. PAINT_LIMIT ≤ vec_capacity room.out) }
+        ensures at_end { IfOk result (λ room. room_for what ≤ vec_capacity room.out) }
         ensures memory { IfErr result (λ fault. fault ≡ Fault.Memory) }
     {
         Ok(Room {
             terminal: Terminal::new(alloc)?,
             buffer: vec![in alloc; 0u8; piece]?,
-            out: Vec::with_capacity(alloc, (REPORT_LIMIT * piece).max(PAINT_LIMIT))?,
+            out: Vec::with_capacity(alloc, (REPORT_LIMIT * piece).max(room_for(what)))?,
         })
     }
 }
@@ -131,7 +132,7 @@ fn run_in_room<R: Read, W: Write>(
     requires new { terminal.old ≡ power_up }
     requires some_room { 1 ≤ length buffer.old }
     requires room_for_reports { 10 * length buffer.old ≤ vec_capacity out.old }
-    requires room_for_repaint { PAINT_LIMIT ≤ vec_capacity out.old }
+    requires room_at_end { room_for what ≤ vec_capacity out.old }
     ensures answer { Moves (R.remaining reader.old.device) (R.remaining reader.new.device) (W.contents writer.old.device) (W.contents writer.new.device)
         (λ b w. Table result what (length buffer.old) b w (record { reader_failed = reader.new.failed; reader_ended = reader.new.ended; writer_failed = writer.new.failed }) limit) }
     ensures whole { reader.new.ended ≡ true → IsAtEnd (R.remaining reader.new.device) }
@@ -156,13 +157,28 @@ fn is_there(terminal: &Terminal, what: What) -> bool
 {
     match what {
         What::Repaint => terminal.is_between(),
-        What::Text | What::Reports | What::Status => true,
+        What::Text | What::Reports | What::Status | What::Show | What::Picture => true,
     }
 }
 
-/// Appends what is due after the whole input: the text, the repaint, the status, or nothing.
+/// The most bytes that are due after the whole input.
+fn room_for(what: What) -> usize
+    ensures { result ≡ room_for what }
+{
+    match what {
+        What::Text => TEXT_LIMIT,
+        What::Reports => 0,
+        What::Repaint => PAINT_LIMIT,
+        What::Status => STATUS_LIMIT,
+        What::Show => SHOW_LIMIT,
+        What::Picture => PICTURE_LIMIT,
+    }
+}
+
+/// Appends what is due after the whole input: the text, plain or with its attributes, the picture, the repaint, the status, or
+/// nothing.
 fn push_due_at_end(terminal: &Terminal, what: What, reported: u64, out: &mut Vec<u8>)
-    requires room { vec_len out.old + PAINT_LIMIT ≤ vec_capacity out.old }
+    requires room { vec_len out.old + room_for what ≤ vec_capacity out.old }
     requires there { IsThere what terminal.now }
     ensures { out.new.items ≡ out.old.items ++ due_at_end what terminal.now reported }
 {
@@ -171,6 +187,8 @@ fn push_due_at_end(terminal: &Terminal, what: What, reported: u64, out: &mut Vec
         What::Reports => {}
         What::Repaint => repaint_reserved(terminal, out),
         What::Status => push_status(terminal, reported, out),
+        What::Show => show_reserved(terminal, out),
+        What::Picture => picture_reserved(terminal, out),
     }
 }
 
@@ -231,7 +249,7 @@ fn send<W: Write>(writer: &mut Watched<W>, what: What, reports: &[u8]) -> bool
 {
     match what {
         What::Reports => write_whole(writer, reports),
-        What::Text | What::Repaint | What::Status => true,
+        What::Text | What::Repaint | What::Status | What::Show | What::Picture => true,
     }
 }
 

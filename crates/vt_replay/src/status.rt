@@ -6,6 +6,9 @@ use itoa::Buffer;
 use vt_syntax::Held;
 use vt_term::Terminal;
 
+/// The most bytes of a status.
+pub(crate) const STATUS_LIMIT: usize = 1000;
+
 /// What of an unfinished sequence is held, in a word.
 fn kind_of_held(held: &Held) -> &'static str
     ensures kind { result.now ≡ kind_of_held held.now }
@@ -66,9 +69,9 @@ fn push_pair(name: &[u8], a: u64, b: u64, out: &mut Vec<u8>)
     push_text(b"\n", out);
 }
 
-/// Appends the five lines of the status. The room is there: 1000 bytes.
+/// Appends the five lines of the status. The room is there: `STATUS_LIMIT` bytes.
 pub(crate) fn push_status(terminal: &Terminal, reported: u64, out: &mut Vec<u8>)
-    requires { vec_len out.old + 1000 ≤ vec_capacity out.old }
+    requires { vec_len out.old + STATUS_LIMIT ≤ vec_capacity out.old }
     ensures items { out.new.items ≡ out.old.items ++ status terminal.now reported }
     ensures capacity { vec_capacity out.old ≤ vec_capacity out.new }
 {

@@ -1,0 +1,3 @@
+mod Trimming
+mod Ranges
+mod Cutting

@@ -1,0 +1,23 @@
+use Rattle.std.proofs.Common.{append_assoc}
+use Rattle.vt_picture.specs.Picture.{run_start}
+use Rattle.vt_picture.proofs.runs.push_run_start.Goals as goal
+
+pub returns-clause-items : goal.returns-clause-items
+unfolding run_start
+returns-clause-items c =
+    rw (
+      c.push_bytes-5.ensures.items,
+      c.push_number-3.ensures.items,
+      c.width_of.ensures,
+      c.push_bytes-4.ensures.items,
+      c.push_number-2.ensures.items,
+      c.baseline_of.ensures,
+      c.push_bytes-3.ensures.items,
+      c.push_number.ensures.items,
+      c.left_of.ensures,
+      c.push_bytes-2.ensures.items,
+      c.push_classes.ensures.items,
+      c.push_bytes.ensures.items,
+      c.push_ground.ensures.items,
+    )
+    (simp append_assoc)

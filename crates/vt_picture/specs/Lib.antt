@@ -1,0 +1,3 @@
+pub mod Looks
+pub mod Show
+pub mod Picture

@@ -1,0 +1,159 @@
+-- The screen as a picture: an SVG document in UTF-8, a column 10 units wide and a row 18 high. (this profile; the elements and
+-- attributes are SVG's, the three entities XML's)
+use Rattle.std.specs.Prelude.{ℕ, suc, ◌+◌, ◌-◌, ◌*◌, List, [], ◌∷◌, ◌++◌, Bool, false, not, ◌==◌, ◌&&◌, if◌then◌else◌, codes, decimal, flat_map, encode_utf8}
+use Rattle.std.specs.List.{range_with_len}
+use Rattle.vt_screen.specs.declared.cell.Rendition.{Rendition}
+use Rattle.vt_screen.specs.declared.cell.Cell.{Cell}
+use Rattle.vt_screen.specs.Cells.{blank}
+use Rattle.vt_screen.specs.Grid.{Grid, row_of, last_row}
+use Rattle.vt_term.specs.State.{Display, State}
+use Rattle.vt_picture.specs.Looks.{where_true, same_rendition, is_blank, trimmed}
+
+abbrev pub line_feed : List ℕ
+line_feed = 0x0A ∷ []
+
+-- a glyph's character; &, < and > by the entities of XML
+unfoldable pub escaped : ℕ → List ℕ
+escaped glyph =
+    if glyph == 0x26 then codes "&amp;" else (
+    if glyph == 0x3C then codes "&lt;" else (
+    if glyph == 0x3E then codes "&gt;" else encode_utf8 glyph))
+
+-- ---- places
+
+-- where a column begins, and how wide so many are
+abbrev pub left_of : ℕ → ℕ
+left_of col = 10 * (col - 1)
+
+abbrev pub width_of : ℕ → ℕ
+width_of columns = 10 * columns
+
+-- where a row begins, and the line that its characters stand on
+abbrev pub top_of : ℕ → ℕ
+top_of row = 18 * (row - 1)
+
+abbrev pub baseline_of : ℕ → ℕ
+baseline_of row = top_of row + 13
+
+-- a rectangle over some cells of a row, from a column on
+unfoldable pub rectangle : List ℕ → ℕ → ℕ → ℕ → List ℕ
+rectangle class row col count =
+    codes "<rect class='" ++ class
+    ++ codes "' x='" ++ decimal (left_of col)
+    ++ codes "' y='" ++ decimal (top_of row)
+    ++ codes "' width='" ++ decimal (width_of count)
+    ++ codes "' height='18'/>" ++ line_feed
+
+-- ---- runs: cells beside each other that aren't blank and have the same attributes
+
+-- a cell goes on with a run of these attributes
+abbrev pub goes_on : Rendition → Cell → Bool
+goes_on look cell = not (is_blank cell) && same_rendition look cell.rendition
+
+-- how many of these cells go on with it
+abbrev pub run_length : Rendition → List Cell → ℕ
+run_length look [] = 0
+run_length look (cell ∷ cells) = if goes_on look cell then suc (run_length look cells) else 0
+
+-- whether the first of them does
+abbrev pub is_followed : Rendition → List Cell → Bool
+is_followed look [] = false
+is_followed look (cell ∷ cells) = goes_on look cell
+
+-- ink on paper or, reversed, paper on ink; bold, underlined, blinking
+abbrev pub classes : Rendition → List ℕ
+classes look =
+    (if look.reverse then codes "p" else codes "i")
+    ++ where_true look.bold (codes " b") ++ where_true look.underline (codes " u") ++ where_true look.blink (codes " k")
+
+-- what stands before the characters of a run of so many cells: where it is reversed, the ink under them; and their element
+unfoldable pub run_start : Rendition → ℕ → ℕ → ℕ → List ℕ
+run_start look row col count =
+    where_true look.reverse (rectangle (codes "i") row col count)
+    ++ codes "<text class='" ++ classes look
+    ++ codes "' x='" ++ decimal (left_of col)
+    ++ codes "' y='" ++ decimal (baseline_of row)
+    ++ codes "' textLength='" ++ decimal (width_of count)
+    ++ codes "' lengthAdjust='spacingAndGlyphs'>"
+
+abbrev pub run_end : List ℕ
+run_end = codes "</text>" ++ line_feed
+
+-- a cell that isn't blank: it starts a run where the cell to its left doesn't go on with its attributes, and ends one where the
+-- cell to its right doesn't
+unfoldable pub shown_cell : ℕ → ℕ → Cell → Cell → List Cell → List ℕ
+shown_cell row col left cell rest =
+    where_true (not (goes_on cell.rendition left)) (run_start cell.rendition row col (run_length cell.rendition rest + 1))
+    ++ escaped cell.glyph
+    ++ where_true (not (is_followed cell.rendition rest)) run_end
+
+-- a blank cell is left out
+abbrev pub cell_picture : ℕ → ℕ → Cell → Cell → List Cell → List ℕ
+cell_picture row col left cell rest = where_true (not (is_blank cell)) (shown_cell row col left cell rest)
+
+-- the cells of a row from a column on, behind a cell to their left
+abbrev pub cells_picture : ℕ → ℕ → Cell → List Cell → List ℕ
+cells_picture row col left [] = []
+cells_picture row col left (cell ∷ rest) = cell_picture row col left cell rest ++ cells_picture row (col + 1) cell rest
+
+-- left of column 1 counts as blank
+abbrev pub row_picture : ℕ → List Cell → List ℕ
+row_picture row cells = cells_picture row 1 blank cells
+
+-- the first rows
+unfoldable pub rows_picture : ℕ → Grid → List ℕ
+rows_picture count g = flat_map (λ r. row_picture r (row_of g r)) (range_with_len 1 count)
+
+-- ---- the document
+
+-- the text of a row, without the blank cells at its end
+abbrev pub alternative_line : List Cell → List ℕ
+alternative_line cells = flat_map (λ cell. escaped cell.glyph) (trimmed cells) ++ line_feed
+
+-- the text alternative: that of the first rows
+unfoldable pub alternative : ℕ → Grid → List ℕ
+alternative count g = flat_map (λ r. alternative_line (row_of g r)) (range_with_len 1 count)
+
+-- its start, up to the text alternative
+unfoldable pub document_start : ℕ → List ℕ
+document_start columns =
+    codes "<svg xmlns='http://www.w3.org/2000/svg' viewBox='0 0 " ++ decimal (width_of columns)
+    ++ codes " 432' width='" ++ decimal (width_of columns)
+    ++ codes "' height='432' role='img' aria-labelledby='t d' xml:space='preserve'>" ++ line_feed
+    ++ codes "<title id='t'>VT220 screen</title>" ++ line_feed
+    ++ codes "<desc id='d'>"
+
+-- light ink on dark paper, or the reverse
+abbrev pub colours : Bool → List ℕ
+colours reversed = if reversed then codes ".i{fill:#101010}.p{fill:#d0d0d0}" else codes ".i{fill:#d0d0d0}.p{fill:#101010}"
+
+-- the font, and what the classes look like
+unfoldable pub style : Bool → List ℕ
+style reversed =
+    codes "</desc>" ++ line_feed
+    ++ codes "<style>text{font:16.6px 'DejaVu Sans Mono','Liberation Mono',Menlo,Consolas,monospace;white-space:pre}" ++ line_feed
+    ++ codes ".b{font-weight:bold}.u{text-decoration:underline}.k{animation:k 1s steps(1) infinite}" ++ line_feed
+    ++ codes "@keyframes k{50%{opacity:0}}.c{fill:none;stroke:#e80;stroke-width:2}" ++ line_feed
+    ++ colours reversed
+    ++ codes "</style>" ++ line_feed
+
+-- the paper under all cells
+unfoldable pub paper : List ℕ
+paper = codes "<rect class='p' width='100%' height='100%'/>" ++ line_feed
+
+-- the cursor's outline, where DECTCEM is set
+abbrev pub cursor_picture : Display → List ℕ
+cursor_picture s = where_true s.modes.dectcem (rectangle (codes "c") s.cursor.row s.cursor.col 1)
+
+unfoldable pub picture_of : Display → List ℕ
+picture_of s =
+    document_start s.grid.width
+    ++ alternative last_row s.grid
+    ++ style s.modes.decscnm
+    ++ paper
+    ++ rows_picture last_row s.grid
+    ++ cursor_picture s
+    ++ codes "</svg>" ++ line_feed
+
+abbrev pub picture : State → List ℕ
+picture s = picture_of s.display

@@ -1,0 +1,35 @@
+-- The screen as text with its attributes, for the terminals of today. (this profile; SGR: ECMA-48, 8.3.117)
+use Rattle.std.specs.Prelude.{ℕ, List, [], ◌∷◌, ◌++◌, not, codes, flat_map, encode_utf8}
+use Rattle.std.specs.List.{range_with_len}
+use Rattle.vt_screen.specs.declared.cell.Rendition.{Rendition}
+use Rattle.vt_screen.specs.declared.cell.Cell.{Cell}
+use Rattle.vt_screen.specs.Cells.{plain}
+use Rattle.vt_screen.specs.Grid.{Grid, row_of, last_row}
+use Rattle.vt_term.specs.State.{State}
+use Rattle.vt_picture.specs.Looks.{where_true, same_rendition, trimmed}
+
+-- SGR: 0, and then the attributes that are set
+abbrev pub rendition_sequence : Rendition → List ℕ
+rendition_sequence r =
+    (0x1B ∷ codes "[0") ++ where_true r.bold (codes ";1") ++ where_true r.underline (codes ";4")
+    ++ where_true r.blink (codes ";5") ++ where_true r.reverse (codes ";7") ++ codes "m"
+
+-- SGR where the attributes aren't those before
+abbrev pub change : Rendition → Rendition → List ℕ
+change before after = where_true (not (same_rendition before after)) (rendition_sequence after)
+
+-- cells behind some attributes, each by its attributes where they change and its character; plain again at the end
+abbrev pub shown_behind : Rendition → List Cell → List ℕ
+shown_behind before [] = change before plain
+shown_behind before (cell ∷ cells) = change before cell.rendition ++ encode_utf8 cell.glyph ++ shown_behind cell.rendition cells
+
+-- a row without the blank cells at its end, and LF
+abbrev pub shown_line : List Cell → List ℕ
+shown_line cells = shown_behind plain (trimmed cells) ++ 0x0A ∷ []
+
+-- the lines of the first rows
+unfoldable pub shown_lines : ℕ → Grid → List ℕ
+shown_lines count g = flat_map (λ r. shown_line (row_of g r)) (range_with_len 1 count)
+
+abbrev pub show : State → List ℕ
+show s = shown_lines last_row s.display.grid

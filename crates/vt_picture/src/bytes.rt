@@ -1,0 +1,69 @@
+//! Bytes, numbers and characters into an output that has the room.
+ghost use Rattle.std.specs.Prelude.{◌≡◌, ◌+◌, ◌≤◌, ◌++◌, length, decimal, vec_len, vec_capacity, encode_utf8};
+ghost use Rattle.vt_picture.specs.Looks.{where_true};
+ghost use Rattle.vt_picture.specs.Picture.{escaped as escaped_glyph};
+
+use itoa::Buffer;
+use vt_glyph::Glyph;
+
+/// Appends bytes. The room is there.
+pub(crate) fn push_bytes(bytes: &[u8], out: &mut Vec<u8>)
+    requires { vec_len out.old + length bytes.now ≤ vec_capacity out.old }
+    ensures items { out.new.items ≡ out.old.items ++ bytes.now }
+    ensures bounded { vec_len out.new ≤ vec_len out.old + length bytes.now }
+    ensures capacity { vec_capacity out.old ≤ vec_capacity out.new }
+{
+    out.extend_from_slice(bytes).unwrap();
+}
+
+/// Appends bytes where a test passes. The room is there.
+pub(crate) fn push_where(test: bool, bytes: &[u8], out: &mut Vec<u8>)
+    requires { vec_len out.old + length bytes.now ≤ vec_capacity out.old }
+    ensures items { out.new.items ≡ out.old.items ++ where_true test bytes.now }
+    ensures bounded { vec_len out.new ≤ vec_len out.old + length bytes.now }
+    ensures capacity { vec_capacity out.old ≤ vec_capacity out.new }
+{
+    if test {
+        push_bytes(bytes, out);
+    }
+}
+
+/// Appends a number in decimal, in five bytes of room that are there.
+pub(crate) fn push_number(n: u16, out: &mut Vec<u8>)
+    requires { vec_len out.old + 5 ≤ vec_capacity out.old }
+    ensures items { out.new.items ≡ out.old.items ++ decimal n }
+    ensures bounded { vec_len out.new ≤ vec_len out.old + 5 }
+    ensures capacity { vec_capacity out.old ≤ vec_capacity out.new }
+{
+    let mut buffer = Buffer::new();
+    let digits = buffer.format(n);
+    push_bytes(digits.as_bytes(), out);
+}
+
+/// Appends a glyph's character in UTF-8, in four bytes of room that are there.
+pub(crate) fn push_glyph(glyph: Glyph, out: &mut Vec<u8>)
+    requires { vec_len out.old + 4 ≤ vec_capacity out.old }
+    ensures items { out.new.items ≡ out.old.items ++ encode_utf8 glyph }
+    ensures bounded { vec_len out.new ≤ vec_len out.old + 4 }
+    ensures capacity { vec_capacity out.old ≤ vec_capacity out.new }
+{
+    let mut bytes = [0u8; 4];
+    let text = glyph.to_char().encode_utf8(&mut bytes);
+    push_bytes(text.as_bytes(), out);
+}
+
+/// Appends a glyph's character as XML takes it, in five bytes of room that are there.
+#[tactic(auto, unfolding(crate::specs::Picture::escaped))]
+pub(crate) fn push_escaped(glyph: Glyph, out: &mut Vec<u8>)
+    requires { vec_len out.old + 5 ≤ vec_capacity out.old }
+    ensures items { out.new.items ≡ out.old.items ++ escaped_glyph glyph }
+    ensures bounded { vec_len out.new ≤ vec_len out.old + 5 }
+    ensures capacity { vec_capacity out.old ≤ vec_capacity out.new }
+{
+    match glyph.to_char() {
+        '&' => push_bytes(b"&amp;", out),
+        '<' => push_bytes(b"&lt;", out),
+        '>' => push_bytes(b"&gt;", out),
+        _ => push_glyph(glyph, out),
+    }
+}

@@ -1,0 +1,173 @@
+//! The screen as a picture: an SVG document.
+ghost use Rattle.std.specs.Prelude.{◌≡◌, ◌+◌, ◌*◌, ◌≤◌, ◌++◌, length, vec_len, vec_capacity, OnOk, OnErr, IsOk};
+ghost use Rattle.vt_term.specs.State.{Display};
+ghost use Rattle.vt_picture.specs.Picture.{alternative, alternative_line, colours, cursor_picture, document_start, paper, picture, rows_picture, style};
+
+use crate::bytes::{push_bytes, push_escaped, push_number};
+use crate::looks::without_blank_end;
+use crate::runs::{push_rectangle, push_row, width_of};
+use std::alloc::AllocError;
+use vt_screen::Cell;
+use vt_term::{ROWS, STOPS, Terminal};
+
+/// The most bytes of a picture: for each row 208 for each of 132 cells and one more, and 1000 for the rest.
+pub const PICTURE_LIMIT: usize = ROWS * (208 * STOPS + 1) + 1000;
+
+const _: () = prove!(PICTURE_LIMIT == 659968);
+
+/// The document's start, up to the text alternative.
+#[tactic(auto, unfolding(crate::specs::Picture::document_start))]
+fn push_start(columns: usize, out: &mut Vec<u8>)
+    requires columns { columns ≤ 132 }
+    requires room { vec_len out.old + 230 ≤ vec_capacity out.old }
+    ensures items { out.new.items ≡ out.old.items ++ document_start columns }
+    ensures bounded { vec_len out.new ≤ vec_len out.old + 230 }
+    ensures capacity { vec_capacity out.old ≤ vec_capacity out.new }
+{
+    push_bytes(
+        b"<svg xmlns='http://www.w3.org/2000/svg' viewBox='0 0 ",
+        out,
+    );
+    push_number(width_of(columns), out);
+    push_bytes(b" 432' width='", out);
+    push_number(width_of(columns), out);
+    push_bytes(
+        b"' height='432' role='img' aria-labelledby='t d' xml:space='preserve'>\n",
+        out,
+    );
+    push_bytes(b"<title id='t'>VT220 screen</title>\n", out);
+    push_bytes(b"<desc id='d'>", out);
+}
+
+/// The text of a row as XML takes it, without the blank cells at its end, and LF.
+fn push_alternative_line(cells: &[Cell], out: &mut Vec<u8>)
+    requires { vec_len out.old + 5 * length cells.now + 1 ≤ vec_capacity out.old }
+    ensures items { out.new.items ≡ out.old.items ++ alternative_line cells.now }
+    ensures bounded { vec_len out.new ≤ vec_len out.old + 5 * length cells.now + 1 }
+    ensures capacity { vec_capacity out.old ≤ vec_capacity out.new }
+{
+    for cell in without_blank_end(cells) {
+        push_escaped(cell.glyph, out);
+    }
+    push_bytes(b"\n", out);
+}
+
+/// The text alternative.
+fn push_alternative(t: &Terminal, out: &mut Vec<u8>)
+    requires { vec_len out.old + 24 * (5 * 132 + 1) ≤ vec_capacity out.old }
+    ensures items { out.new.items ≡ out.old.items ++ alternative 24 t.now.display.grid }
+    ensures bounded { vec_len out.new ≤ vec_len out.old + 24 * (5 * 132 + 1) }
+    ensures capacity { vec_capacity out.old ≤ vec_capacity out.new }
+{
+    for row in 1..ROWS + 1 {
+        push_alternative_line(t.row(row), out);
+    }
+}
+
+/// What ink and paper look like.
+fn colours(reversed: bool) -> &'static [u8]
+    ensures colours { result.now ≡ colours reversed }
+    ensures short { length result.now ≤ 32 }
+{
+    if reversed {
+        b".i{fill:#101010}.p{fill:#d0d0d0}"
+    } else {
+        b".i{fill:#d0d0d0}.p{fill:#101010}"
+    }
+}
+
+/// The font and the classes.
+#[tactic(auto, unfolding(crate::specs::Picture::style))]
+fn push_style(reversed: bool, out: &mut Vec<u8>)
+    requires { vec_len out.old + 500 ≤ vec_capacity out.old }
+    ensures items { out.new.items ≡ out.old.items ++ style reversed }
+    ensures bounded { vec_len out.new ≤ vec_len out.old + 500 }
+    ensures capacity { vec_capacity out.old ≤ vec_capacity out.new }
+{
+    push_bytes(b"</desc>\n", out);
+    push_bytes(
+        b"<style>text{font:16.6px 'DejaVu Sans Mono','Liberation Mono',Menlo,Consolas,monospace;white-space:pre}\n",
+        out,
+    );
+    push_bytes(
+        b".b{font-weight:bold}.u{text-decoration:underline}.k{animation:k 1s steps(1) infinite}\n",
+        out,
+    );
+    push_bytes(
+        b"@keyframes k{50%{opacity:0}}.c{fill:none;stroke:#e80;stroke-width:2}\n",
+        out,
+    );
+    push_bytes(colours(reversed), out);
+    push_bytes(b"</style>\n", out);
+}
+
+/// The paper under all cells.
+#[tactic(auto, unfolding(crate::specs::Picture::paper))]
+fn push_paper(out: &mut Vec<u8>)
+    requires { vec_len out.old + 50 ≤ vec_capacity out.old }
+    ensures items { out.new.items ≡ out.old.items ++ paper }
+    ensures bounded { vec_len out.new ≤ vec_len out.old + 50 }
+    ensures capacity { vec_capacity out.old ≤ vec_capacity out.new }
+{
+    push_bytes(b"<rect class='p' width='100%' height='100%'/>\n", out);
+}
+
+/// The rows.
+fn push_rows(t: &Terminal, out: &mut Vec<u8>)
+    requires { vec_len out.old + 24 * (203 * 132) ≤ vec_capacity out.old }
+    ensures items { out.new.items ≡ out.old.items ++ rows_picture 24 t.now.display.grid }
+    ensures bounded { vec_len out.new ≤ vec_len out.old + 24 * (203 * 132) }
+    ensures capacity { vec_capacity out.old ≤ vec_capacity out.new }
+{
+    for row in 1..ROWS + 1 {
+        push_row(row, t.row(row), out);
+    }
+}
+
+/// The cursor's outline, where the cursor is shown.
+fn push_cursor(t: &Terminal, out: &mut Vec<u8>)
+    requires { vec_len out.old + 80 ≤ vec_capacity out.old }
+    ensures items { out.new.items ≡ out.old.items ++ cursor_picture t.now.display }
+    ensures bounded { vec_len out.new ≤ vec_len out.old + 80 }
+    ensures capacity { vec_capacity out.old ≤ vec_capacity out.new }
+{
+    let cursor = t.cursor();
+    let _ = t.width();
+    if t.modes().dectcem {
+        push_rectangle(b"c", cursor.row, cursor.col, 1, out);
+    }
+}
+
+/// Appends the screen to `out` as a picture: an SVG document in UTF-8, with the screen's text as its text alternative. A column
+/// is 10 units wide and a row 18 high, and each run of cells has its place and its length.
+///
+/// `PICTURE_LIMIT` bytes of room are reserved first. `Err` where that is refused: then the contents of `out` are unchanged.
+pub fn picture(t: &Terminal, out: &mut Vec<u8>) -> Result<(), AllocError>
+    ensures ok { OnOk result (out.new.items ≡ out.old.items ++ picture t.now) }
+    ensures err { OnErr result (out.new.items ≡ out.old.items) }
+    ensures has_room { vec_len out.old + PICTURE_LIMIT ≤ vec_capacity out.old → IsOk result }
+    ensures bounded { vec_len out.new ≤ vec_len out.old + PICTURE_LIMIT }
+    ensures capacity { vec_capacity out.old ≤ vec_capacity out.new }
+{
+    out.reserve(PICTURE_LIMIT)?;
+    picture_reserved(t, out);
+    Ok(())
+}
+
+/// Appends the screen to `out` as a picture, as [`picture`] does; `out` has the room: `PICTURE_LIMIT` bytes. It never fails and
+/// takes no memory.
+#[tactic(auto, unfolding(crate::specs::Picture::picture_of))]
+pub fn picture_reserved(t: &Terminal, out: &mut Vec<u8>)
+    requires { vec_len out.old + PICTURE_LIMIT ≤ vec_capacity out.old }
+    ensures items { out.new.items ≡ out.old.items ++ picture t.now }
+    ensures bounded { vec_len out.new ≤ vec_len out.old + PICTURE_LIMIT }
+    ensures capacity { vec_capacity out.old ≤ vec_capacity out.new }
+{
+    push_start(t.row(1).len(), out);
+    push_alternative(t, out);
+    push_style(t.modes().decscnm, out);
+    push_paper(out);
+    push_rows(t, out);
+    push_cursor(t, out);
+    push_bytes(b"</svg>\n", out);
+}

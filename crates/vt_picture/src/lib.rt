@@ -1,0 +1,11 @@
+//! The screen for the eye: as text with its attributes, and as a picture.
+#![tactic(auto)]
+
+mod bytes;
+mod document;
+mod looks;
+mod runs;
+mod showing;
+
+pub use document::{PICTURE_LIMIT, picture, picture_reserved};
+pub use showing::{SHOW_LIMIT, show, show_reserved};

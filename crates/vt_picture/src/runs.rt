@@ -1,0 +1,193 @@
+//! The cells of a picture by runs: cells beside each other that aren't blank and have the same attributes.
+ghost use Rattle.std.specs.Prelude.{◌≡◌, ◌+◌, ◌*◌, ◌≤◌, ◌<◌, ◌++◌, codes, length, vec_len, vec_capacity};
+ghost use Rattle.vt_screen.specs.Grid.{last_row};
+ghost use Rattle.vt_picture.specs.Looks.{where_true};
+ghost use Rattle.vt_picture.specs.Picture.{left_of, width_of, top_of, baseline_of, rectangle, goes_on as goes_on_with, run_length as run_length_of, is_followed as is_followed_by, classes, run_start, shown_cell, cells_picture, row_picture};
+
+use crate::bytes::{push_bytes, push_escaped, push_number, push_where};
+use crate::looks::is_blank;
+use vt_screen::{Cell, Rendition};
+
+/// Where a column begins.
+fn left_of(col: usize) -> u16
+    requires { (1 ≤ col) × (col ≤ 132) }
+    ensures { result ≡ left_of col }
+{
+    10 * (col as u16 - 1)
+}
+
+/// How wide so many columns are.
+pub(crate) fn width_of(columns: usize) -> u16
+    requires { columns ≤ 132 }
+    ensures { result ≡ width_of columns }
+{
+    10 * columns as u16
+}
+
+/// Where a row begins.
+fn top_of(row: usize) -> u16
+    requires { (1 ≤ row) × (row ≤ last_row) }
+    ensures { result ≡ top_of row }
+{
+    18 * (row as u16 - 1)
+}
+
+/// The line that the characters of a row stand on.
+fn baseline_of(row: usize) -> u16
+    requires { (1 ≤ row) × (row ≤ last_row) }
+    ensures { result ≡ baseline_of row }
+{
+    top_of(row) + 13
+}
+
+/// A rectangle over some cells of a row, from a column on.
+#[tactic(auto, unfolding(crate::specs::Picture::rectangle))]
+pub(crate) fn push_rectangle(class: &[u8], row: usize, col: usize, count: usize, out: &mut Vec<u8>)
+    requires class { length class.now ≤ 1 }
+    requires row { (1 ≤ row) × (row ≤ last_row) }
+    requires col { (1 ≤ col) × (col ≤ 132) }
+    requires count { count ≤ 132 }
+    requires room { vec_len out.old + 80 ≤ vec_capacity out.old }
+    ensures items { out.new.items ≡ out.old.items ++ rectangle class.now row col count }
+    ensures bounded { vec_len out.new ≤ vec_len out.old + 80 }
+    ensures capacity { vec_capacity out.old ≤ vec_capacity out.new }
+{
+    push_bytes(b"<rect class='", out);
+    push_bytes(class, out);
+    push_bytes(b"' x='", out);
+    push_number(left_of(col), out);
+    push_bytes(b"' y='", out);
+    push_number(top_of(row), out);
+    push_bytes(b"' width='", out);
+    push_number(width_of(count), out);
+    push_bytes(b"' height='18'/>\n", out);
+}
+
+/// Whether a cell goes on with a run of these attributes.
+fn goes_on(look: Rendition, cell: &Cell) -> bool
+    ensures { result ≡ goes_on_with look cell.now }
+{
+    !is_blank(cell) && look == cell.rendition
+}
+
+/// How many of these cells go on with a run of these attributes.
+fn run_length(look: Rendition, cells: &[Cell]) -> usize
+    ensures length { result ≡ run_length_of look cells.now }
+    ensures within { result ≤ length cells.now }
+{
+    let mut i = 0;
+    while i < cells.len() && goes_on(look, &cells[i]) {
+        i += 1;
+    }
+    i
+}
+
+/// Whether the first of these cells goes on with a run of these attributes.
+fn is_followed(look: Rendition, cells: &[Cell]) -> bool
+    ensures { result ≡ is_followed_by look cells.now }
+{
+    match cells.first() {
+        Some(cell) => goes_on(look, cell),
+        None => false,
+    }
+}
+
+/// The classes of these attributes.
+fn push_classes(look: Rendition, out: &mut Vec<u8>)
+    requires { vec_len out.old + 7 ≤ vec_capacity out.old }
+    ensures items { out.new.items ≡ out.old.items ++ classes look }
+    ensures bounded { vec_len out.new ≤ vec_len out.old + 7 }
+    ensures capacity { vec_capacity out.old ≤ vec_capacity out.new }
+{
+    push_bytes(if look.reverse { b"p" } else { b"i" }, out);
+    push_where(look.bold, b" b", out);
+    push_where(look.underline, b" u", out);
+    push_where(look.blink, b" k", out);
+}
+
+/// The ink under a run that is reversed.
+fn push_ground(reverse: bool, row: usize, col: usize, count: usize, out: &mut Vec<u8>)
+    requires row { (1 ≤ row) × (row ≤ last_row) }
+    requires col { (1 ≤ col) × (col ≤ 132) }
+    requires count { count ≤ 132 }
+    requires room { vec_len out.old + 80 ≤ vec_capacity out.old }
+    ensures items { out.new.items ≡ out.old.items ++ where_true reverse (rectangle (codes "i") row col count) }
+    ensures bounded { vec_len out.new ≤ vec_len out.old + 80 }
+    ensures capacity { vec_capacity out.old ≤ vec_capacity out.new }
+{
+    if reverse {
+        push_rectangle(b"i", row, col, count, out);
+    }
+}
+
+/// What stands before the characters of a run.
+#[tactic(auto, unfolding(crate::specs::Picture::run_start))]
+fn push_run_start(look: Rendition, row: usize, col: usize, count: usize, out: &mut Vec<u8>)
+    requires row { (1 ≤ row) × (row ≤ last_row) }
+    requires col { (1 ≤ col) × (col ≤ 132) }
+    requires count { count ≤ 132 }
+    requires room { vec_len out.old + 190 ≤ vec_capacity out.old }
+    ensures items { out.new.items ≡ out.old.items ++ run_start look row col count }
+    ensures bounded { vec_len out.new ≤ vec_len out.old + 190 }
+    ensures capacity { vec_capacity out.old ≤ vec_capacity out.new }
+{
+    push_ground(look.reverse, row, col, count, out);
+    push_bytes(b"<text class='", out);
+    push_classes(look, out);
+    push_bytes(b"' x='", out);
+    push_number(left_of(col), out);
+    push_bytes(b"' y='", out);
+    push_number(baseline_of(row), out);
+    push_bytes(b"' textLength='", out);
+    push_number(width_of(count), out);
+    push_bytes(b"' lengthAdjust='spacingAndGlyphs'>", out);
+}
+
+/// A cell that isn't blank, between the cell to its left and those to its right.
+#[tactic(auto, unfolding(crate::specs::Picture::shown_cell))]
+fn push_shown_cell(
+    row: usize,
+    col: usize,
+    left: &Cell,
+    cell: &Cell,
+    rest: &[Cell],
+    out: &mut Vec<u8>,
+)
+    requires row { (1 ≤ row) × (row ≤ last_row) }
+    requires col { 1 ≤ col }
+    requires rest { col + length rest.now ≤ 132 }
+    requires room { vec_len out.old + 203 ≤ vec_capacity out.old }
+    ensures items { out.new.items ≡ out.old.items ++ shown_cell row col left.now cell.now rest.now }
+    ensures bounded { vec_len out.new ≤ vec_len out.old + 203 }
+    ensures capacity { vec_capacity out.old ≤ vec_capacity out.new }
+{
+    let look = cell.rendition;
+    if !goes_on(look, left) {
+        push_run_start(look, row, col, run_length(look, rest) + 1, out);
+    }
+    push_escaped(cell.glyph, out);
+    if !is_followed(look, rest) {
+        push_bytes(b"</text>\n", out);
+    }
+}
+
+/// The cells of a row.
+pub(crate) fn push_row(row: usize, cells: &[Cell], out: &mut Vec<u8>)
+    requires row { (1 ≤ row) × (row ≤ last_row) }
+    requires len { length cells.now ≤ 132 }
+    requires room { vec_len out.old + 203 * length cells.now ≤ vec_capacity out.old }
+    ensures items { out.new.items ≡ out.old.items ++ row_picture row cells.now }
+    ensures bounded { vec_len out.new ≤ vec_len out.old + 203 * length cells.now }
+    ensures capacity { vec_capacity out.old ≤ vec_capacity out.new }
+{
+    let blank = Cell::blank();
+    let mut i = 0;
+    while i < cells.len() {
+        let left = if i == 0 { &blank } else { &cells[i - 1] };
+        let cell = &cells[i];
+        i += 1;
+        if !is_blank(cell) {
+            push_shown_cell(row, i, left, cell, &cells[i..], out);
+        }
+    }
+}

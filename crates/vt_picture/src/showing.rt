@@ -1,0 +1,88 @@
+//! The screen as text with its attributes.
+ghost use Rattle.std.specs.Prelude.{◌≡◌, ◌+◌, ◌*◌, ◌≤◌, ◌++◌, length, vec_len, vec_capacity, OnOk, OnErr, IsOk};
+ghost use Rattle.vt_picture.specs.Show.{change, rendition_sequence, shown_line, show};
+
+use crate::bytes::{push_bytes, push_glyph, push_where};
+use crate::looks::without_blank_end;
+use std::alloc::AllocError;
+use vt_screen::{Cell, Rendition};
+use vt_term::{ROWS, STOPS, Terminal};
+
+/// The most bytes of a screen that is shown: for each row twelve of attributes and four of a character for each of 132
+/// cells, twelve for the attributes behind them, and LF.
+pub const SHOW_LIMIT: usize = ROWS * (16 * STOPS + 13);
+
+const _: () = prove!(SHOW_LIMIT == 51000);
+
+/// SGR with 0 and the attributes that are set.
+fn push_rendition(look: Rendition, out: &mut Vec<u8>)
+    requires { vec_len out.old + 12 ≤ vec_capacity out.old }
+    ensures items { out.new.items ≡ out.old.items ++ rendition_sequence look }
+    ensures bounded { vec_len out.new ≤ vec_len out.old + 12 }
+    ensures capacity { vec_capacity out.old ≤ vec_capacity out.new }
+{
+    push_bytes(b"\x1B[0", out);
+    push_where(look.bold, b";1", out);
+    push_where(look.underline, b";4", out);
+    push_where(look.blink, b";5", out);
+    push_where(look.reverse, b";7", out);
+    push_bytes(b"m", out);
+}
+
+/// SGR where the attributes aren't those before.
+fn push_change(before: Rendition, after: Rendition, out: &mut Vec<u8>)
+    requires { vec_len out.old + 12 ≤ vec_capacity out.old }
+    ensures items { out.new.items ≡ out.old.items ++ change before after }
+    ensures bounded { vec_len out.new ≤ vec_len out.old + 12 }
+    ensures capacity { vec_capacity out.old ≤ vec_capacity out.new }
+{
+    if before != after {
+        push_rendition(after, out);
+    }
+}
+
+/// A row without the blank cells at its end, and LF.
+fn push_shown_line(cells: &[Cell], out: &mut Vec<u8>)
+    requires { vec_len out.old + 16 * length cells.now + 13 ≤ vec_capacity out.old }
+    ensures items { out.new.items ≡ out.old.items ++ shown_line cells.now }
+    ensures bounded { vec_len out.new ≤ vec_len out.old + 16 * length cells.now + 13 }
+    ensures capacity { vec_capacity out.old ≤ vec_capacity out.new }
+{
+    let mut before = Rendition::plain();
+    for cell in without_blank_end(cells) {
+        push_change(before, cell.rendition, out);
+        push_glyph(cell.glyph, out);
+        before = cell.rendition;
+    }
+    push_change(before, Rendition::plain(), out);
+    push_bytes(b"\n", out);
+}
+
+/// Appends the screen to `out` as text with its attributes, for the terminals of today: each row in UTF-8 without the blank
+/// cells at its end, SGR where the attributes change, each line closed plain, and LF.
+///
+/// `SHOW_LIMIT` bytes of room are reserved first. `Err` where that is refused: then the contents of `out` are unchanged.
+pub fn show(t: &Terminal, out: &mut Vec<u8>) -> Result<(), AllocError>
+    ensures ok { OnOk result (out.new.items ≡ out.old.items ++ show t.now) }
+    ensures err { OnErr result (out.new.items ≡ out.old.items) }
+    ensures has_room { vec_len out.old + SHOW_LIMIT ≤ vec_capacity out.old → IsOk result }
+    ensures bounded { vec_len out.new ≤ vec_len out.old + SHOW_LIMIT }
+    ensures capacity { vec_capacity out.old ≤ vec_capacity out.new }
+{
+    out.reserve(SHOW_LIMIT)?;
+    show_reserved(t, out);
+    Ok(())
+}
+
+/// Appends the screen to `out` as text with its attributes, as [`show`] does; `out` has the room: `SHOW_LIMIT` bytes. It
+/// never fails and takes no memory.
+pub fn show_reserved(t: &Terminal, out: &mut Vec<u8>)
+    requires { vec_len out.old + SHOW_LIMIT ≤ vec_capacity out.old }
+    ensures items { out.new.items ≡ out.old.items ++ show t.now }
+    ensures bounded { vec_len out.new ≤ vec_len out.old + SHOW_LIMIT }
+    ensures capacity { vec_capacity out.old ≤ vec_capacity out.new }
+{
+    for row in 1..ROWS + 1 {
+        push_shown_line(t.row(row), out);
+    }
+}

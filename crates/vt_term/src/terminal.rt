@@ -1,9 +1,11 @@
 //! The terminal: bytes in; a state and report bytes out.
-ghost use Rattle.std.specs.Prelude.{◌≡◌, ◌+◌, ◌*◌, ◌≤◌, ◌<◌, ◌++◌, ◌∷◌, [], All, false, length, take, slice_index, vec_len, vec_capacity, IfOk, OnOk, OnErr, IsOk};
+ghost use Rattle.std.specs.Prelude.{◌≡◌, ◌+◌, ◌*◌, ◌≤◌, ◌<◌, ◌++◌, ◌∷◌, [], ℕ, List, All, false, length, take, slice_index, vec_len, vec_capacity, IfOk, OnOk, OnErr, IsOk};
 ghost use Rattle.vt_glyph.specs.Invocation.{HasGlyph};
 ghost use Rattle.vt_syntax.specs.declared.held.Held.TheVariants.{Nothing};
 ghost use Rattle.vt_syntax.specs.Class.{IsPlain};
-ghost use Rattle.vt_syntax.specs.Spelling.{IsGraphic};
+ghost use Rattle.vt_syntax.specs.Event.{event_of};
+ghost use Rattle.vt_syntax.specs.Front.{IsFront};
+ghost use Rattle.vt_syntax.specs.Spelling.{IsEvent, IsGraphic};
 ghost use Rattle.vt_term.specs.State.{power_up};
 ghost use Rattle.vt_term.specs.Sound.{IsSound};
 ghost use Rattle.vt_term.specs.Play.{play};
@@ -21,7 +23,10 @@ use vt_glyph::Sets;
 use vt_glyph::laws::in_use;
 use vt_screen::{Brush, Cell};
 use vt_syntax::laws::{one_split, spelled};
-use vt_syntax::{Parser, Taken, Values, plain_run};
+use vt_syntax::{
+    EventKind, Parser, Taken, Values, front_control, front_escape, front_sequence,
+    front_short_escape, plain_run,
+};
 
 /// The most bytes of a text: for each row three for each of 132 cells, and LF.
 pub const TEXT_LIMIT: usize = ROWS * (3 * STOPS + 1);
@@ -122,14 +127,75 @@ impl Terminal {
     {
         if self.parser.is_between() {
             let byte = piece[0];
+            if byte == 0x1B {
+                return self.feed_escape(piece, values, out);
+            }
             if has_glyph(byte) {
                 return self.feed_graphics(piece);
             }
             if byte == 0x0D {
                 return self.feed_carriage_return(piece);
             }
+            if let Some(control) = front_control(piece) {
+                self.feed_front_event(EventKind::Control(control), &[], out);
+                return 1;
+            }
         }
         self.feed_event(piece, values, out)
+    }
+
+    /// Plays the front of a piece that begins with ESC, between sequences, as far as the first event. Answers how many
+    /// bytes that is.
+    #[inline(always)]
+    fn feed_escape(&mut self, piece: &[u8], values: &mut Values, out: &mut Vec<u8>) -> usize
+        requires some { 1 ≤ length piece.now }
+        requires room { vec_len out.old + 10 ≤ vec_capacity out.old }
+        requires between { self.old.held ≡ Nothing }
+        ensures some { 1 ≤ result }
+        ensures within { result ≤ length piece.now }
+        ensures state { self.new ≡ (play self.old (take result piece.now)).state }
+        ensures reports { out.new.items ≡ out.old.items ++ (play self.old (take result piece.now)).reports }
+        ensures bounded { vec_len out.new ≤ vec_len out.old + 10 }
+        ensures capacity { vec_capacity out.old ≤ vec_capacity out.new }
+    {
+        if let Some((bytes, last)) = front_sequence(piece, values) {
+            let (marker, inter) = (None, None);
+            let kind = EventKind::Sequence {
+                marker,
+                inter,
+                last,
+            };
+            self.feed_front_event(kind, values.as_slice(), out);
+            return bytes;
+        }
+        if let Some((inter, last)) = front_escape(piece) {
+            let inter = Some(inter);
+            self.feed_front_event(EventKind::Escape { inter, last }, &[], out);
+            return 3;
+        }
+        if let Some(kind) = front_short_escape(piece) {
+            self.feed_front_event(kind, &[], out);
+            return 2;
+        }
+        self.feed_event(piece, values, out)
+    }
+
+    /// An event that stands whole at the front of a piece, between sequences. It is compiled in the place of each call,
+    /// so that what is known of its kind costs no dispatch.
+    #[inline(always)]
+    fn feed_front_event(&mut self, kind: EventKind, values: &[u16], out: &mut Vec<u8>)
+        requires event { IsEvent (event_of kind values.now) }
+        requires room { vec_len out.old + 10 ≤ vec_capacity out.old }
+        requires between { self.old.held ≡ Nothing }
+        ensures state { (piece : List ℕ) (bytes : ℕ) → IsFront piece bytes (event_of kind values.now)
+            → self.new ≡ (play self.old (take bytes piece)).state }
+        ensures reports { (piece : List ℕ) (bytes : ℕ) → IsFront piece bytes (event_of kind values.now)
+            → out.new.items ≡ out.old.items ++ (play self.old (take bytes piece)).reports }
+        ensures bounded { vec_len out.new ≤ vec_len out.old + 10 }
+        ensures capacity { vec_capacity out.old ≤ vec_capacity out.new }
+    {
+        self.display.report(kind, values, out);
+        self.display.carry_out(kind, values);
     }
 
     /// Plays the graphic bytes at the front of a piece, between sequences: a run of them where they may be written at
@@ -206,7 +272,7 @@ impl Terminal {
     }
 
     /// Plays the front of a piece that isn't empty as far as the first event, and answers how many bytes that is.
-    #[inline(always)]
+    #[inline(never)]
     fn feed_event(&mut self, piece: &[u8], values: &mut Values, out: &mut Vec<u8>) -> usize
         requires some { 1 ≤ length piece.now }
         requires room { vec_len out.old + 10 ≤ vec_capacity out.old }

@@ -29,7 +29,9 @@ pub fn fill_line(line: &mut [Cell], cell: &Cell)
     ensures { (k : ℕ) → k < length line.old → slice_index_or line.new k blank ≡ cell.now }
 {
     fill_cells(&mut line[..80], cell);
-    fill_cells(&mut line[80..], cell);
+    if line.len() > 80 {
+        fill_cells(&mut line[80..], cell);
+    }
 }
 
 /// Writes one cell everywhere, a place at a time.

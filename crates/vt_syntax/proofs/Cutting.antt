@@ -109,7 +109,7 @@ single_step : (b : ℕ) → is_opener b ≡ false → step_of Nothing b ≡ step
 unfolding step_of
 single_step b e = let n = not_opener b e in rw (n.0, n.1, n.2) refl
 
-nothing_held : IsHeldPart Nothing
+pub nothing_held : IsHeldPart Nothing
 nothing_held = record { rest = None; is_rest = tt; of_rest = refl }
 
 pub single_events : (b : ℕ) → is_opener b ≡ false → events_of (b ∷ []) ≡ single_function b

@@ -13,3 +13,4 @@ pub mod Lanes
 pub mod SilentBytes
 pub mod ContentRuns
 pub mod WholeSequences
+pub mod Fronts

@@ -12,9 +12,8 @@ use Rattle.vt_syntax.specs.declared.held.Held.{Held}
 use Rattle.vt_syntax.specs.declared.held.Held.TheVariants.{Nothing, Escape, Control, Spoilt, Text}
 use Rattle.vt_syntax.specs.Held.{IsEnding, ended_by}
 use Rattle.vt_syntax.specs.declared.held.Inters.TheVariants.{Zero, One, Many}
-use Rattle.vt_syntax.specs.Class.{class_of, opens_string}
-use Rattle.vt_syntax.specs.Items.{ends_string}
-use Rattle.vt_syntax.specs.Steps.{step_to, opened_by, step_between, step_string, step_of, change_last}
+use Rattle.vt_syntax.specs.Class.{class_of}
+use Rattle.vt_syntax.specs.Steps.{step_to, opened_by, step_of, change_last}
 use Rattle.vt_syntax.proofs.Classes.{range_of, opens_high, class_parameter, class_final}
 
 pub change_last-push : (f : ℕ → ℕ) (xs : List ℕ) (x : ℕ) → change_last f (xs ++ x ∷ []) ≡ xs ++ f x ∷ []
@@ -34,40 +33,14 @@ final_low b e = (range_of b Final e).0
 pub final_high : (b : ℕ) → class_of b ≡ Final → b < 127
 final_high b e = (range_of b Final e).1
 
--- a plain byte between sequences is printed
-pub between_plain : (b : ℕ) → 32 ≤ b → b < 127 → step_between b ≡ step_to Nothing (event.Print b ∷ [])
-unfolding opens_string
-between_plain b low high = grind (arith, nat_tests)
-
 -- digits and `;` are parameter bytes
 pub value_class : (b : ℕ) → 48 ≤ b → b < 60 → class_of b ≡ Parameter
 value_class b low high = class_parameter b low (omega arith)
-
--- so is a byte A0..FF
-pub between_high : (b : ℕ) → 160 ≤ b → step_between b ≡ step_to Nothing (event.Print b ∷ [])
-unfolding opens_string
-between_high b high = grind (arith, nat_tests)
-
--- and a C0 control before CAN stands by itself
-pub between_control : (b : ℕ) → b < 24 → step_between b ≡ step_to Nothing (event.Control b ∷ [])
-unfolding opens_string
-between_control b low = grind (arith, nat_tests)
-
--- plain bytes are content of any string
-pub string_plain : (osc : Bool) (b : ℕ) → 32 ≤ b → b < 127 → step_string osc b ≡ step_to (Text osc) []
-unfolding ends_string
-string_plain true b low high = grind (arith, nat_tests)
-string_plain false b low high = grind (arith, nat_tests)
 
 -- ESC and `[` open a control sequence
 pub step_bracket : step_of (Escape Zero) 0x5B ≡ step_to (opened_by 0x9B) []
 unfolding step_of class_of
 step_bracket = refl
-
-pub final_class : (b : ℕ) → 64 ≤ b → b < 127 → class_of b ≡ Final
-final_class b low high = class_final b low high
-
-pub ruleset frequent_bytes = (nat_tests, between_plain, between_high, between_control, string_plain, step_bracket, value_class, final_class)
 
 pub ruleset byte_ranges = (nat_tests, parameter_low, parameter_high, final_low, final_high, opens_high)
 

@@ -1,5 +1,6 @@
 pub mod Class
 pub mod Event
+pub mod Front
 pub mod Items
 pub mod Split
 pub mod Reading

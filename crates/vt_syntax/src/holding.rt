@@ -39,36 +39,9 @@ fn hold_text(held: &mut Held, piece: &[u8]) -> usize
     }
 }
 
-/// Takes a byte that gives no event; another one is left. The most frequent bytes are looked at first.
-#[inline(always)]
-#[tactic(auto, using(crate::proofs::Steps::frequent_bytes), unfolding(crate::specs::Steps::step_of))]
-pub(crate) fn hold_byte(held: &mut Held, b: u8) -> bool
-    ensures holds { held.new ≡ held_silently held.old (step_of held.old b) }
-    ensures silent { result ≡ is_silent (step_of held.old b) }
-{
-    match held {
-        Held::Control { .. } if 0x40 <= b && b < 0x7F => false,
-        Held::Control {
-            params,
-            full,
-            phase,
-            ..
-        } if 0x30 <= b && b < 0x3C && b != 0x3A && !matches!(phase, Phase::Inter(_)) => {
-            value(params, full, b);
-            *phase = Phase::Values;
-            true
-        }
-        Held::Escape(Inters::Zero) if 0x40 <= b && b < 0x60 => open(held, b + 0x40),
-        Held::Text { .. } if 0x20 <= b && b < 0x7F => true,
-        Held::Nothing => open(held, b),
-        _ => hold_any(held, b),
-    }
-}
-
-/// The same, whatever is held.
-#[inline(never)]
+/// Takes a byte that gives no event; another one is left.
 #[tactic(auto, unfolding(crate::specs::Steps::step_of))]
-fn hold_any(held: &mut Held, b: u8) -> bool
+pub(crate) fn hold_byte(held: &mut Held, b: u8) -> bool
     ensures holds { held.new ≡ held_silently held.old (step_of held.old b) }
     ensures silent { result ≡ is_silent (step_of held.old b) }
 {

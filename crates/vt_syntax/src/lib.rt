@@ -9,6 +9,7 @@
 mod class;
 mod content;
 mod event;
+mod front;
 mod held;
 mod holding;
 pub mod laws;
@@ -18,6 +19,7 @@ mod values;
 mod whole;
 
 pub use event::{Event, EventKind, Taken};
+pub use front::{front_control, front_escape, front_sequence, front_short_escape};
 pub use held::{Held, Inters, Phase};
 pub use parser::Parser;
 pub use plain::plain_run;

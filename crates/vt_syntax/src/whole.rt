@@ -40,7 +40,7 @@ pub(crate) fn whole_event(piece: &[u8], values: &mut Values) -> Option<(usize, E
 
 /// Whether two bytes are ESC and `[`, which introduce a control sequence: one comparison of both.
 #[inline(always)]
-fn is_introducer(first: u8, second: u8) -> bool
+pub(crate) fn is_introducer(first: u8, second: u8) -> bool
     ensures { OnTrue result ((first ≡ 0x1B) × (second ≡ 0x5B)) }
 {
     first as u16 + 256 * second as u16 == 0x5B1B
@@ -129,7 +129,12 @@ fn marker_at(piece: &[u8], from: usize) -> (Option<u8>, usize)
 /// Reads the values from a place on, and answers the place behind them. `None` after the 16th, and where fewer than four
 /// bytes are left.
 #[inline(always)]
-fn read_values(piece: &[u8], start: usize, marker: Option<u8>, values: &mut Values) -> Option<usize>
+pub(crate) fn read_values(
+    piece: &[u8],
+    start: usize,
+    marker: Option<u8>,
+    values: &mut Values,
+) -> Option<usize>
     requires within { start ≤ length piece.now }
     requires begun { run Nothing (take start piece.now) ≡ step_to (begun marker) [] }
     ensures { IfSome result (λ at. (at < length piece.now) × AreRead piece.now at marker values.new) }

@@ -4,6 +4,7 @@
 mod cursor;
 mod display;
 mod editing;
+mod feeding;
 mod functions;
 mod graphics;
 pub mod laws;

@@ -1,27 +1,15 @@
-//! The terminal: bytes in; a state and report bytes out.
-ghost use Rattle.std.specs.Prelude.{◌≡◌, ◌+◌, ◌*◌, ◌≤◌, ◌<◌, ◌++◌, ◌∷◌, [], All, false, length, take, slice_index, vec_len, vec_capacity, IfOk, OnOk, OnErr, IsOk};
-ghost use Rattle.vt_glyph.specs.Invocation.{HasGlyph};
-ghost use Rattle.vt_syntax.specs.declared.held.Held.TheVariants.{Nothing};
-ghost use Rattle.vt_syntax.specs.Class.{IsPlain};
-ghost use Rattle.vt_syntax.specs.Spelling.{IsGraphic};
+//! The terminal.
+ghost use Rattle.std.specs.Prelude.{◌≡◌, IfOk};
 ghost use Rattle.vt_term.specs.State.{power_up};
 ghost use Rattle.vt_term.specs.Sound.{IsSound};
-ghost use Rattle.vt_term.specs.Play.{play};
-ghost use Rattle.vt_term.specs.Text.{text};
-ghost use Rattle.vt_term.specs.Runs.{WritesAscii};
 
 use crate::display::{Display, ROWS, STOPS};
-use crate::graphics::{graphic_run, has_glyph, right_half_at};
-use crate::laws::cuts;
 use crate::state::{Cursor, Margins, Modes, Saved};
-use crate::text::push_line;
 use std::alloc::{AllocError, Global};
 use std::marker::Model;
 use vt_glyph::Sets;
-use vt_glyph::laws::in_use;
 use vt_screen::{Brush, Cell};
-use vt_syntax::laws::{one_split, spelled};
-use vt_syntax::{Parser, Taken, Values, plain_run};
+use vt_syntax::Parser;
 
 /// The most bytes of a text: for each row three for each of 132 cells, and LF.
 pub const TEXT_LIMIT: usize = ROWS * (3 * STOPS + 1);
@@ -30,9 +18,6 @@ const _: () = prove!(TEXT_LIMIT == 9528);
 
 /// The most report bytes for each byte of a piece.
 pub const REPORT_LIMIT: usize = 10;
-
-/// From how many plain bytes on they are written by themselves, also where bytes of the right half follow.
-const LONG_RUN: usize = 8;
 
 /// A terminal. All its memory is taken by `new`.
 #[derive(Debug, Drop)]
@@ -60,226 +45,11 @@ impl Terminal {
         })
     }
 
-    /// Plays a piece of the host's bytes, and appends the reports to `out`.
-    ///
-    /// Ten bytes of room for each byte of the piece are reserved first. `Err` where that is refused, or is more than
-    /// any vector may hold: then the terminal and the contents of `out` are unchanged.
-    pub fn feed(&mut self, piece: &[u8], out: &mut Vec<u8>) -> Result<(), AllocError>
-        ensures state { OnOk result (self.new ≡ (play self.old piece.now).state) }
-        ensures reports { OnOk result (out.new.items ≡ out.old.items ++ (play self.old piece.now).reports) }
-        ensures bounded { vec_len out.new ≤ vec_len out.old + 10 * length piece.now }
-        ensures same_state { OnErr result (self.new ≡ self.old) }
-        ensures same_out { OnErr result (out.new.items ≡ out.old.items) }
-        ensures has_room { vec_len out.old + 10 * length piece.now ≤ vec_capacity out.old → IsOk result }
-        ensures capacity { vec_capacity out.old ≤ vec_capacity out.new }
-    {
-        let Some(room) = piece.len().checked_mul(REPORT_LIMIT) else {
-            return Err(AllocError);
-        };
-        out.reserve(room)?;
-        self.feed_reserved(piece, out);
-        Ok(())
-    }
-
-    /// Plays a piece of the host's bytes, and appends the reports to `out`, which has the room: ten bytes for each
-    /// byte of the piece. It never fails and takes no memory.
-    pub fn feed_reserved(&mut self, piece: &[u8], out: &mut Vec<u8>)
-        requires { vec_len out.old + 10 * length piece.now ≤ vec_capacity out.old }
-        ensures state { self.new ≡ (play self.old piece.now).state }
-        ensures reports { out.new.items ≡ out.old.items ++ (play self.old piece.now).reports }
-        ensures bounded { vec_len out.new ≤ vec_len out.old + 10 * length piece.now }
-        ensures capacity { vec_capacity out.old ≤ vec_capacity out.new }
-    {
-        self.soundness();
-        cuts();
-        let mut values = Values::new();
-        let mut at = 0;
-        while at < piece.len() {
-            at += self.feed_front(&piece[at..], &mut values, out);
-        }
-    }
-
     /// That the terminal is sound: a clause for the proofs, and no work.
     pub(crate) fn soundness(&self)
         ensures { IsSound self.now }
     {
         self.display.soundness();
         let _ = self.parser.held();
-    }
-
-    /// Plays the front of a piece that isn't empty, and answers how many bytes that is: between sequences a run of plain
-    /// bytes that are written at once, or CR, and LF after it; else as far as the first event.
-    #[inline(always)]
-    fn feed_front(&mut self, piece: &[u8], values: &mut Values, out: &mut Vec<u8>) -> usize
-        requires some { 1 ≤ length piece.now }
-        requires room { vec_len out.old + 10 * length piece.now ≤ vec_capacity out.old }
-        ensures some { 1 ≤ result }
-        ensures within { result ≤ length piece.now }
-        ensures state { self.new ≡ (play self.old (take result piece.now)).state }
-        ensures reports { out.new.items ≡ out.old.items ++ (play self.old (take result piece.now)).reports }
-        ensures bounded { vec_len out.new ≤ vec_len out.old + 10 * result }
-        ensures capacity { vec_capacity out.old ≤ vec_capacity out.new }
-    {
-        if self.parser.is_between() {
-            let byte = piece[0];
-            if has_glyph(byte) {
-                return self.feed_graphics(piece);
-            }
-            if byte == 0x0D {
-                return self.feed_carriage_return(piece);
-            }
-        }
-        self.feed_event(piece, values, out)
-    }
-
-    /// Plays the graphic bytes at the front of a piece, between sequences: a run of them where they may be written at
-    /// once, else the first. Answers how many bytes that is.
-    fn feed_graphics(&mut self, piece: &[u8]) -> usize
-        requires some { 1 ≤ length piece.now }
-        requires graphic { HasGlyph (slice_index piece.now 0) }
-        requires between { self.old.held ≡ Nothing }
-        ensures some { 1 ≤ result }
-        ensures within { result ≤ length piece.now }
-        ensures state { self.new ≡ (play self.old (take result piece.now)).state }
-        ensures reports { (play self.old (take result piece.now)).reports ≡ [] }
-    {
-        if !self.display.writes_over() {
-            self.feed_graphic(piece[0]);
-            return 1;
-        }
-        if self.display.sets.reads_ascii() {
-            let run = plain_run(piece);
-            if run >= LONG_RUN || (run > 0 && !right_half_at(piece, run)) {
-                self.feed_run(&piece[..run]);
-                return run;
-            }
-        }
-        let run = graphic_run(piece);
-        self.feed_in_use(&piece[..run]);
-        run
-    }
-
-    /// A graphic byte, between sequences.
-    fn feed_graphic(&mut self, byte: u8)
-        requires graphic { IsGraphic byte }
-        requires between { self.old.held ≡ Nothing }
-        ensures state { self.new ≡ (play self.old (byte ∷ [])).state }
-        ensures reports { (play self.old (byte ∷ [])).reports ≡ [] }
-    {
-        one_split();
-        spelled();
-        self.display.print(byte);
-    }
-
-    /// Plays CR at the front of a piece, and LF where it follows. Answers how many bytes that is.
-    #[inline(always)]
-    fn feed_carriage_return(&mut self, piece: &[u8]) -> usize
-        requires some { 1 ≤ length piece.now }
-        requires carriage_return { slice_index piece.now 0 ≡ 0x0D }
-        requires between { self.old.held ≡ Nothing }
-        ensures some { 1 ≤ result }
-        ensures within { result ≤ length piece.now }
-        ensures state { self.new ≡ (play self.old (take result piece.now)).state }
-        ensures reports { (play self.old (take result piece.now)).reports ≡ [] }
-    {
-        self.feed_control(piece[0]);
-        if piece.len() < 2 || piece[1] != 0x0A {
-            return 1;
-        }
-        cuts();
-        self.feed_control(piece[1]);
-        2
-    }
-
-    /// A C0 control that changes the display, between sequences.
-    #[inline(always)]
-    fn feed_control(&mut self, byte: u8)
-        requires control { (0x08 ≤ byte) × (byte ≤ 0x0D) }
-        requires between { self.old.held ≡ Nothing }
-        ensures between { self.new.held ≡ Nothing }
-        ensures state { self.new ≡ (play self.old (byte ∷ [])).state }
-        ensures reports { (play self.old (byte ∷ [])).reports ≡ [] }
-    {
-        one_split();
-        spelled();
-        self.display.control(byte);
-    }
-
-    /// Plays the front of a piece that isn't empty as far as the first event, and answers how many bytes that is.
-    #[inline(always)]
-    fn feed_event(&mut self, piece: &[u8], values: &mut Values, out: &mut Vec<u8>) -> usize
-        requires some { 1 ≤ length piece.now }
-        requires room { vec_len out.old + 10 ≤ vec_capacity out.old }
-        ensures some { 1 ≤ result }
-        ensures within { result ≤ length piece.now }
-        ensures state { self.new ≡ (play self.old (take result piece.now)).state }
-        ensures reports { out.new.items ≡ out.old.items ++ (play self.old (take result piece.now)).reports }
-        ensures bounded { vec_len out.new ≤ vec_len out.old + 10 }
-        ensures capacity { vec_capacity out.old ≤ vec_capacity out.new }
-    {
-        let Taken { bytes, event } = self.parser.next(piece, values);
-        if let Some(kind) = event {
-            self.display.report(kind, values.as_slice(), out);
-            self.display.carry_out(kind, values.as_slice());
-        }
-        bytes
-    }
-
-    /// A run of plain bytes.
-    fn feed_run(&mut self, run: &[u8])
-        requires plain { All IsPlain run.now }
-        requires some { 1 ≤ length run.now }
-        requires between { self.old.held ≡ Nothing }
-        requires writes { WritesAscii self.old.display }
-        ensures state { self.new ≡ (play self.old run.now).state }
-        ensures reports { (play self.old run.now).reports ≡ [] }
-    {
-        one_split();
-        spelled();
-        self.display.write_run(run);
-    }
-
-    /// A run of graphic bytes, where the sets in GL and GR are read.
-    fn feed_in_use(&mut self, run: &[u8])
-        requires graphic { All HasGlyph run.now }
-        requires some { 1 ≤ length run.now }
-        requires between { self.old.held ≡ Nothing }
-        requires writes { (self.old.display.sets.pending ≡ None) × (self.old.display.modes.irm ≡ false) }
-        ensures state { self.new ≡ (play self.old run.now).state }
-        ensures reports { (play self.old run.now).reports ≡ [] }
-    {
-        one_split();
-        spelled();
-        in_use();
-        self.display.write_graphics(run);
-    }
-
-    /// Appends the text of the screen to `out`: each row without the spaces at its end, in UTF-8, and LF.
-    ///
-    /// `TEXT_LIMIT` bytes of room are reserved first. `Err` where that is refused: then the contents of `out` are
-    /// unchanged.
-    pub fn text(&self, out: &mut Vec<u8>) -> Result<(), AllocError>
-        ensures ok { OnOk result (out.new.items ≡ out.old.items ++ text self.now) }
-        ensures err { OnErr result (out.new.items ≡ out.old.items) }
-        ensures has_room { vec_len out.old + TEXT_LIMIT ≤ vec_capacity out.old → IsOk result }
-        ensures bounded { vec_len out.new ≤ vec_len out.old + TEXT_LIMIT }
-        ensures capacity { vec_capacity out.old ≤ vec_capacity out.new }
-    {
-        out.reserve(TEXT_LIMIT)?;
-        self.text_reserved(out);
-        Ok(())
-    }
-
-    /// Appends the text of the screen to `out`, which has the room: `TEXT_LIMIT` bytes. It never fails and takes no
-    /// memory.
-    pub fn text_reserved(&self, out: &mut Vec<u8>)
-        requires { vec_len out.old + TEXT_LIMIT ≤ vec_capacity out.old }
-        ensures items { out.new.items ≡ out.old.items ++ text self.now }
-        ensures bounded { vec_len out.new ≤ vec_len out.old + TEXT_LIMIT }
-        ensures capacity { vec_capacity out.old ≤ vec_capacity out.new }
-    {
-        for row in 1..ROWS + 1 {
-            push_line(self.row(row), out);
-        }
     }
 }

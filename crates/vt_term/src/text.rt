@@ -1,10 +1,44 @@
-//! The text of a row.
+//! The text of the screen.
 ghost use Rattle.vt_glyph.specs.Tables.{space};
-ghost use Rattle.std.specs.Prelude.{◌≡◌, ◌↔◌, IsTrue, ◌+◌, ◌*◌, ◌≤◌, ◌++◌, length, vec_len, vec_capacity, map, encode_utf8};
-ghost use Rattle.vt_term.specs.Text.{glyphs_of, line_text, trimmed};
+ghost use Rattle.std.specs.Prelude.{◌≡◌, ◌↔◌, IsTrue, ◌+◌, ◌*◌, ◌≤◌, ◌++◌, length, vec_len, vec_capacity, map, encode_utf8, OnOk, OnErr, IsOk};
+ghost use Rattle.vt_term.specs.Text.{text, glyphs_of, line_text, trimmed};
 
+use crate::display::ROWS;
+use crate::terminal::{TEXT_LIMIT, Terminal};
+use std::alloc::AllocError;
 use vt_glyph::Glyph;
 use vt_screen::Cell;
+
+impl Terminal {
+    /// Appends the text of the screen to `out`: each row without the spaces at its end, in UTF-8, and LF.
+    ///
+    /// `TEXT_LIMIT` bytes of room are reserved first. `Err` where that is refused: then the contents of `out` are
+    /// unchanged.
+    pub fn text(&self, out: &mut Vec<u8>) -> Result<(), AllocError>
+        ensures ok { OnOk result (out.new.items ≡ out.old.items ++ text self.now) }
+        ensures err { OnErr result (out.new.items ≡ out.old.items) }
+        ensures has_room { vec_len out.old + TEXT_LIMIT ≤ vec_capacity out.old → IsOk result }
+        ensures bounded { vec_len out.new ≤ vec_len out.old + TEXT_LIMIT }
+        ensures capacity { vec_capacity out.old ≤ vec_capacity out.new }
+    {
+        out.reserve(TEXT_LIMIT)?;
+        self.text_reserved(out);
+        Ok(())
+    }
+
+    /// Appends the text of the screen to `out`, which has the room: `TEXT_LIMIT` bytes. It never fails and takes no
+    /// memory.
+    pub fn text_reserved(&self, out: &mut Vec<u8>)
+        requires { vec_len out.old + TEXT_LIMIT ≤ vec_capacity out.old }
+        ensures items { out.new.items ≡ out.old.items ++ text self.now }
+        ensures bounded { vec_len out.new ≤ vec_len out.old + TEXT_LIMIT }
+        ensures capacity { vec_capacity out.old ≤ vec_capacity out.new }
+    {
+        for row in 1..ROWS + 1 {
+            push_line(self.row(row), out);
+        }
+    }
+}
 
 /// Whether a cell shows a space.
 fn shows_space(cell: &Cell) -> bool

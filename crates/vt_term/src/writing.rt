@@ -85,7 +85,7 @@ impl Display {
         ensures { self.new ≡ after_events (map Print run.now) self.old }
     {
         runs();
-        if self.fits(run.len()) {
+        if self.fits(run) {
             self.put_run(run);
         } else {
             self.write_lines(run);
@@ -119,7 +119,7 @@ impl Display {
     {
         runs();
         let table = self.sets.in_use();
-        if self.fits(run.len()) {
+        if self.fits(run) {
             self.put_graphics(run, &table);
         } else {
             self.write_graphic_lines(run, &table);
@@ -144,12 +144,13 @@ impl Display {
         }
     }
 
-    /// Whether no wrap is pending, and so many cells end before the last column.
+    /// Whether no wrap is pending, and a run ends before the last column.
     #[inline(always)]
-    fn fits(&self, n: usize) -> bool
-        ensures { OnTrue result ((self.now.cursor.wrap ≡ false) × (self.now.cursor.col + n ≤ self.now.grid.width)) }
+    fn fits(&self, run: &[u8]) -> bool
+        ensures { OnTrue result ((self.now.cursor.wrap ≡ false)
+            × (self.now.cursor.col + length run.now ≤ self.now.grid.width)) }
     {
-        !self.cursor.wrap && n < self.room()
+        !self.cursor.wrap && self.cursor.col + run.len() <= self.screen.width()
     }
 
     /// How many cells there are from the cursor to the end of its row.

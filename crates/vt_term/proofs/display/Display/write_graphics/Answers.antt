@@ -1,4 +1,4 @@
-use Rattle.std.proofs.Common.{◌∙◌, ℕ, map, ap, sym, arith}
+use Rattle.std.proofs.Common.{◌∙◌, map, ap, sym, arith}
 use Rattle.vt_glyph.specs.Invocation.{HasGlyph, InUseTable, in_use, glyph_in_use}
 use Rattle.vt_term.specs.State.{Display}
 use Rattle.vt_term.specs.Runs.{with_run}

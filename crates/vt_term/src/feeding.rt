@@ -1,0 +1,273 @@
+//! Feeding: a host's bytes in; a state and report bytes out.
+ghost use Rattle.std.specs.Prelude.{◌≡◌, ◌+◌, ◌*◌, ◌≤◌, ◌<◌, ◌++◌, ◌∷◌, [], ℕ, List, All, false, length, take, slice_index, vec_len, vec_capacity, OnOk, OnErr, IsOk};
+ghost use Rattle.vt_glyph.specs.Invocation.{HasGlyph};
+ghost use Rattle.vt_syntax.specs.declared.held.Held.TheVariants.{Nothing};
+ghost use Rattle.vt_syntax.specs.Class.{IsPlain};
+ghost use Rattle.vt_syntax.specs.Event.{event_of};
+ghost use Rattle.vt_syntax.specs.Front.{IsFront};
+ghost use Rattle.vt_syntax.specs.Spelling.{IsEvent, IsGraphic};
+ghost use Rattle.vt_term.specs.Play.{play};
+ghost use Rattle.vt_term.specs.Runs.{WritesAscii};
+
+use crate::graphics::{graphic_run, has_glyph, right_half_at};
+use crate::laws::cuts;
+use crate::terminal::{REPORT_LIMIT, Terminal};
+use std::alloc::AllocError;
+use vt_glyph::laws::in_use;
+use vt_syntax::laws::{one_split, spelled};
+use vt_syntax::{
+    EventKind, Taken, Values, front_control, front_escape, front_sequence, front_short_escape,
+    plain_run,
+};
+
+/// From how many plain bytes on they are written by themselves, also where bytes of the right half follow.
+const LONG_RUN: usize = 8;
+
+impl Terminal {
+    /// Plays a piece of the host's bytes, and appends the reports to `out`.
+    ///
+    /// Ten bytes of room for each byte of the piece are reserved first. `Err` where that is refused, or is more than
+    /// any vector may hold: then the terminal and the contents of `out` are unchanged.
+    pub fn feed(&mut self, piece: &[u8], out: &mut Vec<u8>) -> Result<(), AllocError>
+        ensures state { OnOk result (self.new ≡ (play self.old piece.now).state) }
+        ensures reports { OnOk result (out.new.items ≡ out.old.items ++ (play self.old piece.now).reports) }
+        ensures bounded { vec_len out.new ≤ vec_len out.old + 10 * length piece.now }
+        ensures same_state { OnErr result (self.new ≡ self.old) }
+        ensures same_out { OnErr result (out.new.items ≡ out.old.items) }
+        ensures has_room { vec_len out.old + 10 * length piece.now ≤ vec_capacity out.old → IsOk result }
+        ensures capacity { vec_capacity out.old ≤ vec_capacity out.new }
+    {
+        let Some(room) = piece.len().checked_mul(REPORT_LIMIT) else {
+            return Err(AllocError);
+        };
+        out.reserve(room)?;
+        self.feed_reserved(piece, out);
+        Ok(())
+    }
+
+    /// Plays a piece of the host's bytes, and appends the reports to `out`, which has the room: ten bytes for each
+    /// byte of the piece. It never fails and takes no memory.
+    pub fn feed_reserved(&mut self, piece: &[u8], out: &mut Vec<u8>)
+        requires { vec_len out.old + 10 * length piece.now ≤ vec_capacity out.old }
+        ensures state { self.new ≡ (play self.old piece.now).state }
+        ensures reports { out.new.items ≡ out.old.items ++ (play self.old piece.now).reports }
+        ensures bounded { vec_len out.new ≤ vec_len out.old + 10 * length piece.now }
+        ensures capacity { vec_capacity out.old ≤ vec_capacity out.new }
+    {
+        self.soundness();
+        cuts();
+        let mut values = Values::new();
+        let mut at = 0;
+        while at < piece.len() {
+            at += self.feed_front(&piece[at..], &mut values, out);
+        }
+    }
+
+    /// Plays the front of a piece that isn't empty, and answers how many bytes that is: between sequences a run of plain
+    /// bytes that are written at once, or CR, and LF after it; else as far as the first event.
+    #[inline(always)]
+    fn feed_front(&mut self, piece: &[u8], values: &mut Values, out: &mut Vec<u8>) -> usize
+        requires some { 1 ≤ length piece.now }
+        requires room { vec_len out.old + 10 * length piece.now ≤ vec_capacity out.old }
+        ensures some { 1 ≤ result }
+        ensures within { result ≤ length piece.now }
+        ensures state { self.new ≡ (play self.old (take result piece.now)).state }
+        ensures reports { out.new.items ≡ out.old.items ++ (play self.old (take result piece.now)).reports }
+        ensures bounded { vec_len out.new ≤ vec_len out.old + 10 * result }
+        ensures capacity { vec_capacity out.old ≤ vec_capacity out.new }
+    {
+        if self.parser.is_between() {
+            let byte = piece[0];
+            if byte == 0x1B {
+                return self.feed_escape(piece, values, out);
+            }
+            if has_glyph(byte) {
+                return self.feed_graphics(piece);
+            }
+            if byte == 0x0D {
+                return self.feed_carriage_return(piece);
+            }
+            if let Some(control) = front_control(piece) {
+                self.feed_front_event(EventKind::Control(control), &[], out);
+                return 1;
+            }
+        }
+        self.feed_event(piece, values, out)
+    }
+
+    /// Plays the front of a piece that begins with ESC, between sequences, as far as the first event. Answers how many
+    /// bytes that is.
+    #[inline(always)]
+    fn feed_escape(&mut self, piece: &[u8], values: &mut Values, out: &mut Vec<u8>) -> usize
+        requires some { 1 ≤ length piece.now }
+        requires room { vec_len out.old + 10 ≤ vec_capacity out.old }
+        requires between { self.old.held ≡ Nothing }
+        ensures some { 1 ≤ result }
+        ensures within { result ≤ length piece.now }
+        ensures state { self.new ≡ (play self.old (take result piece.now)).state }
+        ensures reports { out.new.items ≡ out.old.items ++ (play self.old (take result piece.now)).reports }
+        ensures bounded { vec_len out.new ≤ vec_len out.old + 10 }
+        ensures capacity { vec_capacity out.old ≤ vec_capacity out.new }
+    {
+        if let Some((bytes, last)) = front_sequence(piece, values) {
+            let (marker, inter) = (None, None);
+            let kind = EventKind::Sequence {
+                marker,
+                inter,
+                last,
+            };
+            self.feed_front_event(kind, values.as_slice(), out);
+            return bytes;
+        }
+        if let Some((inter, last)) = front_escape(piece) {
+            let inter = Some(inter);
+            self.feed_front_event(EventKind::Escape { inter, last }, &[], out);
+            return 3;
+        }
+        if let Some(kind) = front_short_escape(piece) {
+            self.feed_front_event(kind, &[], out);
+            return 2;
+        }
+        self.feed_event(piece, values, out)
+    }
+
+    /// An event that stands whole at the front of a piece, between sequences. It is compiled in the place of each call,
+    /// so that what is known of its kind costs no dispatch.
+    #[inline(always)]
+    fn feed_front_event(&mut self, kind: EventKind, values: &[u16], out: &mut Vec<u8>)
+        requires event { IsEvent (event_of kind values.now) }
+        requires room { vec_len out.old + 10 ≤ vec_capacity out.old }
+        requires between { self.old.held ≡ Nothing }
+        ensures state { (piece : List ℕ) (bytes : ℕ) → IsFront piece bytes (event_of kind values.now)
+            → self.new ≡ (play self.old (take bytes piece)).state }
+        ensures reports { (piece : List ℕ) (bytes : ℕ) → IsFront piece bytes (event_of kind values.now)
+            → out.new.items ≡ out.old.items ++ (play self.old (take bytes piece)).reports }
+        ensures bounded { vec_len out.new ≤ vec_len out.old + 10 }
+        ensures capacity { vec_capacity out.old ≤ vec_capacity out.new }
+    {
+        self.display.report(kind, values, out);
+        self.display.carry_out(kind, values);
+    }
+
+    /// Plays the graphic bytes at the front of a piece, between sequences: a run of them where they may be written at
+    /// once, else the first. Answers how many bytes that is.
+    fn feed_graphics(&mut self, piece: &[u8]) -> usize
+        requires some { 1 ≤ length piece.now }
+        requires graphic { HasGlyph (slice_index piece.now 0) }
+        requires between { self.old.held ≡ Nothing }
+        ensures some { 1 ≤ result }
+        ensures within { result ≤ length piece.now }
+        ensures state { self.new ≡ (play self.old (take result piece.now)).state }
+        ensures reports { (play self.old (take result piece.now)).reports ≡ [] }
+    {
+        if !self.display.writes_over() {
+            self.feed_graphic(piece[0]);
+            return 1;
+        }
+        if self.display.sets.reads_ascii() {
+            let run = plain_run(piece);
+            if run >= LONG_RUN || (run > 0 && !right_half_at(piece, run)) {
+                self.feed_run(&piece[..run]);
+                return run;
+            }
+        }
+        let run = graphic_run(piece);
+        self.feed_in_use(&piece[..run]);
+        run
+    }
+
+    /// A graphic byte, between sequences.
+    fn feed_graphic(&mut self, byte: u8)
+        requires graphic { IsGraphic byte }
+        requires between { self.old.held ≡ Nothing }
+        ensures state { self.new ≡ (play self.old (byte ∷ [])).state }
+        ensures reports { (play self.old (byte ∷ [])).reports ≡ [] }
+    {
+        one_split();
+        spelled();
+        self.display.print(byte);
+    }
+
+    /// Plays CR at the front of a piece, and LF where it follows. Answers how many bytes that is.
+    #[inline(always)]
+    fn feed_carriage_return(&mut self, piece: &[u8]) -> usize
+        requires some { 1 ≤ length piece.now }
+        requires carriage_return { slice_index piece.now 0 ≡ 0x0D }
+        requires between { self.old.held ≡ Nothing }
+        ensures some { 1 ≤ result }
+        ensures within { result ≤ length piece.now }
+        ensures state { self.new ≡ (play self.old (take result piece.now)).state }
+        ensures reports { (play self.old (take result piece.now)).reports ≡ [] }
+    {
+        self.feed_control(piece[0]);
+        if piece.len() < 2 || piece[1] != 0x0A {
+            return 1;
+        }
+        cuts();
+        self.feed_control(piece[1]);
+        2
+    }
+
+    /// A C0 control that changes the display, between sequences.
+    #[inline(always)]
+    fn feed_control(&mut self, byte: u8)
+        requires control { (0x08 ≤ byte) × (byte ≤ 0x0D) }
+        requires between { self.old.held ≡ Nothing }
+        ensures between { self.new.held ≡ Nothing }
+        ensures state { self.new ≡ (play self.old (byte ∷ [])).state }
+        ensures reports { (play self.old (byte ∷ [])).reports ≡ [] }
+    {
+        one_split();
+        spelled();
+        self.display.control(byte);
+    }
+
+    /// Plays the front of a piece that isn't empty as far as the first event, and answers how many bytes that is.
+    #[inline(never)]
+    fn feed_event(&mut self, piece: &[u8], values: &mut Values, out: &mut Vec<u8>) -> usize
+        requires some { 1 ≤ length piece.now }
+        requires room { vec_len out.old + 10 ≤ vec_capacity out.old }
+        ensures some { 1 ≤ result }
+        ensures within { result ≤ length piece.now }
+        ensures state { self.new ≡ (play self.old (take result piece.now)).state }
+        ensures reports { out.new.items ≡ out.old.items ++ (play self.old (take result piece.now)).reports }
+        ensures bounded { vec_len out.new ≤ vec_len out.old + 10 }
+        ensures capacity { vec_capacity out.old ≤ vec_capacity out.new }
+    {
+        let Taken { bytes, event } = self.parser.next(piece, values);
+        if let Some(kind) = event {
+            self.display.report(kind, values.as_slice(), out);
+            self.display.carry_out(kind, values.as_slice());
+        }
+        bytes
+    }
+
+    /// A run of plain bytes.
+    fn feed_run(&mut self, run: &[u8])
+        requires plain { All IsPlain run.now }
+        requires some { 1 ≤ length run.now }
+        requires between { self.old.held ≡ Nothing }
+        requires writes { WritesAscii self.old.display }
+        ensures state { self.new ≡ (play self.old run.now).state }
+        ensures reports { (play self.old run.now).reports ≡ [] }
+    {
+        one_split();
+        spelled();
+        self.display.write_run(run);
+    }
+
+    /// A run of graphic bytes, where the sets in GL and GR are read.
+    fn feed_in_use(&mut self, run: &[u8])
+        requires graphic { All HasGlyph run.now }
+        requires some { 1 ≤ length run.now }
+        requires between { self.old.held ≡ Nothing }
+        requires writes { (self.old.display.sets.pending ≡ None) × (self.old.display.modes.irm ≡ false) }
+        ensures state { self.new ≡ (play self.old run.now).state }
+        ensures reports { (play self.old run.now).reports ≡ [] }
+    {
+        one_split();
+        spelled();
+        in_use();
+        self.display.write_graphics(run);
+    }
+}

@@ -14,3 +14,4 @@ mod runs;
 mod scarce;
 mod status;
 mod vectors;
+mod views;

@@ -15,7 +15,7 @@ pub(super) fn words_of(alloc: Global, line: &str) -> Result<Vec<String>, AllocEr
 /// A line of words, and what it asks for: the kind, piece, limit and file.
 type Taken = (&'static str, What, usize, u64, Option<&'static str>);
 
-const TAKEN: [Taken; 12] = [
+const TAKEN: [Taken; 14] = [
     // the defaults
     ("vt220 text", What::Text, 4096, 268435456, None),
     ("vt220 reports", What::Reports, 4096, 268435456, None),
@@ -25,6 +25,14 @@ const TAKEN: [Taken; 12] = [
         4096,
         268435456,
         Some("a.bin"),
+    ),
+    ("vt220 show", What::Show, 4096, 268435456, None),
+    (
+        "vt220 picture top.bin",
+        What::Picture,
+        4096,
+        268435456,
+        Some("top.bin"),
     ),
     // the least and the greatest numbers
     (

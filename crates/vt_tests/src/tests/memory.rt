@@ -4,10 +4,11 @@ ghost use Rattle.std.specs.Prelude.{◌+◌, ◌≤◌, vec_len, vec_capacity};
 use super::command_line::words_of;
 use super::common::{LIMIT, Played, replayed};
 use super::scarce::{BLOCKS, Scarce};
-use std::alloc::Global;
+use std::alloc::{AllocError, Global};
 use std::process::Abort;
 use std::test::Fail;
 use vt_paint::{PAINT_LIMIT, PaintError, repaint, repaint_reserved};
+use vt_picture::{PICTURE_LIMIT, SHOW_LIMIT, picture, picture_reserved, show, show_reserved};
 use vt_replay::{Fault, Watched, What, run, settings};
 use vt_term::{TEXT_LIMIT, Terminal};
 use vt_vectors::{Mismatch, Vector, check, vector, vector_count};
@@ -71,17 +72,26 @@ fn feed_is_refused(rt: &impl Abort, alloc: Global, input: &[u8]) -> Result<(), F
     Ok(())
 }
 
-/// Asserts the same of a text.
-fn text_is_refused(rt: &impl Abort, alloc: Global, input: &[u8]) -> Result<(), Fail> {
+/// Appends the picture, the text with its attributes or, for all else, the plain text.
+fn append_view(terminal: &Terminal, what: What, out: &mut Vec<u8>) -> Result<(), AllocError> {
+    match what {
+        What::Picture => picture(terminal, out),
+        What::Show => show(terminal, out),
+        _ => terminal.text(out),
+    }
+}
+
+/// Asserts the same of a text, a text with its attributes or a picture.
+fn view_is_refused(rt: &impl Abort, alloc: Global, input: &[u8], what: What) -> Result<(), Fail> {
     let played = Played::of(alloc, &[input])?;
     let mut expected = Vec::from_slice(alloc, b"ok")?;
-    played.terminal.text(&mut expected)?;
+    append_view(&played.terminal, what, &mut expected)?;
     let mut out = Vec::from_slice(alloc, b"ok")?;
     let mut scarce = Scarce::new(alloc)?;
     let mut refused = 0u32;
     let mut changed = 0u32;
     for _ in 0..BLOCKS {
-        if played.terminal.text(&mut out).is_ok() {
+        if append_view(&played.terminal, what, &mut out).is_ok() {
             break;
         }
         refused = refused.saturating_add(1);
@@ -127,10 +137,12 @@ fn repaint_is_refused(rt: &impl Abort, alloc: Global, input: &[u8]) -> Result<()
 }
 
 #[test]
-fn each_growth_of_feed_text_and_repaint_is_refused(rt: HostRuntime) -> Result<(), Fail> {
+fn each_growth_of_feed_text_picture_and_repaint_is_refused(rt: HostRuntime) -> Result<(), Fail> {
     for input in INPUTS {
         feed_is_refused(&rt, rt.alloc(), input)?;
-        text_is_refused(&rt, rt.alloc(), input)?;
+        for what in [What::Text, What::Show] {
+            view_is_refused(&rt, rt.alloc(), input, what)?;
+        }
         repaint_is_refused(&rt, rt.alloc(), input)?;
     }
     Ok(())
@@ -139,16 +151,18 @@ fn each_growth_of_feed_text_and_repaint_is_refused(rt: HostRuntime) -> Result<()
 /// The longest input of these tests.
 const LONGEST: usize = 100;
 
-/// Appends the reports of an input, the text and the repaint by the calls that can't be refused. False where the input is too
+/// Appends the reports of an input, the texts, the picture and the repaint by the calls that can't be refused. False where the input is too
 /// long or ends inside a sequence.
 fn append_reserved(terminal: &mut Terminal, input: &[u8], out: &mut Vec<u8>) -> bool
-    requires { vec_len out.old + (1000 + TEXT_LIMIT + PAINT_LIMIT) ≤ vec_capacity out.old }
+    requires { vec_len out.old + (1000 + TEXT_LIMIT + SHOW_LIMIT + PICTURE_LIMIT + PAINT_LIMIT) ≤ vec_capacity out.old }
 {
     if input.len() > LONGEST {
         return false;
     }
     terminal.feed_reserved(input, out);
     terminal.text_reserved(out);
+    show_reserved(terminal, out);
+    picture_reserved(terminal, out);
     if !terminal.is_between() {
         return false;
     }
@@ -160,6 +174,8 @@ fn append_reserved(terminal: &mut Terminal, input: &[u8], out: &mut Vec<u8>) -> 
 fn append(terminal: &mut Terminal, input: &[u8], out: &mut Vec<u8>) -> bool {
     terminal.feed(input, out).is_ok()
         && terminal.text(out).is_ok()
+        && show(terminal, out).is_ok()
+        && picture(terminal, out).is_ok()
         && repaint(terminal, out).is_ok()
 }
 
@@ -174,7 +190,10 @@ fn appends_in_room(
     let mut amply = Terminal::new(alloc)?;
     assert!(rt; append(&mut amply, input, &mut expected));
     let mut terminal = Terminal::new(alloc)?;
-    let mut out = Vec::with_capacity(alloc, 2000 + TEXT_LIMIT + PAINT_LIMIT)?;
+    let mut out = Vec::with_capacity(
+        alloc,
+        2000 + TEXT_LIMIT + SHOW_LIMIT + PICTURE_LIMIT + PAINT_LIMIT,
+    )?;
     out.extend_from_slice(b"ok")?;
     let capacity = out.capacity();
     let scarce = Scarce::new(alloc)?;
@@ -226,7 +245,13 @@ fn run_is_refused(rt: &impl Abort, alloc: Global, input: &[u8], what: What) -> R
 
 #[test]
 fn each_growth_of_run_is_refused(rt: HostRuntime) -> Result<(), Fail> {
-    for what in [What::Text, What::Reports, What::Repaint, What::Status] {
+    for what in [
+        What::Text,
+        What::Reports,
+        What::Repaint,
+        What::Status,
+        What::Show,
+    ] {
         for input in INPUTS {
             run_is_refused(&rt, rt.alloc(), input, what)?;
         }

@@ -1,0 +1,184 @@
+//! The screen for the eye, against what was written by hand: as text with its attributes, and as a picture.
+use super::common::{Played, replayed};
+use std::alloc::{AllocError, Global};
+use std::process::Abort;
+use std::test::Fail;
+use vt_picture::{picture, show};
+use vt_replay::What;
+
+/// Appends so many LF.
+fn push_line_feeds(count: usize, out: &mut Vec<u8>) -> Result<(), AllocError> {
+    for _ in 0..count {
+        out.push(b'\n')?;
+    }
+    Ok(())
+}
+
+/// An input, how many empty lines are shown first, the line after them, and how many empty lines follow.
+const SHOWN: [(&[u8], usize, &str, usize); 7] = [
+    (b"", 0, "\n", 23),
+    (
+        b"A\x1b[1mB\x1b[4;5;7mC\x1b[0m D",
+        0,
+        "A\x1b[0;1mB\x1b[0;1;4;5;7mC\x1b[0m D\n",
+        23,
+    ),
+    // spaces with an attribute are shown, plain ones at the end aren't, protected or not
+    (b"\x1b[7m  \x1b[0m  ", 0, "\x1b[0;7m  \x1b[0m\n", 23),
+    (b"x\x1b[1\"q \x1b[0\"q", 0, "x\n", 23),
+    // a row ends plain, also where the one below goes on as it ended
+    (
+        b"\x1b[1;80H\x1b[4mab\x1b[0m",
+        0,
+        "                                                                               \x1b[0;4ma\x1b[0m\n\x1b[0;4mb\x1b[0m\n",
+        22,
+    ),
+    // the same attributes are said once, protection isn't said
+    (
+        b"\r\n\x1b[5ma\x1b[1\"qb\x1b[5mc\x1b[m",
+        1,
+        "\x1b[0;5mabc\x1b[0m\n",
+        22,
+    ),
+    // line drawing, and letters of the supplemental set
+    (
+        b"\x1b[24;1H\x1b(0lq\x1b[1mk\x1b(B\xE9",
+        23,
+        "┌─\x1b[0;1m┐é\x1b[0m\n",
+        0,
+    ),
+];
+
+#[test]
+fn rows_are_shown_with_their_attributes(rt: HostRuntime) -> Result<(), Fail> {
+    for (input, before, line, after) in SHOWN {
+        let mut expected = Vec::new(rt.alloc());
+        push_line_feeds(before, &mut expected)?;
+        expected.extend_from_slice(line.as_bytes())?;
+        push_line_feeds(after, &mut expected)?;
+        let played = Played::of(rt.alloc(), &[input])?;
+        let mut out = Vec::new(rt.alloc());
+        show(&played.terminal, &mut out)?;
+        assert_eq!(rt; out.as_slice(), expected.as_slice());
+        is_replayed(&rt, rt.alloc(), input, What::Show, expected.as_slice())?;
+    }
+    Ok(())
+}
+
+/// Asserts that a replay writes this, in pieces of whatever size.
+fn is_replayed(
+    rt: &impl Abort,
+    alloc: Global,
+    input: &[u8],
+    what: What,
+    expected: &[u8],
+) -> Result<(), Fail> {
+    let whole = replayed(rt, alloc, input, what, 4096)?;
+    assert_eq!(rt; whole.as_slice(), expected);
+    let by_bytes = replayed(rt, alloc, input, what, 1)?;
+    assert_eq!(rt; by_bytes.as_slice(), expected);
+    Ok(())
+}
+
+/// The start of a picture of 80 columns.
+const START: &str =
+    "<svg xmlns='http://www.w3.org/2000/svg' viewBox='0 0 800 432' width='800' height='432' role='img' aria-labelledby='t d' xml:space='preserve'>\n<title id='t'>VT220 screen</title>\n<desc id='d'>";
+
+/// The start of a picture of 132 columns.
+const WIDE: &str =
+    "<svg xmlns='http://www.w3.org/2000/svg' viewBox='0 0 1320 432' width='1320' height='432' role='img' aria-labelledby='t d' xml:space='preserve'>\n<title id='t'>VT220 screen</title>\n<desc id='d'>";
+
+/// What stands behind the text alternative.
+const STYLE: &str =
+    "</desc>\n<style>text{font:16.6px 'DejaVu Sans Mono','Liberation Mono',Menlo,Consolas,monospace;white-space:pre}\n.b{font-weight:bold}.u{text-decoration:underline}.k{animation:k 1s steps(1) infinite}\n@keyframes k{50%{opacity:0}}.c{fill:none;stroke:#e80;stroke-width:2}\n";
+
+/// The colours, and the paper.
+const LIGHT_ON_DARK: &str =
+    ".i{fill:#d0d0d0}.p{fill:#101010}</style>\n<rect class='p' width='100%' height='100%'/>\n";
+
+/// The same under DECSCNM.
+const DARK_ON_LIGHT: &str =
+    ".i{fill:#101010}.p{fill:#d0d0d0}</style>\n<rect class='p' width='100%' height='100%'/>\n";
+
+/// An input, the start of its picture, how many empty lines its text alternative begins with, the line after them, how many empty
+/// lines follow, the colours, and the rest but for the last line.
+type Drawn = (
+    &'static [u8],
+    &'static str,
+    usize,
+    &'static str,
+    usize,
+    &'static str,
+    &'static str,
+);
+
+const DRAWN: [Drawn; 5] = [
+    (
+        b"",
+        START,
+        0,
+        "\n",
+        23,
+        LIGHT_ON_DARK,
+        "<rect class='c' x='0' y='0' width='10' height='18'/>\n",
+    ),
+    // characters that XML has other uses for, a reverse run beside a plain one, and no cursor
+    (
+        b"A<&>\x1b[1;7m b\x1b[0m\x1b[?25l",
+        START,
+        0,
+        "A&lt;&amp;&gt; b\n",
+        23,
+        LIGHT_ON_DARK,
+        "<text class='i' x='0' y='13' textLength='40' lengthAdjust='spacingAndGlyphs'>A&lt;&amp;&gt;</text>\n<rect class='i' x='40' y='0' width='20' height='18'/>\n<text class='p b' x='40' y='13' textLength='20' lengthAdjust='spacingAndGlyphs'> b</text>\n",
+    ),
+    // a plain space between two runs is left out; a row that ends in column 80
+    (
+        b"a b\x1b[2;80HXY",
+        START,
+        0,
+        "a b\n                                                                               X\nY\n",
+        21,
+        LIGHT_ON_DARK,
+        "<text class='i' x='0' y='13' textLength='10' lengthAdjust='spacingAndGlyphs'>a</text>\n<text class='i' x='20' y='13' textLength='10' lengthAdjust='spacingAndGlyphs'>b</text>\n<text class='i' x='790' y='31' textLength='10' lengthAdjust='spacingAndGlyphs'>X</text>\n<text class='i' x='0' y='49' textLength='10' lengthAdjust='spacingAndGlyphs'>Y</text>\n<rect class='c' x='10' y='36' width='10' height='18'/>\n",
+    ),
+    // 132 columns, reverse screen, line drawing, underlined and blinking, a reverse space, the cursor in the last column
+    (
+        b"\x1b[?3h\x1b[?5h\x1b[24;1H\x1b(0\x1b[4;5mlq\x1b[m \x1b[7m \x1b[0mk\x1b[2;132H",
+        WIDE,
+        23,
+        "┌─  ┐\n",
+        0,
+        DARK_ON_LIGHT,
+        "<text class='i u k' x='0' y='427' textLength='20' lengthAdjust='spacingAndGlyphs'>┌─</text>\n<rect class='i' x='30' y='414' width='10' height='18'/>\n<text class='p' x='30' y='427' textLength='10' lengthAdjust='spacingAndGlyphs'> </text>\n<text class='i' x='40' y='427' textLength='10' lengthAdjust='spacingAndGlyphs'>┐</text>\n<rect class='c' x='1310' y='18' width='10' height='18'/>\n",
+    ),
+    // protection makes no run of its own
+    (
+        b"a\x1b[1\"qb\x1b[0\"qc\x1b[?25l",
+        START,
+        0,
+        "abc\n",
+        23,
+        LIGHT_ON_DARK,
+        "<text class='i' x='0' y='13' textLength='30' lengthAdjust='spacingAndGlyphs'>abc</text>\n",
+    ),
+];
+
+#[test]
+fn pictures_are_those_written_by_hand(rt: HostRuntime) -> Result<(), Fail> {
+    for (input, start, before, line, after, colours, cells) in DRAWN {
+        let mut expected = Vec::from_slice(rt.alloc(), start.as_bytes())?;
+        push_line_feeds(before, &mut expected)?;
+        expected.extend_from_slice(line.as_bytes())?;
+        push_line_feeds(after, &mut expected)?;
+        for part in [STYLE, colours, cells, "</svg>\n"] {
+            expected.extend_from_slice(part.as_bytes())?;
+        }
+        let played = Played::of(rt.alloc(), &[input])?;
+        let mut out = Vec::new(rt.alloc());
+        picture(&played.terminal, &mut out)?;
+        assert_eq!(rt; out.as_slice(), expected.as_slice());
+        is_replayed(&rt, rt.alloc(), input, What::Picture, expected.as_slice())?;
+    }
+    Ok(())
+}

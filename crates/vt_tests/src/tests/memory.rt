@@ -137,7 +137,7 @@ fn repaint_is_refused(rt: &impl Abort, alloc: Global, input: &[u8]) -> Result<()
 }
 
 #[test]
-fn each_growth_of_feed_text_picture_and_repaint_is_refused(rt: HostRuntime) -> Result<(), Fail> {
+fn each_growth_of_feed_text_show_and_repaint_is_refused(rt: HostRuntime) -> Result<(), Fail> {
     for input in INPUTS {
         feed_is_refused(&rt, rt.alloc(), input)?;
         for what in [What::Text, What::Show] {

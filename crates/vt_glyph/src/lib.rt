@@ -11,8 +11,6 @@ mod in_use;
 pub mod laws;
 mod set;
 mod sets;
-#[cfg(test)]
-mod tests;
 
 pub use glyph::{Glyph, Spelling};
 pub use in_use::InUse;

@@ -7,8 +7,6 @@ mod fault;
 mod format;
 mod script;
 mod taking;
-#[cfg(test)]
-mod tests;
 mod ttyrec;
 mod watched;
 

@@ -7,8 +7,6 @@ pub mod laws;
 mod line;
 mod order;
 mod screen;
-#[cfg(test)]
-mod tests;
 
 pub use cell::{Brush, Cell, Rendition};
 pub use order::{COLUMNS, ROWS};

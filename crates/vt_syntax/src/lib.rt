@@ -24,6 +24,3 @@ pub use held::{Held, Inters, Phase};
 pub use parser::Parser;
 pub use plain::plain_run;
 pub use values::Values;
-
-#[cfg(test)]
-mod tests;

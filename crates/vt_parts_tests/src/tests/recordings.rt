@@ -1,8 +1,8 @@
 //! Recordings written by hand, with the content that they have, and runs from end to end.
-use crate::{Fault, Format, Watched, run, take_apart};
 use std::alloc::Global;
 use std::process::Abort;
 use std::test::Fail;
+use vt_recording::{Fault, Format, Watched, run, take_apart};
 
 const ALL: Format = Format::Ttyrec { until: None };
 

@@ -1,8 +1,8 @@
 //! Worked rows, and every glyph.
-use super::{Glyph, Set, Sets, Spelling};
 use std::alloc::{AllocError, Global};
 use std::process::Abort;
 use std::test::Fail;
+use vt_glyph::{Glyph, Set, Sets, Spelling};
 
 const SETS: [Set; 5] = [
     Set::Ascii,

@@ -1,10 +1,10 @@
 //! Worked rows, and the edges of the calls.
 ghost use Rattle.std.specs.Prelude.{◌≤◌};
 
-use crate::{Brush, Cell, Rendition, Screen};
 use std::mem::size_of;
 use std::test::Fail;
 use vt_glyph::{Glyph, Set, Sets};
+use vt_screen::{Brush, Cell, Rendition, Screen};
 
 /// Writes a text from a place on, where there is room for it.
 fn write(screen: &mut Screen, row: usize, column: usize, text: &[u8], like: &Cell) {

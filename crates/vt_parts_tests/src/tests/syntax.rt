@@ -1,8 +1,8 @@
 //! Rows of held parts, events and plain runs.
-use super::*;
 use arrayvec::ArrayVec;
 use std::process::Abort;
 use std::test::Fail;
+use vt_syntax::{Event, EventKind, Held, Inters, Parser, Phase, Taken, Values, plain_run};
 
 /// A new parser after these bytes, and the event that the last of them completed.
 fn parsed(bytes: &[u8]) -> (Parser, Option<Event>) {

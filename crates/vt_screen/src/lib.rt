@@ -11,5 +11,6 @@ mod screen;
 mod tests;
 
 pub use cell::{Brush, Cell, Rendition};
+pub use line::same_cells;
 pub use order::{COLUMNS, ROWS};
 pub use screen::Screen;

@@ -1,6 +1,6 @@
--- How a glyph is encoded in one byte: by its spelling. No public clause speaks of it.
+-- How a glyph is encoded in one byte: by its spelling. Of the public clauses those of `Glyph::code` alone speak of it.
 use Rattle.std.specs.Prelude.{◌≡◌, ℕ, ◌+◌, ◌-◌, List, nat_lt, if◌then◌else◌}
-use Rattle.std.proofs.Common.{arith, ap}
+use Rattle.std.proofs.Common.{arith, sym, ap, ◌∙◌}
 use Rattle.std.proofs.lemmas.Bool.Decides.{nat_tests}
 use Rattle.vt_glyph.specs.declared.set.Set.{Set}
 use Rattle.vt_glyph.specs.declared.set.Set.TheVariants.{Ascii, British, German, Special, Supplemental}
@@ -49,6 +49,10 @@ pub encoding_of-encoded_glyph : (byte : ℕ) → IsEncoding byte → encoding_of
 unfolding encoding_of
 encoding_of-encoded_glyph byte h = rw h.spelling (grind (arith, nat_tests))
 
--- the field of a `Glyph` is had back from its Unicode number
-pub fields_back : (g : Inside) → IsEncoding g.byte → record { byte = encoding_of (encoded_glyph g.byte) } ≡ g
-fields_back g h = ap (λ byte. record { byte = byte }) (encoding_of-encoded_glyph g.byte h)
+-- the fields of a `Glyph` are had back from its Unicode number
+pub fields_back : (g : Inside) → IsEncoding g.byte → g.second ≡ 0 → g.third ≡ 0
+    → record { byte = encoding_of (encoded_glyph g.byte); second = 0; third = 0 } ≡ g
+fields_back g h second third =
+    ap (λ byte. record { byte = byte; second = 0; third = 0 }) (encoding_of-encoded_glyph g.byte h)
+    ∙ ap (λ n. record { byte = g.byte; second = n; third = 0 }) (sym second)
+    ∙ ap (λ n. record { byte = g.byte; second = g.second; third = n }) (sym third)

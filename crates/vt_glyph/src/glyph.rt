@@ -1,5 +1,5 @@
 //! What a cell shows, and how it is spelled.
-ghost use Rattle.std.specs.Prelude.{◌≡◌, ◌≤◌};
+ghost use Rattle.std.specs.Prelude.{◌≡◌, ◌≤◌, ◌<◌};
 
 use std::marker::Model;
 
@@ -10,23 +10,25 @@ use std::marker::Model;
 /// shift to G3 its code less 60 (hexadecimal).
 #[derive(Clone, Copy, Debug)]
 pub struct Glyph {
-    // Below 256; two bytes wide, so that a cell of the screen takes eight and is written as one word.
-    byte: u16,
+    byte: u8,
+    // Always 0. With these two a cell of the screen is eight bytes without a gap, which are written and compared as one word.
+    second: u8,
+    third: u8,
 }
 
 impl Model for Glyph {
-    ghost use Rattle.std.specs.Prelude.{ℕ, ◌<◌};
+    ghost use Rattle.std.specs.Prelude.{◌≡◌, ℕ};
     ghost use Rattle.vt_glyph.specs.Encoding.{encoded_glyph, encoding_of, IsEncoding, fields_back};
 
     ghost Value = { ℕ };
 
     ghost view = { λ g. encoded_glyph g.byte };
 
-    ghost invariant = { λ g. (g.byte < 0x100) × IsEncoding g.byte };
+    ghost invariant = { λ g. IsEncoding g.byte × ((g.second ≡ 0) × (g.third ≡ 0)) };
 
-    ghost inverse = { λ n. record { byte = encoding_of n } };
+    ghost inverse = { λ n. record { byte = encoding_of n; second = 0; third = 0 } };
 
-    ghost inverse_ok = { λ g h. fields_back g h.1 };
+    ghost inverse_ok = { λ g h. fields_back g h.0 h.1.0 h.1.1 };
 }
 
 impl PartialEq for Glyph {
@@ -52,21 +54,21 @@ impl Eq for Glyph {
 
 impl Glyph {
     ghost use Rattle.vt_glyph.specs.Tables.{space, substitute_glyph, IsGlyph};
-    ghost use Rattle.vt_glyph.specs.Encoding.{encoded_glyph, IsEncoding};
+    ghost use Rattle.vt_glyph.specs.Encoding.{encoded_glyph, encoding_of, IsEncoding};
     ghost use Rattle.vt_glyph.specs.Spell.{spelling_of};
 
     /// The space, U+0020, which a blank cell shows.
     pub fn blank() -> Glyph
         ensures { result ≡ space }
     {
-        Glyph { byte: b' ' as u16 }
+        Glyph::encoded(b' ')
     }
 
     /// U+2426, which undefined places of Supplemental show and SUB writes. (This profile)
     pub fn substitute() -> Glyph
         ensures { result ≡ substitute_glyph }
     {
-        Glyph { byte: 0xA4 }
+        Glyph::encoded(0xA4)
     }
 
     /// The ASCII glyph of a code from 20 to 7E, the space among them.
@@ -74,15 +76,31 @@ impl Glyph {
         requires { (0x20 ≤ code) × (code ≤ 0x7E) }
         ensures { result ≡ code }
     {
-        Glyph { byte: code as u16 }
+        Glyph::encoded(code)
     }
 
     /// The glyph that this byte encodes.
+    #[inline(always)]
     pub(crate) fn encoded(byte: u8) -> Glyph
         requires { IsEncoding byte }
         ensures { result ≡ encoded_glyph byte }
     {
-        Glyph { byte: byte as u16 }
+        Glyph {
+            byte,
+            second: 0,
+            third: 0,
+        }
+    }
+
+    /// The glyph's code, below 256: that of its spelling in ASCII; with the high bit set of a spelling by G2; less 60
+    /// (hexadecimal) of a spelling by G3. No two glyphs have one code.
+    #[inline(always)]
+    pub fn code(&self) -> u32
+        ensures value { result ≡ encoding_of self.now }
+        ensures glyph { encoded_glyph result ≡ self.now }
+        ensures bound { result < 0x100 }
+    {
+        self.byte as u32 + 0x100 * self.second as u32 + 0x1_0000 * self.third as u32
     }
 
     /// The character with the glyph's Unicode number. (VT220 manual, chapter 2; the numbers of Special
@@ -99,7 +117,7 @@ impl Glyph {
     pub fn spelling(self) -> Spelling
         ensures { result ≡ spelling_of self }
     {
-        let byte = self.byte as u8;
+        let byte = self.byte;
         match byte {
             0x00..=0x1F => Spelling::Third(byte + 0x60),
             0x20..=0x7F => Spelling::Plain(byte),

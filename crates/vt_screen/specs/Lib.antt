@@ -1,3 +1,4 @@
 pub mod Cells
 pub mod Grid
 pub mod Order
+pub mod Words

@@ -9,5 +9,6 @@ mod order;
 mod screen;
 
 pub use cell::{Brush, Cell, Rendition};
+pub use line::same_cells;
 pub use order::{COLUMNS, ROWS};
 pub use screen::Screen;

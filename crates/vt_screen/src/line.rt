@@ -1,6 +1,8 @@
 //! Edits of the cells of one row. A line counts its cells from 0.
 ghost use Rattle.std.specs.Prelude.{◌≡◌, ℕ, ◌+◌, ◌-◌, ◌<◌, ◌≤◌, ◌↔◌, IsTrue, length, slice_index, slice_index_or, All};
 ghost use Rattle.vt_screen.specs.Cells.{blank, erased, selectively_erased, cell_like};
+ghost use Rattle.vt_screen.specs.Words.{cell_word};
+ghost use Rattle.vt_glyph.specs.Encoding.{encoded_glyph, encoding_of};
 ghost use Rattle.vt_glyph.specs.Invocation.{HasGlyph, glyph_in_use};
 
 use crate::cell::Cell;
@@ -152,9 +154,62 @@ pub fn write_graphics(cells: &mut [Cell], bytes: &[u8], table: &InUse, like: Cel
     }
 }
 
-/// Whether two rows have the same cells.
+/// A cell as one number, a byte of it for each byte of the cell, so that it is read as one word. (Each field is read from
+/// the cell itself. Of copies of its parts the compiler makes vectors.)
+#[inline(always)]
+fn word_of(cell: &Cell) -> u64
+    ensures word { result ≡ cell_word cell.now }
+    ensures glyph { encoded_glyph (encoding_of cell.now.glyph) ≡ cell.now.glyph }
+    ensures bound { encoding_of cell.now.glyph < 0x100 }
+{
+    cell.glyph.code() as u64
+        + 0x100_0000 * cell.rendition.bold as u64
+        + 0x1_0000_0000 * cell.rendition.underline as u64
+        + 0x100_0000_0000 * cell.rendition.blink as u64
+        + 0x1_0000_0000_0000 * cell.rendition.reverse as u64
+        + 0x100_0000_0000_0000 * cell.protected as u64
+}
+
+/// Whether two cells are the same, compared as words.
+#[inline(always)]
+fn same_cell(a: &Cell, b: &Cell) -> bool
+    ensures { IsTrue result ↔ (a.now ≡ b.now) }
+{
+    word_of(a) == word_of(b)
+}
+
+/// Whether the four cells from a place on are the same in both rows.
+#[inline(always)]
+fn same_four(a: &[Cell], b: &[Cell], at: usize) -> bool
+    requires a { at + 4 ≤ length a.now }
+    requires b { at + 4 ≤ length b.now }
+    ensures { IsTrue result ↔ ((k : ℕ) → at ≤ k → k < at + 4 → slice_index_or a.now k blank ≡ slice_index_or b.now k blank) }
+{
+    same_cell(&a[at], &b[at])
+        && same_cell(&a[at + 1], &b[at + 1])
+        && same_cell(&a[at + 2], &b[at + 2])
+        && same_cell(&a[at + 3], &b[at + 3])
+}
+
+/// Whether two rows have the same cells: as many, and each the same. (Four cells are compared at a time, each as one word.)
 pub fn same_cells(a: &[Cell], b: &[Cell]) -> bool
     ensures { IsTrue result ↔ (a.now ≡ b.now) }
 {
-    a == b
+    if a.len() != b.len() {
+        return false;
+    }
+    let mut at = 0;
+    while at + 4 <= a.len() {
+        if !same_four(a, b, at) {
+            return false;
+        }
+        at += 4;
+    }
+    while at < a.len() {
+        if !same_cell(&a[at], &b[at]) {
+            return false;
+        }
+        at += 1;
+    }
+    true
 }

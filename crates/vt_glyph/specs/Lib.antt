@@ -5,3 +5,4 @@ pub mod GraphicSets
 pub mod Invocation
 pub mod Spell
 pub mod Encoding
+pub mod Laws

@@ -1,65 +1,36 @@
 //! Laws of the definitions that contracts cite. A law is a function with an empty body, which a proof
 //! cites by calling it.
-ghost use Rattle.std.specs.Prelude.{◌≡◌, ℕ, ◌+◌, ◌*◌, ◌-◌, ◌≤◌, List, [], ◌∷◌, ◌++◌, length, slice_index_or, Bool, true, false, ◌||◌, IsTrue, Contains};
+ghost use Rattle.std.specs.Prelude.{ℕ, List, Bool, IsTrue, Contains};
 ghost use Rattle.vt_glyph.specs.Tables.{space};
 ghost use Rattle.vt_screen.specs.declared.cell.Cell.{Cell};
 ghost use Rattle.vt_screen.specs.Cells.{blank, cell_like};
-ghost use Rattle.vt_screen.specs.Grid.{Grid, IsGrid, AllCells, last_row, grid_of, cell_at, row_of, put, put_inserting, put_run, insert_cells, delete_cells, erase_area, scroll_up, scroll_down, fill, blank_grid};
+ghost use Rattle.vt_screen.specs.Grid.{Grid, AllCells, put, put_inserting, put_run, insert_cells, delete_cells, erase_area, scroll_up, scroll_down, fill};
+ghost use Rattle.vt_screen.specs.Laws.{PlaceLaws, RowLaws, RunLaws, AreaLaws, TestLaws};
 
 /// What a formula's grid has at a place, and when two grids are equal.
 pub fn places()
-    // The cell at a place is what the formula gives there,
-    ensures cell_at { (w : ℕ) (f : ℕ → ℕ → Cell) (r c : ℕ) → 1 ≤ r → r ≤ last_row → 1 ≤ c → c ≤ w
-        → cell_at (grid_of w f) r c ≡ f r c }
-    // and formulas that agree at every place make one grid.
-    ensures same_formulas { (w : ℕ) (f g : ℕ → ℕ → Cell)
-        → ((r c : ℕ) → 1 ≤ r → r ≤ last_row → 1 ≤ c → c ≤ w → f r c ≡ g r c) → grid_of w f ≡ grid_of w g }
-    // A grid is the one that its own cells make,
-    ensures own_cells { (g : Grid) → IsGrid g → grid_of g.width (cell_at g) ≡ g }
-    // and grids of one width with the same cell at every place are equal.
-    ensures same_grids { (g h : Grid) → IsGrid g → IsGrid h → g.width ≡ h.width
-        → ((r c : ℕ) → 1 ≤ r → r ≤ last_row → 1 ≤ c → c ≤ g.width → cell_at g r c ≡ cell_at h r c) → g ≡ h }
-    // A formula's grid has a cell for each place, and a map of a grid is a grid.
-    ensures len { (w : ℕ) (f : ℕ → ℕ → Cell) → length (grid_of w f).cells ≡ last_row * w }
-    ensures blank { (wide : Bool) → IsGrid (blank_grid wide) }
-    ensures map { (g : Grid) (f : ℕ → ℕ → Cell) → IsGrid g → IsGrid (grid_of g.width f) }
+    ensures { PlaceLaws }
 {}
 
 /// A row has the cells of its columns, in order.
 pub fn rows()
-    ensures len { (g : Grid) (r : ℕ) → length (row_of g r) ≡ g.width }
-    ensures cell { (g : Grid) (r c : ℕ) (d : Cell) → 1 ≤ c → c ≤ g.width
-        → slice_index_or (row_of g r) (c - 1) d ≡ cell_at g r c }
+    ensures { RowLaws }
 {}
 
 /// A run of glyphs is written as its glyphs are, one after another.
 pub fn runs()
-    ensures none { (g : Grid) (row col : ℕ) (like : Cell) → IsGrid g → put_run g row col [] like ≡ g }
-    ensures one { (g : Grid) (row col glyph : ℕ) (like : Cell)
-        → put_run g row col (glyph ∷ []) like ≡ put g row col (cell_like like glyph) }
-    ensures append { (g : Grid) (row col : ℕ) (a b : List ℕ) (like : Cell)
-        → put_run g row col (a ++ b) like ≡ put_run (put_run g row col a like) row (col + length a) b like }
+    ensures { RunLaws }
 {}
 
 /// Areas that are erased in turn are erased at once.
 pub fn areas()
-    ensures none { (g : Grid) (selective : Bool) → IsGrid g → erase_area g (λ r c. false) selective ≡ g }
-    ensures all { (g : Grid) → erase_area g (λ r c. true) false ≡ fill g blank }
-    ensures both { (g : Grid) (a b : ℕ → ℕ → Bool) (selective : Bool)
-        → erase_area (erase_area g a selective) b selective ≡ erase_area g (λ r c. a r c || b r c) selective }
-    // Areas of the same places are one area.
-    ensures same { (g : Grid) (a b : ℕ → ℕ → Bool) (selective : Bool)
-        → ((r c : ℕ) → 1 ≤ r → r ≤ last_row → 1 ≤ c → c ≤ g.width → a r c ≡ b r c)
-        → erase_area g a selective ≡ erase_area g b selective }
+    ensures { AreaLaws }
 {}
 
 /// A test that a blank cell and each cell of a grid pass is passed at every place. A formula's grid
 /// passes a test that the formula passes at every place.
 pub fn tests()
-    ensures at { (test : Cell → Bool) (g : Grid) (r c : ℕ) → IsTrue (test blank) → AllCells test g
-        → IsTrue (test (cell_at g r c)) }
-    ensures formula { (test : Cell → Bool) (w : ℕ) (f : ℕ → ℕ → Cell)
-        → ((r c : ℕ) → 1 ≤ r → r ≤ last_row → 1 ≤ c → c ≤ w → IsTrue (test (f r c))) → AllCells test (grid_of w f) }
+    ensures { TestLaws }
 {}
 
 /// A test that a blank cell and each cell of a grid pass is passed by each cell of a map of it, if

@@ -2,6 +2,7 @@
 use Rattle.std.proofs.Common.{◌≡◌, ℕ, ◌+◌, ◌≤◌, Bool, false, ap, ◌∙◌, ◌||◌, arith}
 use Rattle.std.proofs.lemmas.Bool.Decides.{nat_tests}
 use Rattle.vt_screen.specs.Grid.{Grid, columns_of, erase_area}
+use Rattle.vt_screen.specs.Laws.{AreaLaws}
 use Rattle.vt_term.specs.declared.state.Cursor.{Cursor}
 use Rattle.vt_term.specs.Editing.{rows_between, line_area, display_area, with_grid, erase_in_line, erase_in_display}
 use Rattle.vt_term.specs.State.{Display}
@@ -36,26 +37,16 @@ display-area-1 cursor r c r1 = grind (arith, nat_tests)
 pub display-area-2 : (cursor : Cursor) (r c : ℕ) → 1 ≤ r → r ≤ 24 → rows_between 1 25 r c ≡ display_area 2 cursor r c
 display-area-2 cursor r c r1 r24 = grind (arith, nat_tests)
 
--- joined areas erased in turn
-abbrev pub BothAreas : Type 0
-BothAreas = (g : Grid) (a b : ℕ → ℕ → Bool) (selective : Bool)
-    → erase_area (erase_area g a selective) b selective ≡ erase_area g (λ r c. a r c || b r c) selective
-
--- areas of the same places
-abbrev pub SameAreas : Type 0
-SameAreas = (g : Grid) (a b : ℕ → ℕ → Bool) (selective : Bool)
-    → ((r c : ℕ) → 1 ≤ r → r ≤ 24 → 1 ≤ c → c ≤ g.width → a r c ≡ b r c) → erase_area g a selective ≡ erase_area g b selective
-
 -- ED from the cursor on: the part of the line, and then the rows below
-pub erase_in_display-0 : BothAreas → SameAreas → (selective : Bool) (s : Display)
+pub erase_in_display-0 : AreaLaws → (selective : Bool) (s : Display)
     → record (erase_in_line selective 0 s) { grid = erase_area (erase_in_line selective 0 s).grid (rows_between (s.cursor.row + 1) 25) selective } ≡ erase_in_display selective 0 s
-erase_in_display-0 both same selective s =
-    ap (λ (g : Grid). with_grid g s) (both s.grid (line_area 0 s.cursor) (rows_between (s.cursor.row + 1) 25) selective
-    ∙ same s.grid _ (display_area 0 s.cursor) selective (λ r c r1 r24 c1 cw. display-area-0 s.cursor r c r24))
+erase_in_display-0 areas selective s =
+    ap (λ (g : Grid). with_grid g s) (areas.both s.grid (line_area 0 s.cursor) (rows_between (s.cursor.row + 1) 25) selective
+    ∙ areas.same s.grid _ (display_area 0 s.cursor) selective (λ r c r1 r24 c1 cw. display-area-0 s.cursor r c r24))
 
 -- ED up to the cursor: the part of the line, and then the rows above
-pub erase_in_display-1 : BothAreas → SameAreas → (selective : Bool) (s : Display)
+pub erase_in_display-1 : AreaLaws → (selective : Bool) (s : Display)
     → record (erase_in_line selective 1 s) { grid = erase_area (erase_in_line selective 1 s).grid (rows_between 1 s.cursor.row) selective } ≡ erase_in_display selective 1 s
-erase_in_display-1 both same selective s =
-    ap (λ (g : Grid). with_grid g s) (both s.grid (line_area 1 s.cursor) (rows_between 1 s.cursor.row) selective
-    ∙ same s.grid _ (display_area 1 s.cursor) selective (λ r c r1 r24 c1 cw. display-area-1 s.cursor r c r1))
+erase_in_display-1 areas selective s =
+    ap (λ (g : Grid). with_grid g s) (areas.both s.grid (line_area 1 s.cursor) (rows_between 1 s.cursor.row) selective
+    ∙ areas.same s.grid _ (display_area 1 s.cursor) selective (λ r c r1 r24 c1 cw. display-area-1 s.cursor r c r1))

@@ -9,20 +9,14 @@ use Rattle.vt_syntax.specs.declared.event.Event.{Event}
 use Rattle.vt_syntax.specs.declared.event.Event.TheVariants.{Print}
 use Rattle.vt_glyph.specs.Tables.{space}
 use Rattle.vt_screen.specs.declared.cell.Cell.{Cell}
-use Rattle.vt_screen.specs.Cells.{cell_of, cell_like}
+use Rattle.vt_screen.specs.Cells.{cell_of}
 use Rattle.vt_screen.specs.Grid.{Grid, put, put_run}
+use Rattle.vt_screen.specs.Laws.{RunLaws}
 use Rattle.vt_term.specs.declared.state.Cursor.{Cursor}
 use Rattle.vt_term.specs.State.{Display, last_column, at_place}
 use Rattle.vt_term.specs.Writing.{print, write_glyph, put_glyph, wrapped, advanced}
 use Rattle.vt_term.specs.Runs.{WritesOver, advanced_by, with_run}
 use Rattle.vt_term.specs.Play.{after_events}
-
--- the laws of the grid that this rests on
-abbrev pub RunOfOne : Type 0
-RunOfOne = (g : Grid) (row col glyph : ℕ) (like : Cell) → put_run g row col (glyph ∷ []) like ≡ put g row col (cell_like like glyph)
-
-abbrev pub RunOfMore : Type 0
-RunOfMore = (g : Grid) (row col : ℕ) (a b : List ℕ) (like : Cell) → put_run g row col (a ++ b) like ≡ put_run (put_run g row col a like) row (col + length a) b like
 
 -- below, bytes of one kind are written, each as its glyph
 
@@ -53,29 +47,29 @@ advanced-near s near =
     let test : nat_lt s.cursor.col (last_column s) ≡ true = grind (arith, nat_tests) in
     rw test refl
 
-pub prints-run : RunOfOne → RunOfMore → (Kind : ℕ → Type 0) (glyph : ℕ → ℕ) (bytes : List ℕ) (s : Display) → WritesOver Kind glyph s → All Kind bytes → s.cursor.wrap ≡ false
+pub prints-run : RunLaws → (Kind : ℕ → Type 0) (glyph : ℕ → ℕ) (bytes : List ℕ) (s : Display) → WritesOver Kind glyph s → All Kind bytes → s.cursor.wrap ≡ false
     → 1 ≤ length bytes → s.cursor.col + length bytes ≤ last_column s + 1 → after_events (map Print bytes) s ≡ with_run (map glyph bytes) s
-prints-run one more Kind glyph [] s writes all off some room = absurd (omega arith)
-prints-run one more Kind glyph (b ∷ []) s writes all off some room =
+prints-run runs Kind glyph [] s writes all off some room = absurd (omega arith)
+prints-run runs Kind glyph (b ∷ []) s writes all off some room =
     let is = all 0 0 (omega arith) in
     print-step Kind glyph s b writes is off
     ∙ ap (λ (g : Grid). record s { grid = g; cursor = advanced s })
-    (sym (one s.grid s.cursor.row s.cursor.col (glyph b) (cell_of space s.brush)))
+    (sym (runs.one s.grid s.cursor.row s.cursor.col (glyph b) (cell_of space s.brush)))
     ∙ ap (λ (c : Cursor). record s { grid = put_run s.grid s.cursor.row s.cursor.col (glyph b ∷ []) (cell_of space s.brush); cursor = c }) (advanced-one s (omega arith))
-prints-run one more Kind glyph (b ∷ next ∷ rest) s writes all off some room =
+prints-run runs Kind glyph (b ∷ next ∷ rest) s writes all off some room =
     let is = all 0 0 (omega arith) in
     let t : Display = record s { grid = put s.grid s.cursor.row s.cursor.col (cell_of (glyph b) s.brush); cursor = at_place s.cursor.row (s.cursor.col + 1) } in
     let first : print b s ≡ t =
     print-step Kind glyph s b writes is off
     ∙ ap (λ (c : Cursor). record s { grid = put s.grid s.cursor.row s.cursor.col (cell_of (glyph b) s.brush); cursor = c }) (advanced-near s (omega arith)) in
     let later : All Kind (next ∷ rest) = λ k d h. all (suc k) d (omega arith) in
-    let goes_on = prints-run one more Kind glyph (next ∷ rest) t (record { glyph = writes.glyph; sets = writes.sets; replaces = writes.replaces }) later refl (omega arith) (omega arith) in
+    let goes_on = prints-run runs Kind glyph (next ∷ rest) t (record { glyph = writes.glyph; sets = writes.sets; replaces = writes.replaces }) later refl (omega arith) (omega arith) in
     let count : length (map glyph rest) ≡ length rest = length-map rest glyph in
     let column : s.cursor.col + 1 + length (map glyph (next ∷ rest)) ≡ s.cursor.col + length (map glyph (b ∷ next ∷ rest)) = omega arith in
     let like : Cell = cell_of space s.brush in
     let grid : put_run t.grid s.cursor.row (s.cursor.col + 1) (map glyph (next ∷ rest)) like ≡ put_run s.grid s.cursor.row s.cursor.col (map glyph (b ∷ next ∷ rest)) like =
-    ap (λ (g : Grid). put_run g s.cursor.row (s.cursor.col + 1) (map glyph (next ∷ rest)) like) (sym (one s.grid s.cursor.row s.cursor.col (glyph b) like))
-    ∙ sym (more s.grid s.cursor.row s.cursor.col (glyph b ∷ []) (map glyph (next ∷ rest)) like) in
+    ap (λ (g : Grid). put_run g s.cursor.row (s.cursor.col + 1) (map glyph (next ∷ rest)) like) (sym (runs.one s.grid s.cursor.row s.cursor.col (glyph b) like))
+    ∙ sym (runs.append s.grid s.cursor.row s.cursor.col (glyph b ∷ []) (map glyph (next ∷ rest)) like) in
     ap (λ (u : Display). after_events (map Print (next ∷ rest)) u) first
     ∙ goes_on
     ∙ ap (λ (g : Grid). record s { grid = g; cursor = advanced_by (length (map glyph (next ∷ rest))) t }) grid
@@ -106,25 +100,25 @@ print-wrapped Kind glyph s b writes is =
     print-over Kind glyph (wrapped s) b (wrapped-writes Kind glyph s writes) is ∙ ap (λ (t : Display). put_glyph (glyph b) t) off ∙ sym (print-over Kind glyph s b writes is)
 
 -- a run that ends in its row, and that isn't empty, is written as its bytes are
-pub prints-line : RunOfOne → RunOfMore → (Kind : ℕ → Type 0) (glyph : ℕ → ℕ) (bytes : List ℕ) (s : Display) → WritesOver Kind glyph s → All Kind bytes
+pub prints-line : RunLaws → (Kind : ℕ → Type 0) (glyph : ℕ → ℕ) (bytes : List ℕ) (s : Display) → WritesOver Kind glyph s → All Kind bytes
     → 1 ≤ length bytes → (wrapped s).cursor.col + length bytes ≤ last_column (wrapped s) + 1
     → with_run (map glyph bytes) (wrapped s) ≡ after_events (map Print bytes) s
-prints-line one more Kind glyph [] s writes all some room = absurd (omega arith)
-prints-line one more Kind glyph (b ∷ bytes) s writes all some room =
+prints-line runs Kind glyph [] s writes all some room = absurd (omega arith)
+prints-line runs Kind glyph (b ∷ bytes) s writes all some room =
     let is = all 0 0 (omega arith) in
-    sym (prints-run one more Kind glyph (b ∷ bytes) (wrapped s) (wrapped-writes Kind glyph s writes) all (wrapped-off s) some room)
+    sym (prints-run runs Kind glyph (b ∷ bytes) (wrapped s) (wrapped-writes Kind glyph s writes) all (wrapped-off s) some room)
     ∙ ap (λ (t : Display). after_events (map Print bytes) t) (print-wrapped Kind glyph s b writes is)
 
 -- what was written leaves the sets and IRM
 pub with_run-writes : (Kind : ℕ → Type 0) (glyph : ℕ → ℕ) (glyphs : List ℕ) (s : Display) → WritesOver Kind glyph s → WritesOver Kind glyph (with_run glyphs s)
 with_run-writes Kind glyph glyphs s writes = record { glyph = writes.glyph; sets = writes.sets; replaces = writes.replaces }
 
--- one more line of a run
-pub line-of-run : RunOfOne → RunOfMore → (Kind : ℕ → Type 0) (glyph : ℕ → ℕ) (run : List ℕ) (at end : ℕ) (s t : Display) → All Kind run → at < end → end ≤ length run
+-- runs line of a run
+pub line-of-run : RunLaws → (Kind : ℕ → Type 0) (glyph : ℕ → ℕ) (run : List ℕ) (at end : ℕ) (s t : Display) → All Kind run → at < end → end ≤ length run
     → t ≡ after_events (map Print (take at run)) s → WritesOver Kind glyph t
     → (wrapped t).cursor.col + (end - at) ≤ last_column (wrapped t) + 1
     → with_run (map glyph (take (end - at) (drop at run))) (wrapped t) ≡ after_events (map Print (take end run)) s
-line-of-run one more Kind glyph run at end s t all below fits is writes room =
+line-of-run runs Kind glyph run at end s t all below fits is writes room =
     let line : List ℕ = take (end - at) (drop at run) in
     let long : length line ≡ end - at = rw (length-take, length-drop) (omega arith) in
     let front : take at run ++ line ≡ take end run =
@@ -134,7 +128,7 @@ line-of-run one more Kind glyph run at end s t all below fits is writes room =
     let inside : at + k < length run = omega (arith, long) in
     let here : get_or line k d ≡ get_or run (at + k) d = get_or-take (end - at) (drop at run) k d (omega (arith, long)) ∙ get_or-drop at run k d in
     rw here (all (at + k) d inside) in
-    prints-line one more Kind glyph line t writes bytes (omega (arith, long)) (rw long room)
+    prints-line runs Kind glyph line t writes bytes (omega (arith, long)) (rw long room)
     ∙ ap (λ (u : Display). after_events (map Print line) u) is
     ∙ sym (after_events-append (map Print (take at run)) (map Print line) s)
     ∙ ap (λ (es : List Event). after_events es s) (sym (map-append Print (take at run) line))

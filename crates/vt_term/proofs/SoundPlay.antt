@@ -10,6 +10,7 @@ use Rattle.vt_glyph.specs.Invocation.{glyph_read, after_read, designated, locked
 use Rattle.vt_glyph.specs.Designation.{set_of_final}
 use Rattle.vt_glyph.specs.GraphicSets.{GraphicSets, AreSoundSets}
 use Rattle.vt_glyph.specs.declared.set.Set.{Set}
+use Rattle.vt_glyph.specs.Laws.{GlyphLaws, SetsLaws}
 use Rattle.vt_term.specs.State.{Display, State}
 use Rattle.vt_term.specs.Sound.{IsSoundDisplay, IsSound}
 use Rattle.vt_term.specs.Writing.{print, printed, write_glyph}
@@ -17,20 +18,6 @@ use Rattle.vt_term.specs.Modes.{with_mode, change_modes, ansi_modes, private_mod
 use Rattle.vt_term.specs.Functions.{unchanged, control_functions, control, plain_escapes, plain_escape, space_escapes, number_escapes, escape_tables, escape_with, designate, designate_to, lock_left, lock_right, shift_once, plain_sequences, private_sequences, quote_sequences, exclamation_sequences, sequence_in, sequences_of, SequenceTable, effect, byte}
 use Rattle.vt_term.specs.Play.{play, after_events}
 use Rattle.vt_term.proofs.SoundEffects.{Keeps, backspace-keeps, horizontal_tab-keeps, line_feed-keeps, carriage_return-keeps, write_glyph-keeps, index-keeps, next_line-keeps, set_tab-keeps, reverse_index-keeps, save_cursor-keeps, restore_cursor-keeps, keypad_mode-keeps, reset_to_initial_state-keeps, report_form-keeps, screen_alignment-keeps, insert_character-keeps, cursor_up-keeps, cursor_down-keeps, cursor_forward-keeps, cursor_backward-keeps, cursor_position-keeps, erase_in_display-keeps, erase_in_line-keeps, insert_line-keeps, delete_line-keeps, delete_character-keeps, erase_character-keeps, clear_tabs-keeps, select_graphic_rendition-keeps, set_margins-keeps, column_mode-keeps, origin_mode-keeps, autowrap_mode-keeps, set_conformance_level-keeps, select_character_attribute-keeps, soft_reset-keeps}
-
--- ---- the laws of the sets that this rests on
-
--- what is read is a glyph
-abbrev pub ReadsGlyphs : Type 0
-ReadsGlyphs = (sets : GraphicSets) (b : ℕ) → IfSome (glyph_read sets b) IsGlyph
-
--- reading, designations and shifts keep the sets sound
-pub record KeepSets : Type 0 where
-  pub read : (sets : GraphicSets) (b : ℕ) → AreSoundSets sets → AreSoundSets (after_read sets b)
-  pub designated : (sets : GraphicSets) (slot : ℕ) (set : Set) → AreSoundSets sets → AreSoundSets (designated slot set sets)
-  pub left : (sets : GraphicSets) (slot : ℕ) → slot < 4 → AreSoundSets sets → AreSoundSets (locked_left slot sets)
-  pub right : (sets : GraphicSets) (slot : ℕ) → 1 ≤ slot → slot < 4 → AreSoundSets sets → AreSoundSets (locked_right slot sets)
-  pub once : (sets : GraphicSets) (slot : ℕ) → 2 ≤ slot → slot < 4 → AreSoundSets sets → AreSoundSets (shifted_once slot sets)
 
 -- ---- the sets
 
@@ -50,8 +37,8 @@ with-sets s sets i sound = record {
   saved_sets = i.saved_sets;
 }
 
-print-keeps : ReadsGlyphs → KeepSets → (b : ℕ) → Keeps (print b)
-print-keeps reads sets b s i = go (glyph_read s.sets b) (reads s.sets b)
+print-keeps : GlyphLaws → SetsLaws → (b : ℕ) → Keeps (print b)
+print-keeps glyphs sets b s i = go (glyph_read s.sets b) (glyphs.read s.sets b)
   where
     after : IsSoundDisplay (record s { sets = after_read s.sets b })
     after = with-sets s (after_read s.sets b) i (sets.read s.sets b i.sets)
@@ -60,16 +47,16 @@ print-keeps reads sets b s i = go (glyph_read s.sets b) (reads s.sets b)
     go None h = after
     go (Some g) h = write_glyph-keeps g h (record s { sets = after_read s.sets b }) after
 
-lock_left-keeps : KeepSets → (slot : ℕ) → slot < 4 → Keeps (lock_left slot)
-lock_left-keeps sets slot h s i = with-sets s (locked_left slot s.sets) i (sets.left s.sets slot h i.sets)
+lock_left-keeps : SetsLaws → (slot : ℕ) → slot < 4 → Keeps (lock_left slot)
+lock_left-keeps sets slot h s i = with-sets s (locked_left slot s.sets) i (sets.locked_left s.sets slot h i.sets)
 
-lock_right-keeps : KeepSets → (slot : ℕ) → 1 ≤ slot → slot < 4 → Keeps (lock_right slot)
-lock_right-keeps sets slot k h s i = with-sets s (locked_right slot s.sets) i (sets.right s.sets slot k h i.sets)
+lock_right-keeps : SetsLaws → (slot : ℕ) → 1 ≤ slot → slot < 4 → Keeps (lock_right slot)
+lock_right-keeps sets slot k h s i = with-sets s (locked_right slot s.sets) i (sets.locked_right s.sets slot k h i.sets)
 
-shift_once-keeps : KeepSets → (slot : ℕ) → 2 ≤ slot → slot < 4 → Keeps (shift_once slot)
-shift_once-keeps sets slot k h s i = with-sets s (shifted_once slot s.sets) i (sets.once s.sets slot k h i.sets)
+shift_once-keeps : SetsLaws → (slot : ℕ) → 2 ≤ slot → slot < 4 → Keeps (shift_once slot)
+shift_once-keeps sets slot k h s i = with-sets s (shifted_once slot s.sets) i (sets.shifted_once s.sets slot k h i.sets)
 
-designate-keeps : KeepSets → (slot last : ℕ) → Keeps (designate slot last)
+designate-keeps : SetsLaws → (slot last : ℕ) → Keeps (designate slot last)
 designate-keeps sets slot last s i = go (set_of_final last)
   where
     go : (set : Option Set) → IsSoundDisplay (designate_to slot set s)
@@ -155,17 +142,17 @@ private_modes-keep = search (keeping, rules)
 
 -- ---- controls and escape sequences
 
-control-keeps : ReadsGlyphs → KeepSets → IsGlyph substitute_glyph → (b : ℕ) → Keeps (control b)
+control-keeps : GlyphLaws → SetsLaws → (b : ℕ) → Keeps (control b)
 unfolding control AllKeep
-control-keeps reads sets shown b =
+control-keeps glyphs sets b =
     let left0 : Keeps (lock_left 0) = lock_left-keeps sets 0 (omega arith) in
     let left1 : Keeps (lock_left 1) = lock_left-keeps sets 1 (omega arith) in
     let once2 : Keeps (shift_once 2) = shift_once-keeps sets 2 (omega arith) (omega arith) in
     let once3 : Keeps (shift_once 3) = shift_once-keeps sets 3 (omega arith) (omega arith) in
-    let substitute : Keeps (write_glyph substitute_glyph) = write_glyph-keeps substitute_glyph shown in
+    let substitute : Keeps (write_glyph substitute_glyph) = write_glyph-keeps substitute_glyph glyphs.substitute in
     looked_up-keeps Keeps control_functions b unchanged unchanged-keeps (search (keeping, left0, left1, once2, once3, substitute))
 
-plain_escape-keeps : KeepSets → (last : ℕ) → Keeps (plain_escape last)
+plain_escape-keeps : SetsLaws → (last : ℕ) → Keeps (plain_escape last)
 unfolding plain_escape AllKeep
 plain_escape-keeps sets last =
     let left2 : Keeps (lock_left 2) = lock_left-keeps sets 2 (omega arith) in
@@ -175,7 +162,7 @@ plain_escape-keeps sets last =
     let right3 : Keeps (lock_right 3) = lock_right-keeps sets 3 (omega arith) (omega arith) in
     looked_up-keeps Keeps plain_escapes last unchanged unchanged-keeps (search (keeping, left2, left3, right1, right2, right3))
 
-escape_with-keeps : KeepSets → (inter last : ℕ) → Keeps (escape_with inter last)
+escape_with-keeps : SetsLaws → (inter last : ℕ) → Keeps (escape_with inter last)
 unfolding escape_with AllKeep
 escape_with-keeps sets inter last =
     let space = looked_up-keeps Keeps space_escapes last unchanged unchanged-keeps (search keeping) in
@@ -237,23 +224,23 @@ module _ (params : List ℕ) where
 
 -- ---- events and bytes
 
-effect-keeps : ReadsGlyphs → KeepSets → IsGlyph substitute_glyph → (event : Event) → Keeps (effect event)
-effect-keeps reads sets shown (Print b) = print-keeps reads sets b
-effect-keeps reads sets shown (Control b) = control-keeps reads sets shown b
-effect-keeps reads sets shown (Escape None last) = plain_escape-keeps sets last
-effect-keeps reads sets shown (Escape (Some inter) last) = escape_with-keeps sets inter last
-effect-keeps reads sets shown (Sequence marker params inter last) =
+effect-keeps : GlyphLaws → SetsLaws → (event : Event) → Keeps (effect event)
+effect-keeps glyphs sets (Print b) = print-keeps glyphs sets b
+effect-keeps glyphs sets (Control b) = control-keeps glyphs sets b
+effect-keeps glyphs sets (Escape None last) = plain_escape-keeps sets last
+effect-keeps glyphs sets (Escape (Some inter) last) = escape_with-keeps sets inter last
+effect-keeps glyphs sets (Sequence marker params inter last) =
     sequence_in-keeps params.items (sequences_of marker inter) last (sequences_of-keep params.items marker inter)
 
-after_events-keeps : ReadsGlyphs → KeepSets → IsGlyph substitute_glyph → (events : List Event) → Keeps (after_events events)
-after_events-keeps reads sets shown [] s i = i
-after_events-keeps reads sets shown (event ∷ events) s i =
-    after_events-keeps reads sets shown events (effect event s) (effect-keeps reads sets shown event s i)
+after_events-keeps : GlyphLaws → SetsLaws → (events : List Event) → Keeps (after_events events)
+after_events-keeps glyphs sets [] s i = i
+after_events-keeps glyphs sets (event ∷ events) s i =
+    after_events-keeps glyphs sets events (effect event s) (effect-keeps glyphs sets event s i)
 
-pub play-sound : ReadsGlyphs → KeepSets → IsGlyph substitute_glyph → ((bytes : List ℕ) → IsHeldPart (held_after bytes))
+pub play-sound : GlyphLaws → SetsLaws → ((bytes : List ℕ) → IsHeldPart (held_after bytes))
     → (s : State) (bytes : List ℕ) → IsSound s → IsSound (play s bytes).state
 unfolding play
-play-sound reads sets shown held s bytes sound = record {
-  display = after_events-keeps reads sets shown (events_from s.held bytes) s.display sound.display;
+play-sound glyphs sets held s bytes sound = record {
+  display = after_events-keeps glyphs sets (events_from s.held bytes) s.display sound.display;
   held = held _;
 }

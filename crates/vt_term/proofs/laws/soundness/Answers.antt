@@ -7,8 +7,4 @@ pub returns-clause-power_up : goal.returns-clause-power_up
 returns-clause-power_up c = record { display = display_at_power_up-sound; held = nothing-held }
 
 pub returns-clause-play : goal.returns-clause-play
-returns-clause-play c =
-    let sets = c.soundness.ensures in
-    play-sound c.glyphs.ensures.read
-    (record { read = sets.read; designated = sets.designated; left = sets.locked_left; right = sets.locked_right; once = sets.shifted_once })
-    c.glyphs.ensures.substitute c.one_split.ensures.held_part
+returns-clause-play c = play-sound c.glyphs.ensures c.soundness.ensures c.one_split.ensures.held_part

@@ -19,7 +19,7 @@ loop-at-preserved c =
       within = omega (arith, c.min-end.ensures);
       written = read
           ∙ ap (λ (d : Display). with_run (map shown line) d) c.carry_out_wrap.ensures
-          ∙ line-of-run c.runs.ensures.one c.runs.ensures.append HasGlyph shown c.args.run.now c.loop-at.at c.min-end.result c.args.self.now before
+          ∙ line-of-run c.runs.ensures HasGlyph shown c.args.run.now c.loop-at.at c.min-end.result c.args.self.now before
           c.requires.graphic more (omega (arith, c.min-end.ensures)) c.loop-at.invariant.written c.loop-at.invariant.writes fits;
       writes = rw (read, c.carry_out_wrap.ensures) (with_run-writes HasGlyph shown (map shown line) (wrapped before) (wrapped-writes HasGlyph shown before c.loop-at.invariant.writes));
     }

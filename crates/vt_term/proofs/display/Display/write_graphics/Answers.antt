@@ -10,6 +10,6 @@ returns-then-fits c =
     c.put_graphics.ensures
     ∙ ap (λ (t : InUseTable). with_run (map (glyph_in_use t) c.args.run.now) c.args.self.now) c.in_use-table.ensures
     ∙ ap (λ (d : Display). with_run (map (glyph_in_use (in_use d.sets)) c.args.run.now) c.args.self.now) c.self.view_is
-    ∙ sym (prints-run c.runs.ensures.one c.runs.ensures.append HasGlyph (glyph_in_use (in_use c.args.self.now.sets))
+    ∙ sym (prints-run c.runs.ensures HasGlyph (glyph_in_use (in_use c.args.self.now.sets))
     c.args.run.now c.args.self.now c.requires.writes c.requires.graphic
     c.if-fits.ensures.0 c.requires.some (omega (arith, c.if-fits.ensures.1)))

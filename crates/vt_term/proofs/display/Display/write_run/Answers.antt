@@ -9,6 +9,6 @@ pub returns-then-fits : goal.returns-then-fits
 returns-then-fits c =
     c.put_run.ensures
     ∙ ap (λ (glyphs : List ℕ). with_run glyphs c.args.self.now) (sym (map-id c.args.run.now))
-    ∙ sym (prints-run c.runs.ensures.one c.runs.ensures.append IsPlain (λ b. b) c.args.run.now c.args.self.now
+    ∙ sym (prints-run c.runs.ensures IsPlain (λ b. b) c.args.run.now c.args.self.now
     c.requires.writes c.requires.plain
     c.if-fits.ensures.0 c.requires.some (omega (arith, c.if-fits.ensures.1)))

@@ -160,6 +160,7 @@ impl Screen {
     /// Writes graphic bytes, each from 20 to 7E or from A1 to FE, from a place on, as they are read through
     /// the sets in GL and GR: what writing them one after another does. The cells get the attributes and
     /// the protection of `like`. The bytes end by the last column; without bytes nothing changes.
+    #[inline(always)]
     pub fn put_graphics(
         &mut self,
         row: usize,

@@ -139,6 +139,7 @@ pub(crate) fn put_run(screen: &mut Screen, row: usize, col: usize, codes: &[u8],
 }
 
 /// Graphic bytes from a place on, each like the given cell: they are read through a table of the sets in GL and GR.
+#[inline(always)]
 pub(crate) fn put_graphics(
     screen: &mut Screen,
     row: usize,

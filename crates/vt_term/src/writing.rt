@@ -171,11 +171,13 @@ impl Display {
     {
         let Cursor { row, col, .. } = self.cursor;
         let like = Cell::new(Glyph::blank(), self.brush);
-        page::put_run(&mut self.screen, row, col, run, like);
+        // The cursor goes first: behind the cells the compiler would read it and the width anew.
         self.advance(run.len());
+        page::put_run(&mut self.screen, row, col, run, like);
     }
 
     /// Writes a run of graphic bytes that ends in the cursor's row.
+    #[inline(always)]
     fn put_graphics(&mut self, run: &[u8], table: &InUse)
         requires graphic { All HasGlyph run.now }
         requires some { 1 ≤ length run.now }
@@ -184,8 +186,8 @@ impl Display {
     {
         let Cursor { row, col, .. } = self.cursor;
         let like = Cell::new(Glyph::blank(), self.brush);
-        page::put_graphics(&mut self.screen, row, col, run, table, like);
         self.advance(run.len());
+        page::put_graphics(&mut self.screen, row, col, run, table, like);
     }
 
     /// The cursor goes behind `n` glyphs that were written in its row.

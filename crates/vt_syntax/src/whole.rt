@@ -1,5 +1,5 @@
 //! Events that stand whole at the front of a piece, between sequences: read from the piece, and never held.
-ghost use Rattle.std.specs.Prelude.{◌≡◌, ◌+◌, ◌-◌, ◌<◌, ◌≤◌, ℕ, List, [], ◌∷◌, ◌++◌, Option, IfSome, false, length, take, slice_index};
+ghost use Rattle.std.specs.Prelude.{◌≡◌, ◌+◌, ◌-◌, ◌<◌, ◌≤◌, ℕ, List, [], ◌∷◌, ◌++◌, Option, IfSome, IsTrue, ◌↔◌, false, length, take, slice_index};
 ghost use Rattle.vt_syntax.specs.declared.held.Held.TheVariants.{Nothing, Escape, Control};
 ghost use Rattle.vt_syntax.specs.declared.held.Inters.TheVariants.{Zero};
 ghost use Rattle.std.specs.Bool.{OnTrue};
@@ -208,7 +208,8 @@ fn whole_escape(piece: &[u8]) -> Option<(usize, EventKind)>
 #[inline(always)]
 #[tactic(auto, using(crate::proofs::Classes::class_tests), unfolding(crate::specs::Class::opens_string))]
 pub(crate) fn ends_escape(b: u8) -> bool
-    ensures { OnTrue result (IsEnding (Escape Zero) b) }
+    ensures ends { OnTrue result (IsEnding (Escape Zero) b) }
+    ensures exact { IsTrue result ↔ IsEnding (Escape Zero) b }
 {
     match b {
         b'P' | b'X' | b'[' | b']'..=b'_' => false,

@@ -5,11 +5,10 @@ ghost use Rattle.vt_syntax.specs.declared.held.Inters.TheVariants.{Zero};
 ghost use Rattle.std.specs.Bool.{OnTrue};
 ghost use Rattle.vt_syntax.specs.Event.{event_of};
 ghost use Rattle.vt_syntax.specs.Held.{IsEnding, ended_by};
-ghost use Rattle.vt_syntax.specs.Steps.{step_to, step_between, opened_by, is_silent, run};
+ghost use Rattle.vt_syntax.specs.Steps.{step_to, step_between, opened_by, run};
 ghost use Rattle.vt_syntax.specs.Whole.{IsWhole, AreRead, begun};
 
 use crate::event::EventKind;
-use crate::parser::alone;
 use crate::values::Values;
 
 /// Reads the event that stands whole at the front of a piece: a byte by itself, or a sequence. Answers how many bytes it
@@ -29,8 +28,8 @@ pub(crate) fn whole_event(piece: &[u8], values: &mut Values) -> Option<(usize, E
     if first == 0x1B {
         return whole_escape(piece);
     }
-    if stands_alone(first) {
-        return Some((1, alone(first)));
+    if let Some(kind) = alone(first) {
+        return Some((1, kind));
     }
     if first == 0x9B {
         return whole_control(piece, 1, values);
@@ -46,15 +45,16 @@ pub(crate) fn is_introducer(first: u8, second: u8) -> bool
     first as u16 + 256 * second as u16 == 0x5B1B
 }
 
-/// Whether a byte between sequences is an event by itself: it opens nothing, and isn't CAN or DEL.
+/// The event of a byte between sequences that is one by itself: it opens nothing, and isn't CAN or DEL.
 #[inline(always)]
 #[tactic(auto, using(crate::proofs::Classes::class_tests), unfolding(crate::specs::Class::opens_string))]
-fn stands_alone(b: u8) -> bool
-    ensures { OnTrue result (is_silent (step_between b) ≡ false) }
+fn alone(b: u8) -> Option<EventKind>
+    ensures { IfSome result (λ kind. (values : List ℕ) → step_between b ≡ step_to Nothing (event_of kind values ∷ [])) }
 {
     match b {
-        0x18 | 0x1B | 0x7F | 0x90 | 0x98 | 0x9B | 0x9D..=0x9F => false,
-        _ => true,
+        0x18 | 0x1B | 0x7F | 0x90 | 0x98 | 0x9B | 0x9D..=0x9F => None,
+        0x20..=0x7E | 0xA0..=0xFF => Some(EventKind::Print(b)),
+        _ => Some(EventKind::Control(b)),
     }
 }
 

@@ -32,7 +32,8 @@ pub fn front_sequence(piece: &[u8], values: &mut Values) -> Option<(usize, u8)>
     None
 }
 
-/// An escape sequence of three bytes: its intermediate and its final byte. `None` just where none stands whole at the front.
+/// An escape sequence of three bytes: its intermediate and its final byte. `None` just where none stands whole at the
+/// front.
 #[inline(always)]
 pub fn front_escape(piece: &[u8]) -> Option<(u8, u8)>
     ensures front { IfSome result (λ t. IsFront piece.now 3 (Escape (Some t.0) t.1)) }
@@ -49,8 +50,8 @@ pub fn front_escape(piece: &[u8]) -> Option<(u8, u8)>
     None
 }
 
-/// An escape sequence of two bytes, which may be the 7-bit form of a C1 control. `None` just where none stands whole at the
-/// front.
+/// An escape sequence of two bytes, which may be the 7-bit form of a C1 control. `None` just where none stands whole at
+/// the front.
 #[inline(always)]
 pub fn front_short_escape(piece: &[u8]) -> Option<EventKind>
     ensures front { IfSome result (λ kind. IsFront piece.now 2 (event_of kind [])) }
@@ -62,7 +63,8 @@ pub fn front_short_escape(piece: &[u8]) -> Option<EventKind>
     Some(plain_escape(piece[1]))
 }
 
-/// A control of one byte: of C0 but CAN and ESC, or of C1 where it opens nothing. `None` just where none stands at the front.
+/// A control of one byte: of C0 but CAN and ESC, or of C1 where it opens nothing. `None` just where none stands at the
+/// front.
 #[inline(always)]
 pub fn front_control(piece: &[u8]) -> Option<u8>
     ensures front { IfSome result (λ b. IsFront piece.now 1 (Control b)) }

@@ -253,7 +253,8 @@ fn step_spoilt(held: &mut Held, b: u8) -> Option<EventKind>
 /// An intermediate in a control sequence. Answers whether the sequence may still have a function: it is the first.
 fn intermediate(phase: &mut Phase, b: u8) -> bool
     ensures goes_on { (marker : Option ℕ) (params : List ℕ) (full : Bool) → OnTrue result
-        (step_intermediate marker params full phase.old b ≡ Held.Control marker (record { items = params }) full phase.new) }
+        (step_intermediate marker params full phase.old b
+        ≡ Held.Control marker (record { items = params }) full phase.new) }
     ensures spoils { (marker : Option ℕ) (params : List ℕ) (full : Bool) → OnFalse result
         (step_intermediate marker params full phase.old b ≡ Held.Spoilt) }
 {
@@ -264,8 +265,8 @@ fn intermediate(phase: &mut Phase, b: u8) -> bool
     true
 }
 
-/// A parameter byte in a control sequence. Answers whether the sequence may still have a function: no intermediate has come,
-/// and the byte is a digit, `;`, or a marker that is first.
+/// A parameter byte in a control sequence. Answers whether the sequence may still have a function: no intermediate has
+/// come, and the byte is a digit, `;`, or a marker that is first.
 #[tactic(auto, using(crate::proofs::Steps::byte_ranges))]
 fn parameter(
     marker: &mut Option<u8>,
@@ -276,7 +277,8 @@ fn parameter(
 ) -> bool
     requires { byte_class b ≡ Class.Parameter }
     ensures goes_on { OnTrue result
-        (step_parameter marker.old params.old.items full.old phase.old b ≡ Held.Control marker.new params.new full.new phase.new) }
+        (step_parameter marker.old params.old.items full.old phase.old b
+        ≡ Held.Control marker.new params.new full.new phase.new) }
     ensures spoils { OnFalse result (step_parameter marker.old params.old.items full.old phase.old b ≡ Held.Spoilt) }
 {
     match phase {

@@ -21,7 +21,7 @@ use crate::whole::{ends_escape, is_introducer, plain_escape, read_values};
 pub fn front_sequence(piece: &[u8], values: &mut Values) -> Option<(usize, u8)>
     ensures { IfSome result (λ t. IsFront piece.now t.0 (Sequence None (record { items = values.new }) None t.1)) }
 {
-    if piece.len() < 2 || !is_introducer(piece[0], piece[1]) {
+    if piece.len() < 6 || !is_introducer(piece[0], piece[1]) {
         return None;
     }
     let at = read_values(piece, 2, None, values)?;

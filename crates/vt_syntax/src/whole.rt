@@ -139,13 +139,32 @@ pub(crate) fn read_values(
     requires begun { run Nothing (take start piece.now) ≡ step_to (begun marker) [] }
     ensures { IfSome result (λ at. (at < length piece.now) × AreRead piece.now at marker values.new) }
 {
-    values.clear();
+    let (at, count) = read_list(piece, start, marker, &mut values.list)?;
+    values.len = count;
+    Some(at)
+}
+
+/// The same into the front of a list, and how many values there are: so they are counted in a register.
+#[inline(always)]
+fn read_list(
+    piece: &[u8],
+    start: usize,
+    marker: Option<u8>,
+    list: &mut [u16; 16],
+) -> Option<(usize, usize)>
+    requires within { start ≤ length piece.now }
+    requires begun { run Nothing (take start piece.now) ≡ step_to (begun marker) [] }
+    ensures { IfSome result (λ t. (t.0 < length piece.now) × (t.1 ≤ 16)
+        × AreRead piece.now t.0 marker (take t.1 list.new)) }
+{
+    let mut count = 0;
     let mut at = start;
-    while at + 4 <= piece.len() && values.len() < 16 {
+    while at + 4 <= piece.len() && count < 16 {
         let (value, end) = read_value(piece, at);
-        values.push(value);
+        list[count] = value;
+        count += 1;
         if piece[end] != b';' {
-            return Some(end);
+            return Some((end, count));
         }
         at = end + 1;
     }

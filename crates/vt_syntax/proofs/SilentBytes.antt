@@ -1,41 +1,18 @@
 -- Bytes that give no event, one after another.
-use Rattle.std.proofs.Common.{◌≡◌, ℕ, ◌+◌, ◌<◌, Bool, true, false, List, [], ◌∷◌, ◌++◌, length, take, drop, get_or, if◌then◌else◌, ◌==◌, ◌≤◌, nat_le, Option, length-append, length-drop, ◌-◌, arith, refl, sym, ap, ◌∙◌}
+use Rattle.std.proofs.Common.{◌≡◌, ℕ, ◌+◌, ◌<◌, Bool, false, List, [], ◌∷◌, ◌++◌, length, take, drop, get_or, ◌==◌, ◌≤◌, nat_le, Option, length-append, length-drop, ◌-◌, arith, refl, sym, ap, ◌∙◌}
 use Rattle.std.proofs.lemmas.List.{take_more}
 use Rattle.std.proofs.Math.Seq.{take-add, take-length}
-use Rattle.vt_syntax.specs.declared.event.Event.{Event}
 use Rattle.vt_syntax.specs.declared.held.Held.{Held}
-use Rattle.vt_syntax.specs.declared.held.Held.TheVariants.{Nothing, Escape, Control, Spoilt, Text}
-use Rattle.vt_syntax.specs.declared.held.Inters.TheVariants.{Zero, One, Many}
+use Rattle.vt_syntax.specs.declared.held.Held.TheVariants.{Nothing, Escape, Control, Text}
+use Rattle.vt_syntax.specs.declared.held.Inters.TheVariants.{Zero}
 use Rattle.vt_syntax.specs.declared.held.Phase.{Phase}
 use Rattle.vt_syntax.specs.declared.held.Phase.TheVariants.{Start, Values, Inter}
-use Rattle.vt_syntax.specs.declared.class.Class.TheVariants.{Parameter, Final}
-use Rattle.vt_syntax.specs.Class.{class_of, opens}
-use Rattle.vt_syntax.specs.Reading.{escape_function}
-use Rattle.vt_syntax.proofs.Classes.{opens_low}
-use Rattle.vt_syntax.specs.Steps.{Step, step_to, step_of, step_value, step_string, opened_by, change_last, with_digit, IsEarly, InSequence, run, is_silent, held_silently}
-use Rattle.vt_syntax.proofs.Steps.{change_last-push, value_class, step_bracket, parameter_low, parameter_high, final_low, final_high}
+use Rattle.vt_syntax.specs.declared.class.Class.TheVariants.{Parameter}
+use Rattle.vt_syntax.specs.Class.{class_of}
+use Rattle.vt_syntax.specs.Steps.{step_to, step_of, step_value, step_string, opened_by, change_last, with_digit, IsEarly, run}
+use Rattle.vt_syntax.proofs.Steps.{change_last-push, value_class, step_bracket}
 use Rattle.std.proofs.lemmas.Bool.Decides.{nat_tests}
-use Rattle.vt_syntax.specs.Held.{IsHeldPart, IsEnding, events_from}
-use Rattle.vt_syntax.proofs.Cutting.{run_append, step_events}
-
--- a silent step has no event
-pub silent_step : (held after : Held) (step : Step) → true ≡ is_silent step → after ≡ held_silently held step → step ≡ step_to after []
-silent_step held after step silent is = go step.held step.events silent is
-  where
-    go : (h : Held) (events : List Event) → true ≡ is_silent (step_to h events) → after ≡ held_silently held (step_to h events) → step_to h events ≡ step_to after []
-    go h [] silent is = ap (λ (x : Held). step_to x []) (sym is)
-    go h (event ∷ events) silent is = absurd cc
-
--- a step is taken, or gives one event
-pub taken : (held after : Held) (step : Step) → true ≡ is_silent step → after ≡ held_silently held step → after ≡ step.held
-taken held after step silent is = ap (λ (s : Step). s.held) (sym (silent_step held after step silent is))
-
-pub taken_events : (step : Step) → true ≡ is_silent step → [] ≡ step.events
-taken_events step silent = go step.events silent
-  where
-    go : (events : List Event) → true ≡ is_silent (step_to step.held events) → [] ≡ events
-    go [] silent = refl
-    go (event ∷ events) silent = absurd cc
+use Rattle.vt_syntax.proofs.Cutting.{run_append}
 
 pub run_nil : (held : Held) → run held [] ≡ step_to held []
 unfolding run
@@ -77,24 +54,11 @@ pub run_part : (held now after : Held) (piece : List ℕ) (at n : ℕ) → run h
 run_part held now after piece at n so_far more =
     let whole = rest_of piece at in run_add held now after piece at n so_far (rw whole at more)
 
--- a byte that is not silent is not taken
-pub not_taken : (held after : Held) (step : Step) → false ≡ is_silent step → after ≡ held_silently held step → after ≡ held
-not_taken held after step silent is = rw (sym silent) at is
-
 -- content of a string
 pub run_content : (osc : Bool) (piece : List ℕ) (at : ℕ) → at < length piece → run (Text osc) (take at piece) ≡ step_to (Text osc) []
     → step_string osc (get_or piece at 0) ≡ step_to (Text osc) [] → run (Text osc) (take (at + 1) piece) ≡ step_to (Text osc) []
 unfolding step_of
 run_content osc piece at inside so_far step = run_more (Text osc) (Text osc) (Text osc) piece at inside so_far step
-
--- a byte that is not silent has an event
-pub not_silent : (held : Held) (b : ℕ) → IsHeldPart held → is_silent (step_of held b) ≡ false → events_from held (b ∷ []) ≡ [] → ⊥
-not_silent held b part gives none =
-    go (step_of held b).held (step_of held b).events gives (sym (step_events held b part) ∙ none)
-  where
-    go : (h : Held) (events : List Event) → is_silent (step_to h events) ≡ false → events ≡ [] → ⊥
-    go h [] gives none = cc
-    go h (event ∷ events) gives none = cc
 
 -- ---- values
 
@@ -132,40 +96,3 @@ unfolding step_of class_of
 separator_step marker xs v Start early few = let n = not_full xs v few in rw n refl
 separator_step marker xs v Values early few = let n = not_full xs v few in rw n refl
 separator_step marker xs v (Inter i) early few = absurd early
-
--- ---- final bytes
-
--- a byte 30..3F that gives an event
-pub ending_low : (held : Held) (b : ℕ) → InSequence held → class_of b ≡ Parameter → is_silent (step_of held b) ≡ false → IsEnding held b
-unfolding step_of
-ending_low (Escape Zero) b inside k gives =
-    let low = parameter_low b k in let high = parameter_high b k in (low, omega arith, opens_low b high)
-ending_low (Escape (One i)) b inside k gives =
-    let low = parameter_low b k in let high = parameter_high b k in (low, omega arith)
-ending_low (Escape Many) b inside k gives = let never = rw k at gives in absurd cc
-ending_low (Control marker params full phase) b inside k gives = let never = rw k at gives in absurd cc
-ending_low Spoilt b inside k gives = let never = rw k at gives in absurd cc
-ending_low Nothing b inside k gives = absurd inside
-ending_low (Text osc) b inside k gives = absurd inside
-
-no_opener : (b : ℕ) → is_silent (if opens (b + 0x40) then step_to (opened_by (b + 0x40)) [] else step_to Nothing (escape_function Zero b)) ≡ false
-    → opens (b + 0x40) ≡ false
-no_opener b = go (opens (b + 0x40))
-  where
-    go : (x : Bool) → is_silent (if x then step_to (opened_by (b + 0x40)) [] else step_to Nothing (escape_function Zero b)) ≡ false → x ≡ false
-    go true gives = absurd cc
-    go false gives = refl
-
--- a byte 40..7E that gives an event
-pub ending_high : (held : Held) (b : ℕ) → InSequence held → class_of b ≡ Final → is_silent (step_of held b) ≡ false → IsEnding held b
-unfolding step_of
-ending_high (Escape Zero) b inside k gives =
-    let low = final_low b k in let high = final_high b k in (omega arith, omega arith, no_opener b (rw k at gives))
-ending_high (Escape (One i)) b inside k gives =
-    let low = final_low b k in let high = final_high b k in (omega arith, omega arith)
-ending_high (Escape Many) b inside k gives = let never = rw k at gives in absurd cc
-ending_high (Control marker params full phase) b inside k gives =
-    let low = final_low b k in let high = final_high b k in (low, omega arith)
-ending_high Spoilt b inside k gives = let never = rw k at gives in absurd cc
-ending_high Nothing b inside k gives = absurd inside
-ending_high (Text osc) b inside k gives = absurd inside

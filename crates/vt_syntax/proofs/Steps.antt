@@ -46,7 +46,7 @@ pub ruleset byte_ranges = (nat_tests, parameter_low, parameter_high, final_low, 
 
 pub ruleset last_values = (nat_tests, change_last-push)
 
-escape_ended : (last : ℕ) → escape_function Zero last ≡ ended_by (Escape Zero) last ∷ []
+pub escape_ended : (last : ℕ) → escape_function Zero last ≡ ended_by (Escape Zero) last ∷ []
 escape_ended last = go (nat_le 0x40 last && nat_lt last 0x60)
   where
     go : (b : Bool) → (if b then event.Control (last + 0x40) ∷ [] else event.Escape None last ∷ [])

@@ -1,5 +1,5 @@
 -- Sequences that stand whole in a piece: byte after byte, from the first on.
-use Rattle.std.proofs.Common.{◌≡◌, ℕ, ◌+◌, ◌-◌, ◌*◌, ◌<◌, ◌≤◌, true, false, List, [], ◌∷◌, ◌++◌, length, take, get_or, ◌==◌, nat_le, nat_lt, Option, Some, None, arith, refl, sym, ap, ◌∙◌}
+use Rattle.std.proofs.Common.{◌≡◌, ℕ, ◌+◌, ◌-◌, ◌*◌, ◌<◌, ◌≤◌, true, false, List, [], ◌∷◌, ◌++◌, length, take, get_or, ◌==◌, nat_le, nat_lt, Option, Some, None, arith, append-nil, refl, sym, ap, ◌∙◌}
 use Rattle.std.proofs.lemmas.List.{take_more}
 use Rattle.std.proofs.lemmas.Bool.Decides.{nat_tests}
 use Rattle.arrayvec.specs.ArrayVec.{ArrayVec}
@@ -23,16 +23,24 @@ use Rattle.vt_syntax.proofs.Cutting.{run_append}
 use Rattle.vt_syntax.proofs.Steps.{step_final}
 use Rattle.vt_syntax.proofs.SilentBytes.{run_nil, run_more, digit_step, separator_step}
 
+-- one more byte, with its events
+pub run_step : (held now after : Held) (piece : List ℕ) (at : ℕ) (events : List Event) → at < length piece
+    → run held (take at piece) ≡ step_to now []
+    → step_of now (get_or piece at 0) ≡ step_to after events
+    → run held (take (at + 1) piece) ≡ step_to after events
+unfolding run
+run_step held now after piece at events inside so_far step =
+    ap (λ (bytes : List ℕ). run held bytes) (take_more piece at 0 inside)
+    ∙ run_append held (take at piece) (get_or piece at 0 ∷ [])
+    ∙ rw (so_far, step) (ap (λ (es : List Event). step_to after es) (append-nil events))
+
 -- one more byte, which gives an event
 pub run_event : (held now after : Held) (piece : List ℕ) (at : ℕ) (event : Event) → at < length piece
     → run held (take at piece) ≡ step_to now []
     → step_of now (get_or piece at 0) ≡ step_to after (event ∷ [])
     → run held (take (at + 1) piece) ≡ step_to after (event ∷ [])
-unfolding run
 run_event held now after piece at event inside so_far step =
-    ap (λ (bytes : List ℕ). run held bytes) (take_more piece at 0 inside)
-    ∙ run_append held (take at piece) (get_or piece at 0 ∷ [])
-    ∙ rw (so_far, step) refl
+    run_step held now after piece at (event ∷ []) inside so_far step
 
 -- one more byte, which ends a sequence
 pub run_last : (held now : Held) (piece : List ℕ) (at : ℕ) → at < length piece

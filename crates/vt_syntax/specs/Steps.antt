@@ -119,22 +119,6 @@ step_of (Control marker params full phase) b = step_control marker params.items 
 step_of Spoilt b = step_spoilt (class_of b) b
 step_of (Text osc) b = step_string osc b
 
--- an escape or control sequence is held
-abbrev pub InSequence : Held → Type 0
-InSequence Nothing = ⊥
-InSequence (Text osc) = ⊥
-InSequence (Escape n) = Unit {0}
-InSequence (Control marker params full phase) = Unit {0}
-InSequence Spoilt = Unit {0}
-
--- a control sequence is held, spoilt or not
-abbrev pub InControl : Held → Type 0
-InControl Nothing = ⊥
-InControl (Text osc) = ⊥
-InControl (Escape n) = ⊥
-InControl (Control marker params full phase) = Unit {0}
-InControl Spoilt = Unit {0}
-
 -- no intermediate has come
 abbrev pub IsEarly : Phase → Type 0
 IsEarly Start = Unit {0}
@@ -146,16 +130,3 @@ unfoldable pub run : Held → List ℕ → Step
 run held [] = step_to held []
 run held (b ∷ bytes) =
     let now = step_of held b in let later = run now.held bytes in step_to later.held (now.events ++ later.events)
-
--- ---- bytes that give no event
-
-abbrev pub is_silent : Step → Bool
-is_silent step = is_empty step.events
-  where
-    is_empty : List Event → Bool
-    is_empty [] = true
-    is_empty (event ∷ events) = false
-
--- a step is taken where it gives no event
-abbrev pub held_silently : Held → Step → Held
-held_silently held step = if is_silent step then step.held else held

@@ -11,10 +11,10 @@ mod content;
 mod event;
 mod front;
 mod held;
-mod holding;
 pub mod laws;
 mod parser;
 mod plain;
+mod step;
 mod values;
 mod whole;
 

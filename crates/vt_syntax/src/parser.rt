@@ -1,17 +1,16 @@
 //! The parser: bytes, one at a time, into events.
-ghost use Rattle.std.specs.Prelude.{◌≡◌, ◌<◌, ◌≤◌, ℕ, List, [], ◌∷◌, IsTrue, false, ◌↔◌, IfSome, IfNone, length, take};
+ghost use Rattle.std.specs.Prelude.{◌≡◌, ◌<◌, ◌≤◌, [], ◌∷◌, IsTrue, ◌↔◌, IfSome, IfNone, length, take};
 ghost use Rattle.std.specs.Option.{option_to_list};
-ghost use Rattle.vt_syntax.specs.Held.{IsHeldPart, IsEnding, ended_by, events_from, held_from};
+ghost use Rattle.vt_syntax.specs.Held.{IsHeldPart, events_from, held_from};
 ghost use Rattle.vt_syntax.specs.Spelling.{IsEvent};
 ghost use Rattle.vt_syntax.specs.Event.{event_of, event_in};
-ghost use Rattle.vt_syntax.specs.Steps.{step_to, step_of, step_between, step_string, is_silent, run};
+ghost use Rattle.vt_syntax.specs.Steps.{step_to, step_of, run};
 
-use crate::class::{Class, class_of};
 use crate::event::{Event, EventKind, Taken};
-use crate::held::{Held, Inters};
-use crate::holding::{hold_byte, hold_run};
+use crate::held::Held;
+use crate::step::{hold_content, step};
 use crate::values::Values;
-use crate::whole::{plain_escape, whole_event};
+use crate::whole::whole_event;
 use arrayvec::ArrayVec;
 use std::marker::Model;
 
@@ -53,7 +52,7 @@ impl Parser {
         ensures held { self.new ≡ held_from self.old (b ∷ []) }
         ensures in_range { IfSome result IsEvent }
     {
-        step(&mut self.held, b)
+        step_with_values(&mut self.held, b)
     }
 
     /// Takes the front of a piece as far as the first byte that completes an event, or all of it where none does, and
@@ -116,31 +115,30 @@ fn next_held(held: &mut Held, piece: &[u8], values: &mut Values) -> Taken
     ensures reads { run held.old (take result.bytes piece.now) ≡ step_to held.new (event_in result.event values.new) }
     ensures all { IfNone result.event (result.bytes ≡ length piece.now) }
 {
-    let silent = hold_run(held, piece);
-    if silent == piece.len() {
-        return Taken {
-            bytes: silent,
-            event: None,
-        };
+    let mut bytes = 0;
+    while bytes < piece.len() {
+        if let Some(kind) = step(held, piece[bytes], values) {
+            return Taken {
+                bytes: bytes + 1,
+                event: Some(kind),
+            };
+        }
+        bytes += 1;
+        bytes += hold_content(held, &piece[bytes..]);
     }
-    let kind = event(held, piece[silent], values);
-    Taken {
-        bytes: silent + 1,
-        event: Some(kind),
-    }
+    Taken { bytes, event: None }
 }
 
-/// One byte after a held part: it is taken without an event, or gives one.
-fn step(held: &mut Held, b: u8) -> Option<Event>
+/// The event of one byte after a held part, with its values.
+fn step_with_values(held: &mut Held, b: u8) -> Option<Event>
     ensures holds { held.new ≡ (step_of held.old b).held }
     ensures tells { option_to_list result ≡ (step_of held.old b).events }
 {
-    if hold_byte(held, b) {
-        return None;
-    }
     let mut values = Values::new();
-    let kind = event(held, b, &mut values);
-    Some(with_values(kind, &values))
+    match step(held, b, &mut values) {
+        Some(kind) => Some(with_values(kind, &values)),
+        None => None,
+    }
 }
 
 /// The event of this kind, with these values where it is a control sequence.
@@ -166,88 +164,4 @@ fn with_values(kind: EventKind, values: &Values) -> Event
             }
         }
     }
-}
-
-/// The event of a byte that gives one. A quiet byte leaves what is held; another one ends it.
-#[tactic(auto, unfolding(crate::specs::Steps::step_of))]
-fn event(held: &mut Held, b: u8, values: &mut Values) -> EventKind
-    requires { is_silent (step_of held.old b) ≡ false }
-    ensures { step_of held.old b ≡ step_to held.new (event_of result values.new ∷ []) }
-{
-    match held {
-        Held::Nothing => alone(b),
-        Held::Text { osc } => {
-            let osc = *osc;
-            *held = Held::Nothing;
-            substitute(osc, b)
-        }
-        Held::Escape(_) | Held::Control { .. } | Held::Spoilt => match class_of(b) {
-            Class::Parameter | Class::Final => ended(held, b, values),
-            Class::Quiet => EventKind::Control(b),
-            Class::Cancel => {
-                *held = Held::Nothing;
-                EventKind::Control(0x1A)
-            }
-            Class::Esc | Class::High => {
-                *held = Held::Nothing;
-                alone(b)
-            }
-            Class::Intermediate => unreachable!(),
-        },
-    }
-}
-
-/// A byte that stands by itself.
-#[inline(always)]
-#[tactic(auto, using(crate::proofs::Classes::class_tests), unfolding(crate::specs::Class::opens_string))]
-pub(crate) fn alone(b: u8) -> EventKind
-    requires { is_silent (step_between b) ≡ false }
-    ensures { (values : List ℕ) → step_between b ≡ step_to Held.Nothing (event_of result values ∷ []) }
-{
-    match b {
-        0x20..=0x7E | 0xA0..=0xFF => EventKind::Print(b),
-        _ => EventKind::Control(b),
-    }
-}
-
-/// The only byte of a string that gives an event, SUB, which ends it.
-#[tactic(auto, using(crate::proofs::Classes::class_tests), unfolding(crate::specs::Items::ends_string))]
-fn substitute(osc: bool, b: u8) -> EventKind
-    requires { is_silent (step_string osc b) ≡ false }
-    ensures { (values : List ℕ) → step_string osc b ≡ step_to Held.Nothing (event_of result values ∷ []) }
-{
-    EventKind::Control(b)
-}
-
-/// The event of the final byte of a sequence, which ends it.
-#[tactic(auto, using(crate::proofs::Steps::byte_ranges), unfolding(crate::specs::Steps::step_of))]
-fn ended(held: &mut Held, last: u8, values: &mut Values) -> EventKind
-    requires { IsEnding held.old last }
-    ensures tells { event_of result values.new ≡ ended_by held.old last }
-    ensures holds { held.new ≡ Held.Nothing }
-{
-    let kind = match held {
-        Held::Escape(Inters::Zero) => plain_escape(last),
-        Held::Escape(Inters::One(inter)) => EventKind::Escape {
-            inter: Some(*inter),
-            last,
-        },
-        Held::Control {
-            marker,
-            params,
-            phase,
-            ..
-        } => {
-            values.set(params.as_slice());
-            EventKind::Sequence {
-                marker: *marker,
-                inter: phase.inter(),
-                last,
-            }
-        }
-        Held::Escape(Inters::Many) | Held::Nothing | Held::Spoilt | Held::Text { .. } =>
-            unreachable!(),
-    };
-    *held = Held::Nothing;
-    kind
 }

@@ -15,37 +15,22 @@ pub fn plain_run(piece: &[u8]) -> usize
     plain_end(piece)
 }
 
-/// The place of the first byte that isn't plain, or the length, looked for a vector of 32 bytes at a time.
+/// The place of the first byte that isn't plain, or the length, looked for a vector of 16 bytes at a time.
 fn plain_end(piece: &[u8]) -> usize
     ensures { result ≡ prefix_len is_plain piece.now }
 {
     let mut at = 0;
-    while at + 32 <= piece.len() {
-        let stops = stops_32(u8x32::from_slice(&piece[at..]));
+    while at + 16 <= piece.len() {
+        let stops = stops_16(u8x16::from_slice(&piece[at..]));
         if stops != 0 {
             return at + stops.trailing_zeros() as usize;
         }
-        at += 32;
+        at += 16;
     }
-    plain_end_16(piece, at)
+    plain_end_8(piece, at)
 }
 
-/// The same from `at` on, where fewer than 32 bytes are left.
-fn plain_end_16(piece: &[u8], at: usize) -> usize
-    requires { at ≤ length piece.now }
-    ensures { result ≡ at + prefix_len is_plain (drop at piece.now) }
-{
-    if piece.len() - at < 16 {
-        return plain_end_8(piece, at);
-    }
-    let stops = stops_16(u8x16::from_slice(&piece[at..]));
-    if stops != 0 {
-        return at + stops.trailing_zeros() as usize;
-    }
-    plain_end_8(piece, at + 16)
-}
-
-/// The same, where fewer than 16 bytes are left.
+/// The same from `at` on, where fewer than 16 bytes are left.
 fn plain_end_8(piece: &[u8], at: usize) -> usize
     requires { at ≤ length piece.now }
     ensures { result ≡ at + prefix_len is_plain (drop at piece.now) }
@@ -73,15 +58,6 @@ fn plain_end_slowly(piece: &[u8], from: usize) -> usize
 }
 
 /// A bit for each lane that isn't plain: less 20, with wrapping, it is above 5E.
-#[inline(always)]
-fn stops_32(lanes: u8x32) -> u64
-    ensures { result ≡ mask_l (map is_not_plain lanes) }
-{
-    u8x32::splat(0x5E)
-        .simd_lt(lanes - u8x32::splat(0x20))
-        .to_bitmask()
-}
-
 #[inline(always)]
 fn stops_16(lanes: u8x16) -> u64
     ensures { result ≡ mask_l (map is_not_plain lanes) }

@@ -1,13 +1,13 @@
 //! The values of a control sequence, beside its other parts.
-ghost use Rattle.std.specs.Prelude.{◌≡◌, ◌<◌, ◌≤◌, [], ◌∷◌, ◌++◌, length};
+ghost use Rattle.std.specs.Prelude.{◌≡◌, ◌≤◌, [], length};
 
 use std::marker::Model;
 
 /// The values of a control sequence: at most 16. They stand in the value itself.
 #[derive(Drop)]
 pub struct Values {
-    list: [u16; 16],
-    len: usize,
+    pub(crate) list: [u16; 16],
+    pub(crate) len: usize,
 }
 
 impl Model for Values {
@@ -38,33 +38,6 @@ impl Values {
         ensures few { length result.now ≤ 16 }
     {
         &self.list[..self.len]
-    }
-
-    /// How many values there are.
-    #[inline(always)]
-    pub(crate) fn len(&self) -> usize
-        ensures value { result ≡ length self.now }
-        ensures few { result ≤ 16 }
-    {
-        self.len
-    }
-
-    /// Takes all values out.
-    #[inline(always)]
-    pub(crate) fn clear(&mut self)
-        ensures { self.new ≡ [] }
-    {
-        self.len = 0;
-    }
-
-    /// Puts a value at the end.
-    #[inline(always)]
-    pub(crate) fn push(&mut self, value: u16)
-        requires { length self.old < 16 }
-        ensures { self.new ≡ self.old ++ value ∷ [] }
-    {
-        self.list[self.len] = value;
-        self.len += 1;
     }
 
     /// Puts these values in place of all that there are.

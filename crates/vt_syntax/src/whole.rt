@@ -1,15 +1,14 @@
 //! Events that stand whole at the front of a piece, between sequences: read from the piece, and never held.
-ghost use Rattle.std.specs.Prelude.{◌≡◌, ◌+◌, ◌-◌, ◌<◌, ◌≤◌, ℕ, List, [], ◌∷◌, ◌++◌, Option, IfSome, false, length, take, slice_index};
+ghost use Rattle.std.specs.Prelude.{◌≡◌, ◌+◌, ◌-◌, ◌<◌, ◌≤◌, ℕ, List, [], ◌∷◌, ◌++◌, Option, IfSome, IsTrue, ◌↔◌, false, length, take, slice_index};
 ghost use Rattle.vt_syntax.specs.declared.held.Held.TheVariants.{Nothing, Escape, Control};
 ghost use Rattle.vt_syntax.specs.declared.held.Inters.TheVariants.{Zero};
 ghost use Rattle.std.specs.Bool.{OnTrue};
 ghost use Rattle.vt_syntax.specs.Event.{event_of};
 ghost use Rattle.vt_syntax.specs.Held.{IsEnding, ended_by};
-ghost use Rattle.vt_syntax.specs.Steps.{step_to, step_between, opened_by, is_silent, run};
+ghost use Rattle.vt_syntax.specs.Steps.{step_to, step_between, opened_by, run};
 ghost use Rattle.vt_syntax.specs.Whole.{IsWhole, AreRead, begun};
 
 use crate::event::EventKind;
-use crate::parser::alone;
 use crate::values::Values;
 
 /// Reads the event that stands whole at the front of a piece: a byte by itself, or a sequence. Answers how many bytes it
@@ -29,8 +28,8 @@ pub(crate) fn whole_event(piece: &[u8], values: &mut Values) -> Option<(usize, E
     if first == 0x1B {
         return whole_escape(piece);
     }
-    if stands_alone(first) {
-        return Some((1, alone(first)));
+    if let Some(kind) = alone(first) {
+        return Some((1, kind));
     }
     if first == 0x9B {
         return whole_control(piece, 1, values);
@@ -46,15 +45,16 @@ pub(crate) fn is_introducer(first: u8, second: u8) -> bool
     first as u16 + 256 * second as u16 == 0x5B1B
 }
 
-/// Whether a byte between sequences is an event by itself: it opens nothing, and isn't CAN or DEL.
+/// The event of a byte between sequences that is one by itself: it opens nothing, and isn't CAN or DEL.
 #[inline(always)]
 #[tactic(auto, using(crate::proofs::Classes::class_tests), unfolding(crate::specs::Class::opens_string))]
-fn stands_alone(b: u8) -> bool
-    ensures { OnTrue result (is_silent (step_between b) ≡ false) }
+fn alone(b: u8) -> Option<EventKind>
+    ensures { IfSome result (λ kind. (values : List ℕ) → step_between b ≡ step_to Nothing (event_of kind values ∷ [])) }
 {
     match b {
-        0x18 | 0x1B | 0x7F | 0x90 | 0x98 | 0x9B | 0x9D..=0x9F => false,
-        _ => true,
+        0x18 | 0x1B | 0x7F | 0x90 | 0x98 | 0x9B | 0x9D..=0x9F => None,
+        0x20..=0x7E | 0xA0..=0xFF => Some(EventKind::Print(b)),
+        _ => Some(EventKind::Control(b)),
     }
 }
 
@@ -139,13 +139,32 @@ pub(crate) fn read_values(
     requires begun { run Nothing (take start piece.now) ≡ step_to (begun marker) [] }
     ensures { IfSome result (λ at. (at < length piece.now) × AreRead piece.now at marker values.new) }
 {
-    values.clear();
+    let (at, count) = read_list(piece, start, marker, &mut values.list)?;
+    values.len = count;
+    Some(at)
+}
+
+/// The same into the front of a list, and how many values there are: so they are counted in a register.
+#[inline(always)]
+fn read_list(
+    piece: &[u8],
+    start: usize,
+    marker: Option<u8>,
+    list: &mut [u16; 16],
+) -> Option<(usize, usize)>
+    requires within { start ≤ length piece.now }
+    requires begun { run Nothing (take start piece.now) ≡ step_to (begun marker) [] }
+    ensures { IfSome result (λ t. (t.0 < length piece.now) × (t.1 ≤ 16)
+        × AreRead piece.now t.0 marker (take t.1 list.new)) }
+{
+    let mut count = 0;
     let mut at = start;
-    while at + 4 <= piece.len() && values.len() < 16 {
+    while at + 4 <= piece.len() && count < 16 {
         let (value, end) = read_value(piece, at);
-        values.push(value);
+        list[count] = value;
+        count += 1;
         if piece[end] != b';' {
-            return Some(end);
+            return Some((end, count));
         }
         at = end + 1;
     }
@@ -208,7 +227,8 @@ fn whole_escape(piece: &[u8]) -> Option<(usize, EventKind)>
 #[inline(always)]
 #[tactic(auto, using(crate::proofs::Classes::class_tests), unfolding(crate::specs::Class::opens_string))]
 pub(crate) fn ends_escape(b: u8) -> bool
-    ensures { OnTrue result (IsEnding (Escape Zero) b) }
+    ensures ends { OnTrue result (IsEnding (Escape Zero) b) }
+    ensures exact { IsTrue result ↔ IsEnding (Escape Zero) b }
 {
     match b {
         b'P' | b'X' | b'[' | b']'..=b'_' => false,

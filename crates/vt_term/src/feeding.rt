@@ -1,5 +1,6 @@
 //! Feeding: a host's bytes in; a state and report bytes out.
 ghost use Rattle.std.specs.Prelude.{◌≡◌, ◌+◌, ◌*◌, ◌≤◌, ◌<◌, ◌++◌, ◌∷◌, [], ℕ, List, All, false, length, take, slice_index, vec_len, vec_capacity, OnOk, OnErr, IsOk};
+ghost use Rattle.std.specs.Bool.{OnTrue};
 ghost use Rattle.vt_glyph.specs.Invocation.{HasGlyph};
 ghost use Rattle.vt_syntax.specs.declared.held.Held.TheVariants.{Nothing};
 ghost use Rattle.vt_syntax.specs.Class.{IsPlain};
@@ -63,8 +64,8 @@ impl Terminal {
         }
     }
 
-    /// Plays the front of a piece that isn't empty, and answers how many bytes that is: between sequences a run of plain
-    /// bytes that are written at once, or CR, and LF after it; else as far as the first event.
+    /// Plays the front of a piece that isn't empty, and answers how many bytes that is: between sequences as far as the first
+    /// that doesn't stand whole in it, else as far as the first event.
     #[inline(always)]
     fn feed_front(&mut self, piece: &[u8], values: &mut Values, out: &mut Vec<u8>) -> usize
         requires some { 1 ≤ length piece.now }
@@ -77,35 +78,84 @@ impl Terminal {
         ensures capacity { vec_capacity out.old ≤ vec_capacity out.new }
     {
         if self.parser.is_between() {
-            let byte = piece[0];
-            if byte == 0x1B {
-                return self.feed_escape(piece, values, out);
-            }
-            if has_glyph(byte) {
-                return self.feed_graphics(piece);
-            }
-            if byte == 0x0D {
-                return self.feed_carriage_return(piece);
-            }
-            if let Some(control) = front_control(piece) {
-                self.feed_front_event(EventKind::Control(control), &[], out);
-                return 1;
-            }
+            self.feed_between(piece, values, out)
+        } else {
+            self.feed_event(piece, values, out)
         }
-        self.feed_event(piece, values, out)
     }
 
-    /// Plays the front of a piece that begins with ESC, between sequences, as far as the first event. Answers how many
-    /// bytes that is.
+    /// Plays the front of a piece that isn't empty, between sequences, as far as the first byte that goes through the parser,
+    /// and the first event from there on. Answers how many bytes that is.
     #[inline(always)]
-    fn feed_escape(&mut self, piece: &[u8], values: &mut Values, out: &mut Vec<u8>) -> usize
+    fn feed_between(&mut self, piece: &[u8], values: &mut Values, out: &mut Vec<u8>) -> usize
         requires some { 1 ≤ length piece.now }
-        requires room { vec_len out.old + 10 ≤ vec_capacity out.old }
+        requires room { vec_len out.old + 10 * length piece.now ≤ vec_capacity out.old }
         requires between { self.old.held ≡ Nothing }
         ensures some { 1 ≤ result }
         ensures within { result ≤ length piece.now }
         ensures state { self.new ≡ (play self.old (take result piece.now)).state }
         ensures reports { out.new.items ≡ out.old.items ++ (play self.old (take result piece.now)).reports }
+        ensures bounded { vec_len out.new ≤ vec_len out.old + 10 * result }
+        ensures capacity { vec_capacity out.old ≤ vec_capacity out.new }
+    {
+        self.soundness();
+        cuts();
+        let mut at = 0;
+        while at < piece.len() {
+            let (bytes, is_between) = self.feed_whole(&piece[at..], values, out);
+            at += bytes;
+            if !is_between {
+                return at;
+            }
+        }
+        at
+    }
+
+    /// Plays what stands at the front of a piece that isn't empty, between sequences: a run of graphic bytes that are written
+    /// at once, CR, and LF after it, a control or a sequence; all else goes through the parser. Answers how many bytes that
+    /// is, and whether it is known that nothing is held then.
+    #[inline(always)]
+    fn feed_whole(&mut self, piece: &[u8], values: &mut Values, out: &mut Vec<u8>) -> (usize, bool)
+        requires some { 1 ≤ length piece.now }
+        requires room { vec_len out.old + 10 * length piece.now ≤ vec_capacity out.old }
+        requires between { self.old.held ≡ Nothing }
+        ensures some { 1 ≤ result.0 }
+        ensures within { result.0 ≤ length piece.now }
+        ensures between { OnTrue result.1 (self.new.held ≡ Nothing) }
+        ensures state { self.new ≡ (play self.old (take result.0 piece.now)).state }
+        ensures reports { out.new.items ≡ out.old.items ++ (play self.old (take result.0 piece.now)).reports }
+        ensures bounded { vec_len out.new ≤ vec_len out.old + 10 * result.0 }
+        ensures capacity { vec_capacity out.old ≤ vec_capacity out.new }
+    {
+        let byte = piece[0];
+        if byte == 0x1B {
+            return self.feed_escape(piece, values, out);
+        }
+        if has_glyph(byte) {
+            return (self.feed_graphics(piece), true);
+        }
+        if byte == 0x0D {
+            return (self.feed_carriage_return(piece), true);
+        }
+        if let Some(control) = front_control(piece) {
+            self.feed_front_event(EventKind::Control(control), &[], out);
+            return (1, true);
+        }
+        (self.feed_event(piece, values, out), false)
+    }
+
+    /// Plays the front of a piece that begins with ESC, between sequences, as far as the first event. Answers how many
+    /// bytes that is, and whether it is known that nothing is held then.
+    #[inline(always)]
+    fn feed_escape(&mut self, piece: &[u8], values: &mut Values, out: &mut Vec<u8>) -> (usize, bool)
+        requires some { 1 ≤ length piece.now }
+        requires room { vec_len out.old + 10 ≤ vec_capacity out.old }
+        requires between { self.old.held ≡ Nothing }
+        ensures some { 1 ≤ result.0 }
+        ensures within { result.0 ≤ length piece.now }
+        ensures between { OnTrue result.1 (self.new.held ≡ Nothing) }
+        ensures state { self.new ≡ (play self.old (take result.0 piece.now)).state }
+        ensures reports { out.new.items ≡ out.old.items ++ (play self.old (take result.0 piece.now)).reports }
         ensures bounded { vec_len out.new ≤ vec_len out.old + 10 }
         ensures capacity { vec_capacity out.old ≤ vec_capacity out.new }
     {
@@ -117,18 +167,18 @@ impl Terminal {
                 last,
             };
             self.feed_front_event(kind, values.as_slice(), out);
-            return bytes;
+            return (bytes, true);
         }
         if let Some((inter, last)) = front_escape(piece) {
             let inter = Some(inter);
             self.feed_front_event(EventKind::Escape { inter, last }, &[], out);
-            return 3;
+            return (3, true);
         }
         if let Some(kind) = front_short_escape(piece) {
             self.feed_front_event(kind, &[], out);
-            return 2;
+            return (2, true);
         }
-        self.feed_event(piece, values, out)
+        (self.feed_event(piece, values, out), false)
     }
 
     /// An event that stands whole at the front of a piece, between sequences. It is compiled in the place of each call,
@@ -138,6 +188,7 @@ impl Terminal {
         requires event { IsEvent (event_of kind values.now) }
         requires room { vec_len out.old + 10 ≤ vec_capacity out.old }
         requires between { self.old.held ≡ Nothing }
+        ensures between { self.new.held ≡ Nothing }
         ensures state { (piece : List ℕ) (bytes : ℕ) → IsFront piece bytes (event_of kind values.now)
             → self.new ≡ (play self.old (take bytes piece)).state }
         ensures reports { (piece : List ℕ) (bytes : ℕ) → IsFront piece bytes (event_of kind values.now)
@@ -157,6 +208,7 @@ impl Terminal {
         requires between { self.old.held ≡ Nothing }
         ensures some { 1 ≤ result }
         ensures within { result ≤ length piece.now }
+        ensures between { self.new.held ≡ Nothing }
         ensures state { self.new ≡ (play self.old (take result piece.now)).state }
         ensures reports { (play self.old (take result piece.now)).reports ≡ [] }
     {
@@ -180,6 +232,7 @@ impl Terminal {
     fn feed_graphic(&mut self, byte: u8)
         requires graphic { IsGraphic byte }
         requires between { self.old.held ≡ Nothing }
+        ensures between { self.new.held ≡ Nothing }
         ensures state { self.new ≡ (play self.old (byte ∷ [])).state }
         ensures reports { (play self.old (byte ∷ [])).reports ≡ [] }
     {
@@ -196,6 +249,7 @@ impl Terminal {
         requires between { self.old.held ≡ Nothing }
         ensures some { 1 ≤ result }
         ensures within { result ≤ length piece.now }
+        ensures between { self.new.held ≡ Nothing }
         ensures state { self.new ≡ (play self.old (take result piece.now)).state }
         ensures reports { (play self.old (take result piece.now)).reports ≡ [] }
     {
@@ -248,6 +302,7 @@ impl Terminal {
         requires some { 1 ≤ length run.now }
         requires between { self.old.held ≡ Nothing }
         requires writes { WritesAscii self.old.display }
+        ensures between { self.new.held ≡ Nothing }
         ensures state { self.new ≡ (play self.old run.now).state }
         ensures reports { (play self.old run.now).reports ≡ [] }
     {
@@ -262,6 +317,7 @@ impl Terminal {
         requires some { 1 ≤ length run.now }
         requires between { self.old.held ≡ Nothing }
         requires writes { (self.old.display.sets.pending ≡ None) × (self.old.display.modes.irm ≡ false) }
+        ensures between { self.new.held ≡ Nothing }
         ensures state { self.new ≡ (play self.old run.now).state }
         ensures reports { (play self.old run.now).reports ≡ [] }
     {

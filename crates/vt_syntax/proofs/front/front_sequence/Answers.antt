@@ -1,4 +1,4 @@
-use Rattle.std.proofs.Common.{◌+◌, None, get_or}
+use Rattle.std.proofs.Common.{◌+◌, None, get_or, arith}
 use Rattle.vt_syntax.specs.declared.event.EventKind.TheVariants as kind
 use Rattle.vt_syntax.proofs.SilentBytes.{run_introducer}
 use Rattle.vt_syntax.proofs.WholeSequences.{run_control}
@@ -7,7 +7,7 @@ use Rattle.vt_syntax.proofs.front.front_sequence.Goals as goal
 
 pub read_values-requires-clause-begun : goal.read_values-requires-clause-begun
 read_values-requires-clause-begun c =
-    run_introducer c.args.piece.now c.if-piece-lt2.false c.if-not-is_introducer.ensures.0
+    run_introducer c.args.piece.now (omega arith) c.if-not-is_introducer.ensures.0
     c.if-not-is_introducer.ensures.1
 
 pub returns-then-last-lt127 : goal.returns-then-last-lt127

@@ -3,8 +3,8 @@ use Rattle.vt_syntax.proofs.WholeSequences.{escape_whole}
 use Rattle.vt_syntax.proofs.Fronts.{front_of}
 use Rattle.vt_syntax.proofs.front.front_short_escape.Goals as goal
 
-pub returns : goal.returns
-returns c =
+pub returns-clause-front : goal.returns-clause-front
+returns-clause-front c =
     front_of c.args.piece.now [] 2 c.plain_escape.result
     (escape_whole c.args.piece.now c.plain_escape.result (omega arith) c.if-piece-ne27.false
-    c.if-not-ends_escape.ensures c.plain_escape.ensures [])
+    c.if-not-ends_escape.ensures.ends c.plain_escape.ensures [])

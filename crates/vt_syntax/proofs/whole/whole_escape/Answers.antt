@@ -3,7 +3,7 @@ use Rattle.vt_syntax.proofs.whole.whole_escape.Goals as goal
 
 pub returns-then-ends_escape : goal.returns-then-ends_escape
 returns-then-ends_escape c =
-    escape_whole c.args.piece.now c.plain_escape.result c.requires.long c.requires.first c.if-ends_escape.ensures
+    escape_whole c.args.piece.now c.plain_escape.result c.requires.long c.requires.first c.if-ends_escape.ensures.ends
     c.plain_escape.ensures
 
 pub returns-then-piece-lt127 : goal.returns-then-piece-lt127

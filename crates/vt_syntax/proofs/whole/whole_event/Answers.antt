@@ -7,8 +7,8 @@ pub whole_control-requires-clause-introduced : goal.whole_control-requires-claus
 whole_control-requires-clause-introduced c =
     run_introducer c.args.piece.now c.if-piece-lt2.false c.if-is_introducer.ensures.0 c.if-is_introducer.ensures.1
 
-pub returns-then-stands_alone : goal.returns-then-stands_alone
-returns-then-stands_alone c = run_alone c.args.piece.now c.alone.result (omega arith) c.alone.ensures c.args.values.now
+pub returns-in-Some : goal.returns-in-Some
+returns-in-Some c = run_alone c.args.piece.now c.in-Some.kind (omega arith) c.in-Some.ensures c.args.values.now
 
 pub whole_control-requires-then-first-clause-introduced : goal.whole_control-requires-then-first-clause-introduced
 whole_control-requires-then-first-clause-introduced c = run_csi c.args.piece.now (omega arith) c.if-first.true

@@ -8,19 +8,19 @@ use Rattle.vt_syntax.proofs.parser.Parser.push.Goals as goal
 
 pub invariant_of-self : goal.invariant_of-self
 invariant_of-self c =
-    rw (c.step.ensures.holds) (step_is_held c.self.inside.held c.args.b c.self.invariant)
+    rw (c.step_with_values.ensures.holds) (step_is_held c.self.inside.held c.args.b c.self.invariant)
 
 pub returns-clause-event : goal.returns-clause-event
 returns-clause-event c =
-    c.step.ensures.tells
+    c.step_with_values.ensures.tells
     ∙ sym (step_events c.self.inside.held c.args.b c.self.invariant)
     ∙ ap (λ (h : Held). events_from h (c.args.b ∷ [])) c.self.view_is
 
 pub returns-clause-held : goal.returns-clause-held
 returns-clause-held c =
-    c.step.ensures.holds
+    c.step_with_values.ensures.holds
     ∙ sym (step_held c.self.inside.held c.args.b c.self.invariant)
     ∙ ap (λ (h : Held). held_from h (c.args.b ∷ [])) c.self.view_is
 
 pub returns-clause-in_range : goal.returns-clause-in_range
-returns-clause-in_range c = is_event _ c.step.result (returns-clause-event c)
+returns-clause-in_range c = is_event _ c.step_with_values.result (returns-clause-event c)

@@ -12,6 +12,7 @@ use Rattle.vt_screen.specs.Cells.{blank, brush_of}
 use Rattle.vt_screen.specs.Grid.{Grid, IsGrid, cell_at, row_of, grid_of, blank_grid, columns}
 use Rattle.vt_term.specs.declared.state.Cursor.{Cursor}
 use Rattle.vt_term.specs.declared.state.Margins.{Margins}
+use Rattle.vt_term.specs.declared.state.Modes.{Modes}
 use Rattle.vt_term.specs.State.{Display, at_place, full_margins, modes_at_power_up, saved_sets}
 use Rattle.vt_term.specs.Moving.{home}
 use Rattle.vt_term.specs.Sound.{AreSoundMargins, IsSoundDisplay}
@@ -19,27 +20,27 @@ use Rattle.vt_term.specs.Modes.{with_mode}
 use Rattle.vt_term.specs.Functions.{sequence_in, sequences_of}
 use Rattle.vt_term.specs.Reports.{line_of_cursor}
 use Rattle.vt_paint.specs.Same.{is_blank}
-use Rattle.vt_paint.specs.Controls.{margins_to, brush_events, sets_events, spelling_sets_events}
+use Rattle.vt_paint.specs.Controls.{private_mode, decom, margins_to, brush_events, sets_events, spelling_sets_events}
 use Rattle.vt_paint.specs.Pieces.{glyph_events, pieces, is_blank_grid}
 use Rattle.vt_paint.specs.Items.{cells_item, margins_item, origin_item, position_item, wrap_item, modes_item, shift_item}
 use Rattle.vt_paint.proofs.LowerLaws.{GridLaws, GlyphLaws}
 use Rattle.vt_paint.proofs.Running.{run, run-append, run-then}
 use Rattle.vt_paint.proofs.Equality.{and_true, not_true, is_blank-is}
-use Rattle.vt_paint.proofs.Grids.{painted, painted_none, put_same}
+use Rattle.vt_paint.proofs.Grids.{painted, all_blank, painted_none, put_same}
 use Rattle.vt_paint.proofs.Brushes.{brush_run, with_sets, sets_run, spelling_sets, spelling_sets_run, spelling_sets_are, spelling_sets_four, spelling_sets_none}
 use Rattle.vt_paint.proofs.Glyphs.{glyph_run}
 use Rattle.vt_paint.proofs.Painting.{IsReady, shown, behind, AreGlyphs, pieces_run, write_glyph_run}
 use Rattle.vt_paint.proofs.SavedRecord.{with_saved}
 use Rattle.vt_paint.proofs.ModeItems.{modes_run, shift_run}
 
--- s with these parts, and with the modes of power-up but for the origin
-abbrev pub part : Display → Cursor → Brush → GraphicSets → Margins → Bool → Display
-part s cursor brush sets margins origin = record s {
+-- s with these parts, and with some modes but for the origin
+abbrev pub part : Display → Modes → Cursor → Brush → GraphicSets → Margins → Bool → Display
+part s modes cursor brush sets margins origin = record s {
   cursor = cursor;
   brush = brush;
   sets = sets;
   margins = margins;
-  modes = record modes_at_power_up { decom = origin };
+  modes = record modes { decom = origin };
 }
 
 -- ---- the cells
@@ -48,7 +49,7 @@ pub record HasCells (s x : Display) : Type 0 where
   pub cursor : Cursor
   pub brush : Brush
   pub sets : GraphicSets
-  pub is : x ≡ part s cursor brush sets full_margins false
+  pub is : x ≡ part s modes_at_power_up cursor brush sets full_margins false
   pub four : length sets.g ≡ 4
   pub none : sets.pending ≡ None
   pub spells : s.cursor.wrap ≡ true → AreSpellingSets sets
@@ -71,6 +72,9 @@ module _ (grids : GridLaws) where
       ap (λ n. grid_of n (λ r c. blank)) (sym w)
       ∙ grids.same_formulas g.width (λ r c. blank) (cell_at g) (λ r c r1 r24 c1 cw. sym (blank_cell g r c h r1 r24 c1 cw))
       ∙ grids.own_cells g is
+
+  blank_painted : (wide : Bool) (g : Grid) → g.width ≡ columns wide → blank_grid wide ≡ painted all_blank g 1 1
+  blank_painted wide g w = ap (λ n. grid_of n all_blank) (sym w) ∙ painted_none grids all_blank g
 
 module _ (grids : GridLaws) (glyphs : GlyphLaws) where
   pub cells_run : (wide : Bool) (s : Display) (cursor : Cursor) → s.grid.width ≡ columns wide → IsGrid s.grid → AreGlyphs s.grid → AreSoundSets (saved_sets s.saved)
@@ -100,9 +104,8 @@ module _ (grids : GridLaws) (glyphs : GlyphLaws) where
             spells = λ h. absurd (cc (h, not_true s.cursor.wrap p.1));
           }
       go false e =
-          let ready : IsReady base = record { sets = spelling_sets_are (saved_sets s.saved) sets.four refl; modes = refl } in
-          let painted_is : run x0 spelling_sets_events ≡ shown base (painted s.grid 1 1) cursor s.saved.brush =
-          spelling_sets_run x0 ∙ ap (λ g. shown base g cursor s.saved.brush) (painted_none grids wide s.grid w) in
+          let ready : IsReady base = record { sets = spelling_sets_are (saved_sets s.saved) sets.four refl; irm = refl; decawm = refl; decom = refl } in
+          let painted_is = spelling_sets_run x0 ∙ ap (λ g. shown base g cursor s.saved.brush) (blank_painted grids wide s.grid w) in
           let v = pieces_run grids glyphs base s.grid (run x0 spelling_sets_events) cursor s.saved.brush ready is are painted_is in
           record {
             cursor = v.cursor;
@@ -116,23 +119,24 @@ module _ (grids : GridLaws) (glyphs : GlyphLaws) where
 
 -- ---- margins and origin
 
-pub record HasMargins (s : Display) (brush : Brush) (sets : GraphicSets) (margins : Margins) (origin : Bool) (x : Display) : Type 0 where
+pub record HasMargins (s : Display) (modes : Modes) (brush : Brush) (sets : GraphicSets) (margins : Margins) (origin : Bool) (x : Display) : Type 0 where
   pub cursor : Cursor
-  pub is : x ≡ part s cursor brush sets margins origin
+  pub is : x ≡ part s modes cursor brush sets margins origin
 
-pub margins_run : (s : Display) (cursor : Cursor) (brush : Brush) (sets : GraphicSets) (m : Margins) → AreSoundMargins m → HasMargins s brush sets m false (run (part s cursor brush sets full_margins false) (margins_item m))
+pub margins_run : (s : Display) (modes : Modes) (cursor : Cursor) (brush : Brush) (sets : GraphicSets) (m : Margins) (origin : Bool) → AreSoundMargins m
+    → HasMargins s modes brush sets m origin (run (part s modes cursor brush sets full_margins origin) (margins_item m))
 unfolding run margins_item sequence_in sequences_of
-margins_run s cursor brush sets m sound = go (eqb m.top 1 && eqb m.bottom 24) refl
+margins_run s modes cursor brush sets m origin sound = go (eqb m.top 1 && eqb m.bottom 24) refl
   where
     x : Display
-    x = part s cursor brush sets full_margins false
+    x = part s modes cursor brush sets full_margins origin
 
-    go : (b : Bool) → eqb m.top 1 && eqb m.bottom 24 ≡ b → HasMargins s brush sets m false (run x (cond b [] (margins_to m.top m.bottom ∷ [])))
+    go : (b : Bool) → eqb m.top 1 && eqb m.bottom 24 ≡ b → HasMargins s modes brush sets m origin (run x (cond b [] (margins_to m.top m.bottom ∷ [])))
     go true e =
         let a = and_true (eqb m.top 1) (eqb m.bottom 24) e in
         let mk : ℕ → ℕ → Margins = λ t b. record { top = t; bottom = b } in
         let is : full_margins ≡ m = sym (ap (λ t. mk t m.bottom) (eqb-true m.top 1 a.0) ∙ ap (λ b. mk 1 b) (eqb-true m.bottom 24 a.1)) in
-        record { cursor = cursor; is = ap (λ y. part s cursor brush sets y false) is }
+        record { cursor = cursor; is = ap (λ y. part s modes cursor brush sets y origin) is }
     go false e =
         let top : max m.top 1 ≡ m.top = omega (arith, sound) in
         let none : eqb m.bottom 0 ≡ false = ne_eqb m.bottom 0 (omega (arith, sound)) in
@@ -140,7 +144,7 @@ margins_run s cursor brush sets m sound = go (eqb m.top 1 && eqb m.bottom 24) re
         let less : ltb m.top m.bottom ≡ true = lt-ltb m.top m.bottom sound.two_rows in
         let done : ℕ → ℕ → Bool → Display = λ t b l. cond l (home (record x { margins = record { top = t; bottom = b } })) x in
         record {
-          cursor = at_place 1 1;
+          cursor = at_place (cond origin m.top 1) 1;
           is =
               ap (λ t. done t (cond (eqb m.bottom 0) 24 (min m.bottom 24)) (ltb t (cond (eqb m.bottom 0) 24 (min m.bottom 24)))) top
               ∙ ap (λ b. done m.top (cond b 24 (min m.bottom 24)) (ltb m.top (cond b 24 (min m.bottom 24)))) none
@@ -148,10 +152,16 @@ margins_run s cursor brush sets m sound = go (eqb m.top 1 && eqb m.bottom 24) re
               ∙ ap (λ l. done m.top m.bottom l) less;
         }
 
-pub origin_run : (s : Display) (cursor : Cursor) (brush : Brush) (sets : GraphicSets) (m : Margins) (origin : Bool) → HasMargins s brush sets m origin (run (part s cursor brush sets m false) (origin_item origin))
+pub origin_run : (s : Display) (modes : Modes) (cursor : Cursor) (brush : Brush) (sets : GraphicSets) (m : Margins) (origin : Bool) → HasMargins s modes brush sets m origin (run (part s modes cursor brush sets m false) (origin_item origin))
 unfolding run origin_item sequence_in sequences_of with_mode
-origin_run s cursor brush sets m true = record { cursor = at_place m.top 1; is = refl }
-origin_run s cursor brush sets m false = record { cursor = cursor; is = refl }
+origin_run s modes cursor brush sets m true = record { cursor = at_place m.top 1; is = refl }
+origin_run s modes cursor brush sets m false = record { cursor = cursor; is = refl }
+
+pub origin_set_run : (s : Display) (modes : Modes) (cursor : Cursor) (brush : Brush) (sets : GraphicSets) (m : Margins) (was on : Bool)
+    → HasMargins s modes brush sets m on (run (part s modes cursor brush sets m was) (private_mode decom on ∷ []))
+unfolding run sequence_in sequences_of with_mode
+origin_set_run s modes cursor brush sets m was true = record { cursor = at_place m.top 1; is = refl }
+origin_set_run s modes cursor brush sets m was false = record { cursor = at_place 1 1; is = refl }
 
 -- ---- the cursor
 
@@ -162,26 +172,26 @@ line_back s i = go s.modes.decom refl
     go true e = let o = i.origin e in omega (arith, o)
     go false e = omega (arith, i.cursor.row_1, i.cursor.row_24)
 
-pub position_run : (s : Display) (cursor : Cursor) (brush : Brush) (sets : GraphicSets) → IsSoundDisplay s
-    → run (part s cursor brush sets s.margins s.modes.decom) (position_item s) ≡ part s (at_place s.cursor.row s.cursor.col) brush sets s.margins s.modes.decom
+pub position_run : (s : Display) (modes : Modes) (cursor : Cursor) (brush : Brush) (sets : GraphicSets) → IsSoundDisplay s
+    → run (part s modes cursor brush sets s.margins s.modes.decom) (position_item s) ≡ part s modes (at_place s.cursor.row s.cursor.col) brush sets s.margins s.modes.decom
 unfolding run sequence_in sequences_of
-position_run s cursor brush sets i =
+position_run s modes cursor brush sets i =
     let col : min (max s.cursor.col 1) s.grid.width ≡ s.cursor.col = omega (arith, i.cursor.col_1, i.cursor.col_last) in
-    ap (λ r. part s (at_place r (min (max s.cursor.col 1) s.grid.width)) brush sets s.margins s.modes.decom) (line_back s i)
-    ∙ ap (λ k. part s (at_place s.cursor.row k) brush sets s.margins s.modes.decom) col
+    ap (λ r. part s modes (at_place r (min (max s.cursor.col 1) s.grid.width)) brush sets s.margins s.modes.decom) (line_back s i)
+    ∙ ap (λ k. part s modes (at_place s.cursor.row k) brush sets s.margins s.modes.decom) col
 
-pub record HasCursor (s x : Display) : Type 0 where
+pub record HasCursor (s : Display) (modes : Modes) (x : Display) : Type 0 where
   pub brush : Brush
   pub sets : GraphicSets
-  pub is : x ≡ part s s.cursor brush sets s.margins s.modes.decom
+  pub is : x ≡ part s modes s.cursor brush sets s.margins s.modes.decom
   pub four : length sets.g ≡ 4
   pub none : sets.pending ≡ None
 
 module _ (grids : GridLaws) (glyphs : GlyphLaws) where
-  pub wrap_run : (s : Display) (brush : Brush) (sets : GraphicSets) → IsSoundDisplay s → AreGlyphs s.grid → length sets.g ≡ 4 → sets.pending ≡ None → (s.cursor.wrap ≡ true → AreSpellingSets sets)
-      → HasCursor s (run (part s (at_place s.cursor.row s.cursor.col) brush sets s.margins s.modes.decom) (wrap_item s.grid s.cursor))
+  pub wrap_run : (s : Display) (modes : Modes) (brush : Brush) (sets : GraphicSets) → modes.irm ≡ false → modes.decawm ≡ true → IsSoundDisplay s → AreGlyphs s.grid → length sets.g ≡ 4 → sets.pending ≡ None → (s.cursor.wrap ≡ true → AreSpellingSets sets)
+      → HasCursor s modes (run (part s modes (at_place s.cursor.row s.cursor.col) brush sets s.margins s.modes.decom) (wrap_item s.grid s.cursor))
   unfolding run wrap_item
-  wrap_run s brush sets i are four none spells = go s.cursor.wrap refl
+  wrap_run s modes brush sets irm decawm i are four none spells = go s.cursor.wrap refl
     where
       cell : Cell
       cell = cell_at s.grid s.cursor.row s.cursor.col
@@ -190,9 +200,9 @@ module _ (grids : GridLaws) (glyphs : GlyphLaws) where
       at w = record { row = s.cursor.row; col = s.cursor.col; wrap = w }
 
       shape : Cursor → Brush → Display
-      shape c b = part s c b sets s.margins s.modes.decom
+      shape c b = part s modes c b sets s.margins s.modes.decom
 
-      go : (b : Bool) → s.cursor.wrap ≡ b → HasCursor s (run (shape (at_place s.cursor.row s.cursor.col) brush) (cond b (brush_events (brush_of cell) ++ glyph_events cell) []))
+      go : (b : Bool) → s.cursor.wrap ≡ b → HasCursor s modes (run (shape (at_place s.cursor.row s.cursor.col) brush) (cond b (brush_events (brush_of cell) ++ glyph_events cell) []))
       go false e = record { brush = brush; sets = sets; is = ap (λ w. shape (at w) brush) (sym e); four = four; none = none }
       go true e =
           let last = i.cursor.wrap_last e in
@@ -204,7 +214,7 @@ module _ (grids : GridLaws) (glyphs : GlyphLaws) where
                 run-append (shape here brush) (brush_events (brush_of cell)) (glyph_events cell)
                 ∙ ap (λ y. run y (glyph_events cell)) (brush_run (shape here brush) (brush_of cell))
                 ∙ glyph_run glyphs (shape here (brush_of cell)) cell (spells e) (are s.cursor.row s.cursor.col)
-                ∙ write_glyph_run (shape here (brush_of cell)) s.cursor.row s.cursor.col cell refl refl
+                ∙ write_glyph_run (shape here (brush_of cell)) s.cursor.row s.cursor.col cell irm decawm
                 ∙ ap (λ g. record (shape (behind s.grid.width s.cursor.row s.cursor.col) (brush_of cell)) { grid = g }) (put_same grids s.grid s.cursor.row s.cursor.col i.grid.shape)
                 ∙ ap (λ b. shape (cond b (at_place s.cursor.row (s.cursor.col + 1)) (at true)) (brush_of cell)) (le-ltb s.cursor.col s.grid.width (omega (arith, last)))
                 ∙ ap (λ w. shape (at w) (brush_of cell)) (sym e);
@@ -215,10 +225,10 @@ module _ (grids : GridLaws) (glyphs : GlyphLaws) where
 -- ---- all that is left
 
 pub end_run : (s : Display) (brush : Brush) (sets : GraphicSets) → IsSoundDisplay s → length sets.g ≡ 4 → sets.pending ≡ None
-    → run (part s s.cursor brush sets s.margins s.modes.decom) (brush_events s.brush ++ (sets_events s.sets ++ (modes_item s.modes ++ shift_item s.sets.pending))) ≡ s
+    → run (part s modes_at_power_up s.cursor brush sets s.margins s.modes.decom) (brush_events s.brush ++ (sets_events s.sets ++ (modes_item s.modes ++ shift_item s.sets.pending))) ≡ s
 end_run s brush sets i four none =
-    let x0 = part s s.cursor brush sets s.margins s.modes.decom in
-    let x1 = part s s.cursor s.brush sets s.margins s.modes.decom in
+    let x0 = part s modes_at_power_up s.cursor brush sets s.margins s.modes.decom in
+    let x1 = part s modes_at_power_up s.cursor s.brush sets s.margins s.modes.decom in
     let x2 = with_sets x1 s.sets.g s.sets.left s.sets.right in
     let x3 : Display = record x2 { modes = s.modes } in
     let f3 = modes_item s.modes ++ shift_item s.sets.pending in

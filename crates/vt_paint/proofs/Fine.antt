@@ -30,6 +30,7 @@ use Rattle.vt_term.specs.State.{Display}
 use Rattle.vt_term.specs.Functions.{effect}
 use Rattle.vt_term.specs.Reports.{report, control_report, sequence_report}
 use Rattle.vt_term.specs.Play.{reports_of, after_events}
+use Rattle.vt_paint.specs.ChangeEvents.{soft_reset, keypad_event, report_form_event, has_all, all_attributes, short_rendition, short_brush_events}
 use Rattle.vt_paint.specs.Controls.{where_true, ansi_mode, private_mode, cursor_to, margins_to, clear_all_tabs, rendition_to, protection_to, brush_events, set_tab, shift_to_2, shift_to_3, reset_all, save_cursor, application_keypad, reports_8bit, left_event, right_event, sets_events, spelling_sets_events, spelling_events}
 
 -- ---- seven bits
@@ -204,6 +205,31 @@ private_mode_fine n false h =
     let d = two_digits n h in
     fine-one 6 (private_mode n false) (record { is_marker = (omega arith, omega arith); are_values = one_value n (omega arith); is_intermediate = tt; low = omega arith; high = omega arith }) (λ s. refl) (simp length-append (omega (arith, d))) tt
 
+-- a mode of one digit
+pub small_ansi_mode_fine : (n : ℕ) (on : Bool) → n < 10 → AreFine 4 (ansi_mode n on ∷ [])
+unfolding sequence_report
+small_ansi_mode_fine n true h =
+    let d = one_digit n h in
+    fine-one 4 (ansi_mode n true) (record { is_marker = tt; are_values = one_value n (omega arith); is_intermediate = tt; low = omega arith; high = omega arith }) (λ s. refl) (simp length-append (omega (arith, d))) tt
+small_ansi_mode_fine n false h =
+    let d = one_digit n h in
+    fine-one 4 (ansi_mode n false) (record { is_marker = tt; are_values = one_value n (omega arith); is_intermediate = tt; low = omega arith; high = omega arith }) (λ s. refl) (simp length-append (omega (arith, d))) tt
+
+pub small_private_mode_fine : (n : ℕ) (on : Bool) → n < 10 → AreFine 5 (private_mode n on ∷ [])
+unfolding sequence_report
+small_private_mode_fine n true h =
+    let d = one_digit n h in
+    fine-one 5 (private_mode n true) (record { is_marker = (omega arith, omega arith); are_values = one_value n (omega arith); is_intermediate = tt; low = omega arith; high = omega arith }) (λ s. refl) (simp length-append (omega (arith, d))) tt
+small_private_mode_fine n false h =
+    let d = one_digit n h in
+    fine-one 5 (private_mode n false) (record { is_marker = (omega arith, omega arith); are_values = one_value n (omega arith); is_intermediate = tt; low = omega arith; high = omega arith }) (λ s. refl) (simp length-append (omega (arith, d))) tt
+
+pub soft_reset_fine : AreFine 5 (soft_reset ∷ [])
+unfolding sequence_report
+soft_reset_fine =
+    let d = one_digit 0 (omega arith) in
+    fine-one 5 soft_reset (record { is_marker = tt; are_values = one_value 0 (omega arith); is_intermediate = (omega arith, omega arith); low = omega arith; high = omega arith }) (λ s. refl) (simp length-append (omega (arith, d))) tt
+
 -- ---- the brush
 
 protection_fine : (protected : Bool) → AreFine 5 (protection_to protected ∷ [])
@@ -235,20 +261,45 @@ joined_short v (w ∷ values) h =
     let ih = joined_short w values (λ k e l. h (suc k) e (omega arith)) in
     rw (length-append (decimal v) (0x3B ∷ join_with_byte 0x3B (map decimal (w ∷ values)))) (omega (arith, d, ih))
 
-values_fine : (values : List ℕ) → AreDigits 4 values → AreFine 12 (Sequence None (record { items = 0 ∷ values }) None 0x6D ∷ [])
+values_fine : (n v : ℕ) (values : List ℕ) → v < 10 → n ≤ 4 → AreDigits n values → AreFine (4 + 2 * n) (Sequence None (record { items = v ∷ values }) None 0x6D ∷ [])
 unfolding sequence_report
-values_fine values h =
-    let all = All-cons (λ v. v < 10) 0 values (omega arith) h.small in
-    let j = joined_short 0 values all in
-    let few : length values ≤ 4 = h.count in
-    fine-one 12 (Sequence None (record { items = 0 ∷ values }) None 0x6D)
+values_fine n v values low few h =
+    let all = All-cons (λ v. v < 10) v values low h.small in
+    let j = joined_short v values all in
+    let count : length values ≤ n = h.count in
+    fine-one (4 + 2 * n) (Sequence None (record { items = v ∷ values }) None 0x6D)
     (record { is_marker = tt; are_values = record { some = omega arith; few = omega arith; small = λ k d l. omega (arith, all k d l) }; is_intermediate = tt; low = omega arith; high = omega arith })
-    (λ s. refl) (simp length-append (omega (arith, j, few))) tt
+    (λ s. refl) (simp length-append (omega (arith, j, count))) tt
 
 rendition_fine : (r : Rendition) → AreFine 12 (rendition_to r ∷ [])
 rendition_fine r =
-    values_fine (where_true r.bold (1 ∷ []) ++ (where_true r.underline (4 ∷ []) ++ (where_true r.blink (5 ∷ []) ++ where_true r.reverse (7 ∷ []))))
+    values_fine 4 0 (where_true r.bold (1 ∷ []) ++ (where_true r.underline (4 ∷ []) ++ (where_true r.blink (5 ∷ []) ++ where_true r.reverse (7 ∷ [])))) (omega arith) (omega arith)
     (digits_where 3 1 r.bold _ (omega arith) (digits_where 2 4 r.underline _ (omega arith) (digits_where 1 5 r.blink _ (omega arith) (digits_last 7 r.reverse (omega arith)))))
+
+-- where not every attribute is set, at most three are
+three_set : (b u k r : Bool) → has_all (record { bold = b; underline = u; blink = k; reverse = r }) ≡ false
+    → AreDigits 3 (where_true b (1 ∷ []) ++ (where_true u (4 ∷ []) ++ (where_true k (5 ∷ []) ++ where_true r (7 ∷ []))))
+three_set false u k r h = digits_where 2 4 u _ (omega arith) (digits_where 1 5 k _ (omega arith) (digits_last 7 r (omega arith)))
+three_set true false k r h = digits_where 2 1 true _ (omega arith) (digits_where 1 5 k _ (omega arith) (digits_last 7 r (omega arith)))
+three_set true true false r h = digits_where 2 1 true _ (omega arith) (digits_where 1 4 true _ (omega arith) (digits_last 7 r (omega arith)))
+three_set true true true false h = digits_where 2 1 true _ (omega arith) (digits_where 1 4 true _ (omega arith) (digits_last 5 true (omega arith)))
+three_set true true true true h = absurd cc
+
+all_attributes_fine : AreFine 10 (all_attributes ∷ [])
+all_attributes_fine =
+    values_fine 3 1 (4 ∷ 5 ∷ 7 ∷ []) (omega arith) (omega arith)
+    (digits_where 2 4 true _ (omega arith) (digits_where 1 5 true _ (omega arith) (digits_last 7 true (omega arith))))
+
+short_rendition_fine : (r : Rendition) → AreFine 10 (short_rendition r ∷ [])
+short_rendition_fine r = go (has_all r) refl
+  where
+    go : (b : Bool) → has_all r ≡ b → AreFine 10 (cond b all_attributes (rendition_to r) ∷ [])
+    go true e = all_attributes_fine
+    go false e = values_fine 3 0 _ (omega arith) (omega arith) (three_set r.bold r.underline r.blink r.reverse e)
+
+pub short_brush_fine : (brush : Brush) → AreFine 15 (short_brush_events brush)
+unfolding short_brush_events
+short_brush_fine brush = fine-append 10 5 (short_rendition brush.rendition ∷ []) (protection_to brush.protected ∷ []) (short_rendition_fine brush.rendition) (protection_fine brush.protected)
 
 pub brush_fine : (brush : Brush) → AreFine 17 (brush_events brush)
 unfolding brush_events
@@ -280,6 +331,13 @@ keypad_fine = fine-one 2 application_keypad (tt, inl (omega arith, omega arith))
 pub reports_fine : AreFine 3 (reports_8bit ∷ [])
 reports_fine = fine-one 3 reports_8bit ((omega arith, omega arith), (omega arith, omega arith)) (λ s. refl) (omega arith) tt
 
+pub keypad_event_fine : (application : Bool) → AreFine 2 (keypad_event application ∷ [])
+keypad_event_fine application = fine-if 2 application _ _ keypad_fine (fine-one 2 (Escape None 0x3E) (tt, inl (omega arith, omega arith)) (λ s. refl) (omega arith) tt)
+
+pub report_form_event_fine : (eight : Bool) → AreFine 3 (report_form_event eight ∷ [])
+report_form_event_fine eight =
+    fine-if 3 eight _ _ reports_fine (fine-one 3 (Escape (Some 0x20) 0x46) ((omega arith, omega arith), (omega arith, omega arith)) (λ s. refl) (omega arith) tt)
+
 pub print_fine : (b : ℕ) → 0x20 ≤ b → b ≤ 0x7E → AreFine 1 (Print b ∷ [])
 print_fine b h k = fine-one 1 (Print b) (inl (h, k)) (λ s. refl) (omega arith) (omega arith)
 
@@ -300,9 +358,9 @@ plain_escape_fine : (last : ℕ) → 0x60 ≤ last → last ≤ 0x7E → AreFine
 plain_escape_fine last h k = fine-one 2 (Escape None last) (tt, inr (h, k)) (λ s. refl) (omega arith) tt
 
 -- SI and SO
-shift_in_fine : AreFine 2 (Control 0x0F ∷ [])
+shift_in_fine : AreFine 1 (Control 0x0F ∷ [])
 unfolding control_report
-shift_in_fine = fine-one 2 (Control 0x0F) (inl (omega arith, (λ e. omega arith), (λ e. omega arith))) (λ s. refl) (omega arith) tt
+shift_in_fine = fine-one 1 (Control 0x0F) (inl (omega arith, (λ e. omega arith), (λ e. omega arith))) (λ s. refl) (omega arith) tt
 
 shift_out_fine : AreFine 2 (Control 0x0E ∷ [])
 unfolding control_report
@@ -310,7 +368,7 @@ shift_out_fine = fine-one 2 (Control 0x0E) (inl (omega arith, (λ e. omega arith
 
 left_fine : (slot : ℕ) → AreFine 2 (left_event slot ∷ [])
 left_fine slot =
-    fine-if 2 (eqb slot 0) _ _ shift_in_fine
+    fine-if 2 (eqb slot 0) _ _ (fine-upto 1 2 _ (omega arith) shift_in_fine)
     (fine-if 2 (eqb slot 1) _ _ shift_out_fine
     (fine-if 2 (eqb slot 2) _ _ (plain_escape_fine 0x6E (omega arith) (omega arith)) (plain_escape_fine 0x6F (omega arith) (omega arith))))
 
@@ -328,11 +386,11 @@ sets_fine t =
     (fine-append 3 4 _ _ (designation_fine 0x2B (set_at t 3) (omega arith) (omega arith))
     (fine-append 2 2 _ _ (left_fine t.left) (right_fine t.right)))))
 
-pub spelling_sets_fine : AreFine 11 spelling_sets_events
+pub spelling_sets_fine : AreFine 10 spelling_sets_events
 spelling_sets_fine =
-    fine-append 3 8 _ _ (designation_fine 0x28 Ascii (omega arith) (omega arith))
-    (fine-append 3 5 _ _ (designation_fine 0x2A Supplemental (omega arith) (omega arith))
-    (fine-append 3 2 _ _ (designation_fine 0x2B Special (omega arith) (omega arith)) (left_fine 0)))
+    fine-append 3 7 _ _ (designation_fine 0x28 Ascii (omega arith) (omega arith))
+    (fine-append 3 4 _ _ (designation_fine 0x2A Supplemental (omega arith) (omega arith))
+    (fine-append 3 1 _ _ (designation_fine 0x2B Special (omega arith) (omega arith)) shift_in_fine))
 
 -- ---- glyphs
 

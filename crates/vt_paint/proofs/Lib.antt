@@ -16,3 +16,9 @@ pub mod Spelled
 pub mod Pushing
 pub mod Entries
 pub mod RowRuns
+pub mod ChangeRuns
+pub mod EveryMode
+pub mod ChangeChain
+pub mod ChangesWhole
+pub mod Differing
+pub mod Marks

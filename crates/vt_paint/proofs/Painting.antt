@@ -8,7 +8,7 @@ use Rattle.vt_screen.specs.declared.cell.Cell.{Cell}
 use Rattle.vt_screen.specs.Cells.{blank, brush_of}
 use Rattle.vt_screen.specs.Grid.{Grid, IsGrid, cell_at, put}
 use Rattle.vt_term.specs.declared.state.Cursor.{Cursor}
-use Rattle.vt_term.specs.State.{Display, at_place, modes_at_power_up}
+use Rattle.vt_term.specs.State.{Display, at_place}
 use Rattle.vt_term.specs.Writing.{write_glyph}
 use Rattle.vt_term.specs.Functions.{sequence_in, sequences_of, effect}
 use Rattle.vt_paint.specs.Same.{same_brush, is_blank}
@@ -17,14 +17,16 @@ use Rattle.vt_paint.specs.Pieces.{left_of, needs_header, header, glyph_events, p
 use Rattle.vt_paint.proofs.LowerLaws.{GridLaws, GlyphLaws}
 use Rattle.vt_paint.proofs.Running.{run, run-append}
 use Rattle.vt_paint.proofs.Equality.{or_false, not_false, same_brush-is, is_blank-is}
-use Rattle.vt_paint.proofs.Grids.{painted, painted_row, painted_skip, painted_put, painted_all}
+use Rattle.vt_paint.proofs.Grids.{painted, all_blank, painted_row, painted_skip, painted_put, painted_all}
 use Rattle.vt_paint.proofs.Brushes.{brush_run}
 use Rattle.vt_paint.proofs.Glyphs.{glyph_run}
 
 -- a display on which the pieces paint: nothing but its grid, cursor and brush changes
 pub record IsReady (base : Display) : Type 0 where
   pub sets : AreSpellingSets base.sets
-  pub modes : base.modes ≡ modes_at_power_up
+  pub irm : base.modes.irm ≡ false
+  pub decawm : base.modes.decawm ≡ true
+  pub decom : base.modes.decom ≡ false
 
 abbrev pub shown : Display → Grid → Cursor → Brush → Display
 shown base g cursor brush = record base { grid = g; cursor = cursor; brush = brush }
@@ -41,7 +43,7 @@ AreAt g r c cursor brush = needs_header (left_of g r c) (cell_at g r c) ≡ fals
 pub record IsPainted (base : Display) (g : Grid) (r c : ℕ) (x : Display) : Type 0 where
   pub cursor : Cursor
   pub brush : Brush
-  pub is : x ≡ shown base (painted g r c) cursor brush
+  pub is : x ≡ shown base (painted all_blank g r c) cursor brush
   pub at : c ≤ g.width → AreAt g r c cursor brush
 
 -- CUP, without origin mode
@@ -98,22 +100,22 @@ header_run base g grid r c cursor brush ready w r1 r24 c1 cw at = go (needs_head
 
     go : (b : Bool) → needs_header (left_of g r c) (cell_at g r c) ≡ b → run (shown base grid cursor brush) (cond b (cursor_to r c ∷ brush_events brush_now) []) ≡ shown base grid (at_place r c) brush_now
     go true e =
-        ap (λ y. run y (brush_events brush_now)) (cursor_to_run (shown base grid cursor brush) r c (ap (λ m. m.decom) ready.modes) r1 r24 c1 (omega (arith, w)))
+        ap (λ y. run y (brush_events brush_now)) (cursor_to_run (shown base grid cursor brush) r c ready.decom r1 r24 c1 (omega (arith, w)))
         ∙ brush_run (shown base grid (at_place r c) brush) brush_now
     go false e = let q = at e in ap (λ x. shown base grid x brush) q.0 ∙ ap (λ x. shown base grid (at_place r c) x) q.1
 
 module _ (grids : GridLaws) (glyphs : GlyphLaws) where
   -- a cell with its header
   cell_run : (base : Display) (g : Grid) (r c : ℕ) (cursor : Cursor) (brush : Brush) → IsReady base → AreGlyphs g → 1 ≤ r → r ≤ 24 → 1 ≤ c → c ≤ g.width → AreAt g r c cursor brush
-      → run (shown base (painted g r c) cursor brush) (header r c (left_of g r c) (cell_at g r c) ++ glyph_events (cell_at g r c)) ≡ shown base (painted g r (c + 1)) (behind g.width r c) (brush_of (cell_at g r c))
+      → run (shown base (painted all_blank g r c) cursor brush) (header r c (left_of g r c) (cell_at g r c) ++ glyph_events (cell_at g r c)) ≡ shown base (painted all_blank g r (c + 1)) (behind g.width r c) (brush_of (cell_at g r c))
   cell_run base g r c cursor brush ready are r1 r24 c1 cw at =
       let cell = cell_at g r c in
-      let x = shown base (painted g r c) (at_place r c) (brush_of cell) in
-      run-append (shown base (painted g r c) cursor brush) (header r c (left_of g r c) cell) (glyph_events cell)
-      ∙ ap (λ y. run y (glyph_events cell)) (header_run base g (painted g r c) r c cursor brush ready refl r1 r24 c1 cw at)
+      let x = shown base (painted all_blank g r c) (at_place r c) (brush_of cell) in
+      run-append (shown base (painted all_blank g r c) cursor brush) (header r c (left_of g r c) cell) (glyph_events cell)
+      ∙ ap (λ y. run y (glyph_events cell)) (header_run base g (painted all_blank g r c) r c cursor brush ready refl r1 r24 c1 cw at)
       ∙ glyph_run glyphs x cell ready.sets (are r c)
-      ∙ write_glyph_run x r c cell (ap (λ m. m.irm) ready.modes) (ap (λ m. m.decawm) ready.modes)
-      ∙ ap (λ y. shown base y (behind g.width r c) (brush_of cell)) (painted_put grids g r c)
+      ∙ write_glyph_run x r c cell ready.irm ready.decawm
+      ∙ ap (λ y. shown base y (behind g.width r c) (brush_of cell)) (painted_put grids all_blank g r c)
 
   piece_run : (base : Display) (g : Grid) (r c : ℕ) (x : Display) → IsReady base → AreGlyphs g → 1 ≤ r → r ≤ 24 → 1 ≤ c → c ≤ g.width → IsPainted base g r c x → IsPainted base g r (c + 1) (run x (piece g r c))
   unfolding run piece_of
@@ -123,7 +125,7 @@ module _ (grids : GridLaws) (glyphs : GlyphLaws) where
       go true e = record {
         cursor = w.cursor;
         brush = w.brush;
-        is = w.is ∙ ap (λ y. shown base y w.cursor w.brush) (painted_skip grids g r c (is_blank-is (cell_at g r c) e));
+        is = w.is ∙ ap (λ y. shown base y w.cursor w.brush) (painted_skip grids all_blank g r c (is_blank-is (cell_at g r c) e));
         at = λ l n. absurd (cc (n, after_blank g r c c1 e));
       }
       go false e = record {
@@ -138,13 +140,13 @@ module _ (grids : GridLaws) (glyphs : GlyphLaws) where
   unfolding run
   pieces_from_run base g r zero c x ready are r1 r24 c1 e w =
       let same : c ≡ g.width + 1 = omega arith in
-      record { cursor = w.cursor; brush = w.brush; is = w.is ∙ ap (λ n. shown base (painted g r n) w.cursor w.brush) same; at = λ l. absurd (omega arith) }
+      record { cursor = w.cursor; brush = w.brush; is = w.is ∙ ap (λ n. shown base (painted all_blank g r n) w.cursor w.brush) same; at = λ l. absurd (omega arith) }
   pieces_from_run base g r (suc n) c x ready are r1 r24 c1 e w =
       subst (λ (y : Display). IsPainted base g r (g.width + 1) y) (sym (run-append x (piece g r c) (pieces_from g r (c + 1) n)))
       (pieces_from_run base g r n (c + 1) (run x (piece g r c)) ready are r1 r24 (omega arith) (omega arith) (piece_run base g r c x ready are r1 r24 c1 (omega arith) w))
 
   -- the first cell of a row needs a header
-  row_start : (base : Display) (g : Grid) (r : ℕ) (x : Display) (cursor : Cursor) (brush : Brush) → x ≡ shown base (painted g r 1) cursor brush → IsPainted base g r 1 x
+  row_start : (base : Display) (g : Grid) (r : ℕ) (x : Display) (cursor : Cursor) (brush : Brush) → x ≡ shown base (painted all_blank g r 1) cursor brush → IsPainted base g r 1 x
   unfolding left_of
   row_start base g r x cursor brush is = record { cursor = cursor; brush = brush; is = is; at = λ l n. absurd (cc (n)) }
 
@@ -152,10 +154,10 @@ module _ (grids : GridLaws) (glyphs : GlyphLaws) where
   unfolding run
   rows_run base g zero r x ready are r1 e w =
       let same : r ≡ 25 = omega arith in
-      row_start base g 25 x w.cursor w.brush (w.is ∙ ap (λ n. shown base (painted g n 1) w.cursor w.brush) same)
+      row_start base g 25 x w.cursor w.brush (w.is ∙ ap (λ n. shown base (painted all_blank g n 1) w.cursor w.brush) same)
   rows_run base g (suc n) r x ready are r1 e w =
       let row = pieces_from_run base g r g.width 1 x ready are r1 (omega arith) (omega arith) (omega arith) w in
-      let next = row_start base g (r + 1) (run x (row_pieces g r)) row.cursor row.brush (row.is ∙ ap (λ y. shown base y row.cursor row.brush) (painted_row grids g r)) in
+      let next = row_start base g (r + 1) (run x (row_pieces g r)) row.cursor row.brush (row.is ∙ ap (λ y. shown base y row.cursor row.brush) (painted_row grids all_blank g r)) in
       subst (λ (y : Display). IsPainted base g 25 1 y) (sym (run-append x (row_pieces g r) (rows_from g (r + 1) n)))
       (rows_run base g n (r + 1) (run x (row_pieces g r)) ready are (omega arith) (omega arith) next)
 
@@ -165,8 +167,8 @@ module _ (grids : GridLaws) (glyphs : GlyphLaws) where
     pub brush : Brush
     pub is : x ≡ shown base g cursor brush
 
-  pub pieces_run : (base : Display) (g : Grid) (x : Display) (cursor : Cursor) (brush : Brush) → IsReady base → IsGrid g → AreGlyphs g → x ≡ shown base (painted g 1 1) cursor brush → IsShown base g (run x (pieces g))
+  pub pieces_run : (base : Display) (g : Grid) (x : Display) (cursor : Cursor) (brush : Brush) → IsReady base → IsGrid g → AreGlyphs g → x ≡ shown base (painted all_blank g 1 1) cursor brush → IsShown base g (run x (pieces g))
   unfolding pieces
   pieces_run base g x cursor brush ready is are start =
       let w = rows_run base g 24 1 x ready are (omega arith) refl (row_start base g 1 x cursor brush start) in
-      record { cursor = w.cursor; brush = w.brush; is = w.is ∙ ap (λ y. shown base y w.cursor w.brush) (painted_all grids g is) }
+      record { cursor = w.cursor; brush = w.brush; is = w.is ∙ ap (λ y. shown base y w.cursor w.brush) (painted_all grids all_blank g is) }

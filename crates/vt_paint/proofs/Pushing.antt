@@ -23,7 +23,7 @@ range-suc a (suc n) =
     let e : a + 1 + n ≡ a + suc n = omega arith in
     ap (λ (ms : List ℕ). let all : List ℕ = a ∷ ms in all) (range-suc (a + 1) n ∙ ap (λ m. range_with_len (a + 1) n ++ m ∷ []) e)
 
-range-more : (a n : ℕ) → range_with_len a (n + 1) ≡ range_with_len a n ++ (a + n) ∷ []
+pub range-more : (a n : ℕ) → range_with_len a (n + 1) ≡ range_with_len a n ++ (a + n) ∷ []
 range-more a n = let e : n + 1 ≡ suc n = omega arith in ap (λ m. range_with_len a m) e ∙ range-suc a n
 
 -- events of the numbers of a range, spelled

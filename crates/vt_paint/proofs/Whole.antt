@@ -1,5 +1,5 @@
 -- The whole repaint: its events are fine, and they make the display.
-use Rattle.std.proofs.Common.{◌≡◌, Bool, true, false, not, cond, eqb, ◌&&◌, ℕ, zero, suc, ◌+◌, ◌-◌, ◌*◌, ◌≤◌, ◌<◌, List, [], ◌∷◌, ◌++◌, length, Option, Some, None, sym, ap, subst, ◌∙◌, arith}
+use Rattle.std.proofs.Common.{◌≡◌, Bool, true, false, not, cond, eqb, ◌&&◌, ℕ, zero, suc, ◌+◌, ◌-◌, ◌*◌, ◌≤◌, ◌<◌, List, [], ◌∷◌, ◌++◌, length, Option, Some, None, refl, sym, ap, subst, ◌∙◌, arith}
 use Rattle.std.specs.Cmp.Lexicographic.{pointwise}
 use Rattle.std.specs.Str.{IsAscii}
 use Rattle.vt_syntax.specs.declared.event.Event.{Event}
@@ -17,7 +17,7 @@ use Rattle.vt_term.specs.declared.state.Cursor.{Cursor}
 use Rattle.vt_term.specs.declared.state.Margins.{Margins}
 use Rattle.vt_term.specs.declared.state.Modes.{Modes}
 use Rattle.vt_term.specs.declared.state.Saved.{Saved}
-use Rattle.vt_term.specs.State.{Display, State, last_column, at_place, full_margins, saved_sets, saved_at_power_up, stops_at_power_up, display_at_power_up, has_stop_at}
+use Rattle.vt_term.specs.State.{Display, State, last_column, at_place, full_margins, saved_sets, saved_at_power_up, stops_at_power_up, modes_at_power_up, display_at_power_up, has_stop_at}
 use Rattle.vt_term.specs.Sound.{IsPlace, IsSoundDisplay, IsSound}
 use Rattle.vt_term.specs.Reports.{line_of_cursor}
 use Rattle.vt_term.specs.Play.{Played, after_events, reports_of, play}
@@ -69,7 +69,7 @@ saved_item_fine saved h k =
     (fine-append 2 6 (save_cursor ∷ []) _ save_fine (fine-where 6 saved.origin _ (private_mode_fine 6 false (omega arith)))))))))
 
 module _ (glyphs : GlyphLaws) where
-  glyph_fine : (cell : Cell) → IsGlyph cell.glyph → AreFine 3 (glyph_events cell)
+  pub glyph_fine : (cell : Cell) → IsGlyph cell.glyph → AreFine 3 (glyph_events cell)
   unfolding glyph_events
   glyph_fine cell is = let c = glyphs.code cell.glyph is in spelling_fine (spelling_of cell.glyph) c.0 c.1
 
@@ -96,14 +96,14 @@ module _ (glyphs : GlyphLaws) where
 
   cells_item_fine : (g : Grid) (wrap : Bool) → AreGlyphs g → g.width ≤ 132 → AreFine 91883 (cells_item g wrap)
   unfolding cells_item pieces
-  cells_item_fine g wrap are w = fine-unless 91883 (is_blank_grid g && not wrap) (spelling_sets_events ++ pieces g) (fine-append 11 91872 _ _ spelling_sets_fine (rows_from_fine g 24 1 are w (omega arith)))
+  cells_item_fine g wrap are w = fine-unless 91883 (is_blank_grid g && not wrap) (spelling_sets_events ++ pieces g) (fine-append 11 91872 _ _ (fine-upto 10 11 _ (omega arith) spelling_sets_fine) (rows_from_fine g 24 1 are w (omega arith)))
 
-  wrap_item_fine : (g : Grid) (cursor : Cursor) → AreGlyphs g → AreFine 20 (wrap_item g cursor)
+  pub wrap_item_fine : (g : Grid) (cursor : Cursor) → AreGlyphs g → AreFine 20 (wrap_item g cursor)
   unfolding wrap_item
   wrap_item_fine g cursor are =
       fine-where 20 cursor.wrap _ (fine-append 17 3 _ _ (brush_fine (brush_of (cell_at g cursor.row cursor.col))) (glyph_fine (cell_at g cursor.row cursor.col) (are cursor.row cursor.col)))
 
-margins_item_fine : (m : Margins) → m.top ≤ 24 → m.bottom ≤ 24 → AreFine 8 (margins_item m)
+pub margins_item_fine : (m : Margins) → m.top ≤ 24 → m.bottom ≤ 24 → AreFine 8 (margins_item m)
 unfolding margins_item
 margins_item_fine m h k = fine-unless 8 (eqb m.top 1 && eqb m.bottom 24) _ (margins_to_fine m.top m.bottom h k)
 
@@ -139,7 +139,7 @@ modes_item_fine m =
     (fine-append 6 5 _ _ (private_fine 25 true m.dectcem (omega arith))
     (fine-append 2 3 _ _ (fine-where 2 m.keypad_application _ keypad_fine) (fine-where 3 m.reports_8bit _ reports_fine)))))))))))
 
-shift_item_fine : (pending : Option ℕ) → AreFine 2 (shift_item pending)
+pub shift_item_fine : (pending : Option ℕ) → AreFine 2 (shift_item pending)
 unfolding shift_item
 shift_item_fine None = fine-upto 0 2 _ (omega arith) fine-none
 shift_item_fine (Some slot) = fine-if 2 (eqb slot 2) shift_to_2 shift_to_3 shift_to_2_fine shift_to_3_fine
@@ -147,7 +147,7 @@ shift_item_fine (Some slot) = fine-if 2 (eqb slot 2) shift_to_2 shift_to_3 shift
 -- ---- the whole
 
 -- each place of a sound grid has a glyph
-sound_glyphs : GridLaws → GlyphLaws → (s : Display) → IsSoundDisplay s → AreGlyphs s.grid
+pub sound_glyphs : GridLaws → GlyphLaws → (s : Display) → IsSoundDisplay s → AreGlyphs s.grid
 sound_glyphs grids glyphs s i r c = grids.tested (λ cell. is_glyph cell.glyph) s.grid r c glyphs.space i.grid.glyphs
 
 pub width_small : (s : Display) → IsSoundDisplay s → last_column s ≤ 132
@@ -197,16 +197,16 @@ module _ (grids : GridLaws) (glyphs : GlyphLaws) where
       let w1 = stops_run wide s.stops i.stops in
       let w2 = saved_run grids wide s.stops s.saved w1.cursor place i.saved_sets in
       let w3 = cells_run grids glyphs wide s w2.cursor is_width i.grid.shape are i.saved_sets in
-      let w4 = margins_run s w3.cursor w3.brush w3.sets s.margins i.margins in
-      let w5 = origin_run s w4.cursor w3.brush w3.sets s.margins s.modes.decom in
-      let w7 = wrap_run grids glyphs s w3.brush w3.sets i are w3.four w3.none w3.spells in
+      let w4 = margins_run s modes_at_power_up w3.cursor w3.brush w3.sets s.margins false i.margins in
+      let w5 = origin_run s modes_at_power_up w4.cursor w3.brush w3.sets s.margins s.modes.decom in
+      let w7 = wrap_run grids glyphs s modes_at_power_up w3.brush w3.sets refl refl i are w3.four w3.none w3.spells in
       let x1 = with_stops wide s.stops w1.cursor in
       let x2 = with_saved wide s.stops s.saved w2.cursor in
-      let x3 = part s w3.cursor w3.brush w3.sets full_margins false in
-      let x4 = part s w4.cursor w3.brush w3.sets s.margins false in
-      let x5 = part s w5.cursor w3.brush w3.sets s.margins s.modes.decom in
-      let x6 = part s (at_place s.cursor.row s.cursor.col) w3.brush w3.sets s.margins s.modes.decom in
-      let x7 = part s s.cursor w7.brush w7.sets s.margins s.modes.decom in
+      let x3 = part s modes_at_power_up w3.cursor w3.brush w3.sets full_margins false in
+      let x4 = part s modes_at_power_up w4.cursor w3.brush w3.sets s.margins false in
+      let x5 = part s modes_at_power_up w5.cursor w3.brush w3.sets s.margins s.modes.decom in
+      let x6 = part s modes_at_power_up (at_place s.cursor.row s.cursor.col) w3.brush w3.sets s.margins s.modes.decom in
+      let x7 = part s modes_at_power_up s.cursor w7.brush w7.sets s.margins s.modes.decom in
       ap (λ n. run t (reset_item ++ (stops_item n s.stops ++ o2))) is_width
       ∙ run-then t display_at_power_up s reset_item o1 (reset_run t)
       (run-then display_at_power_up x1 s (stops_item (columns wide) s.stops) o2 w1.is
@@ -214,7 +214,7 @@ module _ (grids : GridLaws) (glyphs : GlyphLaws) where
       (run-then x2 x3 s (cells_item s.grid s.cursor.wrap) o4 w3.is
       (run-then x3 x4 s (margins_item s.margins) o5 w4.is
       (run-then x4 x5 s (origin_item s.modes.decom) o6 w5.is
-      (run-then x5 x6 s (position_item s) o7 (position_run s w5.cursor w3.brush w3.sets i)
+      (run-then x5 x6 s (position_item s) o7 (position_run s modes_at_power_up w5.cursor w3.brush w3.sets i)
       (run-then x6 x7 s (wrap_item s.grid s.cursor) o8 w7.is
       (end_run s w7.brush w7.sets i w7.four w7.none))))))))
 

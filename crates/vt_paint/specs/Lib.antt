@@ -5,3 +5,5 @@ pub mod Items
 pub mod Repaint
 pub mod Room
 pub mod HeaderParts
+pub mod Changes
+pub mod ChangeEvents

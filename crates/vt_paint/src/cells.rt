@@ -21,7 +21,7 @@ use vt_screen::laws::rows;
 use vt_term::{ROWS, Terminal};
 
 /// The sets that the spellings of glyphs are for: G0 ASCII, G2 Supplemental, G3 Special Graphics, and G0 in GL.
-const SPELLING_SETS: &[u8] = b"\x1B(B\x1B*<\x1B+0\x0F";
+pub(crate) const SPELLING_SETS: &[u8] = b"\x1B(B\x1B*<\x1B+0\x0F";
 
 /// The cell at a place.
 pub(crate) fn row_cell(t: &Terminal, row: usize, col: usize) -> &Cell

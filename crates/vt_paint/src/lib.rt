@@ -2,6 +2,8 @@
 #![tactic(auto)]
 
 mod cells;
+mod changes;
+mod compare;
 mod controls;
 mod items;
 pub mod laws;
@@ -10,4 +12,6 @@ mod paint;
 mod room;
 mod tables;
 
+pub use changes::repaint_changes_reserved;
+pub use compare::{changed_places, differing_cells};
 pub use paint::{PAINT_LIMIT, PaintError, repaint, repaint_reserved};

@@ -2,6 +2,7 @@
 ghost use Rattle.std.specs.Prelude.{◌≡◌, ◌↔◌, ◌+◌, ◌≤◌, ◌<◌, ◌++◌, ◌≢◌, IsErrOf, OnOk, OnErr, vec_len, vec_capacity};
 ghost use Rattle.vt_syntax.specs.declared.held.Held.TheVariants.{Nothing};
 ghost use Rattle.vt_syntax.specs.Spelling.{spell_events};
+ghost use Rattle.vt_screen.specs.Grid.{last_row};
 ghost use Rattle.vt_paint.specs.Items.{position_item, wrap_item};
 ghost use Rattle.vt_paint.specs.Repaint.{paint, IsRebuilt};
 
@@ -14,7 +15,7 @@ use crate::items::{
 use crate::laws::rebuilds;
 use crate::room::push_bytes;
 use thiserror::Error;
-use vt_term::Terminal;
+use vt_term::{Cursor, Terminal};
 
 /// The most bytes of a repaint: 29 for each of 24 rows of 132 cells, 10 for each tab stop, and 320 for the rest.
 pub const PAINT_LIMIT: usize = 29 * 24 * 132 + 10 * 132 + 320;
@@ -32,9 +33,23 @@ pub enum PaintError {
     Memory,
 }
 
-/// The cursor, and its wrap flag.
+/// The wrap flag of a cursor, where it is set: the cell at its place once more.
 #[tactic(auto, unfolding(crate::specs::Items::wrap_item))]
-fn push_cursor(t: &Terminal, out: &mut Vec<u8>)
+pub(crate) fn push_wrap(t: &Terminal, cursor: Cursor, out: &mut Vec<u8>)
+    requires row { (1 ≤ cursor.row) × (cursor.row ≤ last_row) }
+    requires col { (1 ≤ cursor.col) × (cursor.col ≤ t.now.display.grid.width) }
+    requires room { vec_len out.old + 20 ≤ vec_capacity out.old }
+    ensures items { out.new.items ≡ out.old.items ++ spell_events (wrap_item t.now.display.grid cursor) }
+    ensures bounded { vec_len out.new ≤ vec_len out.old + 20 }
+    ensures capacity { vec_capacity out.old ≤ vec_capacity out.new }
+{
+    if cursor.wrap {
+        push_cell(row_cell(t, cursor.row, cursor.col), out);
+    }
+}
+
+/// The cursor, and its wrap flag.
+pub(crate) fn push_cursor(t: &Terminal, out: &mut Vec<u8>)
     requires { vec_len out.old + 29 ≤ vec_capacity out.old }
     ensures items { out.new.items ≡ out.old.items ++ spell_events (position_item t.now.display ++ wrap_item t.now.display.grid t.now.display.cursor) }
     ensures bounded { vec_len out.new ≤ vec_len out.old + 29 }
@@ -47,9 +62,7 @@ fn push_cursor(t: &Terminal, out: &mut Vec<u8>)
         cursor.row
     };
     push_cursor_to(line, cursor.col, out);
-    if cursor.wrap {
-        push_cell(row_cell(t, cursor.row, cursor.col), out);
-    }
+    push_wrap(t, cursor, out);
 }
 
 /// Appends the repaint to `out`: the bytes that rebuild the terminal's state on any terminal.

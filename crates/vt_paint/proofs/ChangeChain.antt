@@ -1,0 +1,228 @@
+-- From any display to another one of the same width and stops, item by item.
+use Rattle.std.proofs.Common.{◌≡◌, Bool, true, false, cond, ◌+◌, ◌-◌, ◌≤◌, List, [], ◌∷◌, ◌++◌, length, None, arith, refl, sym, ap, ◌∙◌}
+use Rattle.vt_glyph.specs.GraphicSets.{GraphicSets}
+use Rattle.vt_glyph.specs.Invocation.{sets_at_power_up}
+use Rattle.vt_glyph.specs.Spell.{AreSpellingSets}
+use Rattle.vt_screen.specs.declared.cell.Brush.{Brush}
+use Rattle.vt_screen.specs.Cells.{plain_brush}
+use Rattle.vt_term.specs.declared.state.Cursor.{Cursor}
+use Rattle.vt_term.specs.declared.state.Modes.{Modes}
+use Rattle.vt_term.specs.State.{Display, at_place, full_margins, saved_sets, saved_at_power_up}
+use Rattle.vt_term.specs.Sound.{IsSoundDisplay}
+use Rattle.vt_term.specs.Modes.{with_mode}
+use Rattle.vt_term.specs.Functions.{plain_escape, sequence_in, sequences_of, effect}
+use Rattle.vt_term.specs.Reports.{line_of_cursor}
+use Rattle.vt_paint.specs.Controls.{private_mode, decom, cursor_to, brush_events, save_cursor, sets_events, spelling_sets_events}
+use Rattle.vt_paint.specs.Items.{margins_item, origin_item, position_item, wrap_item, shift_item}
+use Rattle.vt_paint.specs.Changes.{AreChanges}
+use Rattle.vt_paint.specs.ChangeEvents.{changed_cells, start_item, saved_cursor, record_item, every_mode, change_events}
+use Rattle.vt_paint.proofs.LowerLaws.{GridLaws, GlyphLaws}
+use Rattle.vt_paint.proofs.Running.{run, run-then}
+use Rattle.vt_paint.proofs.Brushes.{brush_run, with_sets, sets_run, spelling_sets, spelling_sets_run, spelling_sets_are, spelling_sets_four, spelling_sets_none}
+use Rattle.vt_paint.proofs.Painting.{IsReady, shown, AreGlyphs}
+use Rattle.vt_paint.proofs.ModeItems.{shift_run}
+use Rattle.vt_paint.proofs.Chain.{part, margins_run, origin_run, origin_set_run, position_run, wrap_run}
+use Rattle.vt_paint.proofs.ChangeRuns.{changed_cells_run}
+use Rattle.vt_paint.proofs.EveryMode.{every_mode_run}
+
+-- the modes after the first item
+start_modes : Modes → Modes
+start_modes m = record m {
+  dectcem = true;
+  irm = false;
+  decom = false;
+  decawm = true;
+  kam = false;
+  decckm = false;
+  keypad_application = false;
+}
+
+abbrev started : Display → Display
+started t = record t {
+  cursor = record t.cursor { wrap = false };
+  brush = plain_brush;
+  sets = sets_at_power_up;
+  margins = full_margins;
+  modes = start_modes t.modes;
+  saved = saved_at_power_up;
+}
+
+start_run : (t : Display) → run t start_item ≡ started t
+unfolding run start_item sequence_in sequences_of with_mode start_modes
+start_run t = refl
+
+save_only : (x : Display) → run x (save_cursor ∷ []) ≡ effect save_cursor x
+unfolding run
+save_only x = refl
+
+-- the stops by another name
+with_stops : (x y : Display) (stops : List Bool) → x ≡ y → y.stops ≡ stops → x ≡ record y { stops = stops }
+with_stops x y stops is e = is ∙ ap (λ (z : List Bool). record y { stops = z }) e
+
+-- ---- the saved record
+
+-- what is to be saved, as a display
+abbrev recorded : Display → Modes → Display
+recorded s modes = record s {
+  cursor = saved_cursor s.saved;
+  brush = s.saved.brush;
+  sets = saved_sets s.saved;
+  margins = full_margins;
+  modes = record modes { decom = s.saved.origin };
+  saved = saved_at_power_up;
+}
+
+width_from_1 : (s : Display) → IsSoundDisplay s → 1 ≤ s.grid.width
+width_from_1 s i = omega (arith, i.cursor.col_1, i.cursor.col_last)
+
+recorded_sound : (s : Display) (modes : Modes) → modes.decawm ≡ true → IsSoundDisplay s
+    → IsSoundDisplay (recorded s modes)
+recorded_sound s modes decawm i = record {
+  grid = i.grid;
+  cursor = i.saved;
+  wrap = λ e. decawm;
+  origin = λ e. (i.saved.row_1, i.saved.row_24);
+  sets = i.saved_sets;
+  margins = record { from_row_1 = omega arith; two_rows = omega arith; to_last_row = omega arith };
+  stops = i.stops;
+  saved = record {
+    row_1 = omega arith;
+    row_24 = omega arith;
+    col_1 = omega arith;
+    col_last = width_from_1 s i;
+    wrap_last = λ e. absurd (cc e);
+  };
+  saved_sets = record {
+    four = refl;
+    left = omega arith;
+    right = (omega arith, omega arith);
+    pending = λ slot e. absurd (cc e);
+  };
+}
+
+recorded_line : (s : Display) (modes : Modes) → IsSoundDisplay s → line_of_cursor (recorded s modes) ≡ s.saved.row
+recorded_line s modes i = go s.saved.origin
+  where
+    go : (b : Bool) → cond b (s.saved.row - 1 + 1) s.saved.row ≡ s.saved.row
+    go true = omega (arith, i.saved.row_1)
+    go false = refl
+
+pub record HasRecord (s : Display) (modes : Modes) (x : Display) : Type 0 where
+  pub sets : GraphicSets
+  pub is : x ≡ part s modes (saved_cursor s.saved) s.saved.brush sets full_margins s.saved.origin
+  pub four : length sets.g ≡ 4
+  pub none : sets.pending ≡ None
+
+save_run : (s : Display) (modes : Modes) (sets : GraphicSets)
+    → effect save_cursor (with_sets (part (recorded s modes) modes (saved_cursor s.saved) s.saved.brush sets
+    full_margins s.saved.origin) s.saved.g s.saved.gl s.saved.gr)
+    ≡ part s modes (saved_cursor s.saved) s.saved.brush
+    (record sets { g = s.saved.g; left = s.saved.gl; right = s.saved.gr }) full_margins s.saved.origin
+unfolding plain_escape
+save_run s modes sets = refl
+
+module _ (grids : GridLaws) (glyphs : GlyphLaws) where
+  record_run : (s : Display) (modes : Modes) (cursor : Cursor) (brush : Brush) (sets : GraphicSets) → IsSoundDisplay s
+      → AreGlyphs s.grid → modes.irm ≡ false → modes.decawm ≡ true
+      → length sets.g ≡ 4 → sets.pending ≡ None → (s.saved.wrap ≡ true → AreSpellingSets sets)
+      → HasRecord s modes (run (part (recorded s modes) modes cursor brush sets full_margins false)
+      (record_item s.grid s.saved))
+  unfolding record_item
+  record_run s modes cursor brush sets i are irm decawm four none spells =
+      let d = recorded s modes in
+      let sound = recorded_sound s modes decawm i in
+      let origin = s.saved.origin in
+      let at = at_place s.saved.row s.saved.col in
+      let e4 = sets_events (saved_sets s.saved) ++ save_cursor ∷ [] in
+      let e3 = brush_events s.saved.brush ++ e4 in
+      let e2 = wrap_item s.grid (saved_cursor s.saved) ++ e3 in
+      let e1 = cursor_to s.saved.row s.saved.col ∷ e2 in
+      let w1 = origin_run d modes cursor brush sets full_margins origin in
+      let w3 = wrap_run grids glyphs d modes brush sets irm decawm sound are four none spells in
+      let x0 = part d modes cursor brush sets full_margins false in
+      let x1 = part d modes w1.cursor brush sets full_margins origin in
+      let x2 = part d modes at brush sets full_margins origin in
+      let x3 = part d modes (saved_cursor s.saved) w3.brush w3.sets full_margins origin in
+      let x4 = part d modes (saved_cursor s.saved) s.saved.brush w3.sets full_margins origin in
+      let x5 = with_sets x4 s.saved.g s.saved.gl s.saved.gr in
+      let made : GraphicSets = record w3.sets { g = s.saved.g; left = s.saved.gl; right = s.saved.gr } in
+      let end = part s modes (saved_cursor s.saved) s.saved.brush made full_margins origin in
+      record {
+        sets = made;
+        is =
+            run-then x0 x1 end (origin_item origin) e1 w1.is
+            (run-then x1 x2 end (cursor_to s.saved.row s.saved.col ∷ []) e2
+            (ap (λ n. run x1 (cursor_to n s.saved.col ∷ [])) (sym (recorded_line s modes i))
+            ∙ position_run d modes w1.cursor brush sets sound)
+            (run-then x2 x3 end (wrap_item s.grid (saved_cursor s.saved)) e3 w3.is
+            (run-then x3 x4 end (brush_events s.saved.brush) e4 (brush_run x3 s.saved.brush)
+            (run-then x4 x5 end (sets_events (saved_sets s.saved)) (save_cursor ∷ [])
+            (sets_run x4 (saved_sets s.saved) w3.four i.saved_sets)
+            (save_only x5 ∙ save_run s modes w3.sets)))));
+        four = i.saved_sets.four;
+        none = w3.none;
+      }
+
+  -- ---- the whole
+
+  pub changes_run : (marks : List (List Bool)) (s t : Display) → IsSoundDisplay s → IsSoundDisplay t → AreGlyphs s.grid
+      → AreChanges marks t s → run t (change_events marks s) ≡ s
+  unfolding change_events start_modes
+  changes_run marks s t i j are changes =
+      let modes = start_modes t.modes in
+      let place = at_place s.cursor.row s.cursor.col in
+      let base : Display = record (started t) { sets = spelling_sets sets_at_power_up } in
+      let ready : IsReady base = record {
+        sets = spelling_sets_are sets_at_power_up refl refl;
+        irm = refl;
+        decawm = refl;
+        decom = refl;
+      } in
+      let origin = s.saved.origin in
+      let o12 = every_mode s.modes ++ shift_item s.sets.pending in
+      let o11 = sets_events s.sets ++ o12 in
+      let o10 = brush_events s.brush ++ o11 in
+      let o9 = wrap_item s.grid s.cursor ++ o10 in
+      let o8 = position_item s ++ o9 in
+      let o7 = private_mode decom s.modes.decom ∷ o8 in
+      let o6 = margins_item s.margins ++ o7 in
+      let o5 = spelling_sets_events ++ o6 in
+      let o4 = record_item s.grid s.saved ++ o5 in
+      let o3 = changed_cells marks s.grid ++ o4 in
+      let o2 = spelling_sets_events ++ o3 in
+      let w3 = changed_cells_run grids glyphs marks base t.grid s.grid base.cursor base.brush ready j.grid.shape
+      i.grid.shape changes.width are changes.marked in
+      let w4 = record_run s modes w3.cursor w3.brush base.sets i are refl refl
+      (spelling_sets_four sets_at_power_up refl) (spelling_sets_none sets_at_power_up refl) (λ h. ready.sets) in
+      let sets = spelling_sets w4.sets in
+      let four = spelling_sets_four w4.sets w4.four in
+      let none = spelling_sets_none w4.sets w4.none in
+      let spells = spelling_sets_are w4.sets w4.four w4.none in
+      let w6 = margins_run s modes (saved_cursor s.saved) s.saved.brush sets s.margins origin i.margins in
+      let w7 = origin_set_run s modes w6.cursor s.saved.brush sets s.margins origin s.modes.decom in
+      let w9 = wrap_run grids glyphs s modes s.saved.brush sets refl refl i are four none (λ h. spells) in
+      let x1 = started t in
+      let x3 = part (recorded s modes) modes w3.cursor w3.brush base.sets full_margins false in
+      let x4 = part s modes (saved_cursor s.saved) s.saved.brush w4.sets full_margins origin in
+      let x5 = part s modes (saved_cursor s.saved) s.saved.brush sets full_margins origin in
+      let x6 = part s modes w6.cursor s.saved.brush sets s.margins origin in
+      let x7 = part s modes w7.cursor s.saved.brush sets s.margins s.modes.decom in
+      let x8 = part s modes place s.saved.brush sets s.margins s.modes.decom in
+      let x9 = part s modes s.cursor w9.brush w9.sets s.margins s.modes.decom in
+      let x10 = part s modes s.cursor s.brush w9.sets s.margins s.modes.decom in
+      let x11 = with_sets x10 s.sets.g s.sets.left s.sets.right in
+      let x12 : Display = record x11 { modes = s.modes } in
+      run-then t x1 s start_item o2 (start_run t)
+      (run-then x1 base s spelling_sets_events o3 (spelling_sets_run x1)
+      (run-then base x3 s (changed_cells marks s.grid) o4
+      (with_stops (run base (changed_cells marks s.grid)) (shown base s.grid w3.cursor w3.brush) s.stops w3.is changes.stops)
+      (run-then x3 x4 s (record_item s.grid s.saved) o5 w4.is
+      (run-then x4 x5 s spelling_sets_events o6 (spelling_sets_run x4)
+      (run-then x5 x6 s (margins_item s.margins) o7 w6.is
+      (run-then x6 x7 s (private_mode decom s.modes.decom ∷ []) o8 w7.is
+      (run-then x7 x8 s (position_item s) o9 (position_run s modes w7.cursor s.saved.brush sets i)
+      (run-then x8 x9 s (wrap_item s.grid s.cursor) o10 w9.is
+      (run-then x9 x10 s (brush_events s.brush) o11 (brush_run x9 s.brush)
+      (run-then x10 x11 s (sets_events s.sets) o12 (sets_run x10 s.sets w9.four i.sets)
+      (run-then x11 x12 s (every_mode s.modes) (shift_item s.sets.pending) (every_mode_run x11 modes s.modes i.wrap)
+      (shift_run x12 s.sets.pending i.sets.pending w9.none))))))))))))

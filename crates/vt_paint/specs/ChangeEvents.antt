@@ -1,0 +1,126 @@
+-- What is asked for where one screen is changed into another. No public clause speaks of it. (this profile)
+use Rattle.std.specs.Prelude.{ℕ, List, [], ◌∷◌, ◌++◌, Bool, true, Some, None, ◌&&◌, if◌then◌else◌, codes}
+use Rattle.std.specs.List.{range_with_len, flat_map}
+use Rattle.vt_syntax.specs.declared.event.Event.{Event}
+use Rattle.vt_syntax.specs.declared.event.Event.TheVariants.{Escape, Sequence}
+use Rattle.vt_screen.specs.declared.cell.Rendition.{Rendition}
+use Rattle.vt_screen.specs.declared.cell.Brush.{Brush}
+use Rattle.vt_screen.specs.declared.cell.Cell.{Cell}
+use Rattle.vt_screen.specs.Cells.{brush_of}
+use Rattle.vt_screen.specs.Grid.{Grid, cell_at, last_row}
+use Rattle.vt_term.specs.declared.state.Cursor.{Cursor}
+use Rattle.vt_term.specs.declared.state.Modes.{Modes}
+use Rattle.vt_term.specs.declared.state.Saved.{Saved}
+use Rattle.vt_term.specs.State.{Display, saved_sets}
+use Rattle.vt_term.specs.Functions.{byte}
+use Rattle.vt_paint.specs.Controls.{where_true, sequence_of, ansi_mode, private_mode, decom, cursor_to, rendition_to, protection_to, brush_events, save_cursor, reports_8bit, application_keypad, sets_events, spelling_sets_events}
+use Rattle.vt_paint.specs.Pieces.{glyph_events}
+use Rattle.vt_paint.specs.Items.{margins_item, origin_item, position_item, wrap_item, shift_item}
+use Rattle.vt_paint.specs.Changes.{is_marked}
+
+-- DECSTR
+abbrev pub soft_reset : Event
+soft_reset = Sequence None (record { items = 0 ∷ [] }) (Some (byte (codes "!"))) (byte (codes "p"))
+
+abbrev pub decawm : ℕ
+decawm = 7
+
+-- DECKPAM or DECKPNM
+abbrev pub keypad_event : Bool → Event
+keypad_event application = if application then application_keypad else Escape None (byte (codes ">"))
+
+-- S8C1T or S7C1T
+abbrev pub report_form_event : Bool → Event
+report_form_event eight = if eight then reports_8bit else Escape (Some (byte (codes " "))) (byte (codes "F"))
+
+-- ---- the cells
+
+abbrev pub has_all : Rendition → Bool
+has_all r = r.bold && (r.underline && (r.blink && r.reverse))
+
+-- SGR, all four attributes
+abbrev pub all_attributes : Event
+all_attributes = sequence_of (1 ∷ 4 ∷ 5 ∷ 7 ∷ []) (byte (codes "m"))
+
+-- SGR without the 0 where every attribute is set
+abbrev pub short_rendition : Rendition → Event
+short_rendition r = if has_all r then all_attributes else rendition_to r
+
+unfoldable pub short_brush_events : Brush → List Event
+short_brush_events brush = short_rendition brush.rendition ∷ protection_to brush.protected ∷ []
+
+-- a cell where it is marked: its place, its brush and its glyph
+unfoldable pub change_of : ℕ → ℕ → Bool → Cell → List Event
+change_of r c marked cell = where_true marked (cursor_to r c
+    ∷ (short_brush_events (brush_of cell) ++ glyph_events cell))
+
+abbrev pub change : List (List Bool) → Grid → ℕ → ℕ → List Event
+change marks g r c = change_of r c (is_marked marks r c) (cell_at g r c)
+
+-- n cells of a row from a column on
+abbrev pub changes_from : List (List Bool) → Grid → ℕ → ℕ → ℕ → List Event
+changes_from marks g r c n = flat_map (λ c. change marks g r c) (range_with_len c n)
+
+abbrev pub changed_row : List (List Bool) → Grid → ℕ → List Event
+changed_row marks g r = changes_from marks g r 1 g.width
+
+-- n rows
+abbrev pub changed_rows : List (List Bool) → Grid → ℕ → ℕ → List Event
+changed_rows marks g r n = flat_map (λ r. changed_row marks g r) (range_with_len r n)
+
+unfoldable pub changed_cells : List (List Bool) → Grid → List Event
+changed_cells marks g = changed_rows marks g 1 last_row
+
+-- ---- the items, in their order
+
+-- a soft reset, under which cells can be written; it resets DECAWM
+unfoldable pub start_item : List Event
+start_item = soft_reset ∷ private_mode decawm true ∷ []
+
+-- where the saved cursor is
+abbrev pub saved_cursor : Saved → Cursor
+saved_cursor saved = record { row = saved.row; col = saved.col; wrap = saved.wrap }
+
+-- the saved record: all that is saved is made, and saved
+unfoldable pub record_item : Grid → Saved → List Event
+record_item g saved =
+    origin_item saved.origin
+    ++ (cursor_to saved.row saved.col
+    ∷ (wrap_item g (saved_cursor saved)
+    ++ (brush_events saved.brush
+    ++ (sets_events (saved_sets saved)
+    ++ save_cursor ∷ []))))
+
+-- every mode but DECOM
+unfoldable pub every_mode : Modes → List Event
+every_mode m =
+    ansi_mode 2 m.kam
+    ∷ ansi_mode 4 m.irm
+    ∷ ansi_mode 12 m.srm
+    ∷ ansi_mode 20 m.lnm
+    ∷ private_mode 1 m.decckm
+    ∷ private_mode 4 m.decsclm
+    ∷ private_mode 5 m.decscnm
+    ∷ private_mode 7 m.decawm
+    ∷ private_mode 8 m.decarm
+    ∷ private_mode 25 m.dectcem
+    ∷ keypad_event m.keypad_application
+    ∷ report_form_event m.reports_8bit
+    ∷ []
+
+-- the marked cells, and then all but the cells, the width and the stops
+unfoldable pub change_events : List (List Bool) → Display → List Event
+change_events marks s =
+    start_item
+    ++ (spelling_sets_events
+    ++ (changed_cells marks s.grid
+    ++ (record_item s.grid s.saved
+    ++ (spelling_sets_events
+    ++ (margins_item s.margins
+    ++ (private_mode decom s.modes.decom
+    ∷ (position_item s
+    ++ (wrap_item s.grid s.cursor
+    ++ (brush_events s.brush
+    ++ (sets_events s.sets
+    ++ (every_mode s.modes
+    ++ shift_item s.sets.pending)))))))))))

@@ -1,0 +1,46 @@
+-- The places at which two screens differ, and what bytes do that write these places alone. (this profile)
+use Rattle.std.specs.Prelude.{◌≡◌, ◌≤◌, ℕ, ◌-◌, List, [], ◌++◌, Bool, false, not, ◌==◌, ◌&&◌, if◌then◌else◌, slice_index_or}
+use Rattle.std.specs.List.{range_with_len, sum_by}
+use Rattle.vt_screen.specs.declared.cell.Cell.{Cell}
+use Rattle.vt_screen.specs.Cells.{brush_of}
+use Rattle.vt_screen.specs.Grid.{Grid, cell_at, last_row}
+use Rattle.vt_term.specs.State.{Display, State, last_column}
+use Rattle.vt_term.specs.Play.{play}
+use Rattle.vt_paint.specs.Same.{same_brush}
+
+-- the same glyph, attributes and protection
+abbrev pub same_cell : Cell → Cell → Bool
+same_cell a b = a.glyph == b.glyph && same_brush (brush_of a) (brush_of b)
+
+-- two screens have different cells at a place
+abbrev pub differs_at : Grid → Grid → ℕ → ℕ → Bool
+differs_at a b r c = not (same_cell (cell_at a r c) (cell_at b r c))
+
+-- at how many of n places of a row they differ, from a column on
+abbrev pub differing_from : Grid → Grid → ℕ → ℕ → ℕ → ℕ
+differing_from a b r c n = sum_by (λ c. if differs_at a b r c then 1 else 0) (range_with_len c n)
+
+-- at how many places of n rows
+abbrev pub differing_rows : Grid → Grid → ℕ → ℕ → ℕ
+differing_rows a b r n = sum_by (λ r. differing_from a b r 1 b.width) (range_with_len r n)
+
+-- at how many places of the screen
+unfoldable pub differing : Grid → Grid → ℕ
+differing a b = differing_rows a b 1 last_row
+
+-- a place is marked, in a list of rows
+abbrev pub is_marked : List (List Bool) → ℕ → ℕ → Bool
+is_marked marks r c = slice_index_or (slice_index_or marks (r - 1) []) (c - 1) false
+
+-- two displays have the same width and the same stops, and marked are the places of the screen at which they differ
+pub record AreChanges (marks : List (List Bool)) (s t : Display) : Type 0 where
+  pub width : last_column s ≡ last_column t
+  pub stops : s.stops ≡ t.stops
+  pub marked : (r c : ℕ) → 1 ≤ r → r ≤ last_row → 1 ≤ c → c ≤ last_column t
+      → is_marked marks r c ≡ differs_at s.grid t.grid r c
+
+-- to what was there before, bytes are appended that lead from one state to the other, and ask for no report
+pub record Changes (s t : State) (before after : List ℕ) : Type 0 where
+  pub sent : List ℕ
+  pub appended : after ≡ before ++ sent
+  pub played : play s sent ≡ record { state = t; reports = [] }

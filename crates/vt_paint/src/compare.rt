@@ -1,0 +1,71 @@
+//! The places at which the screens of two terminals differ.
+ghost use Rattle.std.specs.Prelude.{◌≡◌, ◌≤◌, ◌<◌, ℕ, ◌*◌, false, not, length, slice_index_or};
+ghost use Rattle.vt_screen.specs.Cells.{blank};
+ghost use Rattle.vt_screen.specs.Grid.{Grid, row_of};
+ghost use Rattle.vt_paint.specs.Changes.{same_cell, differing_from, differing, AreChanges};
+
+use vt_screen::Cell;
+use vt_screen::laws::rows;
+use vt_term::{ROWS, STOPS, Terminal};
+
+fn differ(a: &Cell, b: &Cell) -> bool
+    ensures { result ≡ not (same_cell a.now b.now) }
+{
+    a != b
+}
+
+/// At how many places two rows of the same length have different cells.
+fn differing_in_row(a: &[Cell], b: &[Cell]) -> usize
+    requires len { length a.now ≡ length b.now }
+    requires short { length b.now ≤ 132 }
+    ensures count { (g h : Grid) (r : ℕ) → a.now ≡ row_of g r → b.now ≡ row_of h r → result ≡ differing_from g h r 1 (length b.now) }
+    ensures bounded { result ≤ 132 }
+{
+    rows();
+    let mut count = 0;
+    for (i, cell) in b.iter().enumerate() {
+        count += differ(&a[i], cell) as usize;
+    }
+    count
+}
+
+/// At how many places the screens of two terminals of the same width have different cells.
+pub fn differing_cells(a: &Terminal, b: &Terminal) -> usize
+    requires { a.now.display.grid.width ≡ b.now.display.grid.width }
+    ensures count { result ≡ differing a.now.display.grid b.now.display.grid }
+    ensures bounded { result ≤ 24 * 132 }
+{
+    let mut count = 0;
+    for row in 1..ROWS + 1 {
+        count += differing_in_row(a.row(row), b.row(row));
+    }
+    count
+}
+
+/// The places at which two rows of the same length have different cells.
+fn changed_in_row(a: &[Cell], b: &[Cell]) -> [bool; STOPS]
+    requires len { length a.now ≡ length b.now }
+    requires short { length b.now ≤ 132 }
+    ensures { (i : ℕ) → i < length b.now
+        → slice_index_or result i false ≡ not (same_cell (slice_index_or a.now i blank) (slice_index_or b.now i blank)) }
+{
+    let mut marks = [false; STOPS];
+    for (i, cell) in b.iter().enumerate() {
+        marks[i] = differ(&a[i], cell);
+    }
+    marks
+}
+
+/// The places at which the screens of two terminals of the same width have different cells: place c - 1 of row r - 1 for
+/// row r and column c.
+pub fn changed_places(a: &Terminal, b: &Terminal) -> [[bool; STOPS]; ROWS]
+    requires { a.now.display.grid.width ≡ b.now.display.grid.width }
+    ensures { a.now.display.stops ≡ b.now.display.stops → AreChanges result a.now.display b.now.display }
+{
+    rows();
+    let mut marks = [[false; STOPS]; ROWS];
+    for row in 1..ROWS + 1 {
+        marks[row - 1] = changed_in_row(a.row(row), b.row(row));
+    }
+    marks
+}

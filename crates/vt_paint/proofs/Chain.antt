@@ -65,13 +65,13 @@ module _ (grids : GridLaws) where
       let row = all_pass (λ r. list_all is_blank (row_of g r)) (range_with_len 1 24) (r - 1) 0 (omega (arith, length-range_with_len 1 24)) h in
       let at : get_or (range_with_len 1 24) (r - 1) 0 ≡ r = get_or-range_with_len 1 24 (r - 1) 0 (omega arith) ∙ omega arith in
       let here : list_all is_blank (row_of g r) ≡ true = ap (λ r. list_all is_blank (row_of g r)) (sym at) ∙ row in
-      is_blank-is (cell_at g r c) (ap (λ cell. is_blank cell) (sym (grids.row_cell g r c blank c1 cw)) ∙ all_pass is_blank (row_of g r) (c - 1) blank (omega (arith, grids.row_length g r)) here)
+      is_blank-is (cell_at g r c) (ap (λ cell. is_blank cell) (sym (grids.rows.cell g r c blank c1 cw)) ∙ all_pass is_blank (row_of g r) (c - 1) blank (omega (arith, grids.rows.len g r)) here)
 
   blank_grid-is : (wide : Bool) (g : Grid) → g.width ≡ columns wide → IsGrid g → is_blank_grid g ≡ true → blank_grid wide ≡ g
   blank_grid-is wide g w is h =
       ap (λ n. grid_of n (λ r c. blank)) (sym w)
-      ∙ grids.same_formulas g.width (λ r c. blank) (cell_at g) (λ r c r1 r24 c1 cw. sym (blank_cell g r c h r1 r24 c1 cw))
-      ∙ grids.own_cells g is
+      ∙ grids.places.same_formulas g.width (λ r c. blank) (cell_at g) (λ r c r1 r24 c1 cw. sym (blank_cell g r c h r1 r24 c1 cw))
+      ∙ grids.places.own_cells g is
 
   blank_painted : (wide : Bool) (g : Grid) → g.width ≡ columns wide → blank_grid wide ≡ painted all_blank g 1 1
   blank_painted wide g w = ap (λ n. grid_of n all_blank) (sym w) ∙ painted_none grids all_blank g

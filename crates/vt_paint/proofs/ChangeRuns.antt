@@ -180,7 +180,7 @@ module _ (grids : GridLaws) (glyphs : GlyphLaws) where
       let start : IsWritten base b g 1 1 (shown base b cursor brush) = record {
         cursor = cursor;
         brush = brush;
-        is = ap (λ y. shown base y cursor brush) (sym (grids.own_cells b is_b) ∙ ap (λ n. grid_of n (cell_at b)) same
+        is = ap (λ y. shown base y cursor brush) (sym (grids.places.own_cells b is_b) ∙ ap (λ n. grid_of n (cell_at b)) same
             ∙ painted_none grids (cell_at b) g);
       } in
       let w = changed_rows_run marks base b g 24 1 (shown base b cursor brush) ready are marked (omega arith) refl

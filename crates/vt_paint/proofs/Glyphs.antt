@@ -25,4 +25,4 @@ spelling_run x (Third code) n reads leaves = rw (reads, leaves) refl
 module _ (laws : GlyphLaws) where
   pub glyph_run : (x : Display) (cell : Cell) → AreSpellingSets x.sets → IsGlyph cell.glyph → run x (glyph_events cell) ≡ write_glyph cell.glyph x
   unfolding glyph_events
-  glyph_run x cell sets is = spelling_run x (spelling_of cell.glyph) cell.glyph (laws.writes x.sets cell.glyph sets is) (laws.leaves x.sets cell.glyph sets is)
+  glyph_run x cell sets is = spelling_run x (spelling_of cell.glyph) cell.glyph (laws.spellings.writes x.sets cell.glyph sets is) (laws.spellings.leaves x.sets cell.glyph sets is)

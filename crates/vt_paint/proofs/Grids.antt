@@ -48,28 +48,28 @@ module _ (laws : GridLaws) where
   pub painted_none : (under : ℕ → ℕ → Cell) (g : Grid) → grid_of g.width under ≡ painted under g 1 1
   unfolding painted_cell
   painted_none under g =
-      laws.same_formulas g.width under (painted_cell under g 1 1)
+      laws.places.same_formulas g.width under (painted_cell under g 1 1)
       (λ i j i1 i24 j1 jw. let e = before_first i j i1 j1 in sym (ap (λ b. cond b (cell_at g i j) (under i j)) e))
 
   pub painted_all : (under : ℕ → ℕ → Cell) (g : Grid) → IsGrid g → painted under g 25 1 ≡ g
   unfolding painted_cell
   painted_all under g is =
-      laws.same_formulas g.width (painted_cell under g 25 1) (cell_at g)
+      laws.places.same_formulas g.width (painted_cell under g 25 1) (cell_at g)
       (λ i j i1 i24 j1 jw. let e = before_end i j i24 in ap (λ b. cond b (cell_at g i j) (under i j)) e)
-      ∙ laws.own_cells g is
+      ∙ laws.places.own_cells g is
 
   -- a row is done
   pub painted_row : (under : ℕ → ℕ → Cell) (g : Grid) (r : ℕ) → painted under g r (g.width + 1) ≡ painted under g (r + 1) 1
   unfolding painted_cell
   painted_row under g r =
-      laws.same_formulas g.width (painted_cell under g r (g.width + 1)) (painted_cell under g (r + 1) 1)
+      laws.places.same_formulas g.width (painted_cell under g r (g.width + 1)) (painted_cell under g (r + 1) 1)
       (λ i j i1 i24 j1 jw. let e = before_row g.width r i j j1 jw in ap (λ b. cond b (cell_at g i j) (under i j)) e)
 
   -- the next cell is the one underneath
   pub painted_skip : (under : ℕ → ℕ → Cell) (g : Grid) (r c : ℕ) → cell_at g r c ≡ under r c → painted under g r c ≡ painted under g r (c + 1)
   unfolding painted_cell
   painted_skip under g r c is =
-      laws.same_formulas g.width (painted_cell under g r c) (painted_cell under g r (c + 1))
+      laws.places.same_formulas g.width (painted_cell under g r c) (painted_cell under g r (c + 1))
       (λ i j i1 i24 j1 jw. elim (eqb_tells i r) [
         | inl e ↦ elim (eqb_tells j c) [
           | inl f ↦
@@ -89,9 +89,9 @@ module _ (laws : GridLaws) where
   -- the next cell is put
   pub painted_put : (under : ℕ → ℕ → Cell) (g : Grid) (r c : ℕ) → put (painted under g r c) r c (cell_at g r c) ≡ painted under g r (c + 1)
   painted_put under g r c =
-      laws.same_formulas g.width (λ i j. cond (eqb i r) (cond (eqb j c) (cell_at g r c) (cell_at (painted under g r c) r j)) (cell_at (painted under g r c) i j)) (painted_cell under g r (c + 1))
+      laws.places.same_formulas g.width (λ i j. cond (eqb i r) (cond (eqb j c) (cell_at g r c) (cell_at (painted under g r c) r j)) (cell_at (painted under g r c) i j)) (painted_cell under g r (c + 1))
       (λ i j i1 i24 j1 jw.
-      let was = laws.at_place g.width (painted_cell under g r c) i j i1 i24 j1 jw in
+      let was = laws.places.at_place g.width (painted_cell under g r c) i j i1 i24 j1 jw in
       elim (eqb_tells i r) [
         | inl e ↦ elim (eqb_tells j c) [
           | inl f ↦ rw (e.0, f.0) (painted_here under g r c i j e.1 f.1)
@@ -103,7 +103,7 @@ module _ (laws : GridLaws) where
   -- a cell that is put again
   pub put_same : (g : Grid) (r c : ℕ) → IsGrid g → put g r c (cell_at g r c) ≡ g
   put_same g r c is =
-      laws.same_formulas g.width (λ i j. cond (eqb i r) (cond (eqb j c) (cell_at g r c) (cell_at g r j)) (cell_at g i j)) (cell_at g)
+      laws.places.same_formulas g.width (λ i j. cond (eqb i r) (cond (eqb j c) (cell_at g r c) (cell_at g r j)) (cell_at g i j)) (cell_at g)
       (λ i j i1 i24 j1 jw. elim (eqb_tells i r) [
         | inl e ↦ elim (eqb_tells j c) [
           | inl f ↦ rw (e.0, f.0) (ap (λ x. cell_at g x c) (sym e.1) ∙ ap (λ x. cell_at g i x) (sym f.1))
@@ -111,4 +111,4 @@ module _ (laws : GridLaws) where
         ]
         | inr e ↦ rw e.0 refl
       ])
-      ∙ laws.own_cells g is
+      ∙ laws.places.own_cells g is

@@ -1,69 +1,74 @@
 -- The modes and the single shift.
-use Rattle.std.proofs.Common.{◌≡◌, ◌≤◌, ◌<◌, Bool, true, false, ◌&&◌, ℕ, zero, suc, List, [], ◌∷◌, ◌++◌, Option, Some, None, refl, sym, ap, ◌∙◌, arith}
+use Rattle.std.proofs.Common.{◌≡◌, ◌≤◌, ◌<◌, Bool, true, false, ◌&&◌, ℕ, zero, suc, List, [], ◌∷◌, ◌++◌, Option, Some, None}
+use Rattle.std.proofs.Common.{refl, sym, ap, ◌∙◌, arith}
+use Rattle.std.specs.Prelude.{if◌then◌else◌, unwrap_or}
 use Rattle.std.specs.Option.{ForSome}
+use Rattle.vt_glyph.specs.LookUp.{look_up}
 use Rattle.vt_syntax.specs.declared.event.Event.{Event}
 use Rattle.vt_term.specs.declared.state.Modes.{Modes}
 use Rattle.vt_term.specs.State.{Display, modes_at_power_up}
-use Rattle.vt_term.specs.Modes.{with_mode}
-use Rattle.vt_term.specs.Functions.{control, plain_escape, escape_with, sequence_in, sequences_of}
-use Rattle.vt_paint.specs.Controls.{where_true, application_keypad, reports_8bit}
+use Rattle.vt_term.specs.Modes.{with_modes, with_mode, ansi_modes, private_modes}
+use Rattle.vt_term.specs.Functions.{effect, control, plain_escape, escape_with, sequence_in, sequences_of}
+use Rattle.vt_paint.specs.Same.{same_bool}
+use Rattle.vt_paint.specs.Controls.{where_true, ansi_mode, private_mode, application_keypad, reports_8bit}
 use Rattle.vt_paint.specs.Items.{ansi_mode_item, private_mode_item, modes_item, shift_item}
 use Rattle.vt_paint.proofs.Running.{run, run-then}
 
-kam_run : (x : Display) (v : Bool) → x.modes.kam ≡ false → run x (ansi_mode_item 2 false v) ≡ record x { modes = record x.modes { kam = v } }
-unfolding run sequence_in sequences_of with_mode
-kam_run x true e = refl
-kam_run x false e = ap (λ b. record x { modes = record x.modes { kam = b } }) e
+-- ---- one mode, by its number and its place among the modes
 
-irm_run : (x : Display) (v : Bool) → x.modes.irm ≡ false → run x (ansi_mode_item 4 false v) ≡ record x { modes = record x.modes { irm = v } }
-unfolding run sequence_in sequences_of with_mode
-irm_run x true e = refl
-irm_run x false e = ap (λ b. record x { modes = record x.modes { irm = b } }) e
+-- SM and RM of an ANSI mode set its place alone
+pub ansi_mode_sets : (n : ℕ) (set : Bool → Modes → Modes) → look_up ansi_modes n ≡ Some (λ on. with_modes (set on))
+    → (on : Bool) (x : Display) → effect (ansi_mode n on) x ≡ record x { modes = set on x.modes }
+unfolding sequence_in sequences_of with_mode
+ansi_mode_sets n set e true x = ap (λ (change : Option (Bool → Display → Display)). unwrap_or change (λ on s. s) true x) e
+ansi_mode_sets n set e false x = ap (λ (change : Option (Bool → Display → Display)). unwrap_or change (λ on s. s) false x) e
 
-srm_run : (x : Display) (v : Bool) → x.modes.srm ≡ true → run x (ansi_mode_item 12 true v) ≡ record x { modes = record x.modes { srm = v } }
-unfolding run sequence_in sequences_of with_mode
-srm_run x false e = refl
-srm_run x true e = ap (λ b. record x { modes = record x.modes { srm = b } }) e
-
-lnm_run : (x : Display) (v : Bool) → x.modes.lnm ≡ false → run x (ansi_mode_item 20 false v) ≡ record x { modes = record x.modes { lnm = v } }
-unfolding run sequence_in sequences_of with_mode
-lnm_run x true e = refl
-lnm_run x false e = ap (λ b. record x { modes = record x.modes { lnm = b } }) e
-
-decckm_run : (x : Display) (v : Bool) → x.modes.decckm ≡ false → run x (private_mode_item 1 false v) ≡ record x { modes = record x.modes { decckm = v } }
-unfolding run sequence_in sequences_of with_mode
-decckm_run x true e = refl
-decckm_run x false e = ap (λ b. record x { modes = record x.modes { decckm = b } }) e
-
-decsclm_run : (x : Display) (v : Bool) → x.modes.decsclm ≡ false → run x (private_mode_item 4 false v) ≡ record x { modes = record x.modes { decsclm = v } }
-unfolding run sequence_in sequences_of with_mode
-decsclm_run x true e = refl
-decsclm_run x false e = ap (λ b. record x { modes = record x.modes { decsclm = b } }) e
-
-decscnm_run : (x : Display) (v : Bool) → x.modes.decscnm ≡ false → run x (private_mode_item 5 false v) ≡ record x { modes = record x.modes { decscnm = v } }
-unfolding run sequence_in sequences_of with_mode
-decscnm_run x true e = refl
-decscnm_run x false e = ap (λ b. record x { modes = record x.modes { decscnm = b } }) e
+-- and so do those of a private mode
+pub private_mode_sets : (n : ℕ) (set : Bool → Modes → Modes) → look_up private_modes n ≡ Some (λ on. with_modes (set on))
+    → (on : Bool) (x : Display) → effect (private_mode n on) x ≡ record x { modes = set on x.modes }
+unfolding sequence_in sequences_of with_mode
+private_mode_sets n set e true x = ap (λ (change : Option (Bool → Display → Display)). unwrap_or change (λ on s. s) true x) e
+private_mode_sets n set e false x = ap (λ (change : Option (Bool → Display → Display)). unwrap_or change (λ on s. s) false x) e
 
 -- DECAWM is reset only where the wrap flag is
-decawm_run : (x : Display) (v : Bool) → (x.cursor.wrap ≡ true → v ≡ true) → x.modes.decawm ≡ true → run x (private_mode_item 7 true v) ≡ record x { modes = record x.modes { decawm = v } }
-unfolding run sequence_in sequences_of with_mode
-decawm_run x true h e = sym (ap (λ b. record x { modes = record x.modes { decawm = b } }) (sym e))
-decawm_run x false h e = go x.cursor.wrap refl
+pub decawm_sets : (on : Bool) (x : Display) → (x.cursor.wrap ≡ true → on ≡ true)
+    → effect (private_mode 7 on) x ≡ record x { modes = record x.modes { decawm = on } }
+unfolding sequence_in sequences_of with_mode
+decawm_sets on x h = go on h
   where
-    go : (w : Bool) → x.cursor.wrap ≡ w → record x { modes = record x.modes { decawm = false }; cursor = record x.cursor { wrap = x.cursor.wrap && false } } ≡ record x { modes = record x.modes { decawm = false } }
-    go true q = absurd (cc (h q))
-    go false q = ap (λ b. record x { modes = record x.modes { decawm = false }; cursor = record x.cursor { wrap = b && false } }) q ∙ ap (λ b. record x { modes = record x.modes { decawm = false }; cursor = record x.cursor { wrap = b } }) (sym q)
+    shape : Bool → Bool → Display
+    shape on w = record x { modes = record x.modes { decawm = on }; cursor = record x.cursor { wrap = w } }
 
-decarm_run : (x : Display) (v : Bool) → x.modes.decarm ≡ true → run x (private_mode_item 8 true v) ≡ record x { modes = record x.modes { decarm = v } }
-unfolding run sequence_in sequences_of with_mode
-decarm_run x false e = refl
-decarm_run x true e = ap (λ b. record x { modes = record x.modes { decarm = b } }) e
+    kept : (w v : Bool) → (w ≡ true → v ≡ true) → w && v ≡ w
+    kept true v k = k refl
+    kept false v k = refl
 
-dectcem_run : (x : Display) (v : Bool) → x.modes.dectcem ≡ true → run x (private_mode_item 25 true v) ≡ record x { modes = record x.modes { dectcem = v } }
-unfolding run sequence_in sequences_of with_mode
-dectcem_run x false e = refl
-dectcem_run x true e = ap (λ b. record x { modes = record x.modes { dectcem = b } }) e
+    go : (v : Bool) → (x.cursor.wrap ≡ true → v ≡ true)
+        → effect (private_mode 7 v) x ≡ record x { modes = record x.modes { decawm = v } }
+    go true k = ap (λ w. shape true w) (kept x.cursor.wrap true k)
+    go false k = ap (λ w. shape false w) (kept x.cursor.wrap false k)
+
+-- ---- the modes where they differ from power-up
+
+-- the event is sent where the mode isn't as it was
+mode_run : (event : Bool → Event) (set : Bool → Modes → Modes) (x : Display) (was on : Bool)
+    → effect (event on) x ≡ record x { modes = set on x.modes } → set was x.modes ≡ x.modes
+    → run x (if same_bool was on then [] else event on ∷ []) ≡ record x { modes = set on x.modes }
+unfolding run
+mode_run event set x true true sets e = ap (λ m. record x { modes = m }) (sym e)
+mode_run event set x true false sets e = sets
+mode_run event set x false true sets e = sets
+mode_run event set x false false sets e = ap (λ m. record x { modes = m }) (sym e)
+
+ansi_mode_run : (n : ℕ) (set : Bool → Modes → Modes) → look_up ansi_modes n ≡ Some (λ on. with_modes (set on))
+    → (x : Display) (was on : Bool) → set was x.modes ≡ x.modes
+    → run x (ansi_mode_item n was on) ≡ record x { modes = set on x.modes }
+ansi_mode_run n set e x was on = mode_run (ansi_mode n) set x was on (ansi_mode_sets n set e on x)
+
+private_mode_run : (n : ℕ) (set : Bool → Modes → Modes) → look_up private_modes n ≡ Some (λ on. with_modes (set on))
+    → (x : Display) (was on : Bool) → set was x.modes ≡ x.modes
+    → run x (private_mode_item n was on) ≡ record x { modes = set on x.modes }
+private_mode_run n set e x was on = mode_run (private_mode n) set x was on (private_mode_sets n set e on x)
 
 keypad_run : (x : Display) (v : Bool) → x.modes.keypad_application ≡ false → run x (where_true v (application_keypad ∷ [])) ≡ record x { modes = record x.modes { keypad_application = v } }
 unfolding run plain_escape
@@ -102,16 +107,16 @@ modes_run x m h =
     let x10 : Display = record x9 { modes = record x9.modes { dectcem = m.dectcem } } in
     let x11 : Display = record x10 { modes = record x10.modes { keypad_application = m.keypad_application } } in
     let whole : Display = record x { modes = m } in
-    run-then x0 x1 whole (ansi_mode_item 2 false m.kam) r1 (kam_run x0 m.kam refl)
-    (run-then x1 x2 whole (ansi_mode_item 4 false m.irm) r2 (irm_run x1 m.irm refl)
-    (run-then x2 x3 whole (ansi_mode_item 12 true m.srm) r3 (srm_run x2 m.srm refl)
-    (run-then x3 x4 whole (ansi_mode_item 20 false m.lnm) r4 (lnm_run x3 m.lnm refl)
-    (run-then x4 x5 whole (private_mode_item 1 false m.decckm) r5 (decckm_run x4 m.decckm refl)
-    (run-then x5 x6 whole (private_mode_item 4 false m.decsclm) r6 (decsclm_run x5 m.decsclm refl)
-    (run-then x6 x7 whole (private_mode_item 5 false m.decscnm) r7 (decscnm_run x6 m.decscnm refl)
-    (run-then x7 x8 whole (private_mode_item 7 true m.decawm) r8 (decawm_run x7 m.decawm h refl)
-    (run-then x8 x9 whole (private_mode_item 8 true m.decarm) r9 (decarm_run x8 m.decarm refl)
-    (run-then x9 x10 whole (private_mode_item 25 true m.dectcem) r10 (dectcem_run x9 m.dectcem refl)
+    run-then x0 x1 whole (ansi_mode_item 2 false m.kam) r1 (ansi_mode_run 2 (λ on m. record m { kam = on }) refl x0 false m.kam refl)
+    (run-then x1 x2 whole (ansi_mode_item 4 false m.irm) r2 (ansi_mode_run 4 (λ on m. record m { irm = on }) refl x1 false m.irm refl)
+    (run-then x2 x3 whole (ansi_mode_item 12 true m.srm) r3 (ansi_mode_run 12 (λ on m. record m { srm = on }) refl x2 true m.srm refl)
+    (run-then x3 x4 whole (ansi_mode_item 20 false m.lnm) r4 (ansi_mode_run 20 (λ on m. record m { lnm = on }) refl x3 false m.lnm refl)
+    (run-then x4 x5 whole (private_mode_item 1 false m.decckm) r5 (private_mode_run 1 (λ on m. record m { decckm = on }) refl x4 false m.decckm refl)
+    (run-then x5 x6 whole (private_mode_item 4 false m.decsclm) r6 (private_mode_run 4 (λ on m. record m { decsclm = on }) refl x5 false m.decsclm refl)
+    (run-then x6 x7 whole (private_mode_item 5 false m.decscnm) r7 (private_mode_run 5 (λ on m. record m { decscnm = on }) refl x6 false m.decscnm refl)
+    (run-then x7 x8 whole (private_mode_item 7 true m.decawm) r8 (mode_run (private_mode 7) (λ on m. record m { decawm = on }) x7 true m.decawm (decawm_sets m.decawm x7 h) refl)
+    (run-then x8 x9 whole (private_mode_item 8 true m.decarm) r9 (private_mode_run 8 (λ on m. record m { decarm = on }) refl x8 true m.decarm refl)
+    (run-then x9 x10 whole (private_mode_item 25 true m.dectcem) r10 (private_mode_run 25 (λ on m. record m { dectcem = on }) refl x9 true m.dectcem refl)
     (run-then x10 x11 whole (where_true m.keypad_application (application_keypad ∷ [])) r11 (keypad_run x10 m.keypad_application refl)
     (reports_run x11 m.reports_8bit refl)))))))))))
 

@@ -92,10 +92,10 @@ module _ (grids : GridLaws) where
       go : (b : Bool) → saved.wrap ≡ b → run (on_way wide stops origin (at_place saved.row saved.col)) (where_true b (Print space ∷ [])) ≡ on_way wide stops origin (saved_cursor saved)
       go false e = ap (λ w. shape (blank_grid wide) (record { row = saved.row; col = saved.col; wrap = w })) (sym e)
       go true e =
-          let was : cell_at (blank_grid wide) saved.row saved.col ≡ blank = grids.at_place (columns wide) (λ r c. blank) saved.row saved.col place.row_1 place.row_24 place.col_1 place.col_last in
+          let was : cell_at (blank_grid wide) saved.row saved.col ≡ blank = grids.places.at_place (columns wide) (λ r c. blank) saved.row saved.col place.row_1 place.row_24 place.col_1 place.col_last in
           let last = place.wrap_last e in
           ap (λ cell. shape (put (blank_grid wide) saved.row saved.col cell) (behind (columns wide) saved.row saved.col)) (sym was)
-          ∙ ap (λ g. shape g (behind (columns wide) saved.row saved.col)) (put_same grids (blank_grid wide) saved.row saved.col (grids.blanks wide))
+          ∙ ap (λ g. shape g (behind (columns wide) saved.row saved.col)) (put_same grids (blank_grid wide) saved.row saved.col (grids.places.blank wide))
           ∙ ap (λ b. shape (blank_grid wide) (cond b (at_place saved.row (saved.col + 1)) (record { row = saved.row; col = saved.col; wrap = true }))) (le-ltb saved.col (columns wide) (omega (arith, last)))
           ∙ ap (λ w. shape (blank_grid wide) (record { row = saved.row; col = saved.col; wrap = w })) (sym e)
 

@@ -71,7 +71,7 @@ saved_item_fine saved h k =
 module _ (glyphs : GlyphLaws) where
   pub glyph_fine : (cell : Cell) → IsGlyph cell.glyph → AreFine 3 (glyph_events cell)
   unfolding glyph_events
-  glyph_fine cell is = let c = glyphs.code cell.glyph is in spelling_fine (spelling_of cell.glyph) c.0 c.1
+  glyph_fine cell is = let c = glyphs.spellings.code cell.glyph is in spelling_fine (spelling_of cell.glyph) c.0 c.1
 
   piece_fine : (g : Grid) (r c : ℕ) → AreGlyphs g → r ≤ 24 → c ≤ 132 → AreFine 29 (piece g r c)
   unfolding piece_of header
@@ -148,7 +148,7 @@ shift_item_fine (Some slot) = fine-if 2 (eqb slot 2) shift_to_2 shift_to_3 shift
 
 -- each place of a sound grid has a glyph
 pub sound_glyphs : GridLaws → GlyphLaws → (s : Display) → IsSoundDisplay s → AreGlyphs s.grid
-sound_glyphs grids glyphs s i r c = grids.tested (λ cell. is_glyph cell.glyph) s.grid r c glyphs.space i.grid.glyphs
+sound_glyphs grids glyphs s i r c = grids.tests.at (λ cell. is_glyph cell.glyph) s.grid r c glyphs.glyphs.space i.grid.glyphs
 
 pub width_small : (s : Display) → IsSoundDisplay s → last_column s ≤ 132
 width_small s i = go i.grid.shape.width.0 i.grid.shape.width.1

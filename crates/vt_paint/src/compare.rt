@@ -2,16 +2,28 @@
 ghost use Rattle.std.specs.Prelude.{◌≡◌, ◌≤◌, ◌<◌, ℕ, ◌*◌, false, not, length, slice_index_or};
 ghost use Rattle.vt_screen.specs.Cells.{blank};
 ghost use Rattle.vt_screen.specs.Grid.{Grid, row_of};
+ghost use Rattle.vt_paint.specs.Same.{same_brush};
 ghost use Rattle.vt_paint.specs.Changes.{same_cell, differing_from, differing, AreChanges};
 
-use vt_screen::Cell;
+use crate::tables::brush_number;
 use vt_screen::laws::rows;
+use vt_screen::{Brush, Cell};
 use vt_term::{ROWS, STOPS, Terminal};
 
+/// Whether two cells differ. The compiler compares all attributes at once.
+#[inline(always)]
 fn differ(a: &Cell, b: &Cell) -> bool
     ensures { result ≡ not (same_cell a.now b.now) }
 {
-    a != b
+    !(a.glyph == b.glyph && same_brush(a.brush(), b.brush()))
+}
+
+/// Whether two brushes are the same.
+#[inline(always)]
+fn same_brush(a: Brush, b: Brush) -> bool
+    ensures { result ≡ same_brush a b }
+{
+    brush_number(a) == brush_number(b)
 }
 
 /// At how many places two rows of the same length have different cells.

@@ -1,7 +1,7 @@
 -- Playing bytes chunk by chunk.
-use Rattle.std.proofs.Common.{◌≡◌, ℕ, ◌+◌, List, [], ◌++◌, take, drop, sym, ap, ◌∙◌}
+use Rattle.std.proofs.Common.{◌≡◌, ℕ, ◌+◌, List, [], ◌++◌, length, take, drop, sym, ap, ◌∙◌}
 use Rattle.std.proofs.lemmas.List.{drop-drop}
-use Rattle.std.proofs.Math.Seq.{take-add}
+use Rattle.std.proofs.Math.Seq.{take-add, take-append_seam}
 use Rattle.vt_term.specs.State.{State}
 use Rattle.vt_term.specs.Play.{Played, play, both}
 use Rattle.vt_update.specs.Leads.{silently}
@@ -34,3 +34,7 @@ module _ (two : (s : State) (a b : List ℕ) → play s (a ++ b) ≡ both (play 
 pub played_silently : (s t u : State) (sent : List ℕ) → u ≡ (play s sent).state → (play s sent).reports ≡ [] → u ≡ t → play s sent ≡ silently t
 played_silently s t u sent state silent same =
     ap (λ (reports : List ℕ). record { state = (play s sent).state; reports = reports }) silent ∙ ap (λ (v : State). silently v) (sym state ∙ same)
+
+-- what was appended is taken back
+pub taken_back : (old more now : List ℕ) (n : ℕ) → now ≡ take n (old ++ more) → n ≡ length old → now ≡ old
+taken_back old more now n h e = h ∙ ap (λ n. take n (old ++ more)) e ∙ take-append_seam old more

@@ -9,17 +9,14 @@ use vt_term::Terminal;
 
 /// Appends bytes that should lead from one state to another.
 ///
-/// None where the width or the tab stops are others, or a single shift is pending: the repaint is for that.
+/// None where a single shift is pending: the next glyph is then another.
 pub(crate) fn push_choice(shown: &Terminal, to: &Terminal, out: &mut Vec<u8>)
     requires { vec_len out.old + CHOICE_LIMIT ≤ vec_capacity out.old }
     ensures items { out.new.items ≡ out.old.items ++ drop (vec_len out.old) out.new.items }
     ensures bounded { vec_len out.new ≤ vec_len out.old + CHOICE_LIMIT }
     ensures capacity { vec_capacity out.old ≤ vec_capacity out.new }
 {
-    if shown.width() != to.width()
-        || shown.stops() != to.stops()
-        || shown.sets().pending().is_some()
-    {
+    if shown.sets().pending().is_some() {
         return;
     }
     let mut remote = Remote::new(shown);

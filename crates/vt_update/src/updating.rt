@@ -1,18 +1,28 @@
 //! The update: bytes are chosen, played on what the other side shows, and sent where that led to the state asked for.
-ghost use Rattle.std.specs.Prelude.{◌≡◌, ◌↔◌, ◌⊎◌, ◌+◌, ◌*◌, ◌≤◌, ◌<◌, ◌≢◌, [], IsTrue, IsErrOf, OnOk, OnErr, drop, length, take, vec_len, vec_capacity};
+ghost use Rattle.std.specs.Prelude.{◌≡◌, ◌↔◌, ◌⊎◌, ◌+◌, ◌*◌, ◌≤◌, ◌<◌, ◌≢◌, ◌++◌, [], IsTrue, IsErrOf, OnOk, OnErr, drop, length, take, vec_len, vec_capacity};
 ghost use Rattle.std.specs.Bool.{OnTrue, OnFalse};
 ghost use Rattle.vt_syntax.specs.declared.held.Held.TheVariants.{Nothing};
 ghost use Rattle.vt_term.specs.State.{State};
 ghost use Rattle.vt_term.specs.Sound.{IsSound};
 ghost use Rattle.vt_term.specs.Play.{play};
+ghost use Rattle.vt_paint.specs.Repaint.{paint};
+ghost use Rattle.vt_paint.specs.Changes.{differing, AreChanges};
 ghost use Rattle.vt_update.specs.Leads.{Leads, Updates};
 
 use crate::choice::push_choice;
 use crate::laws::leading;
 use thiserror::Error;
-use vt_paint::{PAINT_LIMIT, repaint_reserved};
-use vt_term::Terminal;
+use vt_paint::{
+    PAINT_LIMIT, changed_places, differing_cells, repaint_changes_reserved, repaint_reserved,
+};
 use vt_term::laws::cuts;
+use vt_term::{ROWS, STOPS, Terminal};
+
+/// The most bytes of an update for each cell that differs, where width and tab stops are equal.
+const BYTES_A_CELL: usize = 28;
+
+/// The most bytes for all else then.
+const BYTES_FOR_THE_REST: usize = 230;
 
 /// How many bytes of an update are played at a time.
 const CHUNK: usize = 64;
@@ -108,6 +118,8 @@ pub fn update(shown: &mut Terminal, to: &Terminal, out: &mut Vec<u8>) -> Result<
     ensures memory { IsErrOf result UpdateError.Memory → vec_capacity out.old < vec_len out.old + UPDATE_LIMIT }
     ensures same_out { OnErr result (out.new.items ≡ out.old.items) }
     ensures same_shown { OnErr result (shown.new ≡ shown.old) }
+    ensures small { OnOk result (shown.old.display.grid.width ≡ to.now.display.grid.width → shown.old.display.stops ≡ to.now.display.stops
+        → vec_len out.new ≤ vec_len out.old + 28 * differing shown.old.display.grid to.now.display.grid + 230) }
     ensures bounded { vec_len out.new ≤ vec_len out.old + UPDATE_LIMIT }
     ensures capacity { vec_capacity out.old ≤ vec_capacity out.new }
 {
@@ -128,6 +140,8 @@ pub fn update_reserved(shown: &mut Terminal, to: &Terminal, out: &mut Vec<u8>)
     ensures leads { Updates shown.old to.now out.old.items out.new.items }
     ensures shown { shown.new ≡ to.now }
     ensures nothing { (out.new.items ≡ out.old.items) ↔ (shown.old ≡ to.now) }
+    ensures small { shown.old.display.grid.width ≡ to.now.display.grid.width → shown.old.display.stops ≡ to.now.display.stops
+        → vec_len out.new ≤ vec_len out.old + 28 * differing shown.old.display.grid to.now.display.grid + 230 }
     ensures bounded { vec_len out.new ≤ vec_len out.old + UPDATE_LIMIT }
     ensures capacity { vec_capacity out.old ≤ vec_capacity out.new }
 {
@@ -136,18 +150,47 @@ pub fn update_reserved(shown: &mut Terminal, to: &Terminal, out: &mut Vec<u8>)
     if shown.same_state(to) {
         return;
     }
-    if !send_choice(shown, to, out) {
+    if !same_columns(shown, to) {
         send_repaint(shown, to, out);
+        return;
+    }
+    let marks = changed_places(shown, to);
+    if !send_choice(shown, to, out) {
+        send_changes(&marks, shown, to, out);
     }
 }
 
-/// Appends the chosen bytes and plays them on `shown`. Where that doesn't lead to `to` in silence, the bytes are taken back,
-/// and the answer is false; `shown` is then in any state.
+/// Whether two terminals have the same width and the same tab stops.
+fn same_columns(shown: &Terminal, to: &Terminal) -> bool
+    ensures { IsTrue result ↔ ((shown.now.display.grid.width ≡ to.now.display.grid.width) × (shown.now.display.stops ≡ to.now.display.stops)) }
+{
+    shown.width() == to.width() && same_stops(shown.stops(), to.stops())
+}
+
+fn same_stops(a: &[bool; STOPS], b: &[bool; STOPS]) -> bool
+    ensures { IsTrue result ↔ (a.now ≡ b.now) }
+{
+    a == b
+}
+
+/// Whether so many bytes are few for what differs between two terminals of the same width.
+fn is_short(len: usize, shown: &Terminal, to: &Terminal) -> bool
+    requires { shown.now.display.grid.width ≡ to.now.display.grid.width }
+    ensures { IsTrue result → len ≤ 28 * differing shown.now.display.grid to.now.display.grid + 230 }
+{
+    len <= BYTES_FOR_THE_REST
+        || len - BYTES_FOR_THE_REST <= BYTES_A_CELL * differing_cells(shown, to)
+}
+
+/// Appends the chosen bytes and plays them on `shown`, where they are short. Where that doesn't lead to `to` in silence, the
+/// bytes are taken back, and the answer is false; `shown` is then in any state.
 fn send_choice(shown: &mut Terminal, to: &Terminal, out: &mut Vec<u8>) -> bool
     requires sound { IsSound shown.old }
+    requires width { shown.old.display.grid.width ≡ to.now.display.grid.width }
     requires room { vec_len out.old + UPDATE_LIMIT ≤ vec_capacity out.old }
     ensures leads { OnTrue result (Updates shown.old to.now out.old.items out.new.items) }
     ensures shown { OnTrue result (shown.new ≡ to.now) }
+    ensures small { OnTrue result (vec_len out.new ≤ vec_len out.old + 28 * differing shown.old.display.grid to.now.display.grid + 230) }
     ensures taken_back { OnFalse result (out.new.items ≡ out.old.items) }
     ensures bounded { vec_len out.new ≤ vec_len out.old + UPDATE_LIMIT }
     ensures capacity { vec_capacity out.old ≤ vec_capacity out.new }
@@ -155,17 +198,46 @@ fn send_choice(shown: &mut Terminal, to: &Terminal, out: &mut Vec<u8>) -> bool
     leading();
     let start = out.len();
     push_choice(shown, to, out);
-    if play_back(start, shown, out) && shown.same_state(to) {
+    if is_short(out.len() - start, shown, to)
+        && play_back(start, shown, out)
+        && shown.same_state(to)
+    {
         return true;
     }
     out.truncate(start);
     false
 }
 
+/// Appends bytes that write the marked places alone, and brings `shown`, which may be in any state, to `to`: by the repaint,
+/// which isn't sent.
+fn send_changes(
+    marks: &[[bool; STOPS]; ROWS],
+    shown: &mut Terminal,
+    to: &Terminal,
+    out: &mut Vec<u8>,
+)
+    requires to { to.now.held ≡ Nothing }
+    requires room { vec_len out.old + UPDATE_LIMIT ≤ vec_capacity out.old }
+    ensures leads { (s : State) → IsSound s → AreChanges marks.now s.display to.now.display
+        → Updates s to.now out.old.items out.new.items }
+    ensures shown { shown.new ≡ to.now }
+    ensures small { (s : State) → AreChanges marks.now s.display to.now.display
+        → vec_len out.new ≤ vec_len out.old + 28 * differing s.display.grid to.now.display.grid + 230 }
+    ensures bounded { vec_len out.new ≤ vec_len out.old + PAINT_LIMIT }
+    ensures capacity { vec_capacity out.old ≤ vec_capacity out.new }
+{
+    leading();
+    let before = out.len();
+    send_repaint(shown, to, out);
+    out.truncate(before);
+    repaint_changes_reserved(marks, to, out);
+}
+
 /// Appends the repaint of `to`, which leads there from any state, and plays it on `shown`.
 fn send_repaint(shown: &mut Terminal, to: &Terminal, out: &mut Vec<u8>)
     requires to { to.now.held ≡ Nothing }
     requires room { vec_len out.old + UPDATE_LIMIT ≤ vec_capacity out.old }
+    ensures items { out.new.items ≡ out.old.items ++ paint to.now }
     ensures leads { (s : State) → IsSound s → Updates s to.now out.old.items out.new.items }
     ensures shown { shown.new ≡ to.now }
     ensures bounded { vec_len out.new ≤ vec_len out.old + PAINT_LIMIT }

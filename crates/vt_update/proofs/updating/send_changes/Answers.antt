@@ -1,0 +1,17 @@
+use Rattle.std.proofs.Common.{◌≡◌, ◌++◌, List, ℕ, take, length, arith, ap, ◌∙◌}
+use Rattle.vt_paint.specs.Repaint.{paint}
+use Rattle.vt_update.proofs.Chunks.{taken_back}
+use Rattle.vt_update.proofs.updating.send_changes.Goals as goal
+
+pub returns-clause-leads : goal.returns-clause-leads
+returns-clause-leads c s sound changes =
+    let w = c.repaint_changes_reserved.ensures.leads s sound changes in
+    let old = c.args.out.now.items in
+    let n = c.len-before.result in
+    let all : n ≡ length old = omega (arith, c.len-before.ensures) in
+    let back = taken_back old (paint c.args.to.now) c.truncate.new.self.items n (c.truncate.ensures.items ∙ ap (λ xs. take n xs) c.send_repaint.ensures.items) all in
+    record {
+      sent = w.sent;
+      appended = w.appended ∙ ap (λ (xs : List ℕ). xs ++ w.sent) back;
+      leads = c.leading.ensures.played s c.args.to.now w.sent sound w.played;
+    }

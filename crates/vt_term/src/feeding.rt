@@ -196,8 +196,7 @@ impl Terminal {
         ensures bounded { vec_len out.new ≤ vec_len out.old + 10 }
         ensures capacity { vec_capacity out.old ≤ vec_capacity out.new }
     {
-        self.display.report(kind, values, out);
-        self.display.carry_out(kind, values);
+        self.display.carry_out(kind, values, out);
     }
 
     /// Plays the graphic bytes at the front of a piece, between sequences: a run of them where they may be written at
@@ -290,8 +289,7 @@ impl Terminal {
     {
         let Taken { bytes, event } = self.parser.next(piece, values);
         if let Some(kind) = event {
-            self.display.report(kind, values.as_slice(), out);
-            self.display.carry_out(kind, values.as_slice());
+            self.display.carry_out(kind, values.as_slice(), out);
         }
         bytes
     }

@@ -131,11 +131,14 @@ impl Terminal {
         if byte == 0x1B {
             return self.feed_escape(piece, values, out);
         }
-        if has_glyph(byte) {
-            return (self.feed_graphics(piece), true);
+        if 0x20 <= byte && byte < 0x7F {
+            return (self.feed_plain(piece), true);
         }
         if byte == 0x0D {
             return (self.feed_carriage_return(piece), true);
+        }
+        if has_glyph(byte) {
+            return (self.feed_graphics(piece), true);
         }
         if let Some(control) = front_control(piece) {
             self.feed_front_event(EventKind::Control(control), &[], out);
@@ -196,12 +199,35 @@ impl Terminal {
         ensures bounded { vec_len out.new ≤ vec_len out.old + 10 }
         ensures capacity { vec_capacity out.old ≤ vec_capacity out.new }
     {
-        self.display.report(kind, values, out);
-        self.display.carry_out(kind, values);
+        self.display.carry_out(kind, values, out);
+    }
+
+    /// Plays the graphic bytes at the front of a piece that begins with a plain one, between sequences: a run of plain bytes
+    /// where GL is ASCII and they may be written at once. Answers how many bytes that is.
+    #[inline(always)]
+    fn feed_plain(&mut self, piece: &[u8]) -> usize
+        requires some { 1 ≤ length piece.now }
+        requires plain { IsPlain (slice_index piece.now 0) }
+        requires between { self.old.held ≡ Nothing }
+        ensures some { 1 ≤ result }
+        ensures within { result ≤ length piece.now }
+        ensures between { self.new.held ≡ Nothing }
+        ensures state { self.new ≡ (play self.old (take result piece.now)).state }
+        ensures reports { (play self.old (take result piece.now)).reports ≡ [] }
+    {
+        if self.display.writes_over() && self.display.sets.reads_ascii() {
+            let run = plain_run(piece);
+            if run >= LONG_RUN || !right_half_at(piece, run) {
+                self.feed_run(&piece[..run]);
+                return run;
+            }
+        }
+        self.feed_graphics(piece)
     }
 
     /// Plays the graphic bytes at the front of a piece, between sequences: a run of them where they may be written at
     /// once, else the first. Answers how many bytes that is.
+    #[inline(always)]
     fn feed_graphics(&mut self, piece: &[u8]) -> usize
         requires some { 1 ≤ length piece.now }
         requires graphic { HasGlyph (slice_index piece.now 0) }
@@ -215,13 +241,6 @@ impl Terminal {
         if !self.display.writes_over() {
             self.feed_graphic(piece[0]);
             return 1;
-        }
-        if self.display.sets.reads_ascii() {
-            let run = plain_run(piece);
-            if run >= LONG_RUN || (run > 0 && !right_half_at(piece, run)) {
-                self.feed_run(&piece[..run]);
-                return run;
-            }
         }
         let run = graphic_run(piece);
         self.feed_in_use(&piece[..run]);
@@ -290,8 +309,7 @@ impl Terminal {
     {
         let Taken { bytes, event } = self.parser.next(piece, values);
         if let Some(kind) = event {
-            self.display.report(kind, values.as_slice(), out);
-            self.display.carry_out(kind, values.as_slice());
+            self.display.carry_out(kind, values.as_slice(), out);
         }
         bytes
     }

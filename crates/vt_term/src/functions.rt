@@ -1,11 +1,12 @@
-//! Which function an event asks for.
-ghost use Rattle.std.specs.Prelude.{◌≡◌, ◌<◌, ◌≤◌};
+//! Which function or report an event asks for.
+ghost use Rattle.std.specs.Prelude.{◌≡◌, ◌<◌, ◌≤◌, ◌+◌, ◌++◌, vec_len, vec_capacity, Some, None};
 ghost use Rattle.vt_syntax.specs.Spelling.{IsEvent};
 ghost use Rattle.vt_syntax.specs.Event.{event_of};
 ghost use Rattle.vt_glyph.specs.Tables.{substitute_glyph};
 ghost use Rattle.vt_term.specs.Writing.{write_glyph};
 ghost use Rattle.vt_term.specs.Parameters.{first, second, count};
 ghost use Rattle.vt_term.specs.Functions.{effect, control, plain_escape, escape_with, designate, lock_left, lock_right, shift_once, sequence, sequence_in, plain_sequences, private_sequences, quote_sequences, exclamation_sequences};
+ghost use Rattle.vt_term.specs.Reports.{report, sequence_report};
 
 use crate::display::Display;
 use vt_glyph::{Glyph, Set};
@@ -33,15 +34,23 @@ fn count(params: &[u16]) -> u16
 }
 
 impl Display {
-    /// An event is carried out: its kind, and the values of a control sequence.
+    /// An event is carried out: its kind, and the values of a control sequence. Its report in the state before it is
+    /// appended to `out`: at most ten bytes, whose room is there.
     #[inline(always)]
-    pub(crate) fn carry_out(&mut self, kind: EventKind, values: &[u16])
-        requires { IsEvent (event_of kind values.now) }
-        ensures { self.new ≡ effect (event_of kind values.now) self.old }
+    pub(crate) fn carry_out(&mut self, kind: EventKind, values: &[u16], out: &mut Vec<u8>)
+        requires event { IsEvent (event_of kind values.now) }
+        requires room { vec_len out.old + 10 ≤ vec_capacity out.old }
+        ensures state { self.new ≡ effect (event_of kind values.now) self.old }
+        ensures items { out.new.items ≡ out.old.items ++ report (event_of kind values.now) self.old }
+        ensures bounded { vec_len out.new ≤ vec_len out.old + 10 }
+        ensures capacity { vec_capacity out.old ≤ vec_capacity out.new }
     {
         match kind {
             EventKind::Print(b) => self.print(b),
-            EventKind::Control(b) => self.control(b),
+            EventKind::Control(b) => {
+                self.report_control(b, out);
+                self.control(b);
+            }
             EventKind::Escape { inter: None, last } => self.plain_escape(last),
             EventKind::Escape {
                 inter: Some(inter),
@@ -51,7 +60,7 @@ impl Display {
                 marker,
                 inter,
                 last,
-            } => self.sequence(marker, values, inter, last),
+            } => self.sequence(marker, values, inter, last, out),
         }
     }
 
@@ -162,24 +171,40 @@ impl Display {
 
     /// A control sequence.
     #[inline(always)]
-    #[tactic(auto, unfolding(crate::specs::Functions::sequences_of, crate::specs::Functions::sequence_in))]
-    fn sequence(&mut self, marker: Option<u8>, params: &[u16], inter: Option<u8>, last: u8)
-        ensures { self.new ≡ sequence marker inter last params.now self.old }
+    #[tactic(auto, unfolding(crate::specs::Functions::sequences_of, crate::specs::Functions::sequence_in, crate::specs::Reports::sequence_report))]
+    fn sequence(
+        &mut self,
+        marker: Option<u8>,
+        params: &[u16],
+        inter: Option<u8>,
+        last: u8,
+        out: &mut Vec<u8>,
+    )
+        requires room { vec_len out.old + 10 ≤ vec_capacity out.old }
+        ensures state { self.new ≡ sequence marker inter last params.now self.old }
+        ensures items { out.new.items ≡ out.old.items ++ sequence_report marker inter last (first params.now) self.old }
+        ensures bounded { vec_len out.new ≤ vec_len out.old + 10 }
+        ensures capacity { vec_capacity out.old ≤ vec_capacity out.new }
     {
         match (marker, inter) {
-            (None, None) => self.plain_sequence(last, params),
-            (Some(b'?'), None) => self.private_sequence(last, params),
+            (None, None) => self.plain_sequence(last, params, out),
+            (Some(b'?'), None) => self.private_sequence(last, params, out),
+            (Some(b'>'), None) => self.greater_sequence(last, params, out),
             (None, Some(b'"')) => self.quote_sequence(last, params),
             (None, Some(b'!')) => self.exclamation_sequence(last, params),
             _ => {}
         }
     }
 
-    /// A control sequence without marker and intermediate.
+    /// A control sequence without marker and intermediate: DA and DSR report, and the others change the display.
     #[inline(always)]
-    #[tactic(auto, unfolding(crate::specs::Functions::sequence_in))]
-    fn plain_sequence(&mut self, last: u8, params: &[u16])
-        ensures { self.new ≡ sequence_in plain_sequences last params.now self.old }
+    #[tactic(auto, unfolding(crate::specs::Functions::sequence_in, crate::specs::Reports::sequence_report))]
+    fn plain_sequence(&mut self, last: u8, params: &[u16], out: &mut Vec<u8>)
+        requires room { vec_len out.old + 10 ≤ vec_capacity out.old }
+        ensures state { self.new ≡ sequence_in plain_sequences last params.now self.old }
+        ensures items { out.new.items ≡ out.old.items ++ sequence_report None None last (first params.now) self.old }
+        ensures bounded { vec_len out.new ≤ vec_len out.old + 10 }
+        ensures capacity { vec_capacity out.old ≤ vec_capacity out.new }
     {
         match last {
             b'@' => self.insert_character(count(params)),
@@ -194,27 +219,49 @@ impl Display {
             b'M' => self.delete_line(count(params)),
             b'P' => self.delete_character(count(params)),
             b'X' => self.erase_character(count(params)),
+            b'c' => self.report_attributes(first(params), out),
             b'f' => self.cursor_position(first(params), second(params)),
             b'g' => self.clear_tabs(first(params)),
             b'h' => self.change_ansi_modes(params, true),
             b'l' => self.change_ansi_modes(params, false),
             b'm' => self.select_graphic_rendition(params),
+            b'n' => self.report_status(first(params), out),
             b'r' => self.set_margins(first(params), second(params)),
             _ => {}
         }
     }
 
     /// A private control sequence, with the marker `?`.
-    #[tactic(auto, unfolding(crate::specs::Functions::sequence_in))]
-    fn private_sequence(&mut self, last: u8, params: &[u16])
-        ensures { self.new ≡ sequence_in private_sequences last params.now self.old }
+    #[tactic(auto, unfolding(crate::specs::Functions::sequence_in, crate::specs::Reports::sequence_report))]
+    fn private_sequence(&mut self, last: u8, params: &[u16], out: &mut Vec<u8>)
+        requires room { vec_len out.old + 10 ≤ vec_capacity out.old }
+        ensures state { self.new ≡ sequence_in private_sequences last params.now self.old }
+        ensures items { out.new.items
+            ≡ out.old.items ++ sequence_report (Some 0x3F) None last (first params.now) self.old }
+        ensures bounded { vec_len out.new ≤ vec_len out.old + 10 }
+        ensures capacity { vec_capacity out.old ≤ vec_capacity out.new }
     {
         match last {
             b'J' => self.erase_in_display(true, first(params)),
             b'K' => self.erase_in_line(true, first(params)),
             b'h' => self.change_private_modes(params, true),
             b'l' => self.change_private_modes(params, false),
+            b'n' => self.report_private_status(first(params), out),
             _ => {}
+        }
+    }
+
+    /// A control sequence with the marker `>`: secondary DA.
+    #[tactic(auto, unfolding(crate::specs::Reports::sequence_report))]
+    fn greater_sequence(&self, last: u8, params: &[u16], out: &mut Vec<u8>)
+        requires room { vec_len out.old + 10 ≤ vec_capacity out.old }
+        ensures items { out.new.items
+            ≡ out.old.items ++ sequence_report (Some 0x3E) None last (first params.now) self.now }
+        ensures bounded { vec_len out.new ≤ vec_len out.old + 10 }
+        ensures capacity { vec_capacity out.old ≤ vec_capacity out.new }
+    {
+        if last == b'c' && first(params) == 0 {
+            self.answer(b">1;10;0c", out);
         }
     }
 

@@ -1,33 +1,11 @@
 //! What the terminal reports.
-ghost use Rattle.std.specs.Prelude.{◌≡◌, ◌+◌, ◌≤◌, ◌<◌, ◌++◌, length, decimal, vec_len, vec_capacity};
-ghost use Rattle.vt_syntax.specs.Event.{event_of};
-ghost use Rattle.vt_term.specs.Reports.{report, answer, cursor_report, control_report, sequence_report};
+ghost use Rattle.std.specs.Prelude.{◌≡◌, ◌+◌, ◌≤◌, ◌<◌, ◌++◌, Some, None, length, decimal, vec_len, vec_capacity};
+ghost use Rattle.vt_term.specs.Reports.{answer, cursor_report, control_report, sequence_report};
 
 use crate::display::Display;
-use crate::functions::first;
 use itoa::Buffer;
-use vt_syntax::EventKind;
 
 impl Display {
-    /// Appends the report of an event, in the state before it: at most ten bytes, whose room is there.
-    #[inline(always)]
-    pub(crate) fn report(&self, kind: EventKind, values: &[u16], out: &mut Vec<u8>)
-        requires { vec_len out.old + 10 ≤ vec_capacity out.old }
-        ensures items { out.new.items ≡ out.old.items ++ report (event_of kind values.now) self.now }
-        ensures bounded { vec_len out.new ≤ vec_len out.old + 10 }
-        ensures capacity { vec_capacity out.old ≤ vec_capacity out.new }
-    {
-        match kind {
-            EventKind::Control(b) => self.report_control(b, out),
-            EventKind::Sequence {
-                marker,
-                inter,
-                last,
-            } => self.report_sequence(marker, inter, last, first(values), out),
-            EventKind::Print(_) | EventKind::Escape { .. } => {}
-        }
-    }
-
     /// DECID.
     #[inline(always)]
     #[tactic(auto, unfolding(crate::specs::Reports::control_report))]
@@ -42,35 +20,55 @@ impl Display {
         }
     }
 
-    /// DA and DSR, by the first parameter.
-    #[inline(always)]
+    /// DA, by the first parameter.
+    #[inline(never)]
     #[tactic(auto, unfolding(crate::specs::Reports::sequence_report))]
-    pub(crate) fn report_sequence(
-        &self,
-        marker: Option<u8>,
-        inter: Option<u8>,
-        last: u8,
-        p: u16,
-        out: &mut Vec<u8>,
-    )
+    pub(crate) fn report_attributes(&self, p: u16, out: &mut Vec<u8>)
         requires { vec_len out.old + 10 ≤ vec_capacity out.old }
-        ensures items { out.new.items ≡ out.old.items ++ sequence_report marker inter last p self.now }
+        ensures items { out.new.items ≡ out.old.items ++ sequence_report None None 0x63 p self.now }
         ensures bounded { vec_len out.new ≤ vec_len out.old + 10 }
         ensures capacity { vec_capacity out.old ≤ vec_capacity out.new }
     {
-        match (marker, inter, last, p) {
-            (None, None, b'c', 0) => self.answer(b"?62;1;6c", out),
-            (None, None, b'n', 5) => self.answer(b"0n", out),
-            (None, None, b'n', 6) => self.report_cursor(out),
-            (Some(b'>'), None, b'c', 0) => self.answer(b">1;10;0c", out),
-            (Some(b'?'), None, b'n', 15) => self.answer(b"?13n", out),
-            (Some(b'?'), None, b'n', 26) => self.answer(b"?27;1n", out),
+        match p {
+            0 => self.answer(b"?62;1;6c", out),
+            _ => {}
+        }
+    }
+
+    /// DSR: the operating status, and the cursor's place.
+    #[inline(never)]
+    #[tactic(auto, unfolding(crate::specs::Reports::sequence_report))]
+    pub(crate) fn report_status(&self, p: u16, out: &mut Vec<u8>)
+        requires { vec_len out.old + 10 ≤ vec_capacity out.old }
+        ensures items { out.new.items ≡ out.old.items ++ sequence_report None None 0x6E p self.now }
+        ensures bounded { vec_len out.new ≤ vec_len out.old + 10 }
+        ensures capacity { vec_capacity out.old ≤ vec_capacity out.new }
+    {
+        match p {
+            5 => self.answer(b"0n", out),
+            6 => self.report_cursor(out),
+            _ => {}
+        }
+    }
+
+    /// DSR after `?`: the printer, and the keyboard's language.
+    #[inline(never)]
+    #[tactic(auto, unfolding(crate::specs::Reports::sequence_report))]
+    pub(crate) fn report_private_status(&self, p: u16, out: &mut Vec<u8>)
+        requires { vec_len out.old + 10 ≤ vec_capacity out.old }
+        ensures items { out.new.items ≡ out.old.items ++ sequence_report (Some 0x3F) None 0x6E p self.now }
+        ensures bounded { vec_len out.new ≤ vec_len out.old + 10 }
+        ensures capacity { vec_capacity out.old ≤ vec_capacity out.new }
+    {
+        match p {
+            15 => self.answer(b"?13n", out),
+            26 => self.answer(b"?27;1n", out),
             _ => {}
         }
     }
 
     /// An answer behind the introducer in its 7-bit or 8-bit form.
-    fn answer(&self, text: &[u8], out: &mut Vec<u8>)
+    pub(crate) fn answer(&self, text: &[u8], out: &mut Vec<u8>)
         requires { vec_len out.old + length text.now + 2 ≤ vec_capacity out.old }
         ensures items { out.new.items ≡ out.old.items ++ answer text.now self.now }
         ensures bounded { vec_len out.new ≤ vec_len out.old + length text.now + 2 }

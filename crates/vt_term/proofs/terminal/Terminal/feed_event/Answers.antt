@@ -11,9 +11,9 @@ returns-in-Some-clause-state c =
     let bytes = take c.next-bytes.result.bytes c.args.piece.now in
     let values = c.next-bytes.new.values in
     let events = ap (λ (e : Option EventKind). event_in e values) (sym c.in-Some.is) ∙ c.next-bytes.ensures.event in
-    let done = c.carry_out.ensures
+    let done = c.carry_out.ensures.state
     ∙ ap (λ (vs : List ℕ). effect (event_of c.in-Some.kind vs) c.self.inside.display)
-    c.as_slice-in-Some.ensures.value in
+    c.as_slice.ensures.value in
     rw (← c.self.view_is) (play-state _ bytes (event_of c.in-Some.kind values ∷ []) c.carry_out.new.self
     c.next-bytes.new.self events done c.next-bytes.ensures.held)
 
@@ -22,7 +22,7 @@ returns-in-Some-clause-reports c =
     let bytes = take c.next-bytes.result.bytes c.args.piece.now in
     let values = c.next-bytes.new.values in
     let events = ap (λ (e : Option EventKind). event_in e values) (sym c.in-Some.is) ∙ c.next-bytes.ensures.event in
-    let told = c.report.ensures.items
+    let told = c.carry_out.ensures.items
     ∙ ap (λ (vs : List ℕ). c.args.out.now.items ++ report (event_of c.in-Some.kind vs) c.self.inside.display)
     c.as_slice.ensures.value in
     rw (← c.self.view_is) (told

@@ -13,13 +13,13 @@ returns-clause-state c = λ piece bytes front.
     let events = sym (ap (λ (h : Held). events_from h (take bytes piece)) between ∙ front.events) in
     let held = between ∙ sym (ap (λ (h : Held). held_from h (take bytes piece)) between ∙ front.held) in
     rw (← c.self.view_is) (play-state _ (take bytes piece) (event_of c.args.kind c.args.values.now ∷ [])
-    c.carry_out.new.self c.self.inside.parser events c.carry_out.ensures held)
+    c.carry_out.new.self c.self.inside.parser events c.carry_out.ensures.state held)
 
 pub returns-clause-reports : goal.returns-clause-reports
 returns-clause-reports c = λ piece bytes front.
     let between = ap (λ (s : State). s.held) c.self.view_is ∙ c.requires.between in
     let events = sym (ap (λ (h : Held). events_from h (take bytes piece)) between ∙ front.events) in
-    rw (← c.self.view_is) (c.report.ensures.items
+    rw (← c.self.view_is) (c.carry_out.ensures.items
     ∙ ap (λ (t : List ℕ). c.args.out.now.items ++ t)
     (sym (append-nil (report (event_of c.args.kind c.args.values.now) c.self.inside.display))
     ∙ play-reports _ (take bytes piece) (event_of c.args.kind c.args.values.now ∷ []) events))

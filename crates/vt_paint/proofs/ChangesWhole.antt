@@ -42,29 +42,31 @@ small_origin_fine on = fine-where 5 on _ (small_private_mode_fine 6 true (omega 
 every_mode_fine : (m : Modes) → AreFine 54 (every_mode m)
 unfolding every_mode
 every_mode_fine m =
-    fine-append 4 50 (ansi_mode 2 m.kam ∷ []) _ (small_ansi_mode_fine 2 m.kam (omega arith))
-    (fine-append 4 46 (ansi_mode 4 m.irm ∷ []) _ (small_ansi_mode_fine 4 m.irm (omega arith))
-    (fine-append 5 41 (ansi_mode 12 m.srm ∷ []) _ (ansi_mode_fine 12 m.srm (omega arith))
-    (fine-append 5 36 (ansi_mode 20 m.lnm ∷ []) _ (ansi_mode_fine 20 m.lnm (omega arith))
-    (fine-append 5 31 (private_mode 1 m.decckm ∷ []) _ (small_private_mode_fine 1 m.decckm (omega arith))
-    (fine-append 5 26 (private_mode 4 m.decsclm ∷ []) _ (small_private_mode_fine 4 m.decsclm (omega arith))
-    (fine-append 5 21 (private_mode 5 m.decscnm ∷ []) _ (small_private_mode_fine 5 m.decscnm (omega arith))
-    (fine-append 5 16 (private_mode 7 m.decawm ∷ []) _ (small_private_mode_fine 7 m.decawm (omega arith))
-    (fine-append 5 11 (private_mode 8 m.decarm ∷ []) _ (small_private_mode_fine 8 m.decarm (omega arith))
-    (fine-append 6 5 (private_mode 25 m.dectcem ∷ []) _ (private_mode_fine 25 m.dectcem (omega arith))
-    (fine-append 2 3 (keypad_event m.keypad_application ∷ []) _ (keypad_event_fine m.keypad_application)
-    (report_form_event_fine m.reports_8bit)))))))))))
+    fine-upto _ 54 _ (omega arith)
+    (fine-append _ _ (ansi_mode 2 m.kam ∷ []) _ (small_ansi_mode_fine 2 m.kam (omega arith))
+    (fine-append _ _ (ansi_mode 4 m.irm ∷ []) _ (small_ansi_mode_fine 4 m.irm (omega arith))
+    (fine-append _ _ (ansi_mode 12 m.srm ∷ []) _ (ansi_mode_fine 12 m.srm (omega arith))
+    (fine-append _ _ (ansi_mode 20 m.lnm ∷ []) _ (ansi_mode_fine 20 m.lnm (omega arith))
+    (fine-append _ _ (private_mode 1 m.decckm ∷ []) _ (small_private_mode_fine 1 m.decckm (omega arith))
+    (fine-append _ _ (private_mode 4 m.decsclm ∷ []) _ (small_private_mode_fine 4 m.decsclm (omega arith))
+    (fine-append _ _ (private_mode 5 m.decscnm ∷ []) _ (small_private_mode_fine 5 m.decscnm (omega arith))
+    (fine-append _ _ (private_mode 7 m.decawm ∷ []) _ (small_private_mode_fine 7 m.decawm (omega arith))
+    (fine-append _ _ (private_mode 8 m.decarm ∷ []) _ (small_private_mode_fine 8 m.decarm (omega arith))
+    (fine-append _ _ (private_mode 25 m.dectcem ∷ []) _ (private_mode_fine 25 m.dectcem (omega arith))
+    (fine-append _ _ (keypad_event m.keypad_application ∷ []) _ (keypad_event_fine m.keypad_application)
+    (report_form_event_fine m.reports_8bit))))))))))))
 
 module _ (glyphs : GlyphLaws) where
   record_item_fine : (g : Grid) (saved : Saved) → AreGlyphs g → saved.row ≤ 24 → saved.col ≤ 132
       → AreFine 69 (record_item g saved)
   unfolding record_item
   record_item_fine g saved are h k =
-      fine-append 5 64 _ _ (small_origin_fine saved.origin)
-      (fine-append 9 55 (cursor_to saved.row saved.col ∷ []) _ (cursor_to_fine saved.row saved.col h k)
-      (fine-append 20 35 _ _ (wrap_item_fine glyphs g (saved_cursor saved) are)
-      (fine-append 17 18 _ _ (brush_fine saved.brush)
-      (fine-append 16 2 _ _ (sets_fine (saved_sets saved)) save_fine))))
+      fine-upto _ 69 _ (omega arith)
+      (fine-append _ _ _ _ (small_origin_fine saved.origin)
+      (fine-append _ _ (cursor_to saved.row saved.col ∷ []) _ (cursor_to_fine saved.row saved.col h k)
+      (fine-append _ _ _ _ (wrap_item_fine glyphs g (saved_cursor saved) are)
+      (fine-append _ _ _ _ (brush_fine saved.brush)
+      (fine-append _ _ _ _ (sets_fine (saved_sets saved)) save_fine)))))
 
   change_fine : (r c : ℕ) (marked : Bool) (cell : Cell) (g : Grid) → AreGlyphs g → cell ≡ cell_at g r c → r ≤ 24
       → c ≤ 132 → AreFine (28 * cond marked 1 0) (change_of r c marked cell)
@@ -123,22 +125,22 @@ module _ (grids : GridLaws) (glyphs : GlyphLaws) where
       let saved_col : s.saved.col ≤ 132 = omega (arith, i.saved.col_last, w) in
       let col : s.cursor.col ≤ 132 = omega (arith, i.cursor.col_last, w) in
       let top : s.margins.top ≤ 24 = omega (arith, i.margins.two_rows, i.margins.to_last_row) in
-      fine-upto (10 + (10 + (n + 210))) (n + 230) _ (omega arith)
-      (fine-append 10 (10 + (n + 210)) start_item _ start_fine
-      (fine-append 10 (n + 210) _ _ spelling_sets_fine
-      (fine-append n 210 (changed_cells marks s.grid) _
+      fine-upto _ (n + 230) _ (omega arith)
+      (fine-append _ _ start_item _ start_fine
+      (fine-append _ _ _ _ spelling_sets_fine
+      (fine-append _ _ (changed_cells marks s.grid) _
       (changed_cells_fine glyphs marks t.grid s.grid are changes.marked w)
-      (fine-append 69 141 (record_item s.grid s.saved) _
+      (fine-append _ _ (record_item s.grid s.saved) _
       (record_item_fine glyphs s.grid s.saved are i.saved.row_24 saved_col)
-      (fine-append 10 131 _ _ spelling_sets_fine
-      (fine-append 8 123 (margins_item s.margins) _ (margins_item_fine s.margins top i.margins.to_last_row)
-      (fine-append 5 118 (private_mode decom s.modes.decom ∷ []) _
+      (fine-append _ _ _ _ spelling_sets_fine
+      (fine-append _ _ (margins_item s.margins) _ (margins_item_fine s.margins top i.margins.to_last_row)
+      (fine-append _ _ (private_mode decom s.modes.decom ∷ []) _
       (small_private_mode_fine 6 s.modes.decom (omega arith))
-      (fine-append 9 109 (position_item s) _ (cursor_to_fine (line_of_cursor s) s.cursor.col (line_small s i) col)
-      (fine-append 20 89 (wrap_item s.grid s.cursor) _ (wrap_item_fine glyphs s.grid s.cursor are)
-      (fine-append 17 72 (brush_events s.brush) _ (brush_fine s.brush)
-      (fine-append 16 56 (sets_events s.sets) _ (sets_fine s.sets)
-      (fine-append 54 2 (every_mode s.modes) _ (every_mode_fine s.modes) (shift_item_fine s.sets.pending)))))))))))))
+      (fine-append _ _ (position_item s) _ (cursor_to_fine (line_of_cursor s) s.cursor.col (line_small s i) col)
+      (fine-append _ _ (wrap_item s.grid s.cursor) _ (wrap_item_fine glyphs s.grid s.cursor are)
+      (fine-append _ _ (brush_events s.brush) _ (brush_fine s.brush)
+      (fine-append _ _ (sets_events s.sets) _ (sets_fine s.sets)
+      (fine-append _ _ (every_mode s.modes) _ (every_mode_fine s.modes) (shift_item_fine s.sets.pending)))))))))))))
 
   pub few : (marks : List (List Bool)) (s t : Display) (before : List ℕ) → IsSoundDisplay s → AreChanges marks t s
       → length (before ++ spell_events (change_events marks s)) ≤ length before + 28 * differing t.grid s.grid + 230

@@ -53,20 +53,22 @@ stops_item_fine width stops = go (pointwise same_bool stops stops_at_power_up)
     go : (b : Bool) → AreFine 1336 (cond b (where_true (is_wide width) (private_mode deccolm true ∷ [])) (private_mode deccolm true ∷ clear_all_tabs ∷ (stops_from stops 1 132 ++ where_true (not (is_wide width)) (private_mode deccolm false ∷ []))))
     go true = fine-where 1336 (is_wide width) _ (fine-upto 6 1336 _ (omega arith) (private_mode_fine 3 true (omega arith)))
     go false =
-        fine-append 6 1330 (private_mode deccolm true ∷ []) _ (private_mode_fine 3 true (omega arith))
-        (fine-append 4 1326 (clear_all_tabs ∷ []) _ clear_fine
-        (fine-append 1320 6 (stops_from stops 1 132) _ (stops_from_fine stops 132 1 (omega arith)) (fine-where 6 (not (is_wide width)) _ (private_mode_fine 3 false (omega arith)))))
+        fine-upto _ 1336 _ (omega arith)
+        (fine-append _ _ (private_mode deccolm true ∷ []) _ (private_mode_fine 3 true (omega arith))
+        (fine-append _ _ (clear_all_tabs ∷ []) _ clear_fine
+        (fine-append _ _ (stops_from stops 1 132) _ (stops_from_fine stops 132 1 (omega arith)) (fine-where 6 (not (is_wide width)) _ (private_mode_fine 3 false (omega arith))))))
 
 saved_item_fine : (saved : Saved) → saved.row ≤ 24 → saved.col ≤ 132 → AreFine 57 (saved_item saved)
 unfolding saved_item saved_events
 saved_item_fine saved h k =
     fine-where 57 (not (same_saved saved saved_at_power_up)) (saved_events saved)
-    (fine-append 6 51 _ _ (fine-where 6 saved.origin _ (private_mode_fine 6 true (omega arith)))
-    (fine-append 9 42 (cursor_to saved.row saved.col ∷ []) _ (cursor_to_fine saved.row saved.col h k)
-    (fine-append 1 41 _ _ (fine-where 1 saved.wrap _ (print_fine 0x20 (omega arith) (omega arith)))
-    (fine-append 17 24 _ _ (brush_fine saved.brush)
-    (fine-append 16 8 _ _ (sets_fine (saved_sets saved))
-    (fine-append 2 6 (save_cursor ∷ []) _ save_fine (fine-where 6 saved.origin _ (private_mode_fine 6 false (omega arith)))))))))
+    (fine-upto _ 57 _ (omega arith)
+    (fine-append _ _ _ _ (fine-where 6 saved.origin _ (private_mode_fine 6 true (omega arith)))
+    (fine-append _ _ (cursor_to saved.row saved.col ∷ []) _ (cursor_to_fine saved.row saved.col h k)
+    (fine-append _ _ _ _ (fine-where 1 saved.wrap _ (print_fine 0x20 (omega arith) (omega arith)))
+    (fine-append _ _ _ _ (brush_fine saved.brush)
+    (fine-append _ _ _ _ (sets_fine (saved_sets saved))
+    (fine-append _ _ (save_cursor ∷ []) _ save_fine (fine-where 6 saved.origin _ (private_mode_fine 6 false (omega arith))))))))))
 
 module _ (glyphs : GlyphLaws) where
   pub glyph_fine : (cell : Cell) → IsGlyph cell.glyph → AreFine 3 (glyph_events cell)
@@ -127,17 +129,18 @@ private_fine n at_power_up on h = fine-unless 6 (same_bool at_power_up on) _ (pr
 modes_item_fine : (m : Modes) → AreFine 61 (modes_item m)
 unfolding modes_item
 modes_item_fine m =
-    fine-append 5 56 _ _ (ansi_fine 2 false m.kam (omega arith))
-    (fine-append 5 51 _ _ (ansi_fine 4 false m.irm (omega arith))
-    (fine-append 5 46 _ _ (ansi_fine 12 true m.srm (omega arith))
-    (fine-append 5 41 _ _ (ansi_fine 20 false m.lnm (omega arith))
-    (fine-append 6 35 _ _ (private_fine 1 false m.decckm (omega arith))
-    (fine-append 6 29 _ _ (private_fine 4 false m.decsclm (omega arith))
-    (fine-append 6 23 _ _ (private_fine 5 false m.decscnm (omega arith))
-    (fine-append 6 17 _ _ (private_fine 7 true m.decawm (omega arith))
-    (fine-append 6 11 _ _ (private_fine 8 true m.decarm (omega arith))
-    (fine-append 6 5 _ _ (private_fine 25 true m.dectcem (omega arith))
-    (fine-append 2 3 _ _ (fine-where 2 m.keypad_application _ keypad_fine) (fine-where 3 m.reports_8bit _ reports_fine)))))))))))
+    fine-upto _ 61 _ (omega arith)
+    (fine-append _ _ _ _ (ansi_fine 2 false m.kam (omega arith))
+    (fine-append _ _ _ _ (ansi_fine 4 false m.irm (omega arith))
+    (fine-append _ _ _ _ (ansi_fine 12 true m.srm (omega arith))
+    (fine-append _ _ _ _ (ansi_fine 20 false m.lnm (omega arith))
+    (fine-append _ _ _ _ (private_fine 1 false m.decckm (omega arith))
+    (fine-append _ _ _ _ (private_fine 4 false m.decsclm (omega arith))
+    (fine-append _ _ _ _ (private_fine 5 false m.decscnm (omega arith))
+    (fine-append _ _ _ _ (private_fine 7 true m.decawm (omega arith))
+    (fine-append _ _ _ _ (private_fine 8 true m.decarm (omega arith))
+    (fine-append _ _ _ _ (private_fine 25 true m.dectcem (omega arith))
+    (fine-append _ _ _ _ (fine-where 2 m.keypad_application _ keypad_fine) (fine-where 3 m.reports_8bit _ reports_fine))))))))))))
 
 pub shift_item_fine : (pending : Option ℕ) → AreFine 2 (shift_item pending)
 unfolding shift_item
@@ -166,18 +169,18 @@ module _ (grids : GridLaws) (glyphs : GlyphLaws) where
       let saved_col : s.saved.col ≤ 132 = omega (arith, i.saved.col_last, w) in
       let col : s.cursor.col ≤ 132 = omega (arith, i.cursor.col_last, w) in
       let top : s.margins.top ≤ 24 = omega (arith, i.margins.two_rows, i.margins.to_last_row) in
-      fine-upto 93417 93512 _ (omega arith)
-      (fine-append 2 93415 reset_item _ reset_fine
-      (fine-append 1336 92079 (stops_item (last_column s) s.stops) _ (stops_item_fine (last_column s) s.stops)
-      (fine-append 57 92022 (saved_item s.saved) _ (saved_item_fine s.saved i.saved.row_24 saved_col)
-      (fine-append 91883 139 (cells_item s.grid s.cursor.wrap) _ (cells_item_fine glyphs s.grid s.cursor.wrap are w)
-      (fine-append 8 131 (margins_item s.margins) _ (margins_item_fine s.margins top i.margins.to_last_row)
-      (fine-append 6 125 (origin_item s.modes.decom) _ (origin_item_fine s.modes.decom)
-      (fine-append 9 116 (position_item s) _ (cursor_to_fine (line_of_cursor s) s.cursor.col (line_small s i) col)
-      (fine-append 20 96 (wrap_item s.grid s.cursor) _ (wrap_item_fine glyphs s.grid s.cursor are)
-      (fine-append 17 79 (brush_events s.brush) _ (brush_fine s.brush)
-      (fine-append 16 63 (sets_events s.sets) _ (sets_fine s.sets)
-      (fine-append 61 2 (modes_item s.modes) _ (modes_item_fine s.modes) (shift_item_fine s.sets.pending))))))))))))
+      fine-upto _ 93512 _ (omega arith)
+      (fine-append _ _ reset_item _ reset_fine
+      (fine-append _ _ (stops_item (last_column s) s.stops) _ (stops_item_fine (last_column s) s.stops)
+      (fine-append _ _ (saved_item s.saved) _ (saved_item_fine s.saved i.saved.row_24 saved_col)
+      (fine-append _ _ (cells_item s.grid s.cursor.wrap) _ (cells_item_fine glyphs s.grid s.cursor.wrap are w)
+      (fine-append _ _ (margins_item s.margins) _ (margins_item_fine s.margins top i.margins.to_last_row)
+      (fine-append _ _ (origin_item s.modes.decom) _ (origin_item_fine s.modes.decom)
+      (fine-append _ _ (position_item s) _ (cursor_to_fine (line_of_cursor s) s.cursor.col (line_small s i) col)
+      (fine-append _ _ (wrap_item s.grid s.cursor) _ (wrap_item_fine glyphs s.grid s.cursor are)
+      (fine-append _ _ (brush_events s.brush) _ (brush_fine s.brush)
+      (fine-append _ _ (sets_events s.sets) _ (sets_fine s.sets)
+      (fine-append _ _ (modes_item s.modes) _ (modes_item_fine s.modes) (shift_item_fine s.sets.pending))))))))))))
 
   pub repaint_run : (s t : Display) → IsSoundDisplay s → run t (repaint_events s) ≡ s
   unfolding repaint_events

@@ -4,4 +4,5 @@ pub mod Orders
 pub mod Rows
 pub mod Maps
 pub mod Same
-pub mod Layers
+pub mod Composed
+pub mod SoundGrids

@@ -2,6 +2,7 @@
 -- Rows and columns count from 1. (VT220 manual, chapter 4, for what each control function does)
 use Rattle.std.specs.Prelude.{◌≡◌, ℕ, ◌+◌, ◌-◌, ◌*◌, ◌/◌, ◌%◌, List, map, length, All, IsTrue, Bool, ◌&&◌, ◌==◌, nat_le, nat_lt, if◌then◌else◌, slice_index, slice_index_or}
 use Rattle.std.specs.List.{range_with_len}
+use Rattle.vt_glyph.specs.Tables.{IsGlyph}
 use Rattle.vt_screen.specs.declared.cell.Cell.{Cell}
 use Rattle.vt_screen.specs.Cells.{blank, erased, cell_like}
 
@@ -38,6 +39,11 @@ row_of g r = map (cell_at g r) (range_with_len 1 g.width)
 pub record IsGrid (g : Grid) : Type 0 where
   pub width : (wide : Bool) × (g.width ≡ columns wide)
   pub cells : length g.cells ≡ last_row * g.width
+
+-- 80 or 132 columns, one cell for each place, and one of the 204 glyphs in each
+pub record IsSoundGrid (g : Grid) : Type 0 where
+  pub shape : IsGrid g
+  pub glyphs : All (λ cell. IsGlyph cell.glyph) g.cells
 
 -- each cell passes a test
 abbrev pub AllCells : (Cell → Bool) → Grid → Type 0

@@ -13,6 +13,7 @@ use crate::order::{COLUMNS, ROWS, RowOrder};
 use std::alloc::{AllocError, Global};
 use std::marker::Model;
 use vt_glyph::InUse;
+use vt_glyph::laws::glyphs;
 
 /// The columns of the narrow screen; the wide one has `COLUMNS`.
 const NARROW: usize = 80;
@@ -28,15 +29,15 @@ pub struct Screen {
 }
 
 impl Model for Screen {
-    ghost use Rattle.std.specs.Prelude.{◌≡◌, Bool, length};
-    ghost use Rattle.vt_screen.specs.Grid.{Grid, grid_of, columns};
+    ghost use Rattle.std.specs.Prelude.{◌≡◌, length};
+    ghost use Rattle.vt_screen.specs.Grid.{Grid, IsSoundGrid, grid_of};
     ghost use Rattle.vt_screen.specs.Order.{stored, room};
 
     ghost Value = { Grid };
 
     ghost view = { λ s. grid_of s.width (stored s.order s.cells.items) };
 
-    ghost invariant = { λ s. (length s.cells.items ≡ room) × ((wide : Bool) × (s.width ≡ columns wide)) };
+    ghost invariant = { λ s. (length s.cells.items ≡ room) × IsSoundGrid (grid_of s.width (stored s.order s.cells.items)) };
 }
 
 /// Writes one cell all over the rows from `first` up to before `end`.
@@ -63,7 +64,7 @@ fn fill_rows(
 }
 
 impl Screen {
-    ghost use Rattle.vt_screen.specs.Grid.{IsGrid, cell_at, row_of, put, put_inserting, put_run, erase, insert_cells, delete_cells, scroll_up, scroll_down, fill, blank_grid};
+    ghost use Rattle.vt_screen.specs.Grid.{IsGrid, IsSoundGrid, cell_at, row_of, put, put_inserting, put_run, erase, insert_cells, delete_cells, scroll_up, scroll_down, fill, blank_grid};
 
     /// A narrow screen, all blank. It takes the room of a wide one, 24 rows of 132 cells, and fails where
     /// there is no memory for it.
@@ -81,6 +82,7 @@ impl Screen {
     pub fn width(&self) -> usize
         ensures width { result ≡ self.now.width }
         ensures grid { IsGrid self.now }
+        ensures sound { IsSoundGrid self.now }
     {
         self.width
     }
@@ -100,6 +102,7 @@ impl Screen {
         ensures cells { result.now ≡ row_of self.now row }
         ensures len { length result.now ≡ self.now.width }
         ensures grid { IsGrid self.now }
+        ensures sound { IsSoundGrid self.now }
     {
         let start = self.order.start(row);
         &self.cells[start..start + self.width]
@@ -121,22 +124,28 @@ impl Screen {
     }
 
     /// Writes a cell over the one at a place.
+    #[inline(always)]
     pub fn put(&mut self, row: usize, column: usize, cell: Cell)
         requires row { (1 ≤ row) × (row ≤ last_row) }
         requires column { (1 ≤ column) × (column ≤ self.old.width) }
-        ensures { self.new ≡ put self.old row column cell }
+        ensures grid { self.new ≡ put self.old row column cell }
+        ensures sound { IsSoundGrid self.new }
     {
+        let _ = cell.glyph.to_char();
         let start = self.order.start(row);
         self.cells[start + column - 1] = cell;
     }
 
     /// Puts a cell in at a place: the cells from there on move right by one, and the last one of the row
     /// is lost. (VT220 manual: insert mode, IRM)
+    #[inline(never)]
     pub fn put_inserting(&mut self, row: usize, column: usize, cell: Cell)
         requires row { (1 ≤ row) × (row ≤ last_row) }
         requires column { (1 ≤ column) × (column ≤ self.old.width) }
-        ensures { self.new ≡ put_inserting self.old row column cell }
+        ensures grid { self.new ≡ put_inserting self.old row column cell }
+        ensures sound { IsSoundGrid self.new }
     {
+        let _ = cell.glyph.to_char();
         let start = self.order.start(row);
         insert_cell(&mut self.cells[start..start + self.width], column - 1, cell);
     }
@@ -151,8 +160,10 @@ impl Screen {
         requires column { (1 ≤ column) × (column ≤ self.old.width) }
         requires codes { All (λ code. (0x20 ≤ code) × (code ≤ 0x7E)) codes.now }
         requires room { column + length codes.now ≤ self.old.width + 1 }
-        ensures { self.new ≡ put_run self.old row column codes.now like }
+        ensures grid { self.new ≡ put_run self.old row column codes.now like }
+        ensures sound { IsSoundGrid self.new }
     {
+        glyphs();
         let start = self.order.start(row) + column - 1;
         write_codes(&mut self.cells[start..start + codes.len()], codes, like);
     }
@@ -173,8 +184,10 @@ impl Screen {
         requires column { (1 ≤ column) × (column ≤ self.old.width) }
         requires bytes { All HasGlyph bytes.now }
         requires room { column + length bytes.now ≤ self.old.width + 1 }
-        ensures { self.new ≡ put_run self.old row column (map (glyph_in_use table.now) bytes.now) like }
+        ensures grid { self.new ≡ put_run self.old row column (map (glyph_in_use table.now) bytes.now) like }
+        ensures sound { IsSoundGrid self.new }
     {
+        glyphs();
         let start = self.order.start(row) + column - 1;
         write_graphics(
             &mut self.cells[start..start + bytes.len()],
@@ -192,7 +205,8 @@ impl Screen {
     pub fn erase(&mut self, row: usize, from: usize, to: usize, selective: bool)
         requires row { (1 ≤ row) × (row ≤ last_row) }
         requires columns { (1 ≤ from) × (from ≤ to) × (to ≤ self.old.width) }
-        ensures { self.new ≡ erase self.old row from to selective }
+        ensures grid { self.new ≡ erase self.old row from to selective }
+        ensures sound { IsSoundGrid self.new }
     {
         let start = self.order.start(row);
         erase_cells(&mut self.cells[start + from - 1..start + to], selective);
@@ -203,7 +217,8 @@ impl Screen {
     pub fn insert_cells(&mut self, row: usize, column: usize, n: u16)
         requires row { (1 ≤ row) × (row ≤ last_row) }
         requires column { (1 ≤ column) × (column ≤ self.old.width) }
-        ensures { self.new ≡ insert_cells self.old row column n }
+        ensures grid { self.new ≡ insert_cells self.old row column n }
+        ensures sound { IsSoundGrid self.new }
     {
         let start = self.order.start(row);
         let count = (n as usize).min(self.width + 1 - column);
@@ -219,7 +234,8 @@ impl Screen {
     pub fn delete_cells(&mut self, row: usize, column: usize, n: u16)
         requires row { (1 ≤ row) × (row ≤ last_row) }
         requires column { (1 ≤ column) × (column ≤ self.old.width) }
-        ensures { self.new ≡ delete_cells self.old row column n }
+        ensures grid { self.new ≡ delete_cells self.old row column n }
+        ensures sound { IsSoundGrid self.new }
     {
         let start = self.order.start(row);
         let count = (n as usize).min(self.width + 1 - column);
@@ -235,7 +251,8 @@ impl Screen {
     #[inline(always)]
     pub fn scroll_up(&mut self, top: usize, bottom: usize, n: u16)
         requires { (1 ≤ top) × (top ≤ bottom) × (bottom ≤ last_row) }
-        ensures { self.new ≡ scroll_up self.old top bottom n }
+        ensures grid { self.new ≡ scroll_up self.old top bottom n }
+        ensures sound { IsSoundGrid self.new }
     {
         if n == 1 {
             // The whole screen has a call of its own: its table is moved by a copy of a fixed size.
@@ -262,7 +279,8 @@ impl Screen {
     #[inline(always)]
     pub fn scroll_down(&mut self, top: usize, bottom: usize, n: u16)
         requires { (1 ≤ top) × (top ≤ bottom) × (bottom ≤ last_row) }
-        ensures { self.new ≡ scroll_down self.old top bottom n }
+        ensures grid { self.new ≡ scroll_down self.old top bottom n }
+        ensures sound { IsSoundGrid self.new }
     {
         if n == 1 {
             return self.scroll_down_once(top, bottom);
@@ -283,7 +301,8 @@ impl Screen {
     #[inline(always)]
     fn scroll_up_once(&mut self, top: usize, bottom: usize)
         requires { (1 ≤ top) × (top ≤ bottom) × (bottom ≤ last_row) }
-        ensures { self.new ≡ scroll_up self.old top bottom 1 }
+        ensures grid { self.new ≡ scroll_up self.old top bottom 1 }
+        ensures sound { IsSoundGrid self.new }
     {
         self.order.move_up_once(top, bottom);
         fill_rows(
@@ -300,7 +319,8 @@ impl Screen {
     #[inline(always)]
     fn scroll_down_once(&mut self, top: usize, bottom: usize)
         requires { (1 ≤ top) × (top ≤ bottom) × (bottom ≤ last_row) }
-        ensures { self.new ≡ scroll_down self.old top bottom 1 }
+        ensures grid { self.new ≡ scroll_down self.old top bottom 1 }
+        ensures sound { IsSoundGrid self.new }
     {
         self.order.move_down_once(top, bottom);
         fill_rows(
@@ -315,15 +335,18 @@ impl Screen {
 
     /// Writes one cell at every place. (VT220 manual: DECALN)
     pub fn fill(&mut self, cell: Cell)
-        ensures { self.new ≡ fill self.old cell }
+        ensures grid { self.new ≡ fill self.old cell }
+        ensures sound { IsSoundGrid self.new }
     {
+        let _ = cell.glyph.to_char();
         fill_rows(&mut self.cells, &self.order, 1, ROWS + 1, self.width, &cell);
     }
 
     /// Makes the screen wide, 132 columns, or narrow, 80, and blanks every cell, also where it has that
     /// width already. (VT220 manual: DECCOLM)
     pub fn set_width(&mut self, wide: bool)
-        ensures { self.new ≡ blank_grid wide }
+        ensures grid { self.new ≡ blank_grid wide }
+        ensures sound { IsSoundGrid self.new }
     {
         self.width = if wide { COLUMNS } else { NARROW };
         fill_rows(

@@ -10,8 +10,7 @@ use Rattle.vt_glyph.specs.Invocation as invocation
 use Rattle.vt_glyph.specs.Invocation.{InUseTable, glyph_in_use}
 use Rattle.vt_screen.specs.declared.cell.Cell.{Cell}
 use Rattle.vt_screen.specs.Cells.{blank, erased, cell_like}
-use Rattle.vt_screen.specs.Grid.{Grid, grid_of, cells_of, cell_at, columns, blank_grid, fill, put, put_inserting, put_run, insert_cells, delete_cells, erase_area, scroll_up, scroll_down}
-use Rattle.vt_term.specs.Sound.{IsSoundGrid}
+use Rattle.vt_screen.specs.Grid.{Grid, IsSoundGrid, grid_of, cells_of, cell_at, columns, blank_grid, fill, put, put_inserting, put_run, insert_cells, delete_cells, erase_area, scroll_up, scroll_down}
 
 -- a cell has a glyph
 abbrev pub HasGlyph : Cell → Type 0

@@ -1,16 +1,10 @@
 -- What holds of each state that bytes leave. (this profile)
-use Rattle.std.specs.Prelude.{◌≡◌, ℕ, ◌≤◌, ◌<◌, length, Bool, true, All}
+use Rattle.std.specs.Prelude.{◌≡◌, ℕ, ◌≤◌, ◌<◌, length, Bool, true}
 use Rattle.vt_syntax.specs.Held.{IsHeldPart}
-use Rattle.vt_glyph.specs.Tables.{IsGlyph}
 use Rattle.vt_glyph.specs.GraphicSets.{AreSoundSets}
-use Rattle.vt_screen.specs.Grid.{Grid, IsGrid, columns, last_row}
+use Rattle.vt_screen.specs.Grid.{IsSoundGrid, columns, last_row}
 use Rattle.vt_term.specs.declared.state.Margins.{Margins}
 use Rattle.vt_term.specs.State.{Display, State, last_column, saved_sets}
-
--- 80 or 132 columns, one cell for each place, and a glyph in each
-pub record IsSoundGrid (g : Grid) : Type 0 where
-  pub shape : IsGrid g
-  pub glyphs : All (λ cell. IsGlyph cell.glyph) g.cells
 
 -- at least two rows
 pub record AreSoundMargins (m : Margins) : Type 0 where

@@ -3,7 +3,6 @@ ghost use Rattle.std.specs.Prelude.{◌≡◌, ◌≤◌};
 ghost use Rattle.vt_term.specs.Moving.{home, backspace, carriage_return, cursor_up, cursor_down, cursor_forward, cursor_backward, cursor_position, index, reverse_index, next_line, line_feed, set_margins};
 
 use crate::display::{Display, ROWS};
-use crate::page;
 use crate::state::{Cursor, Margins};
 
 impl Display {
@@ -96,7 +95,8 @@ impl Display {
     {
         let mut row = self.cursor.row;
         if row == self.margins.bottom {
-            page::scroll_up(&mut self.screen, self.margins.top, self.margins.bottom, 1);
+            self.screen
+                .scroll_up(self.margins.top, self.margins.bottom, 1);
         } else {
             row = (row + 1).min(ROWS);
         }
@@ -110,7 +110,8 @@ impl Display {
     {
         let mut row = self.cursor.row;
         if row == self.margins.top {
-            page::scroll_down(&mut self.screen, self.margins.top, self.margins.bottom, 1);
+            self.screen
+                .scroll_down(self.margins.top, self.margins.bottom, 1);
         } else {
             row = (row - 1).max(1);
         }

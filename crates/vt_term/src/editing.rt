@@ -1,11 +1,11 @@
 //! Inserting, deleting and erasing. Each of these resets the wrap flag, but for a parameter that isn't listed.
 ghost use Rattle.std.specs.Prelude.{◌≡◌, ◌≤◌};
 ghost use Rattle.vt_term.specs.Editing.{insert_line, delete_line, insert_character, delete_character, erase_character, erase_in_display, erase_in_line, rows_between};
-ghost use Rattle.vt_screen.specs.Grid.{erase_area};
+ghost use Rattle.vt_screen.specs.Grid.{IsSoundGrid, erase_area};
 
 use crate::display::{Display, ROWS};
-use crate::page;
 use crate::state::Cursor;
+use vt_screen::Screen;
 use vt_screen::laws::areas;
 
 impl Display {
@@ -15,7 +15,7 @@ impl Display {
     {
         let row = self.cursor.row;
         if self.margins.top <= row && row <= self.margins.bottom {
-            page::scroll_down(&mut self.screen, row, self.margins.bottom, n);
+            self.screen.scroll_down(row, self.margins.bottom, n);
             self.cursor = Cursor::at(row, 1);
         } else {
             self.cursor.wrap = false;
@@ -28,7 +28,7 @@ impl Display {
     {
         let row = self.cursor.row;
         if self.margins.top <= row && row <= self.margins.bottom {
-            page::scroll_up(&mut self.screen, row, self.margins.bottom, n);
+            self.screen.scroll_up(row, self.margins.bottom, n);
             self.cursor = Cursor::at(row, 1);
         } else {
             self.cursor.wrap = false;
@@ -39,7 +39,8 @@ impl Display {
     pub(crate) fn insert_character(&mut self, n: u16)
         ensures { self.new ≡ insert_character n self.old }
     {
-        page::insert_cells(&mut self.screen, self.cursor.row, self.cursor.col, n);
+        self.screen
+            .insert_cells(self.cursor.row, self.cursor.col, n);
         self.cursor.wrap = false;
     }
 
@@ -47,7 +48,8 @@ impl Display {
     pub(crate) fn delete_character(&mut self, n: u16)
         ensures { self.new ≡ delete_character n self.old }
     {
-        page::delete_cells(&mut self.screen, self.cursor.row, self.cursor.col, n);
+        self.screen
+            .delete_cells(self.cursor.row, self.cursor.col, n);
         self.cursor.wrap = false;
     }
 
@@ -58,7 +60,7 @@ impl Display {
     {
         let Cursor { row, col, .. } = self.cursor;
         let to = (col + n as usize - 1).min(self.screen.width());
-        page::erase(&mut self.screen, row, col, to, false);
+        self.screen.erase(row, col, to, false);
         self.cursor.wrap = false;
     }
 
@@ -103,7 +105,7 @@ impl Display {
         let Cursor { row, col, .. } = self.cursor;
         let from = if p == 0 { col } else { 1 };
         let to = if p == 1 { col } else { self.screen.width() };
-        page::erase(&mut self.screen, row, from, to, selective);
+        self.screen.erase(row, from, to, selective);
         self.cursor.wrap = false;
     }
 
@@ -112,6 +114,19 @@ impl Display {
         requires { (1 ≤ first) × (first ≤ end) × (end ≤ 25) }
         ensures { self.new ≡ record self.old { grid = erase_area self.old.grid (rows_between first end) selective } }
     {
-        page::erase_rows(&mut self.screen, first, end, selective);
+        erase_rows(&mut self.screen, first, end, selective);
+    }
+}
+
+/// The rows from `first` up to before `end`.
+fn erase_rows(screen: &mut Screen, first: usize, end: usize, selective: bool)
+    requires { (1 ≤ first) × (first ≤ end) × (end ≤ 25) }
+    ensures grid { screen.new ≡ erase_area screen.old (rows_between first end) selective }
+    ensures sound { IsSoundGrid screen.new }
+{
+    areas();
+    let width = screen.width();
+    for row in first..end {
+        screen.erase(row, 1, width, selective);
     }
 }

@@ -9,7 +9,6 @@ mod functions;
 mod graphics;
 pub mod laws;
 mod modes;
-mod page;
 mod readers;
 mod rendition;
 mod reports;

@@ -3,7 +3,6 @@ ghost use Rattle.std.specs.Prelude.{◌≡◌};
 ghost use Rattle.vt_term.specs.Modes.{origin_mode, autowrap_mode, column_mode, keypad_mode, report_form, with_mode, change_modes, ansi_modes, private_modes};
 
 use crate::display::Display;
-use crate::page;
 use crate::state::{Cursor, Margins};
 
 impl Display {
@@ -79,7 +78,7 @@ impl Display {
     fn column_mode(&mut self, wide: bool)
         ensures { self.new ≡ column_mode wide self.old }
     {
-        page::set_width(&mut self.screen, wide);
+        self.screen.set_width(wide);
         self.margins = Margins::full();
         self.cursor = Cursor::at(1, 1);
         self.saved.col = self.saved.col.min(self.screen.width());

@@ -3,7 +3,6 @@ ghost use Rattle.std.specs.Prelude.{◌≡◌};
 ghost use Rattle.vt_term.specs.Resets.{screen_alignment, reset_to_initial_state, soft_reset, set_conformance_level};
 
 use crate::display::{Display, stops_at_power_up};
-use crate::page;
 use crate::state::{Cursor, Margins, Modes, Saved};
 use vt_glyph::{Glyph, Sets};
 use vt_screen::{Brush, Cell};
@@ -14,7 +13,7 @@ impl Display {
         ensures { self.new ≡ screen_alignment self.old }
     {
         let cell = Cell::new(Glyph::ascii(b'E'), Brush::plain());
-        page::fill(&mut self.screen, cell);
+        self.screen.fill(cell);
         self.margins = Margins::full();
         self.cursor = Cursor::at(1, 1);
     }
@@ -23,7 +22,7 @@ impl Display {
     pub(crate) fn reset_to_initial_state(&mut self)
         ensures { self.new ≡ reset_to_initial_state self.old }
     {
-        page::set_width(&mut self.screen, false);
+        self.screen.set_width(false);
         self.cursor = Cursor::at(1, 1);
         self.brush = Brush::plain();
         self.sets = Sets::power_up();

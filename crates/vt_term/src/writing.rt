@@ -4,13 +4,11 @@ ghost use Rattle.std.specs.Bool.{OnTrue};
 ghost use Rattle.vt_syntax.specs.Class.{IsPlain};
 ghost use Rattle.vt_syntax.specs.declared.event.Event.TheVariants.{Print};
 ghost use Rattle.vt_term.specs.Play.{after_events};
-ghost use Rattle.vt_glyph.specs.Tables.{IsGlyph};
 ghost use Rattle.vt_glyph.specs.Invocation.{HasGlyph, in_use, glyph_in_use};
 ghost use Rattle.vt_term.specs.Writing.{wrapped, put_glyph, write_glyph, print};
 ghost use Rattle.vt_term.specs.Runs.{WritesAscii, WritesInUse, with_run, advanced_by};
 
 use crate::display::Display;
-use crate::page;
 use crate::state::Cursor;
 use vt_glyph::{Glyph, InUse};
 use vt_screen::Cell;
@@ -31,7 +29,6 @@ impl Display {
     /// A glyph is written.
     #[inline(always)]
     pub(crate) fn write_glyph(&mut self, glyph: Glyph)
-        requires { IsGlyph glyph }
         ensures { self.new ≡ write_glyph glyph self.old }
     {
         self.carry_out_wrap();
@@ -51,15 +48,14 @@ impl Display {
     /// A glyph where no wrap is pending: under IRM the cells from the cursor on move right first.
     #[inline(always)]
     fn put_glyph(&mut self, glyph: Glyph)
-        requires { IsGlyph glyph }
         ensures { self.new ≡ put_glyph glyph self.old }
     {
         let Cursor { row, col, .. } = self.cursor;
         let cell = Cell::new(glyph, self.brush);
         if self.modes.irm {
-            page::put_inserting(&mut self.screen, row, col, cell);
+            self.screen.put_inserting(row, col, cell);
         } else {
-            page::put(&mut self.screen, row, col, cell);
+            self.screen.put(row, col, cell);
         }
         if col < self.screen.width() {
             self.cursor = Cursor::at(row, col + 1);
@@ -173,7 +169,7 @@ impl Display {
         let like = Cell::new(Glyph::blank(), self.brush);
         // The cursor goes first: behind the cells the compiler would read it and the width anew.
         self.advance(run.len());
-        page::put_run(&mut self.screen, row, col, run, like);
+        self.screen.put_run(row, col, run, like);
     }
 
     /// Writes a run of graphic bytes that ends in the cursor's row.
@@ -187,7 +183,7 @@ impl Display {
         let Cursor { row, col, .. } = self.cursor;
         let like = Cell::new(Glyph::blank(), self.brush);
         self.advance(run.len());
-        page::put_graphics(&mut self.screen, row, col, run, table, like);
+        self.screen.put_graphics(row, col, run, table, like);
     }
 
     /// The cursor goes behind `n` glyphs that were written in its row.

@@ -3,7 +3,7 @@ ghost use Rattle.std.specs.Prelude.{◌≤◌, ◌<◌};
 ghost use Rattle.vt_screen.specs.Grid.{last_row};
 
 use crate::scrolling::Scroll;
-use vt_screen::Cell;
+use vt_screen::{Cell, same_cells};
 use vt_term::Terminal;
 
 /// The rows of the screen.
@@ -60,10 +60,10 @@ impl Rows<'_> {
 
     fn compare(&mut self, to: &Terminal) {
         for row in 1..ROWS + 1 {
+            let old = self.row(row);
             let new = to.row(row);
-            let differing = unlike(self.row(row), new);
-            self.differing[row - 1] = differing;
-            if differing != 0 {
+            if !same_cells(old, new) {
+                self.differing[row - 1] = unlike(old, new);
                 self.filled[row - 1] = filled(new);
             }
         }

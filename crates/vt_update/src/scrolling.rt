@@ -94,7 +94,7 @@ impl Votes {
             return;
         }
         for source in 1..ROWS + 1 {
-            if rows.differs(source) && shown.row(source) == new {
+            if rows.differs(source) && same_cells(shown.row(source), new) {
                 if row < source {
                     self.up[source - row] = self.up[source - row].wrapping_add(cells);
                 } else {

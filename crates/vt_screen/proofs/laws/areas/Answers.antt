@@ -1,5 +1,5 @@
 use Rattle.std.proofs.Common.{refl}
-use Rattle.vt_screen.proofs.Layers.{area-none, area-both, area-same}
+use Rattle.vt_screen.proofs.Composed.{area-none, area-both, area-same}
 use Rattle.vt_screen.proofs.laws.areas.Goals as goal
 
 pub returns : goal.returns

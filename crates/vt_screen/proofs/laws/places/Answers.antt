@@ -1,6 +1,6 @@
 use Rattle.std.proofs.Common.{refl}
 use Rattle.vt_screen.proofs.Places.{cell_at-grid_of, grid_of-same, grid_of-cell_at, length-cells_of, IsGrid-grid_of}
-use Rattle.vt_screen.proofs.Layers.{grids-same}
+use Rattle.vt_screen.proofs.Composed.{grids-same}
 use Rattle.vt_screen.specs.Grid.{columns}
 use Rattle.vt_screen.proofs.laws.places.Goals as goal
 

@@ -1,4 +1,4 @@
-use Rattle.vt_screen.proofs.Layers.{run-none, run-one, run-append}
+use Rattle.vt_screen.proofs.Composed.{run-none, run-one, run-append}
 use Rattle.vt_screen.proofs.laws.runs.Goals as goal
 
 pub returns : goal.returns

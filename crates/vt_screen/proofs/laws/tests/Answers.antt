@@ -1,4 +1,4 @@
-use Rattle.vt_screen.proofs.Layers.{test-at, test-formula}
+use Rattle.vt_screen.proofs.Composed.{test-at, test-formula}
 use Rattle.vt_screen.proofs.laws.tests.Goals as goal
 
 pub returns : goal.returns

@@ -1,14 +1,15 @@
-use Rattle.std.proofs.Common.{arith, ◌≡◌, ◌+◌, ◌-◌, length, min, ap, ◌∙◌}
+use Rattle.std.proofs.Common.{arith, ◌≡◌, ◌+◌, ◌-◌, length, min, ap, ◌∙◌, sym, subst}
 use Rattle.vt_screen.specs.Order.{room}
-use Rattle.vt_screen.specs.Grid.{Grid, delete_cells}
+use Rattle.vt_screen.specs.Grid.{Grid, delete_cells, IsSoundGrid}
 use Rattle.vt_screen.proofs.Places.{width-bounds}
 use Rattle.vt_screen.proofs.Maps.{edited, delete_cells-row}
+use Rattle.vt_screen.proofs.SoundGrids.{delete_cells-sound, as_many}
 use Rattle.vt_screen.proofs.screen.Screen.delete_cells.Goals as goal
 
-pub returns : goal.returns
-returns c =
+pub returns-clause-grid : goal.returns-clause-grid
+returns-clause-grid c =
     let width : c.self.inside.width ≡ c.args.self.now.width = ap (λ (g : Grid). g.width) c.self.view_is in
-    let narrow = width-bounds c.self.inside.width c.self.invariant.1 in
+    let narrow = width-bounds c.self.inside.width c.self.invariant.1.shape.width in
     let bound = c.start-start.ensures.bound in
     let same = c.deref_mut.ensures.value in
     let long : length c.deref_mut.result.now ≡ room = ap length same ∙ c.self.invariant.0 in
@@ -17,3 +18,11 @@ returns c =
     let count : c.min-count.result ≡ min c.args.n (c.self.inside.width + 1 - c.args.column) = omega (arith, c.min-count.ensures) in
     rw (← c.self.view_is) (edited c.self.inside.cells c.self.inside.order c.self.inside.width c.deref_mut.result.now at k c.remove_cells.new.line (λ g. delete_cells g c.args.row c.args.column c.args.n) same c.remove_cells.auto.line
     (delete_cells-row c.self.inside.order c.deref_mut.result.now c.remove_cells.new.line c.self.inside.width c.args.row c.args.column c.args.n c.min-count.result at k c.start-start.ensures.order long (omega arith) (omega arith) (omega arith) (omega arith) (omega arith) count c.start-start.ensures.place (omega arith) c.remove_cells.auto.line c.remove_cells.ensures.moved c.remove_cells.ensures.end c.remove_cells.ensures.front))
+
+pub returns-clause-sound : goal.returns-clause-sound
+returns-clause-sound c = subst IsSoundGrid (sym (returns-clause-grid c)) (delete_cells-sound c.args.self.now c.args.row c.args.column c.args.n
+    (subst IsSoundGrid c.self.view_is c.self.invariant.1))
+
+pub invariant_of-self : goal.invariant_of-self
+invariant_of-self c =
+    (as_many c.self.inside.cells _ c.self.inside.cells.ok.0 c.self.invariant.0, returns-clause-sound c)

@@ -1,17 +1,20 @@
-use Rattle.std.proofs.Common.{arith, ◌≡◌, ◌+◌, ◌-◌, length, get_or, ap, ◌∙◌}
+use Rattle.std.proofs.Common.{arith, ◌≡◌, ◌+◌, ◌-◌, length, get_or, ap, subst, ◌∙◌}
 use Rattle.vt_screen.specs.Cells.{blank}
 use Rattle.vt_screen.specs.Order.{start_of, stored, room}
 use Rattle.vt_screen.proofs.Lists.{get_or-mid_of, length-mid_of}
-use Rattle.vt_screen.proofs.Places.{row_of-same, IsGrid-grid_of, width-bounds}
+use Rattle.vt_screen.proofs.Places.{row_of-same, width-bounds}
+use Rattle.vt_screen.specs.Grid.{IsSoundGrid}
 use Rattle.vt_screen.proofs.screen.Screen.row.Goals as goal
 
+pub returns-clause-sound : goal.returns-clause-sound
+returns-clause-sound c = subst IsSoundGrid c.self.view_is c.self.invariant.1
+
 pub returns-clause-grid : goal.returns-clause-grid
-returns-clause-grid c =
-    rw (← c.self.view_is) (IsGrid-grid_of c.self.inside.width (stored c.self.inside.order c.self.inside.cells.items) c.self.invariant.1)
+returns-clause-grid c = (returns-clause-sound c).shape
 
 pub returns-clause-cells : goal.returns-clause-cells
 returns-clause-cells c =
-    let narrow = width-bounds c.self.inside.width c.self.invariant.1 in
+    let narrow = width-bounds c.self.inside.width c.self.invariant.1.shape.width in
     let bound = c.start-start.ensures.bound in
     let same = c.deref.ensures.value in
     let long : length c.deref.result.now ≡ room = ap length same ∙ c.self.invariant.0 in

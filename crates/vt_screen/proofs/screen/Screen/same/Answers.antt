@@ -1,8 +1,7 @@
-use Rattle.std.proofs.Common.{arith, sym, ◌∙◌, inl, inr, refl}
+use Rattle.std.proofs.Common.{arith, sym, subst, ◌∙◌, inl, inr, refl}
 use Rattle.std.proofs.lemmas.Bool.Decides.{eqb_tells}
-use Rattle.vt_screen.specs.Order.{stored}
-use Rattle.vt_screen.specs.Grid.{IsGrid}
-use Rattle.vt_screen.proofs.Places.{rows-same, IsGrid-grid_of}
+use Rattle.vt_screen.specs.Grid.{IsGrid, IsSoundGrid}
+use Rattle.vt_screen.proofs.Places.{rows-same}
 use Rattle.vt_screen.proofs.screen.Screen.same.Goals as goal
 
 pub loop-row-preserved : goal.loop-row-preserved
@@ -13,6 +12,6 @@ loop-row-preserved c = λ r r1 low. elim (eqb_tells r c.loop-row.row) [
 
 pub returns : goal.returns
 returns c =
-    let here : IsGrid c.args.self.now = rw (← c.self.view_is) (IsGrid-grid_of c.self.inside.width (stored c.self.inside.order c.self.inside.cells.items) c.self.invariant.1) in
-    let there : IsGrid c.args.other.now = rw (← c.other.view_is) (IsGrid-grid_of c.other.inside.width (stored c.other.inside.order c.other.inside.cells.items) c.other.invariant.1) in
+    let here : IsGrid c.args.self.now = (subst IsSoundGrid c.self.view_is c.self.invariant.1).shape in
+    let there : IsGrid c.args.other.now = (subst IsSoundGrid c.other.view_is c.other.invariant.1).shape in
     (λ _. rows-same c.args.self.now c.args.other.now here there (λ r r1 low. c.loop-row.invariant r r1 (omega arith)), λ _. refl)

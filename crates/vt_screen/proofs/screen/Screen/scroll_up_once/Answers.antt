@@ -1,13 +1,14 @@
-use Rattle.std.proofs.Common.{inl, inr, arith, ◌≡◌, ◌+◌, ◌-◌, List, length, min, ap, sym, ◌∙◌}
+use Rattle.std.proofs.Common.{inl, inr, arith, ◌≡◌, ◌+◌, ◌-◌, List, length, min, ap, sym, ◌∙◌, subst}
 use Rattle.std.proofs.lemmas.List.{with_items_is}
 use Rattle.vt_screen.specs.declared.cell.Cell.{Cell}
 use Rattle.vt_screen.specs.Order.{stored}
-use Rattle.vt_screen.specs.Grid.{grid_of, scroll_up}
+use Rattle.vt_screen.specs.Grid.{grid_of, scroll_up, IsSoundGrid}
 use Rattle.vt_screen.proofs.Maps.{scroll_up-rows}
+use Rattle.vt_screen.proofs.SoundGrids.{scroll_up-sound, as_many}
 use Rattle.vt_screen.proofs.screen.Screen.scroll_up_once.Goals as goal
 
-pub returns : goal.returns
-returns c =
+pub returns-clause-grid : goal.returns-clause-grid
+returns-clause-grid c =
     let same = c.deref_mut.ensures.value in
     let whole = with_items_is c.self.inside.cells c.fill_rows.new.cells (c.fill_rows.auto.cells ∙ ap length same ∙ sym c.self.inside.cells.ok.0) in
     let count : 1 ≡ min 1 (c.args.bottom + 1 - c.args.top) = omega arith in
@@ -16,3 +17,11 @@ returns c =
     (omega arith) (omega arith) (omega arith) count c.move_up_once.ensures.moved c.move_up_once.ensures.outside (λ r col low high col1 colw. c.fill_rows.ensures.inside r col (omega arith) high col1 colw ∙ c.blank.ensures)
     (λ r col r1 r24 out col1 colw. c.fill_rows.ensures.outside r col r1 r24 (elim out [ inl l ↦ inl (omega arith) | inr l ↦ inr l ]) col1 colw)
     ∙ ap (λ (x : List Cell). scroll_up (grid_of c.self.inside.width (stored c.self.inside.order x)) c.args.top c.args.bottom 1) same)
+
+pub returns-clause-sound : goal.returns-clause-sound
+returns-clause-sound c = subst IsSoundGrid (sym (returns-clause-grid c)) (scroll_up-sound c.args.self.now c.args.top c.args.bottom 1
+    (subst IsSoundGrid c.self.view_is c.self.invariant.1))
+
+pub invariant_of-self : goal.invariant_of-self
+invariant_of-self c =
+    (as_many c.self.inside.cells _ c.self.inside.cells.ok.0 c.self.invariant.0, returns-clause-sound c)

@@ -1,7 +1,9 @@
-use Rattle.vt_screen.specs.Order.{stored}
-use Rattle.vt_screen.proofs.Places.{IsGrid-grid_of}
+use Rattle.std.proofs.Common.{subst}
+use Rattle.vt_screen.specs.Grid.{IsSoundGrid}
 use Rattle.vt_screen.proofs.screen.Screen.width.Goals as goal
 
+pub returns-clause-sound : goal.returns-clause-sound
+returns-clause-sound c = subst IsSoundGrid c.self.view_is c.self.invariant.1
+
 pub returns-clause-grid : goal.returns-clause-grid
-returns-clause-grid c =
-    rw (← c.self.view_is) (IsGrid-grid_of c.self.inside.width (stored c.self.inside.order c.self.inside.cells.items) c.self.invariant.1)
+returns-clause-grid c = (returns-clause-sound c).shape

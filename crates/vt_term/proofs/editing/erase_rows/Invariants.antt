@@ -1,8 +1,8 @@
 use Rattle.std.proofs.Common.{◌≡◌}
 use Rattle.vt_screen.specs.Grid.{erase_area}
 use Rattle.vt_term.specs.Editing.{rows_between}
-use Rattle.vt_term.specs.Sound.{IsSoundGrid}
-use Rattle.vt_term.proofs.page.erase_rows.Given as goal
+use Rattle.vt_screen.specs.Grid.{IsSoundGrid}
+use Rattle.vt_term.proofs.editing.erase_rows.Given as goal
 
 abbrev pub invariant-loop-row : goal.invariant-loop-row
 invariant-loop-row l = record {

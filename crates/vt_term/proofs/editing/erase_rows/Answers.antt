@@ -2,14 +2,14 @@ use Rattle.std.proofs.Common.{◌+◌, ◌∙◌, ap, sym, arith, false}
 use Rattle.vt_screen.specs.Grid.{Grid, erase_area, columns_of}
 use Rattle.vt_term.specs.Editing.{rows_between}
 use Rattle.vt_term.proofs.Areas.{no-rows, one-more-row}
-use Rattle.vt_term.proofs.page.erase_rows.Goals as goal
+use Rattle.vt_term.proofs.editing.erase_rows.Goals as goal
 
 pub loop-row-init : goal.loop-row-init
 loop-row-init c =
     let g : Grid = c.args.screen.now in record {
-      grid = sym (c.areas.ensures.none g c.args.selective c.requires.sound.shape)
+      grid = sym (c.areas.ensures.none g c.args.selective c.width-width.ensures.grid)
           ∙ c.areas.ensures.same g (λ r c. false) (rows_between c.args.first c.args.first) c.args.selective (λ r c r1 r24 c1 cw. no-rows _ r c);
-      sound = c.requires.sound;
+      sound = c.width-width.ensures.sound;
     }
 
 pub loop-row-preserved : goal.loop-row-preserved

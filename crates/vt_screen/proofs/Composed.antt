@@ -1,19 +1,18 @@
--- Maps of maps: runs, areas, and what the cells keep.
-use Rattle.std.proofs.Common.{◌≡◌, ◌≢◌, inl, inr, Bool, true, false, ◌&&◌, ◌||◌, ◌==◌, if◌then◌else◌, ℕ, ◌+◌, ◌-◌, ◌*◌, ◌/◌, ◌%◌, ◌≤◌, ◌<◌, ◌++◌, List, [], ◌∷◌, length, get_or, IsTrue, Contains, arith, refl, sym, ap, ◌∙◌, length-append}
+-- Maps of maps: runs and areas; and tests that each cell passes.
+use Rattle.std.proofs.Common.{◌≡◌, ◌≢◌, inl, inr, Bool, true, false, ◌&&◌, ◌||◌, ◌==◌, if◌then◌else◌, ℕ, ◌+◌, ◌-◌, ◌*◌, ◌/◌, ◌%◌, ◌≤◌, ◌<◌, ◌++◌, List, [], ◌∷◌, length, get_or, IsTrue, arith, refl, sym, ap, ◌∙◌, length-append}
 use Rattle.std.proofs.lemmas.Bool.Decides.{eqb_tells}
 use Rattle.std.proofs.lemmas.Bool.{cases_lt}
 use Rattle.std.proofs.lemmas.List.{get_or-append_right, get_or_past}
-use Rattle.std.proofs.lemmas.List.Elements.{All-get_or, Contains-get_or}
+use Rattle.std.proofs.lemmas.List.Elements.{All-get_or}
 use Rattle.std.proofs.lemmas.List.FromFn.{get_or-map-range_with_len, length-map-range_with_len}
 use Rattle.std.proofs.Math.ListN.{get_or-append}
 use Rattle.std.proofs.Math.Nat.{mod-lt, div-lt_iff_lt-mul}
 use Rattle.std.proofs.Math.Dec.{leb, ltb}
-use Rattle.vt_glyph.specs.Tables.{space}
 use Rattle.vt_screen.proofs.Places.{grid_of-same, grid_of-cell_at, cell_at-grid_of}
 use Rattle.vt_screen.proofs.Maps.{among-before}
 use Rattle.vt_screen.specs.declared.cell.Cell.{Cell}
 use Rattle.vt_screen.specs.Cells.{blank, erased, selectively_erased, cell_like}
-use Rattle.vt_screen.specs.Grid.{Grid, IsGrid, AllCells, last_row, grid_of, cells_of, cell_at, with_row, put, put_inserting, put_run, insert_cells, delete_cells, erase_area, scroll_up, scroll_down, is_within}
+use Rattle.vt_screen.specs.Grid.{Grid, IsGrid, AllCells, last_row, grid_of, cells_of, cell_at, with_row, put, put_run, erase_area}
 
 -- ---- grids
 
@@ -158,58 +157,3 @@ test-formula test w f each = λ k d within.
     let row : k / w < last_row = (div-lt_iff_lt-mul wide).1 low in
     let col : k % w < w = mod-lt k wide in
     rw (get_or-map-range_with_len F 0 (last_row * w) k k d low (omega arith)) (each (k / w + 1) (k % w + 1) (omega arith) (omega arith) (omega arith) (omega arith))
-
--- a choice of two cells that pass
-chosen : (test : Cell → Bool) (which : Bool) (x y : Cell) → IsTrue (test x) → IsTrue (test y) → IsTrue (test (if which then x else y))
-chosen test true x y on_x on_y = on_x
-chosen test false x y on_x on_y = on_y
-
-pub test-with_row : (test : Cell → Bool) (g : Grid) (row : ℕ) (f : ℕ → Cell) → IsTrue (test blank) → AllCells test g
-    → ((c : ℕ) → IsTrue (test (f c))) → AllCells test (with_row g row f)
-test-with_row test g row f on_blank all each =
-    test-formula test g.width _ (λ r c r1 r24 c1 cw. chosen test (r == row) _ _ (each c) (test-at test g r c on_blank all))
-
-pub test-put : (test : Cell → Bool) (g : Grid) (row col : ℕ) (cell : Cell) → IsTrue (test blank) → AllCells test g → IsTrue (test cell) → AllCells test (put g row col cell)
-test-put test g row col cell on_blank all on_cell =
-    test-with_row test g row _ on_blank all (λ c. chosen test (c == col) _ _ on_cell (test-at test g row c on_blank all))
-
-pub test-put_inserting : (test : Cell → Bool) (g : Grid) (row col : ℕ) (cell : Cell) → IsTrue (test blank) → AllCells test g → IsTrue (test cell) → AllCells test (put_inserting g row col cell)
-test-put_inserting test g row col cell on_blank all on_cell =
-    test-with_row test g row _ on_blank all (λ c. chosen test (c == col) _ _ on_cell
-    (chosen test (ltb col c) _ _ (test-at test g row (c - 1) on_blank all) (test-at test g row c on_blank all)))
-
-pub test-put_run : (test : Cell → Bool) (g : Grid) (row col : ℕ) (codes : List ℕ) (like : Cell) → IsTrue (test blank) → AllCells test g
-    → ((code : ℕ) → Contains codes code → IsTrue (test (cell_like like code))) → AllCells test (put_run g row col codes like)
-test-put_run test g row col codes like on_blank all each =
-    test-with_row test g row _ on_blank all (λ c. elim (among-before col (col + length codes) c) [
-      | inl t ↦ rw t.0 (each _ (Contains-get_or codes (c - col) 0 (omega (arith, t))))
-      | inr t ↦ rw t.0 (test-at test g row c on_blank all)
-    ])
-
-pub test-insert_cells : (test : Cell → Bool) (g : Grid) (row col n : ℕ) → IsTrue (test blank) → AllCells test g → AllCells test (insert_cells g row col n)
-test-insert_cells test g row col n on_blank all =
-    test-with_row test g row _ on_blank all (λ c. chosen test (leb (col + n) c) _ _ (test-at test g row (c - n) on_blank all)
-    (chosen test (leb col c) _ _ on_blank (test-at test g row c on_blank all)))
-
-pub test-delete_cells : (test : Cell → Bool) (g : Grid) (row col n : ℕ) → IsTrue (test blank) → AllCells test g → AllCells test (delete_cells g row col n)
-test-delete_cells test g row col n on_blank all =
-    test-with_row test g row _ on_blank all (λ c. chosen test (leb col c) _ _
-    (chosen test (leb (c + n) g.width) _ _ (test-at test g row (c + n) on_blank all) on_blank) (test-at test g row c on_blank all))
-
-pub test-erase_area : (test : Cell → Bool) (g : Grid) (area : ℕ → ℕ → Bool) (selective : Bool) → IsTrue (test blank) → AllCells test g
-    → ((cell : Cell) → IsTrue (test cell) → IsTrue (test (record cell { glyph = space }))) → AllCells test (erase_area g area selective)
-test-erase_area test g area selective on_blank all on_space =
-    test-formula test g.width _ (λ r c r1 r24 c1 cw.
-    let old = test-at test g r c on_blank all in
-    chosen test (area r c) _ _
-    (chosen test selective _ _ (chosen test (cell_at g r c).protected _ _ old (on_space (cell_at g r c) old)) on_blank) old)
-
-pub test-scroll_up : (test : Cell → Bool) (g : Grid) (top bottom n : ℕ) → IsTrue (test blank) → AllCells test g → AllCells test (scroll_up g top bottom n)
-test-scroll_up test g top bottom n on_blank all =
-    test-formula test g.width _ (λ r c r1 r24 c1 cw. chosen test (is_within top bottom r) _ _
-    (chosen test (leb (r + n) bottom) _ _ (test-at test g (r + n) c on_blank all) on_blank) (test-at test g r c on_blank all))
-
-pub test-scroll_down : (test : Cell → Bool) (g : Grid) (top bottom n : ℕ) → IsTrue (test blank) → AllCells test g → AllCells test (scroll_down g top bottom n)
-test-scroll_down test g top bottom n on_blank all =
-    test-formula test g.width _ (λ r c r1 r24 c1 cw. chosen test (is_within top bottom r) _ _
-    (chosen test (leb (top + n) r) _ _ (test-at test g (r - n) c on_blank all) on_blank) (test-at test g r c on_blank all))

@@ -1,0 +1,103 @@
+-- Each map of a sound grid is one.
+use Rattle.std.proofs.Common.{◌≡◌, inl, inr, ℕ, ◌+◌, ◌-◌, Bool, true, false, ◌==◌, if◌then◌else◌, List, length, All, IsTrue, arith, refl, sym, ◌∙◌}
+use Rattle.std.proofs.Math.Dec.{leb, ltb}
+use Rattle.std.specs.List.{length_refill}
+use Rattle.std.specs.Global.{Vec}
+use Rattle.std.specs.Vec.{with_items}
+use Rattle.vt_glyph.specs.Tables.{IsGlyph, is_glyph}
+use Rattle.vt_screen.specs.declared.cell.Cell.{Cell}
+use Rattle.vt_screen.specs.Order.{room}
+use Rattle.vt_screen.specs.Cells.{blank, erased, cell_like}
+use Rattle.vt_screen.specs.Grid.{Grid, IsSoundGrid, grid_of, cell_at, with_row, blank_grid, columns, put, put_inserting, put_run, insert_cells, delete_cells, erase, columns_of, scroll_up, scroll_down, fill, is_within}
+use Rattle.vt_screen.proofs.Places.{IsGrid-grid_of}
+use Rattle.vt_screen.proofs.Maps.{among-before}
+use Rattle.vt_screen.proofs.Composed.{test-at, test-formula}
+
+-- cells that are written over are as many
+pub as_many : (cells : Vec Cell) (new : List Cell) → cells.len ≡ length cells.items → length cells.items ≡ room
+    → length (with_items cells new).items ≡ room
+as_many cells new ok long = sym (length_refill cells.len cells.items new ok) ∙ ok ∙ long
+
+-- a cell shows a glyph
+unfoldable shown : Cell → Bool
+shown cell = is_glyph cell.glyph
+
+by_glyph : (cell : Cell) → IsGlyph cell.glyph → IsTrue (shown cell)
+unfolding shown
+by_glyph cell h = h
+
+blank-shown : IsTrue (shown blank)
+unfolding shown is_glyph
+blank-shown = refl
+
+at : (g : Grid) (r c : ℕ) → IsSoundGrid g → IsTrue (shown (cell_at g r c))
+unfolding shown
+at g r c sound = test-at (λ cell. is_glyph cell.glyph) g r c blank-shown sound.glyphs
+
+-- one of two cells
+chosen : (which : Bool) (x y : Cell) → IsTrue (shown x) → IsTrue (shown y) → IsTrue (shown (if which then x else y))
+chosen true x y on_x on_y = on_x
+chosen false x y on_x on_y = on_y
+
+erased-shown : (selective : Bool) (cell : Cell) → IsTrue (shown cell) → IsTrue (shown (erased selective cell))
+unfolding shown is_glyph
+erased-shown true cell h = chosen cell.protected cell _ h refl
+erased-shown false cell h = blank-shown
+
+-- a formula that gives glyphs
+made : (g : Grid) (f : ℕ → ℕ → Cell) → IsSoundGrid g → ((r c : ℕ) → IsTrue (shown (f r c))) → IsSoundGrid (grid_of g.width f)
+unfolding shown
+made g f sound each = record {
+  shape = IsGrid-grid_of g.width f sound.shape.width;
+  glyphs = test-formula (λ cell. is_glyph cell.glyph) g.width f (λ r c r1 r24 c1 cw. each r c);
+}
+
+row-sound : (g : Grid) (row : ℕ) (f : ℕ → Cell) → IsSoundGrid g → ((c : ℕ) → IsTrue (shown (f c))) → IsSoundGrid (with_row g row f)
+row-sound g row f sound each = made g _ sound (λ r c. chosen (r == row) _ _ (each c) (at g r c sound))
+
+pub put-sound : (g : Grid) (row col : ℕ) (cell : Cell) → IsSoundGrid g → IsGlyph cell.glyph → IsSoundGrid (put g row col cell)
+put-sound g row col cell sound glyph =
+    row-sound g row _ sound (λ c. chosen (c == col) _ _ (by_glyph cell glyph) (at g row c sound))
+
+pub put_inserting-sound : (g : Grid) (row col : ℕ) (cell : Cell) → IsSoundGrid g → IsGlyph cell.glyph
+    → IsSoundGrid (put_inserting g row col cell)
+put_inserting-sound g row col cell sound glyph = row-sound g row _ sound (λ c.
+    chosen (c == col) _ _ (by_glyph cell glyph) (chosen (ltb col c) _ _ (at g row (c - 1) sound) (at g row c sound)))
+
+pub put_run-sound : (g : Grid) (row col : ℕ) (glyphs : List ℕ) (like : Cell) → IsSoundGrid g → All IsGlyph glyphs
+    → IsSoundGrid (put_run g row col glyphs like)
+put_run-sound g row col glyphs like sound are =
+    row-sound g row _ sound (λ c. elim (among-before col (col + length glyphs) c) [
+      | inl t ↦ rw t.0 (by_glyph (cell_like like _) (are (c - col) 0 (omega (arith, t))))
+      | inr t ↦ rw t.0 (at g row c sound)
+    ])
+
+pub insert_cells-sound : (g : Grid) (row col n : ℕ) → IsSoundGrid g → IsSoundGrid (insert_cells g row col n)
+insert_cells-sound g row col n sound = row-sound g row _ sound (λ c. chosen (leb (col + n) c) _ _ (at g row (c - n) sound)
+    (chosen (leb col c) _ _ blank-shown (at g row c sound)))
+
+pub delete_cells-sound : (g : Grid) (row col n : ℕ) → IsSoundGrid g → IsSoundGrid (delete_cells g row col n)
+delete_cells-sound g row col n sound = row-sound g row _ sound (λ c. chosen (leb col c) _ _
+    (chosen (leb (c + n) g.width) _ _ (at g row (c + n) sound) blank-shown) (at g row c sound))
+
+pub erase-sound : (g : Grid) (row from to : ℕ) (selective : Bool) → IsSoundGrid g → IsSoundGrid (erase g row from to selective)
+erase-sound g row from to selective sound = made g _ sound (λ r c.
+    chosen (columns_of row from to r c) _ _ (erased-shown selective _ (at g r c sound)) (at g r c sound))
+
+pub scroll_up-sound : (g : Grid) (top bottom n : ℕ) → IsSoundGrid g → IsSoundGrid (scroll_up g top bottom n)
+scroll_up-sound g top bottom n sound = made g _ sound (λ r c. chosen (is_within top bottom r) _ _
+    (chosen (leb (r + n) bottom) _ _ (at g (r + n) c sound) blank-shown) (at g r c sound))
+
+pub scroll_down-sound : (g : Grid) (top bottom n : ℕ) → IsSoundGrid g → IsSoundGrid (scroll_down g top bottom n)
+scroll_down-sound g top bottom n sound = made g _ sound (λ r c. chosen (is_within top bottom r) _ _
+    (chosen (leb (top + n) r) _ _ (at g (r - n) c sound) blank-shown) (at g r c sound))
+
+pub fill-sound : (g : Grid) (cell : Cell) → IsSoundGrid g → IsGlyph cell.glyph → IsSoundGrid (fill g cell)
+fill-sound g cell sound glyph = made g _ sound (λ r c. by_glyph cell glyph)
+
+pub blank-sound : (wide : Bool) → IsSoundGrid (blank_grid wide)
+unfolding is_glyph
+blank-sound wide = record {
+  shape = IsGrid-grid_of (columns wide) (λ r c. blank) (wide, refl);
+  glyphs = test-formula (λ cell. is_glyph cell.glyph) (columns wide) (λ r c. blank) (λ r c r1 r24 c1 cw. refl);
+}

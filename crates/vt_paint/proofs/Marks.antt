@@ -1,10 +1,12 @@
 -- Marks of the places at which two screens differ, a place and a row more.
-use Rattle.std.proofs.Common.{◌≡◌, inl, inr, ◌+◌, ◌-◌, ◌≤◌, ◌<◌, ℕ, List, [], Bool, false, not, length, get_or, set, sym, ap, ◌∙◌, arith, get_or-set_same, get_or-set_other}
-use Rattle.std.proofs.lemmas.Bool.Decides.{eqb_tells}
-use Rattle.std.proofs.lemmas.List.{get_or_default}
+use Rattle.std.proofs.Common.{◌≡◌, inl, inr, ◌+◌, ◌-◌, ◌≤◌, ◌<◌, ℕ, List, [], Bool, true, false, not, eqb, length, get_or, set, refl, sym, ap, ◌∙◌, arith, get_or-set_same, get_or-set_other}
+use Rattle.std.proofs.lemmas.Bool.Decides.{eqb_tells, nat_tests}
+use Rattle.std.proofs.lemmas.List.{get_or_default, get_or-replicate}
+use Rattle.std.proofs.Math.ListN.{replicate}
 use Rattle.vt_screen.specs.declared.cell.Cell.{Cell}
 use Rattle.vt_screen.specs.Cells.{blank}
 use Rattle.vt_screen.specs.Grid.{Grid, cell_at, row_of}
+use Rattle.vt_paint.specs.Same.{same_bool}
 use Rattle.vt_paint.specs.Changes.{same_cell, differs_at, is_marked}
 
 -- two rows differ at an index
@@ -51,3 +53,23 @@ marks_more law g h marks row new a b same row1 inside is_a is_b long made before
           (get_or-set_other marks (row - 1) (r - 1) new [] (λ k. e.1 (omega (arith, k))))
           ∙ before r c r1 (omega (arith, e)) c1 cw
     ]
+
+-- a cell is the same as itself, so no place of the same row is marked
+eqb-same : (n : ℕ) → eqb n n ≡ true
+eqb-same n = grind (arith, nat_tests)
+
+same_bool-same : (b : Bool) → same_bool b b ≡ true
+same_bool-same true = refl
+same_bool-same false = refl
+
+same_cell-same : (x : Cell) → same_cell x x ≡ true
+same_cell-same x =
+    rw (eqb-same x.glyph, same_bool-same x.rendition.bold, same_bool-same x.rendition.underline)
+    (rw (same_bool-same x.rendition.blink, same_bool-same x.rendition.reverse, same_bool-same x.protected) refl)
+
+pub unmarked : (a b : List Cell) (i n : ℕ) → a ≡ b → i < n
+    → get_or (replicate n false) i false ≡ differs_in a b i
+unmarked a b i n same inside =
+    get_or-replicate n i false false inside
+    ∙ sym (ap (λ (x : List Cell). not (same_cell (get_or x i blank) (get_or b i blank))) same
+    ∙ ap (λ t. not t) (same_cell-same (get_or b i blank)))

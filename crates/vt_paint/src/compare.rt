@@ -7,7 +7,7 @@ ghost use Rattle.vt_paint.specs.Changes.{same_cell, differing_from, differing, A
 
 use crate::tables::brush_number;
 use vt_screen::laws::rows;
-use vt_screen::{Brush, Cell};
+use vt_screen::{Brush, Cell, same_cells};
 use vt_term::{ROWS, STOPS, Terminal};
 
 /// Whether two cells differ. The compiler compares all attributes at once.
@@ -54,7 +54,7 @@ pub fn differing_cells(a: &Terminal, b: &Terminal) -> usize
     count
 }
 
-/// The places at which two rows of the same length have different cells.
+/// The places at which two rows of the same length have different cells. (Most rows are the same, and compared at once.)
 fn changed_in_row(a: &[Cell], b: &[Cell]) -> [bool; STOPS]
     requires len { length a.now ≡ length b.now }
     requires short { length b.now ≤ 132 }
@@ -62,6 +62,9 @@ fn changed_in_row(a: &[Cell], b: &[Cell]) -> [bool; STOPS]
         → slice_index_or result i false ≡ not (same_cell (slice_index_or a.now i blank) (slice_index_or b.now i blank)) }
 {
     let mut marks = [false; STOPS];
+    if same_cells(a, b) {
+        return marks;
+    }
     for (i, cell) in b.iter().enumerate() {
         marks[i] = differ(&a[i], cell);
     }

@@ -1,7 +1,7 @@
 //! One byte after a held part: what is held then, and the event that the byte gives.
-ghost use Rattle.std.specs.Prelude.{◌≡◌, ◌<◌, ◌≤◌, ℕ, List, [], ◌∷◌, Option, Bool, true, false, length, take};
+ghost use Rattle.std.specs.Prelude.{◌≡◌, ◌<◌, ◌≤◌, ℕ, List, [], ◌∷◌, Option, Bool, length, take};
 ghost use Rattle.std.specs.Bool.{OnTrue, OnFalse};
-ghost use Rattle.vt_syntax.specs.Class.{class_of as byte_class, opens};
+ghost use Rattle.vt_syntax.specs.Class.{class_of as byte_class};
 ghost use Rattle.vt_syntax.specs.Items.{introduces as introduces_after};
 ghost use Rattle.vt_syntax.specs.Reading.{quiet_control as control_of_quiet, cancel_function, single_function as function_of_single, escape_function as function_of_escape};
 ghost use Rattle.vt_syntax.specs.Event.{event_in};

@@ -17,17 +17,17 @@ pub(crate) fn graphic_run(piece: &[u8]) -> usize
     graphic_end(piece)
 }
 
-/// The place of the first byte that has no glyph, or the length, looked for a vector of 32 bytes at a time.
+/// The place of the first byte that has no glyph, or the length, looked for a vector of 16 bytes at a time.
 fn graphic_end(piece: &[u8]) -> usize
     ensures { result ≡ prefix_len is_graphic piece.now }
 {
     let mut at = 0;
-    while at + 32 <= piece.len() {
-        let stops = stops_32(u8x32::from_slice(&piece[at..]));
+    while at + 16 <= piece.len() {
+        let stops = stops_16(u8x16::from_slice(&piece[at..]));
         if stops != 0 {
             return at + stops.trailing_zeros() as usize;
         }
-        at += 32;
+        at += 16;
     }
     graphic_end_slowly(piece, at)
 }
@@ -60,10 +60,10 @@ pub(crate) fn has_glyph(b: u8) -> bool
 
 /// A bit for each lane that has no glyph: less 20 it is above 5E, and less A1 above 5D, both with wrapping.
 #[inline(always)]
-fn stops_32(lanes: u8x32) -> u64
+fn stops_16(lanes: u8x16) -> u64
     ensures { result ≡ mask_l (map is_not_graphic lanes) }
 {
-    let not_left = u8x32::splat(0x5E).simd_lt(lanes - u8x32::splat(0x20));
-    let not_right = u8x32::splat(0x5D).simd_lt(lanes - u8x32::splat(0xA1));
+    let not_left = u8x16::splat(0x5E).simd_lt(lanes - u8x16::splat(0x20));
+    let not_right = u8x16::splat(0x5D).simd_lt(lanes - u8x16::splat(0xA1));
     (not_left & not_right).to_bitmask()
 }

@@ -1,5 +1,6 @@
 -- The charts of the sets in GL and GR.
-use Rattle.std.proofs.Common.{◌≡◌, ℕ, [], ◌++◌, length, ◌%◌, ◌-◌, ◌≤◌, Bool, true, false, inl, inr, eqb, ltb, arith, refl, sym, ap, subst, ◌∙◌}
+use Rattle.std.proofs.Common.{◌≡◌, ℕ, [], ◌++◌, length, ◌%◌, ◌-◌, ◌≤◌, Bool, true, false, inl, inr, eqb, ltb, arith}
+use Rattle.std.proofs.Common.{refl, sym, ap, subst, ◌∙◌}
 use Rattle.std.specs.Prelude.{slice_index, if◌then◌else◌}
 use Rattle.std.proofs.lemmas.Bool.{eqb-true}
 use Rattle.std.proofs.Math.ListN.{get_or-append}
@@ -11,7 +12,8 @@ use Rattle.vt_glyph.specs.Tables.{glyph_of, space, IsGlyph}
 use Rattle.vt_glyph.specs.Encoding.{encoded_glyph, encodings, IsEncoding}
 use Rattle.vt_glyph.specs.Invocation.{InUseTable, HasGlyph, glyph_in_use}
 use Rattle.vt_glyph.proofs.Charts.{table_space}
-use Rattle.vt_glyph.proofs.Glyphs.{IsEncoding-table_entry, encoded_glyph-table_entry, IsEncoding-ascii, encoded_glyph-ascii}
+use Rattle.vt_glyph.proofs.Glyphs.{IsEncoding-table_entry, encoded_glyph-table_entry, IsEncoding-ascii}
+use Rattle.vt_glyph.proofs.Glyphs.{encoded_glyph-ascii}
 
 -- a byte of a chart, that of a code from 20 to 7E
 abbrev pub chart_byte : Set → ℕ → ℕ

@@ -43,7 +43,8 @@ spells Special = refl
 spells Supplemental = refl
 
 -- the code's tables encode the glyphs of the charts
-pub tables : (set : Set) → list_all (λ code. slice_index (encodings set) code == encoding_of (glyph_of set code)) graphic_codes ≡ true
+pub tables : (set : Set) → list_all (λ code. slice_index (encodings set) code == encoding_of (glyph_of set code))
+    graphic_codes ≡ true
 unfolding glyph_of spelling_of encoding_of
 tables Ascii = refl
 tables British = refl
@@ -81,6 +82,7 @@ unfolding glyph_of is_glyph spelling_of encoding_of
 ascii = refl
 
 -- the characters of the bytes that encode a glyph
-pub characters : list_all (λ byte. not (is_glyph (encoded_glyph byte)) || slice_index CHARACTERS byte == encoded_glyph byte) (range_with_len 0 256) ≡ true
+pub characters : list_all (λ byte. not (is_glyph (encoded_glyph byte)) || slice_index CHARACTERS byte ==
+    encoded_glyph byte) (range_with_len 0 256) ≡ true
 unfolding glyph_of is_glyph encoded_glyph
 characters = refl

@@ -38,7 +38,8 @@ pending_injective (Some a) (Some b) e = let h : a ≡ b = omega arith in ap Some
 
 parts_injective : (a b : GraphicSets) → parts a ≡ parts b → a ≡ b
 parts_injective a b e =
-    let make : List Set → ℕ → ℕ → Option ℕ → GraphicSets = λ g l r p. record { g = g; left = l; right = r; pending = p } in
+    let make : List Set → ℕ → ℕ → Option ℕ → GraphicSets =
+    λ g l r p. record { g = g; left = l; right = r; pending = p } in
     let left : a.left ≡ b.left = cc in
     let right : a.right ≡ b.right = cc in
     let number : pending_number a.pending ≡ pending_number b.pending = cc in

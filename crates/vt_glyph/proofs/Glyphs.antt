@@ -28,11 +28,13 @@ same_spelling-true (Third a) (Second b) h = absurd cc
 same_spelling-true (Third a) (Third b) h = ap Third (eqb-true a b h)
 
 -- a test that all sets' glyphs and the space pass is passed by every glyph
-glyph_passes : (p : ℕ → Bool) (n : ℕ) → p space ≡ true → ((set : Set) → list_all (λ code. p (glyph_of set code)) graphic_codes ≡ true) → IsGlyph n → p n ≡ true
+glyph_passes : (p : ℕ → Bool) (n : ℕ) → p space ≡ true
+    → ((set : Set) → list_all (λ code. p (glyph_of set code)) graphic_codes ≡ true) → IsGlyph n → p n ≡ true
 unfolding is_glyph
 glyph_passes p n blank shown h =
     let Goal : Type 0 = p n ≡ true in
-    let by : (set : Set) → shows set n ≡ true → Goal = λ set e. all_taken p (glyph_of set) graphic_codes n (shown set) e in
+    let by : (set : Set) → shows set n ≡ true → Goal =
+    λ set e. all_taken p (glyph_of set) graphic_codes n (shown set) e in
     either Goal _ _ h (λ e. ap p (eqb-true n space e) ∙ blank) (λ h1.
     either Goal _ _ h1 (by Ascii) (λ h2.
     either Goal _ _ h2 (by British) (λ h3.
@@ -55,7 +57,8 @@ spells n h =
     let code = code_of (spelling_of n) in
     let first = lowest (spelling_of n) in
     let a = both (spelled_glyph (spelling_of n) == n) _ (spells_glyph n h) in
-    let b = both (nat_le first code && nat_le code 0x7E) (same_spelling (encoded_spelling (encoding_of n)) (spelling_of n)) a.1 in
+    let b = both (nat_le first code && nat_le code 0x7E)
+    (same_spelling (encoded_spelling (encoding_of n)) (spelling_of n)) a.1 in
     let r = both (nat_le first code) (nat_le code 0x7E) b.0 in
     let low : nat_le first code ≡ true = r.0 in
     let high : nat_le code 0x7E ≡ true = r.1 in
@@ -79,25 +82,32 @@ IsEncoding-encoding_of n h = record {
 
 -- what a set shows is a glyph
 pub IsGlyph-glyph_of : (set : Set) (code : ℕ) → 0x21 ≤ code → code ≤ 0x7E → IsGlyph (glyph_of set code)
-IsGlyph-glyph_of set code low high = all_in_range (λ k. is_glyph (glyph_of set k)) 0x21 94 code (charts.glyphs set) low (omega arith)
+IsGlyph-glyph_of set code low high = all_in_range (λ k. is_glyph (glyph_of set k)) 0x21 94 code (charts.glyphs set) low
+    (omega arith)
 
 -- the table's byte encodes what the set shows
-pub table_entry : (set : Set) (code : ℕ) → 0x21 ≤ code → code ≤ 0x7E → slice_index (encodings set) code ≡ encoding_of (glyph_of set code)
+pub table_entry : (set : Set) (code : ℕ) → 0x21 ≤ code → code ≤ 0x7E
+    → slice_index (encodings set) code ≡ encoding_of (glyph_of set code)
 table_entry set code low high =
-    eqb-true _ _ (all_in_range (λ k. slice_index (encodings set) k == encoding_of (glyph_of set k)) 0x21 94 code (charts.tables set) low (omega arith))
+    eqb-true _ _ (all_in_range (λ k. slice_index (encodings set) k == encoding_of (glyph_of set k)) 0x21 94 code
+    (charts.tables set) low (omega arith))
 
-pub IsEncoding-table_entry : (set : Set) (code : ℕ) → 0x21 ≤ code → code ≤ 0x7E → IsEncoding (slice_index (encodings set) code)
+pub IsEncoding-table_entry : (set : Set) (code : ℕ) → 0x21 ≤ code → code ≤ 0x7E
+    → IsEncoding (slice_index (encodings set) code)
 IsEncoding-table_entry set code low high =
-    subst IsEncoding (sym (table_entry set code low high)) (IsEncoding-encoding_of _ (IsGlyph-glyph_of set code low high))
+    subst IsEncoding (sym (table_entry set code low high))
+    (IsEncoding-encoding_of _ (IsGlyph-glyph_of set code low high))
 
-pub encoded_glyph-table_entry : (set : Set) (code : ℕ) → 0x21 ≤ code → code ≤ 0x7E → encoded_glyph (slice_index (encodings set) code) ≡ glyph_of set code
+pub encoded_glyph-table_entry : (set : Set) (code : ℕ) → 0x21 ≤ code → code ≤ 0x7E
+    → encoded_glyph (slice_index (encodings set) code) ≡ glyph_of set code
 encoded_glyph-table_entry set code low high =
     ap encoded_glyph (table_entry set code low high) ∙ encoded_glyph-encoding_of _ (IsGlyph-glyph_of set code low high)
 
 -- an ASCII code is its own encoding
 ascii_both : (n : ℕ) → 0x20 ≤ n → n ≤ 0x7E → (IsGlyph n) × (encoding_of n ≡ n)
 ascii_both n low high =
-    let a = both (is_glyph n) (encoding_of n == n) (all_in_range (λ k. is_glyph k && encoding_of k == k) 0x20 95 n charts.ascii low (omega arith)) in
+    let a = both (is_glyph n) (encoding_of n == n)
+    (all_in_range (λ k. is_glyph k && encoding_of k == k) 0x20 95 n charts.ascii low (omega arith)) in
     (a.0, eqb-true (encoding_of n) n a.1)
 
 pub IsGlyph-ascii : (n : ℕ) → 0x20 ≤ n → n ≤ 0x7E → IsGlyph n
@@ -107,13 +117,16 @@ pub IsEncoding-ascii : (n : ℕ) → 0x20 ≤ n → n ≤ 0x7E → IsEncoding n
 IsEncoding-ascii n low high = let a = ascii_both n low high in subst IsEncoding a.1 (IsEncoding-encoding_of n a.0)
 
 pub encoded_glyph-ascii : (n : ℕ) → 0x20 ≤ n → n ≤ 0x7E → encoded_glyph n ≡ n
-encoded_glyph-ascii n low high = let a = ascii_both n low high in ap encoded_glyph (sym a.1) ∙ encoded_glyph-encoding_of n a.0
+encoded_glyph-ascii n low high = let a = ascii_both n low high in ap encoded_glyph (sym a.1)
+    ∙ encoded_glyph-encoding_of n a.0
 
 -- the character of a byte that encodes a glyph
 pub character_at : (byte : ℕ) → byte < 256 → IsEncoding byte → slice_index CHARACTERS byte ≡ encoded_glyph byte
 character_at byte small h =
-    let test = all_in_range (λ k. not (is_glyph (encoded_glyph k)) || slice_index CHARACTERS k == encoded_glyph k) 0 256 byte charts.characters (omega arith) (omega arith) in
-    eqb-true _ _ (after (is_glyph (encoded_glyph byte)) (slice_index CHARACTERS byte == encoded_glyph byte) h.glyph test)
+    let test = all_in_range (λ k. not (is_glyph (encoded_glyph k)) || slice_index CHARACTERS k == encoded_glyph k) 0
+    256 byte charts.characters (omega arith) (omega arith) in
+    eqb-true _ _ (after (is_glyph (encoded_glyph byte)) (slice_index CHARACTERS byte == encoded_glyph byte) h.glyph
+    test)
   where
     after : (a b : Bool) → a ≡ true → not a || b ≡ true → b ≡ true
     after true b e h = h

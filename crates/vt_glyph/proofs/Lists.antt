@@ -1,5 +1,6 @@
 -- Tests of every element of a list.
-use Rattle.std.proofs.Common.{◌≡◌, ℕ, zero, suc, ◌+◌, ◌≤◌, ◌<◌, List, [], ◌∷◌, Bool, true, false, ◌&&◌, ◌||◌, eqb, arith, refl, sym, ap, ◌∙◌}
+use Rattle.std.proofs.Common.{◌≡◌, ℕ, zero, suc, ◌+◌, ◌≤◌, ◌<◌, List, [], ◌∷◌, Bool, true, false, ◌&&◌, ◌||◌, eqb}
+use Rattle.std.proofs.Common.{arith, refl, sym, ap, ◌∙◌}
 use Rattle.std.specs.List.{range_with_len, list_any, list_all}
 use Rattle.std.proofs.lemmas.Bool.{eqb-true}
 use Rattle.std.proofs.lemmas.Bool.Decides.{nat_tests}
@@ -26,7 +27,8 @@ all_in_range p a (suc n) k h low high =
     go false e here rest = rest (grind (arith, nat_tests)) (omega arith)
 
 -- what holds of all values of a function on a list holds of one that it takes there
-pub all_taken : (p : ℕ → Bool) (f : ℕ → ℕ) (xs : List ℕ) (n : ℕ) → list_all (λ x. p (f x)) xs ≡ true → list_any (λ x. eqb (f x) n) xs ≡ true → p n ≡ true
+pub all_taken : (p : ℕ → Bool) (f : ℕ → ℕ) (xs : List ℕ) (n : ℕ) → list_all (λ x. p (f x)) xs ≡ true
+    → list_any (λ x. eqb (f x) n) xs ≡ true → p n ≡ true
 all_taken p f [] n h e = absurd cc
 all_taken p f (x ∷ xs) n h e =
     let parts = both (p (f x)) (list_all (λ y. p (f y)) xs) h in

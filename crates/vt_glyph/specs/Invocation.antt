@@ -1,6 +1,7 @@
 -- Designations, shifts, and reading a graphic byte through the sets.
 -- (VT220 manual, chapter 4: SCS, the locking shifts and the single shifts. The sets at power-up are this project's choice.)
-use Rattle.std.specs.Prelude.{ℕ, ◌%◌, ◌≤◌, ◌⊎◌, List, [], ◌∷◌, Bool, Option, Some, None, ◌==◌, ◌&&◌, ◌||◌, not, nat_lt, if◌then◌else◌, unwrap_or, slice_index_or, slice_set}
+use Rattle.std.specs.Prelude.{ℕ, ◌%◌, ◌≤◌, ◌⊎◌, List, [], ◌∷◌, Bool, Option, Some, None, ◌==◌, ◌&&◌, ◌||◌, not, nat_lt}
+use Rattle.std.specs.Prelude.{if◌then◌else◌, unwrap_or, slice_index_or, slice_set}
 use Rattle.vt_glyph.specs.declared.set.Set.{Set}
 use Rattle.vt_glyph.specs.declared.set.Set.TheVariants.{Ascii, Supplemental}
 use Rattle.vt_glyph.specs.GraphicSets.{GraphicSets}

@@ -1,5 +1,7 @@
 -- Maps of maps: runs and areas; and tests that each cell passes.
-use Rattle.std.proofs.Common.{◌≡◌, ◌≢◌, inl, inr, Bool, true, false, ◌&&◌, ◌||◌, ◌==◌, if◌then◌else◌, ℕ, ◌+◌, ◌-◌, ◌*◌, ◌/◌, ◌%◌, ◌≤◌, ◌<◌, ◌++◌, List, [], ◌∷◌, length, get_or, IsTrue, arith, refl, sym, ap, ◌∙◌, length-append}
+use Rattle.std.proofs.Common.{◌≡◌, ◌≢◌, inl, inr, Bool, true, false, ◌&&◌, ◌||◌, ◌==◌, if◌then◌else◌, ℕ, ◌+◌, ◌-◌, ◌*◌}
+use Rattle.std.proofs.Common.{◌/◌, ◌%◌, ◌≤◌, ◌<◌, ◌++◌, List, [], ◌∷◌, length, get_or, IsTrue, arith, refl, sym, ap}
+use Rattle.std.proofs.Common.{◌∙◌, length-append}
 use Rattle.std.proofs.lemmas.Bool.Decides.{eqb_tells}
 use Rattle.std.proofs.lemmas.Bool.{cases_lt}
 use Rattle.std.proofs.lemmas.List.{get_or-append_right, get_or_past}
@@ -12,7 +14,8 @@ use Rattle.vt_screen.proofs.Places.{grid_of-same, grid_of-cell_at, cell_at-grid_
 use Rattle.vt_screen.proofs.Maps.{among-before}
 use Rattle.vt_screen.specs.declared.cell.Cell.{Cell}
 use Rattle.vt_screen.specs.Cells.{blank, erased, selectively_erased, cell_like}
-use Rattle.vt_screen.specs.Grid.{Grid, IsGrid, AllCells, last_row, grid_of, cells_of, cell_at, with_row, put, put_run, erase_area}
+use Rattle.vt_screen.specs.Grid.{Grid, IsGrid, AllCells, last_row, grid_of, cells_of, cell_at, with_row, put, put_run}
+use Rattle.vt_screen.specs.Grid.{erase_area}
 
 -- ---- grids
 
@@ -25,12 +28,14 @@ grids-same g h is_g is_h wide same =
     ∙ grid_of-cell_at h is_h.cells
 
 -- the row that a formula gives, and the others
-cell_at-with_row : (g : Grid) (row : ℕ) (f : ℕ → Cell) (c : ℕ) → 1 ≤ row → row ≤ last_row → 1 ≤ c → c ≤ g.width → cell_at (with_row g row f) row c ≡ f c
+cell_at-with_row : (g : Grid) (row : ℕ) (f : ℕ → Cell) (c : ℕ) → 1 ≤ row → row ≤ last_row → 1 ≤ c → c ≤ g.width
+    → cell_at (with_row g row f) row c ≡ f c
 cell_at-with_row g row f c row1 row24 c1 cw =
     cell_at-grid_of g.width (λ r c. if r == row then f c else cell_at g r c) row c row1 row24 c1 cw
     ∙ elim (eqb_tells row row) [ inl e ↦ rw e.0 refl | inr e ↦ absurd (e.1 refl) ]
 
-cell_at-other_row : (g : Grid) (row : ℕ) (f : ℕ → Cell) (r c : ℕ) → 1 ≤ r → r ≤ last_row → 1 ≤ c → c ≤ g.width → r ≢ row → cell_at (with_row g row f) r c ≡ cell_at g r c
+cell_at-other_row : (g : Grid) (row : ℕ) (f : ℕ → Cell) (r c : ℕ) → 1 ≤ r → r ≤ last_row → 1 ≤ c → c ≤ g.width
+    → r ≢ row → cell_at (with_row g row f) r c ≡ cell_at g r c
 cell_at-other_row g row f r c r1 r24 c1 cw other =
     cell_at-grid_of g.width (λ r c. if r == row then f c else cell_at g r c) r c r1 r24 c1 cw
     ∙ elim (eqb_tells r row) [ inl e ↦ absurd (other e.1) | inr e ↦ rw e.0 refl ]
@@ -48,7 +53,8 @@ run-none g row col like is_grid =
     ])
     ∙ grid_of-cell_at g is_grid.cells
 
-pub run-one : (g : Grid) (row col code : ℕ) (like : Cell) → put_run g row col (code ∷ []) like ≡ put g row col (cell_like like code)
+pub run-one : (g : Grid) (row col code : ℕ) (like : Cell)
+    → put_run g row col (code ∷ []) like ≡ put g row col (cell_like like code)
 run-one g row col code like =
     grid_of-same g.width _ _ (λ r c r1 r24 c1 cw. elim (eqb_tells r row) [
       | inl e ↦ elim (among-before col (col + length (code ∷ [])) c) [
@@ -69,7 +75,8 @@ run-one g row col code like =
 -- the cell of a column of a run
 run-cell : (old : Cell) (col : ℕ) (a b : List ℕ) (like : Cell) (c : ℕ)
     → (if leb col c && ltb c (col + length (a ++ b)) then cell_like like (get_or (a ++ b) (c - col) 0) else old)
-    ≡ (if leb (col + length a) c && ltb c (col + length a + length b) then cell_like like (get_or b (c - (col + length a)) 0)
+    ≡ (if leb (col + length a) c && ltb c (col + length a + length b) then cell_like like
+    (get_or b (c - (col + length a)) 0)
     else (if leb col c && ltb c (col + length a) then cell_like like (get_or a (c - col) 0) else old))
 run-cell old col a b like c =
     let long = length-append a b in
@@ -85,11 +92,16 @@ run-cell old col a b like c =
         | inl u ↦ elim (among-before col (col + length (a ++ b)) c) [
           | inl v ↦
               let place : c - col - length a ≡ c - (col + length a) = omega arith in
-              rw (t.0, u.0, v.0) (ap (cell_like like) (get_or-append_right a b (length a) (c - col) 0 refl (omega (arith, u)) ∙ ap (λ x. get_or b x 0) place))
+              rw (t.0, u.0, v.0) (ap (cell_like like) (get_or-append_right a b (length a) (c - col) 0 refl
+              (omega (arith, u)) ∙ ap (λ x. get_or b x 0) place))
           | inr v ↦ absurd (elim v.1 [ inl l ↦ omega (arith, u) | inr l ↦ omega (arith, u) ])
         ]
         | inr u ↦ elim (among-before col (col + length (a ++ b)) c) [
-          | inl v ↦ absurd (elim t.1 [ inl l ↦ omega (arith, v) | inr l ↦ elim u.1 [ inl m ↦ omega (arith, v) | inr m ↦ omega (arith, v) ] ])
+          | inl v ↦ absurd (elim t.1 [
+            | inl l ↦ omega (arith, v)
+            | inr l ↦
+                elim u.1 [ inl m ↦ omega (arith, v) | inr m ↦ omega (arith, v) ]
+          ])
           | inr v ↦ rw (t.0, u.0, v.0) refl
         ]
       ]
@@ -98,10 +110,12 @@ run-cell old col a b like c =
 pub run-append : (g : Grid) (row col : ℕ) (a b : List ℕ) (like : Cell)
     → put_run g row col (a ++ b) like ≡ put_run (put_run g row col a like) row (col + length a) b like
 run-append g row col a b like =
-    let first : ℕ → Cell = λ c. if leb col c && ltb c (col + length a) then cell_like like (get_or a (c - col) 0) else cell_at g row c in
+    let first : ℕ → Cell = λ c. if leb col c && ltb c (col + length a) then cell_like like (get_or a (c - col) 0) else
+    cell_at g row c in
     grid_of-same g.width _ _ (λ r c r1 r24 c1 cw. elim (eqb_tells r row) [
       | inl e ↦ rw e.0 (run-cell (cell_at g row c) col a b like c
-          ∙ ap (λ x. if leb (col + length a) c && ltb c (col + length a + length b) then cell_like like (get_or b (c - (col + length a)) 0) else x)
+          ∙ ap (λ x. if leb (col + length a) c && ltb c (col + length a + length b) then cell_like like
+          (get_or b (c - (col + length a)) 0) else x)
           (sym (cell_at-with_row g row first c (omega (arith, e)) (omega (arith, e)) c1 cw)))
       | inr e ↦ rw e.0 (sym (cell_at-other_row g row first r c r1 r24 c1 cw e.1))
     ])
@@ -112,7 +126,8 @@ pub area-none : (g : Grid) (selective : Bool) → IsGrid g → erase_area g (λ 
 area-none g selective is_grid = grid_of-cell_at g is_grid.cells
 
 pub area-same : (g : Grid) (a b : ℕ → ℕ → Bool) (selective : Bool)
-    → ((r c : ℕ) → 1 ≤ r → r ≤ last_row → 1 ≤ c → c ≤ g.width → a r c ≡ b r c) → erase_area g a selective ≡ erase_area g b selective
+    → ((r c : ℕ) → 1 ≤ r → r ≤ last_row → 1 ≤ c → c ≤ g.width → a r c ≡ b r c)
+    → erase_area g a selective ≡ erase_area g b selective
 area-same g a b selective same = grid_of-same g.width _ _ (λ r c r1 r24 c1 cw. rw (same r c r1 r24 c1 cw) refl)
 
 -- what is erased stays so when it is erased again
@@ -125,7 +140,8 @@ erased-erased true cell = go cell.protected refl
     go false h = rw h refl
 
 erased-both : (x y selective : Bool) (cell : Cell)
-    → (if y then erased selective (if x then erased selective cell else cell) else (if x then erased selective cell else cell))
+    → (if y then erased selective (if x then erased selective cell else cell) else
+    (if x then erased selective cell else cell))
     ≡ (if x || y then erased selective cell else cell)
 erased-both true true selective cell = erased-erased selective cell
 erased-both true false selective cell = refl
@@ -135,12 +151,14 @@ erased-both false false selective cell = refl
 pub area-both : (g : Grid) (a b : ℕ → ℕ → Bool) (selective : Bool)
     → erase_area (erase_area g a selective) b selective ≡ erase_area g (λ r c. a r c || b r c) selective
 area-both g a b selective = grid_of-same g.width _ _ (λ r c r1 r24 c1 cw.
-    let here = cell_at-grid_of g.width (λ r c. if a r c then erased selective (cell_at g r c) else cell_at g r c) r c r1 r24 c1 cw in
+    let here = cell_at-grid_of g.width (λ r c. if a r c then erased selective (cell_at g r c) else cell_at g r c) r c
+    r1 r24 c1 cw in
     ap (λ x. if b r c then erased selective x else x) here ∙ erased-both (a r c) (b r c) selective (cell_at g r c))
 
 -- ---- tests
 
-pub test-at : (test : Cell → Bool) (g : Grid) (r c : ℕ) → IsTrue (test blank) → AllCells test g → IsTrue (test (cell_at g r c))
+pub test-at : (test : Cell → Bool) (g : Grid) (r c : ℕ) → IsTrue (test blank) → AllCells test g
+    → IsTrue (test (cell_at g r c))
 unfolding cell_at
 test-at test g r c on_blank all = elim (cases_lt ((r - 1) * g.width + (c - 1)) (length g.cells)) [
   | inl l ↦ All-get_or (λ cell. IsTrue (test cell)) g.cells ((r - 1) * g.width + (c - 1)) blank l all
@@ -156,4 +174,5 @@ test-formula test w f each = λ k d within.
     let wide : 0 < w = omega arith in
     let row : k / w < last_row = (div-lt_iff_lt-mul wide).1 low in
     let col : k % w < w = mod-lt k wide in
-    rw (get_or-map-range_with_len F 0 (last_row * w) k k d low (omega arith)) (each (k / w + 1) (k % w + 1) (omega arith) (omega arith) (omega arith) (omega arith))
+    rw (get_or-map-range_with_len F 0 (last_row * w) k k d low (omega arith))
+    (each (k / w + 1) (k % w + 1) (omega arith) (omega arith) (omega arith) (omega arith))

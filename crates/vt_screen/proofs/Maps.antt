@@ -1,5 +1,8 @@
--- What each edit makes of the grid. `o` is the table of row numbers, `xs` the cells before, `ys` what is written over a part of them.
-use Rattle.std.proofs.Common.{◌≡◌, ◌≢◌, ◌⊎◌, inl, inr, Bool, true, false, ◌&&◌, if◌then◌else◌, ℕ, suc, ◌+◌, ◌-◌, ◌≤◌, ◌<◌, List, length, get_or, min, set, arith, refl, sym, ap, ◌∙◌, get_or-set_same, get_or-set_other, replicate}
+-- What each edit makes of the grid. `o` is the table of row numbers, `xs` the cells before, `ys` what is written
+-- over a part of them.
+use Rattle.std.proofs.Common.{◌≡◌, ◌≢◌, ◌⊎◌, inl, inr, Bool, true, false, ◌&&◌, if◌then◌else◌, ℕ, suc, ◌+◌, ◌-◌, ◌≤◌}
+use Rattle.std.proofs.Common.{◌<◌, List, length, get_or, min, set, arith, refl, sym, ap, ◌∙◌, get_or-set_same}
+use Rattle.std.proofs.Common.{get_or-set_other, replicate}
 use Rattle.std.proofs.lemmas.List.{with_items_is, get_or-replicate, get_or_past, length-replicate}
 use Rattle.std.proofs.lemmas.Bool.{cases_lt}
 use Rattle.std.proofs.lemmas.Bool.Decides.{leb_tells, eqb_tells}
@@ -14,7 +17,8 @@ use Rattle.vt_screen.proofs.Rows.{row-written}
 use Rattle.vt_screen.specs.declared.cell.Cell.{Cell}
 use Rattle.vt_screen.specs.Cells.{blank, erased, cell_like}
 use Rattle.vt_screen.specs.Order.{IsOrder, start_of, stored, stride, room}
-use Rattle.vt_screen.specs.Grid.{Grid, grid_of, cell_at, with_row, put, put_inserting, put_run, erase, insert_cells, delete_cells, scroll_up, scroll_down, is_within, last_row}
+use Rattle.vt_screen.specs.Grid.{Grid, grid_of, cell_at, with_row, put, put_inserting, put_run, erase, insert_cells}
+use Rattle.vt_screen.specs.Grid.{delete_cells, scroll_up, scroll_down, is_within, last_row}
 
 -- a cell of the row before
 before : (o : List ℕ) (xs : List Cell) (w row c : ℕ) → 1 ≤ row → row ≤ last_row → 1 ≤ c → c ≤ w
@@ -22,14 +26,17 @@ before : (o : List ℕ) (xs : List Cell) (w row c : ℕ) → 1 ≤ row → row �
 before o xs w row c row1 row24 c1 cw = sym (cell_at-grid_of w (stored o xs) row c row1 row24 c1 cw)
 
 -- the same, read in a part of the row
-mid-before : (o : List ℕ) (xs : List Cell) (w row at a k i c : ℕ) → 1 ≤ row → row ≤ last_row → at ≡ start_of o row + a → c ≡ a + i + 1 → i < k → c ≤ w
+mid-before : (o : List ℕ) (xs : List Cell) (w row at a k i c : ℕ) → 1 ≤ row → row ≤ last_row → at ≡ start_of o row + a
+    → c ≡ a + i + 1 → i < k → c ≤ w
     → get_or (mid_of at k xs) i blank ≡ cell_at (grid_of w (stored o xs)) row c
 mid-before o xs w row at a k i c row1 row24 here is low cw =
     let place : at + i ≡ start_of o row + (c - 1) = omega arith in
-    get_or-mid_of at k xs i blank low ∙ ap (λ x. get_or xs x blank) place ∙ before o xs w row c row1 row24 (omega arith) cw
+    get_or-mid_of at k xs i blank low ∙ ap (λ x. get_or xs x blank) place
+    ∙ before o xs w row c row1 row24 (omega arith) cw
 
 -- a part of a row is written over, and the rest of the row stays
-part-written : (o : List ℕ) (xs ys : List Cell) (w row at a k : ℕ) (f : ℕ → Cell) → IsOrder o → length xs ≡ room → 1 ≤ row → row ≤ last_row → w ≤ stride
+part-written : (o : List ℕ) (xs ys : List Cell) (w row at a k : ℕ) (f : ℕ → Cell) → IsOrder o → length xs ≡ room
+    → 1 ≤ row → row ≤ last_row → w ≤ stride
     → at ≡ start_of o row + a → a + k ≤ w → length ys ≡ k
     → ((i c : ℕ) → c ≡ a + i + 1 → i < k → get_or ys i blank ≡ f c)
     → ((c : ℕ) → 1 ≤ c → c ≤ w → (c ≤ a) ⊎ (a + k < c) → cell_at (grid_of w (stored o xs)) row c ≡ f c)
@@ -57,7 +64,8 @@ part-written o xs ys w row at a k f order long row1 row24 narrow here fits len i
     ])
 
 -- a whole row is written over
-row-rewritten : (o : List ℕ) (xs ys : List Cell) (w row at k : ℕ) (f : ℕ → Cell) → IsOrder o → length xs ≡ room → 1 ≤ row → row ≤ last_row → w ≤ stride
+row-rewritten : (o : List ℕ) (xs ys : List Cell) (w row at k : ℕ) (f : ℕ → Cell) → IsOrder o → length xs ≡ room
+    → 1 ≤ row → row ≤ last_row → w ≤ stride
     → at ≡ start_of o row → k ≡ w → length ys ≡ k
     → ((i c : ℕ) → c ≡ i + 1 → i < k → get_or ys i blank ≡ f c)
     → grid_of w (stored o (put_mid at k xs ys)) ≡ with_row (grid_of w (stored o xs)) row f
@@ -66,7 +74,8 @@ row-rewritten o xs ys w row at k f order long row1 row24 narrow here wide len in
     (λ i c is low. inside i c (omega arith) low)
     (λ c c1 cw out. absurd (elim out [ inl l ↦ omega arith | inr l ↦ omega arith ]))
 
-pub put-row : (o : List ℕ) (xs : List Cell) (w row col at : ℕ) (cell : Cell) → IsOrder o → length xs ≡ room → 1 ≤ row → row ≤ last_row → w ≤ stride
+pub put-row : (o : List ℕ) (xs : List Cell) (w row col at : ℕ) (cell : Cell) → IsOrder o → length xs ≡ room → 1 ≤ row
+    → row ≤ last_row → w ≤ stride
     → 1 ≤ col → col ≤ w → at ≡ start_of o row + col - 1
     → grid_of w (stored o (set xs at cell)) ≡ put (grid_of w (stored o xs)) row col cell
 put-row o xs w row col at cell order long row1 row24 narrow col1 colw here =
@@ -77,11 +86,13 @@ put-row o xs w row col at cell order long row1 row24 narrow col1 colw here =
           let place : start_of o row + (c - 1) ≡ at = omega (arith, e.1) in
           rw (e.0, place) (get_or-set_same xs at cell blank (omega arith))
       | inr e ↦
-          rw e.0 (get_or-set_other xs at (start_of o row + (c - 1)) cell blank (λ q. e.1 (omega arith)) ∙ before o xs w row c row1 row24 c1 cw)
+          rw e.0 (get_or-set_other xs at (start_of o row + (c - 1)) cell blank (λ q. e.1 (omega arith))
+          ∙ before o xs w row c row1 row24 c1 cw)
     ])
     (λ i h. get_or-set_other xs at i cell blank (λ q. elim h [ inl l ↦ omega arith | inr l ↦ omega arith ]))
 
-pub put_inserting-row : (o : List ℕ) (xs ys : List Cell) (w row col at k : ℕ) (cell : Cell) → IsOrder o → length xs ≡ room → 1 ≤ row → row ≤ last_row → w ≤ stride
+pub put_inserting-row : (o : List ℕ) (xs ys : List Cell) (w row col at k : ℕ) (cell : Cell) → IsOrder o
+    → length xs ≡ room → 1 ≤ row → row ≤ last_row → w ≤ stride
     → 1 ≤ col → col ≤ w → at ≡ start_of o row → k ≡ w → length ys ≡ length (mid_of at k xs)
     → get_or ys (col - 1) blank ≡ cell
     → ((i : ℕ) → col - 1 < i → i < length (mid_of at k xs) → get_or ys i blank ≡ get_or (mid_of at k xs) (i - 1) blank)
@@ -91,72 +102,101 @@ put_inserting-row o xs ys w row col at k cell order long row1 row24 narrow col1 
     let below = start-below o order row row1 row24 in
     let mid : length (mid_of at k xs) ≡ k = length-mid_of at k xs (omega arith) in
     let long_part : length ys ≡ k = len ∙ mid in
-    row-rewritten o xs ys w row at k _ order long row1 row24 narrow here wide long_part (λ i c is low. elim (eqb_tells c col) [
+    row-rewritten o xs ys w row at k _ order long row1 row24 narrow here wide long_part
+    (λ i c is low. elim (eqb_tells c col) [
       | inl e ↦
           let place : i ≡ col - 1 = omega (arith, e.1) in
           rw (e.0, place) written
       | inr e ↦ elim (leb_tells (suc col) c) [
-        | inl t ↦ rw (e.0, t.0) (moved i (omega arith) (omega arith) ∙ mid-before o xs w row at 0 k (i - 1) (c - 1) row1 row24 (omega arith) (omega arith) (omega arith) (omega arith))
-        | inr t ↦ rw (e.0, t.0) (front i (omega arith) ∙ mid-before o xs w row at 0 k i c row1 row24 (omega arith) (omega arith) (omega arith) (omega arith))
+        | inl t ↦ rw (e.0, t.0) (moved i (omega arith) (omega arith)
+            ∙ mid-before o xs w row at 0 k (i - 1) (c - 1) row1 row24 (omega arith) (omega arith) (omega arith)
+            (omega arith))
+        | inr t ↦ rw (e.0, t.0) (front i (omega arith)
+            ∙ mid-before o xs w row at 0 k i c row1 row24 (omega arith) (omega arith) (omega arith) (omega arith))
       ]
     ])
 
-pub insert_cells-row : (o : List ℕ) (xs ys : List Cell) (w row col n m at k : ℕ) → IsOrder o → length xs ≡ room → 1 ≤ row → row ≤ last_row → w ≤ stride
+pub insert_cells-row : (o : List ℕ) (xs ys : List Cell) (w row col n m at k : ℕ) → IsOrder o → length xs ≡ room
+    → 1 ≤ row → row ≤ last_row → w ≤ stride
     → 1 ≤ col → col ≤ w → m ≡ min n (w + 1 - col) → at ≡ start_of o row → k ≡ w → length ys ≡ length (mid_of at k xs)
     → ((i : ℕ) → col - 1 ≤ i → i < col - 1 + m → get_or ys i blank ≡ blank)
-    → ((i : ℕ) → col - 1 + m ≤ i → i < length (mid_of at k xs) → get_or ys i blank ≡ get_or (mid_of at k xs) (i - m) blank)
+    → ((i : ℕ) → col - 1 + m ≤ i → i < length (mid_of at k xs)
+    → get_or ys i blank ≡ get_or (mid_of at k xs) (i - m) blank)
     → ((i : ℕ) → i < col - 1 → get_or ys i blank ≡ get_or (mid_of at k xs) i blank)
     → grid_of w (stored o (put_mid at k xs ys)) ≡ insert_cells (grid_of w (stored o xs)) row col n
-insert_cells-row o xs ys w row col n m at k order long row1 row24 narrow col1 colw is_min here wide len gap moved front =
+insert_cells-row o xs ys w row col n m at k order long row1 row24 narrow col1 colw is_min here wide len gap moved front
+    =
     let below = start-below o order row row1 row24 in
     let mid : length (mid_of at k xs) ≡ k = length-mid_of at k xs (omega arith) in
     let long_part : length ys ≡ k = len ∙ mid in
-    row-rewritten o xs ys w row at k _ order long row1 row24 narrow here wide long_part (λ i c is low. elim (leb_tells (col + n) c) [
+    row-rewritten o xs ys w row at k _ order long row1 row24 narrow here wide long_part
+    (λ i c is low. elim (leb_tells (col + n) c) [
       | inl t ↦
           let same : m ≡ n = omega arith in
-          rw t.0 (moved i (omega arith) (omega arith) ∙ mid-before o xs w row at 0 k (i - m) (c - n) row1 row24 (omega arith) (omega arith) (omega arith) (omega arith))
+          rw t.0 (moved i (omega arith) (omega arith) ∙ mid-before o xs w row at 0 k (i - m) (c - n) row1 row24
+          (omega arith) (omega arith) (omega arith) (omega arith))
       | inr t ↦ elim (leb_tells col c) [
         | inl u ↦ rw (t.0, u.0) (gap i (omega arith) (omega arith))
-        | inr u ↦ rw (t.0, u.0) (front i (omega arith) ∙ mid-before o xs w row at 0 k i c row1 row24 (omega arith) (omega arith) (omega arith) (omega arith))
+        | inr u ↦ rw (t.0, u.0) (front i (omega arith)
+            ∙ mid-before o xs w row at 0 k i c row1 row24 (omega arith) (omega arith) (omega arith) (omega arith))
       ]
     ])
 
-pub delete_cells-row : (o : List ℕ) (xs ys : List Cell) (w row col n m at k : ℕ) → IsOrder o → length xs ≡ room → 1 ≤ row → row ≤ last_row → w ≤ stride
+pub delete_cells-row : (o : List ℕ) (xs ys : List Cell) (w row col n m at k : ℕ) → IsOrder o → length xs ≡ room
+    → 1 ≤ row → row ≤ last_row → w ≤ stride
     → 1 ≤ col → col ≤ w → m ≡ min n (w + 1 - col) → at ≡ start_of o row → k ≡ w → length ys ≡ length (mid_of at k xs)
-    → ((i : ℕ) → col - 1 ≤ i → i + m < length (mid_of at k xs) → get_or ys i blank ≡ get_or (mid_of at k xs) (i + m) blank)
+    → ((i : ℕ) → col - 1 ≤ i → i + m < length (mid_of at k xs)
+    → get_or ys i blank ≡ get_or (mid_of at k xs) (i + m) blank)
     → ((i : ℕ) → i < length (mid_of at k xs) → length (mid_of at k xs) ≤ i + m → get_or ys i blank ≡ blank)
     → ((i : ℕ) → i < col - 1 → get_or ys i blank ≡ get_or (mid_of at k xs) i blank)
     → grid_of w (stored o (put_mid at k xs ys)) ≡ delete_cells (grid_of w (stored o xs)) row col n
-delete_cells-row o xs ys w row col n m at k order long row1 row24 narrow col1 colw is_min here wide len moved end front =
+delete_cells-row o xs ys w row col n m at k order long row1 row24 narrow col1 colw is_min here wide len moved end front
+    =
     let below = start-below o order row row1 row24 in
     let mid : length (mid_of at k xs) ≡ k = length-mid_of at k xs (omega arith) in
     let long_part : length ys ≡ k = len ∙ mid in
-    row-rewritten o xs ys w row at k _ order long row1 row24 narrow here wide long_part (λ i c is low. elim (leb_tells col c) [
+    row-rewritten o xs ys w row at k _ order long row1 row24 narrow here wide long_part
+    (λ i c is low. elim (leb_tells col c) [
       | inl t ↦ elim (leb_tells (c + n) w) [
         | inl u ↦
             let same : m ≡ n = omega arith in
-            rw (t.0, u.0) (moved i (omega arith) (omega arith) ∙ mid-before o xs w row at 0 k (i + m) (c + n) row1 row24 (omega arith) (omega arith) (omega arith) (omega arith))
+            rw (t.0, u.0) (moved i (omega arith) (omega arith)
+            ∙ mid-before o xs w row at 0 k (i + m) (c + n) row1 row24 (omega arith) (omega arith) (omega arith)
+            (omega arith))
         | inr u ↦ rw (t.0, u.0) (end i (omega arith) (omega arith))
       ]
-      | inr t ↦ rw t.0 (front i (omega arith) ∙ mid-before o xs w row at 0 k i c row1 row24 (omega arith) (omega arith) (omega arith) (omega arith))
+      | inr t ↦ rw t.0 (front i (omega arith) ∙ mid-before o xs w row at 0 k i c row1 row24 (omega arith) (omega arith)
+          (omega arith) (omega arith))
     ])
 
 -- a column is among some columns, or before or after them
-pub among : (a b c : ℕ) → ((leb a c && leb c b ≡ true) × (a ≤ c) × (c ≤ b)) ⊎ ((leb a c && leb c b ≡ false) × ((c < a) ⊎ (b < c)))
+pub among : (a b c : ℕ) → ((leb a c && leb c b ≡ true) × (a ≤ c) × (c ≤ b))
+    ⊎ ((leb a c && leb c b ≡ false) × ((c < a) ⊎ (b < c)))
 among a b c = elim (leb_tells a c) [
-  | inl f ↦ elim (leb_tells c b) [ inl t ↦ inl (rw (f.0, t.0) refl, f.1, t.1) | inr t ↦ inr (rw (f.0, t.0) refl, inr t.1) ]
+  | inl f ↦ elim (leb_tells c b) [
+    | inl t ↦ inl (rw (f.0, t.0) refl, f.1, t.1)
+    | inr t ↦
+        inr (rw (f.0, t.0) refl, inr t.1)
+  ]
   | inr f ↦ inr (rw f.0 refl, inl f.1)
 ]
 
 -- the same, with the end left out
-pub among-before : (a b c : ℕ) → ((leb a c && ltb c b ≡ true) × (a ≤ c) × (c < b)) ⊎ ((leb a c && ltb c b ≡ false) × ((c < a) ⊎ (b ≤ c)))
+pub among-before : (a b c : ℕ) → ((leb a c && ltb c b ≡ true) × (a ≤ c) × (c < b))
+    ⊎ ((leb a c && ltb c b ≡ false) × ((c < a) ⊎ (b ≤ c)))
 among-before a b c = elim (leb_tells a c) [
-  | inl f ↦ elim (leb_tells (suc c) b) [ inl t ↦ inl (rw (f.0, t.0) refl, f.1, t.1) | inr t ↦ inr (rw (f.0, t.0) refl, inr (omega arith)) ]
+  | inl f ↦ elim (leb_tells (suc c) b) [
+    | inl t ↦ inl (rw (f.0, t.0) refl, f.1, t.1)
+    | inr t ↦
+        inr (rw (f.0, t.0) refl, inr (omega arith))
+  ]
   | inr f ↦ inr (rw f.0 refl, inl f.1)
 ]
 
-pub put_run-row : (o : List ℕ) (xs ys : List Cell) (w row col at k : ℕ) (codes : List ℕ) (like : Cell) → IsOrder o → length xs ≡ room → 1 ≤ row → row ≤ last_row → w ≤ stride
-    → 1 ≤ col → col + length codes ≤ w + 1 → at ≡ start_of o row + col - 1 → k ≡ length codes → length ys ≡ length (mid_of at k xs)
+pub put_run-row : (o : List ℕ) (xs ys : List Cell) (w row col at k : ℕ) (codes : List ℕ) (like : Cell) → IsOrder o
+    → length xs ≡ room → 1 ≤ row → row ≤ last_row → w ≤ stride
+    → 1 ≤ col → col + length codes ≤ w + 1 → at ≡ start_of o row + col - 1 → k ≡ length codes
+    → length ys ≡ length (mid_of at k xs)
     → ((i : ℕ) → i < length codes → get_or ys i blank ≡ cell_like like (get_or codes i 0))
     → grid_of w (stored o (put_mid at k xs ys)) ≡ put_run (grid_of w (stored o xs)) row col codes like
 put_run-row o xs ys w row col at k codes like order long row1 row24 narrow col1 fits here is_long len written =
@@ -175,8 +215,10 @@ put_run-row o xs ys w row col at k codes like order long row1 row24 narrow col1 
       | inr t ↦ rw t.0 refl
     ])
 
-pub erase-row : (o : List ℕ) (xs ys : List Cell) (w row from to at k : ℕ) (selective : Bool) → IsOrder o → length xs ≡ room → 1 ≤ row → row ≤ last_row → w ≤ stride
-    → 1 ≤ from → from ≤ to → to ≤ w → at ≡ start_of o row + from - 1 → k ≡ to + 1 - from → length ys ≡ length (mid_of at k xs)
+pub erase-row : (o : List ℕ) (xs ys : List Cell) (w row from to at k : ℕ) (selective : Bool) → IsOrder o
+    → length xs ≡ room → 1 ≤ row → row ≤ last_row → w ≤ stride
+    → 1 ≤ from → from ≤ to → to ≤ w → at ≡ start_of o row + from - 1 → k ≡ to + 1 - from
+    → length ys ≡ length (mid_of at k xs)
     → ((i : ℕ) → i < length (mid_of at k xs) → get_or ys i blank ≡ erased selective (get_or (mid_of at k xs) i blank))
     → grid_of w (stored o (put_mid at k xs ys)) ≡ erase (grid_of w (stored o xs)) row from to selective
 erase-row o xs ys w row from to at k selective order long row1 row24 narrow from1 from_to tow here is_long len written =
@@ -184,10 +226,12 @@ erase-row o xs ys w row from to at k selective order long row1 row24 narrow from
     let mid : length (mid_of at k xs) ≡ k = length-mid_of at k xs (omega arith) in
     let long_part : length ys ≡ k = len ∙ mid in
     part-written o xs ys w row at (from - 1) k
-    (λ c. if is_within from to c then erased selective (cell_at (grid_of w (stored o xs)) row c) else cell_at (grid_of w (stored o xs)) row c)
+    (λ c. if is_within from to c then erased selective (cell_at (grid_of w (stored o xs)) row c) else cell_at
+    (grid_of w (stored o xs)) row c)
     order long row1 row24 narrow (omega arith) (omega arith) long_part
     (λ i c is low. elim (among from to c) [
-      | inl t ↦ rw t.0 (written i (omega arith) ∙ ap (erased selective) (mid-before o xs w row at (from - 1) k i c row1 row24 (omega arith) (omega arith) low (omega (arith, t))))
+      | inl t ↦ rw t.0 (written i (omega arith) ∙ ap (erased selective)
+          (mid-before o xs w row at (from - 1) k i c row1 row24 (omega arith) (omega arith) low (omega (arith, t))))
       | inr t ↦ absurd (elim t.1 [ inl l ↦ omega arith | inr l ↦ omega arith ])
     ])
     (λ c c1 cw out. elim (among from to c) [
@@ -200,11 +244,13 @@ erase-row o xs ys w row from to at k selective order long row1 row24 narrow from
     ])
 
 -- rows that moved up, and blank ones where nothing came up
-pub scroll_up-rows : (o o' : List ℕ) (xs zs : List Cell) (w t b n m : ℕ) → 1 ≤ t → t ≤ b → b ≤ last_row → m ≡ min n (b + 1 - t)
+pub scroll_up-rows : (o o' : List ℕ) (xs zs : List Cell) (w t b n m : ℕ) → 1 ≤ t → t ≤ b → b ≤ last_row
+    → m ≡ min n (b + 1 - t)
     → ((r : ℕ) → t ≤ r → r + m ≤ b → start_of o' r ≡ start_of o (r + m))
     → ((r : ℕ) → 1 ≤ r → (r < t) ⊎ (b < r) → start_of o' r ≡ start_of o r)
     → ((r c : ℕ) → b + 1 - m ≤ r → r < b + 1 → 1 ≤ c → c ≤ w → stored o' zs r c ≡ blank)
-    → ((r c : ℕ) → 1 ≤ r → r ≤ last_row → (r < b + 1 - m) ⊎ (b + 1 ≤ r) → 1 ≤ c → c ≤ w → stored o' zs r c ≡ stored o' xs r c)
+    → ((r c : ℕ) → 1 ≤ r → r ≤ last_row → (r < b + 1 - m) ⊎ (b + 1 ≤ r) → 1 ≤ c → c ≤ w
+    → stored o' zs r c ≡ stored o' xs r c)
     → grid_of w (stored o' zs) ≡ scroll_up (grid_of w (stored o xs)) t b n
 scroll_up-rows o o' xs zs w t b n m t1 tb b24 is_min moved rest blanked kept =
     grid_of-same w _ _ (λ r c r1 r24 c1 cw. elim (among t b r) [
@@ -212,16 +258,21 @@ scroll_up-rows o o' xs zs w t b n m t1 tb b24 is_min moved rest blanked kept =
         | inl j ↦
             let same : m ≡ n = omega (arith, k) in
             let from : start_of o' r ≡ start_of o (r + n) = rw (← same) (moved r (omega (arith, k)) (omega arith)) in
-            rw (k.0, j.0) (kept r c r1 r24 (inl (omega (arith, k))) c1 cw ∙ ap (λ x. get_or xs (x + (c - 1)) blank) from ∙ before o xs w (r + n) c (omega arith) (omega arith) c1 cw)
+            rw (k.0, j.0) (kept r c r1 r24 (inl (omega (arith, k))) c1 cw
+            ∙ ap (λ x. get_or xs (x + (c - 1)) blank) from
+            ∙ before o xs w (r + n) c (omega arith) (omega arith) c1 cw)
         | inr j ↦ rw (k.0, j.0) (blanked r c (omega (arith, k)) (omega (arith, k)) c1 cw)
       ]
       | inr k ↦
-          let out : (r < b + 1 - m) ⊎ (b + 1 ≤ r) = elim k.1 [ inl l ↦ inl (omega arith) | inr l ↦ inr (omega arith) ] in
-          rw k.0 (kept r c r1 r24 out c1 cw ∙ ap (λ x. get_or xs (x + (c - 1)) blank) (rest r r1 k.1) ∙ before o xs w r c r1 r24 c1 cw)
+          let out : (r < b + 1 - m) ⊎ (b + 1 ≤ r) = elim k.1
+          [ inl l ↦ inl (omega arith) | inr l ↦ inr (omega arith) ] in
+          rw k.0 (kept r c r1 r24 out c1 cw ∙ ap (λ x. get_or xs (x + (c - 1)) blank) (rest r r1 k.1)
+          ∙ before o xs w r c r1 r24 c1 cw)
     ])
 
 -- rows that moved down, and blank ones where nothing came down
-pub scroll_down-rows : (o o' : List ℕ) (xs zs : List Cell) (w t b n m : ℕ) → 1 ≤ t → t ≤ b → b ≤ last_row → m ≡ min n (b + 1 - t)
+pub scroll_down-rows : (o o' : List ℕ) (xs zs : List Cell) (w t b n m : ℕ) → 1 ≤ t → t ≤ b → b ≤ last_row
+    → m ≡ min n (b + 1 - t)
     → ((r : ℕ) → t + m ≤ r → r ≤ b → start_of o' r ≡ start_of o (r - m))
     → ((r : ℕ) → 1 ≤ r → (r < t) ⊎ (b < r) → start_of o' r ≡ start_of o r)
     → ((r c : ℕ) → t ≤ r → r < t + m → 1 ≤ c → c ≤ w → stored o' zs r c ≡ blank)
@@ -232,17 +283,22 @@ scroll_down-rows o o' xs zs w t b n m t1 tb b24 is_min moved rest blanked kept =
       | inl k ↦ elim (leb_tells (t + n) r) [
         | inl j ↦
             let same : m ≡ n = omega (arith, k) in
-            let from : start_of o' r ≡ start_of o (r - n) = rw (← same) (moved r (omega (arith, k)) (omega (arith, k))) in
-            rw (k.0, j.0) (kept r c r1 r24 (inr (omega (arith, k))) c1 cw ∙ ap (λ x. get_or xs (x + (c - 1)) blank) from ∙ before o xs w (r - n) c (omega arith) (omega arith) c1 cw)
+            let from : start_of o' r ≡ start_of o (r - n) =
+            rw (← same) (moved r (omega (arith, k)) (omega (arith, k))) in
+            rw (k.0, j.0) (kept r c r1 r24 (inr (omega (arith, k))) c1 cw
+            ∙ ap (λ x. get_or xs (x + (c - 1)) blank) from
+            ∙ before o xs w (r - n) c (omega arith) (omega arith) c1 cw)
         | inr j ↦ rw (k.0, j.0) (blanked r c (omega (arith, k)) (omega (arith, k)) c1 cw)
       ]
       | inr k ↦
           let out : (r < t) ⊎ (t + m ≤ r) = elim k.1 [ inl l ↦ inl (omega arith) | inr l ↦ inr (omega arith) ] in
-          rw k.0 (kept r c r1 r24 out c1 cw ∙ ap (λ x. get_or xs (x + (c - 1)) blank) (rest r r1 k.1) ∙ before o xs w r c r1 r24 c1 cw)
+          rw k.0 (kept r c r1 r24 out c1 cw ∙ ap (λ x. get_or xs (x + (c - 1)) blank) (rest r r1 k.1)
+          ∙ before o xs w r c r1 r24 c1 cw)
     ])
 
 -- one row is written over with one cell
-pub row-filled : (o : List ℕ) (xs ys : List Cell) (w row at k : ℕ) (cell : Cell) → IsOrder o → length xs ≡ room → 1 ≤ row → row ≤ last_row → w ≤ stride
+pub row-filled : (o : List ℕ) (xs ys : List Cell) (w row at k : ℕ) (cell : Cell) → IsOrder o → length xs ≡ room
+    → 1 ≤ row → row ≤ last_row → w ≤ stride
     → at ≡ start_of o row → k ≡ w → length ys ≡ length (mid_of at k xs)
     → ((i : ℕ) → i < length (mid_of at k xs) → get_or ys i blank ≡ cell)
     → ((c : ℕ) → 1 ≤ c → c ≤ w → stored o (put_mid at k xs ys) row c ≡ cell)
@@ -273,6 +329,7 @@ pub edited : (cells : Vec Cell) (o : List ℕ) (w : ℕ) (xs : List Cell) (at k 
     → grid_of w (stored o (put_mid at k xs ys)) ≡ map (grid_of w (stored o xs))
     → grid_of w (stored o (with_items cells (put_mid at k xs ys)).items) ≡ map (grid_of w (stored o cells.items))
 edited cells o w xs at k ys map same len fact =
-    ap (λ (x : List Cell). grid_of w (stored o x)) (with_items_is cells (put_mid at k xs ys) (same_len_mid at k xs ys len ∙ ap length same ∙ sym cells.ok.0))
+    ap (λ (x : List Cell). grid_of w (stored o x))
+    (with_items_is cells (put_mid at k xs ys) (same_len_mid at k xs ys len ∙ ap length same ∙ sym cells.ok.0))
     ∙ fact
     ∙ ap (λ (x : List Cell). map (grid_of w (stored o x))) same

@@ -18,16 +18,20 @@ length-order o h = length_permutation (range_with_len 0 last_row) o h
 pub order-below : (o : List ℕ) → IsOrder o → (i : ℕ) → i < last_row → get_or o i 0 < last_row
 order-below o h i low =
     let fits : i < length o = rw (length-order o h) low in
-    All-get_or (λ n. n < last_row) o i 0 fits (All-permutation (λ n. n < last_row) (range_with_len 0 last_row) o h (λ k d within.
+    All-get_or (λ n. n < last_row) o i 0 fits (All-permutation (λ n. n < last_row) (range_with_len 0 last_row) o h
+    (λ k d within.
     let below : k < last_row = within in
     rw (get_or-range_with_len 0 last_row k d below) (omega arith)))
 
 -- each at one place
-pub order-apart : (o : List ℕ) → IsOrder o → (i j : ℕ) → i < last_row → j < last_row → i ≢ j → get_or o i 0 ≢ get_or o j 0
+pub order-apart : (o : List ℕ) → IsOrder o → (i j : ℕ) → i < last_row → j < last_row → i ≢ j
+    → get_or o i 0 ≢ get_or o j 0
 order-apart o h i j li lj ne =
-    let first : IsDistinct eqb (range_with_len 0 last_row) = IsDistinct-from_apart eqb (range_with_len 0 last_row) (λ a b d ab within.
+    let first : IsDistinct eqb (range_with_len 0 last_row) =
+    IsDistinct-from_apart eqb (range_with_len 0 last_row) (λ a b d ab within.
     let below : b < last_row = within in
-    rw (get_or-range_with_len 0 last_row a d (omega arith), get_or-range_with_len 0 last_row b d below) (ne_eqb (0 + a) (0 + b) (λ e. omega arith))) in
+    rw (get_or-range_with_len 0 last_row a d (omega arith), get_or-range_with_len 0 last_row b d below)
+    (ne_eqb (0 + a) (0 + b) (λ e. omega arith))) in
     let now = IsDistinct-IsPermutation eqb (λ x y. grind (arith, nat_tests)) (range_with_len 0 last_row) o h first in
     let long = length-order o h in
     elim (cases_lt i j) [

@@ -42,7 +42,8 @@ same-bytes : (low high low_2 high_2 : ℕ) → low ≤ 1 → low_2 ≤ 1
 same-bytes low high low_2 high_2 small small_2 h = (omega (arith, small, small_2, h), omega (arith, small, small_2, h))
 
 -- cells of one word are the same
-pub same-word : (a b : Cell) → encoded_glyph (encoding_of a.glyph) ≡ a.glyph → encoded_glyph (encoding_of b.glyph) ≡ b.glyph
+pub same-word : (a b : Cell) → encoded_glyph (encoding_of a.glyph) ≡ a.glyph
+    → encoded_glyph (encoding_of b.glyph) ≡ b.glyph
     → encoding_of a.glyph < 0x100 → encoding_of b.glyph < 0x100 → cell_word a ≡ cell_word b → a ≡ b
 same-word a b back back_2 small small_2 h =
     let parts = same-parts (encoding_of a.glyph) (bit a.rendition.bold + 0x100 * (bit a.rendition.underline

@@ -1,5 +1,6 @@
 -- Each map of a sound grid is one.
-use Rattle.std.proofs.Common.{◌≡◌, inl, inr, ℕ, ◌+◌, ◌-◌, Bool, true, false, ◌==◌, if◌then◌else◌, List, length, All, IsTrue, arith, refl, sym, ◌∙◌}
+use Rattle.std.proofs.Common.{◌≡◌, inl, inr, ℕ, ◌+◌, ◌-◌, Bool, true, false, ◌==◌, if◌then◌else◌, List, length, All}
+use Rattle.std.proofs.Common.{IsTrue, arith, refl, sym, ◌∙◌}
 use Rattle.std.proofs.Math.Dec.{leb, ltb}
 use Rattle.std.specs.List.{length_refill}
 use Rattle.std.specs.Global.{Vec}
@@ -8,7 +9,9 @@ use Rattle.vt_glyph.specs.Tables.{IsGlyph, is_glyph}
 use Rattle.vt_screen.specs.declared.cell.Cell.{Cell}
 use Rattle.vt_screen.specs.Order.{room}
 use Rattle.vt_screen.specs.Cells.{blank, erased, cell_like}
-use Rattle.vt_screen.specs.Grid.{Grid, IsSoundGrid, grid_of, cell_at, with_row, blank_grid, columns, put, put_inserting, put_run, insert_cells, delete_cells, erase, columns_of, scroll_up, scroll_down, fill, is_within}
+use Rattle.vt_screen.specs.Grid.{Grid, IsSoundGrid, grid_of, cell_at, with_row, blank_grid, columns, put, put_inserting}
+use Rattle.vt_screen.specs.Grid.{put_run, insert_cells, delete_cells, erase, columns_of, scroll_up, scroll_down, fill}
+use Rattle.vt_screen.specs.Grid.{is_within}
 use Rattle.vt_screen.proofs.Places.{IsGrid-grid_of}
 use Rattle.vt_screen.proofs.Maps.{among-before}
 use Rattle.vt_screen.proofs.Composed.{test-at, test-formula}
@@ -45,17 +48,20 @@ erased-shown true cell h = chosen cell.protected cell _ h refl
 erased-shown false cell h = blank-shown
 
 -- a formula that gives glyphs
-made : (g : Grid) (f : ℕ → ℕ → Cell) → IsSoundGrid g → ((r c : ℕ) → IsTrue (shown (f r c))) → IsSoundGrid (grid_of g.width f)
+made : (g : Grid) (f : ℕ → ℕ → Cell) → IsSoundGrid g → ((r c : ℕ) → IsTrue (shown (f r c)))
+    → IsSoundGrid (grid_of g.width f)
 unfolding shown
 made g f sound each = record {
   shape = IsGrid-grid_of g.width f sound.shape.width;
   glyphs = test-formula (λ cell. is_glyph cell.glyph) g.width f (λ r c r1 r24 c1 cw. each r c);
 }
 
-row-sound : (g : Grid) (row : ℕ) (f : ℕ → Cell) → IsSoundGrid g → ((c : ℕ) → IsTrue (shown (f c))) → IsSoundGrid (with_row g row f)
+row-sound : (g : Grid) (row : ℕ) (f : ℕ → Cell) → IsSoundGrid g → ((c : ℕ) → IsTrue (shown (f c)))
+    → IsSoundGrid (with_row g row f)
 row-sound g row f sound each = made g _ sound (λ r c. chosen (r == row) _ _ (each c) (at g r c sound))
 
-pub put-sound : (g : Grid) (row col : ℕ) (cell : Cell) → IsSoundGrid g → IsGlyph cell.glyph → IsSoundGrid (put g row col cell)
+pub put-sound : (g : Grid) (row col : ℕ) (cell : Cell) → IsSoundGrid g → IsGlyph cell.glyph
+    → IsSoundGrid (put g row col cell)
 put-sound g row col cell sound glyph =
     row-sound g row _ sound (λ c. chosen (c == col) _ _ (by_glyph cell glyph) (at g row c sound))
 
@@ -73,14 +79,16 @@ put_run-sound g row col glyphs like sound are =
     ])
 
 pub insert_cells-sound : (g : Grid) (row col n : ℕ) → IsSoundGrid g → IsSoundGrid (insert_cells g row col n)
-insert_cells-sound g row col n sound = row-sound g row _ sound (λ c. chosen (leb (col + n) c) _ _ (at g row (c - n) sound)
+insert_cells-sound g row col n sound = row-sound g row _ sound
+    (λ c. chosen (leb (col + n) c) _ _ (at g row (c - n) sound)
     (chosen (leb col c) _ _ blank-shown (at g row c sound)))
 
 pub delete_cells-sound : (g : Grid) (row col n : ℕ) → IsSoundGrid g → IsSoundGrid (delete_cells g row col n)
 delete_cells-sound g row col n sound = row-sound g row _ sound (λ c. chosen (leb col c) _ _
     (chosen (leb (c + n) g.width) _ _ (at g row (c + n) sound) blank-shown) (at g row c sound))
 
-pub erase-sound : (g : Grid) (row from to : ℕ) (selective : Bool) → IsSoundGrid g → IsSoundGrid (erase g row from to selective)
+pub erase-sound : (g : Grid) (row from to : ℕ) (selective : Bool) → IsSoundGrid g
+    → IsSoundGrid (erase g row from to selective)
 erase-sound g row from to selective sound = made g _ sound (λ r c.
     chosen (columns_of row from to r c) _ _ (erased-shown selective _ (at g r c sound)) (at g r c sound))
 

@@ -1,6 +1,7 @@
 -- The grid: the cells of all places, and its maps. A map is a formula for the new cell at each place.
 -- Rows and columns count from 1. (VT220 manual, chapter 4, for what each control function does)
-use Rattle.std.specs.Prelude.{◌≡◌, ℕ, ◌+◌, ◌-◌, ◌*◌, ◌/◌, ◌%◌, List, map, length, All, IsTrue, Bool, ◌&&◌, ◌==◌, nat_le, nat_lt, if◌then◌else◌, slice_index, slice_index_or}
+use Rattle.std.specs.Prelude.{◌≡◌, ℕ, ◌+◌, ◌-◌, ◌*◌, ◌/◌, ◌%◌, List, map, length, All, IsTrue, Bool, ◌&&◌, ◌==◌, nat_le}
+use Rattle.std.specs.Prelude.{nat_lt, if◌then◌else◌, slice_index, slice_index_or}
 use Rattle.std.specs.List.{range_with_len}
 use Rattle.vt_glyph.specs.Tables.{IsGlyph}
 use Rattle.vt_screen.specs.declared.cell.Cell.{Cell}
@@ -81,7 +82,8 @@ put_inserting g row col cell = with_row g row (λ c.
 -- glyphs are written from a place on, each like the given cell
 abbrev pub put_run : Grid → ℕ → ℕ → List ℕ → Cell → Grid
 put_run g row col glyphs like = with_row g row (λ c.
-    if nat_le col c && nat_lt c (col + length glyphs) then cell_like like (slice_index glyphs (c - col)) else cell_at g row c)
+    if nat_le col c && nat_lt c (col + length glyphs) then cell_like like (slice_index glyphs (c - col)) else cell_at g
+    row c)
 
 -- n blank cells come in at a place; those from there on move right, and what passes the last column is lost (ICH)
 abbrev pub insert_cells : Grid → ℕ → ℕ → ℕ → Grid
@@ -97,7 +99,8 @@ delete_cells g row col n = with_row g row (λ c.
 
 -- the places of an area are erased (ED, EL, ECH; selectively DECSED, DECSEL)
 abbrev pub erase_area : Grid → (ℕ → ℕ → Bool) → Bool → Grid
-erase_area g area selective = grid_of g.width (λ r c. if area r c then erased selective (cell_at g r c) else cell_at g r c)
+erase_area g area selective = grid_of g.width (λ r c. if area r c then erased selective (cell_at g r c) else cell_at g
+    r c)
 
 -- some columns of one row
 abbrev pub columns_of : ℕ → ℕ → ℕ → ℕ → ℕ → Bool

@@ -17,12 +17,20 @@ returns-then-line-gt80 c = λ k below.
     let end : List Cell = c.fill_cells-then-line-gt80.new.cells in
     let taken : length (take 80 c.args.line.now) ≡ 80 = rw length-take (omega arith) in
     let long : length front ≡ 80 = omega (arith, taken, c.fill_cells.auto.cells) in
-    let whole : length line ≡ length c.args.line.now = omega (arith, long, length-append front (drop 80 c.args.line.now), length-drop 80 c.args.line.now) in
-    let rest : length end ≡ length line - 80 = omega (arith, c.fill_cells-then-line-gt80.auto.cells, length-mid_of 80 (length line - 80) line (omega (arith, whole))) in
+    let whole : length line ≡ length c.args.line.now =
+    omega (arith, long, length-append front (drop 80 c.args.line.now), length-drop 80 c.args.line.now) in
+    let rest : length end ≡ length line - 80 = omega (
+      arith,
+      c.fill_cells-then-line-gt80.auto.cells,
+      length-mid_of 80 (length line - 80) line
+          (omega (arith, whole)),
+    ) in
     elim (cases_lt k 80) [
       | inl low ↦ before-put_mid 80 (length line - 80) line end k blank (omega (arith, whole)) low
-          ∙ get_or-append front (drop 80 c.args.line.now) blank k (omega (arith, long)) ∙ c.fill_cells.ensures k (omega (arith, long))
-      | inr high ↦ within-put_mid 80 (length line - 80) line end k blank (omega (arith, whole)) rest (omega arith) (omega (arith, whole))
+          ∙ get_or-append front (drop 80 c.args.line.now) blank k (omega (arith, long))
+          ∙ c.fill_cells.ensures k (omega (arith, long))
+      | inr high ↦ within-put_mid 80 (length line - 80) line end k blank (omega (arith, whole)) rest (omega arith)
+          (omega (arith, whole))
           ∙ c.fill_cells-then-line-gt80.ensures (k - 80) (omega (arith, whole))
     ]
 
@@ -33,5 +41,7 @@ returns-else-line-gt80 c = λ k below.
     let line : List Cell = front ++ drop 80 c.args.line.now in
     let taken : length (take 80 c.args.line.now) ≡ 80 = rw length-take (omega arith) in
     let long : length front ≡ 80 = omega (arith, taken, c.fill_cells.auto.cells) in
-    let whole : length line ≡ length c.args.line.now = omega (arith, long, length-append front (drop 80 c.args.line.now), length-drop 80 c.args.line.now) in
-    get_or-append front (drop 80 c.args.line.now) blank k (omega (arith, long, whole)) ∙ c.fill_cells.ensures k (omega (arith, long, whole))
+    let whole : length line ≡ length c.args.line.now =
+    omega (arith, long, length-append front (drop 80 c.args.line.now), length-drop 80 c.args.line.now) in
+    get_or-append front (drop 80 c.args.line.now) blank k (omega (arith, long, whole))
+    ∙ c.fill_cells.ensures k (omega (arith, long, whole))

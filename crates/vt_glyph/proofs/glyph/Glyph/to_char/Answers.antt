@@ -7,5 +7,6 @@ use Rattle.vt_glyph.proofs.glyph.Glyph.to_char.Goals as goal
 
 pub returns-clause-value : goal.returns-clause-value
 returns-clause-value c =
-    let e : slice_index CHARACTERS c.self.inside.byte ≡ encoded_glyph c.self.inside.byte = character_at _ (omega arith) c.self.invariant.0 in
+    let e : slice_index CHARACTERS c.self.inside.byte ≡ encoded_glyph c.self.inside.byte =
+    character_at _ (omega arith) c.self.invariant.0 in
     search (rules, e, c.self.view_is)

@@ -7,4 +7,5 @@ encoded-requires c = rw c.encodings.ensures (IsEncoding-table_entry c.args.self 
 
 pub returns-clause-value : goal.returns-clause-value
 returns-clause-value c =
-    c.encoded.ensures ∙ rw c.encodings.ensures (encoded_glyph-table_entry c.args.self c.args.code c.requires.0 c.requires.1)
+    c.encoded.ensures ∙ rw c.encodings.ensures (encoded_glyph-table_entry c.args.self c.args.code c.requires.0
+    c.requires.1)

@@ -9,13 +9,19 @@ use Rattle.vt_screen.proofs.order.RowOrder.move_up_once.Goals as goal
 pub invariant_of-self : goal.invariant_of-self
 invariant_of-self c =
     IsPermutation-trans (range_with_len 0 last_row) c.self.inside.rows _ c.self.invariant
-    (IsPermutation-put_mid (c.args.top - 1) (c.args.bottom - (c.args.top - 1)) c.self.inside.rows c.move_first_behind.new.rows c.move_first_behind.ensures.permutation)
+    (IsPermutation-put_mid (c.args.top - 1) (c.args.bottom - (c.args.top - 1)) c.self.inside.rows
+    c.move_first_behind.new.rows c.move_first_behind.ensures.permutation)
 
 pub returns-clause-outside : goal.returns-clause-outside
 returns-clause-outside c = λ r r1 h.
     let long = c.self.told in
-    let len : length c.move_first_behind.new.rows ≡ c.args.bottom - (c.args.top - 1) = c.move_first_behind.auto.rows ∙ length-mid_of (c.args.top - 1) (c.args.bottom - (c.args.top - 1)) c.self.inside.rows (omega arith) in
+    let len : length c.move_first_behind.new.rows ≡ c.args.bottom - (c.args.top - 1) = c.move_first_behind.auto.rows
+    ∙ length-mid_of (c.args.top - 1) (c.args.bottom - (c.args.top - 1)) c.self.inside.rows (omega arith) in
     ap (λ n. n * stride) (elim h [
-      | inl l ↦ before-put_mid (c.args.top - 1) (c.args.bottom - (c.args.top - 1)) c.self.inside.rows c.move_first_behind.new.rows (r - 1) 0 (omega arith) (omega arith) ∙ ap (λ x. get_or x (r - 1) 0) c.self.view_is
-      | inr l ↦ after-put_mid (c.args.top - 1) (c.args.bottom - (c.args.top - 1)) c.self.inside.rows c.move_first_behind.new.rows (r - 1) 0 (omega arith) len (omega arith) ∙ ap (λ x. get_or x (r - 1) 0) c.self.view_is
+      | inl l ↦ before-put_mid (c.args.top - 1) (c.args.bottom - (c.args.top - 1)) c.self.inside.rows
+          c.move_first_behind.new.rows (r - 1) 0 (omega arith) (omega arith)
+          ∙ ap (λ x. get_or x (r - 1) 0) c.self.view_is
+      | inr l ↦ after-put_mid (c.args.top - 1) (c.args.bottom - (c.args.top - 1)) c.self.inside.rows
+          c.move_first_behind.new.rows (r - 1) 0 (omega arith) len (omega arith)
+          ∙ ap (λ x. get_or x (r - 1) 0) c.self.view_is
     ])

@@ -15,11 +15,17 @@ returns-clause-grid c =
     let long : length c.deref_mut.result.now ≡ room = ap length same ∙ c.self.invariant.0 in
     let at = c.start-start.result + c.args.from - 1 in
     let k = c.start-start.result + c.args.to - (c.start-start.result + c.args.from - 1) in
-    rw (← c.self.view_is) (edited c.self.inside.cells c.self.inside.order c.self.inside.width c.deref_mut.result.now at k c.erase_cells.new.cells (λ g. erase g c.args.row c.args.from c.args.to c.args.selective) same c.erase_cells.auto.cells
-    (erase-row c.self.inside.order c.deref_mut.result.now c.erase_cells.new.cells c.self.inside.width c.args.row c.args.from c.args.to at k c.args.selective c.start-start.ensures.order long (omega arith) (omega arith) (omega arith) (omega arith) (omega arith) (omega arith) (omega arith) (omega arith) c.erase_cells.auto.cells c.erase_cells.ensures))
+    rw (← c.self.view_is) (edited c.self.inside.cells c.self.inside.order c.self.inside.width c.deref_mut.result.now at
+    k c.erase_cells.new.cells (λ g. erase g c.args.row c.args.from c.args.to c.args.selective) same
+    c.erase_cells.auto.cells
+    (erase-row c.self.inside.order c.deref_mut.result.now c.erase_cells.new.cells c.self.inside.width c.args.row
+    c.args.from c.args.to at k c.args.selective c.start-start.ensures.order long (omega arith) (omega arith)
+    (omega arith) (omega arith) (omega arith) (omega arith) (omega arith) (omega arith) c.erase_cells.auto.cells
+    c.erase_cells.ensures))
 
 pub returns-clause-sound : goal.returns-clause-sound
-returns-clause-sound c = subst IsSoundGrid (sym (returns-clause-grid c)) (erase-sound c.args.self.now c.args.row c.args.from c.args.to c.args.selective
+returns-clause-sound c = subst IsSoundGrid (sym (returns-clause-grid c))
+    (erase-sound c.args.self.now c.args.row c.args.from c.args.to c.args.selective
     (subst IsSoundGrid c.self.view_is c.self.invariant.1))
 
 pub invariant_of-self : goal.invariant_of-self

@@ -9,9 +9,11 @@ use Rattle.vt_screen.proofs.screen.Screen.fill.Goals as goal
 
 pub returns-clause-grid : goal.returns-clause-grid
 returns-clause-grid c =
-    let whole = with_items_is c.self.inside.cells c.fill_rows.new.cells (c.fill_rows.auto.cells ∙ ap length c.deref_mut.ensures.value ∙ sym c.self.inside.cells.ok.0) in
+    let whole = with_items_is c.self.inside.cells c.fill_rows.new.cells
+    (c.fill_rows.auto.cells ∙ ap length c.deref_mut.ensures.value ∙ sym c.self.inside.cells.ok.0) in
     rw (← c.self.view_is) (ap (λ (x : List Cell). grid_of c.self.inside.width (stored c.self.inside.order x)) whole
-    ∙ grid_of-same c.self.inside.width _ _ (λ r col r1 r24 col1 colw. c.fill_rows.ensures.inside r col r1 (omega arith) col1 colw))
+    ∙ grid_of-same c.self.inside.width _ _ (λ r col r1 r24 col1 colw. c.fill_rows.ensures.inside r col r1 (omega arith)
+    col1 colw))
 
 pub returns-clause-sound : goal.returns-clause-sound
 returns-clause-sound c = subst IsSoundGrid (sym (returns-clause-grid c)) (fill-sound c.args.self.now c.args.cell

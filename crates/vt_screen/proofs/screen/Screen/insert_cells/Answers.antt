@@ -15,12 +15,20 @@ returns-clause-grid c =
     let long : length c.deref_mut.result.now ≡ room = ap length same ∙ c.self.invariant.0 in
     let at = c.start-start.result in
     let k = c.start-start.result + c.self.inside.width - c.start-start.result in
-    let count : c.min-count.result ≡ min c.args.n (c.self.inside.width + 1 - c.args.column) = omega (arith, c.min-count.ensures) in
-    rw (← c.self.view_is) (edited c.self.inside.cells c.self.inside.order c.self.inside.width c.deref_mut.result.now at k c.insert_blanks.new.line (λ g. insert_cells g c.args.row c.args.column c.args.n) same c.insert_blanks.auto.line
-    (insert_cells-row c.self.inside.order c.deref_mut.result.now c.insert_blanks.new.line c.self.inside.width c.args.row c.args.column c.args.n c.min-count.result at k c.start-start.ensures.order long (omega arith) (omega arith) (omega arith) (omega arith) (omega arith) count c.start-start.ensures.place (omega arith) c.insert_blanks.auto.line c.insert_blanks.ensures.gap c.insert_blanks.ensures.moved c.insert_blanks.ensures.front))
+    let count : c.min-count.result ≡ min c.args.n (c.self.inside.width + 1 - c.args.column) =
+    omega (arith, c.min-count.ensures) in
+    rw (← c.self.view_is) (edited c.self.inside.cells c.self.inside.order c.self.inside.width c.deref_mut.result.now at
+    k c.insert_blanks.new.line (λ g. insert_cells g c.args.row c.args.column c.args.n) same
+    c.insert_blanks.auto.line
+    (insert_cells-row c.self.inside.order c.deref_mut.result.now c.insert_blanks.new.line c.self.inside.width
+    c.args.row c.args.column c.args.n c.min-count.result at k c.start-start.ensures.order long (omega arith)
+    (omega arith) (omega arith) (omega arith) (omega arith) count c.start-start.ensures.place (omega arith)
+    c.insert_blanks.auto.line c.insert_blanks.ensures.gap c.insert_blanks.ensures.moved
+    c.insert_blanks.ensures.front))
 
 pub returns-clause-sound : goal.returns-clause-sound
-returns-clause-sound c = subst IsSoundGrid (sym (returns-clause-grid c)) (insert_cells-sound c.args.self.now c.args.row c.args.column c.args.n
+returns-clause-sound c = subst IsSoundGrid (sym (returns-clause-grid c))
+    (insert_cells-sound c.args.self.now c.args.row c.args.column c.args.n
     (subst IsSoundGrid c.self.view_is c.self.invariant.1))
 
 pub invariant_of-self : goal.invariant_of-self

@@ -9,11 +9,14 @@ pub returns-clause-grid : goal.returns-clause-grid
 returns-clause-grid c =
     let width : c.self.inside.width ≡ c.args.self.now.width = ap (λ (g : Grid). g.width) c.self.view_is in
     let narrow = width-bounds c.self.inside.width c.self.invariant.1.shape.width in
-    rw (← c.self.view_is) (put-row c.self.inside.order c.self.inside.cells.items c.self.inside.width c.args.row c.args.column _ c.args.cell
-    c.start-start.ensures.order c.self.invariant.0 (omega arith) (omega arith) (omega arith) (omega arith) (omega arith) (omega arith))
+    rw (← c.self.view_is) (put-row c.self.inside.order c.self.inside.cells.items c.self.inside.width c.args.row
+    c.args.column _ c.args.cell
+    c.start-start.ensures.order c.self.invariant.0 (omega arith) (omega arith) (omega arith) (omega arith)
+    (omega arith) (omega arith))
 
 pub returns-clause-sound : goal.returns-clause-sound
-returns-clause-sound c = subst IsSoundGrid (sym (returns-clause-grid c)) (put-sound c.args.self.now c.args.row c.args.column c.args.cell
+returns-clause-sound c = subst IsSoundGrid (sym (returns-clause-grid c))
+    (put-sound c.args.self.now c.args.row c.args.column c.args.cell
     (subst IsSoundGrid c.self.view_is c.self.invariant.1) c.to_char.ensures.is_glyph)
 
 pub invariant_of-self : goal.invariant_of-self

@@ -22,12 +22,23 @@ returns-clause-grid c =
     let k = c.start.result + c.args.column - 1 + length c.args.bytes.now - (c.start.result + c.args.column - 1) in
     let glyphs : List ℕ = map (glyph_in_use c.args.table.now) c.args.bytes.now in
     let count : length glyphs ≡ length c.args.bytes.now = length-map c.args.bytes.now (glyph_in_use c.args.table.now) in
-    rw (← c.self.view_is) (edited c.self.inside.cells c.self.inside.order c.self.inside.width c.deref_mut.result.now at k c.write_graphics.new.cells (λ g. put_run g c.args.row c.args.column glyphs c.args.like) same c.write_graphics.auto.cells
-    (put_run-row c.self.inside.order c.deref_mut.result.now c.write_graphics.new.cells c.self.inside.width c.args.row c.args.column at k glyphs c.args.like c.start.ensures.order long (omega arith) (omega arith) (omega arith) (omega arith) (omega arith) (omega (arith, count)) (omega (arith, count)) c.write_graphics.auto.cells (λ i below. c.write_graphics.ensures i (omega (arith, count)) ∙ ap (cell_like c.args.like) (sym (get_or-map (glyph_in_use c.args.table.now) c.args.bytes.now i 0 0 (omega (arith, count)))))))
+    rw (← c.self.view_is) (edited c.self.inside.cells c.self.inside.order c.self.inside.width c.deref_mut.result.now at
+    k c.write_graphics.new.cells (λ g. put_run g c.args.row c.args.column glyphs c.args.like) same
+    c.write_graphics.auto.cells
+    (put_run-row c.self.inside.order c.deref_mut.result.now c.write_graphics.new.cells c.self.inside.width c.args.row
+    c.args.column at k glyphs c.args.like c.start.ensures.order long (omega arith) (omega arith) (omega arith)
+    (omega arith) (omega arith) (omega (arith, count)) (omega (arith, count)) c.write_graphics.auto.cells
+    (λ i below. c.write_graphics.ensures i (omega (arith, count))
+    ∙ ap (cell_like c.args.like) (sym (get_or-map (glyph_in_use c.args.table.now) c.args.bytes.now i 0 0
+    (omega (arith, count)))))))
 
 pub returns-clause-sound : goal.returns-clause-sound
-returns-clause-sound c = subst IsSoundGrid (sym (returns-clause-grid c)) (put_run-sound c.args.self.now c.args.row c.args.column (map (glyph_in_use c.args.table.now) c.args.bytes.now) c.args.like
-    (subst IsSoundGrid c.self.view_is c.self.invariant.1) (All-map IsGlyph (glyph_in_use c.args.table.now) c.args.bytes.now (λ k d h. c.glyphs.ensures.in_use _ _ (c.requires.bytes k d h))))
+returns-clause-sound c = subst IsSoundGrid (sym (returns-clause-grid c))
+    (put_run-sound c.args.self.now c.args.row c.args.column (map (glyph_in_use c.args.table.now) c.args.bytes.now)
+    c.args.like
+    (subst IsSoundGrid c.self.view_is c.self.invariant.1)
+    (All-map IsGlyph (glyph_in_use c.args.table.now) c.args.bytes.now
+    (λ k d h. c.glyphs.ensures.in_use _ _ (c.requires.bytes k d h))))
 
 pub invariant_of-self : goal.invariant_of-self
 invariant_of-self c =

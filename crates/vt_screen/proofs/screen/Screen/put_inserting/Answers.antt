@@ -15,11 +15,17 @@ returns-clause-grid c =
     let long : length c.deref_mut.result.now ≡ room = ap length same ∙ c.self.invariant.0 in
     let at = c.start-start.result in
     let k = c.start-start.result + c.self.inside.width - c.start-start.result in
-    rw (← c.self.view_is) (edited c.self.inside.cells c.self.inside.order c.self.inside.width c.deref_mut.result.now at k c.insert_cell.new.line (λ g. put_inserting g c.args.row c.args.column c.args.cell) same c.insert_cell.auto.line
-    (put_inserting-row c.self.inside.order c.deref_mut.result.now c.insert_cell.new.line c.self.inside.width c.args.row c.args.column at k c.args.cell c.start-start.ensures.order long (omega arith) (omega arith) (omega arith) (omega arith) (omega arith) c.start-start.ensures.place (omega arith) c.insert_cell.auto.line c.insert_cell.ensures.here c.insert_cell.ensures.moved c.insert_cell.ensures.front))
+    rw (← c.self.view_is) (edited c.self.inside.cells c.self.inside.order c.self.inside.width c.deref_mut.result.now at
+    k c.insert_cell.new.line (λ g. put_inserting g c.args.row c.args.column c.args.cell) same
+    c.insert_cell.auto.line
+    (put_inserting-row c.self.inside.order c.deref_mut.result.now c.insert_cell.new.line c.self.inside.width c.args.row
+    c.args.column at k c.args.cell c.start-start.ensures.order long (omega arith) (omega arith) (omega arith)
+    (omega arith) (omega arith) c.start-start.ensures.place (omega arith) c.insert_cell.auto.line
+    c.insert_cell.ensures.here c.insert_cell.ensures.moved c.insert_cell.ensures.front))
 
 pub returns-clause-sound : goal.returns-clause-sound
-returns-clause-sound c = subst IsSoundGrid (sym (returns-clause-grid c)) (put_inserting-sound c.args.self.now c.args.row c.args.column c.args.cell
+returns-clause-sound c = subst IsSoundGrid (sym (returns-clause-grid c))
+    (put_inserting-sound c.args.self.now c.args.row c.args.column c.args.cell
     (subst IsSoundGrid c.self.view_is c.self.invariant.1) c.to_char.ensures.is_glyph)
 
 pub invariant_of-self : goal.invariant_of-self

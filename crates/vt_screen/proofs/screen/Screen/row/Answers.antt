@@ -19,10 +19,14 @@ returns-clause-cells c =
     let same = c.deref.ensures.value in
     let long : length c.deref.result.now ≡ room = ap length same ∙ c.self.invariant.0 in
     let k : c.start-start.result + c.self.inside.width - c.start-start.result ≡ c.self.inside.width = omega arith in
-    let len = length-mid_of c.start-start.result (c.start-start.result + c.self.inside.width - c.start-start.result) c.deref.result.now (omega arith) in
-    rw (← c.self.view_is) (row_of-same c.self.inside.width (stored c.self.inside.order c.self.inside.cells.items) c.args.row _ (omega arith) (omega arith) (len ∙ k)
+    let len = length-mid_of c.start-start.result (c.start-start.result + c.self.inside.width - c.start-start.result)
+    c.deref.result.now (omega arith) in
+    rw (← c.self.view_is) (row_of-same c.self.inside.width (stored c.self.inside.order c.self.inside.cells.items)
+    c.args.row _ (omega arith) (omega arith) (len ∙ k)
     (λ col col1 colw.
-    let place : c.start-start.result + (col - 1) ≡ start_of c.self.inside.order c.args.row + (col - 1) = omega (arith, c.start-start.ensures.place) in
-    get_or-mid_of c.start-start.result (c.start-start.result + c.self.inside.width - c.start-start.result) c.deref.result.now (col - 1) blank (omega arith)
+    let place : c.start-start.result + (col - 1) ≡ start_of c.self.inside.order c.args.row + (col - 1) =
+    omega (arith, c.start-start.ensures.place) in
+    get_or-mid_of c.start-start.result (c.start-start.result + c.self.inside.width - c.start-start.result)
+    c.deref.result.now (col - 1) blank (omega arith)
     ∙ ap (λ x. get_or c.deref.result.now x blank) place
     ∙ ap (λ xs. get_or xs (start_of c.self.inside.order c.args.row + (col - 1)) blank) same))

@@ -10,15 +10,22 @@ use Rattle.vt_screen.proofs.screen.Screen.scroll_down_once.Goals as goal
 pub returns-clause-grid : goal.returns-clause-grid
 returns-clause-grid c =
     let same = c.deref_mut.ensures.value in
-    let whole = with_items_is c.self.inside.cells c.fill_rows.new.cells (c.fill_rows.auto.cells ∙ ap length same ∙ sym c.self.inside.cells.ok.0) in
+    let whole = with_items_is c.self.inside.cells c.fill_rows.new.cells
+    (c.fill_rows.auto.cells ∙ ap length same ∙ sym c.self.inside.cells.ok.0) in
     let count : 1 ≡ min 1 (c.args.bottom + 1 - c.args.top) = omega arith in
-    rw (← c.self.view_is) (ap (λ (x : List Cell). grid_of c.self.inside.width (stored c.move_down_once.new.self x)) whole
-    ∙ scroll_down-rows c.self.inside.order c.move_down_once.new.self c.deref_mut.result.now c.fill_rows.new.cells c.self.inside.width c.args.top c.args.bottom 1 1
-    (omega arith) (omega arith) (omega arith) count c.move_down_once.ensures.moved c.move_down_once.ensures.outside (λ r col low high col1 colw. c.fill_rows.ensures.inside r col low high col1 colw ∙ c.blank.ensures) c.fill_rows.ensures.outside
-    ∙ ap (λ (x : List Cell). scroll_down (grid_of c.self.inside.width (stored c.self.inside.order x)) c.args.top c.args.bottom 1) same)
+    rw (← c.self.view_is) (ap (λ (x : List Cell). grid_of c.self.inside.width (stored c.move_down_once.new.self x))
+    whole
+    ∙ scroll_down-rows c.self.inside.order c.move_down_once.new.self c.deref_mut.result.now c.fill_rows.new.cells
+    c.self.inside.width c.args.top c.args.bottom 1 1
+    (omega arith) (omega arith) (omega arith) count c.move_down_once.ensures.moved c.move_down_once.ensures.outside
+    (λ r col low high col1 colw. c.fill_rows.ensures.inside r col low high col1 colw ∙ c.blank.ensures)
+    c.fill_rows.ensures.outside
+    ∙ ap (λ (x : List Cell). scroll_down (grid_of c.self.inside.width (stored c.self.inside.order x)) c.args.top
+    c.args.bottom 1) same)
 
 pub returns-clause-sound : goal.returns-clause-sound
-returns-clause-sound c = subst IsSoundGrid (sym (returns-clause-grid c)) (scroll_down-sound c.args.self.now c.args.top c.args.bottom 1
+returns-clause-sound c = subst IsSoundGrid (sym (returns-clause-grid c))
+    (scroll_down-sound c.args.self.now c.args.top c.args.bottom 1
     (subst IsSoundGrid c.self.view_is c.self.invariant.1))
 
 pub invariant_of-self : goal.invariant_of-self

@@ -10,16 +10,22 @@ use Rattle.vt_screen.proofs.screen.Screen.scroll_up_once.Goals as goal
 pub returns-clause-grid : goal.returns-clause-grid
 returns-clause-grid c =
     let same = c.deref_mut.ensures.value in
-    let whole = with_items_is c.self.inside.cells c.fill_rows.new.cells (c.fill_rows.auto.cells ∙ ap length same ∙ sym c.self.inside.cells.ok.0) in
+    let whole = with_items_is c.self.inside.cells c.fill_rows.new.cells
+    (c.fill_rows.auto.cells ∙ ap length same ∙ sym c.self.inside.cells.ok.0) in
     let count : 1 ≡ min 1 (c.args.bottom + 1 - c.args.top) = omega arith in
     rw (← c.self.view_is) (ap (λ (x : List Cell). grid_of c.self.inside.width (stored c.move_up_once.new.self x)) whole
-    ∙ scroll_up-rows c.self.inside.order c.move_up_once.new.self c.deref_mut.result.now c.fill_rows.new.cells c.self.inside.width c.args.top c.args.bottom 1 1
-    (omega arith) (omega arith) (omega arith) count c.move_up_once.ensures.moved c.move_up_once.ensures.outside (λ r col low high col1 colw. c.fill_rows.ensures.inside r col (omega arith) high col1 colw ∙ c.blank.ensures)
-    (λ r col r1 r24 out col1 colw. c.fill_rows.ensures.outside r col r1 r24 (elim out [ inl l ↦ inl (omega arith) | inr l ↦ inr l ]) col1 colw)
-    ∙ ap (λ (x : List Cell). scroll_up (grid_of c.self.inside.width (stored c.self.inside.order x)) c.args.top c.args.bottom 1) same)
+    ∙ scroll_up-rows c.self.inside.order c.move_up_once.new.self c.deref_mut.result.now c.fill_rows.new.cells
+    c.self.inside.width c.args.top c.args.bottom 1 1
+    (omega arith) (omega arith) (omega arith) count c.move_up_once.ensures.moved c.move_up_once.ensures.outside
+    (λ r col low high col1 colw. c.fill_rows.ensures.inside r col (omega arith) high col1 colw ∙ c.blank.ensures)
+    (λ r col r1 r24 out col1 colw. c.fill_rows.ensures.outside r col r1 r24
+    (elim out [ inl l ↦ inl (omega arith) | inr l ↦ inr l ]) col1 colw)
+    ∙ ap (λ (x : List Cell). scroll_up (grid_of c.self.inside.width (stored c.self.inside.order x)) c.args.top
+    c.args.bottom 1) same)
 
 pub returns-clause-sound : goal.returns-clause-sound
-returns-clause-sound c = subst IsSoundGrid (sym (returns-clause-grid c)) (scroll_up-sound c.args.self.now c.args.top c.args.bottom 1
+returns-clause-sound c = subst IsSoundGrid (sym (returns-clause-grid c))
+    (scroll_up-sound c.args.self.now c.args.top c.args.bottom 1
     (subst IsSoundGrid c.self.view_is c.self.invariant.1))
 
 pub invariant_of-self : goal.invariant_of-self

@@ -160,7 +160,7 @@ pub fn update_reserved(shown: &mut Terminal, to: &Terminal, out: &mut Vec<u8>)
         return;
     }
     let marks = changed_places(shown, to);
-    if !send_choice(shown, to, out) {
+    if !send_choice(&marks, shown, to, out) {
         send_changes(&marks, shown, to, out);
     }
 }
@@ -190,7 +190,12 @@ fn is_short(len: usize, shown: &Terminal, to: &Terminal) -> bool
 
 /// Appends the chosen bytes and plays them on `shown`, where they are short. Where that doesn't lead to `to` in silence,
 /// the bytes are taken back, and the answer is false; `shown` is then in any state.
-fn send_choice(shown: &mut Terminal, to: &Terminal, out: &mut Vec<u8>) -> bool
+fn send_choice(
+    marks: &[[bool; STOPS]; ROWS],
+    shown: &mut Terminal,
+    to: &Terminal,
+    out: &mut Vec<u8>,
+) -> bool
     requires sound { IsSound shown.old }
     requires width { shown.old.display.grid.width ≡ to.now.display.grid.width }
     requires room { vec_len out.old + UPDATE_LIMIT ≤ vec_capacity out.old }
@@ -204,7 +209,7 @@ fn send_choice(shown: &mut Terminal, to: &Terminal, out: &mut Vec<u8>) -> bool
 {
     leading();
     let start = out.len();
-    push_choice(shown, to, out);
+    push_choice(shown, marks, to, out);
     if is_short(out.len() - start, shown, to)
         && play_back(start, shown, out)
         && shown.same_state(to)

@@ -74,7 +74,8 @@ fn push_changed_row(row: usize, cells: &[Cell], marks: &[bool; STOPS], out: &mut
     requires row { (1 ≤ row) × (row ≤ last_row) }
     requires len { length cells.now ≤ 132 }
     requires room { vec_len out.old + 29 * 132 ≤ vec_capacity out.old }
-    ensures items { (g : Grid) (all : List (List Bool)) → cells.now ≡ row_of g row → marks.now ≡ slice_index_or all (row - 1) []
+    ensures items { (g : Grid) (all : List (List Bool)) → cells.now ≡ row_of g row
+        → marks.now ≡ slice_index_or all (row - 1) []
         → out.new.items ≡ out.old.items ++ spell_events (changed_row all g row) }
     ensures bounded { vec_len out.new ≤ vec_len out.old + 29 * 132 }
     ensures capacity { vec_capacity out.old ≤ vec_capacity out.new }
@@ -169,10 +170,13 @@ fn push_every_mode(m: Modes, out: &mut Vec<u8>)
 
 /// What is asked for leads where it should, and is few bytes.
 fn changes_lead()
-    ensures played { (marks : List (List Bool)) (s t : State) → IsSound s → IsSound t → t.held ≡ Nothing → AreChanges marks s.display t.display
+    ensures played { (marks : List (List Bool)) (s t : State) → IsSound s → IsSound t → t.held ≡ Nothing
+        → AreChanges marks s.display t.display
         → play s (spell_events (change_events marks t.display)) ≡ record { state = t; reports = [] } }
-    ensures few { (marks : List (List Bool)) (s t : State) (before : List ℕ) → IsSound t → AreChanges marks s.display t.display
-        → length (before ++ spell_events (change_events marks t.display)) ≤ length before + 28 * differing s.display.grid t.display.grid + 230 }
+    ensures few { (marks : List (List Bool)) (s t : State) (before : List ℕ) → IsSound t
+        → AreChanges marks s.display t.display
+        → length (before ++ spell_events (change_events marks t.display))
+        ≤ length before + 28 * differing s.display.grid t.display.grid + 230 }
 {
     spelled();
     spelling();
@@ -206,15 +210,15 @@ fn push_changes(marks: &[[bool; STOPS]; ROWS], t: &Terminal, out: &mut Vec<u8>)
     push_shift(sets.pending(), out);
 }
 
-/// Appends bytes to `out` that lead a terminal to `t`, which is between sequences, where the two have the same width and the
-/// same tab stops, and the marks are those of [`changed_places`](crate::changed_places): at most 28 bytes for each marked
-/// place, and 230.
+/// Appends bytes to `out` that lead a terminal to `t`, where the two have the same width and the same tab stops, and
+/// [`changed_places`](crate::changed_places) has marked where they differ: at most 28 bytes for each marked place, and 230.
 ///
-/// The room is there: `PAINT_LIMIT` bytes. It never fails and takes no memory.
+/// `t` is between sequences. The room is there: `PAINT_LIMIT` bytes. It never fails and takes no memory.
 pub fn repaint_changes_reserved(marks: &[[bool; STOPS]; ROWS], t: &Terminal, out: &mut Vec<u8>)
     requires between { t.now.held ≡ Nothing }
     requires room { vec_len out.old + PAINT_LIMIT ≤ vec_capacity out.old }
-    ensures leads { (s : State) → IsSound s → AreChanges marks.now s.display t.now.display → Changes s t.now out.old.items out.new.items }
+    ensures leads { (s : State) → IsSound s → AreChanges marks.now s.display t.now.display
+        → Changes s t.now out.old.items out.new.items }
     ensures small { (s : State) → AreChanges marks.now s.display t.now.display
         → vec_len out.new ≤ vec_len out.old + 28 * differing s.display.grid t.now.display.grid + 230 }
     ensures bounded { vec_len out.new ≤ vec_len out.old + PAINT_LIMIT }

@@ -30,7 +30,8 @@ fn same_brush(a: Brush, b: Brush) -> bool
 fn differing_in_row(a: &[Cell], b: &[Cell]) -> usize
     requires len { length a.now ≡ length b.now }
     requires short { length b.now ≤ 132 }
-    ensures count { (g h : Grid) (r : ℕ) → a.now ≡ row_of g r → b.now ≡ row_of h r → result ≡ differing_from g h r 1 (length b.now) }
+    ensures count { (g h : Grid) (r : ℕ) → a.now ≡ row_of g r → b.now ≡ row_of h r
+        → result ≡ differing_from g h r 1 (length b.now) }
     ensures bounded { result ≤ 132 }
 {
     rows();
@@ -71,8 +72,8 @@ fn changed_in_row(a: &[Cell], b: &[Cell]) -> [bool; STOPS]
     marks
 }
 
-/// The places at which the screens of two terminals of the same width have different cells: place c - 1 of row r - 1 for
-/// row r and column c.
+/// The places at which the screens of two terminals of the same width have different cells: place c - 1 of row r - 1
+/// for row r and column c.
 pub fn changed_places(a: &Terminal, b: &Terminal) -> [[bool; STOPS]; ROWS]
     requires { a.now.display.grid.width ≡ b.now.display.grid.width }
     ensures { a.now.display.stops ≡ b.now.display.stops → AreChanges result a.now.display b.now.display }

@@ -5,12 +5,17 @@ use crate::chosen::CHOICE_LIMIT;
 use crate::remote::Remote;
 use crate::rows::Rows;
 use crate::scrolling::Scroll;
-use vt_term::Terminal;
+use vt_term::{ROWS, STOPS, Terminal};
 
-/// Appends bytes that should lead from one state to another.
+/// Appends bytes that should lead from one state to another, whose screens differ at the marked places.
 ///
 /// None where a single shift is pending: the next glyph is then another.
-pub(crate) fn push_choice(shown: &Terminal, to: &Terminal, out: &mut Vec<u8>)
+pub(crate) fn push_choice(
+    shown: &Terminal,
+    marks: &[[bool; STOPS]; ROWS],
+    to: &Terminal,
+    out: &mut Vec<u8>,
+)
     requires { vec_len out.old + CHOICE_LIMIT ≤ vec_capacity out.old }
     ensures items { out.new.items ≡ out.old.items ++ drop (vec_len out.old) out.new.items }
     ensures bounded { vec_len out.new ≤ vec_len out.old + CHOICE_LIMIT }
@@ -20,16 +25,16 @@ pub(crate) fn push_choice(shown: &Terminal, to: &Terminal, out: &mut Vec<u8>)
         return;
     }
     let mut remote = Remote::new(shown);
-    remote.bring(shown, to);
+    remote.bring(shown, marks, to);
     out.extend_from_slice(remote.chosen.as_slice()).unwrap();
 }
 
 impl Remote {
     /// Brings the other side, whose cells are those of `shown`, to the state that is asked for.
-    fn bring(&mut self, shown: &Terminal, to: &Terminal) {
+    fn bring(&mut self, shown: &Terminal, marks: &[[bool; STOPS]; ROWS], to: &Terminal) {
         let cursor = to.cursor();
         self.set_margins(to.margins());
-        let rows = Rows::new(shown, to);
+        let rows = Rows::new(shown, marks, to);
         match Scroll::find(&rows, shown, to) {
             Some(scroll) => {
                 self.scroll(scroll, to);

@@ -30,8 +30,12 @@ pub(crate) struct Rows<'a> {
 }
 
 impl Rows<'_> {
-    /// The rows as they are shown.
-    pub(crate) fn new<'a>(shown: &'a Terminal, to: &Terminal) -> Rows<'a> {
+    /// The rows as they are shown; marked is where they differ from what they are to be.
+    pub(crate) fn new<'a>(
+        shown: &'a Terminal,
+        marks: &[[bool; WIDE]; ROWS],
+        to: &Terminal,
+    ) -> Rows<'a> {
         let mut rows = Rows {
             shown,
             scroll: None,
@@ -40,7 +44,9 @@ impl Rows<'_> {
             blanks: [Cell::blank(); WIDE],
             width: shown.width().min(WIDE),
         };
-        rows.compare(to);
+        for row in 1..ROWS + 1 {
+            rows.note(row, marked(&marks[row - 1]), to);
+        }
         rows
     }
 
@@ -62,10 +68,18 @@ impl Rows<'_> {
         for row in 1..ROWS + 1 {
             let old = self.row(row);
             let new = to.row(row);
-            if !same_cells(old, new) {
-                self.differing[row - 1] = unlike(old, new);
-                self.filled[row - 1] = filled(new);
-            }
+            let differing = if same_cells(old, new) { 0 } else { unlike(old, new) };
+            self.note(row, differing, to);
+        }
+    }
+
+    /// In how many places a row differs.
+    fn note(&mut self, row: usize, differing: i32, to: &Terminal)
+        requires { (1 ≤ row) × (row ≤ last_row) }
+    {
+        self.differing[row - 1] = differing;
+        if differing != 0 {
+            self.filled[row - 1] = filled(to.row(row));
         }
     }
 
@@ -120,6 +134,15 @@ impl Rows<'_> {
 #[inline(always)]
 pub(crate) fn is_blank(cell: &Cell) -> bool {
     *cell == Cell::blank()
+}
+
+/// How many places of a row are marked.
+fn marked(marks: &[bool; WIDE]) -> i32 {
+    let mut count = 0i32;
+    for mark in marks.iter() {
+        count = count.wrapping_add(*mark as i32);
+    }
+    count
 }
 
 /// In how many places the cells differ.

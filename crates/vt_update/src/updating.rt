@@ -105,6 +105,9 @@ fn copy_part(from: usize, all: &[u8], part: &mut [u8])
 
 /// Appends bytes to `out` that lead from `shown` to `to`, and brings `shown` there.
 ///
+/// Where width and tab stops are equal, at most 28 bytes are sent for each cell that differs, and 230. An update after an
+/// update to the same state is empty.
+///
 /// `UPDATE_LIMIT` bytes of room are reserved first. On an error `shown` and the contents of `out` are unchanged.
 ///
 /// # Errors
@@ -118,7 +121,8 @@ pub fn update(shown: &mut Terminal, to: &Terminal, out: &mut Vec<u8>) -> Result<
     ensures memory { IsErrOf result UpdateError.Memory → vec_capacity out.old < vec_len out.old + UPDATE_LIMIT }
     ensures same_out { OnErr result (out.new.items ≡ out.old.items) }
     ensures same_shown { OnErr result (shown.new ≡ shown.old) }
-    ensures small { OnOk result (shown.old.display.grid.width ≡ to.now.display.grid.width → shown.old.display.stops ≡ to.now.display.stops
+    ensures small { OnOk result (shown.old.display.grid.width ≡ to.now.display.grid.width
+        → shown.old.display.stops ≡ to.now.display.stops
         → vec_len out.new ≤ vec_len out.old + 28 * differing shown.old.display.grid to.now.display.grid + 230) }
     ensures bounded { vec_len out.new ≤ vec_len out.old + UPDATE_LIMIT }
     ensures capacity { vec_capacity out.old ≤ vec_capacity out.new }
@@ -140,7 +144,8 @@ pub fn update_reserved(shown: &mut Terminal, to: &Terminal, out: &mut Vec<u8>)
     ensures leads { Updates shown.old to.now out.old.items out.new.items }
     ensures shown { shown.new ≡ to.now }
     ensures nothing { (out.new.items ≡ out.old.items) ↔ (shown.old ≡ to.now) }
-    ensures small { shown.old.display.grid.width ≡ to.now.display.grid.width → shown.old.display.stops ≡ to.now.display.stops
+    ensures small { shown.old.display.grid.width ≡ to.now.display.grid.width
+        → shown.old.display.stops ≡ to.now.display.stops
         → vec_len out.new ≤ vec_len out.old + 28 * differing shown.old.display.grid to.now.display.grid + 230 }
     ensures bounded { vec_len out.new ≤ vec_len out.old + UPDATE_LIMIT }
     ensures capacity { vec_capacity out.old ≤ vec_capacity out.new }
@@ -155,14 +160,15 @@ pub fn update_reserved(shown: &mut Terminal, to: &Terminal, out: &mut Vec<u8>)
         return;
     }
     let marks = changed_places(shown, to);
-    if !send_choice(shown, to, out) {
+    if !send_choice(&marks, shown, to, out) {
         send_changes(&marks, shown, to, out);
     }
 }
 
 /// Whether two terminals have the same width and the same tab stops.
 fn same_columns(shown: &Terminal, to: &Terminal) -> bool
-    ensures { IsTrue result ↔ ((shown.now.display.grid.width ≡ to.now.display.grid.width) × (shown.now.display.stops ≡ to.now.display.stops)) }
+    ensures { IsTrue result
+        ↔ ((shown.now.display.grid.width ≡ to.now.display.grid.width) × (shown.now.display.stops ≡ to.now.display.stops)) }
 {
     shown.width() == to.width() && same_stops(shown.stops(), to.stops())
 }
@@ -182,22 +188,28 @@ fn is_short(len: usize, shown: &Terminal, to: &Terminal) -> bool
         || len - BYTES_FOR_THE_REST <= BYTES_A_CELL * differing_cells(shown, to)
 }
 
-/// Appends the chosen bytes and plays them on `shown`, where they are short. Where that doesn't lead to `to` in silence, the
-/// bytes are taken back, and the answer is false; `shown` is then in any state.
-fn send_choice(shown: &mut Terminal, to: &Terminal, out: &mut Vec<u8>) -> bool
+/// Appends the chosen bytes and plays them on `shown`, where they are short. Where that doesn't lead to `to` in silence,
+/// the bytes are taken back, and the answer is false; `shown` is then in any state.
+fn send_choice(
+    marks: &[[bool; STOPS]; ROWS],
+    shown: &mut Terminal,
+    to: &Terminal,
+    out: &mut Vec<u8>,
+) -> bool
     requires sound { IsSound shown.old }
     requires width { shown.old.display.grid.width ≡ to.now.display.grid.width }
     requires room { vec_len out.old + UPDATE_LIMIT ≤ vec_capacity out.old }
     ensures leads { OnTrue result (Updates shown.old to.now out.old.items out.new.items) }
     ensures shown { OnTrue result (shown.new ≡ to.now) }
-    ensures small { OnTrue result (vec_len out.new ≤ vec_len out.old + 28 * differing shown.old.display.grid to.now.display.grid + 230) }
+    ensures small { OnTrue result
+        (vec_len out.new ≤ vec_len out.old + 28 * differing shown.old.display.grid to.now.display.grid + 230) }
     ensures taken_back { OnFalse result (out.new.items ≡ out.old.items) }
     ensures bounded { vec_len out.new ≤ vec_len out.old + UPDATE_LIMIT }
     ensures capacity { vec_capacity out.old ≤ vec_capacity out.new }
 {
     leading();
     let start = out.len();
-    push_choice(shown, to, out);
+    push_choice(shown, marks, to, out);
     if is_short(out.len() - start, shown, to)
         && play_back(start, shown, out)
         && shown.same_state(to)
@@ -208,8 +220,8 @@ fn send_choice(shown: &mut Terminal, to: &Terminal, out: &mut Vec<u8>) -> bool
     false
 }
 
-/// Appends bytes that write the marked places alone, and brings `shown`, which may be in any state, to `to`: by the repaint,
-/// which isn't sent.
+/// Appends bytes that write the marked places alone, and brings `shown`, which may be in any state, to `to`: by the
+/// repaint, which isn't sent.
 fn send_changes(
     marks: &[[bool; STOPS]; ROWS],
     shown: &mut Terminal,

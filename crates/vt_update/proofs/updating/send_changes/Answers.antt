@@ -9,7 +9,9 @@ returns-clause-leads c s sound changes =
     let old = c.args.out.now.items in
     let n = c.len-before.result in
     let all : n ≡ length old = omega (arith, c.len-before.ensures) in
-    let back = taken_back old (paint c.args.to.now) c.truncate.new.self.items n (c.truncate.ensures.items ∙ ap (λ xs. take n xs) c.send_repaint.ensures.items) all in
+    let back =
+    taken_back old (paint c.args.to.now) c.truncate.new.self.items n
+    (c.truncate.ensures.items ∙ ap (λ xs. take n xs) c.send_repaint.ensures.items) all in
     record {
       sent = w.sent;
       appended = w.appended ∙ ap (λ (xs : List ℕ). xs ++ w.sent) back;

@@ -117,18 +117,13 @@ fn a_saved_wrap_flag_is_kept(rt: HostRuntime) -> Result<(), Fail> {
     Ok(())
 }
 
-/// What only a repaint can do: another width, other tab stops, a single shift that is pending where none is to be.
+/// What only a repaint can do: another width, and other tab stops.
 #[test]
 fn the_rest_are_repaints(rt: HostRuntime) -> Result<(), Fail> {
     for (name, from, to) in [
         ("to 132 columns", b"A".as_slice(), b"\x1b[?3hA".as_slice()),
         ("to 80 columns", b"\x1b[?3hA".as_slice(), b"A".as_slice()),
         ("other tab stops", b"A".as_slice(), b"A\x1b[3g".as_slice()),
-        (
-            "a single shift in the way",
-            b"A\x1bN".as_slice(),
-            b"A".as_slice(),
-        ),
     ] {
         let sent = updated(&rt, rt.alloc(), name, from, to)?;
         assert_eq!(rt;
@@ -137,6 +132,24 @@ fn the_rest_are_repaints(rt: HostRuntime) -> Result<(), Fail> {
             "{name}"
         );
     }
+    Ok(())
+}
+
+/// For a single shift that is pending where none is to be no bytes are chosen: of a full screen the one cell that differs is
+/// sent, and all but the cells.
+#[test]
+fn a_single_shift_in_the_way_costs_few_bytes(rt: HostRuntime) -> Result<(), Fail> {
+    let alloc = rt.alloc();
+    let mut from = Vec::new(alloc);
+    for _ in 0..24u8 {
+        from.extend_from_slice(LINE)?;
+    }
+    let mut to = Vec::from_slice(alloc, &from)?;
+    from.extend_from_slice(b"\x1b[H\x1bN")?;
+    to.extend_from_slice(b"\x1b[H\x1b[1;4;5;7mB")?;
+    let sent = updated(&rt, alloc, "one cell of a full screen", &from, &to)?;
+    assert!(rt; sent.len() <= 28 + 230);
+    assert!(rt; sent.len() < repainted(alloc, &to)?.len());
     Ok(())
 }
 

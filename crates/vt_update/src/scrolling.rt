@@ -4,6 +4,7 @@ ghost use Rattle.vt_screen.specs.Grid.{last_row};
 
 use crate::remote::Remote;
 use crate::rows::{ROWS, Rows, filled, unlike};
+use vt_screen::same_cells;
 use vt_term::{Margins, Terminal};
 
 /// The fewest cells that have to come to their rows by a scroll, for it to be looked at.

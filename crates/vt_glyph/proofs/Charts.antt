@@ -7,7 +7,7 @@ use Rattle.vt_glyph.specs.declared.set.Set.TheVariants.{Ascii, British, German, 
 use Rattle.vt_glyph.specs.declared.glyph.TheConstants.{CHARACTERS}
 use Rattle.vt_glyph.specs.declared.glyph.Spelling.{Spelling}
 use Rattle.vt_glyph.specs.declared.glyph.Spelling.TheVariants.{Plain, Second, Third}
-use Rattle.vt_glyph.specs.Tables.{glyph_of, is_glyph, graphic_codes}
+use Rattle.vt_glyph.specs.Tables.{glyph_of, is_glyph, set_codes}
 use Rattle.vt_glyph.specs.Spell.{spelling_of, spelled_glyph, code_of}
 use Rattle.vt_glyph.specs.Encoding.{encoded_spelling, encoded_glyph, encoding_of, encodings}
 
@@ -34,7 +34,7 @@ pub spells_space : spells_back 0x20 ≡ true
 unfolding glyph_of spelling_of encoding_of spells_back
 spells_space = refl
 
-pub spells : (set : Set) → list_all (λ code. spells_back (glyph_of set code)) graphic_codes ≡ true
+pub spells : (set : Set) → list_all (λ code. spells_back (glyph_of set code)) set_codes ≡ true
 unfolding glyph_of spelling_of encoding_of spells_back
 spells Ascii = refl
 spells British = refl
@@ -44,7 +44,7 @@ spells Supplemental = refl
 
 -- the code's tables encode the glyphs of the charts
 pub tables : (set : Set) → list_all (λ code. slice_index (encodings set) code == encoding_of (glyph_of set code))
-    graphic_codes ≡ true
+    set_codes ≡ true
 unfolding glyph_of spelling_of encoding_of
 tables Ascii = refl
 tables British = refl
@@ -60,7 +60,7 @@ table_space German = refl
 table_space Special = refl
 table_space Supplemental = refl
 
-pub glyphs : (set : Set) → list_all (λ code. is_glyph (glyph_of set code)) graphic_codes ≡ true
+pub glyphs : (set : Set) → list_all (λ code. is_glyph (glyph_of set code)) set_codes ≡ true
 unfolding glyph_of is_glyph
 glyphs Ascii = refl
 glyphs British = refl

@@ -9,7 +9,7 @@ use Rattle.vt_glyph.specs.declared.set.Set.TheVariants.{Ascii, British, German, 
 use Rattle.vt_glyph.specs.declared.glyph.TheConstants.{CHARACTERS}
 use Rattle.vt_glyph.specs.declared.glyph.Spelling.{Spelling}
 use Rattle.vt_glyph.specs.declared.glyph.Spelling.TheVariants.{Plain, Second, Third}
-use Rattle.vt_glyph.specs.Tables.{glyph_of, is_glyph, IsGlyph, graphic_codes, shows, space}
+use Rattle.vt_glyph.specs.Tables.{glyph_of, is_glyph, IsGlyph, set_codes, shows, space}
 use Rattle.vt_glyph.specs.Spell.{spelling_of, spelled_glyph, code_of}
 use Rattle.vt_glyph.specs.Encoding.{encoded_spelling, encoded_glyph, encoding_of, encodings, IsEncoding}
 use Rattle.vt_glyph.proofs.Lists.{both, either, all_in_range, all_taken}
@@ -29,12 +29,12 @@ same_spelling-true (Third a) (Third b) h = ap Third (eqb-true a b h)
 
 -- a test that all sets' glyphs and the space pass is passed by every glyph
 glyph_passes : (p : ℕ → Bool) (n : ℕ) → p space ≡ true
-    → ((set : Set) → list_all (λ code. p (glyph_of set code)) graphic_codes ≡ true) → IsGlyph n → p n ≡ true
+    → ((set : Set) → list_all (λ code. p (glyph_of set code)) set_codes ≡ true) → IsGlyph n → p n ≡ true
 unfolding is_glyph
 glyph_passes p n blank shown h =
     let Goal : Type 0 = p n ≡ true in
     let by : (set : Set) → shows set n ≡ true → Goal =
-    λ set e. all_taken p (glyph_of set) graphic_codes n (shown set) e in
+    λ set e. all_taken p (glyph_of set) set_codes n (shown set) e in
     either Goal _ _ h (λ e. ap p (eqb-true n space e) ∙ blank) (λ h1.
     either Goal _ _ h1 (by Ascii) (λ h2.
     either Goal _ _ h2 (by British) (λ h3.

@@ -6,13 +6,13 @@ use Rattle.vt_glyph.specs.declared.set.Set.{Set}
 use Rattle.vt_glyph.specs.declared.set.Set.TheVariants.{Ascii, Special, Supplemental}
 use Rattle.vt_glyph.specs.declared.glyph.Spelling.{Spelling}
 use Rattle.vt_glyph.specs.declared.glyph.Spelling.TheVariants.{Plain, Second, Third}
-use Rattle.vt_glyph.specs.Tables.{glyph_of, graphic_codes, space}
+use Rattle.vt_glyph.specs.Tables.{glyph_of, set_codes, space}
 use Rattle.vt_glyph.specs.GraphicSets.{GraphicSets}
 use Rattle.vt_glyph.specs.Invocation.{set_at, shifted_once}
 
 -- the first code at which the set shows the glyph
 abbrev pub code_in : Set → ℕ → Option ℕ
-code_in set n = find (λ code. glyph_of set code == n) graphic_codes
+code_in set n = find (λ code. glyph_of set code == n) set_codes
 
 -- an ASCII glyph is its own byte; another is its first code in Supplemental, or else its code in Special Graphics, after
 -- a single shift

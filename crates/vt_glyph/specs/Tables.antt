@@ -59,12 +59,12 @@ glyph_of Special code = replaced special_changes code
 glyph_of Supplemental code = supplemental_glyph (code + 0x80)
 
 -- the codes from 21 to 7E
-abbrev pub graphic_codes : List ℕ
-graphic_codes = range_with_len 0x21 94
+abbrev pub set_codes : List ℕ
+set_codes = range_with_len 0x21 94
 
 -- some code of the set shows the glyph
 abbrev pub shows : Set → ℕ → Bool
-shows set n = list_any (λ code. glyph_of set code == n) graphic_codes
+shows set n = list_any (λ code. glyph_of set code == n) set_codes
 
 -- a glyph is the space, or what some set shows
 unfoldable pub is_glyph : ℕ → Bool

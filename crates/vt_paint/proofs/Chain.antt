@@ -24,14 +24,14 @@ use Rattle.vt_paint.specs.Controls.{private_mode, decom, margins_to, brush_event
 use Rattle.vt_paint.specs.Pieces.{glyph_events, pieces, is_blank_grid}
 use Rattle.vt_paint.specs.Items.{cells_item, margins_item, origin_item, position_item, wrap_item, modes_item, shift_item}
 use Rattle.vt_paint.proofs.LowerLaws.{GridLaws, GlyphLaws}
-use Rattle.vt_paint.proofs.Running.{run, run-append, run-then}
+use Rattle.vt_paint.proofs.AfterEvents.{display_after, display_after-append, display_after-then}
 use Rattle.vt_paint.proofs.Equality.{and_true, not_true, is_blank-is}
 use Rattle.vt_paint.proofs.Grids.{painted, all_blank, painted_none, put_same}
-use Rattle.vt_paint.proofs.Brushes.{brush_run, with_sets, sets_run, spelling_sets, spelling_sets_run, spelling_sets_are, spelling_sets_four, spelling_sets_none}
-use Rattle.vt_paint.proofs.Glyphs.{glyph_run}
-use Rattle.vt_paint.proofs.Painting.{IsReady, shown, behind, AreGlyphs, pieces_run, write_glyph_run}
+use Rattle.vt_paint.proofs.Brushes.{brush_leaves, with_sets, sets_leaves, spelling_sets, spelling_sets_leaves, spelling_sets_are, spelling_sets_four, spelling_sets_none}
+use Rattle.vt_paint.proofs.Glyphs.{glyph_leaves}
+use Rattle.vt_paint.proofs.Painting.{IsReady, shown, behind, AreGlyphs, pieces_leaves, write_glyph_leaves}
 use Rattle.vt_paint.proofs.SavedRecord.{with_saved}
-use Rattle.vt_paint.proofs.ModeItems.{modes_run, shift_run}
+use Rattle.vt_paint.proofs.ModeItems.{modes_leaves, shift_leaves}
 
 -- s with these parts, and with some modes but for the origin
 abbrev pub part : Display → Modes → Cursor → Brush → GraphicSets → Margins → Bool → Display
@@ -77,10 +77,10 @@ module _ (grids : GridLaws) where
   blank_painted wide g w = ap (λ n. grid_of n all_blank) (sym w) ∙ painted_none grids all_blank g
 
 module _ (grids : GridLaws) (glyphs : GlyphLaws) where
-  pub cells_run : (wide : Bool) (s : Display) (cursor : Cursor) → s.grid.width ≡ columns wide → IsGrid s.grid → AreGlyphs s.grid → AreSoundSets (saved_sets s.saved)
-      → HasCells s (run (record (with_saved wide s.stops s.saved cursor) { saved = s.saved }) (cells_item s.grid s.cursor.wrap))
-  unfolding run cells_item
-  cells_run wide s cursor w is are sets = go (is_blank_grid s.grid && not s.cursor.wrap) refl
+  pub cells_leaves : (wide : Bool) (s : Display) (cursor : Cursor) → s.grid.width ≡ columns wide → IsGrid s.grid → AreGlyphs s.grid → AreSoundSets (saved_sets s.saved)
+      → HasCells s (display_after (record (with_saved wide s.stops s.saved cursor) { saved = s.saved }) (cells_item s.grid s.cursor.wrap))
+  unfolding display_after cells_item
+  cells_leaves wide s cursor w is are sets = go (is_blank_grid s.grid && not s.cursor.wrap) refl
     where
       x0 : Display
       x0 = with_saved wide s.stops s.saved cursor
@@ -91,7 +91,7 @@ module _ (grids : GridLaws) (glyphs : GlyphLaws) where
       base : Display
       base = record x0 { sets = t }
 
-      go : (b : Bool) → is_blank_grid s.grid && not s.cursor.wrap ≡ b → HasCells s (run x0 (cond b [] (spelling_sets_events ++ pieces s.grid)))
+      go : (b : Bool) → is_blank_grid s.grid && not s.cursor.wrap ≡ b → HasCells s (display_after x0 (cond b [] (spelling_sets_events ++ pieces s.grid)))
       go true e =
           let p = and_true (is_blank_grid s.grid) (not s.cursor.wrap) e in
           record {
@@ -105,13 +105,13 @@ module _ (grids : GridLaws) (glyphs : GlyphLaws) where
           }
       go false e =
           let ready : IsReady base = record { sets = spelling_sets_are (saved_sets s.saved) sets.four refl; irm = refl; decawm = refl; decom = refl } in
-          let painted_is = spelling_sets_run x0 ∙ ap (λ g. shown base g cursor s.saved.brush) (blank_painted grids wide s.grid w) in
-          let v = pieces_run grids glyphs base s.grid (run x0 spelling_sets_events) cursor s.saved.brush ready is are painted_is in
+          let painted_is = spelling_sets_leaves x0 ∙ ap (λ g. shown base g cursor s.saved.brush) (blank_painted grids wide s.grid w) in
+          let v = pieces_leaves grids glyphs base s.grid (display_after x0 spelling_sets_events) cursor s.saved.brush ready is are painted_is in
           record {
             cursor = v.cursor;
             brush = v.brush;
             sets = t;
-            is = run-append x0 spelling_sets_events (pieces s.grid) ∙ v.is;
+            is = display_after-append x0 spelling_sets_events (pieces s.grid) ∙ v.is;
             four = spelling_sets_four (saved_sets s.saved) sets.four;
             none = spelling_sets_none (saved_sets s.saved) refl;
             spells = λ h. ready.sets;
@@ -123,15 +123,15 @@ pub record HasMargins (s : Display) (modes : Modes) (brush : Brush) (sets : Grap
   pub cursor : Cursor
   pub is : x ≡ part s modes cursor brush sets margins origin
 
-pub margins_run : (s : Display) (modes : Modes) (cursor : Cursor) (brush : Brush) (sets : GraphicSets) (m : Margins) (origin : Bool) → AreSoundMargins m
-    → HasMargins s modes brush sets m origin (run (part s modes cursor brush sets full_margins origin) (margins_item m))
-unfolding run margins_item sequence_in sequences_of
-margins_run s modes cursor brush sets m origin sound = go (eqb m.top 1 && eqb m.bottom 24) refl
+pub margins_leaves : (s : Display) (modes : Modes) (cursor : Cursor) (brush : Brush) (sets : GraphicSets) (m : Margins) (origin : Bool) → AreSoundMargins m
+    → HasMargins s modes brush sets m origin (display_after (part s modes cursor brush sets full_margins origin) (margins_item m))
+unfolding display_after margins_item sequence_in sequences_of
+margins_leaves s modes cursor brush sets m origin sound = go (eqb m.top 1 && eqb m.bottom 24) refl
   where
     x : Display
     x = part s modes cursor brush sets full_margins origin
 
-    go : (b : Bool) → eqb m.top 1 && eqb m.bottom 24 ≡ b → HasMargins s modes brush sets m origin (run x (cond b [] (margins_to m.top m.bottom ∷ [])))
+    go : (b : Bool) → eqb m.top 1 && eqb m.bottom 24 ≡ b → HasMargins s modes brush sets m origin (display_after x (cond b [] (margins_to m.top m.bottom ∷ [])))
     go true e =
         let a = and_true (eqb m.top 1) (eqb m.bottom 24) e in
         let mk : ℕ → ℕ → Margins = λ t b. record { top = t; bottom = b } in
@@ -152,16 +152,16 @@ margins_run s modes cursor brush sets m origin sound = go (eqb m.top 1 && eqb m.
               ∙ ap (λ l. done m.top m.bottom l) less;
         }
 
-pub origin_run : (s : Display) (modes : Modes) (cursor : Cursor) (brush : Brush) (sets : GraphicSets) (m : Margins) (origin : Bool) → HasMargins s modes brush sets m origin (run (part s modes cursor brush sets m false) (origin_item origin))
-unfolding run origin_item sequence_in sequences_of with_mode
-origin_run s modes cursor brush sets m true = record { cursor = at_place m.top 1; is = refl }
-origin_run s modes cursor brush sets m false = record { cursor = cursor; is = refl }
+pub origin_leaves : (s : Display) (modes : Modes) (cursor : Cursor) (brush : Brush) (sets : GraphicSets) (m : Margins) (origin : Bool) → HasMargins s modes brush sets m origin (display_after (part s modes cursor brush sets m false) (origin_item origin))
+unfolding display_after origin_item sequence_in sequences_of with_mode
+origin_leaves s modes cursor brush sets m true = record { cursor = at_place m.top 1; is = refl }
+origin_leaves s modes cursor brush sets m false = record { cursor = cursor; is = refl }
 
-pub origin_set_run : (s : Display) (modes : Modes) (cursor : Cursor) (brush : Brush) (sets : GraphicSets) (m : Margins) (was on : Bool)
-    → HasMargins s modes brush sets m on (run (part s modes cursor brush sets m was) (private_mode decom on ∷ []))
-unfolding run sequence_in sequences_of with_mode
-origin_set_run s modes cursor brush sets m was true = record { cursor = at_place m.top 1; is = refl }
-origin_set_run s modes cursor brush sets m was false = record { cursor = at_place 1 1; is = refl }
+pub origin_set_leaves : (s : Display) (modes : Modes) (cursor : Cursor) (brush : Brush) (sets : GraphicSets) (m : Margins) (was on : Bool)
+    → HasMargins s modes brush sets m on (display_after (part s modes cursor brush sets m was) (private_mode decom on ∷ []))
+unfolding display_after sequence_in sequences_of with_mode
+origin_set_leaves s modes cursor brush sets m was true = record { cursor = at_place m.top 1; is = refl }
+origin_set_leaves s modes cursor brush sets m was false = record { cursor = at_place 1 1; is = refl }
 
 -- ---- the cursor
 
@@ -172,10 +172,10 @@ line_back s i = go s.modes.decom refl
     go true e = let o = i.origin e in omega (arith, o)
     go false e = omega (arith, i.cursor.row_1, i.cursor.row_24)
 
-pub position_run : (s : Display) (modes : Modes) (cursor : Cursor) (brush : Brush) (sets : GraphicSets) → IsSoundDisplay s
-    → run (part s modes cursor brush sets s.margins s.modes.decom) (position_item s) ≡ part s modes (at_place s.cursor.row s.cursor.col) brush sets s.margins s.modes.decom
-unfolding run sequence_in sequences_of
-position_run s modes cursor brush sets i =
+pub position_leaves : (s : Display) (modes : Modes) (cursor : Cursor) (brush : Brush) (sets : GraphicSets) → IsSoundDisplay s
+    → display_after (part s modes cursor brush sets s.margins s.modes.decom) (position_item s) ≡ part s modes (at_place s.cursor.row s.cursor.col) brush sets s.margins s.modes.decom
+unfolding display_after sequence_in sequences_of
+position_leaves s modes cursor brush sets i =
     let col : min (max s.cursor.col 1) s.grid.width ≡ s.cursor.col = omega (arith, i.cursor.col_1, i.cursor.col_last) in
     ap (λ r. part s modes (at_place r (min (max s.cursor.col 1) s.grid.width)) brush sets s.margins s.modes.decom) (line_back s i)
     ∙ ap (λ k. part s modes (at_place s.cursor.row k) brush sets s.margins s.modes.decom) col
@@ -188,10 +188,10 @@ pub record HasCursor (s : Display) (modes : Modes) (x : Display) : Type 0 where
   pub none : sets.pending ≡ None
 
 module _ (grids : GridLaws) (glyphs : GlyphLaws) where
-  pub wrap_run : (s : Display) (modes : Modes) (brush : Brush) (sets : GraphicSets) → modes.irm ≡ false → modes.decawm ≡ true → IsSoundDisplay s → AreGlyphs s.grid → length sets.g ≡ 4 → sets.pending ≡ None → (s.cursor.wrap ≡ true → AreSpellingSets sets)
-      → HasCursor s modes (run (part s modes (at_place s.cursor.row s.cursor.col) brush sets s.margins s.modes.decom) (wrap_item s.grid s.cursor))
-  unfolding run wrap_item
-  wrap_run s modes brush sets irm decawm i are four none spells = go s.cursor.wrap refl
+  pub wrap_leaves : (s : Display) (modes : Modes) (brush : Brush) (sets : GraphicSets) → modes.irm ≡ false → modes.decawm ≡ true → IsSoundDisplay s → AreGlyphs s.grid → length sets.g ≡ 4 → sets.pending ≡ None → (s.cursor.wrap ≡ true → AreSpellingSets sets)
+      → HasCursor s modes (display_after (part s modes (at_place s.cursor.row s.cursor.col) brush sets s.margins s.modes.decom) (wrap_item s.grid s.cursor))
+  unfolding display_after wrap_item
+  wrap_leaves s modes brush sets irm decawm i are four none spells = go s.cursor.wrap refl
     where
       cell : Cell
       cell = cell_at s.grid s.cursor.row s.cursor.col
@@ -202,7 +202,7 @@ module _ (grids : GridLaws) (glyphs : GlyphLaws) where
       shape : Cursor → Brush → Display
       shape c b = part s modes c b sets s.margins s.modes.decom
 
-      go : (b : Bool) → s.cursor.wrap ≡ b → HasCursor s modes (run (shape (at_place s.cursor.row s.cursor.col) brush) (cond b (brush_events (brush_of cell) ++ glyph_events cell) []))
+      go : (b : Bool) → s.cursor.wrap ≡ b → HasCursor s modes (display_after (shape (at_place s.cursor.row s.cursor.col) brush) (cond b (brush_events (brush_of cell) ++ glyph_events cell) []))
       go false e = record { brush = brush; sets = sets; is = ap (λ w. shape (at w) brush) (sym e); four = four; none = none }
       go true e =
           let last = i.cursor.wrap_last e in
@@ -211,10 +211,10 @@ module _ (grids : GridLaws) (glyphs : GlyphLaws) where
             brush = brush_of cell;
             sets = sets;
             is =
-                run-append (shape here brush) (brush_events (brush_of cell)) (glyph_events cell)
-                ∙ ap (λ y. run y (glyph_events cell)) (brush_run (shape here brush) (brush_of cell))
-                ∙ glyph_run glyphs (shape here (brush_of cell)) cell (spells e) (are s.cursor.row s.cursor.col)
-                ∙ write_glyph_run (shape here (brush_of cell)) s.cursor.row s.cursor.col cell irm decawm
+                display_after-append (shape here brush) (brush_events (brush_of cell)) (glyph_events cell)
+                ∙ ap (λ y. display_after y (glyph_events cell)) (brush_leaves (shape here brush) (brush_of cell))
+                ∙ glyph_leaves glyphs (shape here (brush_of cell)) cell (spells e) (are s.cursor.row s.cursor.col)
+                ∙ write_glyph_leaves (shape here (brush_of cell)) s.cursor.row s.cursor.col cell irm decawm
                 ∙ ap (λ g. record (shape (behind s.grid.width s.cursor.row s.cursor.col) (brush_of cell)) { grid = g }) (put_same grids s.grid s.cursor.row s.cursor.col i.grid.shape)
                 ∙ ap (λ b. shape (cond b (at_place s.cursor.row (s.cursor.col + 1)) (at true)) (brush_of cell)) (le-ltb s.cursor.col s.grid.width (omega (arith, last)))
                 ∙ ap (λ w. shape (at w) (brush_of cell)) (sym e);
@@ -224,16 +224,16 @@ module _ (grids : GridLaws) (glyphs : GlyphLaws) where
 
 -- ---- all that is left
 
-pub end_run : (s : Display) (brush : Brush) (sets : GraphicSets) → IsSoundDisplay s → length sets.g ≡ 4 → sets.pending ≡ None
-    → run (part s modes_at_power_up s.cursor brush sets s.margins s.modes.decom) (brush_events s.brush ++ (sets_events s.sets ++ (modes_item s.modes ++ shift_item s.sets.pending))) ≡ s
-end_run s brush sets i four none =
+pub end_leaves : (s : Display) (brush : Brush) (sets : GraphicSets) → IsSoundDisplay s → length sets.g ≡ 4 → sets.pending ≡ None
+    → display_after (part s modes_at_power_up s.cursor brush sets s.margins s.modes.decom) (brush_events s.brush ++ (sets_events s.sets ++ (modes_item s.modes ++ shift_item s.sets.pending))) ≡ s
+end_leaves s brush sets i four none =
     let x0 = part s modes_at_power_up s.cursor brush sets s.margins s.modes.decom in
     let x1 = part s modes_at_power_up s.cursor s.brush sets s.margins s.modes.decom in
     let x2 = with_sets x1 s.sets.g s.sets.left s.sets.right in
     let x3 : Display = record x2 { modes = s.modes } in
     let f3 = modes_item s.modes ++ shift_item s.sets.pending in
     let f2 = sets_events s.sets ++ f3 in
-    run-then x0 x1 s (brush_events s.brush) f2 (brush_run x0 s.brush)
-    (run-then x1 x2 s (sets_events s.sets) f3 (sets_run x1 s.sets four i.sets)
-    (run-then x2 x3 s (modes_item s.modes) (shift_item s.sets.pending) (modes_run x2 s.modes i.wrap)
-    (shift_run x3 s.sets.pending i.sets.pending none)))
+    display_after-then x0 x1 s (brush_events s.brush) f2 (brush_leaves x0 s.brush)
+    (display_after-then x1 x2 s (sets_events s.sets) f3 (sets_leaves x1 s.sets four i.sets)
+    (display_after-then x2 x3 s (modes_item s.modes) (shift_item s.sets.pending) (modes_leaves x2 s.modes i.wrap)
+    (shift_leaves x3 s.sets.pending i.sets.pending none)))

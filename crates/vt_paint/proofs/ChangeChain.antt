@@ -12,18 +12,18 @@ use Rattle.vt_term.specs.Sound.{IsSoundDisplay}
 use Rattle.vt_term.specs.Modes.{with_mode}
 use Rattle.vt_term.specs.Functions.{plain_escape, sequence_in, sequences_of, effect}
 use Rattle.vt_term.specs.Reports.{line_of_cursor}
-use Rattle.vt_paint.specs.Controls.{private_mode, decom, cursor_to, brush_events, save_cursor, sets_events, spelling_sets_events}
+use Rattle.vt_paint.specs.Controls.{private_mode, decom, cursor_position, brush_events, save_cursor, sets_events, spelling_sets_events}
 use Rattle.vt_paint.specs.Items.{margins_item, origin_item, position_item, wrap_item, shift_item}
 use Rattle.vt_paint.specs.Changes.{AreChanges}
 use Rattle.vt_paint.specs.ChangeEvents.{changed_cells, start_item, saved_cursor, record_item, every_mode, change_events}
 use Rattle.vt_paint.proofs.LowerLaws.{GridLaws, GlyphLaws}
-use Rattle.vt_paint.proofs.Running.{run, run-then}
-use Rattle.vt_paint.proofs.Brushes.{brush_run, with_sets, sets_run, spelling_sets, spelling_sets_run, spelling_sets_are, spelling_sets_four, spelling_sets_none}
+use Rattle.vt_paint.proofs.AfterEvents.{display_after, display_after-then}
+use Rattle.vt_paint.proofs.Brushes.{brush_leaves, with_sets, sets_leaves, spelling_sets, spelling_sets_leaves, spelling_sets_are, spelling_sets_four, spelling_sets_none}
 use Rattle.vt_paint.proofs.Painting.{IsReady, shown, AreGlyphs}
-use Rattle.vt_paint.proofs.ModeItems.{shift_run}
-use Rattle.vt_paint.proofs.Chain.{part, margins_run, origin_run, origin_set_run, position_run, wrap_run}
-use Rattle.vt_paint.proofs.ChangeRuns.{changed_cells_run}
-use Rattle.vt_paint.proofs.EveryMode.{every_mode_run}
+use Rattle.vt_paint.proofs.ModeItems.{shift_leaves}
+use Rattle.vt_paint.proofs.Chain.{part, margins_leaves, origin_leaves, origin_set_leaves, position_leaves, wrap_leaves}
+use Rattle.vt_paint.proofs.ChangeRuns.{changed_cells_leaves}
+use Rattle.vt_paint.proofs.EveryMode.{every_mode_leaves}
 
 -- the modes after the first item
 start_modes : Modes → Modes
@@ -47,12 +47,12 @@ started t = record t {
   saved = saved_at_power_up;
 }
 
-start_run : (t : Display) → run t start_item ≡ started t
-unfolding run start_item sequence_in sequences_of with_mode start_modes
-start_run t = refl
+start_leaves : (t : Display) → display_after t start_item ≡ started t
+unfolding display_after start_item sequence_in sequences_of with_mode start_modes
+start_leaves t = refl
 
-save_only : (x : Display) → run x (save_cursor ∷ []) ≡ effect save_cursor x
-unfolding run
+save_only : (x : Display) → display_after x (save_cursor ∷ []) ≡ effect save_cursor x
+unfolding display_after
 save_only x = refl
 
 -- the stops by another name
@@ -113,22 +113,22 @@ pub record HasRecord (s : Display) (modes : Modes) (x : Display) : Type 0 where
   pub four : length sets.g ≡ 4
   pub none : sets.pending ≡ None
 
-save_run : (s : Display) (modes : Modes) (sets : GraphicSets)
+save_leaves : (s : Display) (modes : Modes) (sets : GraphicSets)
     → effect save_cursor (with_sets (part (recorded s modes) modes (saved_cursor s.saved) s.saved.brush sets
     full_margins s.saved.origin) s.saved.g s.saved.gl s.saved.gr)
     ≡ part s modes (saved_cursor s.saved) s.saved.brush
     (record sets { g = s.saved.g; left = s.saved.gl; right = s.saved.gr }) full_margins s.saved.origin
 unfolding plain_escape
-save_run s modes sets = refl
+save_leaves s modes sets = refl
 
 module _ (grids : GridLaws) (glyphs : GlyphLaws) where
-  record_run : (s : Display) (modes : Modes) (cursor : Cursor) (brush : Brush) (sets : GraphicSets) → IsSoundDisplay s
+  record_leaves : (s : Display) (modes : Modes) (cursor : Cursor) (brush : Brush) (sets : GraphicSets) → IsSoundDisplay s
       → AreGlyphs s.grid → modes.irm ≡ false → modes.decawm ≡ true
       → length sets.g ≡ 4 → sets.pending ≡ None → (s.saved.wrap ≡ true → AreSpellingSets sets)
-      → HasRecord s modes (run (part (recorded s modes) modes cursor brush sets full_margins false)
+      → HasRecord s modes (display_after (part (recorded s modes) modes cursor brush sets full_margins false)
       (record_item s.grid s.saved))
   unfolding record_item
-  record_run s modes cursor brush sets i are irm decawm four none spells =
+  record_leaves s modes cursor brush sets i are irm decawm four none spells =
       let d = recorded s modes in
       let sound = recorded_sound s modes decawm i in
       let origin = s.saved.origin in
@@ -136,9 +136,9 @@ module _ (grids : GridLaws) (glyphs : GlyphLaws) where
       let e4 = sets_events (saved_sets s.saved) ++ save_cursor ∷ [] in
       let e3 = brush_events s.saved.brush ++ e4 in
       let e2 = wrap_item s.grid (saved_cursor s.saved) ++ e3 in
-      let e1 = cursor_to s.saved.row s.saved.col ∷ e2 in
-      let w1 = origin_run d modes cursor brush sets full_margins origin in
-      let w3 = wrap_run grids glyphs d modes brush sets irm decawm sound are four none spells in
+      let e1 = cursor_position s.saved.row s.saved.col ∷ e2 in
+      let w1 = origin_leaves d modes cursor brush sets full_margins origin in
+      let w3 = wrap_leaves grids glyphs d modes brush sets irm decawm sound are four none spells in
       let x0 = part d modes cursor brush sets full_margins false in
       let x1 = part d modes w1.cursor brush sets full_margins origin in
       let x2 = part d modes at brush sets full_margins origin in
@@ -150,25 +150,25 @@ module _ (grids : GridLaws) (glyphs : GlyphLaws) where
       record {
         sets = made;
         is =
-            run-then x0 x1 end (origin_item origin) e1 w1.is
-            (run-then x1 x2 end (cursor_to s.saved.row s.saved.col ∷ []) e2
-            (ap (λ n. run x1 (cursor_to n s.saved.col ∷ [])) (sym (recorded_line s modes i))
-            ∙ position_run d modes w1.cursor brush sets sound)
-            (run-then x2 x3 end (wrap_item s.grid (saved_cursor s.saved)) e3 w3.is
-            (run-then x3 x4 end (brush_events s.saved.brush) e4 (brush_run x3 s.saved.brush)
-            (run-then x4 x5 end (sets_events (saved_sets s.saved)) (save_cursor ∷ [])
-            (sets_run x4 (saved_sets s.saved) w3.four i.saved_sets)
-            (save_only x5 ∙ save_run s modes w3.sets)))));
+            display_after-then x0 x1 end (origin_item origin) e1 w1.is
+            (display_after-then x1 x2 end (cursor_position s.saved.row s.saved.col ∷ []) e2
+            (ap (λ n. display_after x1 (cursor_position n s.saved.col ∷ [])) (sym (recorded_line s modes i))
+            ∙ position_leaves d modes w1.cursor brush sets sound)
+            (display_after-then x2 x3 end (wrap_item s.grid (saved_cursor s.saved)) e3 w3.is
+            (display_after-then x3 x4 end (brush_events s.saved.brush) e4 (brush_leaves x3 s.saved.brush)
+            (display_after-then x4 x5 end (sets_events (saved_sets s.saved)) (save_cursor ∷ [])
+            (sets_leaves x4 (saved_sets s.saved) w3.four i.saved_sets)
+            (save_only x5 ∙ save_leaves s modes w3.sets)))));
         four = i.saved_sets.four;
         none = w3.none;
       }
 
   -- ---- the whole
 
-  pub changes_run : (marks : List (List Bool)) (s t : Display) → IsSoundDisplay s → IsSoundDisplay t → AreGlyphs s.grid
-      → AreChanges marks t s → run t (change_events marks s) ≡ s
+  pub changes_leaves : (marks : List (List Bool)) (s t : Display) → IsSoundDisplay s → IsSoundDisplay t → AreGlyphs s.grid
+      → AreChanges marks t s → display_after t (change_events marks s) ≡ s
   unfolding change_events start_modes
-  changes_run marks s t i j are changes =
+  changes_leaves marks s t i j are changes =
       let modes = start_modes t.modes in
       let place = at_place s.cursor.row s.cursor.col in
       let base : Display = record (started t) { sets = spelling_sets sets_at_power_up } in
@@ -190,17 +190,17 @@ module _ (grids : GridLaws) (glyphs : GlyphLaws) where
       let o4 = record_item s.grid s.saved ++ o5 in
       let o3 = changed_cells marks s.grid ++ o4 in
       let o2 = spelling_sets_events ++ o3 in
-      let w3 = changed_cells_run grids glyphs marks base t.grid s.grid base.cursor base.brush ready j.grid.shape
+      let w3 = changed_cells_leaves grids glyphs marks base t.grid s.grid base.cursor base.brush ready j.grid.shape
       i.grid.shape changes.width are changes.marked in
-      let w4 = record_run s modes w3.cursor w3.brush base.sets i are refl refl
+      let w4 = record_leaves s modes w3.cursor w3.brush base.sets i are refl refl
       (spelling_sets_four sets_at_power_up refl) (spelling_sets_none sets_at_power_up refl) (λ h. ready.sets) in
       let sets = spelling_sets w4.sets in
       let four = spelling_sets_four w4.sets w4.four in
       let none = spelling_sets_none w4.sets w4.none in
       let spells = spelling_sets_are w4.sets w4.four w4.none in
-      let w6 = margins_run s modes (saved_cursor s.saved) s.saved.brush sets s.margins origin i.margins in
-      let w7 = origin_set_run s modes w6.cursor s.saved.brush sets s.margins origin s.modes.decom in
-      let w9 = wrap_run grids glyphs s modes s.saved.brush sets refl refl i are four none (λ h. spells) in
+      let w6 = margins_leaves s modes (saved_cursor s.saved) s.saved.brush sets s.margins origin i.margins in
+      let w7 = origin_set_leaves s modes w6.cursor s.saved.brush sets s.margins origin s.modes.decom in
+      let w9 = wrap_leaves grids glyphs s modes s.saved.brush sets refl refl i are four none (λ h. spells) in
       let x1 = started t in
       let x3 = part (recorded s modes) modes w3.cursor w3.brush base.sets full_margins false in
       let x4 = part s modes (saved_cursor s.saved) s.saved.brush w4.sets full_margins origin in
@@ -212,17 +212,17 @@ module _ (grids : GridLaws) (glyphs : GlyphLaws) where
       let x10 = part s modes s.cursor s.brush w9.sets s.margins s.modes.decom in
       let x11 = with_sets x10 s.sets.g s.sets.left s.sets.right in
       let x12 : Display = record x11 { modes = s.modes } in
-      run-then t x1 s start_item o2 (start_run t)
-      (run-then x1 base s spelling_sets_events o3 (spelling_sets_run x1)
-      (run-then base x3 s (changed_cells marks s.grid) o4
-      (with_stops (run base (changed_cells marks s.grid)) (shown base s.grid w3.cursor w3.brush) s.stops w3.is changes.stops)
-      (run-then x3 x4 s (record_item s.grid s.saved) o5 w4.is
-      (run-then x4 x5 s spelling_sets_events o6 (spelling_sets_run x4)
-      (run-then x5 x6 s (margins_item s.margins) o7 w6.is
-      (run-then x6 x7 s (private_mode decom s.modes.decom ∷ []) o8 w7.is
-      (run-then x7 x8 s (position_item s) o9 (position_run s modes w7.cursor s.saved.brush sets i)
-      (run-then x8 x9 s (wrap_item s.grid s.cursor) o10 w9.is
-      (run-then x9 x10 s (brush_events s.brush) o11 (brush_run x9 s.brush)
-      (run-then x10 x11 s (sets_events s.sets) o12 (sets_run x10 s.sets w9.four i.sets)
-      (run-then x11 x12 s (every_mode s.modes) (shift_item s.sets.pending) (every_mode_run x11 modes s.modes i.wrap)
-      (shift_run x12 s.sets.pending i.sets.pending w9.none))))))))))))
+      display_after-then t x1 s start_item o2 (start_leaves t)
+      (display_after-then x1 base s spelling_sets_events o3 (spelling_sets_leaves x1)
+      (display_after-then base x3 s (changed_cells marks s.grid) o4
+      (with_stops (display_after base (changed_cells marks s.grid)) (shown base s.grid w3.cursor w3.brush) s.stops w3.is changes.stops)
+      (display_after-then x3 x4 s (record_item s.grid s.saved) o5 w4.is
+      (display_after-then x4 x5 s spelling_sets_events o6 (spelling_sets_leaves x4)
+      (display_after-then x5 x6 s (margins_item s.margins) o7 w6.is
+      (display_after-then x6 x7 s (private_mode decom s.modes.decom ∷ []) o8 w7.is
+      (display_after-then x7 x8 s (position_item s) o9 (position_leaves s modes w7.cursor s.saved.brush sets i)
+      (display_after-then x8 x9 s (wrap_item s.grid s.cursor) o10 w9.is
+      (display_after-then x9 x10 s (brush_events s.brush) o11 (brush_leaves x9 s.brush)
+      (display_after-then x10 x11 s (sets_events s.sets) o12 (sets_leaves x10 s.sets w9.four i.sets)
+      (display_after-then x11 x12 s (every_mode s.modes) (shift_item s.sets.pending) (every_mode_leaves x11 modes s.modes i.wrap)
+      (shift_leaves x12 s.sets.pending i.sets.pending w9.none))))))))))))

@@ -8,20 +8,20 @@ use Rattle.vt_screen.specs.Cells.{brush_of, cell_of}
 use Rattle.vt_screen.specs.Grid.{Grid, IsGrid, cell_at, grid_of}
 use Rattle.vt_term.specs.declared.state.Cursor.{Cursor}
 use Rattle.vt_term.specs.State.{Display, at_place}
-use Rattle.vt_term.specs.Rendition.{rendered}
+use Rattle.vt_term.specs.Rendition.{with_attribute}
 use Rattle.vt_term.specs.Functions.{sequence_in, sequences_of}
 use Rattle.vt_paint.specs.Same.{same_brush}
-use Rattle.vt_paint.specs.Controls.{cursor_to, protection_to, rendition_to, brush_events}
+use Rattle.vt_paint.specs.Controls.{cursor_position, protection_to, rendition_to, brush_events}
 use Rattle.vt_paint.specs.Pieces.{glyph_events}
 use Rattle.vt_paint.specs.Changes.{same_cell, differs_at, is_marked}
 use Rattle.vt_paint.specs.ChangeEvents.{has_all, all_attributes, short_brush_events, change_of, change, changes_from, changed_row, changed_rows, changed_cells}
 use Rattle.vt_paint.proofs.LowerLaws.{GridLaws, GlyphLaws}
-use Rattle.vt_paint.proofs.Running.{run, run-append}
+use Rattle.vt_paint.proofs.AfterEvents.{display_after, display_after-append}
 use Rattle.vt_paint.proofs.Equality.{and_true, not_false, same_brush-is}
 use Rattle.vt_paint.proofs.Grids.{painted, painted_none, painted_row, painted_skip, painted_put, painted_all}
-use Rattle.vt_paint.proofs.Brushes.{brush_run}
-use Rattle.vt_paint.proofs.Glyphs.{glyph_run}
-use Rattle.vt_paint.proofs.Painting.{IsReady, shown, behind, AreGlyphs, cursor_to_run, write_glyph_run}
+use Rattle.vt_paint.proofs.Brushes.{brush_leaves}
+use Rattle.vt_paint.proofs.Glyphs.{glyph_leaves}
+use Rattle.vt_paint.proofs.Painting.{IsReady, shown, behind, AreGlyphs, cursor_position_leaves, write_glyph_leaves}
 
 pub same_cell-is : (a b : Cell) → same_cell a b ≡ true → a ≡ b
 same_cell-is a b h =
@@ -40,28 +40,28 @@ all_set true true false r h = absurd cc
 all_set true false k r h = absurd cc
 all_set false u k r h = absurd cc
 
-with_protection_run : (x : Display) (r : Rendition) (p : Bool)
-    → run (record x { brush = record x.brush { rendition = r } }) (protection_to p ∷ [])
+with_protection_leaves : (x : Display) (r : Rendition) (p : Bool)
+    → display_after (record x { brush = record x.brush { rendition = r } }) (protection_to p ∷ [])
     ≡ record x { brush = record { rendition = r; protected = p } }
-unfolding run sequence_in sequences_of
-with_protection_run x r true = refl
-with_protection_run x r false = refl
+unfolding display_after sequence_in sequences_of
+with_protection_leaves x r true = refl
+with_protection_leaves x r false = refl
 
-pub short_brush_run : (x : Display) (brush : Brush) → run x (short_brush_events brush) ≡ record x { brush = brush }
-unfolding run short_brush_events brush_events sequence_in sequences_of rendered
-short_brush_run x brush = go (has_all brush.rendition) refl
+pub short_brush_leaves : (x : Display) (brush : Brush) → display_after x (short_brush_events brush) ≡ record x { brush = brush }
+unfolding display_after short_brush_events brush_events sequence_in sequences_of with_attribute
+short_brush_leaves x brush = go (has_all brush.rendition) refl
   where
     full : Rendition
     full = record { bold = true; underline = true; blink = true; reverse = true }
 
     go : (b : Bool) → has_all brush.rendition ≡ b
-        → run x (cond b all_attributes (rendition_to brush.rendition) ∷ protection_to brush.protected ∷ [])
+        → display_after x (cond b all_attributes (rendition_to brush.rendition) ∷ protection_to brush.protected ∷ [])
         ≡ record x { brush = brush }
     go true e =
-        with_protection_run x full brush.protected
+        with_protection_leaves x full brush.protected
         ∙ ap (λ r. record x { brush = record { rendition = r; protected = brush.protected } })
         (all_set brush.rendition.bold brush.rendition.underline brush.rendition.blink brush.rendition.reverse e)
-    go false e = brush_run x brush
+    go false e = brush_leaves x brush
 
 -- ---- the cells
 
@@ -77,42 +77,42 @@ pub record IsWritten (base : Display) (b g : Grid) (r c : ℕ) (x : Display) : T
 
 module _ (grids : GridLaws) (glyphs : GlyphLaws) where
   -- one cell, with its place and its brush
-  one_run : (base : Display) (b g : Grid) (r c : ℕ) (cursor : Cursor) (brush : Brush) → IsReady base → AreGlyphs g
+  one_leaves : (base : Display) (b g : Grid) (r c : ℕ) (cursor : Cursor) (brush : Brush) → IsReady base → AreGlyphs g
       → 1 ≤ r → r ≤ 24 → 1 ≤ c → c ≤ g.width
-      → run (shown base (painted (cell_at b) g r c) cursor brush)
-      (cursor_to r c ∷ (short_brush_events (brush_of (cell_at g r c)) ++ glyph_events (cell_at g r c)))
+      → display_after (shown base (painted (cell_at b) g r c) cursor brush)
+      (cursor_position r c ∷ (short_brush_events (brush_of (cell_at g r c)) ++ glyph_events (cell_at g r c)))
       ≡ shown base (painted (cell_at b) g r (c + 1)) (behind g.width r c) (brush_of (cell_at g r c))
-  unfolding run
-  one_run base b g r c cursor brush ready are r1 r24 c1 cw =
+  unfolding display_after
+  one_leaves base b g r c cursor brush ready are r1 r24 c1 cw =
       let cell = cell_at g r c in
       let before = painted (cell_at b) g r c in
       let es = short_brush_events (brush_of cell) in
       let x = shown base before (at_place r c) (brush_of cell) in
-      ap (λ y. run y (es ++ glyph_events cell))
-      (cursor_to_run (shown base before cursor brush) r c ready.decom r1 r24 c1 cw)
-      ∙ run-append (shown base before (at_place r c) brush) es (glyph_events cell)
-      ∙ ap (λ y. run y (glyph_events cell)) (short_brush_run (shown base before (at_place r c) brush) (brush_of cell))
-      ∙ glyph_run glyphs x cell ready.sets (are r c)
-      ∙ write_glyph_run x r c cell ready.irm ready.decawm
+      ap (λ y. display_after y (es ++ glyph_events cell))
+      (cursor_position_leaves (shown base before cursor brush) r c ready.decom r1 r24 c1 cw)
+      ∙ display_after-append (shown base before (at_place r c) brush) es (glyph_events cell)
+      ∙ ap (λ y. display_after y (glyph_events cell)) (short_brush_leaves (shown base before (at_place r c) brush) (brush_of cell))
+      ∙ glyph_leaves glyphs x cell ready.sets (are r c)
+      ∙ write_glyph_leaves x r c cell ready.irm ready.decawm
       ∙ ap (λ y. shown base y (behind g.width r c) (brush_of cell)) (painted_put grids (cell_at b) g r c)
 
-  change_run : (marks : List (List Bool)) (base : Display) (b g : Grid) (r c : ℕ) (x : Display) → IsReady base
+  change_leaves : (marks : List (List Bool)) (base : Display) (b g : Grid) (r c : ℕ) (x : Display) → IsReady base
       → AreGlyphs g → AreMarked marks b g → 1 ≤ r → r ≤ 24 → 1 ≤ c → c ≤ g.width
-      → IsWritten base b g r c x → IsWritten base b g r (c + 1) (run x (change marks g r c))
-  unfolding run change_of
-  change_run marks base b g r c x ready are marked r1 r24 c1 cw w = go (is_marked marks r c) (marked r c r1 r24 c1 cw)
+      → IsWritten base b g r c x → IsWritten base b g r (c + 1) (display_after x (change marks g r c))
+  unfolding display_after change_of
+  change_leaves marks base b g r c x ready are marked r1 r24 c1 cw w = go (is_marked marks r c) (marked r c r1 r24 c1 cw)
     where
       cell : Cell
       cell = cell_at g r c
 
       go : (m : Bool) → m ≡ differs_at b g r c → IsWritten base b g r (c + 1)
-          (run x (cond m (cursor_to r c ∷ (short_brush_events (brush_of cell) ++ glyph_events cell)) []))
+          (display_after x (cond m (cursor_position r c ∷ (short_brush_events (brush_of cell) ++ glyph_events cell)) []))
       go true e = record {
         cursor = behind g.width r c;
         brush = brush_of cell;
         is =
-            ap (λ y. run y (cursor_to r c ∷ (short_brush_events (brush_of cell) ++ glyph_events cell))) w.is
-            ∙ one_run base b g r c w.cursor w.brush ready are r1 r24 c1 cw;
+            ap (λ y. display_after y (cursor_position r c ∷ (short_brush_events (brush_of cell) ++ glyph_events cell))) w.is
+            ∙ one_leaves base b g r c w.cursor w.brush ready are r1 r24 c1 cw;
       }
       go false e = record {
         cursor = w.cursor;
@@ -124,46 +124,46 @@ module _ (grids : GridLaws) (glyphs : GlyphLaws) where
             (sym (same_cell-is (cell_at b r c) cell (not_false (same_cell (cell_at b r c) cell) (sym e)))));
       }
 
-  changes_from_run : (marks : List (List Bool)) (base : Display) (b g : Grid) (r n c : ℕ) (x : Display) → IsReady base
+  changes_from_leaves : (marks : List (List Bool)) (base : Display) (b g : Grid) (r n c : ℕ) (x : Display) → IsReady base
       → AreGlyphs g → AreMarked marks b g → 1 ≤ r → r ≤ 24 → 1 ≤ c → c + n ≡ g.width + 1
-      → IsWritten base b g r c x → IsWritten base b g r (g.width + 1) (run x (changes_from marks g r c n))
-  unfolding run
-  changes_from_run marks base b g r zero c x ready are marked r1 r24 c1 e w =
+      → IsWritten base b g r c x → IsWritten base b g r (g.width + 1) (display_after x (changes_from marks g r c n))
+  unfolding display_after
+  changes_from_leaves marks base b g r zero c x ready are marked r1 r24 c1 e w =
       let same : c ≡ g.width + 1 = omega arith in
       record {
         cursor = w.cursor;
         brush = w.brush;
         is = w.is ∙ ap (λ n. shown base (painted (cell_at b) g r n) w.cursor w.brush) same;
       }
-  changes_from_run marks base b g r (suc n) c x ready are marked r1 r24 c1 e w =
+  changes_from_leaves marks base b g r (suc n) c x ready are marked r1 r24 c1 e w =
       subst (λ (y : Display). IsWritten base b g r (g.width + 1) y)
-      (sym (run-append x (change marks g r c) (changes_from marks g r (c + 1) n)))
-      (changes_from_run marks base b g r n (c + 1) (run x (change marks g r c)) ready are marked r1 r24 (omega arith)
+      (sym (display_after-append x (change marks g r c) (changes_from marks g r (c + 1) n)))
+      (changes_from_leaves marks base b g r n (c + 1) (display_after x (change marks g r c)) ready are marked r1 r24 (omega arith)
       (omega arith)
-      (change_run marks base b g r c x ready are marked r1 r24 c1 (omega arith) w))
+      (change_leaves marks base b g r c x ready are marked r1 r24 c1 (omega arith) w))
 
-  changed_rows_run : (marks : List (List Bool)) (base : Display) (b g : Grid) (n r : ℕ) (x : Display) → IsReady base
+  changed_rows_leaves : (marks : List (List Bool)) (base : Display) (b g : Grid) (n r : ℕ) (x : Display) → IsReady base
       → AreGlyphs g → AreMarked marks b g → 1 ≤ r → r + n ≡ 25
-      → IsWritten base b g r 1 x → IsWritten base b g 25 1 (run x (changed_rows marks g r n))
-  unfolding run
-  changed_rows_run marks base b g zero r x ready are marked r1 e w =
+      → IsWritten base b g r 1 x → IsWritten base b g 25 1 (display_after x (changed_rows marks g r n))
+  unfolding display_after
+  changed_rows_leaves marks base b g zero r x ready are marked r1 e w =
       let same : r ≡ 25 = omega arith in
       record {
         cursor = w.cursor;
         brush = w.brush;
         is = w.is ∙ ap (λ n. shown base (painted (cell_at b) g n 1) w.cursor w.brush) same;
       }
-  changed_rows_run marks base b g (suc n) r x ready are marked r1 e w =
-      let row = changes_from_run marks base b g r g.width 1 x ready are marked r1 (omega arith) (omega arith)
+  changed_rows_leaves marks base b g (suc n) r x ready are marked r1 e w =
+      let row = changes_from_leaves marks base b g r g.width 1 x ready are marked r1 (omega arith) (omega arith)
       (omega arith) w in
-      let next : IsWritten base b g (r + 1) 1 (run x (changed_row marks g r)) = record {
+      let next : IsWritten base b g (r + 1) 1 (display_after x (changed_row marks g r)) = record {
         cursor = row.cursor;
         brush = row.brush;
         is = row.is ∙ ap (λ y. shown base y row.cursor row.brush) (painted_row grids (cell_at b) g r);
       } in
       subst (λ (y : Display). IsWritten base b g 25 1 y)
-      (sym (run-append x (changed_row marks g r) (changed_rows marks g (r + 1) n)))
-      (changed_rows_run marks base b g n (r + 1) (run x (changed_row marks g r)) ready are marked (omega arith)
+      (sym (display_after-append x (changed_row marks g r) (changed_rows marks g (r + 1) n)))
+      (changed_rows_leaves marks base b g n (r + 1) (display_after x (changed_row marks g r)) ready are marked (omega arith)
       (omega arith) next)
 
   -- all cells are those asked for
@@ -172,18 +172,18 @@ module _ (grids : GridLaws) (glyphs : GlyphLaws) where
     pub brush : Brush
     pub is : x ≡ shown base g cursor brush
 
-  pub changed_cells_run : (marks : List (List Bool)) (base : Display) (b g : Grid) (cursor : Cursor) (brush : Brush)
+  pub changed_cells_leaves : (marks : List (List Bool)) (base : Display) (b g : Grid) (cursor : Cursor) (brush : Brush)
       → IsReady base → IsGrid b → IsGrid g → b.width ≡ g.width → AreGlyphs g → AreMarked marks b g
-      → HasAllCells base g (run (shown base b cursor brush) (changed_cells marks g))
+      → HasAllCells base g (display_after (shown base b cursor brush) (changed_cells marks g))
   unfolding changed_cells
-  changed_cells_run marks base b g cursor brush ready is_b is_g same are marked =
+  changed_cells_leaves marks base b g cursor brush ready is_b is_g same are marked =
       let start : IsWritten base b g 1 1 (shown base b cursor brush) = record {
         cursor = cursor;
         brush = brush;
         is = ap (λ y. shown base y cursor brush) (sym (grids.places.own_cells b is_b) ∙ ap (λ n. grid_of n (cell_at b)) same
             ∙ painted_none grids (cell_at b) g);
       } in
-      let w = changed_rows_run marks base b g 24 1 (shown base b cursor brush) ready are marked (omega arith) refl
+      let w = changed_rows_leaves marks base b g 24 1 (shown base b cursor brush) ready are marked (omega arith) refl
       start in
       record {
         cursor = w.cursor;

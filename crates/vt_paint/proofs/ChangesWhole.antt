@@ -17,140 +17,140 @@ use Rattle.vt_term.specs.State.{Display, State, saved_sets}
 use Rattle.vt_term.specs.Sound.{IsSoundDisplay, IsSound}
 use Rattle.vt_term.specs.Reports.{line_of_cursor}
 use Rattle.vt_term.specs.Play.{Played, after_events, reports_of, play}
-use Rattle.vt_paint.specs.Controls.{private_mode, ansi_mode, decom, cursor_to, brush_events, sets_events}
+use Rattle.vt_paint.specs.Controls.{private_mode, ansi_mode, decom, cursor_position, brush_events, sets_events}
 use Rattle.vt_paint.specs.Items.{margins_item, origin_item, position_item, wrap_item}
 use Rattle.vt_paint.specs.Changes.{differs_at, differing_from, differing_rows, differing, is_marked, AreChanges}
 use Rattle.vt_paint.specs.ChangeEvents.{keypad_event, soft_reset, change_of, change, changes_from, changed_row, changed_rows, changed_cells, start_item, saved_cursor, record_item, every_mode, change_events}
 use Rattle.vt_paint.proofs.LowerLaws.{GridLaws, GlyphLaws}
-use Rattle.vt_paint.proofs.Running.{run-after_events}
+use Rattle.vt_paint.proofs.AfterEvents.{display_after-after_events}
 use Rattle.vt_paint.proofs.Painting.{AreGlyphs}
-use Rattle.vt_paint.proofs.Fine.{AreFine, fine-append, fine-upto, fine-none, fine-where, cursor_to_fine, ansi_mode_fine, private_mode_fine, small_ansi_mode_fine, small_private_mode_fine, soft_reset_fine, brush_fine, short_brush_fine, save_fine, keypad_event_fine, report_form_event_fine, sets_fine, spelling_sets_fine}
-use Rattle.vt_paint.proofs.Whole.{glyph_fine, wrap_item_fine, margins_item_fine, shift_item_fine, line_small, width_small, sound_glyphs}
+use Rattle.vt_paint.proofs.Within.{AreSpelledWithin, within-append, within-upto, within-none, within-where, cursor_position_within, ansi_mode_within, private_mode_within, small_ansi_mode_within, small_private_mode_within, soft_reset_within, brush_within, short_brush_within, save_within, keypad_event_within, report_form_event_within, sets_within, spelling_sets_within}
+use Rattle.vt_paint.proofs.Whole.{glyph_within, wrap_item_within, margins_item_within, shift_item_within, line_small, width_small, sound_glyphs}
 use Rattle.vt_paint.proofs.ChangeRuns.{AreMarked}
-use Rattle.vt_paint.proofs.ChangeChain.{changes_run}
+use Rattle.vt_paint.proofs.ChangeChain.{changes_leaves}
 
 -- ---- the items are fine
 
-start_fine : AreFine 10 start_item
+start_within : AreSpelledWithin 10 start_item
 unfolding start_item
-start_fine = fine-append 5 5 (soft_reset ∷ []) _ soft_reset_fine (small_private_mode_fine 7 true (omega arith))
+start_within = within-append 5 5 (soft_reset ∷ []) _ soft_reset_within (small_private_mode_within 7 true (omega arith))
 
-small_origin_fine : (on : Bool) → AreFine 5 (origin_item on)
+small_origin_within : (on : Bool) → AreSpelledWithin 5 (origin_item on)
 unfolding origin_item
-small_origin_fine on = fine-where 5 on _ (small_private_mode_fine 6 true (omega arith))
+small_origin_within on = within-where 5 on _ (small_private_mode_within 6 true (omega arith))
 
-every_mode_fine : (m : Modes) → AreFine 54 (every_mode m)
+every_mode_within : (m : Modes) → AreSpelledWithin 54 (every_mode m)
 unfolding every_mode
-every_mode_fine m =
-    fine-upto _ 54 _ (omega arith)
-    (fine-append _ _ (ansi_mode 2 m.kam ∷ []) _ (small_ansi_mode_fine 2 m.kam (omega arith))
-    (fine-append _ _ (ansi_mode 4 m.irm ∷ []) _ (small_ansi_mode_fine 4 m.irm (omega arith))
-    (fine-append _ _ (ansi_mode 12 m.srm ∷ []) _ (ansi_mode_fine 12 m.srm (omega arith))
-    (fine-append _ _ (ansi_mode 20 m.lnm ∷ []) _ (ansi_mode_fine 20 m.lnm (omega arith))
-    (fine-append _ _ (private_mode 1 m.decckm ∷ []) _ (small_private_mode_fine 1 m.decckm (omega arith))
-    (fine-append _ _ (private_mode 4 m.decsclm ∷ []) _ (small_private_mode_fine 4 m.decsclm (omega arith))
-    (fine-append _ _ (private_mode 5 m.decscnm ∷ []) _ (small_private_mode_fine 5 m.decscnm (omega arith))
-    (fine-append _ _ (private_mode 7 m.decawm ∷ []) _ (small_private_mode_fine 7 m.decawm (omega arith))
-    (fine-append _ _ (private_mode 8 m.decarm ∷ []) _ (small_private_mode_fine 8 m.decarm (omega arith))
-    (fine-append _ _ (private_mode 25 m.dectcem ∷ []) _ (private_mode_fine 25 m.dectcem (omega arith))
-    (fine-append _ _ (keypad_event m.keypad_application ∷ []) _ (keypad_event_fine m.keypad_application)
-    (report_form_event_fine m.reports_8bit))))))))))))
+every_mode_within m =
+    within-upto _ 54 _ (omega arith)
+    (within-append _ _ (ansi_mode 2 m.kam ∷ []) _ (small_ansi_mode_within 2 m.kam (omega arith))
+    (within-append _ _ (ansi_mode 4 m.irm ∷ []) _ (small_ansi_mode_within 4 m.irm (omega arith))
+    (within-append _ _ (ansi_mode 12 m.srm ∷ []) _ (ansi_mode_within 12 m.srm (omega arith))
+    (within-append _ _ (ansi_mode 20 m.lnm ∷ []) _ (ansi_mode_within 20 m.lnm (omega arith))
+    (within-append _ _ (private_mode 1 m.decckm ∷ []) _ (small_private_mode_within 1 m.decckm (omega arith))
+    (within-append _ _ (private_mode 4 m.decsclm ∷ []) _ (small_private_mode_within 4 m.decsclm (omega arith))
+    (within-append _ _ (private_mode 5 m.decscnm ∷ []) _ (small_private_mode_within 5 m.decscnm (omega arith))
+    (within-append _ _ (private_mode 7 m.decawm ∷ []) _ (small_private_mode_within 7 m.decawm (omega arith))
+    (within-append _ _ (private_mode 8 m.decarm ∷ []) _ (small_private_mode_within 8 m.decarm (omega arith))
+    (within-append _ _ (private_mode 25 m.dectcem ∷ []) _ (private_mode_within 25 m.dectcem (omega arith))
+    (within-append _ _ (keypad_event m.keypad_application ∷ []) _ (keypad_event_within m.keypad_application)
+    (report_form_event_within m.reports_8bit))))))))))))
 
 module _ (glyphs : GlyphLaws) where
-  record_item_fine : (g : Grid) (saved : Saved) → AreGlyphs g → saved.row ≤ 24 → saved.col ≤ 132
-      → AreFine 69 (record_item g saved)
+  record_item_within : (g : Grid) (saved : Saved) → AreGlyphs g → saved.row ≤ 24 → saved.col ≤ 132
+      → AreSpelledWithin 69 (record_item g saved)
   unfolding record_item
-  record_item_fine g saved are h k =
-      fine-upto _ 69 _ (omega arith)
-      (fine-append _ _ _ _ (small_origin_fine saved.origin)
-      (fine-append _ _ (cursor_to saved.row saved.col ∷ []) _ (cursor_to_fine saved.row saved.col h k)
-      (fine-append _ _ _ _ (wrap_item_fine glyphs g (saved_cursor saved) are)
-      (fine-append _ _ _ _ (brush_fine saved.brush)
-      (fine-append _ _ _ _ (sets_fine (saved_sets saved)) save_fine)))))
+  record_item_within g saved are h k =
+      within-upto _ 69 _ (omega arith)
+      (within-append _ _ _ _ (small_origin_within saved.origin)
+      (within-append _ _ (cursor_position saved.row saved.col ∷ []) _ (cursor_position_within saved.row saved.col h k)
+      (within-append _ _ _ _ (wrap_item_within glyphs g (saved_cursor saved) are)
+      (within-append _ _ _ _ (brush_within saved.brush)
+      (within-append _ _ _ _ (sets_within (saved_sets saved)) save_within)))))
 
-  change_fine : (r c : ℕ) (marked : Bool) (cell : Cell) (g : Grid) → AreGlyphs g → cell ≡ cell_at g r c → r ≤ 24
-      → c ≤ 132 → AreFine (28 * cond marked 1 0) (change_of r c marked cell)
+  change_within : (r c : ℕ) (marked : Bool) (cell : Cell) (g : Grid) → AreGlyphs g → cell ≡ cell_at g r c → r ≤ 24
+      → c ≤ 132 → AreSpelledWithin (28 * cond marked 1 0) (change_of r c marked cell)
   unfolding change_of
-  change_fine r c false cell g are is h k = fine-none
-  change_fine r c true cell g are is h k =
-      fine-upto 27 28 _ (omega arith)
-      (fine-append 9 18 (cursor_to r c ∷ []) _ (cursor_to_fine r c h k)
-      (fine-append 15 3 _ _ (short_brush_fine (brush_of cell)) (glyph_fine glyphs cell (rw is (are r c)))))
+  change_within r c false cell g are is h k = within-none
+  change_within r c true cell g are is h k =
+      within-upto 27 28 _ (omega arith)
+      (within-append 9 18 (cursor_position r c ∷ []) _ (cursor_position_within r c h k)
+      (within-append 15 3 _ _ (short_brush_within (brush_of cell)) (glyph_within glyphs cell (rw is (are r c)))))
 
-  changes_from_fine : (marks : List (List Bool)) (b g : Grid) (r n c : ℕ) → AreGlyphs g → AreMarked marks b g → 1 ≤ r
+  changes_from_within : (marks : List (List Bool)) (b g : Grid) (r n c : ℕ) → AreGlyphs g → AreMarked marks b g → 1 ≤ r
       → r ≤ 24 → 1 ≤ c → c + n ≤ g.width + 1 → g.width ≤ 132
-      → AreFine (28 * differing_from b g r c n) (changes_from marks g r c n)
-  changes_from_fine marks b g r zero c are marked r1 r24 c1 e w = fine-none
-  changes_from_fine marks b g r (suc n) c are marked r1 r24 c1 e w =
+      → AreSpelledWithin (28 * differing_from b g r c n) (changes_from marks g r c n)
+  changes_from_within marks b g r zero c are marked r1 r24 c1 e w = within-none
+  changes_from_within marks b g r (suc n) c are marked r1 r24 c1 e w =
       let count : ℕ → ℕ = λ c. cond (differs_at b g r c) 1 0 in
-      let one : AreFine (28 * count c) (change marks g r c) =
-      rw (sym (marked r c r1 r24 c1 (omega arith))) (change_fine r c (is_marked marks r c) (cell_at g r c) g are refl
+      let one : AreSpelledWithin (28 * count c) (change marks g r c) =
+      rw (sym (marked r c r1 r24 c1 (omega arith))) (change_within r c (is_marked marks r c) (cell_at g r c) g are refl
       r24 (omega arith)) in
       let sum : differing_from b g r c (suc n) ≡ count c + differing_from b g r (c + 1) n =
       sum_by-cons count c (range_with_len (c + 1) n) in
-      fine-upto (28 * count c + 28 * differing_from b g r (c + 1) n) (28 * differing_from b g r c (suc n)) _
+      within-upto (28 * count c + 28 * differing_from b g r (c + 1) n) (28 * differing_from b g r c (suc n)) _
       (omega (arith, sum))
-      (fine-append (28 * count c) (28 * differing_from b g r (c + 1) n) (change marks g r c)
+      (within-append (28 * count c) (28 * differing_from b g r (c + 1) n) (change marks g r c)
       (changes_from marks g r (c + 1) n) one
-      (changes_from_fine marks b g r n (c + 1) are marked r1 r24 (omega arith) (omega arith) w))
+      (changes_from_within marks b g r n (c + 1) are marked r1 r24 (omega arith) (omega arith) w))
 
-  changed_rows_fine : (marks : List (List Bool)) (b g : Grid) (n r : ℕ) → AreGlyphs g → AreMarked marks b g → 1 ≤ r
+  changed_rows_within : (marks : List (List Bool)) (b g : Grid) (n r : ℕ) → AreGlyphs g → AreMarked marks b g → 1 ≤ r
       → r + n ≤ 25 → g.width ≤ 132
-      → AreFine (28 * differing_rows b g r n) (changed_rows marks g r n)
-  changed_rows_fine marks b g zero r are marked r1 e w = fine-none
-  changed_rows_fine marks b g (suc n) r are marked r1 e w =
+      → AreSpelledWithin (28 * differing_rows b g r n) (changed_rows marks g r n)
+  changed_rows_within marks b g zero r are marked r1 e w = within-none
+  changed_rows_within marks b g (suc n) r are marked r1 e w =
       let count : ℕ → ℕ = λ r. differing_from b g r 1 g.width in
       let sum : differing_rows b g r (suc n) ≡ count r + differing_rows b g (r + 1) n =
       sum_by-cons count r (range_with_len (r + 1) n) in
-      fine-upto (28 * count r + 28 * differing_rows b g (r + 1) n) (28 * differing_rows b g r (suc n)) _
+      within-upto (28 * count r + 28 * differing_rows b g (r + 1) n) (28 * differing_rows b g r (suc n)) _
       (omega (arith, sum))
-      (fine-append (28 * count r) (28 * differing_rows b g (r + 1) n) (changed_row marks g r)
+      (within-append (28 * count r) (28 * differing_rows b g (r + 1) n) (changed_row marks g r)
       (changed_rows marks g (r + 1) n)
-      (changes_from_fine marks b g r g.width 1 are marked r1 (omega arith) (omega arith) (omega arith) w)
-      (changed_rows_fine marks b g n (r + 1) are marked (omega arith) (omega arith) w))
+      (changes_from_within marks b g r g.width 1 are marked r1 (omega arith) (omega arith) (omega arith) w)
+      (changed_rows_within marks b g n (r + 1) are marked (omega arith) (omega arith) w))
 
-  changed_cells_fine : (marks : List (List Bool)) (b g : Grid) → AreGlyphs g → AreMarked marks b g → g.width ≤ 132
-      → AreFine (28 * differing b g) (changed_cells marks g)
+  changed_cells_within : (marks : List (List Bool)) (b g : Grid) → AreGlyphs g → AreMarked marks b g → g.width ≤ 132
+      → AreSpelledWithin (28 * differing b g) (changed_cells marks g)
   unfolding changed_cells differing
-  changed_cells_fine marks b g are marked w = changed_rows_fine marks b g 24 1 are marked (omega arith) (omega arith) w
+  changed_cells_within marks b g are marked w = changed_rows_within marks b g 24 1 are marked (omega arith) (omega arith) w
 
 module _ (grids : GridLaws) (glyphs : GlyphLaws) where
-  pub changes_fine : (marks : List (List Bool)) (s t : Display) → IsSoundDisplay s → AreChanges marks t s
-      → AreFine (28 * differing t.grid s.grid + 230) (change_events marks s)
+  pub changes_within : (marks : List (List Bool)) (s t : Display) → IsSoundDisplay s → AreChanges marks t s
+      → AreSpelledWithin (28 * differing t.grid s.grid + 230) (change_events marks s)
   unfolding change_events
-  changes_fine marks s t i changes =
+  changes_within marks s t i changes =
       let w = width_small s i in
       let are = sound_glyphs grids glyphs s i in
       let n = 28 * differing t.grid s.grid in
       let saved_col : s.saved.col ≤ 132 = omega (arith, i.saved.col_last, w) in
       let col : s.cursor.col ≤ 132 = omega (arith, i.cursor.col_last, w) in
       let top : s.margins.top ≤ 24 = omega (arith, i.margins.two_rows, i.margins.to_last_row) in
-      fine-upto _ (n + 230) _ (omega arith)
-      (fine-append _ _ start_item _ start_fine
-      (fine-append _ _ _ _ spelling_sets_fine
-      (fine-append _ _ (changed_cells marks s.grid) _
-      (changed_cells_fine glyphs marks t.grid s.grid are changes.marked w)
-      (fine-append _ _ (record_item s.grid s.saved) _
-      (record_item_fine glyphs s.grid s.saved are i.saved.row_24 saved_col)
-      (fine-append _ _ _ _ spelling_sets_fine
-      (fine-append _ _ (margins_item s.margins) _ (margins_item_fine s.margins top i.margins.to_last_row)
-      (fine-append _ _ (private_mode decom s.modes.decom ∷ []) _
-      (small_private_mode_fine 6 s.modes.decom (omega arith))
-      (fine-append _ _ (position_item s) _ (cursor_to_fine (line_of_cursor s) s.cursor.col (line_small s i) col)
-      (fine-append _ _ (wrap_item s.grid s.cursor) _ (wrap_item_fine glyphs s.grid s.cursor are)
-      (fine-append _ _ (brush_events s.brush) _ (brush_fine s.brush)
-      (fine-append _ _ (sets_events s.sets) _ (sets_fine s.sets)
-      (fine-append _ _ (every_mode s.modes) _ (every_mode_fine s.modes) (shift_item_fine s.sets.pending)))))))))))))
+      within-upto _ (n + 230) _ (omega arith)
+      (within-append _ _ start_item _ start_within
+      (within-append _ _ _ _ spelling_sets_within
+      (within-append _ _ (changed_cells marks s.grid) _
+      (changed_cells_within glyphs marks t.grid s.grid are changes.marked w)
+      (within-append _ _ (record_item s.grid s.saved) _
+      (record_item_within glyphs s.grid s.saved are i.saved.row_24 saved_col)
+      (within-append _ _ _ _ spelling_sets_within
+      (within-append _ _ (margins_item s.margins) _ (margins_item_within s.margins top i.margins.to_last_row)
+      (within-append _ _ (private_mode decom s.modes.decom ∷ []) _
+      (small_private_mode_within 6 s.modes.decom (omega arith))
+      (within-append _ _ (position_item s) _ (cursor_position_within (line_of_cursor s) s.cursor.col (line_small s i) col)
+      (within-append _ _ (wrap_item s.grid s.cursor) _ (wrap_item_within glyphs s.grid s.cursor are)
+      (within-append _ _ (brush_events s.brush) _ (brush_within s.brush)
+      (within-append _ _ (sets_events s.sets) _ (sets_within s.sets)
+      (within-append _ _ (every_mode s.modes) _ (every_mode_within s.modes) (shift_item_within s.sets.pending)))))))))))))
 
   pub few : (marks : List (List Bool)) (s t : Display) (before : List ℕ) → IsSoundDisplay s → AreChanges marks t s
       → length (before ++ spell_events (change_events marks s)) ≤ length before + 28 * differing t.grid s.grid + 230
   few marks s t before i changes =
-      let short = (changes_fine marks s t i changes).short in
+      let short = (changes_within marks s t i changes).short in
       rw (length-append before (spell_events (change_events marks s))) (omega (arith, short))
 
   module _ (reading : SpellingLaw) where
     -- the bytes are the events, whatever is held before them
-    reads : (held : Held) (es : List Event) (n : ℕ) → AreFine n (soft_reset ∷ es) → IsHeldPart held
+    reads : (held : Held) (es : List Event) (n : ℕ) → AreSpelledWithin n (soft_reset ∷ es) → IsHeldPart held
         → (events_from held (spell_events (soft_reset ∷ es)) ≡ soft_reset ∷ es)
         × (held_from held (spell_events (soft_reset ∷ es)) ≡ Nothing)
     reads held es n fine h = (
@@ -166,7 +166,7 @@ module _ (grids : GridLaws) (glyphs : GlyphLaws) where
     changes_played marks s t i between j changes =
         let es = change_events marks s.display in
         let bytes = spell_events es in
-        let fine = changes_fine marks s.display t.display i.display changes in
+        let fine = changes_within marks s.display t.display i.display changes in
         let r = reads t.held _ (28 * differing t.display.grid s.display.grid + 230) fine j.held in
         let made : List Event → Held → Played = λ es h. record
         { state = record { display = after_events es t.display; held = h }; reports = reports_of es t.display } in
@@ -177,6 +177,6 @@ module _ (grids : GridLaws) (glyphs : GlyphLaws) where
           reports =
               reports_of es t.display;
         } in p)
-        (sym (run-after_events t.display es) ∙ changes_run grids glyphs marks s.display t.display i.display j.display
+        (sym (display_after-after_events t.display es) ∙ changes_leaves grids glyphs marks s.display t.display i.display j.display
         (sound_glyphs grids glyphs s.display i.display) changes)
         ∙ ap (λ q. let p : Played = record { state = s; reports = q } in p) (fine.silent t.display)

@@ -5,7 +5,7 @@ use Rattle.vt_term.specs.declared.state.Modes.{Modes}
 use Rattle.vt_term.specs.State.{Display}
 use Rattle.vt_term.specs.Functions.{effect, plain_escape, escape_with}
 use Rattle.vt_paint.specs.ChangeEvents.{keypad_event, report_form_event, every_mode}
-use Rattle.vt_paint.proofs.Running.{run}
+use Rattle.vt_paint.proofs.AfterEvents.{display_after}
 use Rattle.vt_paint.proofs.ModeItems.{ansi_mode_sets, private_mode_sets, decawm_sets}
 
 keypad_sets : (on : Bool) (x : Display) → effect (keypad_event on) x ≡ record x { modes = record x.modes { keypad_application = on } }
@@ -20,19 +20,19 @@ report_form_sets false x = refl
 
 -- one mode, and then the others
 mode_then : (x whole : Display) (event : Event) (rest : List Event) (k n : Modes)
-    → effect event (record x { modes = k }) ≡ record x { modes = n } → run (record x { modes = n }) rest ≡ whole
-    → run (record x { modes = k }) (event ∷ rest) ≡ whole
-unfolding run
-mode_then x whole event rest k n sets then = ap (λ y. run y rest) sets ∙ then
+    → effect event (record x { modes = k }) ≡ record x { modes = n } → display_after (record x { modes = n }) rest ≡ whole
+    → display_after (record x { modes = k }) (event ∷ rest) ≡ whole
+unfolding display_after
+mode_then x whole event rest k n sets then = ap (λ y. display_after y rest) sets ∙ then
 
-done : (x : Display) → run x [] ≡ x
-unfolding run
+done : (x : Display) → display_after x [] ≡ x
+unfolding display_after
 done x = refl
 
-pub every_mode_run : (x : Display) (k m : Modes) → (x.cursor.wrap ≡ true → m.decawm ≡ true)
-    → run (record x { modes = record k { decom = m.decom } }) (every_mode m) ≡ record x { modes = m }
+pub every_mode_leaves : (x : Display) (k m : Modes) → (x.cursor.wrap ≡ true → m.decawm ≡ true)
+    → display_after (record x { modes = record k { decom = m.decom } }) (every_mode m) ≡ record x { modes = m }
 unfolding every_mode
-every_mode_run x k m h =
+every_mode_leaves x k m h =
     mode_then x _ _ _ _ _ (ansi_mode_sets 2 (λ on m. record m { kam = on }) refl m.kam _)
     (mode_then x _ _ _ _ _ (ansi_mode_sets 4 (λ on m. record m { irm = on }) refl m.irm _)
     (mode_then x _ _ _ _ _ (ansi_mode_sets 12 (λ on m. record m { srm = on }) refl m.srm _)

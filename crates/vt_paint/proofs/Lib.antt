@@ -1,5 +1,5 @@
 pub mod LowerLaws
-pub mod Running
+pub mod AfterEvents
 pub mod Equality
 pub mod Grids
 pub mod Brushes
@@ -9,7 +9,7 @@ pub mod Stops
 pub mod ModeItems
 pub mod SavedRecord
 pub mod Chain
-pub mod Fine
+pub mod Within
 pub mod Whole
 pub mod Canonical
 pub mod Spelled

@@ -12,7 +12,7 @@ use Rattle.vt_term.specs.Functions.{effect, control, plain_escape, escape_with, 
 use Rattle.vt_paint.specs.Same.{same_bool}
 use Rattle.vt_paint.specs.Controls.{where_true, ansi_mode, private_mode, application_keypad, reports_8bit}
 use Rattle.vt_paint.specs.Items.{ansi_mode_item, private_mode_item, modes_item, shift_item}
-use Rattle.vt_paint.proofs.Running.{run, run-then}
+use Rattle.vt_paint.proofs.AfterEvents.{display_after, display_after-then}
 
 -- ---- one mode, by its number and its place among the modes
 
@@ -51,38 +51,38 @@ decawm_sets on x h = go on h
 -- ---- the modes where they differ from power-up
 
 -- the event is sent where the mode isn't as it was
-mode_run : (event : Bool → Event) (set : Bool → Modes → Modes) (x : Display) (was on : Bool)
+mode_leaves : (event : Bool → Event) (set : Bool → Modes → Modes) (x : Display) (was on : Bool)
     → effect (event on) x ≡ record x { modes = set on x.modes } → set was x.modes ≡ x.modes
-    → run x (if same_bool was on then [] else event on ∷ []) ≡ record x { modes = set on x.modes }
-unfolding run
-mode_run event set x true true sets e = ap (λ m. record x { modes = m }) (sym e)
-mode_run event set x true false sets e = sets
-mode_run event set x false true sets e = sets
-mode_run event set x false false sets e = ap (λ m. record x { modes = m }) (sym e)
+    → display_after x (if same_bool was on then [] else event on ∷ []) ≡ record x { modes = set on x.modes }
+unfolding display_after
+mode_leaves event set x true true sets e = ap (λ m. record x { modes = m }) (sym e)
+mode_leaves event set x true false sets e = sets
+mode_leaves event set x false true sets e = sets
+mode_leaves event set x false false sets e = ap (λ m. record x { modes = m }) (sym e)
 
-ansi_mode_run : (n : ℕ) (set : Bool → Modes → Modes) → look_up ansi_modes n ≡ Some (λ on. with_modes (set on))
+ansi_mode_leaves : (n : ℕ) (set : Bool → Modes → Modes) → look_up ansi_modes n ≡ Some (λ on. with_modes (set on))
     → (x : Display) (was on : Bool) → set was x.modes ≡ x.modes
-    → run x (ansi_mode_item n was on) ≡ record x { modes = set on x.modes }
-ansi_mode_run n set e x was on = mode_run (ansi_mode n) set x was on (ansi_mode_sets n set e on x)
+    → display_after x (ansi_mode_item n was on) ≡ record x { modes = set on x.modes }
+ansi_mode_leaves n set e x was on = mode_leaves (ansi_mode n) set x was on (ansi_mode_sets n set e on x)
 
-private_mode_run : (n : ℕ) (set : Bool → Modes → Modes) → look_up private_modes n ≡ Some (λ on. with_modes (set on))
+private_mode_leaves : (n : ℕ) (set : Bool → Modes → Modes) → look_up private_modes n ≡ Some (λ on. with_modes (set on))
     → (x : Display) (was on : Bool) → set was x.modes ≡ x.modes
-    → run x (private_mode_item n was on) ≡ record x { modes = set on x.modes }
-private_mode_run n set e x was on = mode_run (private_mode n) set x was on (private_mode_sets n set e on x)
+    → display_after x (private_mode_item n was on) ≡ record x { modes = set on x.modes }
+private_mode_leaves n set e x was on = mode_leaves (private_mode n) set x was on (private_mode_sets n set e on x)
 
-keypad_run : (x : Display) (v : Bool) → x.modes.keypad_application ≡ false → run x (where_true v (application_keypad ∷ [])) ≡ record x { modes = record x.modes { keypad_application = v } }
-unfolding run plain_escape
-keypad_run x true e = refl
-keypad_run x false e = ap (λ b. record x { modes = record x.modes { keypad_application = b } }) e
+keypad_leaves : (x : Display) (v : Bool) → x.modes.keypad_application ≡ false → display_after x (where_true v (application_keypad ∷ [])) ≡ record x { modes = record x.modes { keypad_application = v } }
+unfolding display_after plain_escape
+keypad_leaves x true e = refl
+keypad_leaves x false e = ap (λ b. record x { modes = record x.modes { keypad_application = b } }) e
 
-reports_run : (x : Display) (v : Bool) → x.modes.reports_8bit ≡ false → run x (where_true v (reports_8bit ∷ [])) ≡ record x { modes = record x.modes { reports_8bit = v } }
-unfolding run escape_with
-reports_run x true e = refl
-reports_run x false e = ap (λ b. record x { modes = record x.modes { reports_8bit = b } }) e
+reports_leaves : (x : Display) (v : Bool) → x.modes.reports_8bit ≡ false → display_after x (where_true v (reports_8bit ∷ [])) ≡ record x { modes = record x.modes { reports_8bit = v } }
+unfolding display_after escape_with
+reports_leaves x true e = refl
+reports_leaves x false e = ap (λ b. record x { modes = record x.modes { reports_8bit = b } }) e
 
-pub modes_run : (x : Display) (m : Modes) → (x.cursor.wrap ≡ true → m.decawm ≡ true) → run (record x { modes = record modes_at_power_up { decom = m.decom } }) (modes_item m) ≡ record x { modes = m }
+pub modes_leaves : (x : Display) (m : Modes) → (x.cursor.wrap ≡ true → m.decawm ≡ true) → display_after (record x { modes = record modes_at_power_up { decom = m.decom } }) (modes_item m) ≡ record x { modes = m }
 unfolding modes_item
-modes_run x m h =
+modes_leaves x m h =
     let r11 : List Event = where_true m.reports_8bit (reports_8bit ∷ []) in
     let r10 : List Event = where_true m.keypad_application (application_keypad ∷ []) ++ r11 in
     let r9 : List Event = private_mode_item 25 true m.dectcem ++ r10 in
@@ -107,24 +107,24 @@ modes_run x m h =
     let x10 : Display = record x9 { modes = record x9.modes { dectcem = m.dectcem } } in
     let x11 : Display = record x10 { modes = record x10.modes { keypad_application = m.keypad_application } } in
     let whole : Display = record x { modes = m } in
-    run-then x0 x1 whole (ansi_mode_item 2 false m.kam) r1 (ansi_mode_run 2 (λ on m. record m { kam = on }) refl x0 false m.kam refl)
-    (run-then x1 x2 whole (ansi_mode_item 4 false m.irm) r2 (ansi_mode_run 4 (λ on m. record m { irm = on }) refl x1 false m.irm refl)
-    (run-then x2 x3 whole (ansi_mode_item 12 true m.srm) r3 (ansi_mode_run 12 (λ on m. record m { srm = on }) refl x2 true m.srm refl)
-    (run-then x3 x4 whole (ansi_mode_item 20 false m.lnm) r4 (ansi_mode_run 20 (λ on m. record m { lnm = on }) refl x3 false m.lnm refl)
-    (run-then x4 x5 whole (private_mode_item 1 false m.decckm) r5 (private_mode_run 1 (λ on m. record m { decckm = on }) refl x4 false m.decckm refl)
-    (run-then x5 x6 whole (private_mode_item 4 false m.decsclm) r6 (private_mode_run 4 (λ on m. record m { decsclm = on }) refl x5 false m.decsclm refl)
-    (run-then x6 x7 whole (private_mode_item 5 false m.decscnm) r7 (private_mode_run 5 (λ on m. record m { decscnm = on }) refl x6 false m.decscnm refl)
-    (run-then x7 x8 whole (private_mode_item 7 true m.decawm) r8 (mode_run (private_mode 7) (λ on m. record m { decawm = on }) x7 true m.decawm (decawm_sets m.decawm x7 h) refl)
-    (run-then x8 x9 whole (private_mode_item 8 true m.decarm) r9 (private_mode_run 8 (λ on m. record m { decarm = on }) refl x8 true m.decarm refl)
-    (run-then x9 x10 whole (private_mode_item 25 true m.dectcem) r10 (private_mode_run 25 (λ on m. record m { dectcem = on }) refl x9 true m.dectcem refl)
-    (run-then x10 x11 whole (where_true m.keypad_application (application_keypad ∷ [])) r11 (keypad_run x10 m.keypad_application refl)
-    (reports_run x11 m.reports_8bit refl)))))))))))
+    display_after-then x0 x1 whole (ansi_mode_item 2 false m.kam) r1 (ansi_mode_leaves 2 (λ on m. record m { kam = on }) refl x0 false m.kam refl)
+    (display_after-then x1 x2 whole (ansi_mode_item 4 false m.irm) r2 (ansi_mode_leaves 4 (λ on m. record m { irm = on }) refl x1 false m.irm refl)
+    (display_after-then x2 x3 whole (ansi_mode_item 12 true m.srm) r3 (ansi_mode_leaves 12 (λ on m. record m { srm = on }) refl x2 true m.srm refl)
+    (display_after-then x3 x4 whole (ansi_mode_item 20 false m.lnm) r4 (ansi_mode_leaves 20 (λ on m. record m { lnm = on }) refl x3 false m.lnm refl)
+    (display_after-then x4 x5 whole (private_mode_item 1 false m.decckm) r5 (private_mode_leaves 1 (λ on m. record m { decckm = on }) refl x4 false m.decckm refl)
+    (display_after-then x5 x6 whole (private_mode_item 4 false m.decsclm) r6 (private_mode_leaves 4 (λ on m. record m { decsclm = on }) refl x5 false m.decsclm refl)
+    (display_after-then x6 x7 whole (private_mode_item 5 false m.decscnm) r7 (private_mode_leaves 5 (λ on m. record m { decscnm = on }) refl x6 false m.decscnm refl)
+    (display_after-then x7 x8 whole (private_mode_item 7 true m.decawm) r8 (mode_leaves (private_mode 7) (λ on m. record m { decawm = on }) x7 true m.decawm (decawm_sets m.decawm x7 h) refl)
+    (display_after-then x8 x9 whole (private_mode_item 8 true m.decarm) r9 (private_mode_leaves 8 (λ on m. record m { decarm = on }) refl x8 true m.decarm refl)
+    (display_after-then x9 x10 whole (private_mode_item 25 true m.dectcem) r10 (private_mode_leaves 25 (λ on m. record m { dectcem = on }) refl x9 true m.dectcem refl)
+    (display_after-then x10 x11 whole (where_true m.keypad_application (application_keypad ∷ [])) r11 (keypad_leaves x10 m.keypad_application refl)
+    (reports_leaves x11 m.reports_8bit refl)))))))))))
 
-pub shift_run : (x : Display) (pending : Option ℕ) → ForSome pending (λ slot. (2 ≤ slot) × (slot < 4)) → x.sets.pending ≡ None → run x (shift_item pending) ≡ record x { sets = record x.sets { pending = pending } }
-unfolding run shift_item control
-shift_run x None sound e = ap (λ p. record x { sets = record x.sets { pending = p } }) e
-shift_run x (Some zero) sound e = absurd (omega (arith, sound zero refl))
-shift_run x (Some (suc zero)) sound e = absurd (omega (arith, sound (suc zero) refl))
-shift_run x (Some (suc (suc zero))) sound e = refl
-shift_run x (Some (suc (suc (suc zero)))) sound e = refl
-shift_run x (Some (suc (suc (suc (suc n))))) sound e = absurd (omega (arith, sound (suc (suc (suc (suc n)))) refl))
+pub shift_leaves : (x : Display) (pending : Option ℕ) → ForSome pending (λ slot. (2 ≤ slot) × (slot < 4)) → x.sets.pending ≡ None → display_after x (shift_item pending) ≡ record x { sets = record x.sets { pending = pending } }
+unfolding display_after shift_item control
+shift_leaves x None sound e = ap (λ p. record x { sets = record x.sets { pending = p } }) e
+shift_leaves x (Some zero) sound e = absurd (omega (arith, sound zero refl))
+shift_leaves x (Some (suc zero)) sound e = absurd (omega (arith, sound (suc zero) refl))
+shift_leaves x (Some (suc (suc zero))) sound e = refl
+shift_leaves x (Some (suc (suc (suc zero)))) sound e = refl
+shift_leaves x (Some (suc (suc (suc (suc n))))) sound e = absurd (omega (arith, sound (suc (suc (suc (suc n)))) refl))

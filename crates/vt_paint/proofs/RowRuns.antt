@@ -7,7 +7,7 @@ use Rattle.vt_screen.specs.declared.cell.Cell.{Cell}
 use Rattle.vt_screen.specs.Cells.{blank, brush_of}
 use Rattle.vt_screen.specs.Grid.{Grid, cell_at}
 use Rattle.vt_paint.specs.Same.{same_brush, is_blank}
-use Rattle.vt_paint.specs.Controls.{where_true, cursor_to, brush_events}
+use Rattle.vt_paint.specs.Controls.{where_true, cursor_position, brush_events}
 use Rattle.vt_paint.specs.Pieces.{left_of, needs_header, header, glyph_events, piece_of, piece, pieces_from}
 use Rattle.vt_paint.proofs.Equality.{and_true, not_true, same_brush-is}
 use Rattle.vt_paint.proofs.Pushing.{appended-more, events, then_events}
@@ -21,7 +21,7 @@ pub first_fresh : (g : Grid) (r : ℕ) → IsFresh g r 1
 first_fresh g r = ap (λ l. piece_of r 1 l (cell_at g r 1)) (left_of-first g r)
 
 with_header : ℕ → ℕ → Cell → Bool → List Event
-with_header r c cell needed = where_true (not (is_blank cell)) (where_true needed (cursor_to r c ∷ brush_events (brush_of cell)) ++ glyph_events cell)
+with_header r c cell needed = where_true (not (is_blank cell)) (where_true needed (cursor_position r c ∷ brush_events (brush_of cell)) ++ glyph_events cell)
 
 behind_other : (r c : ℕ) (left cell : Cell) → needs_header left cell ≡ true → piece_of r c left cell ≡ piece_of r c blank cell
 unfolding piece_of header with_header
@@ -42,8 +42,8 @@ blank_fresh g r c c1 h =
 abbrev pub goes_on : Cell → Cell → Bool
 goes_on left cell = same_brush (brush_of left) (brush_of cell) && not (is_blank cell)
 
-behind_run : (r c : ℕ) (left cell : Cell) → goes_on left cell ≡ false → piece_of r c left cell ≡ piece_of r c blank cell
-behind_run r c left cell h = go (is_blank cell) refl
+behind_leaves : (r c : ℕ) (left cell : Cell) → goes_on left cell ≡ false → piece_of r c left cell ≡ piece_of r c blank cell
+behind_leaves r c left cell h = go (is_blank cell) refl
   where
     same : Bool
     same = same_brush (brush_of left) (brush_of cell)
@@ -59,19 +59,19 @@ behind_run r c left cell h = go (is_blank cell) refl
 
 pub run_fresh : (g : Grid) (r c : ℕ) → 1 ≤ c → goes_on (cell_at g r c) (cell_at g r (c + 1)) ≡ false → IsFresh g r (c + 1)
 run_fresh g r c c1 h =
-    ap (λ l. piece_of r (c + 1) l (cell_at g r (c + 1))) (left_of-next g r c c1) ∙ behind_run r (c + 1) (cell_at g r c) (cell_at g r (c + 1)) h
+    ap (λ l. piece_of r (c + 1) l (cell_at g r (c + 1))) (left_of-next g r c c1) ∙ behind_leaves r (c + 1) (cell_at g r c) (cell_at g r (c + 1)) h
 
 -- a run's first cell has a header
 run_first : (g : Grid) (r c : ℕ) → IsFresh g r c → is_blank (cell_at g r c) ≡ false
-    → piece g r c ≡ (cursor_to r c ∷ brush_events (brush_of (cell_at g r c))) ++ glyph_events (cell_at g r c)
+    → piece g r c ≡ (cursor_position r c ∷ brush_events (brush_of (cell_at g r c))) ++ glyph_events (cell_at g r c)
 unfolding piece_of header
 run_first g r c fresh h =
     let cell = cell_at g r c in
-    fresh ∙ ap (λ b. where_true (not b) ((cursor_to r c ∷ brush_events (brush_of cell)) ++ glyph_events cell)) h
+    fresh ∙ ap (λ b. where_true (not b) ((cursor_position r c ∷ brush_events (brush_of cell)) ++ glyph_events cell)) h
 
-inside_run : (r c : ℕ) (left cell : Cell) → is_blank left ≡ false → goes_on left cell ≡ true → piece_of r c left cell ≡ glyph_events cell
+inside_leaves : (r c : ℕ) (left cell : Cell) → is_blank left ≡ false → goes_on left cell ≡ true → piece_of r c left cell ≡ glyph_events cell
 unfolding piece_of header with_header
-inside_run r c left cell l h =
+inside_leaves r c left cell l h =
     let both = and_true (same_brush (brush_of left) (brush_of cell)) (not (is_blank cell)) h in
     ap (λ b. with_header r c cell (b || not (same_brush (brush_of left) (brush_of cell)))) l
     ∙ ap (λ b. with_header r c cell (not b)) both.0
@@ -81,7 +81,7 @@ inside_run r c left cell l h =
 run_more : (g : Grid) (r c : ℕ) → 1 ≤ c → is_blank (cell_at g r c) ≡ false → goes_on (cell_at g r c) (cell_at g r (c + 1)) ≡ true
     → piece g r (c + 1) ≡ glyph_events (cell_at g r (c + 1))
 run_more g r c c1 l h =
-    ap (λ l. piece_of r (c + 1) l (cell_at g r (c + 1))) (left_of-next g r c c1) ∙ inside_run r (c + 1) (cell_at g r c) (cell_at g r (c + 1)) l h
+    ap (λ l. piece_of r (c + 1) l (cell_at g r (c + 1))) (left_of-next g r c c1) ∙ inside_leaves r (c + 1) (cell_at g r c) (cell_at g r (c + 1)) l h
 
 pub goes_on-shows : (left cell : Cell) → goes_on left cell ≡ true → is_blank cell ≡ false
 goes_on-shows left cell h = not_true (is_blank cell) (and_true (same_brush (brush_of left) (brush_of cell)) (not (is_blank cell)) h).1
@@ -98,14 +98,14 @@ none_written g r i written h before =
     (sym (blank_piece r (i + 1) (left_of g r (i + 1)) (cell_at g r (i + 1)) h))
 
 pub first_written : (g : Grid) (r i : ℕ) (cell : Cell) (brush : Brush) (before between after : List ℕ) → cell ≡ cell_at g r (i + 1) → IsFresh g r (i + 1) → is_blank cell ≡ false
-    → brush ≡ brush_of cell → before ≡ spell_events (pieces_from g r 1 i) → between ≡ before ++ spell_events (cursor_to r (i + 1) ∷ brush_events brush)
+    → brush ≡ brush_of cell → before ≡ spell_events (pieces_from g r 1 i) → between ≡ before ++ spell_events (cursor_position r (i + 1) ∷ brush_events brush)
     → after ≡ between ++ spell_events (glyph_events cell) → after ≡ spell_events (pieces_from g r 1 (i + 1))
 first_written g r i cell brush before between after here fresh shown with first second third =
-    let step = then_events (events (cursor_to r (i + 1) ∷ brush_events brush) second) (events (glyph_events cell) third) in
+    let step = then_events (events (cursor_position r (i + 1) ∷ brush_events brush) second) (events (glyph_events cell) third) in
     let run = run_first g r (i + 1) fresh (ap (λ x. is_blank x) (sym here) ∙ shown) in
     appended-more (λ c. piece g r c) 1 i (i + 1) _ [] before after (omega arith) first step.is
-    (ap (λ b. (cursor_to r (i + 1) ∷ brush_events b) ++ glyph_events cell) with
-    ∙ ap (λ x. (cursor_to r (i + 1) ∷ brush_events (brush_of x)) ++ glyph_events x) here ∙ sym run)
+    (ap (λ b. (cursor_position r (i + 1) ∷ brush_events b) ++ glyph_events cell) with
+    ∙ ap (λ x. (cursor_position r (i + 1) ∷ brush_events (brush_of x)) ++ glyph_events x) here ∙ sym run)
 
 pub more_written : (g : Grid) (r i : ℕ) (cell : Cell) (before after : List ℕ) → cell ≡ cell_at g r (i + 1) → 1 ≤ i → is_blank (cell_at g r i) ≡ false → goes_on (cell_at g r i) cell ≡ true
     → before ≡ spell_events (pieces_from g r 1 i) → after ≡ before ++ spell_events (glyph_events cell) → after ≡ spell_events (pieces_from g r 1 (i + 1))

@@ -14,13 +14,13 @@ use Rattle.vt_term.specs.Sound.{IsPlace}
 use Rattle.vt_term.specs.Modes.{with_mode}
 use Rattle.vt_term.specs.Functions.{plain_escape, sequence_in, sequences_of, effect}
 use Rattle.vt_paint.specs.Same.{same_saved}
-use Rattle.vt_paint.specs.Controls.{where_true, private_mode, decom, cursor_to, brush_events, sets_events, save_cursor}
+use Rattle.vt_paint.specs.Controls.{where_true, private_mode, decom, cursor_position, brush_events, sets_events, save_cursor}
 use Rattle.vt_paint.specs.Items.{saved_events, saved_item}
 use Rattle.vt_paint.proofs.LowerLaws.{GridLaws}
-use Rattle.vt_paint.proofs.Running.{run, run-append}
+use Rattle.vt_paint.proofs.AfterEvents.{display_after, display_after-append}
 use Rattle.vt_paint.proofs.Equality.{same_saved-is}
 use Rattle.vt_paint.proofs.Grids.{put_same}
-use Rattle.vt_paint.proofs.Brushes.{brush_run, with_sets, sets_run}
+use Rattle.vt_paint.proofs.Brushes.{brush_leaves, with_sets, sets_leaves}
 use Rattle.vt_paint.proofs.Painting.{behind}
 use Rattle.vt_paint.proofs.Stops.{with_stops}
 
@@ -44,8 +44,8 @@ abbrev on_way : Bool → List Bool → Bool → Cursor → Display
 on_way wide stops origin cursor =
     record (with_stops wide stops cursor) { modes = record modes_at_power_up { decom = origin } }
 
-origin_on : (wide : Bool) (stops : List Bool) (cursor : Cursor) (origin : Bool) → run (with_stops wide stops cursor) (where_true origin (private_mode decom true ∷ [])) ≡ on_way wide stops origin (cond origin (at_place 1 1) cursor)
-unfolding run sequence_in sequences_of with_mode
+origin_on : (wide : Bool) (stops : List Bool) (cursor : Cursor) (origin : Bool) → display_after (with_stops wide stops cursor) (where_true origin (private_mode decom true ∷ [])) ≡ on_way wide stops origin (cond origin (at_place 1 1) cursor)
+unfolding display_after sequence_in sequences_of with_mode
 origin_on wide stops cursor true = refl
 origin_on wide stops cursor false = refl
 
@@ -53,7 +53,7 @@ line_on : (origin : Bool) (r : ℕ) → 1 ≤ r → r ≤ 24 → cond origin (mi
 line_on true r h k = omega arith
 line_on false r h k = omega arith
 
-place_on : (wide : Bool) (stops : List Bool) (origin : Bool) (cursor : Cursor) (r c : ℕ) → 1 ≤ r → r ≤ 24 → 1 ≤ c → c ≤ columns wide → effect (cursor_to r c) (on_way wide stops origin cursor) ≡ on_way wide stops origin (at_place r c)
+place_on : (wide : Bool) (stops : List Bool) (origin : Bool) (cursor : Cursor) (r c : ℕ) → 1 ≤ r → r ≤ 24 → 1 ≤ c → c ≤ columns wide → effect (cursor_position r c) (on_way wide stops origin cursor) ≡ on_way wide stops origin (at_place r c)
 unfolding sequence_in sequences_of
 place_on wide stops origin cursor r c r1 r24 c1 cw =
     let col : min (max c 1) (columns wide) ≡ c = omega arith in
@@ -62,25 +62,25 @@ place_on wide stops origin cursor r c r1 r24 c1 cw =
 
 -- DECOM reset again
 origin_off : (wide : Bool) (stops : List Bool) (saved : Saved) (cursor : Cursor) (origin : Bool)
-    → HasSaved wide stops saved (run (record (with_saved wide stops saved cursor) { modes = record modes_at_power_up { decom = origin } }) (where_true origin (private_mode decom false ∷ [])))
-unfolding run sequence_in sequences_of with_mode
+    → HasSaved wide stops saved (display_after (record (with_saved wide stops saved cursor) { modes = record modes_at_power_up { decom = origin } }) (where_true origin (private_mode decom false ∷ [])))
+unfolding display_after sequence_in sequences_of with_mode
 origin_off wide stops saved cursor true = record { cursor = at_place 1 1; is = refl }
 origin_off wide stops saved cursor false = record { cursor = cursor; is = refl }
 
 saved_cursor : Saved → Cursor
 saved_cursor saved = record { row = saved.row; col = saved.col; wrap = saved.wrap }
 
-save_run : (wide : Bool) (stops : List Bool) (saved : Saved)
+save_leaves : (wide : Bool) (stops : List Bool) (saved : Saved)
     → effect save_cursor (record (on_way wide stops saved.origin (saved_cursor saved)) { brush = saved.brush; sets = saved_sets saved })
     ≡ record (with_saved wide stops saved (saved_cursor saved)) { modes = record modes_at_power_up { decom = saved.origin } }
 unfolding plain_escape saved_cursor
-save_run wide stops saved = refl
+save_leaves wide stops saved = refl
 
 module _ (grids : GridLaws) where
   -- a space in the last column leaves a blank cell, and the wrap flag
   space_on : (wide : Bool) (stops : List Bool) (saved : Saved) → IsPlace (columns wide) saved.row saved.col saved.wrap
-      → run (on_way wide stops saved.origin (at_place saved.row saved.col)) (where_true saved.wrap (Print space ∷ [])) ≡ on_way wide stops saved.origin (saved_cursor saved)
-  unfolding run glyph_read after_read saved_cursor
+      → display_after (on_way wide stops saved.origin (at_place saved.row saved.col)) (where_true saved.wrap (Print space ∷ [])) ≡ on_way wide stops saved.origin (saved_cursor saved)
+  unfolding display_after glyph_read after_read saved_cursor
   space_on wide stops saved place = go saved.wrap refl
     where
       origin : Bool
@@ -89,7 +89,7 @@ module _ (grids : GridLaws) where
       shape : Grid → Cursor → Display
       shape g cursor = record (on_way wide stops saved.origin cursor) { grid = g }
 
-      go : (b : Bool) → saved.wrap ≡ b → run (on_way wide stops origin (at_place saved.row saved.col)) (where_true b (Print space ∷ [])) ≡ on_way wide stops origin (saved_cursor saved)
+      go : (b : Bool) → saved.wrap ≡ b → display_after (on_way wide stops origin (at_place saved.row saved.col)) (where_true b (Print space ∷ [])) ≡ on_way wide stops origin (saved_cursor saved)
       go false e = ap (λ w. shape (blank_grid wide) (record { row = saved.row; col = saved.col; wrap = w })) (sym e)
       go true e =
           let was : cell_at (blank_grid wide) saved.row saved.col ≡ blank = grids.places.at_place (columns wide) (λ r c. blank) saved.row saved.col place.row_1 place.row_24 place.col_1 place.col_last in
@@ -99,10 +99,10 @@ module _ (grids : GridLaws) where
           ∙ ap (λ b. shape (blank_grid wide) (cond b (at_place saved.row (saved.col + 1)) (record { row = saved.row; col = saved.col; wrap = true }))) (le-ltb saved.col (columns wide) (omega (arith, last)))
           ∙ ap (λ w. shape (blank_grid wide) (record { row = saved.row; col = saved.col; wrap = w })) (sym e)
 
-  saved_events_run : (wide : Bool) (stops : List Bool) (saved : Saved) (cursor : Cursor) → IsPlace (columns wide) saved.row saved.col saved.wrap → AreSoundSets (saved_sets saved)
-      → HasSaved wide stops saved (run (with_stops wide stops cursor) (saved_events saved))
-  unfolding run saved_events
-  saved_events_run wide stops saved cursor place sets =
+  saved_events_leaves : (wide : Bool) (stops : List Bool) (saved : Saved) (cursor : Cursor) → IsPlace (columns wide) saved.row saved.col saved.wrap → AreSoundSets (saved_sets saved)
+      → HasSaved wide stops saved (display_after (with_stops wide stops cursor) (saved_events saved))
+  unfolding display_after saved_events
+  saved_events_leaves wide stops saved cursor place sets =
       let off = where_true saved.origin (private_mode decom false ∷ []) in
       let lead = where_true saved.origin (private_mode decom true ∷ []) in
       let spaces = where_true saved.wrap (Print space ∷ []) in
@@ -118,24 +118,24 @@ module _ (grids : GridLaws) where
       record {
         cursor = w.cursor;
         is =
-            run-append x0 lead (cursor_to saved.row saved.col ∷ after1)
-            ∙ ap (λ y. run y (cursor_to saved.row saved.col ∷ after1)) (origin_on wide stops cursor saved.origin)
-            ∙ ap (λ y. run y after1) (place_on wide stops saved.origin (cond saved.origin (at_place 1 1) cursor) saved.row saved.col place.row_1 place.row_24 place.col_1 place.col_last)
-            ∙ run-append x1 spaces after2
-            ∙ ap (λ y. run y after2) (space_on wide stops saved place)
-            ∙ run-append x2 (brush_events saved.brush) after3
-            ∙ ap (λ y. run y after3) (brush_run x2 saved.brush)
-            ∙ run-append x3 (sets_events (saved_sets saved)) (save_cursor ∷ off)
-            ∙ ap (λ y. run y (save_cursor ∷ off)) (sets_run x3 (saved_sets saved) refl sets)
-            ∙ ap (λ y. run y off) (save_run wide stops saved)
+            display_after-append x0 lead (cursor_position saved.row saved.col ∷ after1)
+            ∙ ap (λ y. display_after y (cursor_position saved.row saved.col ∷ after1)) (origin_on wide stops cursor saved.origin)
+            ∙ ap (λ y. display_after y after1) (place_on wide stops saved.origin (cond saved.origin (at_place 1 1) cursor) saved.row saved.col place.row_1 place.row_24 place.col_1 place.col_last)
+            ∙ display_after-append x1 spaces after2
+            ∙ ap (λ y. display_after y after2) (space_on wide stops saved place)
+            ∙ display_after-append x2 (brush_events saved.brush) after3
+            ∙ ap (λ y. display_after y after3) (brush_leaves x2 saved.brush)
+            ∙ display_after-append x3 (sets_events (saved_sets saved)) (save_cursor ∷ off)
+            ∙ ap (λ y. display_after y (save_cursor ∷ off)) (sets_leaves x3 (saved_sets saved) refl sets)
+            ∙ ap (λ y. display_after y off) (save_leaves wide stops saved)
             ∙ w.is;
       }
 
-  pub saved_run : (wide : Bool) (stops : List Bool) (saved : Saved) (cursor : Cursor) → IsPlace (columns wide) saved.row saved.col saved.wrap → AreSoundSets (saved_sets saved)
-      → HasSaved wide stops saved (run (with_stops wide stops cursor) (saved_item saved))
-  unfolding run saved_item
-  saved_run wide stops saved cursor place sets = go (same_saved saved saved_at_power_up) refl
+  pub saved_leaves : (wide : Bool) (stops : List Bool) (saved : Saved) (cursor : Cursor) → IsPlace (columns wide) saved.row saved.col saved.wrap → AreSoundSets (saved_sets saved)
+      → HasSaved wide stops saved (display_after (with_stops wide stops cursor) (saved_item saved))
+  unfolding display_after saved_item
+  saved_leaves wide stops saved cursor place sets = go (same_saved saved saved_at_power_up) refl
     where
-      go : (b : Bool) → same_saved saved saved_at_power_up ≡ b → HasSaved wide stops saved (run (with_stops wide stops cursor) (where_true (not b) (saved_events saved)))
+      go : (b : Bool) → same_saved saved saved_at_power_up ≡ b → HasSaved wide stops saved (display_after (with_stops wide stops cursor) (where_true (not b) (saved_events saved)))
       go true e = record { cursor = cursor; is = ap (λ s. with_saved wide stops s cursor) (sym (same_saved-is saved saved_at_power_up e)) }
-      go false e = saved_events_run wide stops saved cursor place sets
+      go false e = saved_events_leaves wide stops saved cursor place sets

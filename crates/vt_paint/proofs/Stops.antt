@@ -13,9 +13,9 @@ use Rattle.vt_term.specs.Tabs.{no_stops}
 use Rattle.vt_term.specs.Modes.{with_mode}
 use Rattle.vt_term.specs.Functions.{control, plain_escape, sequence_in, sequences_of}
 use Rattle.vt_paint.specs.Same.{same_bool}
-use Rattle.vt_paint.specs.Controls.{where_true, private_mode, deccolm, cursor_to, clear_all_tabs, set_tab}
+use Rattle.vt_paint.specs.Controls.{where_true, private_mode, deccolm, cursor_position, clear_all_tabs, set_tab}
 use Rattle.vt_paint.specs.Items.{reset_item, stop_events, stops_from, is_wide, made_stops, stops_item}
-use Rattle.vt_paint.proofs.Running.{run, run-append}
+use Rattle.vt_paint.proofs.AfterEvents.{display_after, display_after-append}
 use Rattle.vt_paint.proofs.Equality.{same_bool-decides}
 
 -- power-up with this width, these stops and this cursor
@@ -72,17 +72,17 @@ record IsMade (stops : List Bool) (k : ℕ) (x : Display) : Type 0 where
   is : x ≡ with_stops true made cursor
   are : AreMade stops made k
 
-set_tab_run : (made : List Bool) (cursor : Cursor) (k : ℕ) → k < 132 → run (with_stops true made cursor) (cursor_to 1 (k + 1) ∷ set_tab ∷ []) ≡ with_stops true (set made k true) (at_place 1 (k + 1))
-unfolding run sequence_in sequences_of control
-set_tab_run made cursor k h =
+set_tab_leaves : (made : List Bool) (cursor : Cursor) (k : ℕ) → k < 132 → display_after (with_stops true made cursor) (cursor_position 1 (k + 1) ∷ set_tab ∷ []) ≡ with_stops true (set made k true) (at_place 1 (k + 1))
+unfolding display_after sequence_in sequences_of control
+set_tab_leaves made cursor k h =
     let col : min (max (k + 1) 1) 132 ≡ k + 1 = omega arith in
     let back : k + 1 - 1 ≡ k = omega arith in
     ap (λ n. with_stops true (set made (n - 1) true) (at_place 1 n)) col
     ∙ ap (λ n. with_stops true (set made n true) (at_place 1 (k + 1))) back
 
-stop_events_run : (stops : List Bool) (k : ℕ) (x : Display) → k < 132 → IsMade stops k x → IsMade stops (k + 1) (run x (stop_events stops (k + 1)))
-unfolding run stop_events
-stop_events_run stops k x h w = go (get_or stops (k + 1 - 1) false) refl
+stop_events_leaves : (stops : List Bool) (k : ℕ) (x : Display) → k < 132 → IsMade stops k x → IsMade stops (k + 1) (display_after x (stop_events stops (k + 1)))
+unfolding display_after stop_events
+stop_events_leaves stops k x h w = go (get_or stops (k + 1 - 1) false) refl
   where
     back : k + 1 - 1 ≡ k
     back = omega arith
@@ -90,59 +90,59 @@ stop_events_run stops k x h w = go (get_or stops (k + 1 - 1) false) refl
     at : (b : Bool) → get_or stops (k + 1 - 1) false ≡ b → get_or stops k false ≡ b
     at b e = ap (λ n. get_or stops n false) (sym back) ∙ e
 
-    go : (b : Bool) → get_or stops (k + 1 - 1) false ≡ b → IsMade stops (k + 1) (run x (cond b (cursor_to 1 (k + 1) ∷ set_tab ∷ []) []))
+    go : (b : Bool) → get_or stops (k + 1 - 1) false ≡ b → IsMade stops (k + 1) (display_after x (cond b (cursor_position 1 (k + 1) ∷ set_tab ∷ []) []))
     go true e = record {
       made = set w.made k true;
       cursor = at_place 1 (k + 1);
-      is = ap (λ y. run y (cursor_to 1 (k + 1) ∷ set_tab ∷ [])) w.is ∙ set_tab_run w.made w.cursor k h;
+      is = ap (λ y. display_after y (cursor_position 1 (k + 1) ∷ set_tab ∷ [])) w.is ∙ set_tab_leaves w.made w.cursor k h;
       are = more_made stops w.made k h (at true e) w.are;
     }
     go false e = record { made = w.made; cursor = w.cursor; is = w.is; are = skip_made stops w.made k h (at false e) w.are }
 
-stops_from_run : (stops : List Bool) (n k : ℕ) (x : Display) → k + n ≡ 132 → IsMade stops k x → IsMade stops 132 (run x (stops_from stops (k + 1) n))
-unfolding run
-stops_from_run stops zero k x e w = let same : k ≡ 132 = omega arith in subst (λ (m : ℕ). IsMade stops m x) same w
-stops_from_run stops (suc n) k x e w =
-    subst (λ (y : Display). IsMade stops 132 y) (sym (run-append x (stop_events stops (k + 1)) (stops_from stops (k + 1 + 1) n)))
-    (stops_from_run stops n (k + 1) (run x (stop_events stops (k + 1))) (omega arith) (stop_events_run stops k x (omega arith) w))
+stops_from_leaves : (stops : List Bool) (n k : ℕ) (x : Display) → k + n ≡ 132 → IsMade stops k x → IsMade stops 132 (display_after x (stops_from stops (k + 1) n))
+unfolding display_after
+stops_from_leaves stops zero k x e w = let same : k ≡ 132 = omega arith in subst (λ (m : ℕ). IsMade stops m x) same w
+stops_from_leaves stops (suc n) k x e w =
+    subst (λ (y : Display). IsMade stops 132 y) (sym (display_after-append x (stop_events stops (k + 1)) (stops_from stops (k + 1 + 1) n)))
+    (stops_from_leaves stops n (k + 1) (display_after x (stop_events stops (k + 1))) (omega arith) (stop_events_leaves stops k x (omega arith) w))
 
 -- the width is set on a wide screen
-narrow_run : (wide : Bool) (stops : List Bool) (cursor : Cursor) → HasStops wide stops (run (with_stops true stops cursor) (where_true (not (is_wide (columns wide))) (private_mode deccolm false ∷ [])))
-unfolding run sequence_in sequences_of with_mode
-narrow_run true stops cursor = record { cursor = cursor; is = refl }
-narrow_run false stops cursor = record { cursor = at_place 1 1; is = refl }
+narrow_leaves : (wide : Bool) (stops : List Bool) (cursor : Cursor) → HasStops wide stops (display_after (with_stops true stops cursor) (where_true (not (is_wide (columns wide))) (private_mode deccolm false ∷ [])))
+unfolding display_after sequence_in sequences_of with_mode
+narrow_leaves true stops cursor = record { cursor = cursor; is = refl }
+narrow_leaves false stops cursor = record { cursor = at_place 1 1; is = refl }
 
 -- the width is set at power-up
-wide_run : (wide : Bool) → HasStops wide stops_at_power_up (run display_at_power_up (where_true (is_wide (columns wide)) (private_mode deccolm true ∷ [])))
-unfolding run sequence_in sequences_of with_mode
-wide_run true = record { cursor = at_place 1 1; is = refl }
-wide_run false = record { cursor = at_place 1 1; is = refl }
+wide_leaves : (wide : Bool) → HasStops wide stops_at_power_up (display_after display_at_power_up (where_true (is_wide (columns wide)) (private_mode deccolm true ∷ [])))
+unfolding display_after sequence_in sequences_of with_mode
+wide_leaves true = record { cursor = at_place 1 1; is = refl }
+wide_leaves false = record { cursor = at_place 1 1; is = refl }
 
-pub reset_run : (t : Display) → run t reset_item ≡ display_at_power_up
-unfolding run plain_escape
-reset_run t = refl
+pub reset_leaves : (t : Display) → display_after t reset_item ≡ display_at_power_up
+unfolding display_after plain_escape
+reset_leaves t = refl
 
-start : (stops : List Bool) → IsMade stops 0 (run display_at_power_up (private_mode deccolm true ∷ clear_all_tabs ∷ []))
-unfolding run sequence_in sequences_of with_mode
+start : (stops : List Bool) → IsMade stops 0 (display_after display_at_power_up (private_mode deccolm true ∷ clear_all_tabs ∷ []))
+unfolding display_after sequence_in sequences_of with_mode
 start stops = record { made = no_stops; cursor = at_place 1 1; is = refl; are = none_made stops }
 
-pub stops_run : (wide : Bool) (stops : List Bool) → length stops ≡ 132 → HasStops wide stops (run display_at_power_up (stops_item (columns wide) stops))
+pub stops_leaves : (wide : Bool) (stops : List Bool) → length stops ≡ 132 → HasStops wide stops (display_after display_at_power_up (stops_item (columns wide) stops))
 unfolding stops_item made_stops
-stops_run wide stops long = go (pointwise same_bool stops stops_at_power_up) refl
+stops_leaves wide stops long = go (pointwise same_bool stops stops_at_power_up) refl
   where
     narrow : List Event
     narrow = where_true (not (is_wide (columns wide))) (private_mode deccolm false ∷ [])
 
     go : (b : Bool) → pointwise same_bool stops stops_at_power_up ≡ b
-        → HasStops wide stops (run display_at_power_up (cond b (where_true (is_wide (columns wide)) (private_mode deccolm true ∷ [])) (private_mode deccolm true ∷ clear_all_tabs ∷ (stops_from stops 1 132 ++ narrow))))
+        → HasStops wide stops (display_after display_at_power_up (cond b (where_true (is_wide (columns wide)) (private_mode deccolm true ∷ [])) (private_mode deccolm true ∷ clear_all_tabs ∷ (stops_from stops 1 132 ++ narrow))))
     go true e =
         let is = (pointwise_decides same_bool-decides stops stops_at_power_up).0 e in
-        subst (λ (s : List Bool). HasStops wide s (run display_at_power_up (where_true (is_wide (columns wide)) (private_mode deccolm true ∷ [])))) (sym is) (wide_run wide)
+        subst (λ (s : List Bool). HasStops wide s (display_after display_at_power_up (where_true (is_wide (columns wide)) (private_mode deccolm true ∷ [])))) (sym is) (wide_leaves wide)
     go false e =
-        let x0 = run display_at_power_up (private_mode deccolm true ∷ clear_all_tabs ∷ []) in
-        let w = stops_from_run stops 132 0 x0 refl (start stops) in
+        let x0 = display_after display_at_power_up (private_mode deccolm true ∷ clear_all_tabs ∷ []) in
+        let w = stops_from_leaves stops 132 0 x0 refl (start stops) in
         subst (λ (y : Display). HasStops wide stops y)
-        (sym (run-append display_at_power_up (private_mode deccolm true ∷ clear_all_tabs ∷ []) (stops_from stops 1 132 ++ narrow)
-        ∙ run-append x0 (stops_from stops 1 132) narrow
-        ∙ ap (λ y. run y narrow) (w.is ∙ ap (λ m. with_stops true m w.cursor) (all_made stops w.made long w.are))))
-        (narrow_run wide stops w.cursor)
+        (sym (display_after-append display_at_power_up (private_mode deccolm true ∷ clear_all_tabs ∷ []) (stops_from stops 1 132 ++ narrow)
+        ∙ display_after-append x0 (stops_from stops 1 132) narrow
+        ∙ ap (λ y. display_after y narrow) (w.is ∙ ap (λ m. with_stops true m w.cursor) (all_made stops w.made long w.are))))
+        (narrow_leaves wide stops w.cursor)

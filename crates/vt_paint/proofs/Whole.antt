@@ -22,96 +22,96 @@ use Rattle.vt_term.specs.Sound.{IsPlace, IsSoundDisplay, IsSound}
 use Rattle.vt_term.specs.Reports.{line_of_cursor}
 use Rattle.vt_term.specs.Play.{Played, after_events, reports_of, play}
 use Rattle.vt_paint.specs.Same.{same_bool, same_saved, is_blank}
-use Rattle.vt_paint.specs.Controls.{where_true, private_mode, deccolm, cursor_to, clear_all_tabs, set_tab, save_cursor, shift_to_2, shift_to_3, brush_events, sets_events, spelling_sets_events}
+use Rattle.vt_paint.specs.Controls.{where_true, private_mode, deccolm, cursor_position, clear_all_tabs, set_tab, save_cursor, shift_to_2, shift_to_3, brush_events, sets_events, spelling_sets_events}
 use Rattle.vt_paint.specs.Pieces.{left_of, needs_header, header, glyph_events, piece_of, piece, pieces_from, row_pieces, rows_from, pieces, is_blank_grid}
 use Rattle.vt_paint.specs.Items.{reset_item, stop_events, stops_from, is_wide, made_stops, stops_item, saved_events, saved_item, cells_item, margins_item, origin_item, position_item, wrap_item, ansi_mode_item, private_mode_item, modes_item, shift_item}
 use Rattle.vt_paint.specs.Repaint.{repaint_events, paint}
 use Rattle.vt_paint.proofs.LowerLaws.{GridLaws, GlyphLaws}
-use Rattle.vt_paint.proofs.Running.{run, run-then, run-after_events}
-use Rattle.vt_paint.proofs.Fine.{AreFine, fine-append, fine-upto, fine-none, fine-where, fine-unless, fine-if, cursor_to_fine, margins_to_fine, clear_fine, column_fine, ansi_mode_fine, private_mode_fine, brush_fine, set_tab_fine, shift_to_2_fine, shift_to_3_fine, reset_fine, save_fine, keypad_fine, reports_fine, print_fine, sets_fine, spelling_sets_fine, spelling_fine}
+use Rattle.vt_paint.proofs.AfterEvents.{display_after, display_after-then, display_after-after_events}
+use Rattle.vt_paint.proofs.Within.{AreSpelledWithin, within-append, within-upto, within-none, within-where, within-unless, within-if, cursor_position_within, margins_to_within, clear_within, column_within, ansi_mode_within, private_mode_within, brush_within, set_tab_within, shift_to_2_within, shift_to_3_within, reset_within, save_within, keypad_within, reports_within, print_within, sets_within, spelling_sets_within, spelling_within}
 use Rattle.vt_paint.proofs.Painting.{AreGlyphs}
-use Rattle.vt_paint.proofs.Stops.{with_stops, reset_run, stops_run}
-use Rattle.vt_paint.proofs.SavedRecord.{with_saved, saved_run}
-use Rattle.vt_paint.proofs.Chain.{part, cells_run, margins_run, origin_run, position_run, wrap_run, end_run}
+use Rattle.vt_paint.proofs.Stops.{with_stops, reset_leaves, stops_leaves}
+use Rattle.vt_paint.proofs.SavedRecord.{with_saved, saved_leaves}
+use Rattle.vt_paint.proofs.Chain.{part, cells_leaves, margins_leaves, origin_leaves, position_leaves, wrap_leaves, end_leaves}
 
 -- ---- the items are fine
 
-stop_fine : (stops : List Bool) (c : ℕ) → c ≤ 132 → AreFine 10 (stop_events stops c)
+stop_within : (stops : List Bool) (c : ℕ) → c ≤ 132 → AreSpelledWithin 10 (stop_events stops c)
 unfolding stop_events
-stop_fine stops c h = fine-where 10 (has_stop_at stops c) (cursor_to 1 c ∷ set_tab ∷ []) (fine-append 8 2 _ _ (column_fine c h) set_tab_fine)
+stop_within stops c h = within-where 10 (has_stop_at stops c) (cursor_position 1 c ∷ set_tab ∷ []) (within-append 8 2 _ _ (column_within c h) set_tab_within)
 
-stops_from_fine : (stops : List Bool) (n c : ℕ) → c + n ≤ 133 → AreFine (10 * n) (stops_from stops c n)
-stops_from_fine stops zero c h = fine-none
-stops_from_fine stops (suc n) c h =
-    fine-upto (10 + 10 * n) (10 * suc n) _ (omega arith)
-    (fine-append 10 (10 * n) (stop_events stops c) (stops_from stops (c + 1) n) (stop_fine stops c (omega arith)) (stops_from_fine stops n (c + 1) (omega arith)))
+stops_from_within : (stops : List Bool) (n c : ℕ) → c + n ≤ 133 → AreSpelledWithin (10 * n) (stops_from stops c n)
+stops_from_within stops zero c h = within-none
+stops_from_within stops (suc n) c h =
+    within-upto (10 + 10 * n) (10 * suc n) _ (omega arith)
+    (within-append 10 (10 * n) (stop_events stops c) (stops_from stops (c + 1) n) (stop_within stops c (omega arith)) (stops_from_within stops n (c + 1) (omega arith)))
 
-stops_item_fine : (width : ℕ) (stops : List Bool) → AreFine 1336 (stops_item width stops)
+stops_item_within : (width : ℕ) (stops : List Bool) → AreSpelledWithin 1336 (stops_item width stops)
 unfolding stops_item made_stops
-stops_item_fine width stops = go (pointwise same_bool stops stops_at_power_up)
+stops_item_within width stops = go (pointwise same_bool stops stops_at_power_up)
   where
-    go : (b : Bool) → AreFine 1336 (cond b (where_true (is_wide width) (private_mode deccolm true ∷ [])) (private_mode deccolm true ∷ clear_all_tabs ∷ (stops_from stops 1 132 ++ where_true (not (is_wide width)) (private_mode deccolm false ∷ []))))
-    go true = fine-where 1336 (is_wide width) _ (fine-upto 6 1336 _ (omega arith) (private_mode_fine 3 true (omega arith)))
+    go : (b : Bool) → AreSpelledWithin 1336 (cond b (where_true (is_wide width) (private_mode deccolm true ∷ [])) (private_mode deccolm true ∷ clear_all_tabs ∷ (stops_from stops 1 132 ++ where_true (not (is_wide width)) (private_mode deccolm false ∷ []))))
+    go true = within-where 1336 (is_wide width) _ (within-upto 6 1336 _ (omega arith) (private_mode_within 3 true (omega arith)))
     go false =
-        fine-upto _ 1336 _ (omega arith)
-        (fine-append _ _ (private_mode deccolm true ∷ []) _ (private_mode_fine 3 true (omega arith))
-        (fine-append _ _ (clear_all_tabs ∷ []) _ clear_fine
-        (fine-append _ _ (stops_from stops 1 132) _ (stops_from_fine stops 132 1 (omega arith)) (fine-where 6 (not (is_wide width)) _ (private_mode_fine 3 false (omega arith))))))
+        within-upto _ 1336 _ (omega arith)
+        (within-append _ _ (private_mode deccolm true ∷ []) _ (private_mode_within 3 true (omega arith))
+        (within-append _ _ (clear_all_tabs ∷ []) _ clear_within
+        (within-append _ _ (stops_from stops 1 132) _ (stops_from_within stops 132 1 (omega arith)) (within-where 6 (not (is_wide width)) _ (private_mode_within 3 false (omega arith))))))
 
-saved_item_fine : (saved : Saved) → saved.row ≤ 24 → saved.col ≤ 132 → AreFine 57 (saved_item saved)
+saved_item_within : (saved : Saved) → saved.row ≤ 24 → saved.col ≤ 132 → AreSpelledWithin 57 (saved_item saved)
 unfolding saved_item saved_events
-saved_item_fine saved h k =
-    fine-where 57 (not (same_saved saved saved_at_power_up)) (saved_events saved)
-    (fine-upto _ 57 _ (omega arith)
-    (fine-append _ _ _ _ (fine-where 6 saved.origin _ (private_mode_fine 6 true (omega arith)))
-    (fine-append _ _ (cursor_to saved.row saved.col ∷ []) _ (cursor_to_fine saved.row saved.col h k)
-    (fine-append _ _ _ _ (fine-where 1 saved.wrap _ (print_fine 0x20 (omega arith) (omega arith)))
-    (fine-append _ _ _ _ (brush_fine saved.brush)
-    (fine-append _ _ _ _ (sets_fine (saved_sets saved))
-    (fine-append _ _ (save_cursor ∷ []) _ save_fine (fine-where 6 saved.origin _ (private_mode_fine 6 false (omega arith))))))))))
+saved_item_within saved h k =
+    within-where 57 (not (same_saved saved saved_at_power_up)) (saved_events saved)
+    (within-upto _ 57 _ (omega arith)
+    (within-append _ _ _ _ (within-where 6 saved.origin _ (private_mode_within 6 true (omega arith)))
+    (within-append _ _ (cursor_position saved.row saved.col ∷ []) _ (cursor_position_within saved.row saved.col h k)
+    (within-append _ _ _ _ (within-where 1 saved.wrap _ (print_within 0x20 (omega arith) (omega arith)))
+    (within-append _ _ _ _ (brush_within saved.brush)
+    (within-append _ _ _ _ (sets_within (saved_sets saved))
+    (within-append _ _ (save_cursor ∷ []) _ save_within (within-where 6 saved.origin _ (private_mode_within 6 false (omega arith))))))))))
 
 module _ (glyphs : GlyphLaws) where
-  pub glyph_fine : (cell : Cell) → IsGlyph cell.glyph → AreFine 3 (glyph_events cell)
+  pub glyph_within : (cell : Cell) → IsGlyph cell.glyph → AreSpelledWithin 3 (glyph_events cell)
   unfolding glyph_events
-  glyph_fine cell is = let c = glyphs.spellings.code cell.glyph is in spelling_fine (spelling_of cell.glyph) c.0 c.1
+  glyph_within cell is = let c = glyphs.spellings.code cell.glyph is in spelling_within (spelling_of cell.glyph) c.0 c.1
 
-  piece_fine : (g : Grid) (r c : ℕ) → AreGlyphs g → r ≤ 24 → c ≤ 132 → AreFine 29 (piece g r c)
+  piece_within : (g : Grid) (r c : ℕ) → AreGlyphs g → r ≤ 24 → c ≤ 132 → AreSpelledWithin 29 (piece g r c)
   unfolding piece_of header
-  piece_fine g r c are h k =
-      fine-where 29 (not (is_blank (cell_at g r c))) (header r c (left_of g r c) (cell_at g r c) ++ glyph_events (cell_at g r c))
-      (fine-append 26 3 _ _ (fine-where 26 (needs_header (left_of g r c) (cell_at g r c)) _ (fine-append 9 17 (cursor_to r c ∷ []) _ (cursor_to_fine r c h k) (brush_fine (brush_of (cell_at g r c)))))
-      (glyph_fine (cell_at g r c) (are r c)))
+  piece_within g r c are h k =
+      within-where 29 (not (is_blank (cell_at g r c))) (header r c (left_of g r c) (cell_at g r c) ++ glyph_events (cell_at g r c))
+      (within-append 26 3 _ _ (within-where 26 (needs_header (left_of g r c) (cell_at g r c)) _ (within-append 9 17 (cursor_position r c ∷ []) _ (cursor_position_within r c h k) (brush_within (brush_of (cell_at g r c)))))
+      (glyph_within (cell_at g r c) (are r c)))
 
-  pieces_from_fine : (g : Grid) (r n c : ℕ) → AreGlyphs g → r ≤ 24 → c + n ≤ 133 → AreFine (29 * n) (pieces_from g r c n)
-  pieces_from_fine g r zero c are h k = fine-none
-  pieces_from_fine g r (suc n) c are h k =
-      fine-upto (29 + 29 * n) (29 * suc n) _ (omega arith)
-      (fine-append 29 (29 * n) (piece g r c) (pieces_from g r (c + 1) n) (piece_fine g r c are h (omega arith)) (pieces_from_fine g r n (c + 1) are h (omega arith)))
+  pieces_from_within : (g : Grid) (r n c : ℕ) → AreGlyphs g → r ≤ 24 → c + n ≤ 133 → AreSpelledWithin (29 * n) (pieces_from g r c n)
+  pieces_from_within g r zero c are h k = within-none
+  pieces_from_within g r (suc n) c are h k =
+      within-upto (29 + 29 * n) (29 * suc n) _ (omega arith)
+      (within-append 29 (29 * n) (piece g r c) (pieces_from g r (c + 1) n) (piece_within g r c are h (omega arith)) (pieces_from_within g r n (c + 1) are h (omega arith)))
 
-  rows_from_fine : (g : Grid) (n r : ℕ) → AreGlyphs g → g.width ≤ 132 → r + n ≤ 25 → AreFine (3828 * n) (rows_from g r n)
-  rows_from_fine g zero r are w h = fine-none
-  rows_from_fine g (suc n) r are w h =
-      fine-upto (3828 + 3828 * n) (3828 * suc n) _ (omega arith)
-      (fine-append 3828 (3828 * n) (row_pieces g r) (rows_from g (r + 1) n)
-      (fine-upto (29 * g.width) 3828 _ (omega arith) (pieces_from_fine g r g.width 1 are (omega arith) (omega arith)))
-      (rows_from_fine g n (r + 1) are w (omega arith)))
+  rows_from_within : (g : Grid) (n r : ℕ) → AreGlyphs g → g.width ≤ 132 → r + n ≤ 25 → AreSpelledWithin (3828 * n) (rows_from g r n)
+  rows_from_within g zero r are w h = within-none
+  rows_from_within g (suc n) r are w h =
+      within-upto (3828 + 3828 * n) (3828 * suc n) _ (omega arith)
+      (within-append 3828 (3828 * n) (row_pieces g r) (rows_from g (r + 1) n)
+      (within-upto (29 * g.width) 3828 _ (omega arith) (pieces_from_within g r g.width 1 are (omega arith) (omega arith)))
+      (rows_from_within g n (r + 1) are w (omega arith)))
 
-  cells_item_fine : (g : Grid) (wrap : Bool) → AreGlyphs g → g.width ≤ 132 → AreFine 91883 (cells_item g wrap)
+  cells_item_within : (g : Grid) (wrap : Bool) → AreGlyphs g → g.width ≤ 132 → AreSpelledWithin 91883 (cells_item g wrap)
   unfolding cells_item pieces
-  cells_item_fine g wrap are w = fine-unless 91883 (is_blank_grid g && not wrap) (spelling_sets_events ++ pieces g) (fine-append 11 91872 _ _ (fine-upto 10 11 _ (omega arith) spelling_sets_fine) (rows_from_fine g 24 1 are w (omega arith)))
+  cells_item_within g wrap are w = within-unless 91883 (is_blank_grid g && not wrap) (spelling_sets_events ++ pieces g) (within-append 11 91872 _ _ (within-upto 10 11 _ (omega arith) spelling_sets_within) (rows_from_within g 24 1 are w (omega arith)))
 
-  pub wrap_item_fine : (g : Grid) (cursor : Cursor) → AreGlyphs g → AreFine 20 (wrap_item g cursor)
+  pub wrap_item_within : (g : Grid) (cursor : Cursor) → AreGlyphs g → AreSpelledWithin 20 (wrap_item g cursor)
   unfolding wrap_item
-  wrap_item_fine g cursor are =
-      fine-where 20 cursor.wrap _ (fine-append 17 3 _ _ (brush_fine (brush_of (cell_at g cursor.row cursor.col))) (glyph_fine (cell_at g cursor.row cursor.col) (are cursor.row cursor.col)))
+  wrap_item_within g cursor are =
+      within-where 20 cursor.wrap _ (within-append 17 3 _ _ (brush_within (brush_of (cell_at g cursor.row cursor.col))) (glyph_within (cell_at g cursor.row cursor.col) (are cursor.row cursor.col)))
 
-pub margins_item_fine : (m : Margins) → m.top ≤ 24 → m.bottom ≤ 24 → AreFine 8 (margins_item m)
+pub margins_item_within : (m : Margins) → m.top ≤ 24 → m.bottom ≤ 24 → AreSpelledWithin 8 (margins_item m)
 unfolding margins_item
-margins_item_fine m h k = fine-unless 8 (eqb m.top 1 && eqb m.bottom 24) _ (margins_to_fine m.top m.bottom h k)
+margins_item_within m h k = within-unless 8 (eqb m.top 1 && eqb m.bottom 24) _ (margins_to_within m.top m.bottom h k)
 
-origin_item_fine : (on : Bool) → AreFine 6 (origin_item on)
+origin_item_within : (on : Bool) → AreSpelledWithin 6 (origin_item on)
 unfolding origin_item
-origin_item_fine on = fine-where 6 on _ (private_mode_fine 6 true (omega arith))
+origin_item_within on = within-where 6 on _ (private_mode_within 6 true (omega arith))
 
 pub line_small : (s : Display) → IsSoundDisplay s → line_of_cursor s ≤ 24
 line_small s i = go s.modes.decom
@@ -120,32 +120,32 @@ line_small s i = go s.modes.decom
     go true = omega (arith, i.cursor.row_24, i.margins.from_row_1)
     go false = i.cursor.row_24
 
-ansi_fine : (n : ℕ) (at_power_up on : Bool) → n < 100 → AreFine 5 (ansi_mode_item n at_power_up on)
-ansi_fine n at_power_up on h = fine-unless 5 (same_bool at_power_up on) _ (ansi_mode_fine n on h)
+ansi_within : (n : ℕ) (at_power_up on : Bool) → n < 100 → AreSpelledWithin 5 (ansi_mode_item n at_power_up on)
+ansi_within n at_power_up on h = within-unless 5 (same_bool at_power_up on) _ (ansi_mode_within n on h)
 
-private_fine : (n : ℕ) (at_power_up on : Bool) → n < 100 → AreFine 6 (private_mode_item n at_power_up on)
-private_fine n at_power_up on h = fine-unless 6 (same_bool at_power_up on) _ (private_mode_fine n on h)
+private_within : (n : ℕ) (at_power_up on : Bool) → n < 100 → AreSpelledWithin 6 (private_mode_item n at_power_up on)
+private_within n at_power_up on h = within-unless 6 (same_bool at_power_up on) _ (private_mode_within n on h)
 
-modes_item_fine : (m : Modes) → AreFine 61 (modes_item m)
+modes_item_within : (m : Modes) → AreSpelledWithin 61 (modes_item m)
 unfolding modes_item
-modes_item_fine m =
-    fine-upto _ 61 _ (omega arith)
-    (fine-append _ _ _ _ (ansi_fine 2 false m.kam (omega arith))
-    (fine-append _ _ _ _ (ansi_fine 4 false m.irm (omega arith))
-    (fine-append _ _ _ _ (ansi_fine 12 true m.srm (omega arith))
-    (fine-append _ _ _ _ (ansi_fine 20 false m.lnm (omega arith))
-    (fine-append _ _ _ _ (private_fine 1 false m.decckm (omega arith))
-    (fine-append _ _ _ _ (private_fine 4 false m.decsclm (omega arith))
-    (fine-append _ _ _ _ (private_fine 5 false m.decscnm (omega arith))
-    (fine-append _ _ _ _ (private_fine 7 true m.decawm (omega arith))
-    (fine-append _ _ _ _ (private_fine 8 true m.decarm (omega arith))
-    (fine-append _ _ _ _ (private_fine 25 true m.dectcem (omega arith))
-    (fine-append _ _ _ _ (fine-where 2 m.keypad_application _ keypad_fine) (fine-where 3 m.reports_8bit _ reports_fine))))))))))))
+modes_item_within m =
+    within-upto _ 61 _ (omega arith)
+    (within-append _ _ _ _ (ansi_within 2 false m.kam (omega arith))
+    (within-append _ _ _ _ (ansi_within 4 false m.irm (omega arith))
+    (within-append _ _ _ _ (ansi_within 12 true m.srm (omega arith))
+    (within-append _ _ _ _ (ansi_within 20 false m.lnm (omega arith))
+    (within-append _ _ _ _ (private_within 1 false m.decckm (omega arith))
+    (within-append _ _ _ _ (private_within 4 false m.decsclm (omega arith))
+    (within-append _ _ _ _ (private_within 5 false m.decscnm (omega arith))
+    (within-append _ _ _ _ (private_within 7 true m.decawm (omega arith))
+    (within-append _ _ _ _ (private_within 8 true m.decarm (omega arith))
+    (within-append _ _ _ _ (private_within 25 true m.dectcem (omega arith))
+    (within-append _ _ _ _ (within-where 2 m.keypad_application _ keypad_within) (within-where 3 m.reports_8bit _ reports_within))))))))))))
 
-pub shift_item_fine : (pending : Option ℕ) → AreFine 2 (shift_item pending)
+pub shift_item_within : (pending : Option ℕ) → AreSpelledWithin 2 (shift_item pending)
 unfolding shift_item
-shift_item_fine None = fine-upto 0 2 _ (omega arith) fine-none
-shift_item_fine (Some slot) = fine-if 2 (eqb slot 2) shift_to_2 shift_to_3 shift_to_2_fine shift_to_3_fine
+shift_item_within None = within-upto 0 2 _ (omega arith) within-none
+shift_item_within (Some slot) = within-if 2 (eqb slot 2) shift_to_2 shift_to_3 shift_to_2_within shift_to_3_within
 
 -- ---- the whole
 
@@ -161,30 +161,30 @@ width_small s i = go i.grid.shape.width.0 i.grid.shape.width.1
     go false e = omega arith
 
 module _ (grids : GridLaws) (glyphs : GlyphLaws) where
-  pub repaint_fine : (s : Display) → IsSoundDisplay s → AreFine 93512 (repaint_events s)
+  pub repaint_within : (s : Display) → IsSoundDisplay s → AreSpelledWithin 93512 (repaint_events s)
   unfolding repaint_events
-  repaint_fine s i =
+  repaint_within s i =
       let w = width_small s i in
       let are = sound_glyphs grids glyphs s i in
       let saved_col : s.saved.col ≤ 132 = omega (arith, i.saved.col_last, w) in
       let col : s.cursor.col ≤ 132 = omega (arith, i.cursor.col_last, w) in
       let top : s.margins.top ≤ 24 = omega (arith, i.margins.two_rows, i.margins.to_last_row) in
-      fine-upto _ 93512 _ (omega arith)
-      (fine-append _ _ reset_item _ reset_fine
-      (fine-append _ _ (stops_item (last_column s) s.stops) _ (stops_item_fine (last_column s) s.stops)
-      (fine-append _ _ (saved_item s.saved) _ (saved_item_fine s.saved i.saved.row_24 saved_col)
-      (fine-append _ _ (cells_item s.grid s.cursor.wrap) _ (cells_item_fine glyphs s.grid s.cursor.wrap are w)
-      (fine-append _ _ (margins_item s.margins) _ (margins_item_fine s.margins top i.margins.to_last_row)
-      (fine-append _ _ (origin_item s.modes.decom) _ (origin_item_fine s.modes.decom)
-      (fine-append _ _ (position_item s) _ (cursor_to_fine (line_of_cursor s) s.cursor.col (line_small s i) col)
-      (fine-append _ _ (wrap_item s.grid s.cursor) _ (wrap_item_fine glyphs s.grid s.cursor are)
-      (fine-append _ _ (brush_events s.brush) _ (brush_fine s.brush)
-      (fine-append _ _ (sets_events s.sets) _ (sets_fine s.sets)
-      (fine-append _ _ (modes_item s.modes) _ (modes_item_fine s.modes) (shift_item_fine s.sets.pending))))))))))))
+      within-upto _ 93512 _ (omega arith)
+      (within-append _ _ reset_item _ reset_within
+      (within-append _ _ (stops_item (last_column s) s.stops) _ (stops_item_within (last_column s) s.stops)
+      (within-append _ _ (saved_item s.saved) _ (saved_item_within s.saved i.saved.row_24 saved_col)
+      (within-append _ _ (cells_item s.grid s.cursor.wrap) _ (cells_item_within glyphs s.grid s.cursor.wrap are w)
+      (within-append _ _ (margins_item s.margins) _ (margins_item_within s.margins top i.margins.to_last_row)
+      (within-append _ _ (origin_item s.modes.decom) _ (origin_item_within s.modes.decom)
+      (within-append _ _ (position_item s) _ (cursor_position_within (line_of_cursor s) s.cursor.col (line_small s i) col)
+      (within-append _ _ (wrap_item s.grid s.cursor) _ (wrap_item_within glyphs s.grid s.cursor are)
+      (within-append _ _ (brush_events s.brush) _ (brush_within s.brush)
+      (within-append _ _ (sets_events s.sets) _ (sets_within s.sets)
+      (within-append _ _ (modes_item s.modes) _ (modes_item_within s.modes) (shift_item_within s.sets.pending))))))))))))
 
-  pub repaint_run : (s t : Display) → IsSoundDisplay s → run t (repaint_events s) ≡ s
+  pub repaint_leaves : (s t : Display) → IsSoundDisplay s → display_after t (repaint_events s) ≡ s
   unfolding repaint_events
-  repaint_run s t i =
+  repaint_leaves s t i =
       let wide = i.grid.shape.width.0 in
       let is_width = i.grid.shape.width.1 in
       let are = sound_glyphs grids glyphs s i in
@@ -197,12 +197,12 @@ module _ (grids : GridLaws) (glyphs : GlyphLaws) where
       let o2 = saved_item s.saved ++ o3 in
       let o1 = stops_item (columns wide) s.stops ++ o2 in
       let place = subst (λ (w : ℕ). IsPlace w s.saved.row s.saved.col s.saved.wrap) is_width i.saved in
-      let w1 = stops_run wide s.stops i.stops in
-      let w2 = saved_run grids wide s.stops s.saved w1.cursor place i.saved_sets in
-      let w3 = cells_run grids glyphs wide s w2.cursor is_width i.grid.shape are i.saved_sets in
-      let w4 = margins_run s modes_at_power_up w3.cursor w3.brush w3.sets s.margins false i.margins in
-      let w5 = origin_run s modes_at_power_up w4.cursor w3.brush w3.sets s.margins s.modes.decom in
-      let w7 = wrap_run grids glyphs s modes_at_power_up w3.brush w3.sets refl refl i are w3.four w3.none w3.spells in
+      let w1 = stops_leaves wide s.stops i.stops in
+      let w2 = saved_leaves grids wide s.stops s.saved w1.cursor place i.saved_sets in
+      let w3 = cells_leaves grids glyphs wide s w2.cursor is_width i.grid.shape are i.saved_sets in
+      let w4 = margins_leaves s modes_at_power_up w3.cursor w3.brush w3.sets s.margins false i.margins in
+      let w5 = origin_leaves s modes_at_power_up w4.cursor w3.brush w3.sets s.margins s.modes.decom in
+      let w7 = wrap_leaves grids glyphs s modes_at_power_up w3.brush w3.sets refl refl i are w3.four w3.none w3.spells in
       let x1 = with_stops wide s.stops w1.cursor in
       let x2 = with_saved wide s.stops s.saved w2.cursor in
       let x3 = part s modes_at_power_up w3.cursor w3.brush w3.sets full_margins false in
@@ -210,42 +210,42 @@ module _ (grids : GridLaws) (glyphs : GlyphLaws) where
       let x5 = part s modes_at_power_up w5.cursor w3.brush w3.sets s.margins s.modes.decom in
       let x6 = part s modes_at_power_up (at_place s.cursor.row s.cursor.col) w3.brush w3.sets s.margins s.modes.decom in
       let x7 = part s modes_at_power_up s.cursor w7.brush w7.sets s.margins s.modes.decom in
-      ap (λ n. run t (reset_item ++ (stops_item n s.stops ++ o2))) is_width
-      ∙ run-then t display_at_power_up s reset_item o1 (reset_run t)
-      (run-then display_at_power_up x1 s (stops_item (columns wide) s.stops) o2 w1.is
-      (run-then x1 x2 s (saved_item s.saved) o3 w2.is
-      (run-then x2 x3 s (cells_item s.grid s.cursor.wrap) o4 w3.is
-      (run-then x3 x4 s (margins_item s.margins) o5 w4.is
-      (run-then x4 x5 s (origin_item s.modes.decom) o6 w5.is
-      (run-then x5 x6 s (position_item s) o7 (position_run s modes_at_power_up w5.cursor w3.brush w3.sets i)
-      (run-then x6 x7 s (wrap_item s.grid s.cursor) o8 w7.is
-      (end_run s w7.brush w7.sets i w7.four w7.none))))))))
+      ap (λ n. display_after t (reset_item ++ (stops_item n s.stops ++ o2))) is_width
+      ∙ display_after-then t display_at_power_up s reset_item o1 (reset_leaves t)
+      (display_after-then display_at_power_up x1 s (stops_item (columns wide) s.stops) o2 w1.is
+      (display_after-then x1 x2 s (saved_item s.saved) o3 w2.is
+      (display_after-then x2 x3 s (cells_item s.grid s.cursor.wrap) o4 w3.is
+      (display_after-then x3 x4 s (margins_item s.margins) o5 w4.is
+      (display_after-then x4 x5 s (origin_item s.modes.decom) o6 w5.is
+      (display_after-then x5 x6 s (position_item s) o7 (position_leaves s modes_at_power_up w5.cursor w3.brush w3.sets i)
+      (display_after-then x6 x7 s (wrap_item s.grid s.cursor) o8 w7.is
+      (end_leaves s w7.brush w7.sets i w7.four w7.none))))))))
 
   pub short : (s : State) → IsSound s → length (paint s) ≤ 93512
   unfolding paint
-  short s i = (repaint_fine s.display i.display).short
+  short s i = (repaint_within s.display i.display).short
 
   pub ascii : (s : State) → IsSound s → IsAscii (paint s)
   unfolding paint
-  ascii s i = (repaint_fine s.display i.display).ascii
+  ascii s i = (repaint_within s.display i.display).ascii
 
   module _ (reading : SpellingLaw) where
     -- the bytes are the events, whatever is held before them
     reads : (held : Held) (s : Display) → IsSoundDisplay s → IsHeldPart held → (events_from held (spell_events (repaint_events s)) ≡ repaint_events s) × (held_from held (spell_events (repaint_events s)) ≡ Nothing)
     unfolding repaint_events
     reads held s i h =
-        let fine = repaint_fine s i in
+        let fine = repaint_within s i in
         let rest = spell_events (repaint_events s) in
         (reading.escape held _ h ∙ reading.all_events (repaint_events s) fine.events, reading.escape_held held _ h ∙ reading.all_held (repaint_events s) fine.events)
 
     pub rebuilds_all : (s : State) → IsSound s → s.held ≡ Nothing → (t : State) → IsSound t → play t (paint s) ≡ record { state = s; reports = [] }
     unfolding play paint
     rebuilds_all s i between t j =
-        let fine = repaint_fine s.display i.display in
+        let fine = repaint_within s.display i.display in
         let r = reads t.held s.display i.display j.held in
         let es = repaint_events s.display in
         let made : List Event → Held → Played = λ es h. record { state = record { display = after_events es t.display; held = h }; reports = reports_of es t.display } in
         ap (λ x. made x (held_from t.held (paint s))) r.0
         ∙ ap (λ h. made es h) (r.1 ∙ sym between)
-        ∙ ap (λ x. let p : Played = record { state = record { display = x; held = s.held }; reports = reports_of es t.display } in p) (sym (run-after_events t.display es) ∙ repaint_run s.display t.display i.display)
+        ∙ ap (λ x. let p : Played = record { state = record { display = x; held = s.held }; reports = reports_of es t.display } in p) (sym (display_after-after_events t.display es) ∙ repaint_leaves s.display t.display i.display)
         ∙ ap (λ q. let p : Played = record { state = s; reports = q } in p) (fine.silent t.display)

@@ -13,7 +13,7 @@ use Rattle.vt_term.specs.declared.state.Modes.{Modes}
 use Rattle.vt_term.specs.declared.state.Saved.{Saved}
 use Rattle.vt_term.specs.State.{Display, saved_sets}
 use Rattle.vt_term.specs.Functions.{byte}
-use Rattle.vt_paint.specs.Controls.{where_true, sequence_of, ansi_mode, private_mode, decom, cursor_to, rendition_to, protection_to, brush_events, save_cursor, reports_8bit, application_keypad, sets_events, spelling_sets_events}
+use Rattle.vt_paint.specs.Controls.{where_true, sequence_of, ansi_mode, private_mode, decom, cursor_position, rendition_to, protection_to, brush_events, save_cursor, reports_8bit, application_keypad, sets_events, spelling_sets_events}
 use Rattle.vt_paint.specs.Pieces.{glyph_events}
 use Rattle.vt_paint.specs.Items.{margins_item, origin_item, position_item, wrap_item, shift_item}
 use Rattle.vt_paint.specs.Changes.{is_marked}
@@ -51,7 +51,7 @@ short_brush_events brush = short_rendition brush.rendition ∷ protection_to bru
 
 -- a cell where it is marked: its place, its brush and its glyph
 unfoldable pub change_of : ℕ → ℕ → Bool → Cell → List Event
-change_of r c marked cell = where_true marked (cursor_to r c
+change_of r c marked cell = where_true marked (cursor_position r c
     ∷ (short_brush_events (brush_of cell) ++ glyph_events cell))
 
 abbrev pub change : List (List Bool) → Grid → ℕ → ℕ → List Event
@@ -85,7 +85,7 @@ saved_cursor saved = record { row = saved.row; col = saved.col; wrap = saved.wra
 unfoldable pub record_item : Grid → Saved → List Event
 record_item g saved =
     origin_item saved.origin
-    ++ (cursor_to saved.row saved.col
+    ++ (cursor_position saved.row saved.col
     ∷ (wrap_item g (saved_cursor saved)
     ++ (brush_events saved.brush
     ++ (sets_events (saved_sets saved)

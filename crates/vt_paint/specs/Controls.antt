@@ -39,8 +39,8 @@ abbrev pub decom : ℕ
 decom = 6
 
 -- CUP, always with both numbers
-abbrev pub cursor_to : ℕ → ℕ → Event
-cursor_to line col = sequence_of (line ∷ col ∷ []) (byte (codes "H"))
+abbrev pub cursor_position : ℕ → ℕ → Event
+cursor_position line col = sequence_of (line ∷ col ∷ []) (byte (codes "H"))
 
 -- DECSTBM
 abbrev pub margins_to : ℕ → ℕ → Event
@@ -80,8 +80,8 @@ abbrev pub shift_to_3 : Event
 shift_to_3 = Control 0x8F
 
 -- RIS
-abbrev pub reset_all : Event
-reset_all = Escape None (byte (codes "c"))
+abbrev pub reset_to_initial_state : Event
+reset_to_initial_state = Escape None (byte (codes "c"))
 
 -- DECSC
 abbrev pub save_cursor : Event

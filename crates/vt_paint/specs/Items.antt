@@ -14,17 +14,17 @@ use Rattle.vt_term.specs.declared.state.Saved.{Saved}
 use Rattle.vt_term.specs.State.{Display, has_stop_at, stops_at_power_up, saved_sets, saved_at_power_up}
 use Rattle.vt_term.specs.Reports.{line_of_cursor}
 use Rattle.vt_paint.specs.Same.{same_bool, same_saved}
-use Rattle.vt_paint.specs.Controls.{where_true, ansi_mode, private_mode, deccolm, decom, cursor_to, margins_to, clear_all_tabs, brush_events, set_tab, shift_to_2, shift_to_3, reset_all, save_cursor, application_keypad, reports_8bit, sets_events, spelling_sets_events}
+use Rattle.vt_paint.specs.Controls.{where_true, ansi_mode, private_mode, deccolm, decom, cursor_position, margins_to, clear_all_tabs, brush_events, set_tab, shift_to_2, shift_to_3, reset_to_initial_state, save_cursor, application_keypad, reports_8bit, sets_events, spelling_sets_events}
 use Rattle.vt_paint.specs.Pieces.{glyph_events, pieces, is_blank_grid}
 
 -- 1. RIS.
 abbrev pub reset_item : List Event
-reset_item = reset_all ∷ []
+reset_item = reset_to_initial_state ∷ []
 
 -- 2. Where the stops differ from power-up they are made, on a wide screen, where each has its column; the width is left as
 -- it is to be. Else a wide screen is asked for, if it is to be wide.
 unfoldable pub stop_events : List Bool → ℕ → List Event
-stop_events stops c = where_true (has_stop_at stops c) (cursor_to 1 c ∷ set_tab ∷ [])
+stop_events stops c = where_true (has_stop_at stops c) (cursor_position 1 c ∷ set_tab ∷ [])
 
 -- the stops of n columns from c on
 abbrev pub stops_from : List Bool → ℕ → ℕ → List Event
@@ -49,7 +49,7 @@ stops_item width stops =
 unfoldable pub saved_events : Saved → List Event
 saved_events saved =
     where_true saved.origin (private_mode decom true ∷ [])
-    ++ (cursor_to saved.row saved.col
+    ++ (cursor_position saved.row saved.col
     ∷ (where_true saved.wrap (Print space ∷ [])
     ++ (brush_events saved.brush
     ++ (sets_events (saved_sets saved)
@@ -73,7 +73,7 @@ origin_item on = where_true on (private_mode decom true ∷ [])
 
 -- 7. The cursor. The wrap flag is set by writing the cell under it once more.
 abbrev pub position_item : Display → List Event
-position_item s = cursor_to (line_of_cursor s) s.cursor.col ∷ []
+position_item s = cursor_position (line_of_cursor s) s.cursor.col ∷ []
 
 unfoldable pub wrap_item : Grid → Cursor → List Event
 wrap_item g cursor =

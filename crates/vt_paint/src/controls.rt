@@ -4,7 +4,7 @@ ghost use Rattle.vt_glyph.specs.declared.set.Set.TheVariants.{Ascii};
 ghost use Rattle.vt_glyph.specs.Designation.{final_of};
 ghost use Rattle.vt_syntax.specs.Spelling.{spell_event, spell_events};
 ghost use Rattle.vt_glyph.specs.Spell.{spelling_of};
-ghost use Rattle.vt_paint.specs.Controls.{cursor_to, margins_to, ansi_mode, private_mode, brush_events, left_event, right_event, sets_events, spelling_events};
+ghost use Rattle.vt_paint.specs.Controls.{cursor_position, margins_to, ansi_mode, private_mode, brush_events, left_event, right_event, sets_events, spelling_events};
 
 use crate::room::{push_bytes, push_number, push_where};
 use crate::tables::brush_part;
@@ -16,7 +16,7 @@ pub(crate) fn push_cursor_to(line: usize, col: usize, out: &mut Vec<u8>)
     requires line { line ≤ 24 }
     requires col { col ≤ 132 }
     requires room { vec_len out.old + 9 ≤ vec_capacity out.old }
-    ensures items { out.new.items ≡ out.old.items ++ spell_event (cursor_to line col) }
+    ensures items { out.new.items ≡ out.old.items ++ spell_event (cursor_position line col) }
     ensures bounded { vec_len out.new ≤ vec_len out.old + 9 }
     ensures capacity { vec_capacity out.old ≤ vec_capacity out.new }
 {

@@ -3,7 +3,7 @@ ghost use Rattle.std.specs.Prelude.{◌≡◌, ◌+◌, ◌*◌, ◌≤◌, ◌<
 ghost use Rattle.vt_syntax.specs.Spelling.{spell_events};
 ghost use Rattle.vt_screen.specs.Grid.{columns};
 ghost use Rattle.vt_screen.specs.Cells.{brush_of};
-ghost use Rattle.vt_paint.specs.Controls.{where_true, private_mode, decom, cursor_to, set_tab, brush_events};
+ghost use Rattle.vt_paint.specs.Controls.{where_true, private_mode, decom, cursor_position, set_tab, brush_events};
 ghost use Rattle.vt_paint.specs.Pieces.{glyph_events};
 ghost use Rattle.vt_paint.specs.Items.{stops_from, made_stops, stops_item, saved_item, saved_events, margins_item, ansi_mode_item, private_mode_item, modes_item, shift_item};
 
@@ -38,7 +38,7 @@ pub(crate) fn push_private_mode_where(test: bool, number: u8, on: bool, out: &mu
 fn push_stop(stop: bool, col: usize, out: &mut Vec<u8>)
     requires col { col ≤ 132 }
     requires room { vec_len out.old + 10 ≤ vec_capacity out.old }
-    ensures items { out.new.items ≡ out.old.items ++ spell_events (where_true stop (cursor_to 1 col ∷ set_tab ∷ [])) }
+    ensures items { out.new.items ≡ out.old.items ++ spell_events (where_true stop (cursor_position 1 col ∷ set_tab ∷ [])) }
     ensures bounded { vec_len out.new ≤ vec_len out.old + 10 }
     ensures capacity { vec_capacity out.old ≤ vec_capacity out.new }
 {

@@ -3,7 +3,7 @@
 ghost use Rattle.std.specs.Prelude.{◌≡◌, ◌+◌, ◌≤◌, ◌<◌, ◌++◌, ◌∷◌, [], take, length};
 ghost use Rattle.vt_syntax.specs.Spelling.{spell_event, spell_events};
 ghost use Rattle.vt_glyph.specs.Spell.{spelling_of};
-ghost use Rattle.vt_paint.specs.Controls.{cursor_to, brush_events, spelling_events};
+ghost use Rattle.vt_paint.specs.Controls.{cursor_position, brush_events, spelling_events};
 
 use crate::tables::{brush_part, column_part, row_part};
 use vt_glyph::{Glyph, Spelling};
@@ -42,7 +42,7 @@ fn put_cursor_to(row: usize, col: usize, at: usize, line: &mut [u8; LINE]) -> us
     requires row { (1 ≤ row) × (row ≤ 24) }
     requires col { (1 ≤ col) × (col ≤ 132) }
     requires room { at + 9 ≤ 3828 }
-    ensures items { take result line.new ≡ take at line.old ++ spell_event (cursor_to row col) }
+    ensures items { take result line.new ≡ take at line.old ++ spell_event (cursor_position row col) }
     ensures bounded { result ≤ at + 9 }
 {
     let (start, len) = row_part(row);
@@ -77,7 +77,7 @@ pub(crate) fn put_header(
     requires row { (1 ≤ row) × (row ≤ 24) }
     requires col { (1 ≤ col) × (col ≤ 132) }
     requires room { at + 29 ≤ 3828 }
-    ensures items { take result line.new ≡ take at line.old ++ spell_events (cursor_to row col ∷ brush_events brush) }
+    ensures items { take result line.new ≡ take at line.old ++ spell_events (cursor_position row col ∷ brush_events brush) }
     ensures bounded { result ≤ at + 26 }
 {
     let at = put_cursor_to(row, col, at, line);

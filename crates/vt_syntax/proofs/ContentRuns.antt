@@ -9,9 +9,9 @@ use Rattle.std.proofs.lemmas.Simd.{mask_l-mod}
 use lib.Lanes.{zip2, mask_l, top, Each1}
 use Rattle.vt_syntax.specs.declared.held.Held.TheVariants.{Text}
 use Rattle.vt_syntax.specs.Items.{ends_string}
-use Rattle.vt_syntax.specs.Steps.{step_to, step_string, run}
+use Rattle.vt_syntax.specs.Steps.{step_to, step_string, steps}
 use Rattle.vt_syntax.specs.Content.{goes_on}
-use Rattle.vt_syntax.proofs.SilentBytes.{run_nil, run_content}
+use Rattle.vt_syntax.proofs.SilentBytes.{steps_nil, steps_content}
 
 -- ---- the mask of a vector
 
@@ -80,17 +80,17 @@ unfolding ends_string
 content_byte true b is = grind (arith, nat_tests)
 content_byte false b is = grind (arith, nat_tests)
 
-run_front : (osc : Bool) (piece : List ℕ) (n : ℕ) → n ≤ prefix_len goes_on piece
-    → run (Text osc) (take n piece) ≡ step_to (Text osc) []
-run_front osc piece zero few = run_nil (Text osc)
-run_front osc piece (suc n) few =
+steps_front : (osc : Bool) (piece : List ℕ) (n : ℕ) → n ≤ prefix_len goes_on piece
+    → steps (Text osc) (take n piece) ≡ step_to (Text osc) []
+steps_front osc piece zero few = steps_nil (Text osc)
+steps_front osc piece (suc n) few =
     let below : n < prefix_len goes_on piece = omega arith in
     let inside : n < length piece = omega (arith, prefix_len-le-length goes_on piece) in
     let next : n + 1 ≡ suc n = omega arith in
-    rw (← next) (run_content osc piece n inside (run_front osc piece n (omega arith))
+    rw (← next) (steps_content osc piece n inside (steps_front osc piece n (omega arith))
     (content_byte osc (get_or piece n 0) (prefix_len_passes goes_on piece n 0 below)))
 
 -- the front of bytes that go on
 pub run_goes_on : (osc : Bool) (piece : List ℕ)
-    → run (Text osc) (take (prefix_len goes_on piece) piece) ≡ step_to (Text osc) []
-run_goes_on osc piece = run_front osc piece (prefix_len goes_on piece) (omega arith)
+    → steps (Text osc) (take (prefix_len goes_on piece) piece) ≡ step_to (Text osc) []
+run_goes_on osc piece = steps_front osc piece (prefix_len goes_on piece) (omega arith)

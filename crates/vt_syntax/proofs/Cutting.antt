@@ -11,14 +11,14 @@ use Rattle.vt_syntax.specs.Items.{Beginning, rest_bytes, IsRest}
 use Rattle.vt_syntax.specs.Split.{Parts, split_one, split_after, split_of}
 use Rattle.vt_syntax.specs.Reading.{single_function, reading, rest_reading, events_of}
 use Rattle.vt_syntax.specs.Held.{held_of, held_after, IsHeldPart, spell, events_from, held_from}
-use Rattle.vt_syntax.specs.Steps.{Step, step_to, step_of, run}
+use Rattle.vt_syntax.specs.Steps.{Step, step_to, step_of, steps}
 use Rattle.vt_syntax.proofs.Splits.{last_is_rest}
 use Rattle.vt_syntax.proofs.OneSplit.{rest_reads}
 use Rattle.vt_syntax.proofs.OneByte.{Matches, byte_matches}
 use Rattle.vt_syntax.proofs.HeldSpelling.{spelled_rest, bytes_of_spelled, is_spelled}
 
-runs : (bytes : List ℕ) (rest : Option Beginning) → Matches (rest_reading rest) (split_after rest bytes) (run (held_of rest) bytes)
-unfolding split_after run
+runs : (bytes : List ℕ) (rest : Option Beginning) → Matches (rest_reading rest) (split_after rest bytes) (steps (held_of rest) bytes)
+unfolding split_after steps
 runs [] rest = record { held = refl; events = sym (append-nil (rest_reading rest)) }
 runs (b ∷ bytes) rest =
     let now = split_one rest b in
@@ -26,32 +26,32 @@ runs (b ∷ bytes) rest =
     let ih = runs bytes now.rest in
     let t = step_of (held_of rest) b in
     let later = split_after now.rest bytes in
-    subst (λ (h : Held). Matches (rest_reading rest) (split_after rest (b ∷ bytes)) (step_to (run h bytes).held (t.events ++ (run h bytes).events))) m.held
+    subst (λ (h : Held). Matches (rest_reading rest) (split_after rest (b ∷ bytes)) (step_to (steps h bytes).held (t.events ++ (steps h bytes).events))) m.held
     (record {
       held = ih.held;
       events =
           ap (λ (e : List Event). e ++ rest_reading later.rest) (flat_map-append reading now.items later.items)
           ∙ append_assoc (flat_map reading now.items) (flat_map reading later.items) (rest_reading later.rest)
           ∙ ap (λ (e : List Event). flat_map reading now.items ++ e) ih.events
-          ∙ sym (append_assoc (flat_map reading now.items) (rest_reading now.rest) (run (held_of now.rest) bytes).events)
-          ∙ ap (λ (e : List Event). e ++ (run (held_of now.rest) bytes).events) m.events
-          ∙ append_assoc (rest_reading rest) t.events (run (held_of now.rest) bytes).events;
+          ∙ sym (append_assoc (flat_map reading now.items) (rest_reading now.rest) (steps (held_of now.rest) bytes).events)
+          ∙ ap (λ (e : List Event). e ++ (steps (held_of now.rest) bytes).events) m.events
+          ∙ append_assoc (rest_reading rest) t.events (steps (held_of now.rest) bytes).events;
     })
 
 -- what the bytes of a rest and more read, and hold
-rest_runs : (rest : Option Beginning) (more : List ℕ) → IsRest rest → Matches (rest_reading rest) (split_of (rest_bytes rest ++ more)) (run (held_of rest) more)
+rest_runs : (rest : Option Beginning) (more : List ℕ) → IsRest rest → Matches (rest_reading rest) (split_of (rest_bytes rest ++ more)) (steps (held_of rest) more)
 rest_runs rest more h =
-    subst (λ (p : Parts). Matches (rest_reading rest) p (run (held_of rest) more)) (sym (rest_reads rest more h)) (runs more rest)
+    subst (λ (p : Parts). Matches (rest_reading rest) p (steps (held_of rest) more)) (sym (rest_reads rest more h)) (runs more rest)
 
 -- and so of the bytes that spell what is held of it
-spell_runs : (rest : Option Beginning) (more : List ℕ) → IsRest rest → Matches [] (split_of (spell (held_of rest) ++ more)) (run (held_of rest) more)
+spell_runs : (rest : Option Beginning) (more : List ℕ) → IsRest rest → Matches [] (split_of (spell (held_of rest) ++ more)) (steps (held_of rest) more)
 spell_runs rest more h =
     let held = held_of rest in
     let s = is_spelled rest in
     let m = rest_runs (spelled_rest held) more s.is_rest in
-    let n : Matches (rest_reading (spelled_rest held)) (split_of (spell held ++ more)) (run (held_of (spelled_rest held)) more) = subst (λ (t : List ℕ). Matches (rest_reading (spelled_rest held)) (split_of (t ++ more)) (run (held_of (spelled_rest held)) more)) (bytes_of_spelled held) m in
-    let o : Matches (rest_reading (spelled_rest held)) (split_of (spell held ++ more)) (run held more) = subst (λ (t : Held). Matches (rest_reading (spelled_rest held)) (split_of (spell held ++ more)) (run t more)) s.holds n in
-    subst (λ (t : List Event). Matches t (split_of (spell held ++ more)) (run held more)) s.reads o
+    let n : Matches (rest_reading (spelled_rest held)) (split_of (spell held ++ more)) (steps (held_of (spelled_rest held)) more) = subst (λ (t : List ℕ). Matches (rest_reading (spelled_rest held)) (split_of (t ++ more)) (steps (held_of (spelled_rest held)) more)) (bytes_of_spelled held) m in
+    let o : Matches (rest_reading (spelled_rest held)) (split_of (spell held ++ more)) (steps held more) = subst (λ (t : Held). Matches (rest_reading (spelled_rest held)) (split_of (spell held ++ more)) (steps t more)) s.holds n in
+    subst (λ (t : List Event). Matches t (split_of (spell held ++ more)) (steps held more)) s.reads o
 
 -- ---- the laws
 
@@ -65,13 +65,13 @@ same_held rest more h = (rest_runs rest more h).held ∙ sym (spell_runs rest mo
 
 -- the spelling of a held part leaves it, and is read as nothing
 pub spelled_held : (held : Held) → IsHeldPart held → held_after (spell held) ≡ held
-unfolding run
+unfolding steps
 spelled_held held i =
     subst (λ (h : Held). held_after (spell h) ≡ h) i.of_rest
     (ap (λ (t : List ℕ). held_after t) (sym (append-nil (spell (held_of i.rest)))) ∙ (spell_runs i.rest [] i.is_rest).held)
 
 pub spelled_events : (held : Held) → IsHeldPart held → events_of (spell held) ≡ []
-unfolding run
+unfolding steps
 spelled_events held i =
     subst (λ (h : Held). events_of (spell h) ≡ []) i.of_rest
     (ap (λ (t : List ℕ). events_of t) (sym (append-nil (spell (held_of i.rest)))) ∙ (spell_runs i.rest [] i.is_rest).events)
@@ -85,13 +85,13 @@ events_nil held i = ap (λ (t : List ℕ). events_of t) (append-nil (spell held)
 -- ---- one byte after what is held
 
 pub step_events : (held : Held) (b : ℕ) → IsHeldPart held → events_of (spell held ++ b ∷ []) ≡ (step_of held b).events
-unfolding run
+unfolding steps
 step_events held b i =
     subst (λ (h : Held). events_of (spell h ++ b ∷ []) ≡ (step_of h b).events) i.of_rest
     ((spell_runs i.rest (b ∷ []) i.is_rest).events ∙ append-nil (step_of (held_of i.rest) b).events)
 
 pub step_held : (held : Held) (b : ℕ) → IsHeldPart held → held_after (spell held ++ b ∷ []) ≡ (step_of held b).held
-unfolding run
+unfolding steps
 step_held held b i =
     subst (λ (h : Held). held_after (spell h ++ b ∷ []) ≡ (step_of h b).held) i.of_rest
     (spell_runs i.rest (b ∷ []) i.is_rest).held
@@ -120,48 +120,48 @@ single_held b e = step_held Nothing b nothing_held ∙ ap (λ (t : Step). t.held
 
 -- ---- bytes after what is held
 
-pub run_events : (held : Held) (bytes : List ℕ) → IsHeldPart held → events_of (spell held ++ bytes) ≡ (run held bytes).events
-run_events held bytes i =
-    subst (λ (h : Held). events_of (spell h ++ bytes) ≡ (run h bytes).events) i.of_rest (spell_runs i.rest bytes i.is_rest).events
+pub steps_events : (held : Held) (bytes : List ℕ) → IsHeldPart held → events_of (spell held ++ bytes) ≡ (steps held bytes).events
+steps_events held bytes i =
+    subst (λ (h : Held). events_of (spell h ++ bytes) ≡ (steps h bytes).events) i.of_rest (spell_runs i.rest bytes i.is_rest).events
 
-pub run_held : (held : Held) (bytes : List ℕ) → IsHeldPart held → held_after (spell held ++ bytes) ≡ (run held bytes).held
-run_held held bytes i =
-    subst (λ (h : Held). held_after (spell h ++ bytes) ≡ (run h bytes).held) i.of_rest (spell_runs i.rest bytes i.is_rest).held
+pub steps_held : (held : Held) (bytes : List ℕ) → IsHeldPart held → held_after (spell held ++ bytes) ≡ (steps held bytes).held
+steps_held held bytes i =
+    subst (λ (h : Held). held_after (spell h ++ bytes) ≡ (steps h bytes).held) i.of_rest (spell_runs i.rest bytes i.is_rest).held
 
-pub run_is_held : (held : Held) (bytes : List ℕ) → IsHeldPart held → IsHeldPart (run held bytes).held
-run_is_held held bytes i = subst (λ (h : Held). IsHeldPart h) (run_held held bytes i) (held_part (spell held ++ bytes))
+pub steps_is_held : (held : Held) (bytes : List ℕ) → IsHeldPart held → IsHeldPart (steps held bytes).held
+steps_is_held held bytes i = subst (λ (h : Held). IsHeldPart h) (steps_held held bytes i) (held_part (spell held ++ bytes))
 
 -- ---- bytes after bytes
 
-pub run_append : (held : Held) (bytes more : List ℕ) → run held (bytes ++ more) ≡ step_to (run (run held bytes).held more).held ((run held bytes).events ++ (run (run held bytes).held more).events)
-unfolding run
-run_append held [] more = refl
-run_append held (b ∷ bytes) more =
+pub steps_append : (held : Held) (bytes more : List ℕ) → steps held (bytes ++ more) ≡ step_to (steps (steps held bytes).held more).held ((steps held bytes).events ++ (steps (steps held bytes).held more).events)
+unfolding steps
+steps_append held [] more = refl
+steps_append held (b ∷ bytes) more =
     let now = step_of held b in
-    let e = run_append now.held bytes more in
+    let e = steps_append now.held bytes more in
     ap (λ (t : Step). step_to t.held (now.events ++ t.events)) e
-    ∙ ap (λ (events : List Event). step_to (run (run now.held bytes).held more).held events) (sym (append_assoc now.events (run now.held bytes).events (run (run now.held bytes).held more).events))
+    ∙ ap (λ (events : List Event). step_to (steps (steps now.held bytes).held more).held events) (sym (append_assoc now.events (steps now.held bytes).events (steps (steps now.held bytes).held more).events))
 
 -- the events of bytes, and then those of more bytes after what is held
 events_append : (bytes more : List ℕ) → events_of (bytes ++ more) ≡ events_of bytes ++ events_of (spell (held_after bytes) ++ more)
-unfolding run
+unfolding steps
 events_append bytes more =
     let a = runs bytes None in
     let b = spell_runs (split_of bytes).rest more (last_is_rest bytes) in
     (runs (bytes ++ more) None).events
-    ∙ ap (λ (t : Step). t.events) (run_append (held_of None) bytes more)
-    ∙ ap (λ (events : List Event). events ++ (run (run (held_of None) bytes).held more).events) (sym a.events)
-    ∙ ap (λ (h : Held). events_of bytes ++ (run h more).events) (sym a.held)
+    ∙ ap (λ (t : Step). t.events) (steps_append (held_of None) bytes more)
+    ∙ ap (λ (events : List Event). events ++ (steps (steps (held_of None) bytes).held more).events) (sym a.events)
+    ∙ ap (λ (h : Held). events_of bytes ++ (steps h more).events) (sym a.held)
     ∙ ap (λ (events : List Event). events_of bytes ++ events) (sym b.events)
 
 held_append : (bytes more : List ℕ) → held_after (bytes ++ more) ≡ held_after (spell (held_after bytes) ++ more)
-unfolding run
+unfolding steps
 held_append bytes more =
     let a = runs bytes None in
     let b = spell_runs (split_of bytes).rest more (last_is_rest bytes) in
     (runs (bytes ++ more) None).held
-    ∙ ap (λ (t : Step). t.held) (run_append (held_of None) bytes more)
-    ∙ ap (λ (h : Held). (run h more).held) (sym a.held)
+    ∙ ap (λ (t : Step). t.held) (steps_append (held_of None) bytes more)
+    ∙ ap (λ (h : Held). (steps h more).held) (sym a.held)
     ∙ sym b.held
 
 -- and so after any held part

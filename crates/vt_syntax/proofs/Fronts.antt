@@ -7,18 +7,18 @@ use Rattle.vt_syntax.specs.Front.{IsFront}
 use Rattle.vt_syntax.specs.Held.{events_from}
 use Rattle.vt_syntax.specs.Steps.{Step}
 use Rattle.vt_syntax.specs.Whole.{IsWhole}
-use Rattle.vt_syntax.proofs.Cutting.{run_events, run_held, nothing_held}
+use Rattle.vt_syntax.proofs.Cutting.{steps_events, steps_held, nothing_held}
 use Rattle.vt_syntax.proofs.EventRanges.{is_kind}
 
 pub front_of : (piece values : List ℕ) (bytes : ℕ) (kind : EventKind) → IsWhole piece values bytes kind
     → IsFront piece bytes (event_of kind values)
 front_of piece values bytes kind whole =
     let events : events_from Nothing (take bytes piece) ≡ event_of kind values ∷ [] =
-    run_events Nothing (take bytes piece) nothing_held ∙ ap (λ (t : Step). t.events) whole.reads in
+    steps_events Nothing (take bytes piece) nothing_held ∙ ap (λ (t : Step). t.events) whole.reads in
     record {
       some = whole.some;
       within = whole.within;
       events = events;
-      held = run_held Nothing (take bytes piece) nothing_held ∙ ap (λ (t : Step). t.held) whole.reads;
+      held = steps_held Nothing (take bytes piece) nothing_held ∙ ap (λ (t : Step). t.held) whole.reads;
       is_event = is_kind _ (Some kind) values (sym events);
     }

@@ -9,39 +9,39 @@ use Rattle.vt_syntax.specs.declared.held.Phase.{Phase}
 use Rattle.vt_syntax.specs.declared.held.Phase.TheVariants.{Start, Values, Inter}
 use Rattle.vt_syntax.specs.declared.class.Class.TheVariants.{Parameter}
 use Rattle.vt_syntax.specs.Class.{class_of}
-use Rattle.vt_syntax.specs.Steps.{step_to, step_of, step_value, step_string, opened_by, change_last, with_digit, IsEarly, run}
+use Rattle.vt_syntax.specs.Steps.{step_to, step_of, step_value, step_string, opened_by, change_last, with_digit, IsEarly, steps}
 use Rattle.vt_syntax.proofs.Steps.{change_last-push, value_class, step_bracket}
 use Rattle.std.proofs.lemmas.Bool.Decides.{nat_tests}
-use Rattle.vt_syntax.proofs.Cutting.{run_append}
+use Rattle.vt_syntax.proofs.Cutting.{steps_append}
 
-pub run_nil : (held : Held) → run held [] ≡ step_to held []
-unfolding run
-run_nil held = refl
+pub steps_nil : (held : Held) → steps held [] ≡ step_to held []
+unfolding steps
+steps_nil held = refl
 
 -- one more byte
-pub run_more : (held now after : Held) (piece : List ℕ) (at : ℕ) → at < length piece → run held (take at piece) ≡ step_to now []
-    → step_of now (get_or piece at 0) ≡ step_to after [] → run held (take (at + 1) piece) ≡ step_to after []
-unfolding run
-run_more held now after piece at inside so_far step =
-    ap (λ (bytes : List ℕ). run held bytes) (take_more piece at 0 inside)
-    ∙ run_append held (take at piece) (get_or piece at 0 ∷ [])
+pub steps_more : (held now after : Held) (piece : List ℕ) (at : ℕ) → at < length piece → steps held (take at piece) ≡ step_to now []
+    → step_of now (get_or piece at 0) ≡ step_to after [] → steps held (take (at + 1) piece) ≡ step_to after []
+unfolding steps
+steps_more held now after piece at inside so_far step =
+    ap (λ (bytes : List ℕ). steps held bytes) (take_more piece at 0 inside)
+    ∙ steps_append held (take at piece) (get_or piece at 0 ∷ [])
     ∙ rw (so_far, step) refl
 
 -- ESC and `[`, between sequences
-pub run_introducer : (piece : List ℕ) → 2 ≤ length piece → get_or piece 0 0 ≡ 0x1B → get_or piece 1 0 ≡ 0x5B
-    → run Nothing (take 2 piece) ≡ step_to (opened_by 0x9B) []
+pub steps_introducer : (piece : List ℕ) → 2 ≤ length piece → get_or piece 0 0 ≡ 0x1B → get_or piece 1 0 ≡ 0x5B
+    → steps Nothing (take 2 piece) ≡ step_to (opened_by 0x9B) []
 unfolding step_of
-run_introducer piece long first second =
-    run_more Nothing (Escape Zero) (opened_by 0x9B) piece 1 (omega arith)
-    (run_more Nothing Nothing (Escape Zero) piece 0 (omega arith) (run_nil Nothing) (rw first refl))
+steps_introducer piece long first second =
+    steps_more Nothing (Escape Zero) (opened_by 0x9B) piece 1 (omega arith)
+    (steps_more Nothing Nothing (Escape Zero) piece 0 (omega arith) (steps_nil Nothing) (rw first refl))
     (rw second step_bracket)
 
 -- more bytes
-pub run_add : (held now after : Held) (piece : List ℕ) (at n : ℕ) → run held (take at piece) ≡ step_to now []
-    → run now (take n (drop at piece)) ≡ step_to after [] → run held (take (at + n) piece) ≡ step_to after []
-run_add held now after piece at n so_far more =
-    ap (λ (bytes : List ℕ). run held bytes) (take-add at n piece)
-    ∙ run_append held (take at piece) (take n (drop at piece))
+pub steps_add : (held now after : Held) (piece : List ℕ) (at n : ℕ) → steps held (take at piece) ≡ step_to now []
+    → steps now (take n (drop at piece)) ≡ step_to after [] → steps held (take (at + n) piece) ≡ step_to after []
+steps_add held now after piece at n so_far more =
+    ap (λ (bytes : List ℕ). steps held bytes) (take-add at n piece)
+    ∙ steps_append held (take at piece) (take n (drop at piece))
     ∙ rw (so_far, more) refl
 
 -- the part of a piece from a place on, to its end
@@ -49,16 +49,16 @@ pub rest_of : (piece : List ℕ) (at : ℕ) → take (length piece - at) (drop a
 rest_of piece at = let e : length piece - at ≡ length (drop at piece) = sym (length-drop at piece) in rw e (take-length (drop at piece))
 
 -- more bytes of that part
-pub run_part : (held now after : Held) (piece : List ℕ) (at n : ℕ) → run held (take at piece) ≡ step_to now []
-    → run now (take n (take (length piece - at) (drop at piece))) ≡ step_to after [] → run held (take (at + n) piece) ≡ step_to after []
-run_part held now after piece at n so_far more =
-    let whole = rest_of piece at in run_add held now after piece at n so_far (rw whole at more)
+pub steps_part : (held now after : Held) (piece : List ℕ) (at n : ℕ) → steps held (take at piece) ≡ step_to now []
+    → steps now (take n (take (length piece - at) (drop at piece))) ≡ step_to after [] → steps held (take (at + n) piece) ≡ step_to after []
+steps_part held now after piece at n so_far more =
+    let whole = rest_of piece at in steps_add held now after piece at n so_far (rw whole at more)
 
 -- content of a string
-pub run_content : (osc : Bool) (piece : List ℕ) (at : ℕ) → at < length piece → run (Text osc) (take at piece) ≡ step_to (Text osc) []
-    → step_string osc (get_or piece at 0) ≡ step_to (Text osc) [] → run (Text osc) (take (at + 1) piece) ≡ step_to (Text osc) []
+pub steps_content : (osc : Bool) (piece : List ℕ) (at : ℕ) → at < length piece → steps (Text osc) (take at piece) ≡ step_to (Text osc) []
+    → step_string osc (get_or piece at 0) ≡ step_to (Text osc) [] → steps (Text osc) (take (at + 1) piece) ≡ step_to (Text osc) []
 unfolding step_of
-run_content osc piece at inside so_far step = run_more (Text osc) (Text osc) (Text osc) piece at inside so_far step
+steps_content osc piece at inside so_far step = steps_more (Text osc) (Text osc) (Text osc) piece at inside so_far step
 
 -- ---- values
 

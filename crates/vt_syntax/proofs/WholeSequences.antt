@@ -16,53 +16,53 @@ use Rattle.vt_syntax.specs.declared.held.Phase.TheVariants.{Start, Values, Inter
 use Rattle.vt_syntax.specs.declared.class.Class.TheVariants.{Parameter, Intermediate}
 use Rattle.vt_syntax.specs.Class.{class_of}
 use Rattle.vt_syntax.specs.Held.{IsEnding, ended_by, phase_inter}
-use Rattle.vt_syntax.specs.Steps.{step_to, step_of, step_between, opened_by, with_digit, IsEarly, run}
+use Rattle.vt_syntax.specs.Steps.{step_to, step_of, step_between, opened_by, with_digit, IsEarly, steps}
 use Rattle.vt_syntax.specs.Whole.{IsWhole, AreRead, marker_phase, begun}
 use Rattle.vt_syntax.proofs.Classes.{class_parameter, class_intermediate}
-use Rattle.vt_syntax.proofs.Cutting.{run_append}
+use Rattle.vt_syntax.proofs.Cutting.{steps_append}
 use Rattle.vt_syntax.proofs.Steps.{step_final}
-use Rattle.vt_syntax.proofs.SilentBytes.{run_nil, run_more, digit_step, separator_step}
+use Rattle.vt_syntax.proofs.SilentBytes.{steps_nil, steps_more, digit_step, separator_step}
 
 -- one more byte, with its events
 pub run_step : (held now after : Held) (piece : List ℕ) (at : ℕ) (events : List Event) → at < length piece
-    → run held (take at piece) ≡ step_to now []
+    → steps held (take at piece) ≡ step_to now []
     → step_of now (get_or piece at 0) ≡ step_to after events
-    → run held (take (at + 1) piece) ≡ step_to after events
-unfolding run
+    → steps held (take (at + 1) piece) ≡ step_to after events
+unfolding steps
 run_step held now after piece at events inside so_far step =
-    ap (λ (bytes : List ℕ). run held bytes) (take_more piece at 0 inside)
-    ∙ run_append held (take at piece) (get_or piece at 0 ∷ [])
+    ap (λ (bytes : List ℕ). steps held bytes) (take_more piece at 0 inside)
+    ∙ steps_append held (take at piece) (get_or piece at 0 ∷ [])
     ∙ rw (so_far, step) (ap (λ (es : List Event). step_to after es) (append-nil events))
 
 -- one more byte, which gives an event
-pub run_event : (held now after : Held) (piece : List ℕ) (at : ℕ) (event : Event) → at < length piece
-    → run held (take at piece) ≡ step_to now []
+pub steps_event : (held now after : Held) (piece : List ℕ) (at : ℕ) (event : Event) → at < length piece
+    → steps held (take at piece) ≡ step_to now []
     → step_of now (get_or piece at 0) ≡ step_to after (event ∷ [])
-    → run held (take (at + 1) piece) ≡ step_to after (event ∷ [])
-run_event held now after piece at event inside so_far step =
+    → steps held (take (at + 1) piece) ≡ step_to after (event ∷ [])
+steps_event held now after piece at event inside so_far step =
     run_step held now after piece at (event ∷ []) inside so_far step
 
 -- one more byte, which ends a sequence
-pub run_last : (held now : Held) (piece : List ℕ) (at : ℕ) → at < length piece
-    → run held (take at piece) ≡ step_to now []
+pub steps_last : (held now : Held) (piece : List ℕ) (at : ℕ) → at < length piece
+    → steps held (take at piece) ≡ step_to now []
     → IsEnding now (get_or piece at 0)
-    → run held (take (at + 1) piece) ≡ step_to Nothing (ended_by now (get_or piece at 0) ∷ [])
-run_last held now piece at inside so_far ends =
-    run_event held now Nothing piece at (ended_by now (get_or piece at 0)) inside so_far
+    → steps held (take (at + 1) piece) ≡ step_to Nothing (ended_by now (get_or piece at 0) ∷ [])
+steps_last held now piece at inside so_far ends =
+    steps_event held now Nothing piece at (ended_by now (get_or piece at 0)) inside so_far
     (step_final now (get_or piece at 0) ends)
 
 -- ESC at the front of a piece
-pub run_escape : (piece : List ℕ) → 1 ≤ length piece → get_or piece 0 0 ≡ 0x1B
-    → run Nothing (take 1 piece) ≡ step_to (Escape Zero) []
+pub steps_escape : (piece : List ℕ) → 1 ≤ length piece → get_or piece 0 0 ≡ 0x1B
+    → steps Nothing (take 1 piece) ≡ step_to (Escape Zero) []
 unfolding step_of
-run_escape piece long first = run_more Nothing Nothing (Escape Zero) piece 0 (omega arith) (run_nil Nothing)
+steps_escape piece long first = steps_more Nothing Nothing (Escape Zero) piece 0 (omega arith) (steps_nil Nothing)
     (rw first refl)
 
 -- CSI in its 8-bit form
-pub run_csi : (piece : List ℕ) → 1 ≤ length piece → get_or piece 0 0 ≡ 0x9B
-    → run Nothing (take 1 piece) ≡ step_to (opened_by 0x9B) []
+pub steps_csi : (piece : List ℕ) → 1 ≤ length piece → get_or piece 0 0 ≡ 0x9B
+    → steps Nothing (take 1 piece) ≡ step_to (opened_by 0x9B) []
 unfolding step_of
-run_csi piece long first = run_more Nothing Nothing (opened_by 0x9B) piece 0 (omega arith) (run_nil Nothing)
+steps_csi piece long first = steps_more Nothing Nothing (opened_by 0x9B) piece 0 (omega arith) (steps_nil Nothing)
     (rw first refl)
 
 marker_step : (b : ℕ) → 0x3C ≤ b → b < 0x40 → step_of (opened_by 0x9B) b ≡ step_to (begun (Some b)) []
@@ -84,11 +84,11 @@ inter_step marker params Values b early low high = let k : class_of b ≡ Interm
 inter_step marker params (Inter i) b early low high = absurd early
 
 -- a marker after the introducer
-pub run_marker : (piece : List ℕ) (at : ℕ) → at < length piece → 0x3C ≤ get_or piece at 0 → get_or piece at 0 < 0x40
-    → run Nothing (take at piece) ≡ step_to (opened_by 0x9B) []
-    → run Nothing (take (at + 1) piece) ≡ step_to (begun (Some (get_or piece at 0))) []
-run_marker piece at inside low high so_far =
-    run_more Nothing (opened_by 0x9B) (begun (Some (get_or piece at 0))) piece at inside so_far
+pub steps_marker : (piece : List ℕ) (at : ℕ) → at < length piece → 0x3C ≤ get_or piece at 0 → get_or piece at 0 < 0x40
+    → steps Nothing (take at piece) ≡ step_to (opened_by 0x9B) []
+    → steps Nothing (take (at + 1) piece) ≡ step_to (begun (Some (get_or piece at 0))) []
+steps_marker piece at inside low high so_far =
+    steps_more Nothing (opened_by 0x9B) (begun (Some (get_or piece at 0))) piece at inside so_far
     (marker_step (get_or piece at 0) low high)
 
 -- ---- values
@@ -99,7 +99,7 @@ early_marker (Some m) = tt
 
 -- no digit has come
 pub read_none : (piece : List ℕ) (at : ℕ) (marker : Option ℕ) → at ≤ length piece
-    → run Nothing (take at piece) ≡ step_to (begun marker) []
+    → steps Nothing (take at piece) ≡ step_to (begun marker) []
     → AreRead piece at marker ([] ++ 0 ∷ [])
 read_none piece at marker inside begins =
     record { within = inside; phase = marker_phase marker; early = early_marker marker; reads = begins }
@@ -116,7 +116,7 @@ read_digit piece at next marker xs v d w read follows inside digit small is =
       within = omega arith;
       phase = Values;
       early = tt;
-      reads = rw e (run_more Nothing (Control marker (record { items = xs ++ v ∷ [] }) false read.phase) _ piece at (omega arith) read.reads
+      reads = rw e (steps_more Nothing (Control marker (record { items = xs ++ v ∷ [] }) false read.phase) _ piece at (omega arith) read.reads
           (digit_step marker xs v read.phase (get_or piece at 0) read.early digit.0 digit.1));
     })
 
@@ -129,7 +129,7 @@ read_separator piece at marker xs v read inside is few = record {
   within = omega arith;
   phase = Values;
   early = tt;
-  reads = run_more Nothing (Control marker (record { items = xs ++ v ∷ [] }) false read.phase) _ piece at inside
+  reads = steps_more Nothing (Control marker (record { items = xs ++ v ∷ [] }) false read.phase) _ piece at inside
       read.reads
       (rw is (separator_step marker xs v read.phase read.early few));
 }
@@ -141,44 +141,44 @@ early_inter Values early = refl
 early_inter (Inter i) early = absurd early
 
 -- a final byte after the values
-pub run_control : (piece values : List ℕ) (marker : Option ℕ) (at : ℕ) → AreRead piece at marker values
+pub steps_control : (piece values : List ℕ) (marker : Option ℕ) (at : ℕ) → AreRead piece at marker values
     → at < length piece → 0x40 ≤ get_or piece at 0 → get_or piece at 0 < 0x7F
     → IsWhole piece values (at + 1) (kind.Sequence marker None (get_or piece at 0))
-run_control piece values marker at read inside low high = record {
+steps_control piece values marker at read inside low high = record {
   some = omega arith;
   within = omega arith;
-  reads = run_last Nothing (Control marker (record { items = values }) false read.phase) piece at inside read.reads
+  reads = steps_last Nothing (Control marker (record { items = values }) false read.phase) piece at inside read.reads
       (low, omega arith)
       ∙ ap (λ (i : Option ℕ). step_to Nothing (event.Sequence marker (record { items = values }) i (get_or piece at 0)
       ∷ [])) (early_inter read.phase read.early);
 }
 
 -- an intermediate and a final byte after the values
-pub run_control_with : (piece values : List ℕ) (marker : Option ℕ) (at : ℕ) → AreRead piece at marker values
+pub steps_control_with : (piece values : List ℕ) (marker : Option ℕ) (at : ℕ) → AreRead piece at marker values
     → at + 2 ≤ length piece → 0x20 ≤ get_or piece at 0 → get_or piece at 0 < 0x30 → 0x40 ≤ get_or piece (at + 1) 0
     → get_or piece (at + 1) 0 < 0x7F
     → IsWhole piece values (at + 2) (kind.Sequence marker (Some (get_or piece at 0)) (get_or piece (at + 1) 0))
-run_control_with piece values marker at read inside low high low2 high2 =
+steps_control_with piece values marker at read inside low high low2 high2 =
     let inter : Held = Control marker (record { items = values }) false (Inter (get_or piece at 0)) in
-    let reads = run_more Nothing (Control marker (record { items = values }) false read.phase) inter piece at
+    let reads = steps_more Nothing (Control marker (record { items = values }) false read.phase) inter piece at
     (omega arith) read.reads
     (inter_step marker (record { items = values }) read.phase (get_or piece at 0) read.early low high) in
     let two : at + 2 ≡ at + 1 + 1 = omega arith in
     record {
       some = omega arith;
       within = inside;
-      reads = rw two (run_last Nothing inter piece (at + 1) (omega arith) reads (low2, omega arith));
+      reads = rw two (steps_last Nothing inter piece (at + 1) (omega arith) reads (low2, omega arith));
     }
 
 -- a byte by itself
-pub run_alone : (piece : List ℕ) (kind : EventKind) → 1 ≤ length piece
+pub steps_alone : (piece : List ℕ) (kind : EventKind) → 1 ≤ length piece
     → ((values : List ℕ) → step_between (get_or piece 0 0) ≡ step_to Nothing (event_of kind values ∷ []))
     → (values : List ℕ) → IsWhole piece values 1 kind
 unfolding step_of
-run_alone piece kind some is values = record {
+steps_alone piece kind some is values = record {
   some = omega arith;
   within = some;
-  reads = run_event Nothing Nothing Nothing piece 0 (event_of kind values) (omega arith) (run_nil Nothing) (is values);
+  reads = steps_event Nothing Nothing Nothing piece 0 (event_of kind values) (omega arith) (steps_nil Nothing) (is values);
 }
 
 -- ---- escape sequences
@@ -195,7 +195,7 @@ pub escape_whole : (piece : List ℕ) (kind : EventKind) → 2 ≤ length piece 
 escape_whole piece kind long first ends is values = record {
   some = omega arith;
   within = long;
-  reads = run_last Nothing (Escape Zero) piece 1 (omega arith) (run_escape piece (omega arith) first) ends
+  reads = steps_last Nothing (Escape Zero) piece 1 (omega arith) (steps_escape piece (omega arith) first) ends
       ∙ ap (λ (e : Event). step_to Nothing (e ∷ [])) (sym (is values));
 }
 
@@ -207,9 +207,9 @@ pub escape_with_whole : (piece : List ℕ) → 3 ≤ length piece → get_or pie
 escape_with_whole piece long first low high low2 high2 values = record {
   some = omega arith;
   within = long;
-  reads = run_last Nothing (Escape (One (get_or piece 1 0))) piece 2 (omega arith)
-      (run_more Nothing (Escape Zero) (Escape (One (get_or piece 1 0))) piece 1 (omega arith)
-      (run_escape piece (omega arith) first)
+  reads = steps_last Nothing (Escape (One (get_or piece 1 0))) piece 2 (omega arith)
+      (steps_more Nothing (Escape Zero) (Escape (One (get_or piece 1 0))) piece 1 (omega arith)
+      (steps_escape piece (omega arith) first)
       (escape_inter_step (get_or piece 1 0) low high))
       (low2, omega arith);
 }

@@ -126,7 +126,7 @@ IsEarly Values = Unit {0}
 IsEarly (Inter i) = ⊥
 
 -- one step after another
-unfoldable pub run : Held → List ℕ → Step
-run held [] = step_to held []
-run held (b ∷ bytes) =
-    let now = step_of held b in let later = run now.held bytes in step_to later.held (now.events ++ later.events)
+unfoldable pub steps : Held → List ℕ → Step
+steps held [] = step_to held []
+steps held (b ∷ bytes) =
+    let now = step_of held b in let later = steps now.held bytes in step_to later.held (now.events ++ later.events)

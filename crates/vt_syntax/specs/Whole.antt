@@ -6,13 +6,13 @@ use Rattle.vt_syntax.specs.declared.held.Held.TheVariants.{Nothing, Control}
 use Rattle.vt_syntax.specs.declared.held.Phase.{Phase}
 use Rattle.vt_syntax.specs.declared.held.Phase.TheVariants.{Start, Values}
 use Rattle.vt_syntax.specs.Event.{event_of}
-use Rattle.vt_syntax.specs.Steps.{step_to, IsEarly, run}
+use Rattle.vt_syntax.specs.Steps.{step_to, IsEarly, steps}
 
 -- these bytes at the front of the piece are one event, and nothing is held after it
 pub record IsWhole (piece values : List ℕ) (bytes : ℕ) (kind : EventKind) : Type 0 where
   pub some : 1 ≤ bytes
   pub within : bytes ≤ length piece
-  pub reads : run Nothing (take bytes piece) ≡ step_to Nothing (event_of kind values ∷ [])
+  pub reads : steps Nothing (take bytes piece) ≡ step_to Nothing (event_of kind values ∷ [])
 
 -- the phase after the introducer, or a marker
 abbrev pub marker_phase : Option ℕ → Phase
@@ -28,4 +28,4 @@ pub record AreRead (piece : List ℕ) (at : ℕ) (marker : Option ℕ) (values :
   pub within : at ≤ length piece
   pub phase : Phase
   pub early : IsEarly phase
-  pub reads : run Nothing (take at piece) ≡ step_to (Control marker (record { items = values }) false phase) []
+  pub reads : steps Nothing (take at piece) ≡ step_to (Control marker (record { items = values }) false phase) []

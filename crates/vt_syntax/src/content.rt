@@ -4,14 +4,14 @@ ghost use Rattle.std.specs.List.{prefix_len};
 ghost use Rattle.std.specs.Simd.Lanes.{mask_l};
 ghost use Rattle.vt_syntax.specs.declared.held.Held.TheVariants.{Text};
 ghost use Rattle.vt_syntax.specs.Content.{goes_on};
-ghost use Rattle.vt_syntax.specs.Steps.{step_to, run};
+ghost use Rattle.vt_syntax.specs.Steps.{step_to, steps};
 
 use std::simd::prelude::*;
 
 /// How many bytes at the front of a piece surely go on a string, of any kind. They give no event.
 pub(crate) fn content_len(piece: &[u8]) -> usize
     ensures within { result ≤ length piece.now }
-    ensures content { (osc : Bool) → run (Text osc) (take result piece.now) ≡ step_to (Text osc) [] }
+    ensures content { (osc : Bool) → steps (Text osc) (take result piece.now) ≡ step_to (Text osc) [] }
 {
     content_end(piece)
 }

@@ -4,7 +4,7 @@ ghost use Rattle.std.specs.Option.{option_to_list};
 ghost use Rattle.vt_syntax.specs.Held.{IsHeldPart, events_from, held_from};
 ghost use Rattle.vt_syntax.specs.Spelling.{IsEvent};
 ghost use Rattle.vt_syntax.specs.Event.{event_of, event_in};
-ghost use Rattle.vt_syntax.specs.Steps.{step_to, step_of, run};
+ghost use Rattle.vt_syntax.specs.Steps.{step_to, step_of, steps};
 
 use crate::event::{Event, EventKind, Taken};
 use crate::held::Held;
@@ -93,7 +93,7 @@ impl Parser {
 fn next_event(held: &mut Held, piece: &[u8], values: &mut Values) -> Taken
     ensures some { 1 ≤ length piece.now → 1 ≤ result.bytes }
     ensures within { result.bytes ≤ length piece.now }
-    ensures reads { run held.old (take result.bytes piece.now) ≡ step_to held.new (event_in result.event values.new) }
+    ensures reads { steps held.old (take result.bytes piece.now) ≡ step_to held.new (event_in result.event values.new) }
     ensures all { IfNone result.event (result.bytes ≡ length piece.now) }
 {
     if matches!(held, Held::Nothing) {
@@ -112,7 +112,7 @@ fn next_event(held: &mut Held, piece: &[u8], values: &mut Values) -> Taken
 fn next_held(held: &mut Held, piece: &[u8], values: &mut Values) -> Taken
     ensures some { 1 ≤ length piece.now → 1 ≤ result.bytes }
     ensures within { result.bytes ≤ length piece.now }
-    ensures reads { run held.old (take result.bytes piece.now) ≡ step_to held.new (event_in result.event values.new) }
+    ensures reads { steps held.old (take result.bytes piece.now) ≡ step_to held.new (event_in result.event values.new) }
     ensures all { IfNone result.event (result.bytes ≡ length piece.now) }
 {
     let mut bytes = 0;

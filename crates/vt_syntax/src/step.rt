@@ -5,7 +5,7 @@ ghost use Rattle.vt_syntax.specs.Class.{class_of as byte_class};
 ghost use Rattle.vt_syntax.specs.Items.{introduces as introduces_after};
 ghost use Rattle.vt_syntax.specs.Reading.{quiet_control as control_of_quiet, cancel_function, single_function as function_of_single, escape_function as function_of_escape};
 ghost use Rattle.vt_syntax.specs.Event.{event_in};
-ghost use Rattle.vt_syntax.specs.Steps.{step_to, step_of, step_between as between, step_escape as in_escape, step_spoilt as in_spoilt, step_string as in_string, step_value, step_parameter, step_intermediate, with_digit, run, opened_by as opened_part};
+ghost use Rattle.vt_syntax.specs.Steps.{step_to, step_of, step_between as between, step_escape as in_escape, step_spoilt as in_spoilt, step_string as in_string, step_value, step_parameter, step_intermediate, with_digit, steps, opened_by as opened_part};
 
 use crate::class::{Class, class_of};
 use crate::content::content_len;
@@ -70,10 +70,10 @@ pub(crate) fn step(held: &mut Held, b: u8, values: &mut Values) -> Option<EventK
 
 /// Takes the content at the front of a piece, in a string: all of it or a part.
 #[inline(always)]
-#[tactic(auto, unfolding(crate::specs::Steps::run))]
+#[tactic(auto, unfolding(crate::specs::Steps::steps))]
 pub(crate) fn hold_content(held: &Held, piece: &[u8]) -> usize
     ensures within { result ≤ length piece.now }
-    ensures holds { run held.now (take result piece.now) ≡ step_to held.now [] }
+    ensures holds { steps held.now (take result piece.now) ≡ step_to held.now [] }
 {
     match held {
         Held::Text { .. } => content_len(piece),

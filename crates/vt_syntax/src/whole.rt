@@ -5,7 +5,7 @@ ghost use Rattle.vt_syntax.specs.declared.held.Inters.TheVariants.{Zero};
 ghost use Rattle.std.specs.Bool.{OnTrue};
 ghost use Rattle.vt_syntax.specs.Event.{event_of};
 ghost use Rattle.vt_syntax.specs.Held.{IsEnding, ended_by};
-ghost use Rattle.vt_syntax.specs.Steps.{step_to, step_between, opened_by, run};
+ghost use Rattle.vt_syntax.specs.Steps.{step_to, step_between, opened_by, steps};
 ghost use Rattle.vt_syntax.specs.Whole.{IsWhole, AreRead, begun};
 
 use crate::event::EventKind;
@@ -62,7 +62,7 @@ fn alone(b: u8) -> Option<EventKind>
 #[inline(always)]
 fn whole_control(piece: &[u8], from: usize, values: &mut Values) -> Option<(usize, EventKind)>
     requires within { from ≤ length piece.now }
-    requires introduced { run Nothing (take from piece.now) ≡ step_to (opened_by 0x9B) [] }
+    requires introduced { steps Nothing (take from piece.now) ≡ step_to (opened_by 0x9B) [] }
     ensures { IfSome result (λ t. IsWhole piece.now values.new t.0 t.1) }
 {
     let (marker, start) = marker_at(piece, from);
@@ -116,8 +116,8 @@ fn whole_control_with(
 fn marker_at(piece: &[u8], from: usize) -> (Option<u8>, usize)
     requires { from ≤ length piece.now }
     ensures within { result.1 ≤ length piece.now }
-    ensures reads { run Nothing (take from piece.now) ≡ step_to (opened_by 0x9B) []
-        → run Nothing (take result.1 piece.now) ≡ step_to (begun result.0) [] }
+    ensures reads { steps Nothing (take from piece.now) ≡ step_to (opened_by 0x9B) []
+        → steps Nothing (take result.1 piece.now) ≡ step_to (begun result.0) [] }
 {
     if from < piece.len() && 0x3C <= piece[from] && piece[from] < 0x40 {
         (Some(piece[from]), from + 1)
@@ -136,7 +136,7 @@ pub(crate) fn read_values(
     values: &mut Values,
 ) -> Option<usize>
     requires within { start ≤ length piece.now }
-    requires begun { run Nothing (take start piece.now) ≡ step_to (begun marker) [] }
+    requires begun { steps Nothing (take start piece.now) ≡ step_to (begun marker) [] }
     ensures { IfSome result (λ at. (at < length piece.now) × AreRead piece.now at marker values.new) }
 {
     let (at, count) = read_list(piece, start, marker, &mut values.list)?;
@@ -153,7 +153,7 @@ fn read_list(
     list: &mut [u16; 16],
 ) -> Option<(usize, usize)>
     requires within { start ≤ length piece.now }
-    requires begun { run Nothing (take start piece.now) ≡ step_to (begun marker) [] }
+    requires begun { steps Nothing (take start piece.now) ≡ step_to (begun marker) [] }
     ensures { IfSome result (λ t. (t.0 < length piece.now) × (t.1 ≤ 16)
         × AreRead piece.now t.0 marker (take t.1 list.new)) }
 {

@@ -4,7 +4,7 @@ use Rattle.std.specs.List.{list_any, list_all}
 use Rattle.std.specs.Char.{len_utf8}
 use Rattle.std.proofs.lemmas.Bool.Decides.{eqb_tells, nat_tests}
 use Rattle.vt_glyph.specs.declared.set.Set.TheVariants.{Ascii, British, German, Special, Supplemental}
-use Rattle.vt_glyph.specs.Tables.{IsGlyph, is_glyph, glyph_of, graphic_codes, shows, space}
+use Rattle.vt_glyph.specs.Tables.{IsGlyph, is_glyph, glyph_of, set_codes, shows, space}
 
 and-left : (a b : Bool) → a && b ≡ true → a ≡ true
 and-left true b h = refl
@@ -26,23 +26,23 @@ any-small f (c ∷ cs) n bound all any = elim (eqb_tells (f c) n) [
 
 ascii-small : (n : ℕ) → shows Ascii n ≡ true → n < 0x3000
 unfolding glyph_of
-ascii-small n any = any-small (λ c. glyph_of Ascii c) graphic_codes n 0x3000 refl any
+ascii-small n any = any-small (λ c. glyph_of Ascii c) set_codes n 0x3000 refl any
 
 special-small : (n : ℕ) → shows Special n ≡ true → n < 0x3000
 unfolding glyph_of
-special-small n any = any-small (λ c. glyph_of Special c) graphic_codes n 0x3000 refl any
+special-small n any = any-small (λ c. glyph_of Special c) set_codes n 0x3000 refl any
 
 supplemental-small : (n : ℕ) → shows Supplemental n ≡ true → n < 0x3000
 unfolding glyph_of
-supplemental-small n any = any-small (λ c. glyph_of Supplemental c) graphic_codes n 0x3000 refl any
+supplemental-small n any = any-small (λ c. glyph_of Supplemental c) set_codes n 0x3000 refl any
 
 british-small : (n : ℕ) → shows British n ≡ true → n < 0x3000
 unfolding glyph_of
-british-small n any = any-small (λ c. glyph_of British c) graphic_codes n 0x3000 refl any
+british-small n any = any-small (λ c. glyph_of British c) set_codes n 0x3000 refl any
 
 german-small : (n : ℕ) → shows German n ≡ true → n < 0x3000
 unfolding glyph_of
-german-small n any = any-small (λ c. glyph_of German c) graphic_codes n 0x3000 refl any
+german-small n any = any-small (λ c. glyph_of German c) set_codes n 0x3000 refl any
 
 either : (a b : Bool) (P : Type 0) → (a ≡ true → P) → (b ≡ true → P) → a || b ≡ true → P
 either true b P f g e = f refl

@@ -14,7 +14,7 @@ use Rattle.vt_screen.specs.Grid.{Grid, put, put_run}
 use Rattle.vt_screen.specs.Laws.{RunLaws}
 use Rattle.vt_term.specs.declared.state.Cursor.{Cursor}
 use Rattle.vt_term.specs.State.{Display, last_column, at_place}
-use Rattle.vt_term.specs.Writing.{print, write_glyph, put_glyph, wrapped, advanced}
+use Rattle.vt_term.specs.Writing.{print, write_glyph, put_glyph, after_wrap, next_place}
 use Rattle.vt_term.specs.Runs.{WritesOver, advanced_by, with_run}
 use Rattle.vt_term.specs.Play.{after_events}
 
@@ -26,12 +26,12 @@ print-over Kind glyph s b writes is = rw (writes.glyph b is, writes.sets b is) r
 
 -- where no wrap is pending, over the cell at the cursor
 pub print-step : (Kind : ℕ → Type 0) (glyph : ℕ → ℕ) (s : Display) (b : ℕ) → WritesOver Kind glyph s → Kind b → s.cursor.wrap ≡ false
-    → print b s ≡ record s { grid = put s.grid s.cursor.row s.cursor.col (cell_of (glyph b) s.brush); cursor = advanced s }
+    → print b s ≡ record s { grid = put s.grid s.cursor.row s.cursor.col (cell_of (glyph b) s.brush); cursor = next_place s }
 print-step Kind glyph s b writes is off = print-over Kind glyph s b writes is ∙ rw (off, writes.replaces) refl
 
 -- one glyph on is one column on
-advanced-one : (s : Display) → s.cursor.col ≤ last_column s → advanced s ≡ advanced_by 1 s
-advanced-one s fits = elim (leb_tells (s.cursor.col + 1) (last_column s)) [
+next_place-one : (s : Display) → s.cursor.col ≤ last_column s → next_place s ≡ advanced_by 1 s
+next_place-one s fits = elim (leb_tells (s.cursor.col + 1) (last_column s)) [
   | inl e ↦
       let near : nat_lt s.cursor.col (last_column s) ≡ true = grind (arith, nat_tests, e) in
       rw (near, e.0) refl
@@ -42,8 +42,8 @@ advanced-one s fits = elim (leb_tells (s.cursor.col + 1) (last_column s)) [
 ]
 
 -- before the last column the cursor goes on
-advanced-near : (s : Display) → s.cursor.col < last_column s → advanced s ≡ at_place s.cursor.row (s.cursor.col + 1)
-advanced-near s near =
+next_place-near : (s : Display) → s.cursor.col < last_column s → next_place s ≡ at_place s.cursor.row (s.cursor.col + 1)
+next_place-near s near =
     let test : nat_lt s.cursor.col (last_column s) ≡ true = grind (arith, nat_tests) in
     rw test refl
 
@@ -53,15 +53,15 @@ prints-run runs Kind glyph [] s writes all off some room = absurd (omega arith)
 prints-run runs Kind glyph (b ∷ []) s writes all off some room =
     let is = all 0 0 (omega arith) in
     print-step Kind glyph s b writes is off
-    ∙ ap (λ (g : Grid). record s { grid = g; cursor = advanced s })
+    ∙ ap (λ (g : Grid). record s { grid = g; cursor = next_place s })
     (sym (runs.one s.grid s.cursor.row s.cursor.col (glyph b) (cell_of space s.brush)))
-    ∙ ap (λ (c : Cursor). record s { grid = put_run s.grid s.cursor.row s.cursor.col (glyph b ∷ []) (cell_of space s.brush); cursor = c }) (advanced-one s (omega arith))
+    ∙ ap (λ (c : Cursor). record s { grid = put_run s.grid s.cursor.row s.cursor.col (glyph b ∷ []) (cell_of space s.brush); cursor = c }) (next_place-one s (omega arith))
 prints-run runs Kind glyph (b ∷ next ∷ rest) s writes all off some room =
     let is = all 0 0 (omega arith) in
     let t : Display = record s { grid = put s.grid s.cursor.row s.cursor.col (cell_of (glyph b) s.brush); cursor = at_place s.cursor.row (s.cursor.col + 1) } in
     let first : print b s ≡ t =
     print-step Kind glyph s b writes is off
-    ∙ ap (λ (c : Cursor). record s { grid = put s.grid s.cursor.row s.cursor.col (cell_of (glyph b) s.brush); cursor = c }) (advanced-near s (omega arith)) in
+    ∙ ap (λ (c : Cursor). record s { grid = put s.grid s.cursor.row s.cursor.col (cell_of (glyph b) s.brush); cursor = c }) (next_place-near s (omega arith)) in
     let later : All Kind (next ∷ rest) = λ k d h. all (suc k) d (omega arith) in
     let goes_on = prints-run runs Kind glyph (next ∷ rest) t (record { glyph = writes.glyph; sets = writes.sets; replaces = writes.replaces }) later refl (omega arith) (omega arith) in
     let count : length (map glyph rest) ≡ length rest = length-map rest glyph in
@@ -79,35 +79,35 @@ prints-run runs Kind glyph (b ∷ next ∷ rest) s writes all off some room =
     }) column
 
 -- the display behind a wrap
-pub wrapped-off : (s : Display) → (wrapped s).cursor.wrap ≡ false
-wrapped-off s = go s.cursor.wrap refl
+pub after_wrap-off : (s : Display) → (after_wrap s).cursor.wrap ≡ false
+after_wrap-off s = go s.cursor.wrap refl
   where
     go : (b : Bool) → s.cursor.wrap ≡ b → (cond b (next_line s) s).cursor.wrap ≡ false
     go true e = refl
     go false e = e
 
-pub wrapped-writes : (Kind : ℕ → Type 0) (glyph : ℕ → ℕ) (s : Display) → WritesOver Kind glyph s → WritesOver Kind glyph (wrapped s)
-wrapped-writes Kind glyph s writes = go s.cursor.wrap
+pub after_wrap-writes : (Kind : ℕ → Type 0) (glyph : ℕ → ℕ) (s : Display) → WritesOver Kind glyph s → WritesOver Kind glyph (after_wrap s)
+after_wrap-writes Kind glyph s writes = go s.cursor.wrap
   where
     go : (b : Bool) → WritesOver Kind glyph (cond b (next_line s) s)
     go true = record { glyph = writes.glyph; sets = writes.sets; replaces = writes.replaces }
     go false = writes
 
 -- a byte that is written carries the wrap out itself
-print-wrapped : (Kind : ℕ → Type 0) (glyph : ℕ → ℕ) (s : Display) (b : ℕ) → WritesOver Kind glyph s → Kind b → print b (wrapped s) ≡ print b s
-print-wrapped Kind glyph s b writes is =
-    let off : wrapped (wrapped s) ≡ wrapped s = rw (wrapped-off s) refl in
-    print-over Kind glyph (wrapped s) b (wrapped-writes Kind glyph s writes) is ∙ ap (λ (t : Display). put_glyph (glyph b) t) off ∙ sym (print-over Kind glyph s b writes is)
+print-after_wrap : (Kind : ℕ → Type 0) (glyph : ℕ → ℕ) (s : Display) (b : ℕ) → WritesOver Kind glyph s → Kind b → print b (after_wrap s) ≡ print b s
+print-after_wrap Kind glyph s b writes is =
+    let off : after_wrap (after_wrap s) ≡ after_wrap s = rw (after_wrap-off s) refl in
+    print-over Kind glyph (after_wrap s) b (after_wrap-writes Kind glyph s writes) is ∙ ap (λ (t : Display). put_glyph (glyph b) t) off ∙ sym (print-over Kind glyph s b writes is)
 
 -- a run that ends in its row, and that isn't empty, is written as its bytes are
 pub prints-line : RunLaws → (Kind : ℕ → Type 0) (glyph : ℕ → ℕ) (bytes : List ℕ) (s : Display) → WritesOver Kind glyph s → All Kind bytes
-    → 1 ≤ length bytes → (wrapped s).cursor.col + length bytes ≤ last_column (wrapped s) + 1
-    → with_run (map glyph bytes) (wrapped s) ≡ after_events (map Print bytes) s
+    → 1 ≤ length bytes → (after_wrap s).cursor.col + length bytes ≤ last_column (after_wrap s) + 1
+    → with_run (map glyph bytes) (after_wrap s) ≡ after_events (map Print bytes) s
 prints-line runs Kind glyph [] s writes all some room = absurd (omega arith)
 prints-line runs Kind glyph (b ∷ bytes) s writes all some room =
     let is = all 0 0 (omega arith) in
-    sym (prints-run runs Kind glyph (b ∷ bytes) (wrapped s) (wrapped-writes Kind glyph s writes) all (wrapped-off s) some room)
-    ∙ ap (λ (t : Display). after_events (map Print bytes) t) (print-wrapped Kind glyph s b writes is)
+    sym (prints-run runs Kind glyph (b ∷ bytes) (after_wrap s) (after_wrap-writes Kind glyph s writes) all (after_wrap-off s) some room)
+    ∙ ap (λ (t : Display). after_events (map Print bytes) t) (print-after_wrap Kind glyph s b writes is)
 
 -- what was written leaves the sets and IRM
 pub with_run-writes : (Kind : ℕ → Type 0) (glyph : ℕ → ℕ) (glyphs : List ℕ) (s : Display) → WritesOver Kind glyph s → WritesOver Kind glyph (with_run glyphs s)
@@ -116,8 +116,8 @@ with_run-writes Kind glyph glyphs s writes = record { glyph = writes.glyph; sets
 -- runs line of a run
 pub line-of-run : RunLaws → (Kind : ℕ → Type 0) (glyph : ℕ → ℕ) (run : List ℕ) (at end : ℕ) (s t : Display) → All Kind run → at < end → end ≤ length run
     → t ≡ after_events (map Print (take at run)) s → WritesOver Kind glyph t
-    → (wrapped t).cursor.col + (end - at) ≤ last_column (wrapped t) + 1
-    → with_run (map glyph (take (end - at) (drop at run))) (wrapped t) ≡ after_events (map Print (take end run)) s
+    → (after_wrap t).cursor.col + (end - at) ≤ last_column (after_wrap t) + 1
+    → with_run (map glyph (take (end - at) (drop at run))) (after_wrap t) ≡ after_events (map Print (take end run)) s
 line-of-run runs Kind glyph run at end s t all below fits is writes room =
     let line : List ℕ = take (end - at) (drop at run) in
     let long : length line ≡ end - at = rw (length-take, length-drop) (omega arith) in

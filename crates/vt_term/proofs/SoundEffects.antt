@@ -8,7 +8,7 @@ use Rattle.vt_term.specs.State.{Display, last_column, has_stop_at}
 use Rattle.vt_term.specs.Sound.{IsSoundDisplay}
 use Rattle.vt_term.specs.Moving.{home, backspace, carriage_return, cursor_up, cursor_down, cursor_forward, cursor_backward, cursor_position, index, reverse_index, next_line, line_feed, set_margins}
 use Rattle.vt_term.specs.Tabs.{horizontal_tab, set_tab, clear_tabs, next_stop_of, no_stops}
-use Rattle.vt_term.specs.Writing.{wrapped, put_glyph, write_glyph}
+use Rattle.vt_term.specs.Writing.{after_wrap, put_glyph, write_glyph}
 use Rattle.vt_term.specs.Editing.{insert_line, delete_line, insert_character, delete_character, erase_character, erase_in_display, erase_in_line}
 use Rattle.vt_term.specs.Rendition.{select_graphic_rendition, select_character_attribute}
 use Rattle.vt_term.specs.Modes.{origin_mode, autowrap_mode, column_mode, keypad_mode, report_form}
@@ -97,15 +97,15 @@ clear_tabs-keeps p s i = search (rules, length-no_stops)
 pub put_glyph-keeps : (g : ℕ) → IsGlyph g → Keeps (put_glyph g)
 put_glyph-keeps g shown s i = search (rules, put-sound, put_inserting-sound)
 
-pub wrapped-keeps : Keeps wrapped
-wrapped-keeps s i = go s.cursor.wrap
+pub after_wrap-keeps : Keeps after_wrap
+after_wrap-keeps s i = go s.cursor.wrap
   where
     go : (b : Bool) → IsSoundDisplay (cond b (next_line s) s)
     go true = next_line-keeps s i
     go false = i
 
 pub write_glyph-keeps : (g : ℕ) → IsGlyph g → Keeps (write_glyph g)
-write_glyph-keeps g shown s i = put_glyph-keeps g shown (wrapped s) (wrapped-keeps s i)
+write_glyph-keeps g shown s i = put_glyph-keeps g shown (after_wrap s) (after_wrap-keeps s i)
 
 pub insert_line-keeps : (n : ℕ) → Keeps (insert_line n)
 insert_line-keeps n s i = search (rules, scroll_down-sound)

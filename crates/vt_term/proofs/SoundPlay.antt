@@ -13,7 +13,7 @@ use Rattle.vt_glyph.specs.declared.set.Set.{Set}
 use Rattle.vt_glyph.specs.Laws.{GlyphLaws, SetsLaws}
 use Rattle.vt_term.specs.State.{Display, State}
 use Rattle.vt_term.specs.Sound.{IsSoundDisplay, IsSound}
-use Rattle.vt_term.specs.Writing.{print, printed, write_glyph}
+use Rattle.vt_term.specs.Writing.{print, write_if_read, write_glyph}
 use Rattle.vt_term.specs.Modes.{with_mode, change_modes, ansi_modes, private_modes}
 use Rattle.vt_term.specs.Functions.{unchanged, control_functions, control, plain_escapes, plain_escape, space_escapes, number_escapes, escape_tables, escape_with, designate, designate_to, lock_left, lock_right, shift_once, plain_sequences, private_sequences, quote_sequences, exclamation_sequences, sequence_in, sequences_of, SequenceTable, effect, byte}
 use Rattle.vt_term.specs.Play.{play, after_events}
@@ -43,7 +43,7 @@ print-keeps glyphs sets b s i = go (glyph_read s.sets b) (glyphs.read s.sets b)
     after : IsSoundDisplay (record s { sets = after_read s.sets b })
     after = with-sets s (after_read s.sets b) i (sets.read s.sets b i.sets)
 
-    go : (glyph : Option ℕ) → IfSome glyph IsGlyph → IsSoundDisplay (printed glyph (record s { sets = after_read s.sets b }))
+    go : (glyph : Option ℕ) → IfSome glyph IsGlyph → IsSoundDisplay (write_if_read glyph (record s { sets = after_read s.sets b }))
     go None h = after
     go (Some g) h = write_glyph-keeps g h (record s { sets = after_read s.sets b }) after
 

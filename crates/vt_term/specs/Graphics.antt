@@ -2,8 +2,8 @@
 -- graphic areas of the code table)
 use Rattle.std.specs.Prelude.{ℕ, Bool, not, ◌&&◌, ◌||◌, nat_le}
 
-abbrev pub is_graphic : ℕ → Bool
-is_graphic b = (nat_le 0x20 b && nat_le b 0x7E) || (nat_le 0xA1 b && nat_le b 0xFE)
+abbrev pub has_glyph : ℕ → Bool
+has_glyph b = (nat_le 0x20 b && nat_le b 0x7E) || (nat_le 0xA1 b && nat_le b 0xFE)
 
-abbrev pub is_not_graphic : ℕ → Bool
-is_not_graphic b = not (is_graphic b)
+abbrev pub has_no_glyph : ℕ → Bool
+has_no_glyph b = not (has_glyph b)

@@ -20,19 +20,19 @@ rendition_changes =
     ∷ []
 
 -- one parameter; another number does nothing
-unfoldable pub rendered : ℕ → Rendition → Rendition
-rendered p = unwrap_or (look_up rendition_changes p) (λ r. r)
+unfoldable pub with_attribute : ℕ → Rendition → Rendition
+with_attribute p = unwrap_or (look_up rendition_changes p) (λ r. r)
 
 -- each parameter in order
-abbrev pub all_rendered : List ℕ → Rendition → Rendition
-all_rendered params r = fold (λ r p. rendered p r) r params
+abbrev pub with_attributes : List ℕ → Rendition → Rendition
+with_attributes params r = fold (λ r p. with_attribute p r) r params
 
 abbrev pub with_rendition : Rendition → Display → Display
 with_rendition rendition s = record s { brush = record s.brush { rendition = rendition } }
 
 -- SGR
 abbrev pub select_graphic_rendition : List ℕ → Display → Display
-select_graphic_rendition params s = with_rendition (all_rendered params s.brush.rendition) s
+select_graphic_rendition params s = with_rendition (with_attributes params s.brush.rendition) s
 
 abbrev pub with_protection : Bool → Display → Display
 with_protection protected s = record s { brush = record s.brush { protected = protected } }

@@ -8,8 +8,8 @@ use Rattle.vt_term.specs.State.{Display, last_column, at_place}
 use Rattle.vt_term.specs.Moving.{next_line}
 
 -- a pending wrap is carried out
-abbrev pub wrapped : Display → Display
-wrapped s = if s.cursor.wrap then next_line s else s
+abbrev pub after_wrap : Display → Display
+after_wrap s = if s.cursor.wrap then next_line s else s
 
 -- the glyph with the brush, at the cursor; under IRM the cells from there on move right first
 abbrev pub with_glyph : ℕ → Display → Grid
@@ -18,23 +18,23 @@ with_glyph glyph s =
     else put s.grid s.cursor.row s.cursor.col (cell_of glyph s.brush)
 
 -- one column on; in the last column the cursor stays, and the wrap flag is set under DECAWM
-abbrev pub advanced : Display → Cursor
-advanced s =
+abbrev pub next_place : Display → Cursor
+next_place s =
     if nat_lt s.cursor.col (last_column s) then at_place s.cursor.row (s.cursor.col + 1)
     else record s.cursor { wrap = s.modes.decawm }
 
 -- a glyph where no wrap is pending
 abbrev pub put_glyph : ℕ → Display → Display
-put_glyph glyph s = record s { grid = with_glyph glyph s; cursor = advanced s }
+put_glyph glyph s = record s { grid = with_glyph glyph s; cursor = next_place s }
 
 -- a glyph is written
 abbrev pub write_glyph : ℕ → Display → Display
-write_glyph glyph s = put_glyph glyph (wrapped s)
+write_glyph glyph s = put_glyph glyph (after_wrap s)
 
-abbrev pub printed : Option ℕ → Display → Display
-printed None s = s
-printed (Some glyph) s = write_glyph glyph s
+abbrev pub write_if_read : Option ℕ → Display → Display
+write_if_read None s = s
+write_if_read (Some glyph) s = write_glyph glyph s
 
 -- a graphic byte: it is read through the sets
 abbrev pub print : ℕ → Display → Display
-print b s = printed (glyph_read s.sets b) (record s { sets = after_read s.sets b })
+print b s = write_if_read (glyph_read s.sets b) (record s { sets = after_read s.sets b })

@@ -4,7 +4,7 @@ ghost use Rattle.std.specs.Bool.{OnTrue};
 ghost use Rattle.std.specs.List.{prefix_len};
 ghost use Rattle.std.specs.Simd.Lanes.{mask_l};
 ghost use Rattle.vt_glyph.specs.Invocation.{HasGlyph};
-ghost use Rattle.vt_term.specs.Graphics.{is_graphic, is_not_graphic};
+ghost use Rattle.vt_term.specs.Graphics.{has_glyph, has_no_glyph};
 
 use std::simd::prelude::*;
 
@@ -19,7 +19,7 @@ pub(crate) fn graphic_run(piece: &[u8]) -> usize
 
 /// The place of the first byte that has no glyph, or the length, looked for a vector of 16 bytes at a time.
 fn graphic_end(piece: &[u8]) -> usize
-    ensures { result ≡ prefix_len is_graphic piece.now }
+    ensures { result ≡ prefix_len has_glyph piece.now }
 {
     let mut at = 0;
     while at + 16 <= piece.len() {
@@ -35,7 +35,7 @@ fn graphic_end(piece: &[u8]) -> usize
 /// The same from `from` on, a byte at a time.
 fn graphic_end_slowly(piece: &[u8], from: usize) -> usize
     requires { from ≤ length piece.now }
-    ensures { result ≡ from + prefix_len is_graphic (drop from piece.now) }
+    ensures { result ≡ from + prefix_len has_glyph (drop from piece.now) }
 {
     let mut at = from;
     while at < piece.len() && has_glyph(piece[at]) {
@@ -52,7 +52,7 @@ pub(crate) fn right_half_at(piece: &[u8], at: usize) -> bool {
 /// Whether a byte has a glyph in either half.
 #[inline(always)]
 pub(crate) fn has_glyph(b: u8) -> bool
-    ensures tells { result ≡ is_graphic b }
+    ensures tells { result ≡ has_glyph b }
     ensures graphic { OnTrue result (HasGlyph b) }
 {
     (0x20 <= b && b <= 0x7E) || (0xA1 <= b && b <= 0xFE)
@@ -61,7 +61,7 @@ pub(crate) fn has_glyph(b: u8) -> bool
 /// A bit for each lane that has no glyph: less 20 it is above 5E, and less A1 above 5D, both with wrapping.
 #[inline(always)]
 fn stops_16(lanes: u8x16) -> u64
-    ensures { result ≡ mask_l (map is_not_graphic lanes) }
+    ensures { result ≡ mask_l (map has_no_glyph lanes) }
 {
     let not_left = u8x16::splat(0x5E).simd_lt(lanes - u8x16::splat(0x20));
     let not_right = u8x16::splat(0x5D).simd_lt(lanes - u8x16::splat(0xA1));

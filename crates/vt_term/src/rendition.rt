@@ -1,6 +1,6 @@
 //! The brush: the attributes and the protection of what is written.
 ghost use Rattle.std.specs.Prelude.{◌≡◌};
-ghost use Rattle.vt_term.specs.Rendition.{rendered, with_rendition, select_graphic_rendition, select_character_attribute};
+ghost use Rattle.vt_term.specs.Rendition.{with_attribute, with_rendition, select_graphic_rendition, select_character_attribute};
 
 use crate::display::Display;
 use vt_screen::Rendition;
@@ -18,9 +18,9 @@ impl Display {
 
     /// One parameter of SGR.
     #[inline(always)]
-    #[tactic(auto, unfolding(crate::specs::Rendition::rendered))]
+    #[tactic(auto, unfolding(crate::specs::Rendition::with_attribute))]
     fn change_rendition(&mut self, p: u16)
-        ensures { self.new ≡ with_rendition (rendered p self.old.brush.rendition) self.old }
+        ensures { self.new ≡ with_rendition (with_attribute p self.old.brush.rendition) self.old }
     {
         match p {
             0 => self.brush.rendition = Rendition::plain(),

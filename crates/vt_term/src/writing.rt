@@ -5,7 +5,7 @@ ghost use Rattle.vt_syntax.specs.Class.{IsPlain};
 ghost use Rattle.vt_syntax.specs.declared.event.Event.TheVariants.{Print};
 ghost use Rattle.vt_term.specs.Play.{after_events};
 ghost use Rattle.vt_glyph.specs.Invocation.{HasGlyph, in_use, glyph_in_use};
-ghost use Rattle.vt_term.specs.Writing.{wrapped, put_glyph, write_glyph, print};
+ghost use Rattle.vt_term.specs.Writing.{after_wrap, put_glyph, write_glyph, print};
 ghost use Rattle.vt_term.specs.Runs.{WritesAscii, WritesInUse, with_run, advanced_by};
 
 use crate::display::Display;
@@ -38,7 +38,7 @@ impl Display {
     /// A pending wrap is carried out.
     #[inline(always)]
     pub(crate) fn carry_out_wrap(&mut self)
-        ensures { self.new ≡ wrapped self.old }
+        ensures { self.new ≡ after_wrap self.old }
     {
         if self.cursor.wrap {
             self.next_line();

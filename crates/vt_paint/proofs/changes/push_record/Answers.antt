@@ -1,5 +1,5 @@
 use Rattle.vt_term.specs.State.{saved_sets}
-use Rattle.vt_paint.specs.Controls.{cursor_to, brush_events, sets_events, save_cursor}
+use Rattle.vt_paint.specs.Controls.{cursor_position, brush_events, sets_events, save_cursor}
 use Rattle.vt_paint.specs.Items.{origin_item, wrap_item}
 use Rattle.vt_paint.specs.ChangeEvents.{saved_cursor, record_item}
 use Rattle.vt_paint.proofs.Pushing.{then_events, events, event}
@@ -10,7 +10,7 @@ unfolding record_item origin_item
 returns-clause-items c =
     let s = c.args.saved.now in
     (then_events (events (origin_item s.origin) c.push_private_mode_where.ensures.items)
-    (then_events (event (cursor_to s.row s.col) c.push_cursor_to.ensures.items)
+    (then_events (event (cursor_position s.row s.col) c.push_cursor_to.ensures.items)
     (then_events (events (wrap_item c.args.t.now.display.grid (saved_cursor s)) c.push_wrap.ensures.items)
     (then_events (events (brush_events s.brush) c.push_brush.ensures.items)
     (then_events (events (sets_events (saved_sets s)) c.push_sets.ensures.items)

@@ -2,7 +2,7 @@ use Rattle.std.proofs.Common.{◌∷◌, [], true, false}
 use Rattle.vt_syntax.specs.declared.event.Event.TheVariants.{Print}
 use Rattle.vt_glyph.specs.Tables.{space}
 use Rattle.vt_term.specs.State.{saved_sets}
-use Rattle.vt_paint.specs.Controls.{where_true, private_mode, decom, cursor_to, brush_events, sets_events, save_cursor}
+use Rattle.vt_paint.specs.Controls.{where_true, private_mode, decom, cursor_position, brush_events, sets_events, save_cursor}
 use Rattle.vt_paint.specs.Items.{saved_events}
 use Rattle.vt_paint.proofs.Pushing.{then_events, events, event, bytes_where}
 use Rattle.vt_paint.proofs.items.push_saved_events.Goals as goal
@@ -12,7 +12,7 @@ unfolding saved_events
 returns-clause-items c =
     let s = c.args.saved.now in
     (then_events (events (where_true s.origin (private_mode decom true ∷ [])) c.push_private_mode_where.ensures.items)
-    (then_events (event (cursor_to s.row s.col) c.push_cursor_to.ensures.items)
+    (then_events (event (cursor_position s.row s.col) c.push_cursor_to.ensures.items)
     (then_events (bytes_where s.wrap (Print space ∷ []) c.push_where.ensures.items)
     (then_events (events (brush_events s.brush) c.push_brush.ensures.items)
     (then_events (events (sets_events (saved_sets s)) c.push_sets.ensures.items)

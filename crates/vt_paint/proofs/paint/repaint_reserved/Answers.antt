@@ -1,6 +1,6 @@
 use Rattle.std.proofs.Common.{◌++◌, ◌∷◌, [], true, ap, ◌∙◌}
 use Rattle.vt_term.specs.State.{last_column}
-use Rattle.vt_paint.specs.Controls.{where_true, private_mode, decom, brush_events, reset_all}
+use Rattle.vt_paint.specs.Controls.{where_true, private_mode, decom, brush_events, reset_to_initial_state}
 use Rattle.vt_paint.specs.Items.{stops_item, saved_item, cells_item, margins_item, origin_item, position_item, wrap_item, modes_item, shift_item}
 use Rattle.vt_paint.specs.Repaint.{repaint_events, paint}
 use Rattle.vt_paint.proofs.Pushing.{then_events, then_both, events, event, events_as, sets_events-same}
@@ -11,7 +11,7 @@ unfolding paint repaint_events origin_item
 returns-clause-items c =
     let s = c.args.t.now.display in
     let sets = c.sets-sets.ensures.sets in
-    (then_events (event reset_all c.push_bytes.ensures.items)
+    (then_events (event reset_to_initial_state c.push_bytes.ensures.items)
     (then_events (events_as (ap (λ w. stops_item w c.stops.result.now) c.width.ensures.width ∙ ap (λ x. stops_item (last_column s) x) c.stops.ensures) c.push_stops.ensures.items)
     (then_events (events_as (ap (λ x. saved_item x) c.saved.ensures) c.push_saved.ensures.items)
     (then_events (events_as (ap (λ x. cells_item s.grid x.wrap) c.cursor.ensures.cursor) c.push_cells.ensures.items)

@@ -1,11 +1,11 @@
 use Rattle.std.proofs.Common.{[], get_or, arith}
 use Rattle.vt_syntax.specs.declared.event.EventKind.TheVariants as kind
-use Rattle.vt_syntax.proofs.WholeSequences.{run_alone}
+use Rattle.vt_syntax.proofs.WholeSequences.{steps_alone}
 use Rattle.vt_syntax.proofs.Fronts.{front_of}
 use Rattle.vt_syntax.proofs.front.front_control.Goals as goal
 
 pub returns-clause-front : goal.returns-clause-front
 returns-clause-front c =
     front_of c.args.piece.now [] 1 (kind.Control (get_or c.args.piece.now 0 0))
-    (run_alone c.args.piece.now (kind.Control (get_or c.args.piece.now 0 0)) (omega arith)
+    (steps_alone c.args.piece.now (kind.Control (get_or c.args.piece.now 0 0)) (omega arith)
     (λ values. c.if-not-is_single_control.ensures.step) [])

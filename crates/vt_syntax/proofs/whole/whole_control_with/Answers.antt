@@ -1,8 +1,8 @@
-use Rattle.vt_syntax.proofs.WholeSequences.{run_control_with}
+use Rattle.vt_syntax.proofs.WholeSequences.{steps_control_with}
 use Rattle.vt_syntax.proofs.whole.whole_control_with.Goals as goal
 
 pub returns : goal.returns
 returns c =
-    run_control_with c.args.piece.now c.args.values.now c.args.marker c.args.at c.requires c.if-at-piece.false
+    steps_control_with c.args.piece.now c.args.values.now c.args.marker c.args.at c.requires c.if-at-piece.false
     c.if-piece-at-lt32.false c.if-piece-at-ge48.false
     c.if-last-lt64.false c.if-last-ge127.false

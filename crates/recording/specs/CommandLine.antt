@@ -1,9 +1,11 @@
 -- The command line: its command in clap's terms, and what its answers say. (this profile)
-use Rattle.std.specs.Prelude.{◌≡◌, ◌⊎◌, ℕ, List, [], ◌∷◌, ◌++◌, codes, Option, Some, None, true, cond, string_bytes, map, bytes_eq}
+use Rattle.std.specs.Prelude.{◌≡◌, ◌⊎◌, ℕ, List, [], ◌∷◌, ◌++◌, codes, Option, Some, None, true, cond, string_bytes}
+use Rattle.std.specs.Prelude.{map, bytes_eq}
 use Rattle.std.specs.Option.{option_map, option_and_then}
 use Rattle.std.specs.declared.alloc.Global.{Global}
 use Rattle.std.specs.declared.string.String.{String}
-use Rattle.clap.specs.Words.{App, Rule, Row, Text, Kinds, IsAmong, new_app, new_rule, with_rule, first_of, fault_of, matches_of}
+use Rattle.clap.specs.Words.{App, Rule, Row, Text, Kinds, IsAmong, new_app, new_rule, with_rule, first_of, fault_of}
+use Rattle.clap.specs.Words.{matches_of}
 use Rattle.clap.specs.declared.error.kind.ErrorKind.{ErrorKind}
 use Rattle.clap.specs.declared.error.kind.ErrorKind.TheVariants.{DisplayHelp}
 use Rattle.vt_recording.specs.declared.format.Format.{Format}
@@ -43,8 +45,11 @@ found_in words = matches_of recording (map (λ w. string_bytes w) words)
 
 -- the format that `--format` names, with the moment of `--until`, which ttyrec alone takes
 abbrev pub format_named : Text → (until : Option Text) → Option Format
-format_named name None = cond (bytes_eq name (codes "script")) (Some Script) (cond (bytes_eq name (codes "ttyrec")) (Some (Ttyrec None)) None)
-format_named name (Some text) = cond (bytes_eq name (codes "ttyrec")) (option_map (λ n. Ttyrec (Some n)) (micros text)) None
+format_named name None =
+    cond (bytes_eq name (codes "script")) (Some Script)
+    (cond (bytes_eq name (codes "ttyrec")) (Some (Ttyrec None)) None)
+format_named name (Some text) =
+    cond (bytes_eq name (codes "ttyrec")) (option_map (λ n. Ttyrec (Some n)) (micros text)) None
 
 abbrev pub format_of : (format until : Option Text) → Option Format
 format_of format until = option_and_then (λ name. format_named name until) format

@@ -14,7 +14,8 @@ pub(crate) struct Settings {
 /// Why there are no settings, and what to say about it.
 #[derive(Debug, PartialEq, Eq, Drop)]
 pub(crate) struct Refused {
-    /// The status with which to end: 0 where the help was asked for, 1 where memory was refused, 2 for a fault of the words.
+    /// The status with which to end: 0 where the help was asked for, 1 where memory was refused, 2 for a fault of the
+    /// words.
     pub(crate) status: u8,
     /// The help, the fault as clap words it, or nothing where memory was refused.
     pub(crate) text: String,

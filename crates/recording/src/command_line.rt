@@ -1,8 +1,10 @@
 //! The command line: which words the program takes, and what they ask for.
-ghost use Rattle.std.specs.Prelude.{◌≡◌, ◌≢◌, ◌⊎◌, [], IfOk, IfErr, IfSome, IfNone, Some, None, option_map, string_bytes, codes, false};
+ghost use Rattle.std.specs.Prelude.{◌≡◌, ◌≢◌, ◌⊎◌, [], IfOk, IfErr, IfSome, IfNone, Some, None, option_map};
+ghost use Rattle.std.specs.Prelude.{string_bytes, codes, false};
 ghost use Rattle.clap.specs.Words.{FailsBy, app_of, first_value, found_of, kind_of, rows_of, rule_of, with_rule};
 ghost use Rattle.clap.specs.declared.builder.command.Command.TheViews.{out-Command};
-ghost use Rattle.recording.specs.CommandLine.{recording, bare_command, format_option, until_option, file_argument, faults_in, found_in, format_in, format_of, status_for};
+ghost use Rattle.recording.specs.CommandLine.{recording, bare_command, format_option, until_option, file_argument};
+ghost use Rattle.recording.specs.CommandLine.{faults_in, found_in, format_in, format_of, status_for};
 ghost use Rattle.recording.specs.CommandLine.{AreSettings, IsMemory, IsRefusal};
 
 use crate::asked::{Refused, Settings};
@@ -174,7 +176,8 @@ fn settings_of(alloc: Global, matches: &ArgMatches<'_>) -> Result<Option<Setting
 /// The settings that the words ask for; the first word is the program's name.
 ///
 /// The words are those of clap's command `recording`: `--format script` or `--format ttyrec`, with ttyrec `--until
-/// SECONDS`, of up to nine digits and, after a point, up to six decimals, and at most one FILE. `Err` is what to end with
+/// SECONDS`, of up to nine digits and, after a point, up to six decimals, and at most one FILE. `Err` is what to end
+/// with
 /// where there are no settings: the help that was asked for (status 0), want of memory (1), or what is wrong
 /// with the words (2). (this profile)
 pub(crate) fn settings(alloc: Global, words: Vec<String>) -> Result<Settings, Refused>

@@ -36,7 +36,8 @@ both first second = vstruct (vcons first (vcons second vnil))
 abbrev pub read_as : List Val → List Val → List Val
 read_as pointer handle = vstruct (of_list (pointer ++ (handle ++ []))) ∷ []
 
-pub two_words : {vs ps hs : List Val} {p q : Ptr} {h : Val} → vs ≡ read_as ps hs → ps ≡ ptr_val p ∷ [] → hs ≡ h ∷ [] → p ≡ q
+pub two_words : {vs ps hs : List Val} {p q : Ptr} {h : Val} → vs ≡ read_as ps hs → ps ≡ ptr_val p ∷ [] → hs ≡ h ∷ []
+    → p ≡ q
     → vs ≡ read_as (ptr_val q ∷ []) (h ∷ [])
 two_words {vs} {ps} {hs} {p} {q} {h} all pointer handle same =
     all ∙ ap (λ (xs : List Val). read_as xs hs) pointer ∙ ap (λ (xs : List Val). read_as (ptr_val p ∷ []) xs) handle
@@ -48,7 +49,8 @@ pub box_tells : (E : box.Bx) {M : Type 1} {𝓤 : Ura M} {𝓛 : Logic 𝓤} {K 
     → ((b o : ℕ) (h : Val) → vs ≡ box.word E h b o ∷ [] → Good (layout E.al.row) h
     → Seq K 𝓛 (‵ ((box.B E).own_val d (box.word E h b o ∷ [])) ∷ Γ) G)
     → Seq K 𝓛 (‵ ((box.B E).own_val d vs) ∷ Γ) G
-box_tells E t d vs next = box_out E t d vs (λ b o h at words fits. box_in E t d b o d.value at refl $ next b o h words fits)
+box_tells E t d vs next =
+    box_out E t d vs (λ b o h at words fits. box_in E t d b o d.value at refl $ next b o h words fits)
 
 module _ (R Z : RattleType) (LZ : Laws Z) (g : Ghosts Z.Denot) where
   abbrev pub LooseOf : RattleType
@@ -79,7 +81,8 @@ module _ (R Z : RattleType) (LZ : Laws Z) (g : Ghosts Z.Denot) where
 
     -- and back
     pub loose_in : K → (b o : ℕ) (h : Val) (a : Z.Denot) (x : R.Denot)
-        → Step K 𝓛 (‵ (LooseOf.own_val (record { at = block_ptr b o; alloc = a; value = x }) (both (vptr b o) h ∷ [])) ∷ Γ) G
+        → Step K 𝓛 (‵ (LooseOf.own_val (record { at = block_ptr b o; alloc = a; value = x }) (both (vptr b o) h ∷ []))
+        ∷ Γ) G
         (‵ (Block a (block_ptr b o) x) ∷ ‵ (Z.own_val a (h ∷ [])) ∷ Γ) G
     loose_in t b o h a x = step (λ next. let word : Val = both (vptr b o) h in
         nothing t $ move t (2 ∷ 0 ∷ []) $ fjoin t $ feq_i t (List Val) (vptr b o ∷ []) _ refl $ fjoin t $

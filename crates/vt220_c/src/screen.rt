@@ -27,7 +27,8 @@ pub extern "C" fn vt220_text(
     ensures none { result ≡ CLOSED → written.new ≡ 0 }
     ensures len { result ≢ CLOSED → IfSome t.old.kept.inside (λ u. written.new ≡ length (text u)) }
     ensures ok { result ≢ CLOSED → IfSome t.old.kept.inside (λ u. (result ≡ OK) ↔ (length (text u) ≤ length out.old)) }
-    ensures room { result ≢ CLOSED → IfSome t.old.kept.inside (λ u. (result ≡ ROOM) ↔ (length out.old < length (text u))) }
+    ensures room { result ≢ CLOSED
+        → IfSome t.old.kept.inside (λ u. (result ≡ ROOM) ↔ (length out.old < length (text u))) }
     ensures out { IfSome t.old.kept.inside (λ u. result ≡ OK → out.new ≡ written_over (text u) out.old) }
     ensures unchanged { (0 < result) → out.new ≡ out.old }
 {
@@ -61,8 +62,10 @@ pub extern "C" fn vt220_repaint(
     ensures none { (result ≡ CLOSED) ⊎ (result ≡ PARTIAL) → written.new ≡ 0 }
     ensures partial { result ≢ CLOSED → IfSome t.old.kept.inside (λ u. (result ≡ PARTIAL) ↔ (u.held ≢ Nothing)) }
     ensures len { result ≢ CLOSED → IfSome t.old.kept.inside (λ u. u.held ≡ Nothing → written.new ≡ length (paint u)) }
-    ensures ok { result ≢ CLOSED → IfSome t.old.kept.inside (λ u. u.held ≡ Nothing → (result ≡ OK) ↔ (length (paint u) ≤ length out.old)) }
-    ensures room { result ≢ CLOSED → IfSome t.old.kept.inside (λ u. u.held ≡ Nothing → (result ≡ ROOM) ↔ (length out.old < length (paint u))) }
+    ensures ok { result ≢ CLOSED
+        → IfSome t.old.kept.inside (λ u. u.held ≡ Nothing → (result ≡ OK) ↔ (length (paint u) ≤ length out.old)) }
+    ensures room { result ≢ CLOSED
+        → IfSome t.old.kept.inside (λ u. u.held ≡ Nothing → (result ≡ ROOM) ↔ (length out.old < length (paint u))) }
     ensures out { IfSome t.old.kept.inside (λ u. result ≡ OK → out.new ≡ written_over (paint u) out.old) }
     ensures unchanged { (0 < result) → out.new ≡ out.old }
 {
@@ -86,7 +89,8 @@ pub extern "C" fn vt220_repaint(
     if copied.fits { OK } else { ROOM }
 }
 
-/// Writes bytes that lead from the terminal that is shown to the one that is to be, and brings the first there. Both are
+/// Writes bytes that lead from the terminal that is shown to the one that is to be, and brings the first there. Both
+/// are
 /// between sequences, and `out` has room for the longest update. `shown` and `to` are two handles, and not one.
 #[unsafe(no_mangle)]
 pub extern "C" fn vt220_update(
@@ -99,11 +103,16 @@ pub extern "C" fn vt220_update(
 ) -> u32
     ensures to { to.new.kept.inside ≡ to.old.kept.inside }
     ensures scratch { s.new.kept.inside ≡ s.old.kept.inside }
-    ensures closed { (result ≡ CLOSED) ↔ ((shown.old.kept.inside ≡ None) ⊎ (to.old.kept.inside ≡ None) ⊎ (s.old.kept.inside ≡ None)) }
-    ensures partial { result ≢ CLOSED → IfSome shown.old.kept.inside (λ a. IfSome to.old.kept.inside (λ b. (result ≡ PARTIAL) ↔ ((a.held ≢ Nothing) ⊎ (b.held ≢ Nothing)))) }
+    ensures closed { (result ≡ CLOSED)
+        ↔ ((shown.old.kept.inside ≡ None) ⊎ (to.old.kept.inside ≡ None) ⊎ (s.old.kept.inside ≡ None)) }
+    ensures partial { result ≢ CLOSED
+        → IfSome shown.old.kept.inside
+        (λ a. IfSome to.old.kept.inside (λ b. (result ≡ PARTIAL) ↔ ((a.held ≢ Nothing) ⊎ (b.held ≢ Nothing)))) }
     ensures room { result ≡ ROOM → (length out.old < UPDATE_LIMIT) × (written.new ≡ UPDATE_LIMIT) }
     ensures ok { result ≡ OK → (UPDATE_LIMIT ≤ length out.old) × (shown.new.kept.inside ≡ to.old.kept.inside) }
-    ensures leads { result ≡ OK → IfSome shown.old.kept.inside (λ a. IfSome to.old.kept.inside (λ b. UpdatedOver a b out.old out.new written.new)) }
+    ensures leads { result ≡ OK
+        → IfSome shown.old.kept.inside
+        (λ a. IfSome to.old.kept.inside (λ b. UpdatedOver a b out.old out.new written.new)) }
     ensures nothing { result ≡ OK → (written.new ≡ 0) ↔ (shown.old.kept.inside ≡ to.old.kept.inside) }
     ensures none { (result ≡ CLOSED) ⊎ (result ≡ PARTIAL) → written.new ≡ 0 }
     ensures unchanged { (0 < result) → (shown.new.kept.inside ≡ shown.old.kept.inside) × (out.new ≡ out.old) }

@@ -4,7 +4,8 @@ use Rattle.std.specs.Option.{option_map}
 use Rattle.std.specs.Str.Parse.{ParsesUnsigned}
 use Rattle.std.specs.declared.alloc.Global.{Global}
 use Rattle.std.specs.declared.string.String.{String}
-use Rattle.clap.specs.Words.{App, Rule, Row, Text, Kinds, IsAmong, new_app, new_rule, with_rule, with_subcommand, first_of, fault_of, subcommand_of}
+use Rattle.clap.specs.Words.{App, Rule, Row, Text, Kinds, IsAmong, new_app, new_rule, with_rule, with_subcommand}
+use Rattle.clap.specs.Words.{first_of, fault_of, subcommand_of}
 use Rattle.clap.specs.Simple.{on_top}
 use Rattle.clap.specs.declared.builder.value_parser.ValueParser.TheVariants.{Unsigned}
 use Rattle.clap.specs.declared.error.kind.ErrorKind.{ErrorKind}
@@ -52,7 +53,9 @@ with_subcommand_for a w = with_subcommand a (subcommand (name_of w)).top
 -- with the subcommands for what the terminal holds and answers
 abbrev pub with_answers : App → App
 with_answers a =
-    with_subcommand_for (with_subcommand_for (with_subcommand_for (with_subcommand_for a what.Text) what.Reports) what.Repaint) what.Status
+    with_subcommand_for
+    (with_subcommand_for (with_subcommand_for (with_subcommand_for a what.Text) what.Reports) what.Repaint)
+    what.Status
 
 -- with those for the eye
 abbrev pub with_views : App → App
@@ -60,7 +63,8 @@ with_views a = with_subcommand_for (with_subcommand_for a what.Show) what.Pictur
 
 -- the program's command: one of the six subcommands is required, and it has a version
 abbrev pub vt220 : App
-vt220 = on_top (λ s. record s { subcommand_required = true; has_version = true }) (with_views (with_answers (new_app (codes "vt220"))))
+vt220 = on_top (λ s. record s { subcommand_required = true; has_version = true })
+    (with_views (with_answers (new_app (codes "vt220"))))
 
 -- the faults that clap finds in the words, the first of which is the program's name
 abbrev pub faults_in : List (String Global) → Kinds

@@ -1,10 +1,14 @@
 //! The command line: which words the program takes, and what they ask for.
-ghost use Rattle.std.specs.Prelude.{◌≡◌, ◌≢◌, ◌⊎◌, ℕ, [], IfOk, IfErr, IfSome, IfNone, Some, option_map, string_bytes, codes, false};
-ghost use Rattle.clap.specs.Words.{FailsBy, app_of, first_value, found_of, kind_of, rows_of, rule_of, subcommand_rows_of};
+ghost use Rattle.std.specs.Prelude.{◌≡◌, ◌≢◌, ◌⊎◌, ℕ, [], IfOk, IfErr, IfSome, IfNone, Some, option_map, string_bytes};
+ghost use Rattle.std.specs.Prelude.{codes, false};
+ghost use Rattle.clap.specs.Words.{FailsBy, app_of, first_value, found_of, kind_of, rows_of, rule_of};
+ghost use Rattle.clap.specs.Words.{subcommand_rows_of};
 ghost use Rattle.clap.specs.declared.builder.command.Command.TheViews.{out-Command};
 ghost use Rattle.vt_cli.specs.declared.what.What.{What};
-ghost use Rattle.vt_cli.specs.CommandLine.{number_option, subcommand, with_answers, with_subcommand_for, with_views, vt220, faults_in, found_in, name_of, status_for};
-ghost use Rattle.vt_cli.specs.CommandLine.{IsNumberOf, AreSettings, IsMemory, IsFault, IsStray, IsRefusal, HasNoSettings};
+ghost use Rattle.vt_cli.specs.CommandLine.{number_option, subcommand, with_answers, with_subcommand_for, with_views};
+ghost use Rattle.vt_cli.specs.CommandLine.{vt220, faults_in, found_in, name_of, status_for};
+ghost use Rattle.vt_cli.specs.CommandLine.{IsNumberOf, AreSettings, IsMemory, IsFault, IsStray, IsRefusal};
+ghost use Rattle.vt_cli.specs.CommandLine.{HasNoSettings};
 
 use crate::asked::{Refused, Settings};
 use crate::what::What;
@@ -283,7 +287,8 @@ fn settings_of(
 /// The settings that the words ask for; the first word is the program's name.
 ///
 /// The words are those of clap's command `vt220`: one of the six subcommands `text`, `reports`, `repaint`, `status`,
-/// `show` and `picture`, each with `--piece N` (1 to 65536, else 4096), `--limit N` (0 to 1099511627776, else 268435456) and at
+/// `show` and `picture`, each with `--piece N` (1 to 65536, else 4096), `--limit N` (0 to 1099511627776, else
+/// 268435456) and at
 /// most one FILE. `Err` is what to end with where there are no settings: the help or the version that was asked for
 /// (status 0), want of memory (1), or what is wrong with the words (2). (this profile)
 pub fn settings(alloc: Global, words: Vec<String>) -> Result<Settings, Refused>

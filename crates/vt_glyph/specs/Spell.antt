@@ -14,7 +14,8 @@ use Rattle.vt_glyph.specs.Invocation.{set_at, shifted_once}
 abbrev pub code_in : Set → ℕ → Option ℕ
 code_in set n = find (λ code. glyph_of set code == n) set_codes
 
--- an ASCII glyph is its own byte; another is its first code in Supplemental, or else its code in Special Graphics, after
+-- an ASCII glyph is its own byte; another is its first code in Supplemental, or else its code in Special Graphics,
+-- after
 -- a single shift
 unfoldable pub spelling_of : ℕ → Spelling
 spelling_of n =

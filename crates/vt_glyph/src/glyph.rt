@@ -11,7 +11,8 @@ use std::marker::Model;
 #[derive(Clone, Copy, Debug)]
 pub struct Glyph {
     byte: u8,
-    // Always 0. With these two a cell of the screen is eight bytes without a gap, which are written and compared as one word.
+    // Always 0. With these two a cell of the screen is eight bytes without a gap, which are written and compared as one
+    // word.
     second: u8,
     third: u8,
 }

@@ -67,7 +67,8 @@ impl Sets {
     ghost use Rattle.vt_glyph.specs.declared.set.Set.TheVariants.{Ascii};
     ghost use Rattle.vt_glyph.specs.Tables.{IsGlyph};
     ghost use Rattle.vt_glyph.specs.GraphicSets.{AreSoundSets};
-    ghost use Rattle.vt_glyph.specs.Invocation.{sets_at_power_up, designated, locked_left, locked_right, shifted_once, restored, set_at, glyph_read, after_read, in_use};
+    ghost use Rattle.vt_glyph.specs.Invocation.{sets_at_power_up, designated, locked_left, locked_right, shifted_once};
+    ghost use Rattle.vt_glyph.specs.Invocation.{restored, set_at, glyph_read, after_read, in_use};
 
     /// The sets at power-up: G0 and G1 ASCII, G2 and G3 Supplemental, G0 in GL, G2 in GR, and no
     /// single shift. (This profile)

@@ -10,7 +10,8 @@ unfoldable pub display_after : Display → List Event → Display
 display_after s [] = s
 display_after s (e ∷ es) = display_after (effect e s) es
 
-pub display_after-append : (s : Display) (es fs : List Event) → display_after s (es ++ fs) ≡ display_after (display_after s es) fs
+pub display_after-append : (s : Display) (es fs : List Event)
+    → display_after s (es ++ fs) ≡ display_after (display_after s es) fs
 unfolding display_after
 display_after-append s [] fs = refl
 display_after-append s (e ∷ es) fs = display_after-append (effect e s) es fs
@@ -21,5 +22,7 @@ display_after-after_events s [] = refl
 display_after-after_events s (e ∷ es) = display_after-after_events (effect e s) es
 
 -- the first events, and then the rest
-pub display_after-then : (x y z : Display) (es rest : List Event) → display_after x es ≡ y → display_after y rest ≡ z → display_after x (es ++ rest) ≡ z
-display_after-then x y z es rest first then = display_after-append x es rest ∙ ap (λ w. display_after w rest) first ∙ then
+pub display_after-then : (x y z : Display) (es rest : List Event) → display_after x es ≡ y → display_after y rest ≡ z
+    → display_after x (es ++ rest) ≡ z
+display_after-then x y z es rest first then = display_after-append x es rest ∙ ap (λ w. display_after w rest) first
+    ∙ then

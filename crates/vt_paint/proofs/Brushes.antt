@@ -1,5 +1,6 @@
 -- The brush and the sets are made.
-use Rattle.std.proofs.Common.{◌≡◌, ◌≤◌, ◌<◌, Bool, true, false, ℕ, zero, suc, List, [], ◌∷◌, length, Some, None, refl, sym, ap, ◌∙◌, arith}
+use Rattle.std.proofs.Common.{◌≡◌, ◌≤◌, ◌<◌, Bool, true, false, ℕ, zero, suc, List, [], ◌∷◌, length, Some, None, refl}
+use Rattle.std.proofs.Common.{sym, ap, ◌∙◌, arith}
 use Rattle.vt_glyph.specs.declared.set.Set.{Set}
 use Rattle.vt_glyph.specs.declared.set.Set.TheVariants.{Ascii, British, German, Special, Supplemental}
 use Rattle.vt_glyph.specs.Designation.{final_of, set_of_final}
@@ -11,13 +12,17 @@ use Rattle.vt_screen.specs.declared.cell.Rendition.{Rendition}
 use Rattle.vt_screen.specs.declared.cell.Brush.{Brush}
 use Rattle.vt_term.specs.State.{Display}
 use Rattle.vt_term.specs.Rendition.{with_attribute, with_attributes}
-use Rattle.vt_term.specs.Functions.{control, plain_escape, escape_with, sequence_in, sequences_of, effect, designate, designate_to}
-use Rattle.vt_paint.specs.Controls.{spelling_sets_events, rendition_values, brush_events, left_event, right_event, sets_events}
+use Rattle.vt_term.specs.Functions.{control, plain_escape, escape_with, sequence_in, sequences_of, effect, designate}
+use Rattle.vt_term.specs.Functions.{designate_to}
+use Rattle.vt_paint.specs.Controls.{spelling_sets_events, rendition_values, brush_events, left_event, right_event}
+use Rattle.vt_paint.specs.Controls.{sets_events}
 use Rattle.vt_paint.proofs.AfterEvents.{display_after}
 
 -- ---- the brush
 
-attributes_four : (b u k r : Bool) (old : Rendition) → with_attributes (rendition_values (record { bold = b; underline = u; blink = k; reverse = r })) old ≡ record { bold = b; underline = u; blink = k; reverse = r }
+attributes_four : (b u k r : Bool) (old : Rendition)
+    → with_attributes (rendition_values (record { bold = b; underline = u; blink = k; reverse = r })) old
+    ≡ record { bold = b; underline = u; blink = k; reverse = r }
 unfolding with_attribute
 attributes_four false false false false old = refl
 attributes_four true false false false old = refl
@@ -47,9 +52,15 @@ brush_leaves x brush = go brush.protected refl
     made r p = record x { brush = record { rendition = r; protected = p } }
 
     go : (p : Bool) → brush.protected ≡ p → display_after x (brush_events brush) ≡ record x { brush = brush }
-    go true e = rw e (ap (λ r. made r true) (attributes_four brush.rendition.bold brush.rendition.underline brush.rendition.blink brush.rendition.reverse x.brush.rendition))
+    go true e =
+        rw e (ap (λ r. made r true)
+        (attributes_four brush.rendition.bold brush.rendition.underline brush.rendition.blink brush.rendition.reverse
+        x.brush.rendition))
         ∙ ap (λ p. made brush.rendition p) (sym e)
-    go false e = rw e (ap (λ r. made r false) (attributes_four brush.rendition.bold brush.rendition.underline brush.rendition.blink brush.rendition.reverse x.brush.rendition))
+    go false e =
+        rw e (ap (λ r. made r false)
+        (attributes_four brush.rendition.bold brush.rendition.underline brush.rendition.blink brush.rendition.reverse
+        x.brush.rendition))
         ∙ ap (λ p. made brush.rendition p) (sym e)
 
 -- ---- the sets
@@ -81,7 +92,8 @@ four_of (a ∷ b ∷ c ∷ d ∷ e ∷ g) h = absurd (omega arith)
 abbrev pub with_sets : Display → List Set → ℕ → ℕ → Display
 with_sets x g left right = record x { sets = record x.sets { g = g; left = left; right = right } }
 
-left_leaves : (x : Display) (slot : ℕ) → slot < 4 → effect (left_event slot) x ≡ record x { sets = record x.sets { left = slot } }
+left_leaves : (x : Display) (slot : ℕ) → slot < 4
+    → effect (left_event slot) x ≡ record x { sets = record x.sets { left = slot } }
 unfolding control plain_escape
 left_leaves x zero h = refl
 left_leaves x (suc zero) h = refl
@@ -89,7 +101,8 @@ left_leaves x (suc (suc zero)) h = refl
 left_leaves x (suc (suc (suc zero))) h = refl
 left_leaves x (suc (suc (suc (suc n)))) h = absurd (omega arith)
 
-right_leaves : (x : Display) (slot : ℕ) → 1 ≤ slot → slot < 4 → effect (right_event slot) x ≡ record x { sets = record x.sets { right = slot } }
+right_leaves : (x : Display) (slot : ℕ) → 1 ≤ slot → slot < 4
+    → effect (right_event slot) x ≡ record x { sets = record x.sets { right = slot } }
 unfolding plain_escape
 right_leaves x zero l h = absurd (omega arith)
 right_leaves x (suc zero) l h = refl
@@ -97,18 +110,21 @@ right_leaves x (suc (suc zero)) l h = refl
 right_leaves x (suc (suc (suc zero))) l h = refl
 right_leaves x (suc (suc (suc (suc n)))) l h = absurd (omega arith)
 
-designate_leaves : (slot : ℕ) (set : Set) (x : Display) → designate slot (final_of set) x ≡ record x { sets = designated slot set x.sets }
+designate_leaves : (slot : ℕ) (set : Set) (x : Display)
+    → designate slot (final_of set) x ≡ record x { sets = designated slot set x.sets }
 designate_leaves slot set x = ap (λ o. designate_to slot o x) (final_names set)
 
 -- four designations make the list
 four_designated : (g t : List Set) → length g ≡ 4 → length t ≡ 4
-    → slice_set (slice_set (slice_set (slice_set g 0 (slice_index_or t 0 Ascii)) 1 (slice_index_or t 1 Ascii)) 2 (slice_index_or t 2 Ascii)) 3 (slice_index_or t 3 Ascii) ≡ t
+    → slice_set (slice_set (slice_set (slice_set g 0 (slice_index_or t 0 Ascii)) 1 (slice_index_or t 1 Ascii)) 2
+    (slice_index_or t 2 Ascii)) 3 (slice_index_or t 3 Ascii) ≡ t
 four_designated g t four_g four_t =
     let p = four_of g four_g in
     let q = four_of t four_t in
     rw (p.is, q.is) refl
 
-pub sets_leaves : (x : Display) (t : GraphicSets) → length x.sets.g ≡ 4 → AreSoundSets t → display_after x (sets_events t) ≡ with_sets x t.g t.left t.right
+pub sets_leaves : (x : Display) (t : GraphicSets) → length x.sets.g ≡ 4 → AreSoundSets t
+    → display_after x (sets_events t) ≡ with_sets x t.g t.left t.right
 unfolding display_after sets_events escape_with
 sets_leaves x t four sound =
     let last : Display → Display = λ y. effect (right_event t.right) (effect (left_event t.left) y) in
@@ -116,8 +132,12 @@ sets_leaves x t four sound =
     let x2 : Display = record x { sets = designated 1 (set_at t 1) x1.sets } in
     let x3 : Display = record x { sets = designated 2 (set_at t 2) x2.sets } in
     let x4 : Display = record x { sets = designated 3 (set_at t 3) x3.sets } in
-    ap (λ y. last (designate 3 (final_of (set_at t 3)) (designate 2 (final_of (set_at t 2)) (designate 1 (final_of (set_at t 1)) y)))) (designate_leaves 0 (set_at t 0) x)
-    ∙ ap (λ y. last (designate 3 (final_of (set_at t 3)) (designate 2 (final_of (set_at t 2)) y))) (designate_leaves 1 (set_at t 1) x1)
+    ap (λ y. last
+    (designate 3 (final_of (set_at t 3))
+    (designate 2 (final_of (set_at t 2)) (designate 1 (final_of (set_at t 1)) y))))
+    (designate_leaves 0 (set_at t 0) x)
+    ∙ ap (λ y. last (designate 3 (final_of (set_at t 3)) (designate 2 (final_of (set_at t 2)) y)))
+    (designate_leaves 1 (set_at t 1) x1)
     ∙ ap (λ y. last (designate 3 (final_of (set_at t 3)) y)) (designate_leaves 2 (set_at t 2) x2)
     ∙ ap (λ y. last y) (designate_leaves 3 (set_at t 3) x3)
     ∙ ap (λ y. effect (right_event t.right) y) (left_leaves x4 t.left sound.left)
@@ -128,7 +148,8 @@ sets_leaves x t four sound =
 pub spelling_sets : GraphicSets → GraphicSets
 spelling_sets t = record t { g = slice_set (slice_set (slice_set t.g 0 Ascii) 2 Supplemental) 3 Special; left = 0 }
 
-pub spelling_sets_leaves : (x : Display) → display_after x spelling_sets_events ≡ record x { sets = spelling_sets x.sets }
+pub spelling_sets_leaves : (x : Display) → display_after x spelling_sets_events
+    ≡ record x { sets = spelling_sets x.sets }
 unfolding display_after spelling_sets escape_with control
 spelling_sets_leaves x = refl
 

@@ -1,5 +1,6 @@
 -- From the cells on, item by item.
-use Rattle.std.proofs.Common.{◌≡◌, Bool, true, false, not, cond, ◌&&◌, ℕ, ◌+◌, ◌-◌, ◌≤◌, ◌<◌, min, max, List, [], ◌∷◌, ◌++◌, length, get_or, None, arith, refl, sym, ap, ◌∙◌, eqb, ltb}
+use Rattle.std.proofs.Common.{◌≡◌, Bool, true, false, not, cond, ◌&&◌, ℕ, ◌+◌, ◌-◌, ◌≤◌, ◌<◌, min, max, List, [], ◌∷◌}
+use Rattle.std.proofs.Common.{◌++◌, length, get_or, None, arith, refl, sym, ap, ◌∙◌, eqb, ltb}
 use Rattle.std.specs.List.{range_with_len, list_all}
 use Rattle.std.proofs.lemmas.Bool.{eqb-true, lt-ltb, le-ltb, ne_eqb}
 use Rattle.std.proofs.lemmas.List.Sums.{AllPass-from_list_all}
@@ -22,12 +23,14 @@ use Rattle.vt_term.specs.Reports.{line_of_cursor}
 use Rattle.vt_paint.specs.Same.{is_blank}
 use Rattle.vt_paint.specs.Controls.{private_mode, decom, margins_to, brush_events, sets_events, spelling_sets_events}
 use Rattle.vt_paint.specs.Pieces.{glyph_events, pieces, is_blank_grid}
-use Rattle.vt_paint.specs.Items.{cells_item, margins_item, origin_item, position_item, wrap_item, modes_item, shift_item}
+use Rattle.vt_paint.specs.Items.{cells_item, margins_item, origin_item, position_item, wrap_item, modes_item}
+use Rattle.vt_paint.specs.Items.{shift_item}
 use Rattle.vt_paint.proofs.LowerLaws.{GridLaws, GlyphLaws}
 use Rattle.vt_paint.proofs.AfterEvents.{display_after, display_after-append, display_after-then}
 use Rattle.vt_paint.proofs.Equality.{and_true, not_true, is_blank-is}
 use Rattle.vt_paint.proofs.Grids.{painted, all_blank, painted_none, put_same}
-use Rattle.vt_paint.proofs.Brushes.{brush_leaves, with_sets, sets_leaves, spelling_sets, spelling_sets_leaves, spelling_sets_are, spelling_sets_four, spelling_sets_none}
+use Rattle.vt_paint.proofs.Brushes.{brush_leaves, with_sets, sets_leaves, spelling_sets, spelling_sets_leaves}
+use Rattle.vt_paint.proofs.Brushes.{spelling_sets_are, spelling_sets_four, spelling_sets_none}
 use Rattle.vt_paint.proofs.Glyphs.{glyph_leaves}
 use Rattle.vt_paint.proofs.Painting.{IsReady, shown, behind, AreGlyphs, pieces_leaves, write_glyph_leaves}
 use Rattle.vt_paint.proofs.SavedRecord.{with_saved}
@@ -54,31 +57,40 @@ pub record HasCells (s x : Display) : Type 0 where
   pub none : sets.pending ≡ None
   pub spells : s.cursor.wrap ≡ true → AreSpellingSets sets
 
-all_pass : {A : Type 0} (p : A → Bool) (xs : List A) (k : ℕ) (d : A) → k < length xs → list_all p xs ≡ true → p (get_or xs k d) ≡ true
+all_pass : {A : Type 0} (p : A → Bool) (xs : List A) (k : ℕ) (d : A) → k < length xs → list_all p xs ≡ true
+    → p (get_or xs k d) ≡ true
 all_pass p xs k d h e = AllPass-from_list_all p xs e k d h
 
 module _ (grids : GridLaws) where
   -- a blank grid's cells are blank
-  blank_cell : (g : Grid) (r c : ℕ) → is_blank_grid g ≡ true → 1 ≤ r → r ≤ 24 → 1 ≤ c → c ≤ g.width → cell_at g r c ≡ blank
+  blank_cell : (g : Grid) (r c : ℕ) → is_blank_grid g ≡ true → 1 ≤ r → r ≤ 24 → 1 ≤ c → c ≤ g.width
+      → cell_at g r c ≡ blank
   unfolding is_blank_grid
   blank_cell g r c h r1 r24 c1 cw =
-      let row = all_pass (λ r. list_all is_blank (row_of g r)) (range_with_len 1 24) (r - 1) 0 (omega (arith, length-range_with_len 1 24)) h in
-      let at : get_or (range_with_len 1 24) (r - 1) 0 ≡ r = get_or-range_with_len 1 24 (r - 1) 0 (omega arith) ∙ omega arith in
+      let row = all_pass (λ r. list_all is_blank (row_of g r)) (range_with_len 1 24) (r - 1) 0
+      (omega (arith, length-range_with_len 1 24)) h in
+      let at : get_or (range_with_len 1 24) (r - 1) 0 ≡ r =
+      get_or-range_with_len 1 24 (r - 1) 0 (omega arith) ∙ omega arith in
       let here : list_all is_blank (row_of g r) ≡ true = ap (λ r. list_all is_blank (row_of g r)) (sym at) ∙ row in
-      is_blank-is (cell_at g r c) (ap (λ cell. is_blank cell) (sym (grids.rows.cell g r c blank c1 cw)) ∙ all_pass is_blank (row_of g r) (c - 1) blank (omega (arith, grids.rows.len g r)) here)
+      is_blank-is (cell_at g r c) (ap (λ cell. is_blank cell) (sym (grids.rows.cell g r c blank c1 cw))
+      ∙ all_pass is_blank (row_of g r) (c - 1) blank (omega (arith, grids.rows.len g r)) here)
 
-  blank_grid-is : (wide : Bool) (g : Grid) → g.width ≡ columns wide → IsGrid g → is_blank_grid g ≡ true → blank_grid wide ≡ g
+  blank_grid-is : (wide : Bool) (g : Grid) → g.width ≡ columns wide → IsGrid g → is_blank_grid g ≡ true
+      → blank_grid wide ≡ g
   blank_grid-is wide g w is h =
       ap (λ n. grid_of n (λ r c. blank)) (sym w)
-      ∙ grids.places.same_formulas g.width (λ r c. blank) (cell_at g) (λ r c r1 r24 c1 cw. sym (blank_cell g r c h r1 r24 c1 cw))
+      ∙ grids.places.same_formulas g.width (λ r c. blank) (cell_at g)
+      (λ r c r1 r24 c1 cw. sym (blank_cell g r c h r1 r24 c1 cw))
       ∙ grids.places.own_cells g is
 
   blank_painted : (wide : Bool) (g : Grid) → g.width ≡ columns wide → blank_grid wide ≡ painted all_blank g 1 1
   blank_painted wide g w = ap (λ n. grid_of n all_blank) (sym w) ∙ painted_none grids all_blank g
 
 module _ (grids : GridLaws) (glyphs : GlyphLaws) where
-  pub cells_leaves : (wide : Bool) (s : Display) (cursor : Cursor) → s.grid.width ≡ columns wide → IsGrid s.grid → AreGlyphs s.grid → AreSoundSets (saved_sets s.saved)
-      → HasCells s (display_after (record (with_saved wide s.stops s.saved cursor) { saved = s.saved }) (cells_item s.grid s.cursor.wrap))
+  pub cells_leaves : (wide : Bool) (s : Display) (cursor : Cursor) → s.grid.width ≡ columns wide → IsGrid s.grid
+      → AreGlyphs s.grid → AreSoundSets (saved_sets s.saved)
+      → HasCells s (display_after (record (with_saved wide s.stops s.saved cursor) { saved = s.saved })
+      (cells_item s.grid s.cursor.wrap))
   unfolding display_after cells_item
   cells_leaves wide s cursor w is are sets = go (is_blank_grid s.grid && not s.cursor.wrap) refl
     where
@@ -91,7 +103,8 @@ module _ (grids : GridLaws) (glyphs : GlyphLaws) where
       base : Display
       base = record x0 { sets = t }
 
-      go : (b : Bool) → is_blank_grid s.grid && not s.cursor.wrap ≡ b → HasCells s (display_after x0 (cond b [] (spelling_sets_events ++ pieces s.grid)))
+      go : (b : Bool) → is_blank_grid s.grid && not s.cursor.wrap ≡ b
+          → HasCells s (display_after x0 (cond b [] (spelling_sets_events ++ pieces s.grid)))
       go true e =
           let p = and_true (is_blank_grid s.grid) (not s.cursor.wrap) e in
           record {
@@ -104,9 +117,19 @@ module _ (grids : GridLaws) (glyphs : GlyphLaws) where
             spells = λ h. absurd (cc (h, not_true s.cursor.wrap p.1));
           }
       go false e =
-          let ready : IsReady base = record { sets = spelling_sets_are (saved_sets s.saved) sets.four refl; irm = refl; decawm = refl; decom = refl } in
-          let painted_is = spelling_sets_leaves x0 ∙ ap (λ g. shown base g cursor s.saved.brush) (blank_painted grids wide s.grid w) in
-          let v = pieces_leaves grids glyphs base s.grid (display_after x0 spelling_sets_events) cursor s.saved.brush ready is are painted_is in
+          let ready : IsReady base =
+          record {
+            sets = spelling_sets_are (saved_sets s.saved) sets.four refl;
+            irm = refl;
+            decawm = refl;
+            decom =
+                refl;
+          } in
+          let painted_is =
+          spelling_sets_leaves x0
+          ∙ ap (λ g. shown base g cursor s.saved.brush) (blank_painted grids wide s.grid w) in
+          let v = pieces_leaves grids glyphs base s.grid (display_after x0 spelling_sets_events) cursor s.saved.brush
+          ready is are painted_is in
           record {
             cursor = v.cursor;
             brush = v.brush;
@@ -119,65 +142,84 @@ module _ (grids : GridLaws) (glyphs : GlyphLaws) where
 
 -- ---- margins and origin
 
-pub record HasMargins (s : Display) (modes : Modes) (brush : Brush) (sets : GraphicSets) (margins : Margins) (origin : Bool) (x : Display) : Type 0 where
+pub record HasMargins (s : Display) (modes : Modes) (brush : Brush) (sets : GraphicSets) (margins : Margins)
+    (origin : Bool) (x : Display) : Type 0 where
   pub cursor : Cursor
   pub is : x ≡ part s modes cursor brush sets margins origin
 
-pub margins_leaves : (s : Display) (modes : Modes) (cursor : Cursor) (brush : Brush) (sets : GraphicSets) (m : Margins) (origin : Bool) → AreSoundMargins m
-    → HasMargins s modes brush sets m origin (display_after (part s modes cursor brush sets full_margins origin) (margins_item m))
+pub margins_leaves : (s : Display) (modes : Modes) (cursor : Cursor) (brush : Brush) (sets : GraphicSets) (m : Margins)
+    (origin : Bool) → AreSoundMargins m
+    → HasMargins s modes brush sets m origin
+    (display_after (part s modes cursor brush sets full_margins origin) (margins_item m))
 unfolding display_after margins_item sequence_in sequences_of
 margins_leaves s modes cursor brush sets m origin sound = go (eqb m.top 1 && eqb m.bottom 24) refl
   where
     x : Display
     x = part s modes cursor brush sets full_margins origin
 
-    go : (b : Bool) → eqb m.top 1 && eqb m.bottom 24 ≡ b → HasMargins s modes brush sets m origin (display_after x (cond b [] (margins_to m.top m.bottom ∷ [])))
+    go : (b : Bool) → eqb m.top 1 && eqb m.bottom 24 ≡ b
+        → HasMargins s modes brush sets m origin (display_after x (cond b [] (margins_to m.top m.bottom ∷ [])))
     go true e =
         let a = and_true (eqb m.top 1) (eqb m.bottom 24) e in
         let mk : ℕ → ℕ → Margins = λ t b. record { top = t; bottom = b } in
-        let is : full_margins ≡ m = sym (ap (λ t. mk t m.bottom) (eqb-true m.top 1 a.0) ∙ ap (λ b. mk 1 b) (eqb-true m.bottom 24 a.1)) in
+        let is : full_margins ≡ m =
+        sym (ap (λ t. mk t m.bottom) (eqb-true m.top 1 a.0) ∙ ap (λ b. mk 1 b) (eqb-true m.bottom 24 a.1)) in
         record { cursor = cursor; is = ap (λ y. part s modes cursor brush sets y origin) is }
     go false e =
         let top : max m.top 1 ≡ m.top = omega (arith, sound) in
         let none : eqb m.bottom 0 ≡ false = ne_eqb m.bottom 0 (omega (arith, sound)) in
         let bottom : min m.bottom 24 ≡ m.bottom = omega (arith, sound) in
         let less : ltb m.top m.bottom ≡ true = lt-ltb m.top m.bottom sound.two_rows in
-        let done : ℕ → ℕ → Bool → Display = λ t b l. cond l (home (record x { margins = record { top = t; bottom = b } })) x in
+        let done : ℕ → ℕ → Bool → Display =
+        λ t b l. cond l (home (record x { margins = record { top = t; bottom = b } })) x in
         record {
           cursor = at_place (cond origin m.top 1) 1;
           is =
-              ap (λ t. done t (cond (eqb m.bottom 0) 24 (min m.bottom 24)) (ltb t (cond (eqb m.bottom 0) 24 (min m.bottom 24)))) top
+              ap (λ t. done t (cond (eqb m.bottom 0) 24 (min m.bottom 24))
+              (ltb t (cond (eqb m.bottom 0) 24 (min m.bottom 24)))) top
               ∙ ap (λ b. done m.top (cond b 24 (min m.bottom 24)) (ltb m.top (cond b 24 (min m.bottom 24)))) none
               ∙ ap (λ b. done m.top b (ltb m.top b)) bottom
               ∙ ap (λ l. done m.top m.bottom l) less;
         }
 
-pub origin_leaves : (s : Display) (modes : Modes) (cursor : Cursor) (brush : Brush) (sets : GraphicSets) (m : Margins) (origin : Bool) → HasMargins s modes brush sets m origin (display_after (part s modes cursor brush sets m false) (origin_item origin))
+pub origin_leaves : (s : Display) (modes : Modes) (cursor : Cursor) (brush : Brush) (sets : GraphicSets) (m : Margins)
+    (origin : Bool)
+    → HasMargins s modes brush sets m origin
+    (display_after (part s modes cursor brush sets m false) (origin_item origin))
 unfolding display_after origin_item sequence_in sequences_of with_mode
 origin_leaves s modes cursor brush sets m true = record { cursor = at_place m.top 1; is = refl }
 origin_leaves s modes cursor brush sets m false = record { cursor = cursor; is = refl }
 
-pub origin_set_leaves : (s : Display) (modes : Modes) (cursor : Cursor) (brush : Brush) (sets : GraphicSets) (m : Margins) (was on : Bool)
-    → HasMargins s modes brush sets m on (display_after (part s modes cursor brush sets m was) (private_mode decom on ∷ []))
+pub origin_set_leaves : (s : Display) (modes : Modes) (cursor : Cursor) (brush : Brush) (sets : GraphicSets)
+    (m : Margins) (was on : Bool)
+    → HasMargins s modes brush sets m on
+    (display_after (part s modes cursor brush sets m was) (private_mode decom on ∷ []))
 unfolding display_after sequence_in sequences_of with_mode
 origin_set_leaves s modes cursor brush sets m was true = record { cursor = at_place m.top 1; is = refl }
 origin_set_leaves s modes cursor brush sets m was false = record { cursor = at_place 1 1; is = refl }
 
 -- ---- the cursor
 
-line_back : (s : Display) → IsSoundDisplay s → (cond s.modes.decom (min (s.margins.top + max (line_of_cursor s) 1 - 1) s.margins.bottom) (min (max (line_of_cursor s) 1) 24)) ≡ s.cursor.row
+line_back : (s : Display) → IsSoundDisplay s
+    → (cond s.modes.decom (min (s.margins.top + max (line_of_cursor s) 1 - 1) s.margins.bottom)
+    (min (max (line_of_cursor s) 1) 24)) ≡ s.cursor.row
 line_back s i = go s.modes.decom refl
   where
-    go : (b : Bool) → s.modes.decom ≡ b → cond b (min (s.margins.top + max (cond b (s.cursor.row - s.margins.top + 1) s.cursor.row) 1 - 1) s.margins.bottom) (min (max (cond b (s.cursor.row - s.margins.top + 1) s.cursor.row) 1) 24) ≡ s.cursor.row
+    go : (b : Bool) → s.modes.decom ≡ b
+        → cond b (min (s.margins.top + max (cond b (s.cursor.row - s.margins.top + 1) s.cursor.row) 1 - 1)
+        s.margins.bottom) (min (max (cond b (s.cursor.row - s.margins.top + 1) s.cursor.row) 1) 24) ≡ s.cursor.row
     go true e = let o = i.origin e in omega (arith, o)
     go false e = omega (arith, i.cursor.row_1, i.cursor.row_24)
 
-pub position_leaves : (s : Display) (modes : Modes) (cursor : Cursor) (brush : Brush) (sets : GraphicSets) → IsSoundDisplay s
-    → display_after (part s modes cursor brush sets s.margins s.modes.decom) (position_item s) ≡ part s modes (at_place s.cursor.row s.cursor.col) brush sets s.margins s.modes.decom
+pub position_leaves : (s : Display) (modes : Modes) (cursor : Cursor) (brush : Brush) (sets : GraphicSets)
+    → IsSoundDisplay s
+    → display_after (part s modes cursor brush sets s.margins s.modes.decom) (position_item s)
+    ≡ part s modes (at_place s.cursor.row s.cursor.col) brush sets s.margins s.modes.decom
 unfolding display_after sequence_in sequences_of
 position_leaves s modes cursor brush sets i =
     let col : min (max s.cursor.col 1) s.grid.width ≡ s.cursor.col = omega (arith, i.cursor.col_1, i.cursor.col_last) in
-    ap (λ r. part s modes (at_place r (min (max s.cursor.col 1) s.grid.width)) brush sets s.margins s.modes.decom) (line_back s i)
+    ap (λ r. part s modes (at_place r (min (max s.cursor.col 1) s.grid.width)) brush sets s.margins s.modes.decom)
+    (line_back s i)
     ∙ ap (λ k. part s modes (at_place s.cursor.row k) brush sets s.margins s.modes.decom) col
 
 pub record HasCursor (s : Display) (modes : Modes) (x : Display) : Type 0 where
@@ -188,8 +230,12 @@ pub record HasCursor (s : Display) (modes : Modes) (x : Display) : Type 0 where
   pub none : sets.pending ≡ None
 
 module _ (grids : GridLaws) (glyphs : GlyphLaws) where
-  pub wrap_leaves : (s : Display) (modes : Modes) (brush : Brush) (sets : GraphicSets) → modes.irm ≡ false → modes.decawm ≡ true → IsSoundDisplay s → AreGlyphs s.grid → length sets.g ≡ 4 → sets.pending ≡ None → (s.cursor.wrap ≡ true → AreSpellingSets sets)
-      → HasCursor s modes (display_after (part s modes (at_place s.cursor.row s.cursor.col) brush sets s.margins s.modes.decom) (wrap_item s.grid s.cursor))
+  pub wrap_leaves : (s : Display) (modes : Modes) (brush : Brush) (sets : GraphicSets) → modes.irm ≡ false
+      → modes.decawm ≡ true → IsSoundDisplay s → AreGlyphs s.grid → length sets.g ≡ 4 → sets.pending ≡ None
+      → (s.cursor.wrap ≡ true → AreSpellingSets sets)
+      → HasCursor s modes
+      (display_after (part s modes (at_place s.cursor.row s.cursor.col) brush sets s.margins s.modes.decom)
+      (wrap_item s.grid s.cursor))
   unfolding display_after wrap_item
   wrap_leaves s modes brush sets irm decawm i are four none spells = go s.cursor.wrap refl
     where
@@ -202,8 +248,18 @@ module _ (grids : GridLaws) (glyphs : GlyphLaws) where
       shape : Cursor → Brush → Display
       shape c b = part s modes c b sets s.margins s.modes.decom
 
-      go : (b : Bool) → s.cursor.wrap ≡ b → HasCursor s modes (display_after (shape (at_place s.cursor.row s.cursor.col) brush) (cond b (brush_events (brush_of cell) ++ glyph_events cell) []))
-      go false e = record { brush = brush; sets = sets; is = ap (λ w. shape (at w) brush) (sym e); four = four; none = none }
+      go : (b : Bool) → s.cursor.wrap ≡ b
+          → HasCursor s modes
+          (display_after (shape (at_place s.cursor.row s.cursor.col) brush)
+          (cond b (brush_events (brush_of cell) ++ glyph_events cell) []))
+      go false e = record {
+        brush = brush;
+        sets = sets;
+        is = ap (λ w. shape (at w) brush) (sym e);
+        four = four;
+        none =
+            none;
+      }
       go true e =
           let last = i.cursor.wrap_last e in
           let here = at_place s.cursor.row s.cursor.col in
@@ -215,8 +271,10 @@ module _ (grids : GridLaws) (glyphs : GlyphLaws) where
                 ∙ ap (λ y. display_after y (glyph_events cell)) (brush_leaves (shape here brush) (brush_of cell))
                 ∙ glyph_leaves glyphs (shape here (brush_of cell)) cell (spells e) (are s.cursor.row s.cursor.col)
                 ∙ write_glyph_leaves (shape here (brush_of cell)) s.cursor.row s.cursor.col cell irm decawm
-                ∙ ap (λ g. record (shape (behind s.grid.width s.cursor.row s.cursor.col) (brush_of cell)) { grid = g }) (put_same grids s.grid s.cursor.row s.cursor.col i.grid.shape)
-                ∙ ap (λ b. shape (cond b (at_place s.cursor.row (s.cursor.col + 1)) (at true)) (brush_of cell)) (le-ltb s.cursor.col s.grid.width (omega (arith, last)))
+                ∙ ap (λ g. record (shape (behind s.grid.width s.cursor.row s.cursor.col) (brush_of cell)) { grid = g })
+                (put_same grids s.grid s.cursor.row s.cursor.col i.grid.shape)
+                ∙ ap (λ b. shape (cond b (at_place s.cursor.row (s.cursor.col + 1)) (at true)) (brush_of cell))
+                (le-ltb s.cursor.col s.grid.width (omega (arith, last)))
                 ∙ ap (λ w. shape (at w) (brush_of cell)) (sym e);
             four = four;
             none = none;
@@ -224,8 +282,10 @@ module _ (grids : GridLaws) (glyphs : GlyphLaws) where
 
 -- ---- all that is left
 
-pub end_leaves : (s : Display) (brush : Brush) (sets : GraphicSets) → IsSoundDisplay s → length sets.g ≡ 4 → sets.pending ≡ None
-    → display_after (part s modes_at_power_up s.cursor brush sets s.margins s.modes.decom) (brush_events s.brush ++ (sets_events s.sets ++ (modes_item s.modes ++ shift_item s.sets.pending))) ≡ s
+pub end_leaves : (s : Display) (brush : Brush) (sets : GraphicSets) → IsSoundDisplay s → length sets.g ≡ 4
+    → sets.pending ≡ None
+    → display_after (part s modes_at_power_up s.cursor brush sets s.margins s.modes.decom)
+    (brush_events s.brush ++ (sets_events s.sets ++ (modes_item s.modes ++ shift_item s.sets.pending))) ≡ s
 end_leaves s brush sets i four none =
     let x0 = part s modes_at_power_up s.cursor brush sets s.margins s.modes.decom in
     let x1 = part s modes_at_power_up s.cursor s.brush sets s.margins s.modes.decom in

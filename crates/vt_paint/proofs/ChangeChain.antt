@@ -1,5 +1,6 @@
 -- From any display to another one of the same width and stops, item by item.
-use Rattle.std.proofs.Common.{◌≡◌, Bool, true, false, cond, ◌+◌, ◌-◌, ◌≤◌, List, [], ◌∷◌, ◌++◌, length, None, arith, refl, sym, ap, ◌∙◌}
+use Rattle.std.proofs.Common.{◌≡◌, Bool, true, false, cond, ◌+◌, ◌-◌, ◌≤◌, List, [], ◌∷◌, ◌++◌, length, None, arith}
+use Rattle.std.proofs.Common.{refl, sym, ap, ◌∙◌}
 use Rattle.vt_glyph.specs.GraphicSets.{GraphicSets}
 use Rattle.vt_glyph.specs.Invocation.{sets_at_power_up}
 use Rattle.vt_glyph.specs.Spell.{AreSpellingSets}
@@ -12,13 +13,15 @@ use Rattle.vt_term.specs.Sound.{IsSoundDisplay}
 use Rattle.vt_term.specs.Modes.{with_mode}
 use Rattle.vt_term.specs.Functions.{plain_escape, sequence_in, sequences_of, effect}
 use Rattle.vt_term.specs.Reports.{line_of_cursor}
-use Rattle.vt_paint.specs.Controls.{private_mode, decom, cursor_position, brush_events, save_cursor, sets_events, spelling_sets_events}
+use Rattle.vt_paint.specs.Controls.{private_mode, decom, cursor_position, brush_events, save_cursor, sets_events}
+use Rattle.vt_paint.specs.Controls.{spelling_sets_events}
 use Rattle.vt_paint.specs.Items.{margins_item, origin_item, position_item, wrap_item, shift_item}
 use Rattle.vt_paint.specs.Changes.{AreChanges}
 use Rattle.vt_paint.specs.ChangeEvents.{changed_cells, start_item, saved_cursor, record_item, every_mode, change_events}
 use Rattle.vt_paint.proofs.LowerLaws.{GridLaws, GlyphLaws}
 use Rattle.vt_paint.proofs.AfterEvents.{display_after, display_after-then}
-use Rattle.vt_paint.proofs.Brushes.{brush_leaves, with_sets, sets_leaves, spelling_sets, spelling_sets_leaves, spelling_sets_are, spelling_sets_four, spelling_sets_none}
+use Rattle.vt_paint.proofs.Brushes.{brush_leaves, with_sets, sets_leaves, spelling_sets, spelling_sets_leaves}
+use Rattle.vt_paint.proofs.Brushes.{spelling_sets_are, spelling_sets_four, spelling_sets_none}
 use Rattle.vt_paint.proofs.Painting.{IsReady, shown, AreGlyphs}
 use Rattle.vt_paint.proofs.ModeItems.{shift_leaves}
 use Rattle.vt_paint.proofs.Chain.{part, margins_leaves, origin_leaves, origin_set_leaves, position_leaves, wrap_leaves}
@@ -122,7 +125,8 @@ unfolding plain_escape
 save_leaves s modes sets = refl
 
 module _ (grids : GridLaws) (glyphs : GlyphLaws) where
-  record_leaves : (s : Display) (modes : Modes) (cursor : Cursor) (brush : Brush) (sets : GraphicSets) → IsSoundDisplay s
+  record_leaves : (s : Display) (modes : Modes) (cursor : Cursor) (brush : Brush) (sets : GraphicSets)
+      → IsSoundDisplay s
       → AreGlyphs s.grid → modes.irm ≡ false → modes.decawm ≡ true
       → length sets.g ≡ 4 → sets.pending ≡ None → (s.saved.wrap ≡ true → AreSpellingSets sets)
       → HasRecord s modes (display_after (part (recorded s modes) modes cursor brush sets full_margins false)
@@ -165,7 +169,8 @@ module _ (grids : GridLaws) (glyphs : GlyphLaws) where
 
   -- ---- the whole
 
-  pub changes_leaves : (marks : List (List Bool)) (s t : Display) → IsSoundDisplay s → IsSoundDisplay t → AreGlyphs s.grid
+  pub changes_leaves : (marks : List (List Bool)) (s t : Display) → IsSoundDisplay s → IsSoundDisplay t
+      → AreGlyphs s.grid
       → AreChanges marks t s → display_after t (change_events marks s) ≡ s
   unfolding change_events start_modes
   changes_leaves marks s t i j are changes =
@@ -215,7 +220,8 @@ module _ (grids : GridLaws) (glyphs : GlyphLaws) where
       display_after-then t x1 s start_item o2 (start_leaves t)
       (display_after-then x1 base s spelling_sets_events o3 (spelling_sets_leaves x1)
       (display_after-then base x3 s (changed_cells marks s.grid) o4
-      (with_stops (display_after base (changed_cells marks s.grid)) (shown base s.grid w3.cursor w3.brush) s.stops w3.is changes.stops)
+      (with_stops (display_after base (changed_cells marks s.grid)) (shown base s.grid w3.cursor w3.brush) s.stops
+      w3.is changes.stops)
       (display_after-then x3 x4 s (record_item s.grid s.saved) o5 w4.is
       (display_after-then x4 x5 s spelling_sets_events o6 (spelling_sets_leaves x4)
       (display_after-then x5 x6 s (margins_item s.margins) o7 w6.is
@@ -224,5 +230,6 @@ module _ (grids : GridLaws) (glyphs : GlyphLaws) where
       (display_after-then x8 x9 s (wrap_item s.grid s.cursor) o10 w9.is
       (display_after-then x9 x10 s (brush_events s.brush) o11 (brush_leaves x9 s.brush)
       (display_after-then x10 x11 s (sets_events s.sets) o12 (sets_leaves x10 s.sets w9.four i.sets)
-      (display_after-then x11 x12 s (every_mode s.modes) (shift_item s.sets.pending) (every_mode_leaves x11 modes s.modes i.wrap)
+      (display_after-then x11 x12 s (every_mode s.modes) (shift_item s.sets.pending)
+      (every_mode_leaves x11 modes s.modes i.wrap)
       (shift_leaves x12 s.sets.pending i.sets.pending w9.none))))))))))))

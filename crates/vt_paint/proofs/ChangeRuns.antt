@@ -1,5 +1,6 @@
 -- The marked cells are written over those underneath, one after another.
-use Rattle.std.proofs.Common.{◌≡◌, Bool, true, false, cond, eqb, ◌+◌, ◌≤◌, ℕ, zero, suc, [], ◌∷◌, ◌++◌, List, arith, refl, sym, ap, subst, ◌∙◌}
+use Rattle.std.proofs.Common.{◌≡◌, Bool, true, false, cond, eqb, ◌+◌, ◌≤◌, ℕ, zero, suc, [], ◌∷◌, ◌++◌, List, arith}
+use Rattle.std.proofs.Common.{refl, sym, ap, subst, ◌∙◌}
 use Rattle.std.proofs.lemmas.Bool.{eqb-true}
 use Rattle.vt_screen.specs.declared.cell.Rendition.{Rendition}
 use Rattle.vt_screen.specs.declared.cell.Brush.{Brush}
@@ -14,7 +15,8 @@ use Rattle.vt_paint.specs.Same.{same_brush}
 use Rattle.vt_paint.specs.Controls.{cursor_position, protection_to, rendition_to, brush_events}
 use Rattle.vt_paint.specs.Pieces.{glyph_events}
 use Rattle.vt_paint.specs.Changes.{same_cell, differs_at, is_marked}
-use Rattle.vt_paint.specs.ChangeEvents.{has_all, all_attributes, short_brush_events, change_of, change, changes_from, changed_row, changed_rows, changed_cells}
+use Rattle.vt_paint.specs.ChangeEvents.{has_all, all_attributes, short_brush_events, change_of, change, changes_from}
+use Rattle.vt_paint.specs.ChangeEvents.{changed_row, changed_rows, changed_cells}
 use Rattle.vt_paint.proofs.LowerLaws.{GridLaws, GlyphLaws}
 use Rattle.vt_paint.proofs.AfterEvents.{display_after, display_after-append}
 use Rattle.vt_paint.proofs.Equality.{and_true, not_false, same_brush-is}
@@ -47,7 +49,8 @@ unfolding display_after sequence_in sequences_of
 with_protection_leaves x r true = refl
 with_protection_leaves x r false = refl
 
-pub short_brush_leaves : (x : Display) (brush : Brush) → display_after x (short_brush_events brush) ≡ record x { brush = brush }
+pub short_brush_leaves : (x : Display) (brush : Brush) → display_after x (short_brush_events brush)
+    ≡ record x { brush = brush }
 unfolding display_after short_brush_events brush_events sequence_in sequences_of with_attribute
 short_brush_leaves x brush = go (has_all brush.rendition) refl
   where
@@ -91,7 +94,8 @@ module _ (grids : GridLaws) (glyphs : GlyphLaws) where
       ap (λ y. display_after y (es ++ glyph_events cell))
       (cursor_position_leaves (shown base before cursor brush) r c ready.decom r1 r24 c1 cw)
       ∙ display_after-append (shown base before (at_place r c) brush) es (glyph_events cell)
-      ∙ ap (λ y. display_after y (glyph_events cell)) (short_brush_leaves (shown base before (at_place r c) brush) (brush_of cell))
+      ∙ ap (λ y. display_after y (glyph_events cell))
+      (short_brush_leaves (shown base before (at_place r c) brush) (brush_of cell))
       ∙ glyph_leaves glyphs x cell ready.sets (are r c)
       ∙ write_glyph_leaves x r c cell ready.irm ready.decawm
       ∙ ap (λ y. shown base y (behind g.width r c) (brush_of cell)) (painted_put grids (cell_at b) g r c)
@@ -100,18 +104,21 @@ module _ (grids : GridLaws) (glyphs : GlyphLaws) where
       → AreGlyphs g → AreMarked marks b g → 1 ≤ r → r ≤ 24 → 1 ≤ c → c ≤ g.width
       → IsWritten base b g r c x → IsWritten base b g r (c + 1) (display_after x (change marks g r c))
   unfolding display_after change_of
-  change_leaves marks base b g r c x ready are marked r1 r24 c1 cw w = go (is_marked marks r c) (marked r c r1 r24 c1 cw)
+  change_leaves marks base b g r c x ready are marked r1 r24 c1 cw w =
+      go (is_marked marks r c) (marked r c r1 r24 c1 cw)
     where
       cell : Cell
       cell = cell_at g r c
 
       go : (m : Bool) → m ≡ differs_at b g r c → IsWritten base b g r (c + 1)
-          (display_after x (cond m (cursor_position r c ∷ (short_brush_events (brush_of cell) ++ glyph_events cell)) []))
+          (display_after x (cond m (cursor_position r c ∷ (short_brush_events (brush_of cell) ++ glyph_events cell))
+          []))
       go true e = record {
         cursor = behind g.width r c;
         brush = brush_of cell;
         is =
-            ap (λ y. display_after y (cursor_position r c ∷ (short_brush_events (brush_of cell) ++ glyph_events cell))) w.is
+            ap (λ y. display_after y (cursor_position r c ∷ (short_brush_events (brush_of cell) ++ glyph_events cell)))
+            w.is
             ∙ one_leaves base b g r c w.cursor w.brush ready are r1 r24 c1 cw;
       }
       go false e = record {
@@ -124,7 +131,8 @@ module _ (grids : GridLaws) (glyphs : GlyphLaws) where
             (sym (same_cell-is (cell_at b r c) cell (not_false (same_cell (cell_at b r c) cell) (sym e)))));
       }
 
-  changes_from_leaves : (marks : List (List Bool)) (base : Display) (b g : Grid) (r n c : ℕ) (x : Display) → IsReady base
+  changes_from_leaves : (marks : List (List Bool)) (base : Display) (b g : Grid) (r n c : ℕ) (x : Display)
+      → IsReady base
       → AreGlyphs g → AreMarked marks b g → 1 ≤ r → r ≤ 24 → 1 ≤ c → c + n ≡ g.width + 1
       → IsWritten base b g r c x → IsWritten base b g r (g.width + 1) (display_after x (changes_from marks g r c n))
   unfolding display_after
@@ -138,7 +146,8 @@ module _ (grids : GridLaws) (glyphs : GlyphLaws) where
   changes_from_leaves marks base b g r (suc n) c x ready are marked r1 r24 c1 e w =
       subst (λ (y : Display). IsWritten base b g r (g.width + 1) y)
       (sym (display_after-append x (change marks g r c) (changes_from marks g r (c + 1) n)))
-      (changes_from_leaves marks base b g r n (c + 1) (display_after x (change marks g r c)) ready are marked r1 r24 (omega arith)
+      (changes_from_leaves marks base b g r n (c + 1) (display_after x (change marks g r c)) ready are marked r1 r24
+      (omega arith)
       (omega arith)
       (change_leaves marks base b g r c x ready are marked r1 r24 c1 (omega arith) w))
 
@@ -163,7 +172,8 @@ module _ (grids : GridLaws) (glyphs : GlyphLaws) where
       } in
       subst (λ (y : Display). IsWritten base b g 25 1 y)
       (sym (display_after-append x (changed_row marks g r) (changed_rows marks g (r + 1) n)))
-      (changed_rows_leaves marks base b g n (r + 1) (display_after x (changed_row marks g r)) ready are marked (omega arith)
+      (changed_rows_leaves marks base b g n (r + 1) (display_after x (changed_row marks g r)) ready are marked
+      (omega arith)
       (omega arith) next)
 
   -- all cells are those asked for
@@ -180,7 +190,8 @@ module _ (grids : GridLaws) (glyphs : GlyphLaws) where
       let start : IsWritten base b g 1 1 (shown base b cursor brush) = record {
         cursor = cursor;
         brush = brush;
-        is = ap (λ y. shown base y cursor brush) (sym (grids.places.own_cells b is_b) ∙ ap (λ n. grid_of n (cell_at b)) same
+        is = ap (λ y. shown base y cursor brush) (sym (grids.places.own_cells b is_b)
+            ∙ ap (λ n. grid_of n (cell_at b)) same
             ∙ painted_none grids (cell_at b) g);
       } in
       let w = changed_rows_leaves marks base b g 24 1 (shown base b cursor brush) ready are marked (omega arith) refl

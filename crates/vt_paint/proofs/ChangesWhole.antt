@@ -1,5 +1,6 @@
 -- The bytes of changes are few, and lead from one state to the other.
-use Rattle.std.proofs.Common.{◌≡◌, Bool, true, false, cond, ◌+◌, ◌*◌, ◌≤◌, ℕ, zero, suc, List, [], ◌∷◌, ◌++◌, length, length-append, arith, refl, sym, ap, ◌∙◌}
+use Rattle.std.proofs.Common.{◌≡◌, Bool, true, false, cond, ◌+◌, ◌*◌, ◌≤◌, ℕ, zero, suc, List, [], ◌∷◌, ◌++◌, length}
+use Rattle.std.proofs.Common.{length-append, arith, refl, sym, ap, ◌∙◌}
 use Rattle.std.specs.List.{range_with_len}
 use Rattle.std.proofs.lemmas.List.Sums.{sum_by-cons}
 use Rattle.vt_syntax.specs.declared.event.Event.{Event}
@@ -20,12 +21,19 @@ use Rattle.vt_term.specs.Play.{Played, after_events, reports_of, play}
 use Rattle.vt_paint.specs.Controls.{private_mode, ansi_mode, decom, cursor_position, brush_events, sets_events}
 use Rattle.vt_paint.specs.Items.{margins_item, origin_item, position_item, wrap_item}
 use Rattle.vt_paint.specs.Changes.{differs_at, differing_from, differing_rows, differing, is_marked, AreChanges}
-use Rattle.vt_paint.specs.ChangeEvents.{keypad_event, soft_reset, change_of, change, changes_from, changed_row, changed_rows, changed_cells, start_item, saved_cursor, record_item, every_mode, change_events}
+use Rattle.vt_paint.specs.ChangeEvents.{keypad_event, soft_reset, change_of, change, changes_from, changed_row}
+use Rattle.vt_paint.specs.ChangeEvents.{changed_rows, changed_cells, start_item, saved_cursor, record_item, every_mode}
+use Rattle.vt_paint.specs.ChangeEvents.{change_events}
 use Rattle.vt_paint.proofs.LowerLaws.{GridLaws, GlyphLaws}
 use Rattle.vt_paint.proofs.AfterEvents.{display_after-after_events}
 use Rattle.vt_paint.proofs.Painting.{AreGlyphs}
-use Rattle.vt_paint.proofs.Within.{AreSpelledWithin, within-append, within-upto, within-none, within-where, cursor_position_within, ansi_mode_within, private_mode_within, small_ansi_mode_within, small_private_mode_within, soft_reset_within, brush_within, short_brush_within, save_within, keypad_event_within, report_form_event_within, sets_within, spelling_sets_within}
-use Rattle.vt_paint.proofs.Whole.{glyph_within, wrap_item_within, margins_item_within, shift_item_within, line_small, width_small, sound_glyphs}
+use Rattle.vt_paint.proofs.Within.{AreSpelledWithin, within-append, within-upto, within-none, within-where}
+use Rattle.vt_paint.proofs.Within.{cursor_position_within, ansi_mode_within, private_mode_within}
+use Rattle.vt_paint.proofs.Within.{small_ansi_mode_within, small_private_mode_within, soft_reset_within, brush_within}
+use Rattle.vt_paint.proofs.Within.{short_brush_within, save_within, keypad_event_within, report_form_event_within}
+use Rattle.vt_paint.proofs.Within.{sets_within, spelling_sets_within}
+use Rattle.vt_paint.proofs.Whole.{glyph_within, wrap_item_within, margins_item_within, shift_item_within, line_small}
+use Rattle.vt_paint.proofs.Whole.{width_small, sound_glyphs}
 use Rattle.vt_paint.proofs.ChangeRuns.{AreMarked}
 use Rattle.vt_paint.proofs.ChangeChain.{changes_leaves}
 
@@ -112,7 +120,8 @@ module _ (glyphs : GlyphLaws) where
   changed_cells_within : (marks : List (List Bool)) (b g : Grid) → AreGlyphs g → AreMarked marks b g → g.width ≤ 132
       → AreSpelledWithin (28 * differing b g) (changed_cells marks g)
   unfolding changed_cells differing
-  changed_cells_within marks b g are marked w = changed_rows_within marks b g 24 1 are marked (omega arith) (omega arith) w
+  changed_cells_within marks b g are marked w =
+      changed_rows_within marks b g 24 1 are marked (omega arith) (omega arith) w
 
 module _ (grids : GridLaws) (glyphs : GlyphLaws) where
   pub changes_within : (marks : List (List Bool)) (s t : Display) → IsSoundDisplay s → AreChanges marks t s
@@ -136,11 +145,13 @@ module _ (grids : GridLaws) (glyphs : GlyphLaws) where
       (within-append _ _ (margins_item s.margins) _ (margins_item_within s.margins top i.margins.to_last_row)
       (within-append _ _ (private_mode decom s.modes.decom ∷ []) _
       (small_private_mode_within 6 s.modes.decom (omega arith))
-      (within-append _ _ (position_item s) _ (cursor_position_within (line_of_cursor s) s.cursor.col (line_small s i) col)
+      (within-append _ _ (position_item s) _
+      (cursor_position_within (line_of_cursor s) s.cursor.col (line_small s i) col)
       (within-append _ _ (wrap_item s.grid s.cursor) _ (wrap_item_within glyphs s.grid s.cursor are)
       (within-append _ _ (brush_events s.brush) _ (brush_within s.brush)
       (within-append _ _ (sets_events s.sets) _ (sets_within s.sets)
-      (within-append _ _ (every_mode s.modes) _ (every_mode_within s.modes) (shift_item_within s.sets.pending)))))))))))))
+      (within-append _ _ (every_mode s.modes) _ (every_mode_within s.modes)
+      (shift_item_within s.sets.pending)))))))))))))
 
   pub few : (marks : List (List Bool)) (s t : Display) (before : List ℕ) → IsSoundDisplay s → AreChanges marks t s
       → length (before ++ spell_events (change_events marks s)) ≤ length before + 28 * differing t.grid s.grid + 230
@@ -177,6 +188,7 @@ module _ (grids : GridLaws) (glyphs : GlyphLaws) where
           reports =
               reports_of es t.display;
         } in p)
-        (sym (display_after-after_events t.display es) ∙ changes_leaves grids glyphs marks s.display t.display i.display j.display
+        (sym (display_after-after_events t.display es)
+        ∙ changes_leaves grids glyphs marks s.display t.display i.display j.display
         (sound_glyphs grids glyphs s.display i.display) changes)
         ∙ ap (λ q. let p : Played = record { state = s; reports = q } in p) (fine.silent t.display)

@@ -1,5 +1,6 @@
 -- The table of the brushes, entry by entry, by computing.
-use Rattle.std.proofs.Common.{◌≡◌, ◌+◌, ◌-◌, ◌*◌, ◌≤◌, ◌==◌, ◌∷◌, ℕ, Bool, true, false, List, take, slice_index_or, get_or, nat_le, refl, sym, ap, ◌∙◌, arith}
+use Rattle.std.proofs.Common.{◌≡◌, ◌+◌, ◌-◌, ◌*◌, ◌≤◌, ◌==◌, ◌∷◌, ℕ, Bool, true, false, List, take, slice_index_or}
+use Rattle.std.proofs.Common.{get_or, nat_le, refl, sym, ap, ◌∙◌, arith}
 use Rattle.std.specs.List.{range_with_len, list_all}
 use Rattle.std.specs.Cmp.Lexicographic.{pointwise, pointwise_decides}
 use Rattle.std.proofs.lemmas.Bool.Decides.{Decides-eqb}
@@ -24,7 +25,8 @@ brush_with b u k r p = record { rendition = record { bold = b; underline = u; bl
 
 -- the entry is that of the brush, which is spelled from `ESC [ 0` on
 abbrev pub IsEntry : Brush → Type 0
-IsEntry brush = (brush_entry (brush_index brush) ≡ brush_part brush) × (spell_events (brush_events brush) ≡ 0x1B ∷ 0x5B ∷ 0x30 ∷ brush_part brush)
+IsEntry brush = (brush_entry (brush_index brush) ≡ brush_part brush)
+    × (spell_events (brush_events brush) ≡ 0x1B ∷ 0x5B ∷ 0x30 ∷ brush_part brush)
 
 entry_is : (b u k r p : Bool) → IsEntry (brush_with b u k r p)
 unfolding digits brush_events brush_part
@@ -62,7 +64,9 @@ entry_is false true true true true = (refl, refl)
 entry_is true true true true true = (refl, refl)
 
 pub brush_at : (brush : Brush) → IsEntry brush
-brush_at brush = entry_is brush.rendition.bold brush.rendition.underline brush.rendition.blink brush.rendition.reverse brush.protected
+brush_at brush =
+    entry_is brush.rendition.bold brush.rendition.underline brush.rendition.blink brush.rendition.reverse
+    brush.protected
 
 -- ---- rows and columns
 
@@ -78,7 +82,9 @@ unfolding digits row_part
 rows_are = refl
 
 abbrev pub column_entry : ℕ → List ℕ
-column_entry col = take (2 + bool_byte (nat_le 10 col) + bool_byte (nat_le 100 col)) (mid_of (4 * (col - 1)) (4 * (col - 1) + 4 - 4 * (col - 1)) COLUMNS)
+column_entry col =
+    take (2 + bool_byte (nat_le 10 col) + bool_byte (nat_le 100 col))
+    (mid_of (4 * (col - 1)) (4 * (col - 1) + 4 - 4 * (col - 1)) COLUMNS)
 
 columns_are : list_all (λ col. same_bytes (column_entry col) (column_part col)) (range_with_len 1 132) ≡ true
 unfolding digits column_part
@@ -87,12 +93,17 @@ columns_are = refl
 -- a test of a range, at a number of it
 at_number : (p : ℕ → Bool) (n k : ℕ) → list_all p (range_with_len 1 n) ≡ true → 1 ≤ k → k ≤ n → p k ≡ true
 at_number p n k all low high =
-    let here : get_or (range_with_len 1 n) (k - 1) 0 ≡ k = get_or-range_with_len 1 n (k - 1) 0 (omega arith) ∙ omega arith in
-    ap p (sym here) ∙ AllPass-from_list_all p (range_with_len 1 n) all (k - 1) 0 (omega (arith, length-range_with_len 1 n))
+    let here : get_or (range_with_len 1 n) (k - 1) 0 ≡ k =
+    get_or-range_with_len 1 n (k - 1) 0 (omega arith) ∙ omega arith in
+    ap p (sym here)
+    ∙ AllPass-from_list_all p (range_with_len 1 n) all (k - 1) 0 (omega (arith, length-range_with_len 1 n))
 
 pub row_at : (row : ℕ) → 1 ≤ row → row ≤ 24 → row_entry row ≡ row_part row
-row_at row low high = (pointwise_decides Decides-eqb (row_entry row) (row_part row)).0 (at_number (λ row. same_bytes (row_entry row) (row_part row)) 24 row rows_are low high)
+row_at row low high =
+    (pointwise_decides Decides-eqb (row_entry row) (row_part row)).0
+    (at_number (λ row. same_bytes (row_entry row) (row_part row)) 24 row rows_are low high)
 
 pub column_at : (col : ℕ) → 1 ≤ col → col ≤ 132 → column_entry col ≡ column_part col
 column_at col low high =
-    (pointwise_decides Decides-eqb (column_entry col) (column_part col)).0 (at_number (λ col. same_bytes (column_entry col) (column_part col)) 132 col columns_are low high)
+    (pointwise_decides Decides-eqb (column_entry col) (column_part col)).0
+    (at_number (λ col. same_bytes (column_entry col) (column_part col)) 132 col columns_are low high)

@@ -8,19 +8,22 @@ use Rattle.vt_paint.specs.ChangeEvents.{keypad_event, report_form_event, every_m
 use Rattle.vt_paint.proofs.AfterEvents.{display_after}
 use Rattle.vt_paint.proofs.ModeItems.{ansi_mode_sets, private_mode_sets, decawm_sets}
 
-keypad_sets : (on : Bool) (x : Display) → effect (keypad_event on) x ≡ record x { modes = record x.modes { keypad_application = on } }
+keypad_sets : (on : Bool) (x : Display)
+    → effect (keypad_event on) x ≡ record x { modes = record x.modes { keypad_application = on } }
 unfolding plain_escape
 keypad_sets true x = refl
 keypad_sets false x = refl
 
-report_form_sets : (on : Bool) (x : Display) → effect (report_form_event on) x ≡ record x { modes = record x.modes { reports_8bit = on } }
+report_form_sets : (on : Bool) (x : Display)
+    → effect (report_form_event on) x ≡ record x { modes = record x.modes { reports_8bit = on } }
 unfolding escape_with
 report_form_sets true x = refl
 report_form_sets false x = refl
 
 -- one mode, and then the others
 mode_then : (x whole : Display) (event : Event) (rest : List Event) (k n : Modes)
-    → effect event (record x { modes = k }) ≡ record x { modes = n } → display_after (record x { modes = n }) rest ≡ whole
+    → effect event (record x { modes = k }) ≡ record x { modes = n } → display_after (record x { modes = n }) rest
+    ≡ whole
     → display_after (record x { modes = k }) (event ∷ rest) ≡ whole
 unfolding display_after
 mode_then x whole event rest k n sets then = ap (λ y. display_after y rest) sets ∙ then

@@ -1,5 +1,6 @@
 -- The modes and the single shift.
-use Rattle.std.proofs.Common.{◌≡◌, ◌≤◌, ◌<◌, Bool, true, false, ◌&&◌, ℕ, zero, suc, List, [], ◌∷◌, ◌++◌, Option, Some, None}
+use Rattle.std.proofs.Common.{◌≡◌, ◌≤◌, ◌<◌, Bool, true, false, ◌&&◌, ℕ, zero, suc, List, [], ◌∷◌, ◌++◌, Option, Some}
+use Rattle.std.proofs.Common.{None}
 use Rattle.std.proofs.Common.{refl, sym, ap, ◌∙◌, arith}
 use Rattle.std.specs.Prelude.{if◌then◌else◌, unwrap_or}
 use Rattle.std.specs.Option.{ForSome}
@@ -20,15 +21,20 @@ use Rattle.vt_paint.proofs.AfterEvents.{display_after, display_after-then}
 pub ansi_mode_sets : (n : ℕ) (set : Bool → Modes → Modes) → look_up ansi_modes n ≡ Some (λ on. with_modes (set on))
     → (on : Bool) (x : Display) → effect (ansi_mode n on) x ≡ record x { modes = set on x.modes }
 unfolding sequence_in sequences_of with_mode
-ansi_mode_sets n set e true x = ap (λ (change : Option (Bool → Display → Display)). unwrap_or change (λ on s. s) true x) e
-ansi_mode_sets n set e false x = ap (λ (change : Option (Bool → Display → Display)). unwrap_or change (λ on s. s) false x) e
+ansi_mode_sets n set e true x =
+    ap (λ (change : Option (Bool → Display → Display)). unwrap_or change (λ on s. s) true x) e
+ansi_mode_sets n set e false x =
+    ap (λ (change : Option (Bool → Display → Display)). unwrap_or change (λ on s. s) false x) e
 
 -- and so do those of a private mode
-pub private_mode_sets : (n : ℕ) (set : Bool → Modes → Modes) → look_up private_modes n ≡ Some (λ on. with_modes (set on))
+pub private_mode_sets : (n : ℕ) (set : Bool → Modes → Modes)
+    → look_up private_modes n ≡ Some (λ on. with_modes (set on))
     → (on : Bool) (x : Display) → effect (private_mode n on) x ≡ record x { modes = set on x.modes }
 unfolding sequence_in sequences_of with_mode
-private_mode_sets n set e true x = ap (λ (change : Option (Bool → Display → Display)). unwrap_or change (λ on s. s) true x) e
-private_mode_sets n set e false x = ap (λ (change : Option (Bool → Display → Display)). unwrap_or change (λ on s. s) false x) e
+private_mode_sets n set e true x =
+    ap (λ (change : Option (Bool → Display → Display)). unwrap_or change (λ on s. s) true x) e
+private_mode_sets n set e false x =
+    ap (λ (change : Option (Bool → Display → Display)). unwrap_or change (λ on s. s) false x) e
 
 -- DECAWM is reset only where the wrap flag is
 pub decawm_sets : (on : Bool) (x : Display) → (x.cursor.wrap ≡ true → on ≡ true)
@@ -70,17 +76,22 @@ private_mode_leaves : (n : ℕ) (set : Bool → Modes → Modes) → look_up pri
     → display_after x (private_mode_item n was on) ≡ record x { modes = set on x.modes }
 private_mode_leaves n set e x was on = mode_leaves (private_mode n) set x was on (private_mode_sets n set e on x)
 
-keypad_leaves : (x : Display) (v : Bool) → x.modes.keypad_application ≡ false → display_after x (where_true v (application_keypad ∷ [])) ≡ record x { modes = record x.modes { keypad_application = v } }
+keypad_leaves : (x : Display) (v : Bool) → x.modes.keypad_application ≡ false
+    → display_after x (where_true v (application_keypad ∷ []))
+    ≡ record x { modes = record x.modes { keypad_application = v } }
 unfolding display_after plain_escape
 keypad_leaves x true e = refl
 keypad_leaves x false e = ap (λ b. record x { modes = record x.modes { keypad_application = b } }) e
 
-reports_leaves : (x : Display) (v : Bool) → x.modes.reports_8bit ≡ false → display_after x (where_true v (reports_8bit ∷ [])) ≡ record x { modes = record x.modes { reports_8bit = v } }
+reports_leaves : (x : Display) (v : Bool) → x.modes.reports_8bit ≡ false
+    → display_after x (where_true v (reports_8bit ∷ [])) ≡ record x { modes = record x.modes { reports_8bit = v } }
 unfolding display_after escape_with
 reports_leaves x true e = refl
 reports_leaves x false e = ap (λ b. record x { modes = record x.modes { reports_8bit = b } }) e
 
-pub modes_leaves : (x : Display) (m : Modes) → (x.cursor.wrap ≡ true → m.decawm ≡ true) → display_after (record x { modes = record modes_at_power_up { decom = m.decom } }) (modes_item m) ≡ record x { modes = m }
+pub modes_leaves : (x : Display) (m : Modes) → (x.cursor.wrap ≡ true → m.decawm ≡ true)
+    → display_after (record x { modes = record modes_at_power_up { decom = m.decom } }) (modes_item m)
+    ≡ record x { modes = m }
 unfolding modes_item
 modes_leaves x m h =
     let r11 : List Event = where_true m.reports_8bit (reports_8bit ∷ []) in
@@ -107,20 +118,34 @@ modes_leaves x m h =
     let x10 : Display = record x9 { modes = record x9.modes { dectcem = m.dectcem } } in
     let x11 : Display = record x10 { modes = record x10.modes { keypad_application = m.keypad_application } } in
     let whole : Display = record x { modes = m } in
-    display_after-then x0 x1 whole (ansi_mode_item 2 false m.kam) r1 (ansi_mode_leaves 2 (λ on m. record m { kam = on }) refl x0 false m.kam refl)
-    (display_after-then x1 x2 whole (ansi_mode_item 4 false m.irm) r2 (ansi_mode_leaves 4 (λ on m. record m { irm = on }) refl x1 false m.irm refl)
-    (display_after-then x2 x3 whole (ansi_mode_item 12 true m.srm) r3 (ansi_mode_leaves 12 (λ on m. record m { srm = on }) refl x2 true m.srm refl)
-    (display_after-then x3 x4 whole (ansi_mode_item 20 false m.lnm) r4 (ansi_mode_leaves 20 (λ on m. record m { lnm = on }) refl x3 false m.lnm refl)
-    (display_after-then x4 x5 whole (private_mode_item 1 false m.decckm) r5 (private_mode_leaves 1 (λ on m. record m { decckm = on }) refl x4 false m.decckm refl)
-    (display_after-then x5 x6 whole (private_mode_item 4 false m.decsclm) r6 (private_mode_leaves 4 (λ on m. record m { decsclm = on }) refl x5 false m.decsclm refl)
-    (display_after-then x6 x7 whole (private_mode_item 5 false m.decscnm) r7 (private_mode_leaves 5 (λ on m. record m { decscnm = on }) refl x6 false m.decscnm refl)
-    (display_after-then x7 x8 whole (private_mode_item 7 true m.decawm) r8 (mode_leaves (private_mode 7) (λ on m. record m { decawm = on }) x7 true m.decawm (decawm_sets m.decawm x7 h) refl)
-    (display_after-then x8 x9 whole (private_mode_item 8 true m.decarm) r9 (private_mode_leaves 8 (λ on m. record m { decarm = on }) refl x8 true m.decarm refl)
-    (display_after-then x9 x10 whole (private_mode_item 25 true m.dectcem) r10 (private_mode_leaves 25 (λ on m. record m { dectcem = on }) refl x9 true m.dectcem refl)
-    (display_after-then x10 x11 whole (where_true m.keypad_application (application_keypad ∷ [])) r11 (keypad_leaves x10 m.keypad_application refl)
+    display_after-then x0 x1 whole (ansi_mode_item 2 false m.kam) r1
+    (ansi_mode_leaves 2 (λ on m. record m { kam = on }) refl x0 false m.kam refl)
+    (display_after-then x1 x2 whole (ansi_mode_item 4 false m.irm) r2
+    (ansi_mode_leaves 4 (λ on m. record m { irm = on }) refl x1 false m.irm refl)
+    (display_after-then x2 x3 whole (ansi_mode_item 12 true m.srm) r3
+    (ansi_mode_leaves 12 (λ on m. record m { srm = on }) refl x2 true m.srm refl)
+    (display_after-then x3 x4 whole (ansi_mode_item 20 false m.lnm) r4
+    (ansi_mode_leaves 20 (λ on m. record m { lnm = on }) refl x3 false m.lnm refl)
+    (display_after-then x4 x5 whole (private_mode_item 1 false m.decckm) r5
+    (private_mode_leaves 1 (λ on m. record m { decckm = on }) refl x4 false m.decckm refl)
+    (display_after-then x5 x6 whole (private_mode_item 4 false m.decsclm) r6
+    (private_mode_leaves 4 (λ on m. record m { decsclm = on }) refl x5 false m.decsclm refl)
+    (display_after-then x6 x7 whole (private_mode_item 5 false m.decscnm) r7
+    (private_mode_leaves 5 (λ on m. record m { decscnm = on }) refl x6 false m.decscnm refl)
+    (display_after-then x7 x8 whole (private_mode_item 7 true m.decawm) r8
+    (mode_leaves (private_mode 7) (λ on m. record m { decawm = on }) x7 true m.decawm
+    (decawm_sets m.decawm x7 h) refl)
+    (display_after-then x8 x9 whole (private_mode_item 8 true m.decarm) r9
+    (private_mode_leaves 8 (λ on m. record m { decarm = on }) refl x8 true m.decarm refl)
+    (display_after-then x9 x10 whole (private_mode_item 25 true m.dectcem) r10
+    (private_mode_leaves 25 (λ on m. record m { dectcem = on }) refl x9 true m.dectcem refl)
+    (display_after-then x10 x11 whole (where_true m.keypad_application (application_keypad ∷ [])) r11
+    (keypad_leaves x10 m.keypad_application refl)
     (reports_leaves x11 m.reports_8bit refl)))))))))))
 
-pub shift_leaves : (x : Display) (pending : Option ℕ) → ForSome pending (λ slot. (2 ≤ slot) × (slot < 4)) → x.sets.pending ≡ None → display_after x (shift_item pending) ≡ record x { sets = record x.sets { pending = pending } }
+pub shift_leaves : (x : Display) (pending : Option ℕ) → ForSome pending (λ slot. (2 ≤ slot) × (slot < 4))
+    → x.sets.pending ≡ None → display_after x (shift_item pending)
+    ≡ record x { sets = record x.sets { pending = pending } }
 unfolding display_after shift_item control
 shift_leaves x None sound e = ap (λ p. record x { sets = record x.sets { pending = p } }) e
 shift_leaves x (Some zero) sound e = absurd (omega (arith, sound zero refl))

@@ -1,5 +1,6 @@
 -- One more piece, one more row, one more stop.
-use Rattle.std.proofs.Common.{length, ◌≡◌, ◌≤◌, ◌<◌, ◌+◌, ◌-◌, ℕ, zero, suc, Bool, true, false, List, [], ◌∷◌, ◌++◌, get_or, None, refl, sym, ap, ◌∙◌, arith, append-nil, append_assoc, ◌||◌, ◌&&◌, not, cond}
+use Rattle.std.proofs.Common.{length, ◌≡◌, ◌≤◌, ◌<◌, ◌+◌, ◌-◌, ℕ, zero, suc, Bool, true, false, List, [], ◌∷◌, ◌++◌}
+use Rattle.std.proofs.Common.{get_or, None, refl, sym, ap, ◌∙◌, arith, append-nil, append_assoc, ◌||◌, ◌&&◌, not, cond}
 use Rattle.std.specs.List.{range_with_len, flat_map, list_all}
 use Rattle.std.proofs.lemmas.Grind.{flat_map-append}
 use Rattle.std.proofs.lemmas.List.Folds.{list_all-append}
@@ -21,7 +22,8 @@ range-suc : (a n : ℕ) → range_with_len a (suc n) ≡ range_with_len a n ++ (
 range-suc a zero = let e : a ≡ a + 0 = omega arith in ap (λ (m : ℕ). let ms : List ℕ = m ∷ [] in ms) e
 range-suc a (suc n) =
     let e : a + 1 + n ≡ a + suc n = omega arith in
-    ap (λ (ms : List ℕ). let all : List ℕ = a ∷ ms in all) (range-suc (a + 1) n ∙ ap (λ m. range_with_len (a + 1) n ++ m ∷ []) e)
+    ap (λ (ms : List ℕ). let all : List ℕ = a ∷ ms in
+    all) (range-suc (a + 1) n ∙ ap (λ m. range_with_len (a + 1) n ++ m ∷ []) e)
 
 pub range-more : (a n : ℕ) → range_with_len a (n + 1) ≡ range_with_len a n ++ (a + n) ∷ []
 range-more a n = let e : n + 1 ≡ suc n = omega arith in ap (λ m. range_with_len a m) e ∙ range-suc a n
@@ -30,7 +32,8 @@ range-more a n = let e : n + 1 ≡ suc n = omega arith in ap (λ m. range_with_l
 abbrev pub spelled_from : (ℕ → List Event) → ℕ → ℕ → List ℕ
 spelled_from f a n = spell_events (flat_map f (range_with_len a n))
 
-pub spelled_from-more : (f : ℕ → List Event) (a n m : ℕ) → a + n ≡ m → spelled_from f a (n + 1) ≡ spelled_from f a n ++ spell_events (f m)
+pub spelled_from-more : (f : ℕ → List Event) (a n m : ℕ) → a + n ≡ m
+    → spelled_from f a (n + 1) ≡ spelled_from f a n ++ spell_events (f m)
 spelled_from-more f a n m e =
     ap (λ ms. spell_events (flat_map f ms)) (range-more a n ∙ ap (λ k. range_with_len a n ++ k ∷ []) e)
     ∙ ap (λ es. spell_events es) (flat_map-append f (range_with_len a n) (m ∷ []))
@@ -38,7 +41,8 @@ spelled_from-more f a n m e =
     ∙ ap (λ es. spelled_from f a n ++ spell_events es) (append-nil (f m))
 
 -- the events of one more number are appended
-pub appended-more : (f : ℕ → List Event) (a n m : ℕ) (es : List Event) (old before after : List ℕ) → a + n ≡ m → before ≡ old ++ spelled_from f a n → after ≡ before ++ spell_events es → es ≡ f m
+pub appended-more : (f : ℕ → List Event) (a n m : ℕ) (es : List Event) (old before after : List ℕ) → a + n ≡ m
+    → before ≡ old ++ spelled_from f a n → after ≡ before ++ spell_events es → es ≡ f m
     → after ≡ old ++ spelled_from f a (n + 1)
 appended-more f a n m es old before after e h k is =
     k
@@ -51,18 +55,22 @@ and_true : (b : Bool) → (b && true) ≡ b
 and_true true = refl
 and_true false = refl
 
-all-suc : (p : ℕ → Bool) (a n m : ℕ) → a + n ≡ m → list_all p (range_with_len a (n + 1)) ≡ (list_all p (range_with_len a n) && p m)
+all-suc : (p : ℕ → Bool) (a n m : ℕ) → a + n ≡ m → list_all p (range_with_len a (n + 1))
+    ≡ (list_all p (range_with_len a n) && p m)
 all-suc p a n m e =
     ap (λ ms. list_all p ms) (range-more a n ∙ ap (λ k. range_with_len a n ++ k ∷ []) e)
     ∙ list_all-append p (range_with_len a n) (m ∷ [])
     ∙ ap (λ b. list_all p (range_with_len a n) && b) (and_true (p m))
 
 -- a cell of a row
-pub cell-is : ((g : Grid) (r c : ℕ) (d : Cell) → 1 ≤ c → c ≤ g.width → get_or (row_of g r) (c - 1) d ≡ cell_at g r c) → ((g : Grid) (r : ℕ) → length (row_of g r) ≡ g.width)
-    → (g : Grid) (r i : ℕ) (cells : List Cell) (x : Cell) → cells ≡ row_of g r → i < length cells → x ≡ get_or cells i x → x ≡ cell_at g r (i + 1)
+pub cell-is : ((g : Grid) (r c : ℕ) (d : Cell) → 1 ≤ c → c ≤ g.width → get_or (row_of g r) (c - 1) d ≡ cell_at g r c)
+    → ((g : Grid) (r : ℕ) → length (row_of g r) ≡ g.width)
+    → (g : Grid) (r i : ℕ) (cells : List Cell) (x : Cell) → cells ≡ row_of g r → i < length cells
+    → x ≡ get_or cells i x → x ≡ cell_at g r (i + 1)
 cell-is law long g r i cells x h l is =
     let back : i ≡ i + 1 - 1 = omega arith in
-    is ∙ ap (λ xs. get_or xs i x) h ∙ ap (λ n. get_or (row_of g r) n x) back ∙ law g r (i + 1) x (omega arith) (omega (arith, long g r, ap length h))
+    is ∙ ap (λ xs. get_or xs i x) h ∙ ap (λ n. get_or (row_of g r) n x) back
+    ∙ law g r (i + 1) x (omega arith) (omega (arith, long g r, ap length h))
 
 -- ---- one item after another
 
@@ -70,7 +78,8 @@ cell-is law long g r i cells x h l is =
 pub record Appends (old new : List ℕ) (es : List Event) : Type 0 where
   pub is : new ≡ old ++ spell_events es
 
-pub then_events : {old mid new : List ℕ} {es fs : List Event} → Appends old mid es → Appends mid new fs → Appends old new (es ++ fs)
+pub then_events : {old mid new : List ℕ} {es fs : List Event} → Appends old mid es → Appends mid new fs
+    → Appends old new (es ++ fs)
 then_events {old} {mid} {new} {es} {fs} h k = record {
   is =
       k.is
@@ -80,7 +89,8 @@ then_events {old} {mid} {new} {es} {fs} h k = record {
 }
 
 -- two items were appended at once
-pub then_both : {old mid new : List ℕ} {gs : List Event} (es fs : List Event) → Appends old mid (es ++ fs) → Appends mid new gs → Appends old new (es ++ (fs ++ gs))
+pub then_both : {old mid new : List ℕ} {gs : List Event} (es fs : List Event) → Appends old mid (es ++ fs)
+    → Appends mid new gs → Appends old new (es ++ (fs ++ gs))
 then_both {old} {mid} {new} {gs} es fs h k =
     record { is = (then_events h k).is ∙ ap (λ (xs : List Event). old ++ spell_events xs) (append_assoc es fs gs) }
 
@@ -91,11 +101,13 @@ pub event : {old new : List ℕ} (e : Event) → new ≡ old ++ spell_event e �
 event {old} {new} e h = record { is = h ∙ ap (λ (xs : List ℕ). old ++ xs) (sym (append-nil (spell_event e))) }
 
 -- events whose spelling is these bytes
-pub bytes_of : {old new : List ℕ} (es : List Event) (bytes : List ℕ) → spell_events es ≡ bytes → new ≡ old ++ bytes → Appends old new es
+pub bytes_of : {old new : List ℕ} (es : List Event) (bytes : List ℕ) → spell_events es ≡ bytes → new ≡ old ++ bytes
+    → Appends old new es
 bytes_of {old} {new} es bytes is h = record { is = h ∙ ap (λ (xs : List ℕ). old ++ xs) (sym is) }
 
 -- where a test passes
-pub bytes_where : {old new : List ℕ} (b : Bool) (es : List Event) → new ≡ old ++ where_true b (spell_events es) → Appends old new (where_true b es)
+pub bytes_where : {old new : List ℕ} (b : Bool) (es : List Event) → new ≡ old ++ where_true b (spell_events es)
+    → Appends old new (where_true b es)
 bytes_where {old} {new} b es h = record { is = go b h }
   where
     go : (b : Bool) → new ≡ old ++ where_true b (spell_events es) → new ≡ old ++ spell_events (where_true b es)
@@ -114,15 +126,18 @@ sets_events-same g left right t a b c = rw (a, b, c) refl
 
 -- ---- rows, behind the sets of the spellings from the first that shows something
 
-row_shown : (before after is_row_blank : Bool) (old mid new : List ℕ) (sets rows row : List Event) → after ≡ (before || not is_row_blank) → (before ≡ false → rows ≡ [])
-    → mid ≡ old ++ spell_events (where_true before (sets ++ rows)) → new ≡ mid ++ spell_events (where_true after (where_true (not before) sets ++ row))
+row_shown : (before after is_row_blank : Bool) (old mid new : List ℕ) (sets rows row : List Event)
+    → after ≡ (before || not is_row_blank) → (before ≡ false → rows ≡ [])
+    → mid ≡ old ++ spell_events (where_true before (sets ++ rows))
+    → new ≡ mid ++ spell_events (where_true after (where_true (not before) sets ++ row))
     → new ≡ old ++ spell_events (where_true after (sets ++ (rows ++ row)))
 row_shown true after is_row_blank old mid new sets rows row e none h k =
     k
     ∙ ap (λ b. mid ++ spell_events (where_true b row)) e
     ∙ ap (λ (xs : List ℕ). xs ++ spell_events row) h
     ∙ append_assoc old (spell_events (sets ++ rows)) (spell_events row)
-    ∙ ap (λ (xs : List ℕ). old ++ xs) (sym (flat_map-append spell_event (sets ++ rows) row) ∙ ap (λ (es : List Event). spell_events es) (append_assoc sets rows row))
+    ∙ ap (λ (xs : List ℕ). old ++ xs) (sym (flat_map-append spell_event (sets ++ rows) row)
+    ∙ ap (λ (es : List Event). spell_events es) (append_assoc sets rows row))
     ∙ ap (λ b. old ++ spell_events (where_true b (sets ++ (rows ++ row)))) (sym e)
 row_shown false after true old mid new sets rows row e none h k =
     k
@@ -142,14 +157,17 @@ blank_piece : (r c : ℕ) (left cell : Cell) → is_blank cell ≡ true → piec
 unfolding piece_of
 blank_piece r c left cell h = ap (λ b. where_true (not b) (header r c left cell ++ glyph_events cell)) h
 
-blank_pieces : (g : Grid) (r n c : ℕ) → ((j : ℕ) → c ≤ j → j < c + n → is_blank (cell_at g r j) ≡ true) → pieces_from g r c n ≡ []
+blank_pieces : (g : Grid) (r n c : ℕ) → ((j : ℕ) → c ≤ j → j < c + n → is_blank (cell_at g r j) ≡ true)
+    → pieces_from g r c n ≡ []
 blank_pieces g r zero c h = refl
 blank_pieces g r (suc n) c h =
-    ap (λ es. es ++ pieces_from g r (c + 1) n) (blank_piece r c (left_of g r c) (cell_at g r c) (h c (omega arith) (omega arith)))
+    ap (λ es. es ++ pieces_from g r (c + 1) n)
+    (blank_piece r c (left_of g r c) (cell_at g r c) (h c (omega arith) (omega arith)))
     ∙ blank_pieces g r n (c + 1) (λ j l k. h j (omega arith) (omega arith))
 
 -- the pieces of n rows that are blank are empty
-blank_rows : (g : Grid) (n r : ℕ) → ((i j : ℕ) → r ≤ i → i < r + n → 1 ≤ j → j < 1 + g.width → is_blank (cell_at g i j) ≡ true) → rows_from g r n ≡ []
+blank_rows : (g : Grid) (n r : ℕ)
+    → ((i j : ℕ) → r ≤ i → i < r + n → 1 ≤ j → j < 1 + g.width → is_blank (cell_at g i j) ≡ true) → rows_from g r n ≡ []
 blank_rows g zero r h = refl
 blank_rows g (suc n) r h =
     ap (λ es. es ++ rows_from g (r + 1) n) (blank_pieces g r g.width 1 (λ j l k. h r j (omega arith) (omega arith) l k))
@@ -178,32 +196,45 @@ more_shown false false b s h = ap (λ x. x || not b) h
 abbrev pub are_blank : Grid → ℕ → Bool
 are_blank g n = list_all (λ r. list_all is_blank (row_of g r)) (range_with_len 1 n)
 
-pub shown-more : (g : Grid) (w before after : Bool) (n r : ℕ) → 1 + n ≡ r → before ≡ (w || not (are_blank g n)) → after ≡ (before || not (list_all is_blank (row_of g r))) → after ≡ (w || not (are_blank g (n + 1)))
+pub shown-more : (g : Grid) (w before after : Bool) (n r : ℕ) → 1 + n ≡ r → before ≡ (w || not (are_blank g n))
+    → after ≡ (before || not (list_all is_blank (row_of g r))) → after ≡ (w || not (are_blank g (n + 1)))
 shown-more g w before after n r e h k =
-    k ∙ more_shown w (are_blank g n) (list_all is_blank (row_of g r)) before h ∙ ap (λ b. w || not b) (sym (all-suc (λ r. list_all is_blank (row_of g r)) 1 n r e))
+    k ∙ more_shown w (are_blank g n) (list_all is_blank (row_of g r)) before h
+    ∙ ap (λ b. w || not b) (sym (all-suc (λ r. list_all is_blank (row_of g r)) 1 n r e))
 
-all_pass : {A : Type 0} (p : A → Bool) (xs : List A) (k : ℕ) (d : A) → k < length xs → list_all p xs ≡ true → p (get_or xs k d) ≡ true
+all_pass : {A : Type 0} (p : A → Bool) (xs : List A) (k : ℕ) (d : A) → k < length xs → list_all p xs ≡ true
+    → p (get_or xs k d) ≡ true
 all_pass p xs k d h e = AllPass-from_list_all p xs e k d h
 
-module _ (row_cell : (g : Grid) (r c : ℕ) (d : Cell) → 1 ≤ c → c ≤ g.width → get_or (row_of g r) (c - 1) d ≡ cell_at g r c) (row_length : (g : Grid) (r : ℕ) → length (row_of g r) ≡ g.width) where
-  blank_at : (g : Grid) (n i j : ℕ) → are_blank g n ≡ true → 1 ≤ i → i < 1 + n → 1 ≤ j → j < 1 + g.width → is_blank (cell_at g i j) ≡ true
+module _ (row_cell : (g : Grid) (r c : ℕ) (d : Cell) → 1 ≤ c → c ≤ g.width
+    → get_or (row_of g r) (c - 1) d ≡ cell_at g r c) (row_length : (g : Grid) (r : ℕ)
+    → length (row_of g r) ≡ g.width) where
+  blank_at : (g : Grid) (n i j : ℕ) → are_blank g n ≡ true → 1 ≤ i → i < 1 + n → 1 ≤ j → j < 1 + g.width
+      → is_blank (cell_at g i j) ≡ true
   blank_at g n i j h i1 inn j1 jw =
-      let row = all_pass (λ r. list_all is_blank (row_of g r)) (range_with_len 1 n) (i - 1) 0 (omega (arith, length-range_with_len 1 n)) h in
-      let at : get_or (range_with_len 1 n) (i - 1) 0 ≡ i = get_or-range_with_len 1 n (i - 1) 0 (omega arith) ∙ omega arith in
+      let row = all_pass (λ r. list_all is_blank (row_of g r)) (range_with_len 1 n) (i - 1) 0
+      (omega (arith, length-range_with_len 1 n)) h in
+      let at : get_or (range_with_len 1 n) (i - 1) 0 ≡ i =
+      get_or-range_with_len 1 n (i - 1) 0 (omega arith) ∙ omega arith in
       let here : list_all is_blank (row_of g i) ≡ true = ap (λ r. list_all is_blank (row_of g r)) (sym at) ∙ row in
-      ap (λ cell. is_blank cell) (sym (row_cell g i j blank j1 (omega arith))) ∙ all_pass is_blank (row_of g i) (j - 1) blank (omega (arith, row_length g i)) here
+      ap (λ cell. is_blank cell) (sym (row_cell g i j blank j1 (omega arith)))
+      ∙ all_pass is_blank (row_of g i) (j - 1) blank (omega (arith, row_length g i)) here
 
   -- where nothing is shown, the pieces are empty
-  nothing_shown : (g : Grid) (w before : Bool) (n : ℕ) → before ≡ (w || not (are_blank g n)) → before ≡ false → rows_from g 1 n ≡ []
+  nothing_shown : (g : Grid) (w before : Bool) (n : ℕ) → before ≡ (w || not (are_blank g n)) → before ≡ false
+      → rows_from g 1 n ≡ []
   nothing_shown g w before n h none =
       let all = not_false (are_blank g n) (or_false w (not (are_blank g n)) (sym h ∙ none)) in
       blank_rows g n 1 (λ i j a b l k. blank_at g n i j all a b l k)
 
-  pub rows_shown : (g : Grid) (w before after : Bool) (n r : ℕ) (old mid new : List ℕ) (sets : List Event) → 1 + n ≡ r → before ≡ (w || not (are_blank g n)) → after ≡ (before || not (list_all is_blank (row_of g r)))
-      → mid ≡ old ++ spell_events (where_true before (sets ++ rows_from g 1 n)) → new ≡ mid ++ spell_events (where_true after (where_true (not before) sets ++ row_pieces g r))
+  pub rows_shown : (g : Grid) (w before after : Bool) (n r : ℕ) (old mid new : List ℕ) (sets : List Event) → 1 + n ≡ r
+      → before ≡ (w || not (are_blank g n)) → after ≡ (before || not (list_all is_blank (row_of g r)))
+      → mid ≡ old ++ spell_events (where_true before (sets ++ rows_from g 1 n))
+      → new ≡ mid ++ spell_events (where_true after (where_true (not before) sets ++ row_pieces g r))
       → new ≡ old ++ spell_events (where_true after (sets ++ rows_from g 1 (n + 1)))
   rows_shown g w before after n r old mid new sets e h k before_is after_is =
-      row_shown before after (list_all is_blank (row_of g r)) old mid new sets (rows_from g 1 n) (row_pieces g r) k (nothing_shown g w before n h) before_is after_is
+      row_shown before after (list_all is_blank (row_of g r)) old mid new sets (rows_from g 1 n) (row_pieces g r) k
+      (nothing_shown g w before n h) before_is after_is
       ∙ ap (λ es. old ++ spell_events (where_true after (sets ++ es))) (rows-more g n r e)
 
 pub shown-unless : (w b : Bool) (es : List Event) → where_true (w || not b) es ≡ cond (b && not w) [] es

@@ -1,5 +1,6 @@
 -- The whole repaint: its events are fine, and they make the display.
-use Rattle.std.proofs.Common.{◌≡◌, Bool, true, false, not, cond, eqb, ◌&&◌, ℕ, zero, suc, ◌+◌, ◌-◌, ◌*◌, ◌≤◌, ◌<◌, List, [], ◌∷◌, ◌++◌, length, Option, Some, None, refl, sym, ap, subst, ◌∙◌, arith}
+use Rattle.std.proofs.Common.{◌≡◌, Bool, true, false, not, cond, eqb, ◌&&◌, ℕ, zero, suc, ◌+◌, ◌-◌, ◌*◌, ◌≤◌, ◌<◌, List}
+use Rattle.std.proofs.Common.{[], ◌∷◌, ◌++◌, length, Option, Some, None, refl, sym, ap, subst, ◌∙◌, arith}
 use Rattle.std.specs.Cmp.Lexicographic.{pointwise}
 use Rattle.std.specs.Str.{IsAscii}
 use Rattle.vt_syntax.specs.declared.event.Event.{Event}
@@ -17,46 +18,66 @@ use Rattle.vt_term.specs.declared.state.Cursor.{Cursor}
 use Rattle.vt_term.specs.declared.state.Margins.{Margins}
 use Rattle.vt_term.specs.declared.state.Modes.{Modes}
 use Rattle.vt_term.specs.declared.state.Saved.{Saved}
-use Rattle.vt_term.specs.State.{Display, State, last_column, at_place, full_margins, saved_sets, saved_at_power_up, stops_at_power_up, modes_at_power_up, display_at_power_up, has_stop_at}
+use Rattle.vt_term.specs.State.{Display, State, last_column, at_place, full_margins, saved_sets, saved_at_power_up}
+use Rattle.vt_term.specs.State.{stops_at_power_up, modes_at_power_up, display_at_power_up, has_stop_at}
 use Rattle.vt_term.specs.Sound.{IsPlace, IsSoundDisplay, IsSound}
 use Rattle.vt_term.specs.Reports.{line_of_cursor}
 use Rattle.vt_term.specs.Play.{Played, after_events, reports_of, play}
 use Rattle.vt_paint.specs.Same.{same_bool, same_saved, is_blank}
-use Rattle.vt_paint.specs.Controls.{where_true, private_mode, deccolm, cursor_position, clear_all_tabs, set_tab, save_cursor, shift_to_2, shift_to_3, brush_events, sets_events, spelling_sets_events}
-use Rattle.vt_paint.specs.Pieces.{left_of, needs_header, header, glyph_events, piece_of, piece, pieces_from, row_pieces, rows_from, pieces, is_blank_grid}
-use Rattle.vt_paint.specs.Items.{reset_item, stop_events, stops_from, is_wide, made_stops, stops_item, saved_events, saved_item, cells_item, margins_item, origin_item, position_item, wrap_item, ansi_mode_item, private_mode_item, modes_item, shift_item}
+use Rattle.vt_paint.specs.Controls.{where_true, private_mode, deccolm, cursor_position, clear_all_tabs, set_tab}
+use Rattle.vt_paint.specs.Controls.{save_cursor, shift_to_2, shift_to_3, brush_events, sets_events}
+use Rattle.vt_paint.specs.Controls.{spelling_sets_events}
+use Rattle.vt_paint.specs.Pieces.{left_of, needs_header, header, glyph_events, piece_of, piece, pieces_from, row_pieces}
+use Rattle.vt_paint.specs.Pieces.{rows_from, pieces, is_blank_grid}
+use Rattle.vt_paint.specs.Items.{reset_item, stop_events, stops_from, is_wide, made_stops, stops_item, saved_events}
+use Rattle.vt_paint.specs.Items.{saved_item, cells_item, margins_item, origin_item, position_item, wrap_item}
+use Rattle.vt_paint.specs.Items.{ansi_mode_item, private_mode_item, modes_item, shift_item}
 use Rattle.vt_paint.specs.Repaint.{repaint_events, paint}
 use Rattle.vt_paint.proofs.LowerLaws.{GridLaws, GlyphLaws}
 use Rattle.vt_paint.proofs.AfterEvents.{display_after, display_after-then, display_after-after_events}
-use Rattle.vt_paint.proofs.Within.{AreSpelledWithin, within-append, within-upto, within-none, within-where, within-unless, within-if, cursor_position_within, margins_to_within, clear_within, column_within, ansi_mode_within, private_mode_within, brush_within, set_tab_within, shift_to_2_within, shift_to_3_within, reset_within, save_within, keypad_within, reports_within, print_within, sets_within, spelling_sets_within, spelling_within}
+use Rattle.vt_paint.proofs.Within.{AreSpelledWithin, within-append, within-upto, within-none, within-where}
+use Rattle.vt_paint.proofs.Within.{within-unless, within-if, cursor_position_within, margins_to_within, clear_within}
+use Rattle.vt_paint.proofs.Within.{column_within, ansi_mode_within, private_mode_within, brush_within, set_tab_within}
+use Rattle.vt_paint.proofs.Within.{shift_to_2_within, shift_to_3_within, reset_within, save_within, keypad_within}
+use Rattle.vt_paint.proofs.Within.{reports_within, print_within, sets_within, spelling_sets_within, spelling_within}
 use Rattle.vt_paint.proofs.Painting.{AreGlyphs}
 use Rattle.vt_paint.proofs.Stops.{with_stops, reset_leaves, stops_leaves}
 use Rattle.vt_paint.proofs.SavedRecord.{with_saved, saved_leaves}
-use Rattle.vt_paint.proofs.Chain.{part, cells_leaves, margins_leaves, origin_leaves, position_leaves, wrap_leaves, end_leaves}
+use Rattle.vt_paint.proofs.Chain.{part, cells_leaves, margins_leaves, origin_leaves, position_leaves, wrap_leaves}
+use Rattle.vt_paint.proofs.Chain.{end_leaves}
 
 -- ---- the items are fine
 
 stop_within : (stops : List Bool) (c : ℕ) → c ≤ 132 → AreSpelledWithin 10 (stop_events stops c)
 unfolding stop_events
-stop_within stops c h = within-where 10 (has_stop_at stops c) (cursor_position 1 c ∷ set_tab ∷ []) (within-append 8 2 _ _ (column_within c h) set_tab_within)
+stop_within stops c h =
+    within-where 10 (has_stop_at stops c) (cursor_position 1 c ∷ set_tab ∷ [])
+    (within-append 8 2 _ _ (column_within c h) set_tab_within)
 
 stops_from_within : (stops : List Bool) (n c : ℕ) → c + n ≤ 133 → AreSpelledWithin (10 * n) (stops_from stops c n)
 stops_from_within stops zero c h = within-none
 stops_from_within stops (suc n) c h =
     within-upto (10 + 10 * n) (10 * suc n) _ (omega arith)
-    (within-append 10 (10 * n) (stop_events stops c) (stops_from stops (c + 1) n) (stop_within stops c (omega arith)) (stops_from_within stops n (c + 1) (omega arith)))
+    (within-append 10 (10 * n) (stop_events stops c) (stops_from stops (c + 1) n) (stop_within stops c (omega arith))
+    (stops_from_within stops n (c + 1) (omega arith)))
 
 stops_item_within : (width : ℕ) (stops : List Bool) → AreSpelledWithin 1336 (stops_item width stops)
 unfolding stops_item made_stops
 stops_item_within width stops = go (pointwise same_bool stops stops_at_power_up)
   where
-    go : (b : Bool) → AreSpelledWithin 1336 (cond b (where_true (is_wide width) (private_mode deccolm true ∷ [])) (private_mode deccolm true ∷ clear_all_tabs ∷ (stops_from stops 1 132 ++ where_true (not (is_wide width)) (private_mode deccolm false ∷ []))))
-    go true = within-where 1336 (is_wide width) _ (within-upto 6 1336 _ (omega arith) (private_mode_within 3 true (omega arith)))
+    go : (b : Bool)
+        → AreSpelledWithin 1336
+        (cond b (where_true (is_wide width) (private_mode deccolm true ∷ []))
+        (private_mode deccolm true ∷ clear_all_tabs
+        ∷ (stops_from stops 1 132 ++ where_true (not (is_wide width)) (private_mode deccolm false ∷ []))))
+    go true = within-where 1336 (is_wide width) _
+        (within-upto 6 1336 _ (omega arith) (private_mode_within 3 true (omega arith)))
     go false =
         within-upto _ 1336 _ (omega arith)
         (within-append _ _ (private_mode deccolm true ∷ []) _ (private_mode_within 3 true (omega arith))
         (within-append _ _ (clear_all_tabs ∷ []) _ clear_within
-        (within-append _ _ (stops_from stops 1 132) _ (stops_from_within stops 132 1 (omega arith)) (within-where 6 (not (is_wide width)) _ (private_mode_within 3 false (omega arith))))))
+        (within-append _ _ (stops_from stops 1 132) _ (stops_from_within stops 132 1 (omega arith))
+        (within-where 6 (not (is_wide width)) _ (private_mode_within 3 false (omega arith))))))
 
 saved_item_within : (saved : Saved) → saved.row ≤ 24 → saved.col ≤ 132 → AreSpelledWithin 57 (saved_item saved)
 unfolding saved_item saved_events
@@ -68,7 +89,8 @@ saved_item_within saved h k =
     (within-append _ _ _ _ (within-where 1 saved.wrap _ (print_within 0x20 (omega arith) (omega arith)))
     (within-append _ _ _ _ (brush_within saved.brush)
     (within-append _ _ _ _ (sets_within (saved_sets saved))
-    (within-append _ _ (save_cursor ∷ []) _ save_within (within-where 6 saved.origin _ (private_mode_within 6 false (omega arith))))))))))
+    (within-append _ _ (save_cursor ∷ []) _ save_within
+    (within-where 6 saved.origin _ (private_mode_within 6 false (omega arith))))))))))
 
 module _ (glyphs : GlyphLaws) where
   pub glyph_within : (cell : Cell) → IsGlyph cell.glyph → AreSpelledWithin 3 (glyph_events cell)
@@ -78,32 +100,46 @@ module _ (glyphs : GlyphLaws) where
   piece_within : (g : Grid) (r c : ℕ) → AreGlyphs g → r ≤ 24 → c ≤ 132 → AreSpelledWithin 29 (piece g r c)
   unfolding piece_of header
   piece_within g r c are h k =
-      within-where 29 (not (is_blank (cell_at g r c))) (header r c (left_of g r c) (cell_at g r c) ++ glyph_events (cell_at g r c))
-      (within-append 26 3 _ _ (within-where 26 (needs_header (left_of g r c) (cell_at g r c)) _ (within-append 9 17 (cursor_position r c ∷ []) _ (cursor_position_within r c h k) (brush_within (brush_of (cell_at g r c)))))
+      within-where 29 (not (is_blank (cell_at g r c)))
+      (header r c (left_of g r c) (cell_at g r c) ++ glyph_events (cell_at g r c))
+      (within-append 26 3 _ _
+      (within-where 26 (needs_header (left_of g r c) (cell_at g r c)) _
+      (within-append 9 17 (cursor_position r c ∷ []) _ (cursor_position_within r c h k)
+      (brush_within (brush_of (cell_at g r c)))))
       (glyph_within (cell_at g r c) (are r c)))
 
-  pieces_from_within : (g : Grid) (r n c : ℕ) → AreGlyphs g → r ≤ 24 → c + n ≤ 133 → AreSpelledWithin (29 * n) (pieces_from g r c n)
+  pieces_from_within : (g : Grid) (r n c : ℕ) → AreGlyphs g → r ≤ 24 → c + n ≤ 133
+      → AreSpelledWithin (29 * n) (pieces_from g r c n)
   pieces_from_within g r zero c are h k = within-none
   pieces_from_within g r (suc n) c are h k =
       within-upto (29 + 29 * n) (29 * suc n) _ (omega arith)
-      (within-append 29 (29 * n) (piece g r c) (pieces_from g r (c + 1) n) (piece_within g r c are h (omega arith)) (pieces_from_within g r n (c + 1) are h (omega arith)))
+      (within-append 29 (29 * n) (piece g r c) (pieces_from g r (c + 1) n) (piece_within g r c are h (omega arith))
+      (pieces_from_within g r n (c + 1) are h (omega arith)))
 
-  rows_from_within : (g : Grid) (n r : ℕ) → AreGlyphs g → g.width ≤ 132 → r + n ≤ 25 → AreSpelledWithin (3828 * n) (rows_from g r n)
+  rows_from_within : (g : Grid) (n r : ℕ) → AreGlyphs g → g.width ≤ 132 → r + n ≤ 25
+      → AreSpelledWithin (3828 * n) (rows_from g r n)
   rows_from_within g zero r are w h = within-none
   rows_from_within g (suc n) r are w h =
       within-upto (3828 + 3828 * n) (3828 * suc n) _ (omega arith)
       (within-append 3828 (3828 * n) (row_pieces g r) (rows_from g (r + 1) n)
-      (within-upto (29 * g.width) 3828 _ (omega arith) (pieces_from_within g r g.width 1 are (omega arith) (omega arith)))
+      (within-upto (29 * g.width) 3828 _ (omega arith)
+      (pieces_from_within g r g.width 1 are (omega arith) (omega arith)))
       (rows_from_within g n (r + 1) are w (omega arith)))
 
-  cells_item_within : (g : Grid) (wrap : Bool) → AreGlyphs g → g.width ≤ 132 → AreSpelledWithin 91883 (cells_item g wrap)
+  cells_item_within : (g : Grid) (wrap : Bool) → AreGlyphs g → g.width ≤ 132
+      → AreSpelledWithin 91883 (cells_item g wrap)
   unfolding cells_item pieces
-  cells_item_within g wrap are w = within-unless 91883 (is_blank_grid g && not wrap) (spelling_sets_events ++ pieces g) (within-append 11 91872 _ _ (within-upto 10 11 _ (omega arith) spelling_sets_within) (rows_from_within g 24 1 are w (omega arith)))
+  cells_item_within g wrap are w =
+      within-unless 91883 (is_blank_grid g && not wrap) (spelling_sets_events ++ pieces g)
+      (within-append 11 91872 _ _ (within-upto 10 11 _ (omega arith) spelling_sets_within)
+      (rows_from_within g 24 1 are w (omega arith)))
 
   pub wrap_item_within : (g : Grid) (cursor : Cursor) → AreGlyphs g → AreSpelledWithin 20 (wrap_item g cursor)
   unfolding wrap_item
   wrap_item_within g cursor are =
-      within-where 20 cursor.wrap _ (within-append 17 3 _ _ (brush_within (brush_of (cell_at g cursor.row cursor.col))) (glyph_within (cell_at g cursor.row cursor.col) (are cursor.row cursor.col)))
+      within-where 20 cursor.wrap _
+      (within-append 17 3 _ _ (brush_within (brush_of (cell_at g cursor.row cursor.col)))
+      (glyph_within (cell_at g cursor.row cursor.col) (are cursor.row cursor.col)))
 
 pub margins_item_within : (m : Margins) → m.top ≤ 24 → m.bottom ≤ 24 → AreSpelledWithin 8 (margins_item m)
 unfolding margins_item
@@ -140,7 +176,8 @@ modes_item_within m =
     (within-append _ _ _ _ (private_within 7 true m.decawm (omega arith))
     (within-append _ _ _ _ (private_within 8 true m.decarm (omega arith))
     (within-append _ _ _ _ (private_within 25 true m.dectcem (omega arith))
-    (within-append _ _ _ _ (within-where 2 m.keypad_application _ keypad_within) (within-where 3 m.reports_8bit _ reports_within))))))))))))
+    (within-append _ _ _ _ (within-where 2 m.keypad_application _ keypad_within)
+    (within-where 3 m.reports_8bit _ reports_within))))))))))))
 
 pub shift_item_within : (pending : Option ℕ) → AreSpelledWithin 2 (shift_item pending)
 unfolding shift_item
@@ -151,7 +188,8 @@ shift_item_within (Some slot) = within-if 2 (eqb slot 2) shift_to_2 shift_to_3 s
 
 -- each place of a sound grid has a glyph
 pub sound_glyphs : GridLaws → GlyphLaws → (s : Display) → IsSoundDisplay s → AreGlyphs s.grid
-sound_glyphs grids glyphs s i r c = grids.tests.at (λ cell. is_glyph cell.glyph) s.grid r c glyphs.glyphs.space i.grid.glyphs
+sound_glyphs grids glyphs s i r c =
+    grids.tests.at (λ cell. is_glyph cell.glyph) s.grid r c glyphs.glyphs.space i.grid.glyphs
 
 pub width_small : (s : Display) → IsSoundDisplay s → last_column s ≤ 132
 width_small s i = go i.grid.shape.width.0 i.grid.shape.width.1
@@ -176,11 +214,13 @@ module _ (grids : GridLaws) (glyphs : GlyphLaws) where
       (within-append _ _ (cells_item s.grid s.cursor.wrap) _ (cells_item_within glyphs s.grid s.cursor.wrap are w)
       (within-append _ _ (margins_item s.margins) _ (margins_item_within s.margins top i.margins.to_last_row)
       (within-append _ _ (origin_item s.modes.decom) _ (origin_item_within s.modes.decom)
-      (within-append _ _ (position_item s) _ (cursor_position_within (line_of_cursor s) s.cursor.col (line_small s i) col)
+      (within-append _ _ (position_item s) _
+      (cursor_position_within (line_of_cursor s) s.cursor.col (line_small s i) col)
       (within-append _ _ (wrap_item s.grid s.cursor) _ (wrap_item_within glyphs s.grid s.cursor are)
       (within-append _ _ (brush_events s.brush) _ (brush_within s.brush)
       (within-append _ _ (sets_events s.sets) _ (sets_within s.sets)
-      (within-append _ _ (modes_item s.modes) _ (modes_item_within s.modes) (shift_item_within s.sets.pending))))))))))))
+      (within-append _ _ (modes_item s.modes) _ (modes_item_within s.modes)
+      (shift_item_within s.sets.pending))))))))))))
 
   pub repaint_leaves : (s t : Display) → IsSoundDisplay s → display_after t (repaint_events s) ≡ s
   unfolding repaint_events
@@ -202,7 +242,8 @@ module _ (grids : GridLaws) (glyphs : GlyphLaws) where
       let w3 = cells_leaves grids glyphs wide s w2.cursor is_width i.grid.shape are i.saved_sets in
       let w4 = margins_leaves s modes_at_power_up w3.cursor w3.brush w3.sets s.margins false i.margins in
       let w5 = origin_leaves s modes_at_power_up w4.cursor w3.brush w3.sets s.margins s.modes.decom in
-      let w7 = wrap_leaves grids glyphs s modes_at_power_up w3.brush w3.sets refl refl i are w3.four w3.none w3.spells in
+      let w7 = wrap_leaves grids glyphs s modes_at_power_up w3.brush w3.sets refl refl i are w3.four w3.none w3.spells
+      in
       let x1 = with_stops wide s.stops w1.cursor in
       let x2 = with_saved wide s.stops s.saved w2.cursor in
       let x3 = part s modes_at_power_up w3.cursor w3.brush w3.sets full_margins false in
@@ -217,7 +258,8 @@ module _ (grids : GridLaws) (glyphs : GlyphLaws) where
       (display_after-then x2 x3 s (cells_item s.grid s.cursor.wrap) o4 w3.is
       (display_after-then x3 x4 s (margins_item s.margins) o5 w4.is
       (display_after-then x4 x5 s (origin_item s.modes.decom) o6 w5.is
-      (display_after-then x5 x6 s (position_item s) o7 (position_leaves s modes_at_power_up w5.cursor w3.brush w3.sets i)
+      (display_after-then x5 x6 s (position_item s) o7
+      (position_leaves s modes_at_power_up w5.cursor w3.brush w3.sets i)
       (display_after-then x6 x7 s (wrap_item s.grid s.cursor) o8 w7.is
       (end_leaves s w7.brush w7.sets i w7.four w7.none))))))))
 
@@ -231,21 +273,34 @@ module _ (grids : GridLaws) (glyphs : GlyphLaws) where
 
   module _ (reading : SpellingLaw) where
     -- the bytes are the events, whatever is held before them
-    reads : (held : Held) (s : Display) → IsSoundDisplay s → IsHeldPart held → (events_from held (spell_events (repaint_events s)) ≡ repaint_events s) × (held_from held (spell_events (repaint_events s)) ≡ Nothing)
+    reads : (held : Held) (s : Display) → IsSoundDisplay s → IsHeldPart held
+        → (events_from held (spell_events (repaint_events s)) ≡ repaint_events s)
+        × (held_from held (spell_events (repaint_events s)) ≡ Nothing)
     unfolding repaint_events
     reads held s i h =
         let fine = repaint_within s i in
-        let rest = spell_events (repaint_events s) in
-        (reading.escape held _ h ∙ reading.all_events (repaint_events s) fine.events, reading.escape_held held _ h ∙ reading.all_held (repaint_events s) fine.events)
+        let rest = spell_events (repaint_events s) in (
+          reading.escape held _ h ∙ reading.all_events (repaint_events s) fine.events,
+          reading.escape_held held _ h
+              ∙ reading.all_held (repaint_events s) fine.events,
+        )
 
-    pub rebuilds_all : (s : State) → IsSound s → s.held ≡ Nothing → (t : State) → IsSound t → play t (paint s) ≡ record { state = s; reports = [] }
+    pub rebuilds_all : (s : State) → IsSound s → s.held ≡ Nothing → (t : State) → IsSound t
+        → play t (paint s) ≡ record { state = s; reports = [] }
     unfolding play paint
     rebuilds_all s i between t j =
         let fine = repaint_within s.display i.display in
         let r = reads t.held s.display i.display j.held in
         let es = repaint_events s.display in
-        let made : List Event → Held → Played = λ es h. record { state = record { display = after_events es t.display; held = h }; reports = reports_of es t.display } in
+        let made : List Event → Held → Played =
+        λ es h. record {
+          state = record { display = after_events es t.display; held = h };
+          reports =
+              reports_of es t.display;
+        } in
         ap (λ x. made x (held_from t.held (paint s))) r.0
         ∙ ap (λ h. made es h) (r.1 ∙ sym between)
-        ∙ ap (λ x. let p : Played = record { state = record { display = x; held = s.held }; reports = reports_of es t.display } in p) (sym (display_after-after_events t.display es) ∙ repaint_leaves s.display t.display i.display)
+        ∙ ap (λ x. let p : Played =
+        record { state = record { display = x; held = s.held }; reports = reports_of es t.display } in
+        p) (sym (display_after-after_events t.display es) ∙ repaint_leaves s.display t.display i.display)
         ∙ ap (λ q. let p : Played = record { state = s; reports = q } in p) (fine.silent t.display)

@@ -1,5 +1,7 @@
 -- What a repaint asks for are events, none of which is answered, and their spelling is short.
-use Rattle.std.proofs.Common.{◌≡◌, inl, inr, Bool, true, false, cond, eqb, ltb, ℕ, suc, ◌+◌, ◌*◌, ◌≤◌, ◌<◌, List, [], ◌∷◌, ◌++◌, length, length-append, append_assoc, Some, None, refl, sym, ap, ◌∙◌, arith, map, zero, Option, ◌-◌}
+use Rattle.std.proofs.Common.{◌≡◌, inl, inr, Bool, true, false, cond, eqb, ltb, ℕ, suc, ◌+◌, ◌*◌, ◌≤◌, ◌<◌, List, []}
+use Rattle.std.proofs.Common.{◌∷◌, ◌++◌, length, length-append, append_assoc, Some, None, refl, sym, ap, ◌∙◌, arith}
+use Rattle.std.proofs.Common.{map, zero, Option, ◌-◌}
 use Rattle.std.specs.Prelude.{All, decimal}
 use Rattle.std.specs.List.{join_with_byte}
 use Rattle.std.proofs.lemmas.List.Elements.{All-nil, All-cons, All-append}
@@ -15,7 +17,8 @@ use Rattle.vt_syntax.specs.Held.{spell_values}
 use Rattle.vt_syntax.specs.declared.event.Event.{Event}
 use Rattle.vt_syntax.specs.declared.event.Event.TheVariants.{Print, Control, Escape, Sequence}
 use Rattle.vt_syntax.specs.Class.{opens_string}
-use Rattle.vt_syntax.specs.Spelling.{IsEvent, IsIntermediate, IsMarker, IsEscapeFinal, AreValues, spell_event, spell_events}
+use Rattle.vt_syntax.specs.Spelling.{IsEvent, IsIntermediate, IsMarker, IsEscapeFinal, AreValues, spell_event}
+use Rattle.vt_syntax.specs.Spelling.{spell_events}
 use Rattle.vt_glyph.specs.declared.set.Set.{Set}
 use Rattle.vt_glyph.specs.declared.set.Set.TheVariants.{Ascii, British, German, Special, Supplemental}
 use Rattle.vt_glyph.specs.declared.glyph.Spelling.{Spelling}
@@ -30,8 +33,12 @@ use Rattle.vt_term.specs.State.{Display}
 use Rattle.vt_term.specs.Functions.{effect}
 use Rattle.vt_term.specs.Reports.{report, control_report, sequence_report}
 use Rattle.vt_term.specs.Play.{reports_of, after_events}
-use Rattle.vt_paint.specs.ChangeEvents.{soft_reset, keypad_event, report_form_event, has_all, all_attributes, short_rendition, short_brush_events}
-use Rattle.vt_paint.specs.Controls.{where_true, ansi_mode, private_mode, cursor_position, margins_to, clear_all_tabs, rendition_to, protection_to, brush_events, set_tab, shift_to_2, shift_to_3, reset_to_initial_state, save_cursor, application_keypad, reports_8bit, left_event, right_event, sets_events, spelling_sets_events, spelling_events}
+use Rattle.vt_paint.specs.ChangeEvents.{soft_reset, keypad_event, report_form_event, has_all, all_attributes}
+use Rattle.vt_paint.specs.ChangeEvents.{short_rendition, short_brush_events}
+use Rattle.vt_paint.specs.Controls.{where_true, ansi_mode, private_mode, cursor_position, margins_to, clear_all_tabs}
+use Rattle.vt_paint.specs.Controls.{rendition_to, protection_to, brush_events, set_tab, shift_to_2, shift_to_3}
+use Rattle.vt_paint.specs.Controls.{reset_to_initial_state, save_cursor, application_keypad, reports_8bit, left_event}
+use Rattle.vt_paint.specs.Controls.{right_event, sets_events, spelling_sets_events, spelling_events}
 
 -- ---- seven bits
 
@@ -58,7 +65,8 @@ joined_ascii (v ∷ w ∷ values) h =
     (ascii-cons 0x3B _ (omega arith) (joined_ascii (w ∷ values) (λ k e l. h (suc k) e (omega arith))))
 
 -- an intermediate and a final byte
-last_ascii : (inter : Option ℕ) (last : ℕ) → IfSome inter IsIntermediate → last < 128 → IsAscii (option_to_list inter ++ last ∷ [])
+last_ascii : (inter : Option ℕ) (last : ℕ) → IfSome inter IsIntermediate → last < 128
+    → IsAscii (option_to_list inter ++ last ∷ [])
 last_ascii None last h k = one_ascii last k
 last_ascii (Some i) last h k = ascii-cons i (last ∷ []) (omega (arith, h)) (one_ascii last k)
 
@@ -82,7 +90,9 @@ control_small b (inr h) = omega (arith, h)
 spelled_ascii : (e : Event) → IsEvent e → IsSevenBit e → IsAscii (spell_event e)
 spelled_ascii (Print b) is seven = one_ascii b seven
 spelled_ascii (Control b) is seven = control_ascii b (ltb b 0x80) refl (control_small b is)
-spelled_ascii (Escape inter last) is seven = ascii-cons 0x1B (option_to_list inter ++ last ∷ []) (omega arith) (last_ascii inter last is.0 (final_ascii inter last is.1))
+spelled_ascii (Escape inter last) is seven =
+    ascii-cons 0x1B (option_to_list inter ++ last ∷ []) (omega arith)
+    (last_ascii inter last is.0 (final_ascii inter last is.1))
 spelled_ascii (Sequence marker params inter last) is seven =
     let high = is.high in
     let bytes = spell_values marker params.items false ++ (option_to_list inter ++ last ∷ []) in
@@ -90,7 +100,8 @@ spelled_ascii (Sequence marker params inter last) is seven =
     (ascii-cons 0x5B bytes (omega arith)
     (IsAscii-append (spell_values marker params.items false) (option_to_list inter ++ last ∷ [])
     (IsAscii-append (option_to_list marker ++ join_with_byte 0x3B (map decimal params.items)) []
-    (IsAscii-append (option_to_list marker) (join_with_byte 0x3B (map decimal params.items)) (marker_ascii marker is.is_marker) (joined_ascii params.items is.are_values.small)) IsAscii-nil)
+    (IsAscii-append (option_to_list marker) (join_with_byte 0x3B (map decimal params.items))
+    (marker_ascii marker is.is_marker) (joined_ascii params.items is.are_values.small)) IsAscii-nil)
     (last_ascii inter last is.is_intermediate (omega arith))))
 
 -- these are events, which report nothing, and their spelling has at most n bytes
@@ -100,27 +111,38 @@ pub record AreSpelledWithin (n : ℕ) (es : List Event) : Type 0 where
   pub short : length (spell_events es) ≤ n
   pub ascii : IsAscii (spell_events es)
 
-reports-append : (es fs : List Event) (s : Display) → reports_of (es ++ fs) s ≡ reports_of es s ++ reports_of fs (after_events es s)
+reports-append : (es fs : List Event) (s : Display)
+    → reports_of (es ++ fs) s ≡ reports_of es s ++ reports_of fs (after_events es s)
 reports-append [] fs s = refl
 reports-append (e ∷ es) fs s =
     ap (λ (t : List ℕ). report e s ++ t) (reports-append es fs (effect e s))
     ∙ sym (append_assoc (report e s) (reports_of es (effect e s)) (reports_of fs (after_events es (effect e s))))
 
-pub within-append : (m n : ℕ) (es fs : List Event) → AreSpelledWithin m es → AreSpelledWithin n fs → AreSpelledWithin (m + n) (es ++ fs)
+pub within-append : (m n : ℕ) (es fs : List Event) → AreSpelledWithin m es → AreSpelledWithin n fs
+    → AreSpelledWithin (m + n) (es ++ fs)
 within-append m n es fs h k = record {
   events = All-append IsEvent es fs h.events k.events;
-  silent = λ s. reports-append es fs s ∙ ap (λ (t : List ℕ). t ++ reports_of fs (after_events es s)) (h.silent s) ∙ k.silent (after_events es s);
-  short = rw (flat_map-append spell_event es fs, length-append (spell_events es) (spell_events fs)) (omega (arith, h.short, k.short));
+  silent = λ s. reports-append es fs s ∙ ap (λ (t : List ℕ). t ++ reports_of fs (after_events es s)) (h.silent s)
+      ∙ k.silent (after_events es s);
+  short = rw (flat_map-append spell_event es fs, length-append (spell_events es) (spell_events fs))
+      (omega (arith, h.short, k.short));
   ascii = rw (flat_map-append spell_event es fs) (IsAscii-append (spell_events es) (spell_events fs) h.ascii k.ascii);
 }
 
 pub within-upto : (m n : ℕ) (es : List Event) → m ≤ n → AreSpelledWithin m es → AreSpelledWithin n es
-within-upto m n es l h = record { events = h.events; silent = h.silent; short = omega (arith, h.short); ascii = h.ascii }
+within-upto m n es l h = record {
+  events = h.events;
+  silent = h.silent;
+  short = omega (arith, h.short);
+  ascii =
+      h.ascii;
+}
 
 pub within-none : AreSpelledWithin 0 []
 within-none = record { events = All-nil IsEvent; silent = λ s. refl; short = omega arith; ascii = IsAscii-nil }
 
-within-one : (n : ℕ) (e : Event) → IsEvent e → ((s : Display) → report e s ≡ []) → length (spell_event e) ≤ n → IsSevenBit e → AreSpelledWithin n (e ∷ [])
+within-one : (n : ℕ) (e : Event) → IsEvent e → ((s : Display) → report e s ≡ []) → length (spell_event e) ≤ n
+    → IsSevenBit e → AreSpelledWithin n (e ∷ [])
 within-one n e is silent short seven = record {
   events = All-cons IsEvent e [] is (All-nil IsEvent);
   silent = λ s. ap (λ (bytes : List ℕ). bytes ++ []) (silent s);
@@ -136,7 +158,8 @@ pub within-unless : (n : ℕ) (b : Bool) (es : List Event) → AreSpelledWithin 
 within-unless n true es h = within-upto 0 n [] (omega arith) within-none
 within-unless n false es h = h
 
-pub within-if : (n : ℕ) (b : Bool) (e f : Event) → AreSpelledWithin n (e ∷ []) → AreSpelledWithin n (f ∷ []) → AreSpelledWithin n (cond b e f ∷ [])
+pub within-if : (n : ℕ) (b : Bool) (e f : Event) → AreSpelledWithin n (e ∷ []) → AreSpelledWithin n (f ∷ [])
+    → AreSpelledWithin n (cond b e f ∷ [])
 within-if n true e f h k = h
 within-if n false e f h k = k
 
@@ -152,10 +175,17 @@ three_digits : (n : ℕ) → n < 1000 → length (decimal n) ≤ 3
 three_digits n h = length-decimal-le 3 n (omega arith) (omega arith) (omega arith)
 
 one_value : (v : ℕ) → v ≤ 9999 → AreValues (v ∷ [])
-one_value v h = record { some = omega arith; few = omega arith; small = All-cons (λ v. v ≤ 9999) v [] h (All-nil (λ v. v ≤ 9999)) }
+one_value v h =
+    record { some = omega arith; few = omega arith; small = All-cons (λ v. v ≤ 9999) v [] h (All-nil (λ v. v ≤ 9999)) }
 
 two_values : (v w : ℕ) → v ≤ 9999 → w ≤ 9999 → AreValues (v ∷ w ∷ [])
-two_values v w h k = record { some = omega arith; few = omega arith; small = All-cons (λ v. v ≤ 9999) v (w ∷ []) h (All-cons (λ v. v ≤ 9999) w [] k (All-nil (λ v. v ≤ 9999))) }
+two_values v w h k =
+    record {
+      some = omega arith;
+      few = omega arith;
+      small =
+          All-cons (λ v. v ≤ 9999) v (w ∷ []) h (All-cons (λ v. v ≤ 9999) w [] k (All-nil (λ v. v ≤ 9999)));
+    }
 
 -- ---- control sequences
 
@@ -164,7 +194,15 @@ unfolding sequence_report
 cursor_position_within r c h k =
     let dr = two_digits r (omega arith) in
     let dc = three_digits c (omega arith) in
-    within-one 9 (cursor_position r c) (record { is_marker = tt; are_values = two_values r c (omega arith) (omega arith); is_intermediate = tt; low = omega arith; high = omega arith }) (λ s. refl) (simp length-append (omega (arith, dr, dc))) tt
+    within-one 9 (cursor_position r c)
+    (record {
+      is_marker = tt;
+      are_values = two_values r c (omega arith) (omega arith);
+      is_intermediate = tt;
+      low =
+          omega arith;
+      high = omega arith;
+    }) (λ s. refl) (simp length-append (omega (arith, dr, dc))) tt
 
 -- a place of the first row
 pub column_within : (c : ℕ) → c ≤ 132 → AreSpelledWithin 8 (cursor_position 1 c ∷ [])
@@ -172,63 +210,153 @@ unfolding sequence_report
 column_within c k =
     let dr = one_digit 1 (omega arith) in
     let dc = three_digits c (omega arith) in
-    within-one 8 (cursor_position 1 c) (record { is_marker = tt; are_values = two_values 1 c (omega arith) (omega arith); is_intermediate = tt; low = omega arith; high = omega arith }) (λ s. refl) (simp length-append (omega (arith, dr, dc))) tt
+    within-one 8 (cursor_position 1 c)
+    (record {
+      is_marker = tt;
+      are_values = two_values 1 c (omega arith) (omega arith);
+      is_intermediate = tt;
+      low =
+          omega arith;
+      high = omega arith;
+    }) (λ s. refl) (simp length-append (omega (arith, dr, dc))) tt
 
 pub margins_to_within : (t b : ℕ) → t ≤ 24 → b ≤ 24 → AreSpelledWithin 8 (margins_to t b ∷ [])
 unfolding sequence_report
 margins_to_within t b h k =
     let dt = two_digits t (omega arith) in
     let db = two_digits b (omega arith) in
-    within-one 8 (margins_to t b) (record { is_marker = tt; are_values = two_values t b (omega arith) (omega arith); is_intermediate = tt; low = omega arith; high = omega arith }) (λ s. refl) (simp length-append (omega (arith, dt, db))) tt
+    within-one 8 (margins_to t b) (record {
+      is_marker = tt;
+      are_values = two_values t b (omega arith) (omega arith);
+      is_intermediate = tt;
+      low = omega arith;
+      high = omega arith;
+    }) (λ s. refl)
+    (simp length-append (omega (arith, dt, db))) tt
 
 pub clear_within : AreSpelledWithin 4 (clear_all_tabs ∷ [])
 unfolding sequence_report
 clear_within =
     let d = one_digit 3 (omega arith) in
-    within-one 4 clear_all_tabs (record { is_marker = tt; are_values = one_value 3 (omega arith); is_intermediate = tt; low = omega arith; high = omega arith }) (λ s. refl) (simp length-append (omega (arith, d))) tt
+    within-one 4 clear_all_tabs (record {
+      is_marker = tt;
+      are_values = one_value 3 (omega arith);
+      is_intermediate =
+          tt;
+      low = omega arith;
+      high = omega arith;
+    }) (λ s. refl) (simp length-append (omega (arith, d))) tt
 
 pub ansi_mode_within : (n : ℕ) (on : Bool) → n < 100 → AreSpelledWithin 5 (ansi_mode n on ∷ [])
 unfolding sequence_report
 ansi_mode_within n true h =
     let d = two_digits n h in
-    within-one 5 (ansi_mode n true) (record { is_marker = tt; are_values = one_value n (omega arith); is_intermediate = tt; low = omega arith; high = omega arith }) (λ s. refl) (simp length-append (omega (arith, d))) tt
+    within-one 5 (ansi_mode n true) (record {
+      is_marker = tt;
+      are_values = one_value n (omega arith);
+      is_intermediate =
+          tt;
+      low = omega arith;
+      high = omega arith;
+    }) (λ s. refl) (simp length-append (omega (arith, d))) tt
 ansi_mode_within n false h =
     let d = two_digits n h in
-    within-one 5 (ansi_mode n false) (record { is_marker = tt; are_values = one_value n (omega arith); is_intermediate = tt; low = omega arith; high = omega arith }) (λ s. refl) (simp length-append (omega (arith, d))) tt
+    within-one 5 (ansi_mode n false)
+    (record {
+      is_marker = tt;
+      are_values = one_value n (omega arith);
+      is_intermediate = tt;
+      low = omega arith;
+      high = omega arith;
+    }) (λ s. refl) (simp length-append (omega (arith, d))) tt
 
 pub private_mode_within : (n : ℕ) (on : Bool) → n < 100 → AreSpelledWithin 6 (private_mode n on ∷ [])
 unfolding sequence_report
 private_mode_within n true h =
     let d = two_digits n h in
-    within-one 6 (private_mode n true) (record { is_marker = (omega arith, omega arith); are_values = one_value n (omega arith); is_intermediate = tt; low = omega arith; high = omega arith }) (λ s. refl) (simp length-append (omega (arith, d))) tt
+    within-one 6 (private_mode n true)
+    (record {
+      is_marker = (omega arith, omega arith);
+      are_values = one_value n (omega arith);
+      is_intermediate =
+          tt;
+      low = omega arith;
+      high = omega arith;
+    }) (λ s. refl) (simp length-append (omega (arith, d))) tt
 private_mode_within n false h =
     let d = two_digits n h in
-    within-one 6 (private_mode n false) (record { is_marker = (omega arith, omega arith); are_values = one_value n (omega arith); is_intermediate = tt; low = omega arith; high = omega arith }) (λ s. refl) (simp length-append (omega (arith, d))) tt
+    within-one 6 (private_mode n false)
+    (record {
+      is_marker = (omega arith, omega arith);
+      are_values = one_value n (omega arith);
+      is_intermediate =
+          tt;
+      low = omega arith;
+      high = omega arith;
+    }) (λ s. refl) (simp length-append (omega (arith, d))) tt
 
 -- a mode of one digit
 pub small_ansi_mode_within : (n : ℕ) (on : Bool) → n < 10 → AreSpelledWithin 4 (ansi_mode n on ∷ [])
 unfolding sequence_report
 small_ansi_mode_within n true h =
     let d = one_digit n h in
-    within-one 4 (ansi_mode n true) (record { is_marker = tt; are_values = one_value n (omega arith); is_intermediate = tt; low = omega arith; high = omega arith }) (λ s. refl) (simp length-append (omega (arith, d))) tt
+    within-one 4 (ansi_mode n true) (record {
+      is_marker = tt;
+      are_values = one_value n (omega arith);
+      is_intermediate =
+          tt;
+      low = omega arith;
+      high = omega arith;
+    }) (λ s. refl) (simp length-append (omega (arith, d))) tt
 small_ansi_mode_within n false h =
     let d = one_digit n h in
-    within-one 4 (ansi_mode n false) (record { is_marker = tt; are_values = one_value n (omega arith); is_intermediate = tt; low = omega arith; high = omega arith }) (λ s. refl) (simp length-append (omega (arith, d))) tt
+    within-one 4 (ansi_mode n false)
+    (record {
+      is_marker = tt;
+      are_values = one_value n (omega arith);
+      is_intermediate = tt;
+      low = omega arith;
+      high = omega arith;
+    }) (λ s. refl) (simp length-append (omega (arith, d))) tt
 
 pub small_private_mode_within : (n : ℕ) (on : Bool) → n < 10 → AreSpelledWithin 5 (private_mode n on ∷ [])
 unfolding sequence_report
 small_private_mode_within n true h =
     let d = one_digit n h in
-    within-one 5 (private_mode n true) (record { is_marker = (omega arith, omega arith); are_values = one_value n (omega arith); is_intermediate = tt; low = omega arith; high = omega arith }) (λ s. refl) (simp length-append (omega (arith, d))) tt
+    within-one 5 (private_mode n true)
+    (record {
+      is_marker = (omega arith, omega arith);
+      are_values = one_value n (omega arith);
+      is_intermediate =
+          tt;
+      low = omega arith;
+      high = omega arith;
+    }) (λ s. refl) (simp length-append (omega (arith, d))) tt
 small_private_mode_within n false h =
     let d = one_digit n h in
-    within-one 5 (private_mode n false) (record { is_marker = (omega arith, omega arith); are_values = one_value n (omega arith); is_intermediate = tt; low = omega arith; high = omega arith }) (λ s. refl) (simp length-append (omega (arith, d))) tt
+    within-one 5 (private_mode n false)
+    (record {
+      is_marker = (omega arith, omega arith);
+      are_values = one_value n (omega arith);
+      is_intermediate =
+          tt;
+      low = omega arith;
+      high = omega arith;
+    }) (λ s. refl) (simp length-append (omega (arith, d))) tt
 
 pub soft_reset_within : AreSpelledWithin 5 (soft_reset ∷ [])
 unfolding sequence_report
 soft_reset_within =
     let d = one_digit 0 (omega arith) in
-    within-one 5 soft_reset (record { is_marker = tt; are_values = one_value 0 (omega arith); is_intermediate = (omega arith, omega arith); low = omega arith; high = omega arith }) (λ s. refl) (simp length-append (omega (arith, d))) tt
+    within-one 5 soft_reset (record {
+      is_marker = tt;
+      are_values = one_value 0 (omega arith);
+      is_intermediate =
+          (omega arith, omega arith);
+      low = omega arith;
+      high = omega arith;
+    }) (λ s. refl)
+    (simp length-append (omega (arith, d))) tt
 
 -- ---- the brush
 
@@ -236,53 +364,88 @@ protection_within : (protected : Bool) → AreSpelledWithin 5 (protection_to pro
 unfolding sequence_report
 protection_within true =
     let d = one_digit 1 (omega arith) in
-    within-one 5 (protection_to true) (record { is_marker = tt; are_values = one_value 1 (omega arith); is_intermediate = (omega arith, omega arith); low = omega arith; high = omega arith }) (λ s. refl) (simp length-append (omega (arith, d))) tt
+    within-one 5 (protection_to true)
+    (record {
+      is_marker = tt;
+      are_values = one_value 1 (omega arith);
+      is_intermediate = (omega arith, omega arith);
+      low = omega arith;
+      high = omega arith;
+    }) (λ s. refl) (simp length-append (omega (arith, d))) tt
 protection_within false =
     let d = one_digit 0 (omega arith) in
-    within-one 5 (protection_to false) (record { is_marker = tt; are_values = one_value 0 (omega arith); is_intermediate = (omega arith, omega arith); low = omega arith; high = omega arith }) (λ s. refl) (simp length-append (omega (arith, d))) tt
+    within-one 5 (protection_to false)
+    (record {
+      is_marker = tt;
+      are_values = one_value 0 (omega arith);
+      is_intermediate = (omega arith, omega arith);
+      low = omega arith;
+      high = omega arith;
+    }) (λ s. refl) (simp length-append (omega (arith, d))) tt
 
 -- the values of the attributes: 0 and at most four more, each of one digit
 record AreDigits (n : ℕ) (values : List ℕ) : Type 0 where
   count : length values ≤ n
   small : All (λ v. v < 10) values
 
-digits_where : (n v : ℕ) (b : Bool) (values : List ℕ) → v < 10 → AreDigits n values → AreDigits (n + 1) (where_true b (v ∷ []) ++ values)
-digits_where n v true values h k = record { count = omega (arith, k.count); small = All-cons (λ v. v < 10) v values h k.small }
+digits_where : (n v : ℕ) (b : Bool) (values : List ℕ) → v < 10 → AreDigits n values
+    → AreDigits (n + 1) (where_true b (v ∷ []) ++ values)
+digits_where n v true values h k =
+    record { count = omega (arith, k.count); small = All-cons (λ v. v < 10) v values h k.small }
 digits_where n v false values h k = record { count = omega (arith, k.count); small = k.small }
 
 digits_last : (v : ℕ) (b : Bool) → v < 10 → AreDigits 1 (where_true b (v ∷ []))
 digits_last v true h = record { count = omega arith; small = All-cons (λ v. v < 10) v [] h (All-nil (λ v. v < 10)) }
 digits_last v false h = record { count = omega arith; small = All-nil (λ v. v < 10) }
 
-joined_short : (v : ℕ) (values : List ℕ) → All (λ v. v < 10) (v ∷ values) → length (join_with_byte 0x3B (map decimal (v ∷ values))) ≤ 1 + 2 * length values
+joined_short : (v : ℕ) (values : List ℕ) → All (λ v. v < 10) (v ∷ values)
+    → length (join_with_byte 0x3B (map decimal (v ∷ values))) ≤ 1 + 2 * length values
 joined_short v [] h = one_digit v (h 0 0 (omega arith))
 joined_short v (w ∷ values) h =
     let d = one_digit v (h 0 0 (omega arith)) in
     let ih = joined_short w values (λ k e l. h (suc k) e (omega arith)) in
     rw (length-append (decimal v) (0x3B ∷ join_with_byte 0x3B (map decimal (w ∷ values)))) (omega (arith, d, ih))
 
-values_within : (n v : ℕ) (values : List ℕ) → v < 10 → n ≤ 4 → AreDigits n values → AreSpelledWithin (4 + 2 * n) (Sequence None (record { items = v ∷ values }) None 0x6D ∷ [])
+values_within : (n v : ℕ) (values : List ℕ) → v < 10 → n ≤ 4 → AreDigits n values
+    → AreSpelledWithin (4 + 2 * n) (Sequence None (record { items = v ∷ values }) None 0x6D ∷ [])
 unfolding sequence_report
 values_within n v values low few h =
     let all = All-cons (λ v. v < 10) v values low h.small in
     let j = joined_short v values all in
     let count : length values ≤ n = h.count in
     within-one (4 + 2 * n) (Sequence None (record { items = v ∷ values }) None 0x6D)
-    (record { is_marker = tt; are_values = record { some = omega arith; few = omega arith; small = λ k d l. omega (arith, all k d l) }; is_intermediate = tt; low = omega arith; high = omega arith })
+    (record {
+      is_marker = tt;
+      are_values =
+          record { some = omega arith; few = omega arith; small = λ k d l. omega (arith, all k d l) };
+      is_intermediate =
+          tt;
+      low = omega arith;
+      high = omega arith;
+    })
     (λ s. refl) (simp length-append (omega (arith, j, count))) tt
 
 rendition_within : (r : Rendition) → AreSpelledWithin 12 (rendition_to r ∷ [])
 rendition_within r =
-    values_within 4 0 (where_true r.bold (1 ∷ []) ++ (where_true r.underline (4 ∷ []) ++ (where_true r.blink (5 ∷ []) ++ where_true r.reverse (7 ∷ [])))) (omega arith) (omega arith)
-    (digits_where 3 1 r.bold _ (omega arith) (digits_where 2 4 r.underline _ (omega arith) (digits_where 1 5 r.blink _ (omega arith) (digits_last 7 r.reverse (omega arith)))))
+    values_within 4 0
+    (where_true r.bold (1 ∷ [])
+    ++ (where_true r.underline (4 ∷ []) ++ (where_true r.blink (5 ∷ []) ++ where_true r.reverse (7 ∷ []))))
+    (omega arith) (omega arith)
+    (digits_where 3 1 r.bold _ (omega arith)
+    (digits_where 2 4 r.underline _ (omega arith)
+    (digits_where 1 5 r.blink _ (omega arith) (digits_last 7 r.reverse (omega arith)))))
 
 -- where not every attribute is set, at most three are
 three_set : (b u k r : Bool) → has_all (record { bold = b; underline = u; blink = k; reverse = r }) ≡ false
     → AreDigits 3 (where_true b (1 ∷ []) ++ (where_true u (4 ∷ []) ++ (where_true k (5 ∷ []) ++ where_true r (7 ∷ []))))
-three_set false u k r h = digits_where 2 4 u _ (omega arith) (digits_where 1 5 k _ (omega arith) (digits_last 7 r (omega arith)))
-three_set true false k r h = digits_where 2 1 true _ (omega arith) (digits_where 1 5 k _ (omega arith) (digits_last 7 r (omega arith)))
-three_set true true false r h = digits_where 2 1 true _ (omega arith) (digits_where 1 4 true _ (omega arith) (digits_last 7 r (omega arith)))
-three_set true true true false h = digits_where 2 1 true _ (omega arith) (digits_where 1 4 true _ (omega arith) (digits_last 5 true (omega arith)))
+three_set false u k r h =
+    digits_where 2 4 u _ (omega arith) (digits_where 1 5 k _ (omega arith) (digits_last 7 r (omega arith)))
+three_set true false k r h =
+    digits_where 2 1 true _ (omega arith) (digits_where 1 5 k _ (omega arith) (digits_last 7 r (omega arith)))
+three_set true true false r h =
+    digits_where 2 1 true _ (omega arith) (digits_where 1 4 true _ (omega arith) (digits_last 7 r (omega arith)))
+three_set true true true false h =
+    digits_where 2 1 true _ (omega arith) (digits_where 1 4 true _ (omega arith) (digits_last 5 true (omega arith)))
 three_set true true true true h = absurd cc
 
 all_attributes_within : AreSpelledWithin 10 (all_attributes ∷ [])
@@ -299,11 +462,15 @@ short_rendition_within r = go (has_all r) refl
 
 pub short_brush_within : (brush : Brush) → AreSpelledWithin 15 (short_brush_events brush)
 unfolding short_brush_events
-short_brush_within brush = within-append 10 5 (short_rendition brush.rendition ∷ []) (protection_to brush.protected ∷ []) (short_rendition_within brush.rendition) (protection_within brush.protected)
+short_brush_within brush =
+    within-append 10 5 (short_rendition brush.rendition ∷ []) (protection_to brush.protected ∷ [])
+    (short_rendition_within brush.rendition) (protection_within brush.protected)
 
 pub brush_within : (brush : Brush) → AreSpelledWithin 17 (brush_events brush)
 unfolding brush_events
-brush_within brush = within-append 12 5 (rendition_to brush.rendition ∷ []) (protection_to brush.protected ∷ []) (rendition_within brush.rendition) (protection_within brush.protected)
+brush_within brush =
+    within-append 12 5 (rendition_to brush.rendition ∷ []) (protection_to brush.protected ∷ [])
+    (rendition_within brush.rendition) (protection_within brush.protected)
 
 -- ---- controls and escape sequences
 
@@ -329,14 +496,19 @@ pub keypad_within : AreSpelledWithin 2 (application_keypad ∷ [])
 keypad_within = within-one 2 application_keypad (tt, inl (omega arith, omega arith)) (λ s. refl) (omega arith) tt
 
 pub reports_within : AreSpelledWithin 3 (reports_8bit ∷ [])
-reports_within = within-one 3 reports_8bit ((omega arith, omega arith), (omega arith, omega arith)) (λ s. refl) (omega arith) tt
+reports_within =
+    within-one 3 reports_8bit ((omega arith, omega arith), (omega arith, omega arith)) (λ s. refl) (omega arith) tt
 
 pub keypad_event_within : (application : Bool) → AreSpelledWithin 2 (keypad_event application ∷ [])
-keypad_event_within application = within-if 2 application _ _ keypad_within (within-one 2 (Escape None 0x3E) (tt, inl (omega arith, omega arith)) (λ s. refl) (omega arith) tt)
+keypad_event_within application =
+    within-if 2 application _ _ keypad_within
+    (within-one 2 (Escape None 0x3E) (tt, inl (omega arith, omega arith)) (λ s. refl) (omega arith) tt)
 
 pub report_form_event_within : (eight : Bool) → AreSpelledWithin 3 (report_form_event eight ∷ [])
 report_form_event_within eight =
-    within-if 3 eight _ _ reports_within (within-one 3 (Escape (Some 0x20) 0x46) ((omega arith, omega arith), (omega arith, omega arith)) (λ s. refl) (omega arith) tt)
+    within-if 3 eight _ _ reports_within
+    (within-one 3 (Escape (Some 0x20) 0x46) ((omega arith, omega arith), (omega arith, omega arith)) (λ s. refl)
+    (omega arith) tt)
 
 pub print_within : (b : ℕ) → 0x20 ≤ b → b ≤ 0x7E → AreSpelledWithin 1 (Print b ∷ [])
 print_within b h k = within-one 1 (Print b) (inl (h, k)) (λ s. refl) (omega arith) (omega arith)
@@ -350,8 +522,10 @@ final_is German = (omega arith, omega arith)
 final_is Special = (omega arith, omega arith)
 final_is Supplemental = (omega arith, omega arith)
 
-designation_within : (inter : ℕ) (set : Set) → 0x20 ≤ inter → inter ≤ 0x2F → AreSpelledWithin 3 (Escape (Some inter) (final_of set) ∷ [])
-designation_within inter set h k = within-one 3 (Escape (Some inter) (final_of set)) ((h, k), final_is set) (λ s. refl) (omega arith) tt
+designation_within : (inter : ℕ) (set : Set) → 0x20 ≤ inter → inter ≤ 0x2F
+    → AreSpelledWithin 3 (Escape (Some inter) (final_of set) ∷ [])
+designation_within inter set h k =
+    within-one 3 (Escape (Some inter) (final_of set)) ((h, k), final_is set) (λ s. refl) (omega arith) tt
 
 -- an escape sequence without an intermediate
 plain_escape_within : (last : ℕ) → 0x60 ≤ last → last ≤ 0x7E → AreSpelledWithin 2 (Escape None last ∷ [])
@@ -360,22 +534,26 @@ plain_escape_within last h k = within-one 2 (Escape None last) (tt, inr (h, k)) 
 -- SI and SO
 shift_in_within : AreSpelledWithin 1 (Control 0x0F ∷ [])
 unfolding control_report
-shift_in_within = within-one 1 (Control 0x0F) (inl (omega arith, (λ e. omega arith), (λ e. omega arith))) (λ s. refl) (omega arith) tt
+shift_in_within = within-one 1 (Control 0x0F) (inl (omega arith, (λ e. omega arith), (λ e. omega arith))) (λ s. refl)
+    (omega arith) tt
 
 shift_out_within : AreSpelledWithin 2 (Control 0x0E ∷ [])
 unfolding control_report
-shift_out_within = within-one 2 (Control 0x0E) (inl (omega arith, (λ e. omega arith), (λ e. omega arith))) (λ s. refl) (omega arith) tt
+shift_out_within = within-one 2 (Control 0x0E) (inl (omega arith, (λ e. omega arith), (λ e. omega arith))) (λ s. refl)
+    (omega arith) tt
 
 left_within : (slot : ℕ) → AreSpelledWithin 2 (left_event slot ∷ [])
 left_within slot =
     within-if 2 (eqb slot 0) _ _ (within-upto 1 2 _ (omega arith) shift_in_within)
     (within-if 2 (eqb slot 1) _ _ shift_out_within
-    (within-if 2 (eqb slot 2) _ _ (plain_escape_within 0x6E (omega arith) (omega arith)) (plain_escape_within 0x6F (omega arith) (omega arith))))
+    (within-if 2 (eqb slot 2) _ _ (plain_escape_within 0x6E (omega arith) (omega arith))
+    (plain_escape_within 0x6F (omega arith) (omega arith))))
 
 right_within : (slot : ℕ) → AreSpelledWithin 2 (right_event slot ∷ [])
 right_within slot =
     within-if 2 (eqb slot 1) _ _ (plain_escape_within 0x7E (omega arith) (omega arith))
-    (within-if 2 (eqb slot 2) _ _ (plain_escape_within 0x7D (omega arith) (omega arith)) (plain_escape_within 0x7C (omega arith) (omega arith)))
+    (within-if 2 (eqb slot 2) _ _ (plain_escape_within 0x7D (omega arith) (omega arith))
+    (plain_escape_within 0x7C (omega arith) (omega arith)))
 
 pub sets_within : (t : GraphicSets) → AreSpelledWithin 16 (sets_events t)
 unfolding sets_events
@@ -394,7 +572,8 @@ spelling_sets_within =
 
 -- ---- glyphs
 
-pub spelling_within : (spelling : Spelling) → 0x20 ≤ code_of spelling → code_of spelling ≤ 0x7E → AreSpelledWithin 3 (spelling_events spelling)
+pub spelling_within : (spelling : Spelling) → 0x20 ≤ code_of spelling → code_of spelling ≤ 0x7E
+    → AreSpelledWithin 3 (spelling_events spelling)
 spelling_within (Plain code) h k = within-upto 1 3 _ (omega arith) (print_within code h k)
 spelling_within (Second code) h k = within-append 2 1 _ _ shift_to_2_within (print_within code h k)
 spelling_within (Third code) h k = within-append 2 1 _ _ shift_to_3_within (print_within code h k)

@@ -13,7 +13,9 @@ use Rattle.vt_term.specs.declared.state.Modes.{Modes}
 use Rattle.vt_term.specs.declared.state.Saved.{Saved}
 use Rattle.vt_term.specs.State.{Display, saved_sets}
 use Rattle.vt_term.specs.Functions.{byte}
-use Rattle.vt_paint.specs.Controls.{where_true, sequence_of, ansi_mode, private_mode, decom, cursor_position, rendition_to, protection_to, brush_events, save_cursor, reports_8bit, application_keypad, sets_events, spelling_sets_events}
+use Rattle.vt_paint.specs.Controls.{where_true, sequence_of, ansi_mode, private_mode, decom, cursor_position}
+use Rattle.vt_paint.specs.Controls.{rendition_to, protection_to, brush_events, save_cursor, reports_8bit}
+use Rattle.vt_paint.specs.Controls.{application_keypad, sets_events, spelling_sets_events}
 use Rattle.vt_paint.specs.Pieces.{glyph_events}
 use Rattle.vt_paint.specs.Items.{margins_item, origin_item, position_item, wrap_item, shift_item}
 use Rattle.vt_paint.specs.Changes.{is_marked}

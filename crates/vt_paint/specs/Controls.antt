@@ -30,7 +30,8 @@ ansi_mode number on = sequence_of (number ∷ []) (if on then byte (codes "h") e
 -- SM and RM of a private mode
 abbrev pub private_mode : ℕ → Bool → Event
 private_mode number on =
-    Sequence (Some (byte (codes "?"))) (record { items = number ∷ [] }) None (if on then byte (codes "h") else byte (codes "l"))
+    Sequence (Some (byte (codes "?"))) (record { items = number ∷ [] }) None
+    (if on then byte (codes "h") else byte (codes "l"))
 
 abbrev pub deccolm : ℕ
 deccolm = 3
@@ -53,7 +54,8 @@ clear_all_tabs = sequence_of (3 ∷ []) (byte (codes "g"))
 -- SGR: 0, and then the attributes that are set
 abbrev pub rendition_values : Rendition → List ℕ
 rendition_values r =
-    0 ∷ (where_true r.bold (1 ∷ []) ++ (where_true r.underline (4 ∷ []) ++ (where_true r.blink (5 ∷ []) ++ where_true r.reverse (7 ∷ []))))
+    0 ∷ (where_true r.bold (1 ∷ [])
+    ++ (where_true r.underline (4 ∷ []) ++ (where_true r.blink (5 ∷ []) ++ where_true r.reverse (7 ∷ []))))
 
 abbrev pub rendition_to : Rendition → Event
 rendition_to r = sequence_of (rendition_values r) (byte (codes "m"))
@@ -124,7 +126,8 @@ sets_events sets =
 -- the sets that the spellings of glyphs are for
 abbrev pub spelling_sets_events : List Event
 spelling_sets_events =
-    designation (codes "(") Ascii ∷ designation (codes "*") Supplemental ∷ designation (codes "+") Special ∷ left_event 0 ∷ []
+    designation (codes "(") Ascii ∷ designation (codes "*") Supplemental ∷ designation (codes "+") Special
+    ∷ left_event 0 ∷ []
 
 -- ---- glyphs
 

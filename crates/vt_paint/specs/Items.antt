@@ -1,5 +1,6 @@
 -- The eleven items of a repaint, in their order. (this profile)
-use Rattle.std.specs.Prelude.{ℕ, List, [], ◌∷◌, ◌++◌, Bool, true, false, not, Option, Some, None, ◌==◌, ◌&&◌, if◌then◌else◌}
+use Rattle.std.specs.Prelude.{ℕ, List, [], ◌∷◌, ◌++◌, Bool, true, false, not, Option, Some, None, ◌==◌, ◌&&◌}
+use Rattle.std.specs.Prelude.{if◌then◌else◌}
 use Rattle.std.specs.List.{range_with_len, flat_map}
 use Rattle.std.specs.Cmp.Lexicographic.{pointwise}
 use Rattle.vt_syntax.specs.declared.event.Event.{Event}
@@ -14,14 +15,18 @@ use Rattle.vt_term.specs.declared.state.Saved.{Saved}
 use Rattle.vt_term.specs.State.{Display, has_stop_at, stops_at_power_up, saved_sets, saved_at_power_up}
 use Rattle.vt_term.specs.Reports.{line_of_cursor}
 use Rattle.vt_paint.specs.Same.{same_bool, same_saved}
-use Rattle.vt_paint.specs.Controls.{where_true, ansi_mode, private_mode, deccolm, decom, cursor_position, margins_to, clear_all_tabs, brush_events, set_tab, shift_to_2, shift_to_3, reset_to_initial_state, save_cursor, application_keypad, reports_8bit, sets_events, spelling_sets_events}
+use Rattle.vt_paint.specs.Controls.{where_true, ansi_mode, private_mode, deccolm, decom, cursor_position, margins_to}
+use Rattle.vt_paint.specs.Controls.{clear_all_tabs, brush_events, set_tab, shift_to_2, shift_to_3}
+use Rattle.vt_paint.specs.Controls.{reset_to_initial_state, save_cursor, application_keypad, reports_8bit, sets_events}
+use Rattle.vt_paint.specs.Controls.{spelling_sets_events}
 use Rattle.vt_paint.specs.Pieces.{glyph_events, pieces, is_blank_grid}
 
 -- 1. RIS.
 abbrev pub reset_item : List Event
 reset_item = reset_to_initial_state ∷ []
 
--- 2. Where the stops differ from power-up they are made, on a wide screen, where each has its column; the width is left as
+-- 2. Where the stops differ from power-up they are made, on a wide screen, where each has its column; the width is left
+-- as
 -- it is to be. Else a wide screen is asked for, if it is to be wide.
 unfoldable pub stop_events : List Bool → ℕ → List Event
 stop_events stops c = where_true (has_stop_at stops c) (cursor_position 1 c ∷ set_tab ∷ [])
@@ -44,7 +49,8 @@ stops_item width stops =
     if pointwise same_bool stops stops_at_power_up then where_true (is_wide width) (private_mode deccolm true ∷ [])
     else made_stops (is_wide width) stops
 
--- 3. Where the saved record differs from power-up: the cursor is brought where it was saved, a space in the last column sets
+-- 3. Where the saved record differs from power-up: the cursor is brought where it was saved, a space in the last column
+-- sets
 -- the wrap flag, and DECSC saves; under DECOM if that was saved.
 unfoldable pub saved_events : Saved → List Event
 saved_events saved =
@@ -77,7 +83,8 @@ position_item s = cursor_position (line_of_cursor s) s.cursor.col ∷ []
 
 unfoldable pub wrap_item : Grid → Cursor → List Event
 wrap_item g cursor =
-    where_true cursor.wrap (brush_events (brush_of (cell_at g cursor.row cursor.col)) ++ glyph_events (cell_at g cursor.row cursor.col))
+    where_true cursor.wrap (brush_events (brush_of (cell_at g cursor.row cursor.col))
+    ++ glyph_events (cell_at g cursor.row cursor.col))
 
 -- 8. The brush: brush_events. 9. The sets: sets_events.
 

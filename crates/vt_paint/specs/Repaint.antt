@@ -6,7 +6,8 @@ use Rattle.vt_term.specs.State.{Display, State, last_column}
 use Rattle.vt_term.specs.Sound.{IsSound}
 use Rattle.vt_term.specs.Play.{play}
 use Rattle.vt_paint.specs.Controls.{brush_events, sets_events}
-use Rattle.vt_paint.specs.Items.{reset_item, stops_item, saved_item, cells_item, margins_item, origin_item, position_item, wrap_item, modes_item, shift_item}
+use Rattle.vt_paint.specs.Items.{reset_item, stops_item, saved_item, cells_item, margins_item, origin_item}
+use Rattle.vt_paint.specs.Items.{position_item, wrap_item, modes_item, shift_item}
 
 -- what a repaint asks for: its items in order
 unfoldable pub repaint_events : Display → List Event

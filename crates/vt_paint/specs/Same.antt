@@ -14,7 +14,8 @@ same_bool a b = if a then b else not b
 
 abbrev pub same_rendition : Rendition → Rendition → Bool
 same_rendition a b =
-    same_bool a.bold b.bold && (same_bool a.underline b.underline && (same_bool a.blink b.blink && same_bool a.reverse b.reverse))
+    same_bool a.bold b.bold
+    && (same_bool a.underline b.underline && (same_bool a.blink b.blink && same_bool a.reverse b.reverse))
 
 -- the same attributes and protection
 abbrev pub same_brush : Brush → Brush → Bool

@@ -44,7 +44,8 @@ fn is_blank(cell: &Cell) -> bool
 /// Whether a cell isn't blank and is written with the brush of this number.
 #[inline(always)]
 fn goes_on(number: u64, cell: &Cell) -> bool
-    ensures { (brush : Brush) → number ≡ brush_number brush → result ≡ (same_brush brush (brush_of cell.now) && not (is_blank_cell cell.now)) }
+    ensures { (brush : Brush) → number ≡ brush_number brush
+        → result ≡ (same_brush brush (brush_of cell.now) && not (is_blank_cell cell.now)) }
 {
     brush_number(cell.brush()) == number && !(number == 0 && cell.glyph == Glyph::blank())
 }
@@ -80,7 +81,8 @@ fn push_row(row: usize, cells: &[Cell], line: &mut [u8; LINE], out: &mut Vec<u8>
     requires row { (1 ≤ row) × (row ≤ last_row) }
     requires len { length cells.now ≤ 132 }
     requires room { vec_len out.old + 29 * 132 ≤ vec_capacity out.old }
-    ensures items { (g : Grid) → cells.now ≡ row_of g row → out.new.items ≡ out.old.items ++ spell_events (row_pieces g row) }
+    ensures items { (g : Grid) → cells.now ≡ row_of g row
+        → out.new.items ≡ out.old.items ++ spell_events (row_pieces g row) }
     ensures bounded { vec_len out.new ≤ vec_len out.old + 29 * 132 }
     ensures capacity { vec_capacity out.old ≤ vec_capacity out.new }
 {
@@ -107,7 +109,9 @@ fn push_shown_row(
     requires room { vec_len out.old + 29 * 132 + head_room shown ≤ vec_capacity out.old }
     ensures shown { result ≡ (shown || not (list_all is_blank_cell cells.now)) }
     ensures items { (g : Grid) → cells.now ≡ row_of g row
-        → out.new.items ≡ out.old.items ++ spell_events (where_true result (where_true (not shown) spelling_sets_events ++ row_pieces g row)) }
+        → out.new.items
+        ≡ out.old.items
+        ++ spell_events (where_true result (where_true (not shown) spelling_sets_events ++ row_pieces g row)) }
     ensures bounded { vec_len out.new + head_room result ≤ vec_len out.old + 29 * 132 + head_room shown }
     ensures capacity { vec_capacity out.old ≤ vec_capacity out.new }
 {

@@ -1,5 +1,6 @@
 //! The bytes that change one terminal into another: the cells at the places where the screens differ, and all else.
-ghost use Rattle.std.specs.Prelude.{◌≡◌, ◌+◌, ◌-◌, ◌*◌, ◌≤◌, ◌<◌, ◌++◌, ◌∷◌, [], ℕ, List, Bool, length, slice_index_or, vec_len, vec_capacity};
+ghost use Rattle.std.specs.Prelude.{◌≡◌, ◌+◌, ◌-◌, ◌*◌, ◌≤◌, ◌<◌, ◌++◌, ◌∷◌, [], ℕ, List, Bool, length, slice_index_or};
+ghost use Rattle.std.specs.Prelude.{vec_len, vec_capacity};
 ghost use Rattle.vt_syntax.specs.declared.held.Held.TheVariants.{Nothing};
 ghost use Rattle.vt_syntax.specs.Spelling.{spell_event, spell_events};
 ghost use Rattle.vt_screen.specs.Grid.{Grid, row_of, last_row};
@@ -7,7 +8,8 @@ ghost use Rattle.vt_term.specs.State.{State};
 ghost use Rattle.vt_term.specs.Sound.{IsSound};
 ghost use Rattle.vt_term.specs.Play.{play};
 ghost use Rattle.vt_paint.specs.Changes.{differing, AreChanges, Changes};
-ghost use Rattle.vt_paint.specs.ChangeEvents.{keypad_event, report_form_event, has_all, short_brush_events, change_of, changed_row, changed_cells, record_item, every_mode, change_events};
+ghost use Rattle.vt_paint.specs.ChangeEvents.{keypad_event, report_form_event, has_all, short_brush_events, change_of};
+ghost use Rattle.vt_paint.specs.ChangeEvents.{changed_row, changed_cells, record_item, every_mode, change_events};
 
 use crate::PAINT_LIMIT;
 use crate::cells::SPELLING_SETS;
@@ -211,7 +213,8 @@ fn push_changes(marks: &[[bool; STOPS]; ROWS], t: &Terminal, out: &mut Vec<u8>)
 }
 
 /// Appends bytes to `out` that lead a terminal to `t`, where the two have the same width and the same tab stops, and
-/// [`changed_places`](crate::changed_places) has marked where they differ: at most 28 bytes for each marked place, and 230.
+/// [`changed_places`](crate::changed_places) has marked where they differ: at most 28 bytes for each marked place, and
+/// 230.
 ///
 /// `t` is between sequences. The room is there: `PAINT_LIMIT` bytes. It never fails and takes no memory.
 pub fn repaint_changes_reserved(marks: &[[bool; STOPS]; ROWS], t: &Terminal, out: &mut Vec<u8>)

@@ -55,7 +55,8 @@ pub fn differing_cells(a: &Terminal, b: &Terminal) -> usize
     count
 }
 
-/// The places at which two rows of the same length have different cells. (Most rows are the same, and compared at once.)
+/// The places at which two rows of the same length have different cells. (Most rows are the same, and compared at
+/// once.)
 fn changed_in_row(a: &[Cell], b: &[Cell]) -> [bool; STOPS]
     requires len { length a.now ≡ length b.now }
     requires short { length b.now ≤ 132 }

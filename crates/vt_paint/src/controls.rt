@@ -4,7 +4,8 @@ ghost use Rattle.vt_glyph.specs.declared.set.Set.TheVariants.{Ascii};
 ghost use Rattle.vt_glyph.specs.Designation.{final_of};
 ghost use Rattle.vt_syntax.specs.Spelling.{spell_event, spell_events};
 ghost use Rattle.vt_glyph.specs.Spell.{spelling_of};
-ghost use Rattle.vt_paint.specs.Controls.{cursor_position, margins_to, ansi_mode, private_mode, brush_events, left_event, right_event, sets_events, spelling_events};
+ghost use Rattle.vt_paint.specs.Controls.{cursor_position, margins_to, ansi_mode, private_mode, brush_events};
+ghost use Rattle.vt_paint.specs.Controls.{left_event, right_event, sets_events, spelling_events};
 
 use crate::room::{push_bytes, push_number, push_where};
 use crate::tables::brush_part;
@@ -122,7 +123,9 @@ fn final_at(g: &[Set; 4], slot: usize) -> u8
 #[tactic(auto, unfolding(crate::specs::Controls::sets_events))]
 pub(crate) fn push_sets(g: &[Set; 4], left: u8, right: u8, out: &mut Vec<u8>)
     requires { vec_len out.old + 16 ≤ vec_capacity out.old }
-    ensures items { out.new.items ≡ out.old.items ++ spell_events (sets_events (record { g = g.now; left = left; right = right; pending = None })) }
+    ensures items { out.new.items
+        ≡ out.old.items
+        ++ spell_events (sets_events (record { g = g.now; left = left; right = right; pending = None })) }
     ensures bounded { vec_len out.new ≤ vec_len out.old + 16 }
     ensures capacity { vec_capacity out.old ≤ vec_capacity out.new }
 {

@@ -5,7 +5,8 @@ ghost use Rattle.vt_screen.specs.Grid.{columns};
 ghost use Rattle.vt_screen.specs.Cells.{brush_of};
 ghost use Rattle.vt_paint.specs.Controls.{where_true, private_mode, decom, cursor_position, set_tab, brush_events};
 ghost use Rattle.vt_paint.specs.Pieces.{glyph_events};
-ghost use Rattle.vt_paint.specs.Items.{stops_from, made_stops, stops_item, saved_item, saved_events, margins_item, ansi_mode_item, private_mode_item, modes_item, shift_item};
+ghost use Rattle.vt_paint.specs.Items.{stops_from, made_stops, stops_item, saved_item, saved_events, margins_item};
+ghost use Rattle.vt_paint.specs.Items.{ansi_mode_item, private_mode_item, modes_item, shift_item};
 
 use crate::controls::{
     push_ansi_mode, push_brush, push_cursor_to, push_glyph, push_margins_to, push_private_mode,

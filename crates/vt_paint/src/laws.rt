@@ -33,7 +33,8 @@ pub fn canonical()
     ensures same { (s u : State) → IsSound s → IsSound u → s.held ≡ Nothing → u.held ≡ Nothing
         → (s ≡ u) ↔ (paint s ≡ paint u) }
     ensures again { (s t : State) → IsSound s → IsSound t → s.held ≡ Nothing → paint (play t (paint s)).state ≡ paint s }
-    ensures reached { (s : State) → s.held ≡ Nothing → IsSound s ↔ ((bytes : List ℕ) × AreBytes bytes × ((play power_up bytes).state ≡ s)) }
+    ensures reached { (s : State) → s.held ≡ Nothing
+        → IsSound s ↔ ((bytes : List ℕ) × AreBytes bytes × ((play power_up bytes).state ≡ s)) }
 {
     rebuilds();
     bounded();

@@ -51,7 +51,9 @@ pub(crate) fn push_wrap(t: &Terminal, cursor: Cursor, out: &mut Vec<u8>)
 /// The cursor, and its wrap flag.
 pub(crate) fn push_cursor(t: &Terminal, out: &mut Vec<u8>)
     requires { vec_len out.old + 29 ≤ vec_capacity out.old }
-    ensures items { out.new.items ≡ out.old.items ++ spell_events (position_item t.now.display ++ wrap_item t.now.display.grid t.now.display.cursor) }
+    ensures items { out.new.items
+        ≡ out.old.items
+        ++ spell_events (position_item t.now.display ++ wrap_item t.now.display.grid t.now.display.cursor) }
     ensures bounded { vec_len out.new ≤ vec_len out.old + 29 }
     ensures capacity { vec_capacity out.old ≤ vec_capacity out.new }
 {
@@ -89,7 +91,8 @@ pub fn repaint(t: &Terminal, out: &mut Vec<u8>) -> Result<(), PaintError>
     Ok(())
 }
 
-/// Appends the repaint of a terminal between sequences to `out`, which has the room: `PAINT_LIMIT` bytes. It never fails
+/// Appends the repaint of a terminal between sequences to `out`, which has the room: `PAINT_LIMIT` bytes. It never
+/// fails
 /// and takes no memory.
 pub fn repaint_reserved(t: &Terminal, out: &mut Vec<u8>)
     requires between { t.now.held ≡ Nothing }

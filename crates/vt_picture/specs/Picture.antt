@@ -1,6 +1,8 @@
--- The screen as a picture: an SVG document in UTF-8, a column 10 units wide and a row 18 high. (this profile; the elements and
+-- The screen as a picture: an SVG document in UTF-8, a column 10 units wide and a row 18 high. (this profile; the
+-- elements and
 -- attributes are SVG's, the three entities XML's)
-use Rattle.std.specs.Prelude.{ℕ, suc, ◌+◌, ◌-◌, ◌*◌, List, [], ◌∷◌, ◌++◌, Bool, false, not, ◌==◌, ◌&&◌, if◌then◌else◌, codes, decimal, flat_map, encode_utf8}
+use Rattle.std.specs.Prelude.{ℕ, suc, ◌+◌, ◌-◌, ◌*◌, List, [], ◌∷◌, ◌++◌, Bool, false, not, ◌==◌, ◌&&◌, if◌then◌else◌}
+use Rattle.std.specs.Prelude.{codes, decimal, flat_map, encode_utf8}
 use Rattle.std.specs.List.{range_with_len}
 use Rattle.vt_screen.specs.declared.cell.Rendition.{Rendition}
 use Rattle.vt_screen.specs.declared.cell.Cell.{Cell}
@@ -66,7 +68,8 @@ classes look =
     (if look.reverse then codes "p" else codes "i")
     ++ where_true look.bold (codes " b") ++ where_true look.underline (codes " u") ++ where_true look.blink (codes " k")
 
--- what stands before the characters of a run of so many cells: where it is reversed, the ink under them; and their element
+-- what stands before the characters of a run of so many cells: where it is reversed, the ink under them; and their
+-- element
 unfoldable pub run_start : Rendition → ℕ → ℕ → ℕ → List ℕ
 run_start look row col count =
     where_true look.reverse (rectangle (codes "i") row col count)
@@ -79,11 +82,13 @@ run_start look row col count =
 abbrev pub run_end : List ℕ
 run_end = codes "</text>" ++ line_feed
 
--- a cell that isn't blank: it starts a run where the cell to its left doesn't go on with its attributes, and ends one where the
+-- a cell that isn't blank: it starts a run where the cell to its left doesn't go on with its attributes, and ends one
+-- where the
 -- cell to its right doesn't
 unfoldable pub shown_cell : ℕ → ℕ → Cell → Cell → List Cell → List ℕ
 shown_cell row col left cell rest =
-    where_true (not (goes_on cell.rendition left)) (run_start cell.rendition row col (run_length cell.rendition rest + 1))
+    where_true (not (goes_on cell.rendition left))
+    (run_start cell.rendition row col (run_length cell.rendition rest + 1))
     ++ escaped cell.glyph
     ++ where_true (not (is_followed cell.rendition rest)) run_end
 
@@ -125,13 +130,15 @@ document_start columns =
 
 -- light ink on dark paper, or the reverse
 abbrev pub colours : Bool → List ℕ
-colours reversed = if reversed then codes ".i{fill:#101010}.p{fill:#d0d0d0}" else codes ".i{fill:#d0d0d0}.p{fill:#101010}"
+colours reversed =
+    if reversed then codes ".i{fill:#101010}.p{fill:#d0d0d0}" else codes ".i{fill:#d0d0d0}.p{fill:#101010}"
 
 -- the font, and what the classes look like
 unfoldable pub style : Bool → List ℕ
 style reversed =
     codes "</desc>" ++ line_feed
-    ++ codes "<style>text{font:16.6px 'DejaVu Sans Mono','Liberation Mono',Menlo,Consolas,monospace;white-space:pre}" ++ line_feed
+    ++ codes "<style>text{font:16.6px 'DejaVu Sans Mono','Liberation Mono',Menlo,Consolas,monospace;white-space:pre}"
+    ++ line_feed
     ++ codes ".b{font-weight:bold}.u{text-decoration:underline}.k{animation:k 1s steps(1) infinite}" ++ line_feed
     ++ codes "@keyframes k{50%{opacity:0}}.c{fill:none;stroke:#e80;stroke-width:2}" ++ line_feed
     ++ colours reversed

@@ -21,7 +21,8 @@ change before after = where_true (not (same_rendition before after)) (rendition_
 -- cells behind some attributes, each by its attributes where they change and its character; plain again at the end
 abbrev pub shown_behind : Rendition → List Cell → List ℕ
 shown_behind before [] = change before plain
-shown_behind before (cell ∷ cells) = change before cell.rendition ++ encode_utf8 cell.glyph ++ shown_behind cell.rendition cells
+shown_behind before (cell ∷ cells) =
+    change before cell.rendition ++ encode_utf8 cell.glyph ++ shown_behind cell.rendition cells
 
 -- a row without the blank cells at its end, and LF
 abbrev pub shown_line : List Cell → List ℕ

@@ -1,7 +1,8 @@
 //! The screen as a picture: an SVG document.
 ghost use Rattle.std.specs.Prelude.{◌≡◌, ◌+◌, ◌*◌, ◌≤◌, ◌++◌, length, vec_len, vec_capacity, OnOk, OnErr, IsOk};
 ghost use Rattle.vt_term.specs.State.{Display};
-ghost use Rattle.vt_picture.specs.Picture.{alternative, alternative_line, colours, cursor_picture, document_start, paper, picture, rows_picture, style};
+ghost use Rattle.vt_picture.specs.Picture.{alternative, alternative_line, colours, cursor_picture, document_start};
+ghost use Rattle.vt_picture.specs.Picture.{paper, picture, rows_picture, style};
 
 use crate::bytes::{push_bytes, push_escaped, push_number};
 use crate::looks::without_blank_end;
@@ -138,10 +139,12 @@ fn push_cursor(t: &Terminal, out: &mut Vec<u8>)
     }
 }
 
-/// Appends the screen to `out` as a picture: an SVG document in UTF-8, with the screen's text as its text alternative. A column
+/// Appends the screen to `out` as a picture: an SVG document in UTF-8, with the screen's text as its text alternative.
+/// A column
 /// is 10 units wide and a row 18 high, and each run of cells has its place and its length.
 ///
-/// `PICTURE_LIMIT` bytes of room are reserved first. `Err` where that is refused: then the contents of `out` are unchanged.
+/// `PICTURE_LIMIT` bytes of room are reserved first. `Err` where that is refused: then the contents of `out` are
+/// unchanged.
 pub fn picture(t: &Terminal, out: &mut Vec<u8>) -> Result<(), AllocError>
     ensures ok { OnOk result (out.new.items ≡ out.old.items ++ picture t.now) }
     ensures err { OnErr result (out.new.items ≡ out.old.items) }
@@ -154,7 +157,8 @@ pub fn picture(t: &Terminal, out: &mut Vec<u8>) -> Result<(), AllocError>
     Ok(())
 }
 
-/// Appends the screen to `out` as a picture, as [`picture`] does; `out` has the room: `PICTURE_LIMIT` bytes. It never fails and
+/// Appends the screen to `out` as a picture, as [`picture`] does; `out` has the room: `PICTURE_LIMIT` bytes. It never
+/// fails and
 /// takes no memory.
 #[tactic(auto, unfolding(crate::specs::Picture::picture_of))]
 pub fn picture_reserved(t: &Terminal, out: &mut Vec<u8>)

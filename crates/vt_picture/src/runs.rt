@@ -2,7 +2,9 @@
 ghost use Rattle.std.specs.Prelude.{◌≡◌, ◌+◌, ◌*◌, ◌≤◌, ◌<◌, ◌++◌, codes, length, vec_len, vec_capacity};
 ghost use Rattle.vt_screen.specs.Grid.{last_row};
 ghost use Rattle.vt_picture.specs.Looks.{where_true};
-ghost use Rattle.vt_picture.specs.Picture.{left_of, width_of, top_of, baseline_of, rectangle, goes_on as goes_on_with, run_length as run_length_of, is_followed as is_followed_by, classes, run_start, shown_cell, cells_picture, row_picture};
+ghost use Rattle.vt_picture.specs.Picture.{left_of, width_of, top_of, baseline_of, rectangle, goes_on as goes_on_with};
+ghost use Rattle.vt_picture.specs.Picture.{run_length as run_length_of, is_followed as is_followed_by, classes};
+ghost use Rattle.vt_picture.specs.Picture.{run_start, shown_cell, cells_picture, row_picture};
 
 use crate::bytes::{push_bytes, push_escaped, push_number, push_where};
 use crate::looks::is_blank;

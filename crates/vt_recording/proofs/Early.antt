@@ -9,15 +9,30 @@ use Rattle.vt_recording.specs.Run.{Moves, Takes, Table, ReadTable}
 module _ (format : Format) (limit : ℕ) (failed ended writes : Bool) (works : writes ≡ false) (b : List ℕ) where
   -- what a fault of the reading part says of the whole run
   row : (fault : Fault) → ReadTable (Err fault) b failed ended limit
-      → Table (Err fault) format b [] (record { reader_failed = failed; reader_ended = ended; writer_failed = writes }) limit
+      → Table (Err fault) format b [] (record { reader_failed = failed; reader_ended = ended; writer_failed = writes })
+      limit
   row Memory holds = (holds.0, works, holds.1, refl)
   row (Broken at) holds = absurd holds
   row Read holds = (record { reader_failed = holds.0; reader_ended = holds.1; writer_failed = works }, holds.2, refl)
   row Write holds = absurd holds
   row TooLong holds = (record { reader_failed = holds.0; reader_ended = holds.1; writer_failed = works }, holds.2, refl)
 
-pub ended_early : (left after held : Option (List ℕ)) (format : Format) (limit : ℕ) (failed ended writes : Bool) (fault : Fault) → writes ≡ false
+pub ended_early : (left after held : Option (List ℕ)) (format : Format) (limit : ℕ) (failed ended writes : Bool)
+    (fault : Fault) → writes ≡ false
     → Takes left after (λ b. ReadTable (Err fault) b failed ended limit)
-    → Moves left after held held (λ b w. Table (Err fault) format b w (record { reader_failed = failed; reader_ended = ended; writer_failed = writes }) limit)
+    → Moves left after held held
+    (λ b w. Table (Err fault) format b w (record {
+      reader_failed = failed;
+      reader_ended = ended;
+      writer_failed =
+          writes;
+    }) limit)
 ended_early left after held format limit failed ended writes fault works t =
-    record { b = t.b; w = []; taken = t.taken; given = Appends-nil held; holds = row format limit failed ended writes works t.b fault t.holds }
+    record {
+      b = t.b;
+      w = [];
+      taken = t.taken;
+      given = Appends-nil held;
+      holds =
+          row format limit failed ended writes works t.b fault t.holds;
+    }

@@ -1,5 +1,6 @@
 -- The whole pieces at the front of a recording by ttyrec.
-use Rattle.std.proofs.Common.{◌≡◌, ℕ, ◌+◌, ◌≤◌, ◌<◌, ◌++◌, ◌∷◌, List, [], length, take, drop, Option, Bool, true, false, cond, arith, refl, sym, ap, ◌∙◌, append-nil, append_assoc, length-drop}
+use Rattle.std.proofs.Common.{◌≡◌, ℕ, ◌+◌, ◌≤◌, ◌<◌, ◌++◌, ◌∷◌, List, [], length, take, drop, Option, Bool, true, false}
+use Rattle.std.proofs.Common.{cond, arith, refl, sym, ap, ◌∙◌, append-nil, append_assoc, length-drop}
 use Rattle.std.specs.List.{All, flat_map}
 use Rattle.std.proofs.lemmas.List.{length-take, get_or-take, flat_map_more}
 use Rattle.std.proofs.lemmas.List.Elements.{All-append, All-nil, All-from_recursion, filter-append}
@@ -20,7 +21,12 @@ no_piece until bytes = record { pieces = []; taken = refl; whole = All-nil _; wa
 -- a number within the front of some bytes
 number_in_front : (at n : ℕ) (xs : List ℕ) → at + 3 < n → number_at at (take n xs) ≡ number_at at xs
 number_in_front at n xs within =
-    rw (get_or-take n xs at 0 (omega arith), get_or-take n xs (at + 1) 0 (omega arith), get_or-take n xs (at + 2) 0 (omega arith), get_or-take n xs (at + 3) 0 (omega arith)) refl
+    rw (
+      get_or-take n xs at 0 (omega arith),
+      get_or-take n xs (at + 1) 0 (omega arith),
+      get_or-take n xs (at + 2) 0 (omega arith),
+      get_or-take n xs (at + 3) 0 (omega arith),
+    ) refl
 
 time_in_front : (xs : List ℕ) → time_of (take 12 xs) ≡ time_of xs
 time_in_front xs = rw (number_in_front 0 12 xs (omega arith), number_in_front 4 12 xs (omega arith)) refl
@@ -33,9 +39,11 @@ all_one : (p : Piece) → IsWhole p → All (λ q. IsWhole q) (p ∷ [])
 all_one p is = All-from_recursion (λ q. IsWhole q) (p ∷ []) (is, tt)
 
 -- one piece more
-due_more : (until : Option ℕ) (start : ℕ) (pieces : List Piece) (p : Piece) (is : Bool) → is_due until start (time_of p.header) ≡ is
+due_more : (until : Option ℕ) (start : ℕ) (pieces : List Piece) (p : Piece) (is : Bool)
+    → is_due until start (time_of p.header) ≡ is
     → due until start (pieces ++ p ∷ []) ≡ due until start pieces ++ cond is p.bytes []
-due_more until start pieces p true is = rw (filter-append, flat_map-append, is) (ap (λ (l : List ℕ). due until start pieces ++ l) (append-nil p.bytes))
+due_more until start pieces p true is =
+    rw (filter-append, flat_map-append, is) (ap (λ (l : List ℕ). due until start pieces ++ l) (append-nil p.bytes))
 due_more until start pieces p false is = rw (filter-append, flat_map-append, is) refl
 
 -- the piece that begins at a place
@@ -67,7 +75,8 @@ one_more until bytes content at size is fits says wanted front = record {
   taken =
       piece_stands bytes at size fits ∙ ap (λ (l : List ℕ). l ++ spelled (piece_at bytes at size)) front.taken
       ∙ flat_map_more (λ p. spelled p) [] front.pieces (piece_at bytes at size);
-  whole = All-append (λ p. IsWhole p) front.pieces _ front.whole (all_one (piece_at bytes at size) (piece_is_whole bytes at size fits says));
+  whole = All-append (λ p. IsWhole p) front.pieces _ front.whole
+      (all_one (piece_at bytes at size) (piece_is_whole bytes at size fits says));
   wanted =
       ap (λ (l : List ℕ). l ++ cond is (take size (drop (at + 12) bytes)) []) front.wanted
       ∙ sym (due_more until (time_of bytes) front.pieces (piece_at bytes at size) is

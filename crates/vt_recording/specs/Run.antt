@@ -1,5 +1,6 @@
 -- What is taken from the reader of a recording and given to the writer of its content. (this profile)
-use Rattle.std.specs.Prelude.{◌≡◌, ℕ, ◌≤◌, ◌<◌, ◌+◌, ◌++◌, List, [], length, Bool, true, false, Result, Ok, Err, Option, Some, None}
+use Rattle.std.specs.Prelude.{◌≡◌, ℕ, ◌≤◌, ◌<◌, ◌+◌, ◌++◌, List, [], length, Bool, true, false, Result, Ok, Err, Option}
+use Rattle.std.specs.Prelude.{Some, None}
 use Rattle.std.specs.Io.KnownBytes.{Appends, Consumes}
 use Rattle.std.specs.declared.alloc.Global.{Global}
 use Rattle.std.specs.declared.vec.Vec.{Vec}
@@ -38,7 +39,8 @@ abbrev pub Table : Result (Unit {0}) Fault → Format → (b w : List ℕ) → F
 Table (Ok u) format b w f limit = AreFlags f false true false × (length b ≤ limit) × IsTaken format b w None
 Table (Err Memory) format b w f limit =
     (f.reader_failed ≡ false) × (f.writer_failed ≡ false) × (length b ≤ limit + 1) × (w ≡ [])
-Table (Err (Broken at)) format b w f limit = AreFlags f false true false × (length b ≤ limit) × IsTaken format b w (Some at)
+Table (Err (Broken at)) format b w f limit = AreFlags f false true false × (length b ≤ limit)
+    × IsTaken format b w (Some at)
 Table (Err Read) format b w f limit = AreFlags f true false false × (length b ≤ limit) × (w ≡ [])
 Table (Err Write) format b w f limit = AreFlags f false true true × (length b ≤ limit) × IsCutOff format b w
 Table (Err TooLong) format b w f limit = AreFlags f false false false × (length b ≡ limit + 1) × (w ≡ [])

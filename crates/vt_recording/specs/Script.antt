@@ -1,5 +1,6 @@
 -- A recording by script(1): what stands between its first and its last line. (script(1) of util-linux)
-use Rattle.std.specs.Prelude.{◌≡◌, ℕ, ◌+◌, ◌<◌, ◌⊎◌, List, [], ◌∷◌, length, take, drop, codes, Bool, true, false, cond, Option, Some, None, nat_eq}
+use Rattle.std.specs.Prelude.{◌≡◌, ℕ, ◌+◌, ◌<◌, ◌⊎◌, List, [], ◌∷◌, length, take, drop, codes, Bool, true, false, cond}
+use Rattle.std.specs.Prelude.{Option, Some, None, nat_eq}
 use Rattle.std.specs.List.{starts_with, position}
 
 -- so the first line begins

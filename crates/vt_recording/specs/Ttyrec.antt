@@ -1,11 +1,13 @@
 -- A recording by ttyrec: pieces, each after a header of 12 bytes. (the format of ttyrec)
-use Rattle.std.specs.Prelude.{◌≡◌, ℕ, ◌+◌, ◌*◌, ◌<◌, ◌⊎◌, List, [], ◌++◌, length, slice_index, Bool, true, Option, Some, None, nat_le}
+use Rattle.std.specs.Prelude.{◌≡◌, ℕ, ◌+◌, ◌*◌, ◌<◌, ◌⊎◌, List, [], ◌++◌, length, slice_index, Bool, true, Option, Some}
+use Rattle.std.specs.Prelude.{None, nat_le}
 use Rattle.std.specs.List.{All, filter, flat_map}
 
 -- the number of 32 bits at a place, its lowest byte first
 abbrev pub number_at : ℕ → List ℕ → ℕ
 number_at at bytes =
-    slice_index bytes at + 0x100 * slice_index bytes (at + 1) + 0x10000 * slice_index bytes (at + 2) + 0x1000000 * slice_index bytes (at + 3)
+    slice_index bytes at + 0x100 * slice_index bytes (at + 1) + 0x10000 * slice_index bytes (at + 2)
+    + 0x1000000 * slice_index bytes (at + 3)
 
 -- when a piece came, in microseconds: its header's seconds, and the microseconds beside them
 abbrev pub time_of : List ℕ → ℕ

@@ -19,12 +19,15 @@ const PIECE: usize = 65536;
 /// Reads a recording to its end, and writes its content: what `take_apart` says of the bytes. Neither device has failed
 /// before, and the reader hasn't ended.
 ///
-/// At most `limit` bytes are read (up to 2 to the 40th), and one more to see whether the input goes on. Nothing is written
+/// At most `limit` bytes are read (up to 2 to the 40th), and one more to see whether the input goes on. Nothing is
+/// written
 /// before the input has ended, no memory is taken after the first write, and no call of a device is made again after an
 /// error. Where the reader has ended, no byte that it tells of is left.
 ///
-/// `Err` is `Memory` where a growth was refused, `Read` or `Write` where that device failed, `TooLong` where the input has
-/// more than `limit` bytes, and `Broken` where the recording breaks its format, after all content before that was written.
+/// `Err` is `Memory` where a growth was refused, `Read` or `Write` where that device failed, `TooLong` where the input
+/// has
+/// more than `limit` bytes, and `Broken` where the recording breaks its format, after all content before that was
+/// written.
 pub fn run<R: Read, W: Write>(
     alloc: Global,
     reader: &mut Watched<R>,
@@ -36,7 +39,8 @@ pub fn run<R: Read, W: Write>(
     requires reader_goes_on { reader.old.ended ≡ false }
     requires writer_works { writer.old.failed ≡ false }
     requires limit_in_range { limit ≤ 1099511627776 }
-    ensures answer { Moves (R.remaining reader.old.device) (R.remaining reader.new.device) (W.contents writer.old.device) (W.contents writer.new.device)
+    ensures answer { Moves (R.remaining reader.old.device) (R.remaining reader.new.device) (W.contents writer.old.device)
+        (W.contents writer.new.device)
         (λ b w. Table result format b w (record { reader_failed = reader.new.failed; reader_ended = reader.new.ended; writer_failed = writer.new.failed }) limit) }
     ensures whole { reader.new.ended ≡ true → IsAtEnd (R.remaining reader.new.device) }
 {
@@ -86,7 +90,8 @@ fn read_whole<R: Read>(
 /// Writes the whole piece, by as many writes as it takes, and says whether it got through.
 fn write_whole<W: Write>(writer: &mut Watched<W>, piece: &[u8]) -> bool
     requires { writer.old.failed ≡ false }
-    ensures gives { Gives (W.contents writer.old.device) (W.contents writer.new.device) (WriteTable result writer.new.failed piece.now) }
+    ensures gives { Gives (W.contents writer.old.device) (W.contents writer.new.device)
+        (WriteTable result writer.new.failed piece.now) }
 {
     let mut at = 0;
     while at < piece.len() {

@@ -7,7 +7,8 @@ pub enum Format {
     Script,
     /// By ttyrec: pieces, each after a header with its time and its length.
     Ttyrec {
-        /// How long after the first piece the last one that is wanted may have come, in microseconds; with none all are.
+        /// How long after the first piece the last one that is wanted may have come, in microseconds; with none all
+        /// are.
         until: Option<u64>,
     },
 }

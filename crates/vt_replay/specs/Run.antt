@@ -1,5 +1,6 @@
 -- What a replay takes from its reader and gives to its writer. (this profile)
-use Rattle.std.specs.Prelude.{◌≡◌, ◌≢◌, ℕ, ◌≤◌, ◌<◌, ◌+◌, ◌++◌, List, [], length, take, Bool, true, false, Result, Ok, Err, Option}
+use Rattle.std.specs.Prelude.{◌≡◌, ◌≢◌, ℕ, ◌≤◌, ◌<◌, ◌+◌, ◌++◌, List, [], length, take, Bool, true, false, Result, Ok}
+use Rattle.std.specs.Prelude.{Err, Option}
 use Rattle.std.specs.Io.KnownBytes.{Appends, Consumes}
 use Rattle.vt_syntax.specs.declared.held.Held.TheVariants.{Nothing}
 use Rattle.vt_term.specs.State.{State, power_up}
@@ -48,13 +49,17 @@ WriteRow Picture piece b w f = AreFlags f false true true
 
 -- what each answer says, b being the bytes read and w the bytes written
 abbrev pub Table : Result (Unit {0}) Fault → What → (piece : ℕ) → (b w : List ℕ) → Flags → (limit : ℕ) → Type 0
-Table (Ok u) what piece b w f limit = AreFlags f false true false × (length b ≤ limit) × IsThere what (play power_up b).state × (w ≡ due what b)
+Table (Ok u) what piece b w f limit = AreFlags f false true false × (length b ≤ limit)
+    × IsThere what (play power_up b).state × (w ≡ due what b)
 Table (Err Memory) what piece b w f limit = AreFlags f false false false × (b ≡ []) × (w ≡ [])
 Table (Err Partial) what piece b w f limit =
-    (what ≡ Repaint) × AreFlags f false true false × (length b ≤ limit) × ((play power_up b).state.held ≢ Nothing) × (w ≡ [])
+    (what ≡ Repaint) × AreFlags f false true false × (length b ≤ limit) × ((play power_up b).state.held ≢ Nothing)
+    × (w ≡ [])
 Table (Err Read) what piece b w f limit = AreFlags f true false false × (length b ≤ limit) × (w ≡ sent_for what b)
-Table (Err Write) what piece b w f limit = WriteRow what piece b w f × (length b ≤ limit) × IsProperBeginning w (due what b)
-Table (Err TooLong) what piece b w f limit = AreFlags f false false false × (length b ≡ limit + 1) × (w ≡ sent_for what (take limit b))
+Table (Err Write) what piece b w f limit = WriteRow what piece b w f × (length b ≤ limit)
+    × IsProperBeginning w (due what b)
+Table (Err TooLong) what piece b w f limit = AreFlags f false false false × (length b ≡ limit + 1)
+    × (w ≡ sent_for what (take limit b))
 
 -- some bytes were taken from the reader, and some by the writer, for which a fact holds
 pub record Moves (left left_after held held_after : Option (List ℕ)) (P : List ℕ → List ℕ → Type 0) : Type 0 where
@@ -74,12 +79,15 @@ pub record IsPlayed (what : What) (t : State) (reported : ℕ) (b w : List ℕ) 
 
 -- what each answer of the reading part says
 abbrev pub ReadTable : Result ℕ Fault → What → (t : State) → (piece : ℕ) → (b w : List ℕ) → Flags → (limit : ℕ) → Type 0
-ReadTable (Ok reported) what t piece b w f limit = AreFlags f false true false × (length b ≤ limit) × IsPlayed what t reported b w
+ReadTable (Ok reported) what t piece b w f limit = AreFlags f false true false × (length b ≤ limit)
+    × IsPlayed what t reported b w
 ReadTable (Err Memory) what t piece b w f limit = ⊥
 ReadTable (Err Partial) what t piece b w f limit = ⊥
 ReadTable (Err Read) what t piece b w f limit = AreFlags f true false false × (length b ≤ limit) × (w ≡ sent_for what b)
-ReadTable (Err Write) what t piece b w f limit = (what ≡ Reports) × AreFlags f false false true × HasEarlierReports piece b w × (length b ≤ limit) × IsProperBeginning w (play power_up b).reports
-ReadTable (Err TooLong) what t piece b w f limit = AreFlags f false false false × (length b ≡ limit + 1) × (w ≡ sent_for what (take limit b))
+ReadTable (Err Write) what t piece b w f limit = (what ≡ Reports) × AreFlags f false false true
+    × HasEarlierReports piece b w × (length b ≤ limit) × IsProperBeginning w (play power_up b).reports
+ReadTable (Err TooLong) what t piece b w f limit = AreFlags f false false false × (length b ≡ limit + 1)
+    × (w ≡ sent_for what (take limit b))
 
 -- some bytes were taken by the writer, for which a fact holds
 pub record Gives (held held_after : Option (List ℕ)) (P : List ℕ → Type 0) : Type 0 where

@@ -1,5 +1,6 @@
 //! The replay of an input: all memory is taken first, and the loops take none.
-ghost use Rattle.std.specs.Prelude.{◌≡◌, ◌≢◌, IsTrue, ◌+◌, ◌*◌, ◌≤◌, ◌<◌, ◌++◌, [], true, false, length, vec_len, vec_capacity, IfOk, IfErr};
+ghost use Rattle.std.specs.Prelude.{◌≡◌, ◌≢◌, IsTrue, ◌+◌, ◌*◌, ◌≤◌, ◌<◌, ◌++◌, [], true, false, length, vec_len};
+ghost use Rattle.std.specs.Prelude.{vec_capacity, IfOk, IfErr};
 ghost use Rattle.std.specs.Io.KnownBytes.{IsAtEnd};
 ghost use Rattle.vt_term.specs.State.{power_up};
 ghost use Rattle.vt_syntax.specs.declared.held.Held.TheVariants.{Nothing};
@@ -29,7 +30,8 @@ use vt_term::{REPORT_LIMIT, TEXT_LIMIT, Terminal};
 /// has more than `limit` bytes, and `Partial` where a repaint is asked for and the input ends inside a sequence.
 ///
 /// The table of answers speaks of the bytes that the reader tells of (`remaining`) and those that the writer tells of
-/// (`contents`), as those over memory do. A file, a pipe, standard input and standard output tell none: of these it says
+/// (`contents`), as those over memory do. A file, a pipe, standard input and standard output tell none: of these it
+/// says
 /// which flags go with which answer, and that what was written is what is due for some bytes.
 pub fn run<R: Read, W: Write>(
     alloc: Global,
@@ -44,7 +46,8 @@ pub fn run<R: Read, W: Write>(
     requires writer_works { writer.old.failed ≡ false }
     requires piece_in_range { (1 ≤ piece) × (piece ≤ 65536) }
     requires limit_in_range { limit ≤ 1099511627776 }
-    ensures answer { Moves (R.remaining reader.old.device) (R.remaining reader.new.device) (W.contents writer.old.device) (W.contents writer.new.device)
+    ensures answer { Moves (R.remaining reader.old.device) (R.remaining reader.new.device) (W.contents writer.old.device)
+        (W.contents writer.new.device)
         (λ b w. Table result what piece b w (record { reader_failed = reader.new.failed; reader_ended = reader.new.ended; writer_failed = writer.new.failed }) limit) }
     ensures whole { reader.new.ended ≡ true → IsAtEnd (R.remaining reader.new.device) }
 {
@@ -71,7 +74,8 @@ struct Room {
 }
 
 impl Room {
-    /// The room for pieces of so many bytes and for what is due at the end, with a terminal as at power-up. `Err` is `Memory`.
+    /// The room for pieces of so many bytes and for what is due at the end, with a terminal as at power-up. `Err` is
+    /// `Memory`.
     fn new(alloc: Global, what: What, piece: usize) -> Result<Room, Fault>
         requires { piece ≤ 65536 }
         ensures terminal { IfOk result (λ room. room.terminal ≡ power_up) }
@@ -88,7 +92,8 @@ impl Room {
     }
 }
 
-/// Plays the reader's bytes as the settings ask, and writes what is due: `run` by their kind, piece and limit. Their file is
+/// Plays the reader's bytes as the settings ask, and writes what is due: `run` by their kind, piece and limit. Their
+/// file is
 /// not looked at: the reader is what it names. Neither device has failed before, and the reader hasn't ended.
 ///
 /// `Err` is what `run` answers.
@@ -101,7 +106,8 @@ pub fn replay<R: Read, W: Write>(
     requires reader_works { reader.old.failed ≡ false }
     requires reader_goes_on { reader.old.ended ≡ false }
     requires writer_works { writer.old.failed ≡ false }
-    ensures answer { Moves (R.remaining reader.old.device) (R.remaining reader.new.device) (W.contents writer.old.device) (W.contents writer.new.device)
+    ensures answer { Moves (R.remaining reader.old.device) (R.remaining reader.new.device) (W.contents writer.old.device)
+        (W.contents writer.new.device)
         (λ b w. Table result settings.now.what settings.now.piece b w (record { reader_failed = reader.new.failed; reader_ended = reader.new.ended; writer_failed = writer.new.failed }) settings.now.limit) }
     ensures whole { reader.new.ended ≡ true → IsAtEnd (R.remaining reader.new.device) }
 {
@@ -133,7 +139,8 @@ fn run_in_room<R: Read, W: Write>(
     requires some_room { 1 ≤ length buffer.old }
     requires room_for_reports { 10 * length buffer.old ≤ vec_capacity out.old }
     requires room_at_end { room_for what ≤ vec_capacity out.old }
-    ensures answer { Moves (R.remaining reader.old.device) (R.remaining reader.new.device) (W.contents writer.old.device) (W.contents writer.new.device)
+    ensures answer { Moves (R.remaining reader.old.device) (R.remaining reader.new.device) (W.contents writer.old.device)
+        (W.contents writer.new.device)
         (λ b w. Table result what (length buffer.old) b w (record { reader_failed = reader.new.failed; reader_ended = reader.new.ended; writer_failed = writer.new.failed }) limit) }
     ensures whole { reader.new.ended ≡ true → IsAtEnd (R.remaining reader.new.device) }
 {
@@ -175,7 +182,8 @@ fn room_for(what: What) -> usize
     }
 }
 
-/// Appends what is due after the whole input: the text, plain or with its attributes, the picture, the repaint, the status, or
+/// Appends what is due after the whole input: the text, plain or with its attributes, the picture, the repaint, the
+/// status, or
 /// nothing.
 fn push_due_at_end(terminal: &Terminal, what: What, reported: u64, out: &mut Vec<u8>)
     requires room { vec_len out.old + room_for what ≤ vec_capacity out.old }
@@ -209,7 +217,8 @@ fn play_input<R: Read, W: Write>(
     requires new { terminal.old ≡ power_up }
     requires some_room { 1 ≤ length buffer.old }
     requires room_for_reports { 10 * length buffer.old ≤ vec_capacity out.old }
-    ensures moves { Moves (R.remaining reader.old.device) (R.remaining reader.new.device) (W.contents writer.old.device) (W.contents writer.new.device)
+    ensures moves { Moves (R.remaining reader.old.device) (R.remaining reader.new.device) (W.contents writer.old.device)
+        (W.contents writer.new.device)
         (λ b w. ReadTable result what terminal.new (length buffer.old) b w (record { reader_failed = reader.new.failed; reader_ended = reader.new.ended; writer_failed = writer.new.failed }) limit) }
     ensures whole { reader.new.ended ≡ true → IsAtEnd (R.remaining reader.new.device) }
     ensures capacity { vec_capacity out.old ≤ vec_capacity out.new }
@@ -244,7 +253,8 @@ fn play_input<R: Read, W: Write>(
 /// Writes the reports of a piece, where reports are asked for, and says whether they got through.
 fn send<W: Write>(writer: &mut Watched<W>, what: What, reports: &[u8]) -> bool
     requires { writer.old.failed ≡ false }
-    ensures gives { Gives (W.contents writer.old.device) (W.contents writer.new.device) (WriteTable result writer.new.failed (sent what reports.now)) }
+    ensures gives { Gives (W.contents writer.old.device) (W.contents writer.new.device)
+        (WriteTable result writer.new.failed (sent what reports.now)) }
     ensures ended { writer.new.ended ≡ writer.old.ended }
 {
     match what {
@@ -256,7 +266,8 @@ fn send<W: Write>(writer: &mut Watched<W>, what: What, reports: &[u8]) -> bool
 /// Writes the whole piece, by as many writes as it takes, and says whether it got through.
 fn write_whole<W: Write>(writer: &mut Watched<W>, piece: &[u8]) -> bool
     requires { writer.old.failed ≡ false }
-    ensures gives { Gives (W.contents writer.old.device) (W.contents writer.new.device) (WriteTable result writer.new.failed piece.now) }
+    ensures gives { Gives (W.contents writer.old.device) (W.contents writer.new.device)
+        (WriteTable result writer.new.failed piece.now) }
     ensures ended { writer.new.ended ≡ writer.old.ended }
 {
     let mut at = 0;

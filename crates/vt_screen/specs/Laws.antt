@@ -27,7 +27,8 @@ pub record PlaceLaws : Type 0 where
 -- a row has the cells of its columns, in order
 pub record RowLaws : Type 0 where
   pub len : (g : Grid) (r : ℕ) → length (row_of g r) ≡ g.width
-  pub cell : (g : Grid) (r c : ℕ) (d : Cell) → 1 ≤ c → c ≤ g.width → slice_index_or (row_of g r) (c - 1) d ≡ cell_at g r c
+  pub cell : (g : Grid) (r c : ℕ) (d : Cell) → 1 ≤ c → c ≤ g.width → slice_index_or (row_of g r) (c - 1) d
+      ≡ cell_at g r c
 
 -- a run of glyphs is written as its glyphs are, one after another
 pub record RunLaws : Type 0 where
@@ -48,7 +49,8 @@ pub record AreaLaws : Type 0 where
       → ((r c : ℕ) → 1 ≤ r → r ≤ last_row → 1 ≤ c → c ≤ g.width → a r c ≡ b r c)
       → erase_area g a selective ≡ erase_area g b selective
 
--- a test that a blank cell and each cell of a grid pass is passed at every place; a formula's grid passes a test that the
+-- a test that a blank cell and each cell of a grid pass is passed at every place; a formula's grid passes a test that
+-- the
 -- formula passes at every place
 pub record TestLaws : Type 0 where
   pub at : (test : Cell → Bool) (g : Grid) (r c : ℕ) → IsTrue (test blank) → AllCells test g

@@ -73,7 +73,8 @@ pub fn erase_cells(cells: &mut [Cell], selective: bool)
 /// Moves the cells from `at` on right by `n`, and leaves open what stands in the gap.
 fn shift_right(line: &mut [Cell], at: usize, n: usize)
     requires { at + n ≤ length line.old }
-    ensures moved { (k : ℕ) → at + n ≤ k → k < length line.old → slice_index_or line.new k blank ≡ slice_index_or line.old (k - n) blank }
+    ensures moved { (k : ℕ) → at + n ≤ k → k < length line.old
+        → slice_index_or line.new k blank ≡ slice_index_or line.old (k - n) blank }
     ensures front { (k : ℕ) → k < at → slice_index_or line.new k blank ≡ slice_index_or line.old k blank }
 {
     let kept = line.len() - n;
@@ -84,7 +85,8 @@ fn shift_right(line: &mut [Cell], at: usize, n: usize)
 pub fn insert_cell(line: &mut [Cell], at: usize, cell: Cell)
     requires { at < length line.old }
     ensures here { slice_index_or line.new at blank ≡ cell }
-    ensures moved { (k : ℕ) → at < k → k < length line.old → slice_index_or line.new k blank ≡ slice_index_or line.old (k - 1) blank }
+    ensures moved { (k : ℕ) → at < k → k < length line.old
+        → slice_index_or line.new k blank ≡ slice_index_or line.old (k - 1) blank }
     ensures front { (k : ℕ) → k < at → slice_index_or line.new k blank ≡ slice_index_or line.old k blank }
 {
     shift_right(line, at, 1);
@@ -95,7 +97,8 @@ pub fn insert_cell(line: &mut [Cell], at: usize, cell: Cell)
 pub fn insert_blanks(line: &mut [Cell], at: usize, n: usize)
     requires { at + n ≤ length line.old }
     ensures gap { (k : ℕ) → at ≤ k → k < at + n → slice_index_or line.new k blank ≡ blank }
-    ensures moved { (k : ℕ) → at + n ≤ k → k < length line.old → slice_index_or line.new k blank ≡ slice_index_or line.old (k - n) blank }
+    ensures moved { (k : ℕ) → at + n ≤ k → k < length line.old
+        → slice_index_or line.new k blank ≡ slice_index_or line.old (k - n) blank }
     ensures front { (k : ℕ) → k < at → slice_index_or line.new k blank ≡ slice_index_or line.old k blank }
 {
     shift_right(line, at, n);
@@ -105,7 +108,8 @@ pub fn insert_blanks(line: &mut [Cell], at: usize, n: usize)
 /// Removes `n` cells; `n` blank ones come in at the end.
 pub fn remove_cells(line: &mut [Cell], at: usize, n: usize)
     requires { at + n ≤ length line.old }
-    ensures moved { (k : ℕ) → at ≤ k → k + n < length line.old → slice_index_or line.new k blank ≡ slice_index_or line.old (k + n) blank }
+    ensures moved { (k : ℕ) → at ≤ k → k + n < length line.old
+        → slice_index_or line.new k blank ≡ slice_index_or line.old (k + n) blank }
     ensures end { (k : ℕ) → k < length line.old → length line.old ≤ k + n → slice_index_or line.new k blank ≡ blank }
     ensures front { (k : ℕ) → k < at → slice_index_or line.new k blank ≡ slice_index_or line.old k blank }
 {
@@ -135,7 +139,8 @@ fn write(place: &mut Cell, cell: &Cell)
 pub fn write_codes(cells: &mut [Cell], codes: &[u8], like: Cell)
     requires codes { All (λ code. (0x20 ≤ code) × (code ≤ 0x7E)) codes.now }
     requires len { length cells.old ≡ length codes.now }
-    ensures { (k : ℕ) → k < length codes.now → slice_index_or cells.new k blank ≡ cell_like like (slice_index codes.now k) }
+    ensures { (k : ℕ) → k < length codes.now
+        → slice_index_or cells.new k blank ≡ cell_like like (slice_index codes.now k) }
 {
     for (i, code) in codes.iter().enumerate() {
         write_like(&mut cells[i], &like, Glyph::ascii(*code));
@@ -179,7 +184,8 @@ fn write_four(cells: &mut [Cell], bytes: &[u8], at: usize, table: &InUse, like: 
     write_like(&mut cells[at + 3], like, table.glyph(bytes[at + 3]));
 }
 
-/// A cell as one number, a byte of it for each byte of the cell, so that it is read as one word. (Each field is read from
+/// A cell as one number, a byte of it for each byte of the cell, so that it is read as one word. (Each field is read
+/// from
 /// the cell itself. Of copies of its parts the compiler makes vectors.)
 #[inline(always)]
 fn word_of(cell: &Cell) -> u64
@@ -208,7 +214,8 @@ fn same_cell(a: &Cell, b: &Cell) -> bool
 fn same_four(a: &[Cell], b: &[Cell], at: usize) -> bool
     requires a { at + 4 ≤ length a.now }
     requires b { at + 4 ≤ length b.now }
-    ensures { IsTrue result ↔ ((k : ℕ) → at ≤ k → k < at + 4 → slice_index_or a.now k blank ≡ slice_index_or b.now k blank) }
+    ensures { IsTrue result
+        ↔ ((k : ℕ) → at ≤ k → k < at + 4 → slice_index_or a.now k blank ≡ slice_index_or b.now k blank) }
 {
     same_cell(&a[at], &b[at])
         && same_cell(&a[at + 1], &b[at + 1])
@@ -216,7 +223,8 @@ fn same_four(a: &[Cell], b: &[Cell], at: usize) -> bool
         && same_cell(&a[at + 3], &b[at + 3])
 }
 
-/// Whether two rows have the same cells: as many, and each the same. (Four cells are compared at a time, each as one word.)
+/// Whether two rows have the same cells: as many, and each the same. (Four cells are compared at a time, each as one
+/// word.)
 pub fn same_cells(a: &[Cell], b: &[Cell]) -> bool
     ensures { IsTrue result ↔ (a.now ≡ b.now) }
 {

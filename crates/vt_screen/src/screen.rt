@@ -64,7 +64,8 @@ fn fill_rows(
 }
 
 impl Screen {
-    ghost use Rattle.vt_screen.specs.Grid.{IsGrid, IsSoundGrid, cell_at, row_of, put, put_inserting, put_run, erase, insert_cells, delete_cells, scroll_up, scroll_down, fill, blank_grid};
+    ghost use Rattle.vt_screen.specs.Grid.{IsGrid, IsSoundGrid, cell_at, row_of, put, put_inserting, put_run, erase};
+    ghost use Rattle.vt_screen.specs.Grid.{insert_cells, delete_cells, scroll_up, scroll_down, fill, blank_grid};
 
     /// A narrow screen, all blank. It takes the room of a wide one, 24 rows of 132 cells, and fails where
     /// there is no memory for it.

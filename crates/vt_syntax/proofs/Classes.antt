@@ -125,7 +125,8 @@ unfolding opens_string
 string_code_other code e is = grind (arith, nat_tests)
 
 pub is_string_code : (code : ℕ) → opens_string code ≡ true → IsStringCode code
-is_string_code code e = record { low = (string_code code e).0; high = (string_code code e).1; other = string_code_other code e }
+is_string_code code e =
+    record { low = (string_code code e).0; high = (string_code code e).1; other = string_code_other code e }
 
 pub class_final : (b : ℕ) → 64 ≤ b → b < 127 → class_of b ≡ Final
 unfolding class_of

@@ -1,5 +1,7 @@
 -- Runs of content of a string, seen a vector at a time through the mask of the lanes that may end it.
-use Rattle.std.proofs.Common.{◌≡◌, ℕ, zero, suc, ◌+◌, ◌-◌, ◌%◌, ◌^◌, ◌<◌, ◌≤◌, Bool, true, false, not, ◌||◌, cond, ltb, List, [], ◌∷◌, map, length, take, replicate, get_or, refl, ap, ap₂, ◌∙◌, arith, bit_or, w8, Fits, inl, inr}
+use Rattle.std.proofs.Common.{◌≡◌, ℕ, zero, suc, ◌+◌, ◌-◌, ◌%◌, ◌^◌, ◌<◌, ◌≤◌, Bool, true, false, not, ◌||◌, cond, ltb}
+use Rattle.std.proofs.Common.{List, [], ◌∷◌, map, length, take, replicate, get_or, refl, ap, ap₂, ◌∙◌, arith, bit_or}
+use Rattle.std.proofs.Common.{w8, Fits, inl, inr}
 use Rattle.std.specs.List.{prefix_len}
 use Rattle.std.proofs.lemmas.Bool.{cases_lt}
 use Rattle.std.proofs.lemmas.Bool.Decides.{nat_tests}

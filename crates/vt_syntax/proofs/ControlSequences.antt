@@ -1,5 +1,7 @@
 -- One more byte of a control sequence, the quiet bytes taken out.
-use Rattle.std.proofs.Common.{◌≡◌, ℕ, zero, suc, ◌+◌, ◌-◌, ◌*◌, ◌<◌, ◌≤◌, min, Bool, true, false, cond, eqb, ltb, ◌||◌, ◌&&◌, List, [], ◌∷◌, ◌++◌, length, take, map, Option, Some, None, refl, ap, ◌∙◌, append-nil, arith, inl, inr}
+use Rattle.std.proofs.Common.{◌≡◌, ℕ, zero, suc, ◌+◌, ◌-◌, ◌*◌, ◌<◌, ◌≤◌, min, Bool, true, false, cond, eqb, ltb, ◌||◌}
+use Rattle.std.proofs.Common.{◌&&◌, List, [], ◌∷◌, ◌++◌, length, take, map, Option, Some, None, refl, ap, ◌∙◌}
+use Rattle.std.proofs.Common.{append-nil, arith, inl, inr}
 use Rattle.std.specs.List.{filter, list_any, slice_split, onto_first}
 use Rattle.std.specs.Char.{digit_value}
 use Rattle.std.specs.Str.Parse.{digits_value}
@@ -16,18 +18,21 @@ use Rattle.vt_syntax.specs.declared.held.Inters.TheVariants.{Zero, One, Many}
 use Rattle.vt_syntax.specs.declared.held.Phase.TheVariants.{Values, Inter}
 use Rattle.vt_syntax.specs.Class.{class_of, is_intermediate, is_parameter}
 use Rattle.vt_syntax.specs.Items.{inters, inters_of}
-use Rattle.vt_syntax.specs.Reading.{is_marker, marker_of, after_marker, value_of, values_of, params_of, is_many, has_late_parameter, has_late_marker, is_spoilt, inter_of}
+use Rattle.vt_syntax.specs.Reading.{is_marker, marker_of, after_marker, value_of, values_of, params_of, is_many}
+use Rattle.vt_syntax.specs.Reading.{has_late_parameter, has_late_marker, is_spoilt, inter_of}
 use Rattle.vt_syntax.specs.Held.{phase_inter, phase_of, held_control}
 use Rattle.vt_syntax.specs.Steps.{one_more, change_last, with_digit, step_value, step_parameter, step_intermediate}
 use Rattle.vt_syntax.proofs.Classes.{range_of}
 
 -- ---- lists of bytes and one more
 
-pub filter-push_yes : (p : ℕ → Bool) (xs : List ℕ) (b : ℕ) → p b ≡ true → filter p (xs ++ b ∷ []) ≡ filter p xs ++ b ∷ []
+pub filter-push_yes : (p : ℕ → Bool) (xs : List ℕ) (b : ℕ) → p b ≡ true
+    → filter p (xs ++ b ∷ []) ≡ filter p xs ++ b ∷ []
 filter-push_yes p xs b h = filter-append p xs (b ∷ []) ∙ ap (λ (t : Bool). filter p xs ++ cond t (b ∷ []) []) h
 
 pub filter-push_no : (p : ℕ → Bool) (xs : List ℕ) (b : ℕ) → p b ≡ false → filter p (xs ++ b ∷ []) ≡ filter p xs
-filter-push_no p xs b h = filter-append p xs (b ∷ []) ∙ ap (λ (t : Bool). filter p xs ++ cond t (b ∷ []) []) h ∙ append-nil (filter p xs)
+filter-push_no p xs b h = filter-append p xs (b ∷ []) ∙ ap (λ (t : Bool). filter p xs ++ cond t (b ∷ []) []) h
+    ∙ append-nil (filter p xs)
 
 or_false : (x : Bool) → (x || false) ≡ x
 or_false true = refl
@@ -41,8 +46,10 @@ inters-push [] b = refl
 inters-push (i ∷ []) b = refl
 inters-push (i ∷ j ∷ more) b = refl
 
-pub inters_of-push_yes : (xs : List ℕ) (b : ℕ) → is_intermediate b ≡ true → inters_of (xs ++ b ∷ []) ≡ one_more (inters_of xs) b
-inters_of-push_yes xs b h = ap (λ (t : List ℕ). inters t) (filter-push_yes is_intermediate xs b h) ∙ inters-push (filter is_intermediate xs) b
+pub inters_of-push_yes : (xs : List ℕ) (b : ℕ) → is_intermediate b ≡ true
+    → inters_of (xs ++ b ∷ []) ≡ one_more (inters_of xs) b
+inters_of-push_yes xs b h = ap (λ (t : List ℕ). inters t) (filter-push_yes is_intermediate xs b h)
+    ∙ inters-push (filter is_intermediate xs) b
 
 pub inters_of-push_no : (xs : List ℕ) (b : ℕ) → is_intermediate b ≡ false → inters_of (xs ++ b ∷ []) ≡ inters_of xs
 inters_of-push_no xs b h = ap (λ (t : List ℕ). inters t) (filter-push_no is_intermediate xs b h)
@@ -62,11 +69,13 @@ any_inters (x ∷ xs) = go (is_intermediate x) (any_inters xs)
     some [] = refl
     some (i ∷ is) = refl
 
-    go : (t : Bool) → list_any is_intermediate xs ≡ has_inters (inters_of xs) → (t || list_any is_intermediate xs) ≡ has_inters (inters (cond t (x ∷ filter is_intermediate xs) (filter is_intermediate xs)))
+    go : (t : Bool) → list_any is_intermediate xs ≡ has_inters (inters_of xs) → (t || list_any is_intermediate xs)
+        ≡ has_inters (inters (cond t (x ∷ filter is_intermediate xs) (filter is_intermediate xs)))
     go true ih = some (filter is_intermediate xs)
     go false ih = ih
 
-has_late_parameter-push : (xs : List ℕ) (b : ℕ) → has_late_parameter (xs ++ b ∷ []) ≡ (has_late_parameter xs || (list_any is_intermediate xs && is_parameter b))
+has_late_parameter-push : (xs : List ℕ) (b : ℕ) → has_late_parameter (xs ++ b ∷ [])
+    ≡ (has_late_parameter xs || (list_any is_intermediate xs && is_parameter b))
 has_late_parameter-push [] b = go (is_intermediate b)
   where
     go : (t : Bool) → cond t false false ≡ false
@@ -74,7 +83,11 @@ has_late_parameter-push [] b = go (is_intermediate b)
     go false = refl
 has_late_parameter-push (x ∷ xs) b = go (is_intermediate x) (has_late_parameter-push xs b)
   where
-    go : (t : Bool) → has_late_parameter (xs ++ b ∷ []) ≡ (has_late_parameter xs || (list_any is_intermediate xs && is_parameter b)) → cond t (list_any is_parameter (xs ++ b ∷ [])) (has_late_parameter (xs ++ b ∷ [])) ≡ (cond t (list_any is_parameter xs) (has_late_parameter xs) || ((t || list_any is_intermediate xs) && is_parameter b))
+    go : (t : Bool) → has_late_parameter (xs ++ b ∷ [])
+        ≡ (has_late_parameter xs || (list_any is_intermediate xs && is_parameter b))
+        → cond t (list_any is_parameter (xs ++ b ∷ [])) (has_late_parameter (xs ++ b ∷ []))
+        ≡ (cond t (list_any is_parameter xs) (has_late_parameter xs)
+        || ((t || list_any is_intermediate xs) && is_parameter b))
     go true ih = list_any-push is_parameter xs b
     go false ih = ih
 
@@ -105,14 +118,25 @@ pub record IsSound (xs : List ℕ) : Type 0 where
 pub sound_of : (xs : List ℕ) → is_spoilt xs ≡ false → IsSound xs
 unfolding is_spoilt
 sound_of xs e =
-    let r = or_parts4 (list_any (λ b. eqb b 58) xs) (has_late_marker xs) (has_late_parameter xs) (is_many (inters_of xs)) e in
+    let r = or_parts4 (list_any (λ b. eqb b 58) xs) (has_late_marker xs) (has_late_parameter xs)
+    (is_many (inters_of xs)) e in
     record { colon = r.0; marker = r.1; parameter = r.2; inters = r.3 }
 
 -- the faults of one more byte
-is_spoilt-push : (xs : List ℕ) (b : ℕ) → IsSound xs → is_spoilt (xs ++ b ∷ []) ≡ (((eqb b 58 || late xs b) || (has_inters (inters_of xs) && is_parameter b)) || is_many (inters_of (xs ++ b ∷ [])))
+is_spoilt-push : (xs : List ℕ) (b : ℕ) → IsSound xs
+    → is_spoilt (xs ++ b ∷ []) ≡ (((eqb b 58 || late xs b) || (has_inters (inters_of xs) && is_parameter b))
+    || is_many (inters_of (xs ++ b ∷ [])))
 unfolding is_spoilt
 is_spoilt-push xs b s =
-    rw (list_any-push (λ c. eqb c 58) xs b, has_late_marker-push xs b, has_late_parameter-push xs b, any_inters xs, s.colon, s.marker, s.parameter) refl
+    rw (
+      list_any-push (λ c. eqb c 58) xs b,
+      has_late_marker-push xs b,
+      has_late_parameter-push xs b,
+      any_inters xs,
+      s.colon,
+      s.marker,
+      s.parameter,
+    ) refl
 
 -- what is spoilt stays so
 many_stays : (n : Inters) (b : ℕ) → is_many n ≡ true → is_many (one_more n b) ≡ true
@@ -126,7 +150,8 @@ many_push xs b h = go (is_intermediate b) refl
     go true e = rw (inters_of-push_yes xs b e) (many_stays (inters_of xs) b h)
     go false e = rw (inters_of-push_no xs b e) h
 
-or_stays : (w x y z w' x' y' z' : Bool) → (z ≡ true → z' ≡ true) → (((w || x) || y) || z) ≡ true → ((((w || w') || (x || x')) || (y || y')) || z') ≡ true
+or_stays : (w x y z w' x' y' z' : Bool) → (z ≡ true → z' ≡ true) → (((w || x) || y) || z) ≡ true
+    → ((((w || w') || (x || x')) || (y || y')) || z') ≡ true
 or_stays true x y z w' x' y' z' k h = refl
 or_stays false true y z w' x' y' z' k h = front w'
   where
@@ -148,7 +173,9 @@ pub spoilt_stays : (xs : List ℕ) (b : ℕ) → is_spoilt xs ≡ true → is_sp
 unfolding is_spoilt
 spoilt_stays xs b h =
     rw (list_any-push (λ c. eqb c 58) xs b, has_late_marker-push xs b, has_late_parameter-push xs b)
-    (or_stays (list_any (λ c. eqb c 58) xs) (has_late_marker xs) (has_late_parameter xs) (is_many (inters_of xs)) (eqb b 58) (late xs b) (list_any is_intermediate xs && is_parameter b) (is_many (inters_of (xs ++ b ∷ []))) (many_push xs b) h)
+    (or_stays (list_any (λ c. eqb c 58) xs) (has_late_marker xs) (has_late_parameter xs) (is_many (inters_of xs))
+    (eqb b 58) (late xs b) (list_any is_intermediate xs && is_parameter b) (is_many (inters_of (xs ++ b ∷ [])))
+    (many_push xs b) h)
 
 -- ---- pieces and values
 
@@ -162,28 +189,38 @@ split_cons : (p : ℕ → Bool) (xs : List ℕ) → (q : List ℕ) × (qs : List
 split_cons p [] = ([], [], refl)
 split_cons p (x ∷ xs) = go (p x) (split_cons p xs)
   where
-    go : (t : Bool) → (q : List ℕ) × (qs : List (List ℕ)) × (slice_split p xs ≡ q ∷ qs) → (q : List ℕ) × (qs : List (List ℕ)) × (cond t ([] ∷ slice_split p xs) (onto_first x (slice_split p xs)) ≡ q ∷ qs)
+    go : (t : Bool) → (q : List ℕ) × (qs : List (List ℕ)) × (slice_split p xs ≡ q ∷ qs) → (q : List ℕ)
+        × (qs : List (List ℕ)) × (cond t ([] ∷ slice_split p xs) (onto_first x (slice_split p xs)) ≡ q ∷ qs)
     go true ih = ([], slice_split p xs, refl)
     go false ih = (x ∷ ih.0, ih.1, ap (λ (t : List (List ℕ)). onto_first x t) ih.2)
 
-pub slice_split-push_yes : (p : ℕ → Bool) (xs : List ℕ) (b : ℕ) → p b ≡ true → slice_split p (xs ++ b ∷ []) ≡ slice_split p xs ++ [] ∷ []
+pub slice_split-push_yes : (p : ℕ → Bool) (xs : List ℕ) (b : ℕ) → p b ≡ true
+    → slice_split p (xs ++ b ∷ []) ≡ slice_split p xs ++ [] ∷ []
 slice_split-push_yes p [] b h = rw h refl
 slice_split-push_yes p (x ∷ xs) b h = go (p x) (slice_split-push_yes p xs b h) (split_cons p xs)
   where
-    go : (t : Bool) → slice_split p (xs ++ b ∷ []) ≡ slice_split p xs ++ [] ∷ [] → (q : List ℕ) × (qs : List (List ℕ)) × (slice_split p xs ≡ q ∷ qs) → cond t ([] ∷ slice_split p (xs ++ b ∷ [])) (onto_first x (slice_split p (xs ++ b ∷ []))) ≡ cond t ([] ∷ slice_split p xs) (onto_first x (slice_split p xs)) ++ [] ∷ []
+    go : (t : Bool) → slice_split p (xs ++ b ∷ []) ≡ slice_split p xs ++ [] ∷ [] → (q : List ℕ) × (qs : List (List ℕ))
+        × (slice_split p xs ≡ q ∷ qs)
+        → cond t ([] ∷ slice_split p (xs ++ b ∷ [])) (onto_first x (slice_split p (xs ++ b ∷ [])))
+        ≡ cond t ([] ∷ slice_split p xs) (onto_first x (slice_split p xs)) ++ [] ∷ []
     go true ih s = ap (λ (t : List (List ℕ)). [] ∷ t) ih
     go false ih s = rw (ih, s.2) refl
 
-slice_split-push_no : (p : ℕ → Bool) (xs : List ℕ) (b : ℕ) → p b ≡ false → slice_split p (xs ++ b ∷ []) ≡ onto_last (slice_split p xs) b
+slice_split-push_no : (p : ℕ → Bool) (xs : List ℕ) (b : ℕ) → p b ≡ false
+    → slice_split p (xs ++ b ∷ []) ≡ onto_last (slice_split p xs) b
 unfolding onto_last
 slice_split-push_no p [] b h = rw h refl
 slice_split-push_no p (x ∷ xs) b h = go (p x) (slice_split-push_no p xs b h) (split_cons p xs)
   where
-    first : (q : List ℕ) (qs : List (List ℕ)) → onto_first x (onto_last (q ∷ qs) b) ≡ onto_last (onto_first x (q ∷ qs)) b
+    first : (q : List ℕ) (qs : List (List ℕ)) → onto_first x (onto_last (q ∷ qs) b)
+        ≡ onto_last (onto_first x (q ∷ qs)) b
     first q [] = refl
     first q (r ∷ rs) = refl
 
-    go : (t : Bool) → slice_split p (xs ++ b ∷ []) ≡ onto_last (slice_split p xs) b → (q : List ℕ) × (qs : List (List ℕ)) × (slice_split p xs ≡ q ∷ qs) → cond t ([] ∷ slice_split p (xs ++ b ∷ [])) (onto_first x (slice_split p (xs ++ b ∷ []))) ≡ onto_last (cond t ([] ∷ slice_split p xs) (onto_first x (slice_split p xs))) b
+    go : (t : Bool) → slice_split p (xs ++ b ∷ []) ≡ onto_last (slice_split p xs) b → (q : List ℕ)
+        × (qs : List (List ℕ)) × (slice_split p xs ≡ q ∷ qs)
+        → cond t ([] ∷ slice_split p (xs ++ b ∷ [])) (onto_first x (slice_split p (xs ++ b ∷ [])))
+        ≡ onto_last (cond t ([] ∷ slice_split p xs) (onto_first x (slice_split p xs))) b
     go true ih s = rw (ih, s.2) refl
     go false ih s = rw (ih, s.2) (first s.0 s.1)
 
@@ -199,7 +236,8 @@ value_of-push q b low high =
     capped : (n d : ℕ) → min (n * 10 + d) 9999 ≡ min (min n 9999 * 10 + d) 9999
     capped n d = omega arith
 
-map-onto_last : (qs : List (List ℕ)) (b : ℕ) → 48 ≤ b → b < 58 → map value_of (onto_last qs b) ≡ change_last (with_digit b) (map value_of qs)
+map-onto_last : (qs : List (List ℕ)) (b : ℕ) → 48 ≤ b → b < 58
+    → map value_of (onto_last qs b) ≡ change_last (with_digit b) (map value_of qs)
 unfolding onto_last
 map-onto_last [] b low high = refl
 map-onto_last (q ∷ []) b low high = ap (λ (v : ℕ). v ∷ []) (value_of-push q b low high)
@@ -219,7 +257,8 @@ take-change_last f (suc n) (x ∷ []) h = absurd (omega arith)
 take-change_last f (suc n) (x ∷ y ∷ xs) h = ap (λ (t : List ℕ). x ∷ t) (take-change_last f n (y ∷ xs) (omega arith))
 
 -- the parameter bytes
-after_marker-push : (xs : List ℕ) (b : ℕ) → is_marker b ≡ false → after_marker (xs ++ b ∷ []) ≡ after_marker xs ++ b ∷ []
+after_marker-push : (xs : List ℕ) (b : ℕ) → is_marker b ≡ false
+    → after_marker (xs ++ b ∷ []) ≡ after_marker xs ++ b ∷ []
 after_marker-push [] b h = rw h refl
 after_marker-push (x ∷ xs) b h = go (is_marker x)
   where
@@ -234,10 +273,12 @@ marker_of-push (x ∷ xs) b h = refl
 abbrev pieces_of : List ℕ → List (List ℕ)
 pieces_of xs = slice_split (λ b. eqb b 59) (filter is_parameter (after_marker xs))
 
-values_of-push_no : (xs : List ℕ) (b : ℕ) → is_marker b ≡ false → is_parameter b ≡ false → values_of (xs ++ b ∷ []) ≡ values_of xs
+values_of-push_no : (xs : List ℕ) (b : ℕ) → is_marker b ≡ false → is_parameter b ≡ false
+    → values_of (xs ++ b ∷ []) ≡ values_of xs
 values_of-push_no xs b m p = rw (after_marker-push xs b m, filter-push_no is_parameter (after_marker xs) b p) refl
 
-pub map-append_one : (qs : List (List ℕ)) (q : List ℕ) → map value_of (qs ++ q ∷ []) ≡ map value_of qs ++ value_of q ∷ []
+pub map-append_one : (qs : List (List ℕ)) (q : List ℕ) → map value_of (qs ++ q ∷ []) ≡ map value_of qs ++ value_of q
+    ∷ []
 map-append_one [] q = refl
 map-append_one (r ∷ qs) q = ap (λ (vs : List ℕ). value_of r ∷ vs) (map-append_one qs q)
 
@@ -245,47 +286,85 @@ pub value_of-nil : value_of [] ≡ 0
 unfolding value_of
 value_of-nil = refl
 
-values_of-push_semi : (xs : List ℕ) (b : ℕ) → is_marker b ≡ false → is_parameter b ≡ true → eqb b 59 ≡ true → values_of (xs ++ b ∷ []) ≡ values_of xs ++ 0 ∷ []
+values_of-push_semi : (xs : List ℕ) (b : ℕ) → is_marker b ≡ false → is_parameter b ≡ true → eqb b 59 ≡ true
+    → values_of (xs ++ b ∷ []) ≡ values_of xs ++ 0 ∷ []
 values_of-push_semi xs b m p s =
-    rw (after_marker-push xs b m, filter-push_yes is_parameter (after_marker xs) b p, slice_split-push_yes (λ c. eqb c 59) (filter is_parameter (after_marker xs)) b s, map-append_one (pieces_of xs) [], value_of-nil) refl
+    rw (
+      after_marker-push xs b m,
+      filter-push_yes is_parameter (after_marker xs) b p,
+      slice_split-push_yes (λ c. eqb c 59) (filter is_parameter (after_marker xs)) b s,
+      map-append_one (pieces_of xs) [],
+      value_of-nil,
+    ) refl
 
-values_of-push_digit : (xs : List ℕ) (b : ℕ) → is_marker b ≡ false → is_parameter b ≡ true → eqb b 59 ≡ false → 48 ≤ b → b < 58 → values_of (xs ++ b ∷ []) ≡ change_last (with_digit b) (values_of xs)
+values_of-push_digit : (xs : List ℕ) (b : ℕ) → is_marker b ≡ false → is_parameter b ≡ true → eqb b 59 ≡ false → 48 ≤ b
+    → b < 58 → values_of (xs ++ b ∷ []) ≡ change_last (with_digit b) (values_of xs)
 values_of-push_digit xs b m p s low high =
-    rw (after_marker-push xs b m, filter-push_yes is_parameter (after_marker xs) b p, slice_split-push_no (λ c. eqb c 59) (filter is_parameter (after_marker xs)) b s)
+    rw (
+      after_marker-push xs b m,
+      filter-push_yes is_parameter (after_marker xs) b p,
+      slice_split-push_no (λ c. eqb c 59) (filter is_parameter (after_marker xs)) b s,
+    )
     (map-onto_last (pieces_of xs) b low high)
 
 -- the first 16 values, and whether there are more, after one more byte
-value_more : (marker : Option ℕ) (vs ws : List ℕ) (b : ℕ) → (eqb b 59 ≡ true → ws ≡ vs ++ 0 ∷ []) → (eqb b 59 ≡ false → ws ≡ change_last (with_digit b) vs) → Control marker (record { items = take 16 ws }) (ltb 16 (length ws)) Values ≡ step_value marker (take 16 vs) (ltb 16 (length vs)) b
+value_more : (marker : Option ℕ) (vs ws : List ℕ) (b : ℕ) → (eqb b 59 ≡ true → ws ≡ vs ++ 0 ∷ [])
+    → (eqb b 59 ≡ false → ws ≡ change_last (with_digit b) vs)
+    → Control marker (record { items = take 16 ws }) (ltb 16 (length ws)) Values
+    ≡ step_value marker (take 16 vs) (ltb 16 (length vs)) b
 value_more marker vs ws b semi digit = go (eqb b 59) semi digit
   where
-    full_semi : 16 ≤ length vs → Control marker (record { items = take 16 (vs ++ 0 ∷ []) }) (ltb 16 (length (vs ++ 0 ∷ []))) Values ≡ cond (eqb (length (take 16 vs)) 16) (Control marker (record { items = take 16 vs }) true Values) (Control marker (record { items = take 16 vs ++ 0 ∷ [] }) (ltb 16 (length vs)) Values)
+    full_semi : 16 ≤ length vs
+        → Control marker (record { items = take 16 (vs ++ 0 ∷ []) }) (ltb 16 (length (vs ++ 0 ∷ []))) Values
+        ≡ cond (eqb (length (take 16 vs)) 16) (Control marker (record { items = take 16 vs }) true Values)
+        (Control marker (record { items = take 16 vs ++ 0 ∷ [] }) (ltb 16 (length vs)) Values)
     full_semi h =
         let n : length (take 16 vs) ≡ 16 = length-take-le 16 vs h in
-        let more : ltb 16 (length (vs ++ 0 ∷ [])) ≡ true = lt-ltb 16 (length (vs ++ 0 ∷ [])) (omega (arith, length-append vs (0 ∷ []))) in
+        let more : ltb 16 (length (vs ++ 0 ∷ [])) ≡ true =
+        lt-ltb 16 (length (vs ++ 0 ∷ [])) (omega (arith, length-append vs (0 ∷ []))) in
         rw (n, more, take-append-le 16 vs (0 ∷ []) h) refl
 
-    room_semi : length vs < 16 → Control marker (record { items = take 16 (vs ++ 0 ∷ []) }) (ltb 16 (length (vs ++ 0 ∷ []))) Values ≡ cond (eqb (length (take 16 vs)) 16) (Control marker (record { items = take 16 vs }) true Values) (Control marker (record { items = take 16 vs ++ 0 ∷ [] }) (ltb 16 (length vs)) Values)
+    room_semi : length vs < 16
+        → Control marker (record { items = take 16 (vs ++ 0 ∷ []) }) (ltb 16 (length (vs ++ 0 ∷ []))) Values
+        ≡ cond (eqb (length (take 16 vs)) 16) (Control marker (record { items = take 16 vs }) true Values)
+        (Control marker (record { items = take 16 vs ++ 0 ∷ [] }) (ltb 16 (length vs)) Values)
     room_semi h =
         let all : take 16 vs ≡ vs = take_all 16 vs (omega arith) in
-        let alls : take 16 (vs ++ 0 ∷ []) ≡ vs ++ 0 ∷ [] = take_all 16 (vs ++ 0 ∷ []) (omega (arith, length-append vs (0 ∷ []))) in
+        let alls : take 16 (vs ++ 0 ∷ []) ≡ vs ++ 0 ∷ [] =
+        take_all 16 (vs ++ 0 ∷ []) (omega (arith, length-append vs (0 ∷ []))) in
         let n : eqb (length vs) 16 ≡ false = ne_eqb (length vs) 16 (omega arith) in
         let few : ltb 16 (length vs) ≡ false = le-ltb 16 (length vs) (omega arith) in
-        let still : ltb 16 (length (vs ++ 0 ∷ [])) ≡ false = le-ltb 16 (length (vs ++ 0 ∷ [])) (omega (arith, length-append vs (0 ∷ []))) in
+        let still : ltb 16 (length (vs ++ 0 ∷ [])) ≡ false =
+        le-ltb 16 (length (vs ++ 0 ∷ [])) (omega (arith, length-append vs (0 ∷ []))) in
         rw (all, alls, n, few, still) refl
 
-    full_digit : 16 < length vs → Control marker (record { items = take 16 (change_last (with_digit b) vs) }) (ltb 16 (length (change_last (with_digit b) vs))) Values ≡ cond (ltb 16 (length vs)) (Control marker (record { items = take 16 vs }) (ltb 16 (length vs)) Values) (Control marker (record { items = change_last (with_digit b) (take 16 vs) }) (ltb 16 (length vs)) Values)
+    full_digit : 16 < length vs
+        → Control marker (record { items = take 16 (change_last (with_digit b) vs) })
+        (ltb 16 (length (change_last (with_digit b) vs))) Values
+        ≡ cond (ltb 16 (length vs)) (Control marker (record { items = take 16 vs }) (ltb 16 (length vs)) Values)
+        (Control marker (record { items = change_last (with_digit b) (take 16 vs) }) (ltb 16 (length vs)) Values)
     full_digit h =
         let more : ltb 16 (length vs) ≡ true = lt-ltb 16 (length vs) h in
         rw (take-change_last (with_digit b) 16 vs h, length-change_last (with_digit b) vs, more) refl
 
-    room_digit : length vs ≤ 16 → Control marker (record { items = take 16 (change_last (with_digit b) vs) }) (ltb 16 (length (change_last (with_digit b) vs))) Values ≡ cond (ltb 16 (length vs)) (Control marker (record { items = take 16 vs }) (ltb 16 (length vs)) Values) (Control marker (record { items = change_last (with_digit b) (take 16 vs) }) (ltb 16 (length vs)) Values)
+    room_digit : length vs ≤ 16
+        → Control marker (record { items = take 16 (change_last (with_digit b) vs) })
+        (ltb 16 (length (change_last (with_digit b) vs))) Values
+        ≡ cond (ltb 16 (length vs)) (Control marker (record { items = take 16 vs }) (ltb 16 (length vs)) Values)
+        (Control marker (record { items = change_last (with_digit b) (take 16 vs) }) (ltb 16 (length vs)) Values)
     room_digit h =
         let all : take 16 vs ≡ vs = take_all 16 vs h in
-        let alls : take 16 (change_last (with_digit b) vs) ≡ change_last (with_digit b) vs = take_all 16 (change_last (with_digit b) vs) (omega (arith, length-change_last (with_digit b) vs)) in
+        let alls : take 16 (change_last (with_digit b) vs) ≡ change_last (with_digit b) vs =
+        take_all 16 (change_last (with_digit b) vs) (omega (arith, length-change_last (with_digit b) vs)) in
         let few : ltb 16 (length vs) ≡ false = le-ltb 16 (length vs) h in
         rw (all, alls, length-change_last (with_digit b) vs, few) refl
 
-    go : (t : Bool) → (t ≡ true → ws ≡ vs ++ 0 ∷ []) → (t ≡ false → ws ≡ change_last (with_digit b) vs) → Control marker (record { items = take 16 ws }) (ltb 16 (length ws)) Values ≡ cond t (cond (eqb (length (take 16 vs)) 16) (Control marker (record { items = take 16 vs }) true Values) (Control marker (record { items = take 16 vs ++ 0 ∷ [] }) (ltb 16 (length vs)) Values)) (cond (ltb 16 (length vs)) (Control marker (record { items = take 16 vs }) (ltb 16 (length vs)) Values) (Control marker (record { items = change_last (with_digit b) (take 16 vs) }) (ltb 16 (length vs)) Values))
+    go : (t : Bool) → (t ≡ true → ws ≡ vs ++ 0 ∷ []) → (t ≡ false → ws ≡ change_last (with_digit b) vs)
+        → Control marker (record { items = take 16 ws }) (ltb 16 (length ws)) Values
+        ≡ cond t (cond (eqb (length (take 16 vs)) 16) (Control marker (record { items = take 16 vs }) true Values)
+        (Control marker (record { items = take 16 vs ++ 0 ∷ [] }) (ltb 16 (length vs)) Values))
+        (cond (ltb 16 (length vs)) (Control marker (record { items = take 16 vs }) (ltb 16 (length vs)) Values)
+        (Control marker (record { items = change_last (with_digit b) (take 16 vs) }) (ltb 16 (length vs)) Values))
     go true s d = rw (s refl) (elim (cases_lt (length vs) 16) [ inl h ↦ room_semi h | inr h ↦ full_semi h ])
     go false s d = rw (d refl) (elim (cases_lt 16 (length vs)) [ inl h ↦ full_digit h | inr h ↦ room_digit h ])
 
@@ -294,13 +373,16 @@ value_more marker vs ws b semi digit = go (eqb b 59) semi digit
 parameter_facts : (b : ℕ) → class_of b ≡ Parameter → (is_parameter b ≡ true) × (is_intermediate b ≡ false)
 parameter_facts b k = (rw k refl, rw k refl)
 
-plain_range : (b : ℕ) → class_of b ≡ Parameter → is_marker b ≡ false → eqb b 58 ≡ false → eqb b 59 ≡ false → (48 ≤ b) × (b < 58)
+plain_range : (b : ℕ) → class_of b ≡ Parameter → is_marker b ≡ false → eqb b 58 ≡ false → eqb b 59 ≡ false
+    → (48 ≤ b) × (b < 58)
 plain_range b k m c s = go (range_of b Parameter k)
   where
     go : (48 ≤ b) × (b < 64) → (48 ≤ b) × (b < 58)
     go r = grind (arith, nat_tests)
 
-values_more : (xs : List ℕ) (b : ℕ) → class_of b ≡ Parameter → is_marker b ≡ false → eqb b 58 ≡ false → Control (marker_of xs) (params_of (xs ++ b ∷ [])) (ltb 16 (length (values_of (xs ++ b ∷ [])))) Values ≡ step_value (marker_of xs) (take 16 (values_of xs)) (ltb 16 (length (values_of xs))) b
+values_more : (xs : List ℕ) (b : ℕ) → class_of b ≡ Parameter → is_marker b ≡ false → eqb b 58 ≡ false
+    → Control (marker_of xs) (params_of (xs ++ b ∷ [])) (ltb 16 (length (values_of (xs ++ b ∷ [])))) Values
+    ≡ step_value (marker_of xs) (take 16 (values_of xs)) (ltb 16 (length (values_of xs))) b
 values_more xs b k m c =
     let p = parameter_facts b k in
     value_more (marker_of xs) (values_of xs) (values_of (xs ++ b ∷ [])) b
@@ -308,7 +390,10 @@ values_more xs b k m c =
     (λ s. let r = plain_range b k m c s in values_of-push_digit xs b m p.0 s r.0 r.1)
 
 -- a byte that isn't 3A or a marker, with no intermediate before it
-plain_more : (xs : List ℕ) (b : ℕ) → IsSound xs → class_of b ≡ Parameter → inters_of xs ≡ Zero → is_marker b ≡ false → eqb b 58 ≡ false → held_control (xs ++ b ∷ []) ≡ step_value (marker_of xs) (take 16 (values_of xs)) (ltb 16 (length (values_of xs))) b
+plain_more : (xs : List ℕ) (b : ℕ) → IsSound xs → class_of b ≡ Parameter → inters_of xs ≡ Zero → is_marker b ≡ false
+    → eqb b 58 ≡ false
+    → held_control (xs ++ b ∷ [])
+    ≡ step_value (marker_of xs) (take 16 (values_of xs)) (ltb 16 (length (values_of xs))) b
 unfolding late has_inters
 plain_more xs b s k z m c =
     let p = parameter_facts b k in
@@ -344,14 +429,20 @@ or_many : (w : Bool) → (w || true) ≡ true
 or_many true = refl
 or_many false = refl
 
-pub parameter_more : (xs : List ℕ) (b : ℕ) → is_spoilt xs ≡ false → class_of b ≡ Parameter → held_control (xs ++ b ∷ []) ≡ step_parameter (marker_of xs) (take 16 (values_of xs)) (ltb 16 (length (values_of xs))) (phase_of xs) b
+pub parameter_more : (xs : List ℕ) (b : ℕ) → is_spoilt xs ≡ false → class_of b ≡ Parameter
+    → held_control (xs ++ b ∷ []) ≡ step_parameter (marker_of xs) (take 16 (values_of xs))
+    (ltb 16 (length (values_of xs))) (phase_of xs) b
 unfolding late has_inters value_of is_spoilt
 parameter_more xs b sound k = by_cases xs (inters_of xs) refl (sound_of xs sound)
   where
     colon : (ys : List ℕ) → IsSound ys → eqb b 58 ≡ true → held_control (ys ++ b ∷ []) ≡ Spoilt
     colon ys s c = spoilt_by ys b (is_spoilt-push ys b s ∙ rw c refl)
 
-    first : (c m : Bool) → eqb b 58 ≡ c → is_marker b ≡ m → IsSound [] → held_control (b ∷ []) ≡ cond c Spoilt (cond m (Control (Some b) (record { items = take 16 (values_of []) }) (ltb 16 (length (values_of []))) Values) (step_value None (take 16 (values_of [])) (ltb 16 (length (values_of []))) b))
+    first : (c m : Bool) → eqb b 58 ≡ c → is_marker b ≡ m → IsSound []
+        → held_control (b ∷ [])
+        ≡ cond c Spoilt
+        (cond m (Control (Some b) (record { items = take 16 (values_of []) }) (ltb 16 (length (values_of []))) Values)
+        (step_value None (take 16 (values_of [])) (ltb 16 (length (values_of []))) b))
     first true m c e s = colon [] s c
     first false true c m s =
         let p = parameter_facts b k in
@@ -360,17 +451,28 @@ parameter_more xs b sound k = by_cases xs (inters_of xs) refl (sound_of xs sound
         rw (spoilt, m, n) refl
     first false false c m s = plain_more [] b s k refl m c
 
-    next : (y : ℕ) (ys : List ℕ) (c m : Bool) → eqb b 58 ≡ c → is_marker b ≡ m → inters_of (y ∷ ys) ≡ Zero → IsSound (y ∷ ys) → held_control (y ∷ ys ++ b ∷ []) ≡ cond c Spoilt (cond m Spoilt (step_value (marker_of (y ∷ ys)) (take 16 (values_of (y ∷ ys))) (ltb 16 (length (values_of (y ∷ ys)))) b))
+    next : (y : ℕ) (ys : List ℕ) (c m : Bool) → eqb b 58 ≡ c → is_marker b ≡ m → inters_of (y ∷ ys) ≡ Zero
+        → IsSound (y ∷ ys)
+        → held_control (y ∷ ys ++ b ∷ [])
+        ≡ cond c Spoilt
+        (cond m Spoilt
+        (step_value (marker_of (y ∷ ys)) (take 16 (values_of (y ∷ ys))) (ltb 16 (length (values_of (y ∷ ys)))) b))
     next y ys true m c e z s = colon (y ∷ ys) s c
-    next y ys false true c m z s = spoilt_by (y ∷ ys) b (is_spoilt-push (y ∷ ys) b s ∙ rw m (or_late (eqb b 58) (has_inters (inters_of (y ∷ ys)) && is_parameter b) (is_many (inters_of (y ∷ ys ++ b ∷ [])))))
+    next y ys false true c m z s =
+        spoilt_by (y ∷ ys) b (is_spoilt-push (y ∷ ys) b s
+        ∙ rw m (or_late (eqb b 58) (has_inters (inters_of (y ∷ ys)) && is_parameter b)
+        (is_many (inters_of (y ∷ ys ++ b ∷ [])))))
     next y ys false false c m z s = plain_more (y ∷ ys) b s k z m c
 
-    by_cases : (ys : List ℕ) (n : Inters) → inters_of ys ≡ n → IsSound ys → held_control (ys ++ b ∷ []) ≡ step_parameter (marker_of ys) (take 16 (values_of ys)) (ltb 16 (length (values_of ys))) (phase_of ys) b
+    by_cases : (ys : List ℕ) (n : Inters) → inters_of ys ≡ n → IsSound ys
+        → held_control (ys ++ b ∷ []) ≡ step_parameter (marker_of ys) (take 16 (values_of ys))
+        (ltb 16 (length (values_of ys))) (phase_of ys) b
     by_cases [] n e s = first (eqb b 58) (is_marker b) refl refl s
     by_cases (y ∷ ys) Zero e s = rw e (next y ys (eqb b 58) (is_marker b) refl refl e s)
     by_cases (y ∷ ys) (One i) e s =
         let p = parameter_facts b k in
-        rw e (spoilt_by (y ∷ ys) b (is_spoilt-push (y ∷ ys) b s ∙ rw (e, p.0) (or_parameter (eqb b 58 || is_marker b) (is_many (inters_of (y ∷ ys ++ b ∷ []))))))
+        rw e (spoilt_by (y ∷ ys) b (is_spoilt-push (y ∷ ys) b s
+        ∙ rw (e, p.0) (or_parameter (eqb b 58 || is_marker b) (is_many (inters_of (y ∷ ys ++ b ∷ []))))))
     by_cases (y ∷ ys) Many e s = absurd (let m = rw e at s.inters in cc)
 
 -- ---- one more intermediate
@@ -384,7 +486,9 @@ intermediate_tests b r = (low b r, ne_eqb b 58 (omega arith))
     low : (c : ℕ) → (32 ≤ c) × (c < 48) → is_marker c ≡ false
     low c h = grind (arith, nat_tests)
 
-pub intermediate_more : (xs : List ℕ) (b : ℕ) → is_spoilt xs ≡ false → class_of b ≡ Intermediate → held_control (xs ++ b ∷ []) ≡ step_intermediate (marker_of xs) (take 16 (values_of xs)) (ltb 16 (length (values_of xs))) (phase_of xs) b
+pub intermediate_more : (xs : List ℕ) (b : ℕ) → is_spoilt xs ≡ false → class_of b ≡ Intermediate
+    → held_control (xs ++ b ∷ []) ≡ step_intermediate (marker_of xs) (take 16 (values_of xs))
+    (ltb 16 (length (values_of xs))) (phase_of xs) b
 unfolding late has_inters
 intermediate_more xs b sound k = by_cases xs (inters_of xs) refl (sound_of xs sound)
   where
@@ -402,28 +506,35 @@ intermediate_more xs b sound k = by_cases xs (inters_of xs) refl (sound_of xs so
     phase [] e = rw e refl
     phase (y ∷ ys) e = rw e refl
 
-    one : (ys : List ℕ) → inters_of ys ≡ Zero → IsSound ys → held_control (ys ++ b ∷ []) ≡ Control (marker_of ys) (params_of ys) (ltb 16 (length (values_of ys))) (Inter b)
+    one : (ys : List ℕ) → inters_of ys ≡ Zero → IsSound ys
+        → held_control (ys ++ b ∷ []) ≡ Control (marker_of ys) (params_of ys) (ltb 16 (length (values_of ys))) (Inter b)
     one ys z s =
-        let n : inters_of (ys ++ b ∷ []) ≡ One b = inters_of-push_yes ys b facts.1 ∙ ap (λ (m : Inters). one_more m b) z in
+        let n : inters_of (ys ++ b ∷ []) ≡ One b =
+        inters_of-push_yes ys b facts.1 ∙ ap (λ (m : Inters). one_more m b) z in
         let l : late ys b ≡ false = none ys in
         let c : eqb b 58 ≡ false = tests.1 in
         let spoilt : is_spoilt (ys ++ b ∷ []) ≡ false = is_spoilt-push ys b s ∙ rw (c, l, z, n) refl in
         let f : phase_of (ys ++ b ∷ []) ≡ Inter b = phase ys n in
         rw (spoilt, f, marker_of-push ys b tests.0, values_of-push_no ys b tests.0 facts.0) refl
 
-    by_cases : (ys : List ℕ) (n : Inters) → inters_of ys ≡ n → IsSound ys → held_control (ys ++ b ∷ []) ≡ step_intermediate (marker_of ys) (take 16 (values_of ys)) (ltb 16 (length (values_of ys))) (phase_of ys) b
+    by_cases : (ys : List ℕ) (n : Inters) → inters_of ys ≡ n → IsSound ys
+        → held_control (ys ++ b ∷ []) ≡ step_intermediate (marker_of ys) (take 16 (values_of ys))
+        (ltb 16 (length (values_of ys))) (phase_of ys) b
     by_cases [] n e s = one [] refl s
     by_cases (y ∷ ys) Zero e s = rw e (one (y ∷ ys) e s)
     by_cases (y ∷ ys) (One i) e s =
-        let n : inters_of (y ∷ ys ++ b ∷ []) ≡ Many = inters_of-push_yes (y ∷ ys) b facts.1 ∙ ap (λ (m : Inters). one_more m b) e in
-        rw e (spoilt_by (y ∷ ys) b (is_spoilt-push (y ∷ ys) b s ∙ rw n (or_many ((eqb b 58 || is_marker b) || (has_inters (inters_of (y ∷ ys)) && is_parameter b)))))
+        let n : inters_of (y ∷ ys ++ b ∷ []) ≡ Many =
+        inters_of-push_yes (y ∷ ys) b facts.1 ∙ ap (λ (m : Inters). one_more m b) e in
+        rw e (spoilt_by (y ∷ ys) b (is_spoilt-push (y ∷ ys) b s
+        ∙ rw n (or_many ((eqb b 58 || is_marker b) || (has_inters (inters_of (y ∷ ys)) && is_parameter b)))))
     by_cases (y ∷ ys) Many e s = absurd (let m = rw e at s.inters in cc)
 
 -- what is shown of a final byte
 pub inter_of-phase : (xs : List ℕ) → is_spoilt xs ≡ false → inter_of (inters_of xs) ≡ phase_inter (phase_of xs)
 inter_of-phase xs sound = by_cases xs (inters_of xs) refl (sound_of xs sound)
   where
-    by_cases : (ys : List ℕ) (n : Inters) → inters_of ys ≡ n → IsSound ys → inter_of (inters_of ys) ≡ phase_inter (phase_of ys)
+    by_cases : (ys : List ℕ) (n : Inters) → inters_of ys ≡ n → IsSound ys
+        → inter_of (inters_of ys) ≡ phase_inter (phase_of ys)
     by_cases [] n e s = refl
     by_cases (y ∷ ys) Zero e s = rw e refl
     by_cases (y ∷ ys) (One i) e s = rw e refl

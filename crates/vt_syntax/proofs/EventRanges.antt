@@ -1,5 +1,6 @@
 -- All that bytes ask for are events: their bytes and values are in range.
-use Rattle.std.proofs.Common.{◌≡◌, ℕ, ◌+◌, ◌<◌, ◌≤◌, Bool, true, false, cond, eqb, ltb, leb, ◌&&◌, ◌||◌, not, List, [], ◌∷◌, take, Option, Some, None, refl, sym, subst, arith, inl, inr, ◌⊎◌}
+use Rattle.std.proofs.Common.{◌≡◌, ℕ, ◌+◌, ◌<◌, ◌≤◌, Bool, true, false, cond, eqb, ltb, leb, ◌&&◌, ◌||◌, not, List, []}
+use Rattle.std.proofs.Common.{◌∷◌, take, Option, Some, None, refl, sym, subst, arith, inl, inr, ◌⊎◌}
 use Rattle.std.specs.Prelude.{All, IfSome}
 use Rattle.std.specs.List.{flat_map, filter, slice_split}
 use Rattle.std.specs.Option.{option_to_list}
@@ -16,9 +17,13 @@ use Rattle.vt_syntax.specs.Event.{event_of, event_in}
 use Rattle.vt_syntax.specs.declared.held.Inters.{Inters}
 use Rattle.vt_syntax.specs.declared.held.Inters.TheVariants.{Zero, One, Many}
 use Rattle.vt_syntax.specs.Class.{class_of, is_quiet_class, is_parameter, is_opener}
-use Rattle.vt_syntax.specs.Items.{Opening, EightBit, SevenBit, Beginning, OfEscape, OfControl, OfString, Item, Single, Ended, Cut, inters_of, introduces, ends_escape, ends_control, ends, IsItemBefore}
+use Rattle.vt_syntax.specs.Items.{Opening, EightBit, SevenBit, Beginning, OfEscape, OfControl, OfString, Item, Single}
+use Rattle.vt_syntax.specs.Items.{Ended, Cut, inters_of, introduces, ends_escape, ends_control, ends, IsItemBefore}
 use Rattle.vt_syntax.specs.Split.{AreItems, split_of}
-use Rattle.vt_syntax.specs.Reading.{quiet_control, controls, opening_controls, beginning_controls, without_quiet, marker_of, after_marker, value_of, values_of, params_of, inter_of, is_spoilt, cancel_function, is_cancel, single_function, escape_function, sequence_function, function, reading, rest_reading, events_of}
+use Rattle.vt_syntax.specs.Reading.{quiet_control, controls, opening_controls, beginning_controls, without_quiet}
+use Rattle.vt_syntax.specs.Reading.{marker_of, after_marker, value_of, values_of, params_of, inter_of, is_spoilt}
+use Rattle.vt_syntax.specs.Reading.{cancel_function, is_cancel, single_function, escape_function, sequence_function}
+use Rattle.vt_syntax.specs.Reading.{function, reading, rest_reading, events_of}
 use Rattle.vt_syntax.specs.Spelling.{IsGraphic, IsC0, IsC1, IsMarker, IsIntermediate, AreValues, IsSequence, IsEvent}
 use Rattle.vt_syntax.proofs.Classes.{InClass, range_of, opens_low}
 use Rattle.vt_syntax.proofs.Splits.{split_of_split}
@@ -44,14 +49,16 @@ quiet_c0 b k e = go (range_of b Quiet k)
 quiet_event : (b : ℕ) → All IsEvent (quiet_control b)
 quiet_event b = go (class_of b) (eqb b 127) refl refl
   where
-    go : (k : Class) (t : Bool) → class_of b ≡ k → eqb b 127 ≡ t → All IsEvent (cond (is_quiet_class k && not t) (Control b ∷ []) [])
+    go : (k : Class) (t : Bool) → class_of b ≡ k → eqb b 127 ≡ t
+        → All IsEvent (cond (is_quiet_class k && not t) (Control b ∷ []) [])
     go Quiet true e f = no_event
     go Quiet false e f = one_event (Control b) (inl (quiet_c0 b e f))
     go _ t e f = no_event
 
 controls_events : (bytes : List ℕ) → All IsEvent (controls bytes)
 controls_events [] = no_event
-controls_events (b ∷ bytes) = All-append IsEvent (quiet_control b) (controls bytes) (quiet_event b) (controls_events bytes)
+controls_events (b ∷ bytes) =
+    All-append IsEvent (quiet_control b) (controls bytes) (quiet_event b) (controls_events bytes)
 
 opening_events : (opening : Opening) → All IsEvent (opening_controls opening)
 opening_events EightBit = no_event
@@ -59,7 +66,8 @@ opening_events (SevenBit quiets) = controls_events quiets
 
 beginning_events : (beginning : Beginning) → All IsEvent (beginning_controls beginning)
 beginning_events (OfEscape inside) = controls_events inside
-beginning_events (OfControl opening inside) = All-append IsEvent (opening_controls opening) (controls inside) (opening_events opening) (controls_events inside)
+beginning_events (OfControl opening inside) =
+    All-append IsEvent (opening_controls opening) (controls inside) (opening_events opening) (controls_events inside)
 beginning_events (OfString opening code content) = opening_events opening
 
 -- ---- single bytes, CAN and SUB
@@ -74,7 +82,8 @@ cancel_event b = go (eqb b 26)
 graphic_byte : (b : ℕ) → (((leb 32 b && ltb b 127) || leb 160 b) ≡ true) → IsGraphic b
 graphic_byte b e = grind (arith, nat_tests)
 
-c0_or_c1 : (b : ℕ) → is_opener b ≡ false → (eqb b 24 || eqb b 127) ≡ false → ((leb 32 b && ltb b 127) || leb 160 b) ≡ false → IsC0 b ⊎ IsC1 b
+c0_or_c1 : (b : ℕ) → is_opener b ≡ false → (eqb b 24 || eqb b 127) ≡ false → ((leb 32 b && ltb b 127) || leb 160 b)
+    ≡ false → IsC0 b ⊎ IsC1 b
 c0_or_c1 b o e g = elim (cases_lt b 32) [
   | inl low ↦ inl (low, (λ i. grind (arith, nat_tests)), (λ i. grind (arith, nat_tests)))
   | inr high ↦ inr (grind (arith, nat_tests), grind (arith, nat_tests), grind (arith, nat_tests))
@@ -83,7 +92,8 @@ c0_or_c1 b o e g = elim (cases_lt b 32) [
 single_event : (b : ℕ) → is_opener b ≡ false → All IsEvent (single_function b)
 single_event b o = go (eqb b 24 || eqb b 127) ((leb 32 b && ltb b 127) || leb 160 b) refl refl
   where
-    go : (x y : Bool) → (eqb b 24 || eqb b 127) ≡ x → ((leb 32 b && ltb b 127) || leb 160 b) ≡ y → All IsEvent (cond x [] (cond y (Print b ∷ []) (Control b ∷ [])))
+    go : (x y : Bool) → (eqb b 24 || eqb b 127) ≡ x → ((leb 32 b && ltb b 127) || leb 160 b) ≡ y
+        → All IsEvent (cond x [] (cond y (Print b ∷ []) (Control b ∷ [])))
     go true y e f = no_event
     go false true e f = one_event (Print b) (graphic_byte b f)
     go false false e f = one_event (Control b) (c0_or_c1 b o e f)
@@ -105,11 +115,13 @@ inters_range bytes (One i) e = intermediate_range i (one_inter bytes i e)
 inters_range bytes Many e = tt
 
 -- 30..7E, and no 7-bit form of a C1 control that opens something
-escape_event : (n : Inters) (last : ℕ) → HasIntermediate n → 48 ≤ last → last < 127 → introduces n last ≡ false → All IsEvent (escape_function n last)
+escape_event : (n : Inters) (last : ℕ) → HasIntermediate n → 48 ≤ last → last < 127 → introduces n last ≡ false
+    → All IsEvent (escape_function n last)
 unfolding HasIntermediate
 escape_event Zero last h low high o = go (leb 64 last) (ltb last 96) refl refl
   where
-    go : (x y : Bool) → leb 64 last ≡ x → ltb last 96 ≡ y → All IsEvent (cond (x && y) (Control (last + 64) ∷ []) (Escape None last ∷ []))
+    go : (x y : Bool) → leb 64 last ≡ x → ltb last 96 ≡ y
+        → All IsEvent (cond (x && y) (Control (last + 64) ∷ []) (Escape None last ∷ []))
     go true true e f = one_event (Control (last + 64)) (inr (grind (arith, nat_tests), grind (arith, nat_tests), o))
     go true false e f = one_event (Escape None last) (tt, inr (grind (arith, nat_tests), grind (arith, nat_tests)))
     go false y e f = one_event (Escape None last) (tt, inl (low, grind (arith, nat_tests)))
@@ -117,7 +129,8 @@ escape_event (One i) last h low high o = one_event (Escape (Some i) last) (h, (l
 escape_event Many last h low high o = no_event
 
 -- a byte that ends an escape sequence
-ended_escape : (n : Inters) (last : ℕ) (k : Class) → class_of last ≡ k → ends_escape k (introduces n last) ≡ true → HasIntermediate n → All IsEvent (cond (is_cancel last) (cancel_function last) (escape_function n last))
+ended_escape : (n : Inters) (last : ℕ) (k : Class) → class_of last ≡ k → ends_escape k (introduces n last) ≡ true
+    → HasIntermediate n → All IsEvent (cond (is_cancel last) (cancel_function last) (escape_function n last))
 ended_escape n last k e f h = go k e f
   where
     low_opens : (m : Inters) → last < 64 → introduces m last ≡ false
@@ -128,11 +141,13 @@ ended_escape n last k e f h = go k e f
     not_true true t = absurd cc
     not_true false t = refl
 
-    either : 48 ≤ last → last < 127 → introduces n last ≡ false → (t : Bool) → All IsEvent (cond t (cancel_function last) (escape_function n last))
+    either : 48 ≤ last → last < 127 → introduces n last ≡ false → (t : Bool)
+        → All IsEvent (cond t (cancel_function last) (escape_function n last))
     either low high o true = cancel_event last
     either low high o false = escape_event n last h low high o
 
-    canceled : (t : Bool) → is_cancel last ≡ t → class_of last ≡ Cancel → All IsEvent (cond t (cancel_function last) (escape_function n last))
+    canceled : (t : Bool) → is_cancel last ≡ t → class_of last ≡ Cancel
+        → All IsEvent (cond t (cancel_function last) (escape_function n last))
     canceled true c j = cancel_event last
     canceled false c j = absurd (none (range_of last Cancel j) c)
       where
@@ -140,10 +155,13 @@ ended_escape n last k e f h = go k e f
         none (inl is) c' = let z = rw is at c' in cc
         none (inr is) c' = let z = rw is at c' in cc
 
-    go : (j : Class) → class_of last ≡ j → ends_escape j (introduces n last) ≡ true → All IsEvent (cond (is_cancel last) (cancel_function last) (escape_function n last))
+    go : (j : Class) → class_of last ≡ j → ends_escape j (introduces n last) ≡ true
+        → All IsEvent (cond (is_cancel last) (cancel_function last) (escape_function n last))
     go Cancel e f = canceled (is_cancel last) refl e
-    go Parameter e f = let r = range_of last Parameter e in either r.0 (omega (arith, r)) (low_opens n r.1) (is_cancel last)
-    go Final e f = let r = range_of last Final e in either (omega (arith, r)) r.1 (not_true (introduces n last) f) (is_cancel last)
+    go Parameter e f = let r = range_of last Parameter e in
+        either r.0 (omega (arith, r)) (low_opens n r.1) (is_cancel last)
+    go Final e f = let r = range_of last Final e in
+        either (omega (arith, r)) r.1 (not_true (introduces n last) f) (is_cancel last)
     go _ e f = absurd cc
 
 -- ---- control sequences
@@ -185,14 +203,17 @@ sequence_event bytes last k = go (is_spoilt bytes)
           high = omega (arith, r);
         }
 
-    go : (t : Bool) → All IsEvent (cond t [] (Sequence (marker_of bytes) (params_of bytes) (inter_of (inters_of bytes)) last ∷ []))
+    go : (t : Bool)
+        → All IsEvent (cond t [] (Sequence (marker_of bytes) (params_of bytes) (inter_of (inters_of bytes)) last ∷ []))
     go true = no_event
     go false = one_event (Sequence (marker_of bytes) (params_of bytes) (inter_of (inters_of bytes)) last) parts
 
-ended_control : (bytes : List ℕ) (last : ℕ) (k : Class) → class_of last ≡ k → ends_control k ≡ true → All IsEvent (cond (is_cancel last) (cancel_function last) (sequence_function bytes last))
+ended_control : (bytes : List ℕ) (last : ℕ) (k : Class) → class_of last ≡ k → ends_control k ≡ true
+    → All IsEvent (cond (is_cancel last) (cancel_function last) (sequence_function bytes last))
 ended_control bytes last k e f = go k e f
   where
-    canceled : (t : Bool) → is_cancel last ≡ t → class_of last ≡ Cancel → All IsEvent (cond t (cancel_function last) (sequence_function bytes last))
+    canceled : (t : Bool) → is_cancel last ≡ t → class_of last ≡ Cancel
+        → All IsEvent (cond t (cancel_function last) (sequence_function bytes last))
     canceled true c j = cancel_event last
     canceled false c j = absurd (none (range_of last Cancel j) c)
       where
@@ -200,33 +221,39 @@ ended_control bytes last k e f = go k e f
         none (inl is) c' = let z = rw is at c' in cc
         none (inr is) c' = let z = rw is at c' in cc
 
-    either : class_of last ≡ Final → (t : Bool) → All IsEvent (cond t (cancel_function last) (sequence_function bytes last))
+    either : class_of last ≡ Final → (t : Bool)
+        → All IsEvent (cond t (cancel_function last) (sequence_function bytes last))
     either j true = cancel_event last
     either j false = sequence_event bytes last j
 
-    go : (j : Class) → class_of last ≡ j → ends_control j ≡ true → All IsEvent (cond (is_cancel last) (cancel_function last) (sequence_function bytes last))
+    go : (j : Class) → class_of last ≡ j → ends_control j ≡ true
+        → All IsEvent (cond (is_cancel last) (cancel_function last) (sequence_function bytes last))
     go Cancel e f = canceled (is_cancel last) refl e
     go Final e f = either e (is_cancel last)
     go _ e f = absurd cc
 
 -- ---- items and bytes
 
-function_events : (beginning : Beginning) (last : ℕ) → ends beginning last ≡ true → All IsEvent (function beginning last)
-function_events (OfEscape inside) last h = ended_escape (inters_of inside) last (class_of last) refl h (inters_range inside (inters_of inside) refl)
+function_events : (beginning : Beginning) (last : ℕ) → ends beginning last ≡ true
+    → All IsEvent (function beginning last)
+function_events (OfEscape inside) last h =
+    ended_escape (inters_of inside) last (class_of last) refl h (inters_range inside (inters_of inside) refl)
 function_events (OfControl opening inside) last h = ended_control (without_quiet inside) last (class_of last) refl h
 function_events (OfString opening code content) last h = cancel_event last
 
 reading_events : (after : List ℕ) (item : Item) → IsItemBefore after item → All IsEvent (reading item)
 reading_events after (Single b) h = single_event b h
 reading_events after (Ended beginning last) h =
-    All-append IsEvent (beginning_controls beginning) (function beginning last) (beginning_events beginning) (function_events beginning last h.1)
+    All-append IsEvent (beginning_controls beginning) (function beginning last) (beginning_events beginning)
+    (function_events beginning last h.1)
 reading_events after (Cut beginning) h = beginning_events beginning
 
 rest_events : (rest : Option Beginning) → All IsEvent (rest_reading rest)
 rest_events None = no_event
 rest_events (Some beginning) = beginning_events beginning
 
-items_events : (items : List Item) (rest : Option Beginning) → AreItems items rest → All IsEvent (flat_map reading items)
+items_events : (items : List Item) (rest : Option Beginning) → AreItems items rest
+    → All IsEvent (flat_map reading items)
 items_events [] rest h = no_event
 items_events (item ∷ items) rest h =
     All-append IsEvent (reading item) (flat_map reading items) (reading_events _ item h.0) (items_events items rest h.1)

@@ -1,5 +1,6 @@
 -- Runs of plain bytes, seen a vector at a time through the mask of the lanes that aren't plain.
-use Rattle.std.proofs.Common.{◌≡◌, ℕ, ◌+◌, ◌-◌, ◌%◌, ◌^◌, ◌<◌, ◌≤◌, true, cond, ltb, List, [], ◌∷◌, map, length, take, replicate, get_or, refl, sym, ap, ap₂, subst, ◌∙◌, arith, w8, Fits, inl, inr}
+use Rattle.std.proofs.Common.{◌≡◌, ℕ, ◌+◌, ◌-◌, ◌%◌, ◌^◌, ◌<◌, ◌≤◌, true, cond, ltb, List, [], ◌∷◌, map, length, take}
+use Rattle.std.proofs.Common.{replicate, get_or, refl, sym, ap, ap₂, subst, ◌∙◌, arith, w8, Fits, inl, inr}
 use Rattle.std.specs.Prelude.{All}
 use Rattle.std.specs.List.{prefix_len}
 use Rattle.std.proofs.lemmas.Bool.{cases_lt}

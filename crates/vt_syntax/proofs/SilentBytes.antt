@@ -1,5 +1,6 @@
 -- Bytes that give no event, one after another.
-use Rattle.std.proofs.Common.{◌≡◌, ℕ, ◌+◌, ◌<◌, Bool, false, List, [], ◌∷◌, ◌++◌, length, take, drop, get_or, ◌==◌, ◌≤◌, nat_le, Option, length-append, length-drop, ◌-◌, arith, refl, sym, ap, ◌∙◌}
+use Rattle.std.proofs.Common.{◌≡◌, ℕ, ◌+◌, ◌<◌, Bool, false, List, [], ◌∷◌, ◌++◌, length, take, drop, get_or, ◌==◌, ◌≤◌}
+use Rattle.std.proofs.Common.{nat_le, Option, length-append, length-drop, ◌-◌, arith, refl, sym, ap, ◌∙◌}
 use Rattle.std.proofs.lemmas.List.{take_more}
 use Rattle.std.proofs.Math.Seq.{take-add, take-length}
 use Rattle.vt_syntax.specs.declared.held.Held.{Held}
@@ -9,7 +10,8 @@ use Rattle.vt_syntax.specs.declared.held.Phase.{Phase}
 use Rattle.vt_syntax.specs.declared.held.Phase.TheVariants.{Start, Values, Inter}
 use Rattle.vt_syntax.specs.declared.class.Class.TheVariants.{Parameter}
 use Rattle.vt_syntax.specs.Class.{class_of}
-use Rattle.vt_syntax.specs.Steps.{step_to, step_of, step_value, step_string, opened_by, change_last, with_digit, IsEarly, steps}
+use Rattle.vt_syntax.specs.Steps.{step_to, step_of, step_value, step_string, opened_by, change_last, with_digit}
+use Rattle.vt_syntax.specs.Steps.{IsEarly, steps}
 use Rattle.vt_syntax.proofs.Steps.{change_last-push, value_class, step_bracket}
 use Rattle.std.proofs.lemmas.Bool.Decides.{nat_tests}
 use Rattle.vt_syntax.proofs.Cutting.{steps_append}
@@ -19,7 +21,8 @@ unfolding steps
 steps_nil held = refl
 
 -- one more byte
-pub steps_more : (held now after : Held) (piece : List ℕ) (at : ℕ) → at < length piece → steps held (take at piece) ≡ step_to now []
+pub steps_more : (held now after : Held) (piece : List ℕ) (at : ℕ) → at < length piece
+    → steps held (take at piece) ≡ step_to now []
     → step_of now (get_or piece at 0) ≡ step_to after [] → steps held (take (at + 1) piece) ≡ step_to after []
 unfolding steps
 steps_more held now after piece at inside so_far step =
@@ -46,17 +49,21 @@ steps_add held now after piece at n so_far more =
 
 -- the part of a piece from a place on, to its end
 pub rest_of : (piece : List ℕ) (at : ℕ) → take (length piece - at) (drop at piece) ≡ drop at piece
-rest_of piece at = let e : length piece - at ≡ length (drop at piece) = sym (length-drop at piece) in rw e (take-length (drop at piece))
+rest_of piece at = let e : length piece - at ≡ length (drop at piece) = sym (length-drop at piece) in
+    rw e (take-length (drop at piece))
 
 -- more bytes of that part
 pub steps_part : (held now after : Held) (piece : List ℕ) (at n : ℕ) → steps held (take at piece) ≡ step_to now []
-    → steps now (take n (take (length piece - at) (drop at piece))) ≡ step_to after [] → steps held (take (at + n) piece) ≡ step_to after []
+    → steps now (take n (take (length piece - at) (drop at piece))) ≡ step_to after []
+    → steps held (take (at + n) piece) ≡ step_to after []
 steps_part held now after piece at n so_far more =
     let whole = rest_of piece at in steps_add held now after piece at n so_far (rw whole at more)
 
 -- content of a string
-pub steps_content : (osc : Bool) (piece : List ℕ) (at : ℕ) → at < length piece → steps (Text osc) (take at piece) ≡ step_to (Text osc) []
-    → step_string osc (get_or piece at 0) ≡ step_to (Text osc) [] → steps (Text osc) (take (at + 1) piece) ≡ step_to (Text osc) []
+pub steps_content : (osc : Bool) (piece : List ℕ) (at : ℕ) → at < length piece
+    → steps (Text osc) (take at piece) ≡ step_to (Text osc) []
+    → step_string osc (get_or piece at 0) ≡ step_to (Text osc) [] → steps (Text osc) (take (at + 1) piece)
+    ≡ step_to (Text osc) []
 unfolding step_of
 steps_content osc piece at inside so_far step = steps_more (Text osc) (Text osc) (Text osc) piece at inside so_far step
 
@@ -64,10 +71,12 @@ steps_content osc piece at inside so_far step = steps_more (Text osc) (Text osc)
 
 -- a digit after any early phase
 digit_value : (marker : Option ℕ) (xs : List ℕ) (v : ℕ) (b : ℕ) → 48 ≤ b → b ≤ 57
-    → step_value marker (xs ++ v ∷ []) false b ≡ Control marker (record { items = xs ++ with_digit b v ∷ [] }) false Values
+    → step_value marker (xs ++ v ∷ []) false b
+    ≡ Control marker (record { items = xs ++ with_digit b v ∷ [] }) false Values
 digit_value marker xs v b low high =
     let s : (b == 0x3B) ≡ false = grind (arith, nat_tests) in
-    let l : change_last (with_digit b) (xs ++ v ∷ []) ≡ xs ++ with_digit b v ∷ [] = change_last-push (with_digit b) xs v in
+    let l : change_last (with_digit b) (xs ++ v ∷ []) ≡ xs ++ with_digit b v ∷ [] =
+    change_last-push (with_digit b) xs v in
     rw (s, l) refl
 
 pub digit_step : (marker : Option ℕ) (xs : List ℕ) (v : ℕ) (phase : Phase) (b : ℕ) → IsEarly phase → 48 ≤ b → b ≤ 57

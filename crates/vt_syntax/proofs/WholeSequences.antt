@@ -1,5 +1,6 @@
 -- Sequences that stand whole in a piece: byte after byte, from the first on.
-use Rattle.std.proofs.Common.{◌≡◌, ℕ, ◌+◌, ◌-◌, ◌*◌, ◌<◌, ◌≤◌, true, false, List, [], ◌∷◌, ◌++◌, length, take, get_or, ◌==◌, nat_le, nat_lt, Option, Some, None, arith, append-nil, refl, sym, ap, ◌∙◌}
+use Rattle.std.proofs.Common.{◌≡◌, ℕ, ◌+◌, ◌-◌, ◌*◌, ◌<◌, ◌≤◌, true, false, List, [], ◌∷◌, ◌++◌, length, take, get_or}
+use Rattle.std.proofs.Common.{◌==◌, nat_le, nat_lt, Option, Some, None, arith, append-nil, refl, sym, ap, ◌∙◌}
 use Rattle.std.proofs.lemmas.List.{take_more}
 use Rattle.std.proofs.lemmas.Bool.Decides.{nat_tests}
 use Rattle.arrayvec.specs.ArrayVec.{ArrayVec}
@@ -116,7 +117,8 @@ read_digit piece at next marker xs v d w read follows inside digit small is =
       within = omega arith;
       phase = Values;
       early = tt;
-      reads = rw e (steps_more Nothing (Control marker (record { items = xs ++ v ∷ [] }) false read.phase) _ piece at (omega arith) read.reads
+      reads = rw e (steps_more Nothing (Control marker (record { items = xs ++ v ∷ [] }) false read.phase) _ piece at
+          (omega arith) read.reads
           (digit_step marker xs v read.phase (get_or piece at 0) read.early digit.0 digit.1));
     })
 
@@ -178,7 +180,8 @@ unfolding step_of
 steps_alone piece kind some is values = record {
   some = omega arith;
   within = some;
-  reads = steps_event Nothing Nothing Nothing piece 0 (event_of kind values) (omega arith) (steps_nil Nothing) (is values);
+  reads = steps_event Nothing Nothing Nothing piece 0 (event_of kind values) (omega arith) (steps_nil Nothing)
+      (is values);
 }
 
 -- ---- escape sequences

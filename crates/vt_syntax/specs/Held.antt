@@ -1,5 +1,6 @@
 -- The held part of a rest: what of it decides how it goes on. Its spelling: short bytes that leave it.
-use Rattle.std.specs.Prelude.{◌≡◌, ◌+◌, ◌≤◌, ℕ, List, [], ◌∷◌, ◌++◌, map, length, Bool, false, Option, Some, None, nat_le, nat_lt, ◌&&◌, if◌then◌else◌, decimal}
+use Rattle.std.specs.Prelude.{◌≡◌, ◌+◌, ◌≤◌, ℕ, List, [], ◌∷◌, ◌++◌, map, length, Bool, false, Option, Some, None}
+use Rattle.std.specs.Prelude.{nat_le, nat_lt, ◌&&◌, if◌then◌else◌, decimal}
 use Rattle.std.specs.List.{join_with_byte}
 use Rattle.std.specs.Option.{option_to_list}
 use Rattle.vt_syntax.specs.declared.event.Event.{Event}

@@ -1,6 +1,7 @@
 -- What bytes are cut into: single bytes, escape sequences (ECMA-35 13), control sequences (ECMA-48 5.4) and
 -- control strings (ECMA-48 5.6), whole or cut off. Quiet bytes inside a sequence are part of it (this profile).
-use Rattle.std.specs.Prelude.{◌≡◌, ℕ, ◌+◌, ◌-◌, List, [], ◌∷◌, ◌++◌, Bool, true, false, Option, Some, None, ◌==◌, ◌||◌, ◌&&◌, not, filter}
+use Rattle.std.specs.Prelude.{◌≡◌, ℕ, ◌+◌, ◌-◌, List, [], ◌∷◌, ◌++◌, Bool, true, false, Option, Some, None, ◌==◌, ◌||◌}
+use Rattle.std.specs.Prelude.{◌&&◌, not, filter}
 use Rattle.vt_syntax.specs.declared.class.Class.{Class}
 use Rattle.vt_syntax.specs.declared.class.Class.TheVariants.{Quiet, Cancel, Esc, Intermediate, Parameter, Final, High}
 use Rattle.vt_syntax.specs.declared.held.Inters.{Inters}

@@ -1,5 +1,6 @@
 -- The reading of items and of a rest: the events that they ask for.
-use Rattle.std.specs.Prelude.{ℕ, ◌+◌, List, [], ◌∷◌, ◌++◌, map, filter, take, min, Bool, true, false, Option, Some, None, ◌==◌, ◌||◌, ◌&&◌, not, nat_lt, nat_le, if◌then◌else◌}
+use Rattle.std.specs.Prelude.{ℕ, ◌+◌, List, [], ◌∷◌, ◌++◌, map, filter, take, min, Bool, true, false, Option, Some}
+use Rattle.std.specs.Prelude.{None, ◌==◌, ◌||◌, ◌&&◌, not, nat_lt, nat_le, if◌then◌else◌}
 use Rattle.std.specs.List.{flat_map, slice_split, list_any}
 use Rattle.std.specs.Str.Parse.{digits_value}
 use Rattle.arrayvec.specs.ArrayVec.{ArrayVec}
@@ -8,7 +9,8 @@ use Rattle.vt_syntax.specs.declared.event.Event.TheVariants.{Print, Control, Esc
 use Rattle.vt_syntax.specs.declared.held.Inters.{Inters}
 use Rattle.vt_syntax.specs.declared.held.Inters.TheVariants.{Zero, One, Many}
 use Rattle.vt_syntax.specs.Class.{is_quiet, is_intermediate, is_parameter, is_plain}
-use Rattle.vt_syntax.specs.Items.{Opening, EightBit, SevenBit, Beginning, OfEscape, OfControl, OfString, Item, Single, Ended, Cut, inters_of}
+use Rattle.vt_syntax.specs.Items.{Opening, EightBit, SevenBit, Beginning, OfEscape, OfControl, OfString, Item, Single}
+use Rattle.vt_syntax.specs.Items.{Ended, Cut, inters_of}
 use Rattle.vt_syntax.specs.Split.{Parts, split_of}
 
 -- ---- the controls inside a sequence, carried out where they stand (this profile)

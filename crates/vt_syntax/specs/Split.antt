@@ -2,7 +2,8 @@
 use Rattle.std.specs.Prelude.{◌≡◌, ℕ, ◌+◌, List, [], ◌∷◌, ◌++◌, Option, Some, None, ◌==◌, if◌then◌else◌}
 use Rattle.std.specs.List.{flat_map}
 use Rattle.vt_syntax.specs.Class.{opens_string}
-use Rattle.vt_syntax.specs.Items.{EightBit, SevenBit, Beginning, OfEscape, OfControl, OfString, Item, Single, Ended, Cut, item_bytes, rest_bytes, inters_of, introduces, ends, cuts, IsRest, IsItemBefore}
+use Rattle.vt_syntax.specs.Items.{EightBit, SevenBit, Beginning, OfEscape, OfControl, OfString, Item, Single, Ended}
+use Rattle.vt_syntax.specs.Items.{Cut, item_bytes, rest_bytes, inters_of, introduces, ends, cuts, IsRest, IsItemBefore}
 
 -- the bytes of items and a rest
 abbrev pub bytes_of : List Item → Option Beginning → List ℕ

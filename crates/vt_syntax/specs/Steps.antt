@@ -1,6 +1,7 @@
 -- One byte after a held part. Contracts of private functions cite this, and no public clause does: it is proved to be
 -- what the split of the held part's spelling and the byte reads and leaves.
-use Rattle.std.specs.Prelude.{ℕ, ◌+◌, ◌-◌, ◌*◌, List, [], ◌∷◌, ◌++◌, length, min, Bool, true, false, Option, Some, None, ◌==◌, if◌then◌else◌}
+use Rattle.std.specs.Prelude.{ℕ, ◌+◌, ◌-◌, ◌*◌, List, [], ◌∷◌, ◌++◌, length, min, Bool, true, false, Option, Some, None}
+use Rattle.std.specs.Prelude.{◌==◌, if◌then◌else◌}
 use Rattle.vt_syntax.specs.declared.class.Class.{Class}
 use Rattle.vt_syntax.specs.declared.class.Class.TheVariants as class
 use Rattle.vt_syntax.specs.declared.event.Event.{Event}

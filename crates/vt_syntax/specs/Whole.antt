@@ -1,4 +1,5 @@
--- A sequence that stands whole in a piece, by steps. Contracts of private functions cite this, and no public clause does.
+-- A sequence that stands whole in a piece, by steps. Contracts of private functions cite this, and no public clause
+-- does.
 use Rattle.std.specs.Prelude.{◌≡◌, ◌≤◌, ℕ, List, [], ◌∷◌, length, take, Option, Some, None, false}
 use Rattle.vt_syntax.specs.declared.event.EventKind.{EventKind}
 use Rattle.vt_syntax.specs.declared.held.Held.{Held}

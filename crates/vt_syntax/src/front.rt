@@ -1,4 +1,5 @@
-//! Frequent events that stand whole at the front of a piece, between sequences, each by itself: so that a caller chooses
+//! Frequent events that stand whole at the front of a piece, between sequences, each by itself: so that a caller
+//! chooses
 //! their function at once.
 ghost use Rattle.std.specs.Prelude.{◌≡◌, [], ◌∷◌, Some, None, IsSome, IfSome, IsTrue, ◌↔◌};
 ghost use Rattle.std.specs.Bool.{OnTrue};

@@ -3,9 +3,12 @@ ghost use Rattle.std.specs.Prelude.{◌≡◌, ◌<◌, ◌≤◌, ℕ, List, []
 ghost use Rattle.std.specs.Bool.{OnTrue, OnFalse};
 ghost use Rattle.vt_syntax.specs.Class.{class_of as byte_class};
 ghost use Rattle.vt_syntax.specs.Items.{introduces as introduces_after};
-ghost use Rattle.vt_syntax.specs.Reading.{quiet_control as control_of_quiet, cancel_function, single_function as function_of_single, escape_function as function_of_escape};
+ghost use Rattle.vt_syntax.specs.Reading.{quiet_control as control_of_quiet, cancel_function};
+ghost use Rattle.vt_syntax.specs.Reading.{single_function as function_of_single, escape_function as function_of_escape};
 ghost use Rattle.vt_syntax.specs.Event.{event_in};
-ghost use Rattle.vt_syntax.specs.Steps.{step_to, step_of, step_between as between, step_escape as in_escape, step_spoilt as in_spoilt, step_string as in_string, step_value, step_parameter, step_intermediate, with_digit, steps, opened_by as opened_part};
+ghost use Rattle.vt_syntax.specs.Steps.{step_to, step_of, step_between as between, step_escape as in_escape};
+ghost use Rattle.vt_syntax.specs.Steps.{step_spoilt as in_spoilt, step_string as in_string, step_value, step_parameter};
+ghost use Rattle.vt_syntax.specs.Steps.{step_intermediate, with_digit, steps, opened_by as opened_part};
 
 use crate::class::{Class, class_of};
 use crate::content::content_len;

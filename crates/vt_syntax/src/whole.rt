@@ -1,5 +1,6 @@
 //! Events that stand whole at the front of a piece, between sequences: read from the piece, and never held.
-ghost use Rattle.std.specs.Prelude.{◌≡◌, ◌+◌, ◌-◌, ◌<◌, ◌≤◌, ℕ, List, [], ◌∷◌, ◌++◌, Option, IfSome, IsTrue, ◌↔◌, false, length, take, slice_index};
+ghost use Rattle.std.specs.Prelude.{◌≡◌, ◌+◌, ◌-◌, ◌<◌, ◌≤◌, ℕ, List, [], ◌∷◌, ◌++◌, Option, IfSome, IsTrue, ◌↔◌};
+ghost use Rattle.std.specs.Prelude.{false, length, take, slice_index};
 ghost use Rattle.vt_syntax.specs.declared.held.Held.TheVariants.{Nothing, Escape, Control};
 ghost use Rattle.vt_syntax.specs.declared.held.Inters.TheVariants.{Zero};
 ghost use Rattle.std.specs.Bool.{OnTrue};
@@ -11,8 +12,10 @@ ghost use Rattle.vt_syntax.specs.Whole.{IsWhole, AreRead, begun};
 use crate::event::EventKind;
 use crate::values::Values;
 
-/// Reads the event that stands whole at the front of a piece: a byte by itself, or a sequence. Answers how many bytes it
-/// has. `None` where none stands there, and for what isn't common: more than 16 values, a value of four digits, a byte inside
+/// Reads the event that stands whole at the front of a piece: a byte by itself, or a sequence. Answers how many bytes
+/// it
+/// has. `None` where none stands there, and for what isn't common: more than 16 values, a value of four digits, a byte
+/// inside
 /// that has a function of its own, or the piece ends soon.
 #[inline(always)]
 pub(crate) fn whole_event(piece: &[u8], values: &mut Values) -> Option<(usize, EventKind)>
@@ -126,7 +129,8 @@ fn marker_at(piece: &[u8], from: usize) -> (Option<u8>, usize)
     }
 }
 
-/// Reads the values from a place on, and answers the place behind them. `None` after the 16th, and where fewer than four
+/// Reads the values from a place on, and answers the place behind them. `None` after the 16th, and where fewer than
+/// four
 /// bytes are left.
 #[inline(always)]
 pub(crate) fn read_values(
@@ -223,7 +227,8 @@ fn whole_escape(piece: &[u8]) -> Option<(usize, EventKind)>
     None
 }
 
-/// Whether a byte after ESC ends an escape sequence: it is a final byte, and the letter of no C1 control that opens something.
+/// Whether a byte after ESC ends an escape sequence: it is a final byte, and the letter of no C1 control that opens
+/// something.
 #[inline(always)]
 #[tactic(auto, using(crate::proofs::Classes::class_tests), unfolding(crate::specs::Class::opens_string))]
 pub(crate) fn ends_escape(b: u8) -> bool

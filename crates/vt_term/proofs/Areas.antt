@@ -17,20 +17,24 @@ pub one-more-row : (first row width r c : ℕ) → first ≤ row → 1 ≤ c →
 one-more-row first row width r c low c1 cw = grind (arith, nat_tests)
 
 -- the columns that EL erases are its area
-pub line-area-0 : (cursor : Cursor) (width r c : ℕ) → c ≤ width → columns_of cursor.row cursor.col width r c ≡ line_area 0 cursor r c
+pub line-area-0 : (cursor : Cursor) (width r c : ℕ) → c ≤ width → columns_of cursor.row cursor.col width r c
+    ≡ line_area 0 cursor r c
 line-area-0 cursor width r c cw = grind (arith, nat_tests)
 
 pub line-area-1 : (cursor : Cursor) (r c : ℕ) → 1 ≤ c → columns_of cursor.row 1 cursor.col r c ≡ line_area 1 cursor r c
 line-area-1 cursor r c c1 = grind (arith, nat_tests)
 
-pub line-area-2 : (cursor : Cursor) (width r c : ℕ) → 1 ≤ c → c ≤ width → columns_of cursor.row 1 width r c ≡ line_area 2 cursor r c
+pub line-area-2 : (cursor : Cursor) (width r c : ℕ) → 1 ≤ c → c ≤ width → columns_of cursor.row 1 width r c
+    ≡ line_area 2 cursor r c
 line-area-2 cursor width r c c1 cw = grind (arith, nat_tests)
 
 -- the part of the line, and the rows below it or above it
-pub display-area-0 : (cursor : Cursor) (r c : ℕ) → r ≤ 24 → line_area 0 cursor r c || rows_between (cursor.row + 1) 25 r c ≡ display_area 0 cursor r c
+pub display-area-0 : (cursor : Cursor) (r c : ℕ) → r ≤ 24 → line_area 0 cursor r c
+    || rows_between (cursor.row + 1) 25 r c ≡ display_area 0 cursor r c
 display-area-0 cursor r c r24 = grind (arith, nat_tests)
 
-pub display-area-1 : (cursor : Cursor) (r c : ℕ) → 1 ≤ r → line_area 1 cursor r c || rows_between 1 cursor.row r c ≡ display_area 1 cursor r c
+pub display-area-1 : (cursor : Cursor) (r c : ℕ) → 1 ≤ r → line_area 1 cursor r c || rows_between 1 cursor.row r c
+    ≡ display_area 1 cursor r c
 display-area-1 cursor r c r1 = grind (arith, nat_tests)
 
 -- all rows
@@ -39,14 +43,23 @@ display-area-2 cursor r c r1 r24 = grind (arith, nat_tests)
 
 -- ED from the cursor on: the part of the line, and then the rows below
 pub erase_in_display-0 : AreaLaws → (selective : Bool) (s : Display)
-    → record (erase_in_line selective 0 s) { grid = erase_area (erase_in_line selective 0 s).grid (rows_between (s.cursor.row + 1) 25) selective } ≡ erase_in_display selective 0 s
+    → record (erase_in_line selective 0 s) {
+      grid =
+          erase_area (erase_in_line selective 0 s).grid (rows_between (s.cursor.row + 1) 25) selective;
+    }
+    ≡ erase_in_display selective 0 s
 erase_in_display-0 areas selective s =
-    ap (λ (g : Grid). with_grid g s) (areas.both s.grid (line_area 0 s.cursor) (rows_between (s.cursor.row + 1) 25) selective
+    ap (λ (g : Grid). with_grid g s)
+    (areas.both s.grid (line_area 0 s.cursor) (rows_between (s.cursor.row + 1) 25) selective
     ∙ areas.same s.grid _ (display_area 0 s.cursor) selective (λ r c r1 r24 c1 cw. display-area-0 s.cursor r c r24))
 
 -- ED up to the cursor: the part of the line, and then the rows above
 pub erase_in_display-1 : AreaLaws → (selective : Bool) (s : Display)
-    → record (erase_in_line selective 1 s) { grid = erase_area (erase_in_line selective 1 s).grid (rows_between 1 s.cursor.row) selective } ≡ erase_in_display selective 1 s
+    → record (erase_in_line selective 1 s) {
+      grid =
+          erase_area (erase_in_line selective 1 s).grid (rows_between 1 s.cursor.row) selective;
+    }
+    ≡ erase_in_display selective 1 s
 erase_in_display-1 areas selective s =
     ap (λ (g : Grid). with_grid g s) (areas.both s.grid (line_area 1 s.cursor) (rows_between 1 s.cursor.row) selective
     ∙ areas.same s.grid _ (display_area 1 s.cursor) selective (λ r c r1 r24 c1 cw. display-area-1 s.cursor r c r1))

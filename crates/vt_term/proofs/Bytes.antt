@@ -1,5 +1,7 @@
 -- What a piece of bytes plays.
-use Rattle.std.proofs.Common.{◌≡◌, ℕ, List, [], ◌∷◌, ◌++◌, None, ◌≤◌, ◌==◌, nat_lt, true, false, inl, inr, All, get_or, arith, map, refl, sym, ap, ◌∙◌, ◌+◌, take, drop, length, ◌-◌, length-drop, append-nil, append_assoc}
+use Rattle.std.proofs.Common.{◌≡◌, ℕ, List, [], ◌∷◌, ◌++◌, None, ◌≤◌, ◌==◌, nat_lt, true, false, inl, inr, All, get_or}
+use Rattle.std.proofs.Common.{arith, map, refl, sym, ap, ◌∙◌, ◌+◌, take, drop, length, ◌-◌, length-drop, append-nil}
+use Rattle.std.proofs.Common.{append_assoc}
 use Rattle.std.proofs.Math.Seq.{take-add, take-length}
 use Rattle.vt_syntax.specs.declared.event.Event.{Event}
 use Rattle.vt_syntax.specs.declared.event.Event.TheVariants.{Print, Control}
@@ -43,9 +45,11 @@ pub play-more-state : Cuts → (s t u : State) (piece : List ℕ) (at n : ℕ) �
     → u ≡ (play t (take n (drop at piece))).state → u ≡ (play s (take (at + n) piece)).state
 play-more-state cuts s t u piece at n is then =
     then ∙ ap (λ (v : State). (play v (take n (drop at piece))).state) is
-    ∙ sym (ap (λ (bytes : List ℕ). (play s bytes).state) (take-add at n piece) ∙ ap (λ (p : Played). p.state) (cuts s (take at piece) (take n (drop at piece))))
+    ∙ sym (ap (λ (bytes : List ℕ). (play s bytes).state) (take-add at n piece)
+    ∙ ap (λ (p : Played). p.state) (cuts s (take at piece) (take n (drop at piece))))
 
-pub play-more-reports : Cuts → (s t : State) (piece before out more : List ℕ) (at n : ℕ) → t ≡ (play s (take at piece)).state
+pub play-more-reports : Cuts → (s t : State) (piece before out more : List ℕ) (at n : ℕ)
+    → t ≡ (play s (take at piece)).state
     → out ≡ before ++ (play s (take at piece)).reports → more ≡ out ++ (play t (take n (drop at piece))).reports
     → more ≡ before ++ (play s (take (at + n) piece)).reports
 play-more-reports cuts s t piece before out more at n is was then =
@@ -54,7 +58,9 @@ play-more-reports cuts s t piece before out more at n is was then =
     then ∙ ap (λ (v : State). out ++ (play v (take n (drop at piece))).reports) is
     ∙ ap (λ (t : List ℕ). t ++ second) was
     ∙ append_assoc before first second
-    ∙ ap (λ (t : List ℕ). before ++ t) (sym (ap (λ (bytes : List ℕ). (play s bytes).reports) (take-add at n piece) ∙ ap (λ (p : Played). p.reports) (cuts s (take at piece) (take n (drop at piece)))))
+    ∙ ap (λ (t : List ℕ). before ++ t)
+    (sym (ap (λ (bytes : List ℕ). (play s bytes).reports) (take-add at n piece)
+    ∙ ap (λ (p : Played). p.reports) (cuts s (take at piece) (take n (drop at piece)))))
 
 -- nothing is a held part
 pub nothing-held : IsHeldPart Nothing
@@ -62,16 +68,21 @@ nothing-held = record { rest = None; is_rest = tt; of_rest = refl }
 
 -- the part of a piece from a place on, to its end
 pub rest-of : (piece : List ℕ) (at : ℕ) → take (length piece - at) (drop at piece) ≡ drop at piece
-rest-of piece at = let e : length piece - at ≡ length (drop at piece) = sym (length-drop at piece) in rw e (take-length (drop at piece))
+rest-of piece at = let e : length piece - at ≡ length (drop at piece) = sym (length-drop at piece) in
+    rw e (take-length (drop at piece))
 
 -- an event that is spelled by one byte, between sequences
-one-event : SpellingLaw → SplitLaw → (event : Event) (byte : ℕ) → IsEvent event → spell_event event ≡ byte ∷ [] → event ∷ [] ≡ events_from Nothing (byte ∷ [])
+one-event : SpellingLaw → SplitLaw → (event : Event) (byte : ℕ) → IsEvent event → spell_event event ≡ byte ∷ []
+    → event ∷ [] ≡ events_from Nothing (byte ∷ [])
 one-event spelling split event byte is spelled =
-    sym (ap (λ (bytes : List ℕ). events_of (bytes ++ [])) (sym spelled) ∙ spelling.event event [] is ∙ ap (λ (es : List Event). event ∷ es) (split.events_nil Nothing nothing-held))
+    sym (ap (λ (bytes : List ℕ). events_of (bytes ++ [])) (sym spelled) ∙ spelling.event event [] is
+    ∙ ap (λ (es : List Event). event ∷ es) (split.events_nil Nothing nothing-held))
 
-one-held : SpellingLaw → SplitLaw → (event : Event) (byte : ℕ) → IsEvent event → spell_event event ≡ byte ∷ [] → Nothing ≡ held_from Nothing (byte ∷ [])
+one-held : SpellingLaw → SplitLaw → (event : Event) (byte : ℕ) → IsEvent event → spell_event event ≡ byte ∷ []
+    → Nothing ≡ held_from Nothing (byte ∷ [])
 one-held spelling split event byte is spelled =
-    sym (ap (λ (bytes : List ℕ). held_after (bytes ++ [])) (sym spelled) ∙ spelling.event_held event [] is ∙ split.held_nil Nothing nothing-held)
+    sym (ap (λ (bytes : List ℕ). held_after (bytes ++ [])) (sym spelled) ∙ spelling.event_held event [] is
+    ∙ split.held_nil Nothing nothing-held)
 
 pub event-state : SpellingLaw → SplitLaw → (s : State) (d : Display) (h : Held) (event : Event) (byte : ℕ)
     → IsEvent event → spell_event event ≡ byte ∷ [] → s.held ≡ Nothing → h ≡ s.held → d ≡ effect event s.display
@@ -80,12 +91,15 @@ event-state spelling split s d h event byte is spelled between same then =
     play-state s (byte ∷ []) (event ∷ []) d h
     (one-event spelling split event byte is spelled ∙ ap (λ (k : Held). events_from k (byte ∷ [])) (sym between))
     then
-    (same ∙ between ∙ one-held spelling split event byte is spelled ∙ ap (λ (k : Held). held_from k (byte ∷ [])) (sym between))
+    (same ∙ between ∙ one-held spelling split event byte is spelled
+    ∙ ap (λ (k : Held). held_from k (byte ∷ [])) (sym between))
 
 pub event-reports : SpellingLaw → SplitLaw → (s : State) (event : Event) (byte : ℕ)
-    → IsEvent event → spell_event event ≡ byte ∷ [] → s.held ≡ Nothing → report event s.display ≡ [] → (play s (byte ∷ [])).reports ≡ []
+    → IsEvent event → spell_event event ≡ byte ∷ [] → s.held ≡ Nothing → report event s.display ≡ []
+    → (play s (byte ∷ [])).reports ≡ []
 event-reports spelling split s event byte is spelled between silent =
-    sym (play-reports s (byte ∷ []) (event ∷ []) (one-event spelling split event byte is spelled ∙ ap (λ (k : Held). events_from k (byte ∷ [])) (sym between)))
+    sym (play-reports s (byte ∷ []) (event ∷ []) (one-event spelling split event byte is spelled
+    ∙ ap (λ (k : Held). events_from k (byte ∷ [])) (sym between)))
     ∙ append-nil (report event s.display) ∙ silent
 
 -- BS to CR are events by themselves, and report nothing

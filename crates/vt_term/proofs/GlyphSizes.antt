@@ -1,5 +1,6 @@
 -- A glyph's character takes at most three bytes of UTF-8.
-use Rattle.std.proofs.Common.{◌≡◌, inl, inr, ℕ, ◌≤◌, ◌<◌, List, [], ◌∷◌, Bool, true, false, cond, ◌&&◌, ◌||◌, ◌==◌, nat_lt, refl, arith}
+use Rattle.std.proofs.Common.{◌≡◌, inl, inr, ℕ, ◌≤◌, ◌<◌, List, [], ◌∷◌, Bool, true, false, cond, ◌&&◌, ◌||◌, ◌==◌}
+use Rattle.std.proofs.Common.{nat_lt, refl, arith}
 use Rattle.std.specs.List.{list_any, list_all}
 use Rattle.std.specs.Char.{len_utf8}
 use Rattle.std.proofs.lemmas.Bool.Decides.{eqb_tells, nat_tests}
@@ -15,13 +16,16 @@ and-right true b h = h
 and-right false b h = absurd cc
 
 -- a glyph that some code shows is small, if what each code shows is
-any-small : (f : ℕ → ℕ) (codes : List ℕ) (n bound : ℕ) → list_all (λ c. nat_lt (f c) bound) codes ≡ true → list_any (λ c. f c == n) codes ≡ true → n < bound
+any-small : (f : ℕ → ℕ) (codes : List ℕ) (n bound : ℕ) → list_all (λ c. nat_lt (f c) bound) codes ≡ true
+    → list_any (λ c. f c == n) codes ≡ true → n < bound
 any-small f [] n bound all any = absurd cc
 any-small f (c ∷ cs) n bound all any = elim (eqb_tells (f c) n) [
   | inl e ↦
-      let here : nat_lt (f c) bound ≡ true = and-left (nat_lt (f c) bound) (list_all (λ c. nat_lt (f c) bound) cs) all in
+      let here : nat_lt (f c) bound ≡ true =
+      and-left (nat_lt (f c) bound) (list_all (λ c. nat_lt (f c) bound) cs) all in
       grind (arith, nat_tests, e)
-  | inr e ↦ any-small f cs n bound (and-right (nat_lt (f c) bound) (list_all (λ c. nat_lt (f c) bound) cs) all) (rw e.0 at any)
+  | inr e ↦ any-small f cs n bound (and-right (nat_lt (f c) bound) (list_all (λ c. nat_lt (f c) bound) cs) all)
+      (rw e.0 at any)
 ]
 
 ascii-small : (n : ℕ) → shows Ascii n ≡ true → n < 0x3000

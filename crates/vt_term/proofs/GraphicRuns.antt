@@ -1,5 +1,7 @@
 -- Runs of graphic bytes, seen a vector at a time through the mask of the lanes that have no glyph.
-use Rattle.std.proofs.Common.{◌≡◌, ℕ, zero, suc, ◌+◌, ◌-◌, ◌*◌, ◌%◌, ◌^◌, ◌<◌, ◌≤◌, Bool, true, false, not, ◌&&◌, cond, eqb, ltb, List, [], ◌∷◌, map, length, take, drop, replicate, get_or, refl, sym, ap, ap₂, subst, ◌∙◌, arith, bit_and, w8, Fits, inl, inr}
+use Rattle.std.proofs.Common.{◌≡◌, ℕ, zero, suc, ◌+◌, ◌-◌, ◌*◌, ◌%◌, ◌^◌, ◌<◌, ◌≤◌, Bool, true, false, not, ◌&&◌, cond}
+use Rattle.std.proofs.Common.{eqb, ltb, List, [], ◌∷◌, map, length, take, drop, replicate, get_or, refl, sym, ap, ap₂}
+use Rattle.std.proofs.Common.{subst, ◌∙◌, arith, bit_and, w8, Fits, inl, inr}
 use Rattle.std.specs.Prelude.{All}
 use Rattle.std.specs.List.{prefix_len}
 use Rattle.std.proofs.lemmas.Bool.{eq-eqb, ne_eqb, cases_lt}
@@ -38,19 +40,27 @@ both_tops false true = refl
 both_tops false false = refl
 
 lanes : (n : ℕ) (v : List ℕ) → length v ≡ n → Each1 (Fits w8) v
-    → map (top 7) (zip2 bit_and (zip2 (λ a b. cond (ltb a b) 255 0) (replicate n 94) (zip2 (λ a b. (a + (256 - b)) % 256) v (replicate n 32)))
-    (zip2 (λ a b. cond (ltb a b) 255 0) (replicate n 93) (zip2 (λ a b. (a + (256 - b)) % 256) v (replicate n 161)))) ≡ map has_no_glyph v
+    → map (top 7)
+    (zip2 bit_and
+    (zip2 (λ a b. cond (ltb a b) 255 0) (replicate n 94) (zip2 (λ a b. (a + (256 - b)) % 256) v (replicate n 32)))
+    (zip2 (λ a b. cond (ltb a b) 255 0) (replicate n 93) (zip2 (λ a b. (a + (256 - b)) % 256) v (replicate n 161))))
+    ≡ map has_no_glyph v
 lanes zero [] long fits = refl
 lanes (suc n) [] long fits = absurd (omega arith)
 lanes zero (x ∷ v) long fits = absurd (omega arith)
 lanes (suc n) (x ∷ v) long fits =
-    ap₂ (λ b bs. b ∷ bs) (both_tops (ltb 94 ((x + 224) % 256)) (ltb 93 ((x + 95) % 256)) ∙ outside x fits.0.fits) (lanes n v (omega arith) fits.1)
+    ap₂ (λ b bs. b ∷ bs) (both_tops (ltb 94 ((x + 224) % 256)) (ltb 93 ((x + 95) % 256)) ∙ outside x fits.0.fits)
+    (lanes n v (omega arith) fits.1)
 
 pub stops_mask : (n : ℕ) (v : List ℕ) → length v ≡ n → n ≤ 64 → Each1 (Fits w8) v
-    → mask_l (map (top 7) (zip2 bit_and (zip2 (λ a b. cond (ltb a b) 255 0) (replicate n 94) (zip2 (λ a b. (a + (256 - b)) % 256) v (replicate n 32)))
-    (zip2 (λ a b. cond (ltb a b) 255 0) (replicate n 93) (zip2 (λ a b. (a + (256 - b)) % 256) v (replicate n 161))))) % 2 ^ 64 ≡ mask_l (map has_no_glyph v)
+    → mask_l (map (top 7)
+    (zip2 bit_and
+    (zip2 (λ a b. cond (ltb a b) 255 0) (replicate n 94) (zip2 (λ a b. (a + (256 - b)) % 256) v (replicate n 32)))
+    (zip2 (λ a b. cond (ltb a b) 255 0) (replicate n 93) (zip2 (λ a b. (a + (256 - b)) % 256) v (replicate n 161))))) %
+    2 ^ 64 ≡ mask_l (map has_no_glyph v)
 stops_mask n v long few fits =
-    ap (λ m. mask_l m % 2 ^ 64) (lanes n v long fits) ∙ mask_l-mod (map has_no_glyph v) 64 (omega (arith, length-map v has_no_glyph))
+    ap (λ m. mask_l m % 2 ^ 64) (lanes n v long fits)
+    ∙ mask_l-mod (map has_no_glyph v) 64 (omega (arith, length-map v has_no_glyph))
 
 -- ---- the run through a vector, or to its first stop
 
@@ -60,7 +70,8 @@ none_stops false n l m le e ih = let no : ⊥ = omega arith in absurd no
 
 all_graphic : (xs : List ℕ) → prefix_len has_glyph xs ≡ length xs → mask_l (map has_no_glyph xs) ≡ 0
 all_graphic [] e = refl
-all_graphic (x ∷ xs) e = none_stops (has_glyph x) _ (length xs) _ (prefix_len-le-length has_glyph xs) (omega arith) (all_graphic xs)
+all_graphic (x ∷ xs) e =
+    none_stops (has_glyph x) _ (length xs) _ (prefix_len-le-length has_glyph xs) (omega arith) (all_graphic xs)
 
 not-not : (b : Bool) → b ≡ not (not b)
 not-not true = refl
@@ -70,19 +81,26 @@ same_run : (xs : List ℕ) → prefix_len has_glyph xs ≡ prefix_len (λ x. not
 same_run [] = refl
 same_run (x ∷ xs) = ap₂ (λ b n. cond b (1 + n) 0) (not-not (has_glyph x)) (same_run xs)
 
-split : (xs : List ℕ) (i n : ℕ) → prefix_len has_glyph (drop i xs) ≡ cond (eqb (prefix_len has_glyph (chunk i n xs)) (length (chunk i n xs))) (length (chunk i n xs) + prefix_len has_glyph (drop (i + n) xs)) (prefix_len has_glyph (chunk i n xs))
-split xs i n = ap (prefix_len has_glyph) (chunk-drop i n xs) ∙ prefix_len-append has_glyph (chunk i n xs) (drop (i + n) xs)
+split : (xs : List ℕ) (i n : ℕ)
+    → prefix_len has_glyph (drop i xs) ≡ cond (eqb (prefix_len has_glyph (chunk i n xs)) (length (chunk i n xs)))
+    (length (chunk i n xs) + prefix_len has_glyph (drop (i + n) xs)) (prefix_len has_glyph (chunk i n xs))
+split xs i n = ap (prefix_len has_glyph) (chunk-drop i n xs)
+    ∙ prefix_len-append has_glyph (chunk i n xs) (drop (i + n) xs)
 
-pub run_through : (xs : List ℕ) (i n : ℕ) → i + n ≤ length xs → mask_l (map has_no_glyph (chunk i n xs)) ≡ 0 → prefix_len has_glyph (drop i xs) ≡ n + prefix_len has_glyph (drop (i + n) xs)
+pub run_through : (xs : List ℕ) (i n : ℕ) → i + n ≤ length xs → mask_l (map has_no_glyph (chunk i n xs)) ≡ 0
+    → prefix_len has_glyph (drop i xs) ≡ n + prefix_len has_glyph (drop (i + n) xs)
 run_through xs i n room none =
     let c = chunk i n xs in
-    split xs i n ∙ ap (λ b. cond b (length c + prefix_len has_glyph (drop (i + n) xs)) (prefix_len has_glyph c)) (eq-eqb _ _ (same_run c ∙ leading_from_mask_l has_no_glyph c none))
+    split xs i n ∙ ap (λ b. cond b (length c + prefix_len has_glyph (drop (i + n) xs)) (prefix_len has_glyph c))
+    (eq-eqb _ _ (same_run c ∙ leading_from_mask_l has_no_glyph c none))
     ∙ ap (λ k. k + prefix_len has_glyph (drop (i + n) xs)) (length-chunk i n xs room)
 
-pub run_stops : (xs : List ℕ) (i n : ℕ) → i + n ≤ length xs → n ≤ 64 → 0 < mask_l (map has_no_glyph (chunk i n xs)) → prefix_len has_glyph (drop i xs) ≡ count_trailing_zeros 64 (mask_l (map has_no_glyph (chunk i n xs)))
+pub run_stops : (xs : List ℕ) (i n : ℕ) → i + n ≤ length xs → n ≤ 64 → 0 < mask_l (map has_no_glyph (chunk i n xs))
+    → prefix_len has_glyph (drop i xs) ≡ count_trailing_zeros 64 (mask_l (map has_no_glyph (chunk i n xs)))
 run_stops xs i n room few some =
     let c = chunk i n xs in
-    split xs i n ∙ ap (λ b. cond b (length c + prefix_len has_glyph (drop (i + n) xs)) (prefix_len has_glyph c)) (ne_eqb _ _ (λ (e : prefix_len has_glyph c ≡ length c). omega (arith, all_graphic c e)))
+    split xs i n ∙ ap (λ b. cond b (length c + prefix_len has_glyph (drop (i + n) xs)) (prefix_len has_glyph c))
+    (ne_eqb _ _ (λ (e : prefix_len has_glyph c ≡ length c). omega (arith, all_graphic c e)))
     ∙ same_run c ∙ sym (trailing_mask_l has_no_glyph 64 c (omega (arith, length-chunk i n xs room)) some)
 
 -- ---- the longest front of graphic bytes
@@ -101,7 +119,9 @@ pub front_graphic : (xs : List ℕ) → All HasGlyph (take (prefix_len has_glyph
 front_graphic xs =
     let n = prefix_len has_glyph xs in
     All-from_get_or HasGlyph (take n xs) 0
-    (λ k h. let below : k < n = omega (arith, h, length-take n xs) in subst (λ (b : ℕ). HasGlyph b) (sym (get_or-take n xs k 0 below)) (graphic_byte _ (prefix_len_passes has_glyph xs k 0 below)))
+    (λ k h. let below : k < n = omega (arith, h, length-take n xs) in
+    subst (λ (b : ℕ). HasGlyph b) (sym (get_or-take n xs k 0 below))
+    (graphic_byte _ (prefix_len_passes has_glyph xs k 0 below)))
 
 pub some_graphic : (xs : List ℕ) → 1 ≤ length xs → HasGlyph (get_or xs 0 0) → 1 ≤ prefix_len has_glyph xs
 some_graphic [] long has = absurd (omega arith)

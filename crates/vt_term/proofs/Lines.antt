@@ -1,5 +1,6 @@
 -- The text of a row.
-use Rattle.std.proofs.Common.{◌≡◌, ◌≢◌, inl, inr, ℕ, zero, suc, ◌+◌, ◌<◌, List, [], ◌∷◌, ◌++◌, length, take, get_or, refl, sym, ap, ◌∙◌, arith, add-one, append-nil}
+use Rattle.std.proofs.Common.{◌≡◌, ◌≢◌, inl, inr, ℕ, zero, suc, ◌+◌, ◌<◌, List, [], ◌∷◌, ◌++◌, length, take, get_or}
+use Rattle.std.proofs.Common.{refl, sym, ap, ◌∙◌, arith, add-one, append-nil}
 use Rattle.std.specs.List.{range_with_len, flat_map}
 use Rattle.std.proofs.Math.Seq.{take-suc}
 use Rattle.std.proofs.lemmas.Grind.{flat_map-append}
@@ -25,14 +26,17 @@ trimmed-space [] x is = rw is refl
 trimmed-space (y ∷ ys) x is = ap (λ (t : List ℕ). before_trimmed y t) (trimmed-space ys x is)
 
 -- a front that ends with a space
-pub trimmed-take-space : (xs : List ℕ) (n : ℕ) → n < length xs → get_or xs n 0 ≡ space → trimmed (take (n + 1) xs) ≡ trimmed (take n xs)
+pub trimmed-take-space : (xs : List ℕ) (n : ℕ) → n < length xs → get_or xs n 0 ≡ space
+    → trimmed (take (n + 1) xs) ≡ trimmed (take n xs)
 trimmed-take-space xs n below is =
     ap trimmed (ap (λ k. take k xs) (add-one n) ∙ take-suc xs n 0 below) ∙ trimmed-space (take n xs) (get_or xs n 0) is
 
 -- a front that ends with another glyph
-pub trimmed-take-glyph : (xs : List ℕ) (n : ℕ) → n < length xs → get_or xs n 0 ≢ space → trimmed (take (n + 1) xs) ≡ take (n + 1) xs
+pub trimmed-take-glyph : (xs : List ℕ) (n : ℕ) → n < length xs → get_or xs n 0 ≢ space
+    → trimmed (take (n + 1) xs) ≡ take (n + 1) xs
 trimmed-take-glyph xs n below ne =
-    let front : take (n + 1) xs ≡ take n xs ++ get_or xs n 0 ∷ [] = ap (λ k. take k xs) (add-one n) ∙ take-suc xs n 0 below in
+    let front : take (n + 1) xs ≡ take n xs ++ get_or xs n 0 ∷ [] =
+    ap (λ k. take k xs) (add-one n) ∙ take-suc xs n 0 below in
     ap trimmed front ∙ trimmed-glyph (take n xs) (get_or xs n 0) ne ∙ sym front
 
 -- one more line
@@ -54,17 +58,20 @@ pub length-glyphs : (cells : List Cell) → length (glyphs_of cells) ≡ length 
 length-glyphs [] = refl
 length-glyphs (cell ∷ cells) = ap (λ n. suc n) (length-glyphs cells)
 
-pub glyph-at : (cells : List Cell) (n : ℕ) (d : Cell) → n < length cells → get_or (glyphs_of cells) n 0 ≡ (get_or cells n d).glyph
+pub glyph-at : (cells : List Cell) (n : ℕ) (d : Cell) → n < length cells
+    → get_or (glyphs_of cells) n 0 ≡ (get_or cells n d).glyph
 glyph-at [] n d below = absurd (omega arith)
 glyph-at (cell ∷ cells) zero d below = refl
 glyph-at (cell ∷ cells) (suc n) d below = glyph-at cells n d (omega arith)
 
 -- one more cell
 pub encoded-more : (cells : List Cell) (n : ℕ) (d : Cell) → n < length cells
-    → encode_utf8_all (glyphs_of (take (n + 1) cells)) ≡ encode_utf8_all (glyphs_of (take n cells)) ++ encode_utf8 (get_or cells n d).glyph
+    → encode_utf8_all (glyphs_of (take (n + 1) cells)) ≡ encode_utf8_all (glyphs_of (take n cells))
+    ++ encode_utf8 (get_or cells n d).glyph
 encoded-more cells n d below =
     ap (λ (k : ℕ). encode_utf8_all (glyphs_of (take k cells))) (add-one n)
     ∙ ap (λ (front : List Cell). encode_utf8_all (glyphs_of front)) (take-suc cells n d below)
     ∙ ap encode_utf8_all (map-append (λ (cell : Cell). cell.glyph) (take n cells) (get_or cells n d ∷ []))
     ∙ encodes-append (glyphs_of (take n cells)) ((get_or cells n d).glyph ∷ [])
-    ∙ ap (λ (t : List ℕ). encode_utf8_all (glyphs_of (take n cells)) ++ t) (append-nil (encode_utf8 (get_or cells n d).glyph))
+    ∙ ap (λ (t : List ℕ). encode_utf8_all (glyphs_of (take n cells)) ++ t)
+    (append-nil (encode_utf8 (get_or cells n d).glyph))

@@ -3,7 +3,9 @@ use Rattle.std.proofs.lemmas.List.{length-take, length-map, map-append, get_or-t
 use Rattle.std.proofs.Math.Seq.{take-add}
 use Rattle.vt_term.proofs.Cuts.{after_events-append}
 use Rattle.vt_term.specs.Moving.{next_line}
-use Rattle.std.proofs.Common.{length-drop, take, drop, get_or, ◌≡◌, inl, inr, ℕ, suc, ◌+◌, ◌-◌, ◌≤◌, ◌<◌, List, [], ◌∷◌, ◌++◌, length, map, All, Bool, true, false, cond, refl, sym, ap, ◌∙◌, arith, if◌then◌else◌, nat_le, nat_lt}
+use Rattle.std.proofs.Common.{length-drop, take, drop, get_or, ◌≡◌, inl, inr, ℕ, suc, ◌+◌, ◌-◌, ◌≤◌, ◌<◌, List, [], ◌∷◌}
+use Rattle.std.proofs.Common.{◌++◌, length, map, All, Bool, true, false, cond, refl, sym, ap, ◌∙◌, arith, if◌then◌else◌}
+use Rattle.std.proofs.Common.{nat_le, nat_lt}
 use Rattle.std.proofs.lemmas.Bool.Decides.{leb_tells, nat_tests}
 use Rattle.vt_syntax.specs.declared.event.Event.{Event}
 use Rattle.vt_syntax.specs.declared.event.Event.TheVariants.{Print}
@@ -21,12 +23,18 @@ use Rattle.vt_term.specs.Play.{after_events}
 -- below, bytes of one kind are written, each as its glyph
 
 -- a byte writes its glyph
-pub print-over : (Kind : ℕ → Type 0) (glyph : ℕ → ℕ) (s : Display) (b : ℕ) → WritesOver Kind glyph s → Kind b → print b s ≡ write_glyph (glyph b) s
+pub print-over : (Kind : ℕ → Type 0) (glyph : ℕ → ℕ) (s : Display) (b : ℕ) → WritesOver Kind glyph s → Kind b
+    → print b s ≡ write_glyph (glyph b) s
 print-over Kind glyph s b writes is = rw (writes.glyph b is, writes.sets b is) refl
 
 -- where no wrap is pending, over the cell at the cursor
-pub print-step : (Kind : ℕ → Type 0) (glyph : ℕ → ℕ) (s : Display) (b : ℕ) → WritesOver Kind glyph s → Kind b → s.cursor.wrap ≡ false
-    → print b s ≡ record s { grid = put s.grid s.cursor.row s.cursor.col (cell_of (glyph b) s.brush); cursor = next_place s }
+pub print-step : (Kind : ℕ → Type 0) (glyph : ℕ → ℕ) (s : Display) (b : ℕ) → WritesOver Kind glyph s → Kind b
+    → s.cursor.wrap ≡ false
+    → print b s ≡ record s {
+      grid = put s.grid s.cursor.row s.cursor.col (cell_of (glyph b) s.brush);
+      cursor =
+          next_place s;
+    }
 print-step Kind glyph s b writes is off = print-over Kind glyph s b writes is ∙ rw (off, writes.replaces) refl
 
 -- one glyph on is one column on
@@ -47,35 +55,61 @@ next_place-near s near =
     let test : nat_lt s.cursor.col (last_column s) ≡ true = grind (arith, nat_tests) in
     rw test refl
 
-pub prints-run : RunLaws → (Kind : ℕ → Type 0) (glyph : ℕ → ℕ) (bytes : List ℕ) (s : Display) → WritesOver Kind glyph s → All Kind bytes → s.cursor.wrap ≡ false
-    → 1 ≤ length bytes → s.cursor.col + length bytes ≤ last_column s + 1 → after_events (map Print bytes) s ≡ with_run (map glyph bytes) s
+pub prints-run : RunLaws → (Kind : ℕ → Type 0) (glyph : ℕ → ℕ) (bytes : List ℕ) (s : Display) → WritesOver Kind glyph s
+    → All Kind bytes → s.cursor.wrap ≡ false
+    → 1 ≤ length bytes → s.cursor.col + length bytes ≤ last_column s + 1
+    → after_events (map Print bytes) s ≡ with_run (map glyph bytes) s
 prints-run runs Kind glyph [] s writes all off some room = absurd (omega arith)
 prints-run runs Kind glyph (b ∷ []) s writes all off some room =
     let is = all 0 0 (omega arith) in
     print-step Kind glyph s b writes is off
     ∙ ap (λ (g : Grid). record s { grid = g; cursor = next_place s })
     (sym (runs.one s.grid s.cursor.row s.cursor.col (glyph b) (cell_of space s.brush)))
-    ∙ ap (λ (c : Cursor). record s { grid = put_run s.grid s.cursor.row s.cursor.col (glyph b ∷ []) (cell_of space s.brush); cursor = c }) (next_place-one s (omega arith))
+    ∙ ap (λ (c : Cursor). record s {
+      grid =
+          put_run s.grid s.cursor.row s.cursor.col (glyph b ∷ []) (cell_of space s.brush);
+      cursor = c;
+    })
+    (next_place-one s (omega arith))
 prints-run runs Kind glyph (b ∷ next ∷ rest) s writes all off some room =
     let is = all 0 0 (omega arith) in
-    let t : Display = record s { grid = put s.grid s.cursor.row s.cursor.col (cell_of (glyph b) s.brush); cursor = at_place s.cursor.row (s.cursor.col + 1) } in
+    let t : Display = record s {
+      grid = put s.grid s.cursor.row s.cursor.col (cell_of (glyph b) s.brush);
+      cursor =
+          at_place s.cursor.row (s.cursor.col + 1);
+    } in
     let first : print b s ≡ t =
     print-step Kind glyph s b writes is off
-    ∙ ap (λ (c : Cursor). record s { grid = put s.grid s.cursor.row s.cursor.col (cell_of (glyph b) s.brush); cursor = c }) (next_place-near s (omega arith)) in
+    ∙ ap (λ (c : Cursor). record s {
+      grid = put s.grid s.cursor.row s.cursor.col (cell_of (glyph b) s.brush);
+      cursor =
+          c;
+    }) (next_place-near s (omega arith)) in
     let later : All Kind (next ∷ rest) = λ k d h. all (suc k) d (omega arith) in
-    let goes_on = prints-run runs Kind glyph (next ∷ rest) t (record { glyph = writes.glyph; sets = writes.sets; replaces = writes.replaces }) later refl (omega arith) (omega arith) in
+    let goes_on =
+    prints-run runs Kind glyph (next ∷ rest) t
+    (record { glyph = writes.glyph; sets = writes.sets; replaces = writes.replaces }) later refl (omega arith)
+    (omega arith) in
     let count : length (map glyph rest) ≡ length rest = length-map rest glyph in
-    let column : s.cursor.col + 1 + length (map glyph (next ∷ rest)) ≡ s.cursor.col + length (map glyph (b ∷ next ∷ rest)) = omega arith in
+    let column : s.cursor.col + 1 + length (map glyph (next ∷ rest))
+    ≡ s.cursor.col + length (map glyph (b ∷ next ∷ rest)) = omega arith in
     let like : Cell = cell_of space s.brush in
-    let grid : put_run t.grid s.cursor.row (s.cursor.col + 1) (map glyph (next ∷ rest)) like ≡ put_run s.grid s.cursor.row s.cursor.col (map glyph (b ∷ next ∷ rest)) like =
-    ap (λ (g : Grid). put_run g s.cursor.row (s.cursor.col + 1) (map glyph (next ∷ rest)) like) (sym (runs.one s.grid s.cursor.row s.cursor.col (glyph b) like))
+    let grid : put_run t.grid s.cursor.row (s.cursor.col + 1) (map glyph (next ∷ rest)) like
+    ≡ put_run s.grid s.cursor.row s.cursor.col (map glyph (b ∷ next ∷ rest)) like =
+    ap (λ (g : Grid). put_run g s.cursor.row (s.cursor.col + 1) (map glyph (next ∷ rest)) like)
+    (sym (runs.one s.grid s.cursor.row s.cursor.col (glyph b) like))
     ∙ sym (runs.append s.grid s.cursor.row s.cursor.col (glyph b ∷ []) (map glyph (next ∷ rest)) like) in
     ap (λ (u : Display). after_events (map Print (next ∷ rest)) u) first
     ∙ goes_on
     ∙ ap (λ (g : Grid). record s { grid = g; cursor = advanced_by (length (map glyph (next ∷ rest))) t }) grid
     ∙ ap (λ (n : ℕ). record s {
       grid = put_run s.grid s.cursor.row s.cursor.col (map glyph (b ∷ next ∷ rest)) like;
-      cursor = if nat_le n (last_column s) then at_place s.cursor.row n else record { row = s.cursor.row; col = last_column s; wrap = s.modes.decawm };
+      cursor = if nat_le n (last_column s) then at_place s.cursor.row n else record {
+        row = s.cursor.row;
+        col =
+            last_column s;
+        wrap = s.modes.decawm;
+      };
     }) column
 
 -- the display behind a wrap
@@ -86,7 +120,8 @@ after_wrap-off s = go s.cursor.wrap refl
     go true e = refl
     go false e = e
 
-pub after_wrap-writes : (Kind : ℕ → Type 0) (glyph : ℕ → ℕ) (s : Display) → WritesOver Kind glyph s → WritesOver Kind glyph (after_wrap s)
+pub after_wrap-writes : (Kind : ℕ → Type 0) (glyph : ℕ → ℕ) (s : Display) → WritesOver Kind glyph s
+    → WritesOver Kind glyph (after_wrap s)
 after_wrap-writes Kind glyph s writes = go s.cursor.wrap
   where
     go : (b : Bool) → WritesOver Kind glyph (cond b (next_line s) s)
@@ -94,27 +129,34 @@ after_wrap-writes Kind glyph s writes = go s.cursor.wrap
     go false = writes
 
 -- a byte that is written carries the wrap out itself
-print-after_wrap : (Kind : ℕ → Type 0) (glyph : ℕ → ℕ) (s : Display) (b : ℕ) → WritesOver Kind glyph s → Kind b → print b (after_wrap s) ≡ print b s
+print-after_wrap : (Kind : ℕ → Type 0) (glyph : ℕ → ℕ) (s : Display) (b : ℕ) → WritesOver Kind glyph s → Kind b
+    → print b (after_wrap s) ≡ print b s
 print-after_wrap Kind glyph s b writes is =
     let off : after_wrap (after_wrap s) ≡ after_wrap s = rw (after_wrap-off s) refl in
-    print-over Kind glyph (after_wrap s) b (after_wrap-writes Kind glyph s writes) is ∙ ap (λ (t : Display). put_glyph (glyph b) t) off ∙ sym (print-over Kind glyph s b writes is)
+    print-over Kind glyph (after_wrap s) b (after_wrap-writes Kind glyph s writes) is
+    ∙ ap (λ (t : Display). put_glyph (glyph b) t) off ∙ sym (print-over Kind glyph s b writes is)
 
 -- a run that ends in its row, and that isn't empty, is written as its bytes are
-pub prints-line : RunLaws → (Kind : ℕ → Type 0) (glyph : ℕ → ℕ) (bytes : List ℕ) (s : Display) → WritesOver Kind glyph s → All Kind bytes
+pub prints-line : RunLaws → (Kind : ℕ → Type 0) (glyph : ℕ → ℕ) (bytes : List ℕ) (s : Display)
+    → WritesOver Kind glyph s → All Kind bytes
     → 1 ≤ length bytes → (after_wrap s).cursor.col + length bytes ≤ last_column (after_wrap s) + 1
     → with_run (map glyph bytes) (after_wrap s) ≡ after_events (map Print bytes) s
 prints-line runs Kind glyph [] s writes all some room = absurd (omega arith)
 prints-line runs Kind glyph (b ∷ bytes) s writes all some room =
     let is = all 0 0 (omega arith) in
-    sym (prints-run runs Kind glyph (b ∷ bytes) (after_wrap s) (after_wrap-writes Kind glyph s writes) all (after_wrap-off s) some room)
+    sym (prints-run runs Kind glyph (b ∷ bytes) (after_wrap s) (after_wrap-writes Kind glyph s writes) all
+    (after_wrap-off s) some room)
     ∙ ap (λ (t : Display). after_events (map Print bytes) t) (print-after_wrap Kind glyph s b writes is)
 
 -- what was written leaves the sets and IRM
-pub with_run-writes : (Kind : ℕ → Type 0) (glyph : ℕ → ℕ) (glyphs : List ℕ) (s : Display) → WritesOver Kind glyph s → WritesOver Kind glyph (with_run glyphs s)
-with_run-writes Kind glyph glyphs s writes = record { glyph = writes.glyph; sets = writes.sets; replaces = writes.replaces }
+pub with_run-writes : (Kind : ℕ → Type 0) (glyph : ℕ → ℕ) (glyphs : List ℕ) (s : Display) → WritesOver Kind glyph s
+    → WritesOver Kind glyph (with_run glyphs s)
+with_run-writes Kind glyph glyphs s writes =
+    record { glyph = writes.glyph; sets = writes.sets; replaces = writes.replaces }
 
 -- runs line of a run
-pub line-of-run : RunLaws → (Kind : ℕ → Type 0) (glyph : ℕ → ℕ) (run : List ℕ) (at end : ℕ) (s t : Display) → All Kind run → at < end → end ≤ length run
+pub line-of-run : RunLaws → (Kind : ℕ → Type 0) (glyph : ℕ → ℕ) (run : List ℕ) (at end : ℕ) (s t : Display)
+    → All Kind run → at < end → end ≤ length run
     → t ≡ after_events (map Print (take at run)) s → WritesOver Kind glyph t
     → (after_wrap t).cursor.col + (end - at) ≤ last_column (after_wrap t) + 1
     → with_run (map glyph (take (end - at) (drop at run))) (after_wrap t) ≡ after_events (map Print (take end run)) s
@@ -126,7 +168,8 @@ line-of-run runs Kind glyph run at end s t all below fits is writes room =
     sym (take-add at (end - at) run) ∙ ap (λ (n : ℕ). take n run) sum in
     let bytes : All Kind line = λ k d h.
     let inside : at + k < length run = omega (arith, long) in
-    let here : get_or line k d ≡ get_or run (at + k) d = get_or-take (end - at) (drop at run) k d (omega (arith, long)) ∙ get_or-drop at run k d in
+    let here : get_or line k d ≡ get_or run (at + k) d =
+    get_or-take (end - at) (drop at run) k d (omega (arith, long)) ∙ get_or-drop at run k d in
     rw here (all (at + k) d inside) in
     prints-line runs Kind glyph line t writes bytes (omega (arith, long)) (rw long room)
     ∙ ap (λ (u : Display). after_events (map Print line) u) is

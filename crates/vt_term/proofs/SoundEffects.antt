@@ -1,20 +1,25 @@
 -- Every function keeps the display sound.
-use Rattle.std.proofs.Common.{rules, arith, ◌≡◌, ℕ, ◌≤◌, ◌+◌, ◌-◌, Bool, true, false, cond, zero, suc, List, length, refl}
+use Rattle.std.proofs.Common.{rules, arith, ◌≡◌, ℕ, ◌≤◌, ◌+◌, ◌-◌, Bool, true, false, cond, zero, suc, List, length}
+use Rattle.std.proofs.Common.{refl}
 use Rattle.std.specs.Prelude.{find, unwrap_or, if◌then◌else◌, Some}
 use Rattle.std.specs.List.{range_with_len}
 use Rattle.vt_glyph.specs.Tables.{IsGlyph, is_glyph, glyph_of}
 use Rattle.vt_screen.specs.Cells.{cell_of, plain_brush}
 use Rattle.vt_term.specs.State.{Display, last_column, has_stop_at}
 use Rattle.vt_term.specs.Sound.{IsSoundDisplay}
-use Rattle.vt_term.specs.Moving.{home, backspace, carriage_return, cursor_up, cursor_down, cursor_forward, cursor_backward, cursor_position, index, reverse_index, next_line, line_feed, set_margins}
+use Rattle.vt_term.specs.Moving.{home, backspace, carriage_return, cursor_up, cursor_down, cursor_forward}
+use Rattle.vt_term.specs.Moving.{cursor_backward, cursor_position, index, reverse_index, next_line, line_feed}
+use Rattle.vt_term.specs.Moving.{set_margins}
 use Rattle.vt_term.specs.Tabs.{horizontal_tab, set_tab, clear_tabs, next_stop_of, no_stops}
 use Rattle.vt_term.specs.Writing.{after_wrap, put_glyph, write_glyph}
-use Rattle.vt_term.specs.Editing.{insert_line, delete_line, insert_character, delete_character, erase_character, erase_in_display, erase_in_line}
+use Rattle.vt_term.specs.Editing.{insert_line, delete_line, insert_character, delete_character, erase_character}
+use Rattle.vt_term.specs.Editing.{erase_in_display, erase_in_line}
 use Rattle.vt_term.specs.Rendition.{select_graphic_rendition, select_character_attribute}
 use Rattle.vt_term.specs.Modes.{origin_mode, autowrap_mode, column_mode, keypad_mode, report_form}
 use Rattle.vt_term.specs.Saving.{save_cursor, restore_cursor}
 use Rattle.vt_term.specs.Resets.{screen_alignment, reset_to_initial_state, soft_reset, set_conformance_level}
-use Rattle.vt_term.proofs.SoundGrids.{scroll_up-sound, scroll_down-sound, insert_cells-sound, delete_cells-sound, erase_area-sound, blank_grid-sound, fill-sound, put-sound, put_inserting-sound}
+use Rattle.vt_term.proofs.SoundGrids.{scroll_up-sound, scroll_down-sound, insert_cells-sound, delete_cells-sound}
+use Rattle.vt_term.proofs.SoundGrids.{erase_area-sound, blank_grid-sound, fill-sound, put-sound, put_inserting-sound}
 use Rattle.vt_term.proofs.PowerUp.{display_at_power_up-sound}
 
 letter_e : IsGlyph 0x45
@@ -25,16 +30,21 @@ letter_e = refl
 found-bounds : (p : ℕ → Bool) (a n d low high : ℕ) → low ≤ a → a + n ≤ high + 1 → low ≤ d → d ≤ high
     → (low ≤ unwrap_or (find p (range_with_len a n)) d) × (unwrap_or (find p (range_with_len a n)) d ≤ high)
 found-bounds p a zero d low high la ah ld dh = (ld, dh)
-found-bounds p a (suc n) d low high la ah ld dh = go (p a) (found-bounds p (a + 1) n d low high (omega arith) (omega arith) ld dh)
+found-bounds p a (suc n) d low high la ah ld dh =
+    go (p a) (found-bounds p (a + 1) n d low high (omega arith) (omega arith) ld dh)
   where
-    go : (b : Bool) → (low ≤ unwrap_or (find p (range_with_len (a + 1) n)) d) × (unwrap_or (find p (range_with_len (a + 1) n)) d ≤ high)
-        → (low ≤ unwrap_or (if b then Some a else find p (range_with_len (a + 1) n)) d) × (unwrap_or (if b then Some a else find p (range_with_len (a + 1) n)) d ≤ high)
+    go : (b : Bool) → (low ≤ unwrap_or (find p (range_with_len (a + 1) n)) d)
+        × (unwrap_or (find p (range_with_len (a + 1) n)) d ≤ high)
+        → (low ≤ unwrap_or (if b then Some a else find p (range_with_len (a + 1) n)) d)
+        × (unwrap_or (if b then Some a else find p (range_with_len (a + 1) n)) d ≤ high)
     go true rest = (la, omega arith)
     go false rest = rest
 
-next_stop-bounds : (stops : List Bool) (col last : ℕ) → 1 ≤ col → col ≤ last → (1 ≤ next_stop_of stops col last) × (next_stop_of stops col last ≤ last)
+next_stop-bounds : (stops : List Bool) (col last : ℕ) → 1 ≤ col → col ≤ last → (1 ≤ next_stop_of stops col last)
+    × (next_stop_of stops col last ≤ last)
 next_stop-bounds stops col last col1 fits =
-    found-bounds (λ c. has_stop_at stops c) (col + 1) (last - col) last 1 last (omega arith) (omega arith) (omega arith) (omega arith)
+    found-bounds (λ c. has_stop_at stops c) (col + 1) (last - col) last 1 last (omega arith) (omega arith)
+    (omega arith) (omega arith)
 
 -- a function keeps the display sound
 abbrev pub Keeps : (Display → Display) → Type 0

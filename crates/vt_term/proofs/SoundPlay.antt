@@ -15,16 +15,30 @@ use Rattle.vt_term.specs.State.{Display, State}
 use Rattle.vt_term.specs.Sound.{IsSoundDisplay, IsSound}
 use Rattle.vt_term.specs.Writing.{print, write_if_read, write_glyph}
 use Rattle.vt_term.specs.Modes.{with_mode, change_modes, ansi_modes, private_modes}
-use Rattle.vt_term.specs.Functions.{unchanged, control_functions, control, plain_escapes, plain_escape, space_escapes, number_escapes, escape_tables, escape_with, designate, designate_to, lock_left, lock_right, shift_once, plain_sequences, private_sequences, quote_sequences, exclamation_sequences, sequence_in, sequences_of, SequenceTable, effect, byte}
+use Rattle.vt_term.specs.Functions.{unchanged, control_functions, control, plain_escapes, plain_escape, space_escapes}
+use Rattle.vt_term.specs.Functions.{number_escapes, escape_tables, escape_with, designate, designate_to, lock_left}
+use Rattle.vt_term.specs.Functions.{lock_right, shift_once, plain_sequences, private_sequences, quote_sequences}
+use Rattle.vt_term.specs.Functions.{exclamation_sequences, sequence_in, sequences_of, SequenceTable, effect, byte}
 use Rattle.vt_term.specs.Play.{play, after_events}
-use Rattle.vt_term.proofs.SoundEffects.{Keeps, backspace-keeps, horizontal_tab-keeps, line_feed-keeps, carriage_return-keeps, write_glyph-keeps, index-keeps, next_line-keeps, set_tab-keeps, reverse_index-keeps, save_cursor-keeps, restore_cursor-keeps, keypad_mode-keeps, reset_to_initial_state-keeps, report_form-keeps, screen_alignment-keeps, insert_character-keeps, cursor_up-keeps, cursor_down-keeps, cursor_forward-keeps, cursor_backward-keeps, cursor_position-keeps, erase_in_display-keeps, erase_in_line-keeps, insert_line-keeps, delete_line-keeps, delete_character-keeps, erase_character-keeps, clear_tabs-keeps, select_graphic_rendition-keeps, set_margins-keeps, column_mode-keeps, origin_mode-keeps, autowrap_mode-keeps, set_conformance_level-keeps, select_character_attribute-keeps, soft_reset-keeps}
+use Rattle.vt_term.proofs.SoundEffects.{Keeps, backspace-keeps, horizontal_tab-keeps, line_feed-keeps}
+use Rattle.vt_term.proofs.SoundEffects.{carriage_return-keeps, write_glyph-keeps, index-keeps, next_line-keeps}
+use Rattle.vt_term.proofs.SoundEffects.{set_tab-keeps, reverse_index-keeps, save_cursor-keeps, restore_cursor-keeps}
+use Rattle.vt_term.proofs.SoundEffects.{keypad_mode-keeps, reset_to_initial_state-keeps, report_form-keeps}
+use Rattle.vt_term.proofs.SoundEffects.{screen_alignment-keeps, insert_character-keeps, cursor_up-keeps}
+use Rattle.vt_term.proofs.SoundEffects.{cursor_down-keeps, cursor_forward-keeps, cursor_backward-keeps}
+use Rattle.vt_term.proofs.SoundEffects.{cursor_position-keeps, erase_in_display-keeps, erase_in_line-keeps}
+use Rattle.vt_term.proofs.SoundEffects.{insert_line-keeps, delete_line-keeps, delete_character-keeps}
+use Rattle.vt_term.proofs.SoundEffects.{erase_character-keeps, clear_tabs-keeps, select_graphic_rendition-keeps}
+use Rattle.vt_term.proofs.SoundEffects.{set_margins-keeps, column_mode-keeps, origin_mode-keeps, autowrap_mode-keeps}
+use Rattle.vt_term.proofs.SoundEffects.{set_conformance_level-keeps, select_character_attribute-keeps, soft_reset-keeps}
 
 -- ---- the sets
 
 unchanged-keeps : Keeps unchanged
 unchanged-keeps s i = i
 
-with-sets : (s : Display) (sets : GraphicSets) → IsSoundDisplay s → AreSoundSets sets → IsSoundDisplay (record s { sets = sets })
+with-sets : (s : Display) (sets : GraphicSets) → IsSoundDisplay s → AreSoundSets sets
+    → IsSoundDisplay (record s { sets = sets })
 with-sets s sets i sound = record {
   grid = i.grid;
   cursor = i.cursor;
@@ -43,7 +57,8 @@ print-keeps glyphs sets b s i = go (glyph_read s.sets b) (glyphs.read s.sets b)
     after : IsSoundDisplay (record s { sets = after_read s.sets b })
     after = with-sets s (after_read s.sets b) i (sets.read s.sets b i.sets)
 
-    go : (glyph : Option ℕ) → IfSome glyph IsGlyph → IsSoundDisplay (write_if_read glyph (record s { sets = after_read s.sets b }))
+    go : (glyph : Option ℕ) → IfSome glyph IsGlyph
+        → IsSoundDisplay (write_if_read glyph (record s { sets = after_read s.sets b }))
     go None h = after
     go (Some g) h = write_glyph-keeps g h (record s { sets = after_read s.sets b }) after
 
@@ -77,7 +92,8 @@ module _ {X : Type 0} (kept : X → Type 0) where
   looked_up-keeps [] b otherwise h all = h
   looked_up-keeps (row ∷ rows) b otherwise h all = go (b == row.0) (looked_up-keeps rows b otherwise h all.1)
     where
-      go : (t : Bool) → kept (unwrap_or (look_up rows b) otherwise) → kept (unwrap_or (if t then Some row.1 else look_up rows b) otherwise)
+      go : (t : Bool) → kept (unwrap_or (look_up rows b) otherwise)
+          → kept (unwrap_or (if t then Some row.1 else look_up rows b) otherwise)
       go true rest = all.0
       go false rest = rest
 
@@ -130,7 +146,8 @@ module _ (table : List (ℕ × (Bool → Display → Display))) (on : Bool) (all
   unfolding with_mode KeepsOnAndOff
   change_modes-keeps [] s i = i
   change_modes-keeps (p ∷ params) s i =
-      change_modes-keeps params (with_mode table on p s) (looked_up-keeps KeepsOnAndOff table p (λ on s. s) (λ on s i. i) all on s i)
+      change_modes-keeps params (with_mode table on p s)
+      (looked_up-keeps KeepsOnAndOff table p (λ on s. s) (λ on s i. i) all on s i)
 
 ansi_modes-keep : AllKeep KeepsOnAndOff ansi_modes
 unfolding AllKeep KeepsOnAndOff
@@ -150,7 +167,8 @@ control-keeps glyphs sets b =
     let once2 : Keeps (shift_once 2) = shift_once-keeps sets 2 (omega arith) (omega arith) in
     let once3 : Keeps (shift_once 3) = shift_once-keeps sets 3 (omega arith) (omega arith) in
     let substitute : Keeps (write_glyph substitute_glyph) = write_glyph-keeps substitute_glyph glyphs.substitute in
-    looked_up-keeps Keeps control_functions b unchanged unchanged-keeps (search (keeping, left0, left1, once2, once3, substitute))
+    looked_up-keeps Keeps control_functions b unchanged unchanged-keeps
+    (search (keeping, left0, left1, once2, once3, substitute))
 
 plain_escape-keeps : SetsLaws → (last : ℕ) → Keeps (plain_escape last)
 unfolding plain_escape AllKeep
@@ -160,15 +178,24 @@ plain_escape-keeps sets last =
     let right1 : Keeps (lock_right 1) = lock_right-keeps sets 1 (omega arith) (omega arith) in
     let right2 : Keeps (lock_right 2) = lock_right-keeps sets 2 (omega arith) (omega arith) in
     let right3 : Keeps (lock_right 3) = lock_right-keeps sets 3 (omega arith) (omega arith) in
-    looked_up-keeps Keeps plain_escapes last unchanged unchanged-keeps (search (keeping, left2, left3, right1, right2, right3))
+    looked_up-keeps Keeps plain_escapes last unchanged unchanged-keeps
+    (search (keeping, left2, left3, right1, right2, right3))
 
 escape_with-keeps : SetsLaws → (inter last : ℕ) → Keeps (escape_with inter last)
 unfolding escape_with AllKeep
 escape_with-keeps sets inter last =
     let space = looked_up-keeps Keeps space_escapes last unchanged unchanged-keeps (search keeping) in
     let number = looked_up-keeps Keeps number_escapes last unchanged unchanged-keeps (search keeping) in
-    looked_up-keeps (λ f. Keeps (f last)) escape_tables inter (λ last. unchanged) unchanged-keeps
-    (space, (number, (designate-keeps sets 0 last, (designate-keeps sets 1 last, (designate-keeps sets 2 last, (designate-keeps sets 3 last, tt))))))
+    looked_up-keeps (λ f. Keeps (f last)) escape_tables inter (λ last. unchanged) unchanged-keeps (
+      space,
+      (
+        number,
+        (
+          designate-keeps sets 0 last,
+          (designate-keeps sets 1 last, (designate-keeps sets 2 last, (designate-keeps sets 3 last, tt))),
+        ),
+      ),
+    )
 
 -- ---- control sequences
 
@@ -176,22 +203,28 @@ module _ (params : List ℕ) where
   AllSequencesKeep : SequenceTable → Type 0
   AllSequencesKeep = AllKeep (λ f. Keeps (f params))
 
-  sequence_in-keeps : (table : SequenceTable) (last : ℕ) → AllSequencesKeep table → Keeps (sequence_in table last params)
+  sequence_in-keeps : (table : SequenceTable) (last : ℕ) → AllSequencesKeep table
+      → Keeps (sequence_in table last params)
   unfolding sequence_in AllSequencesKeep
-  sequence_in-keeps table last all = looked_up-keeps (λ f. Keeps (f params)) table last (λ params. unchanged) unchanged-keeps all
+  sequence_in-keeps table last all =
+      looked_up-keeps (λ f. Keeps (f params)) table last (λ params. unchanged) unchanged-keeps all
 
   plain_sequences-keep : AllSequencesKeep plain_sequences
   unfolding AllKeep AllSequencesKeep
   plain_sequences-keep =
-      let set : Keeps (change_modes ansi_modes true params) = change_modes-keeps ansi_modes true ansi_modes-keep params in
-      let reset : Keeps (change_modes ansi_modes false params) = change_modes-keeps ansi_modes false ansi_modes-keep params in
+      let set : Keeps (change_modes ansi_modes true params) =
+      change_modes-keeps ansi_modes true ansi_modes-keep params in
+      let reset : Keeps (change_modes ansi_modes false params) =
+      change_modes-keeps ansi_modes false ansi_modes-keep params in
       search (keeping, set, reset)
 
   private_sequences-keep : AllSequencesKeep private_sequences
   unfolding AllKeep AllSequencesKeep
   private_sequences-keep =
-      let set : Keeps (change_modes private_modes true params) = change_modes-keeps private_modes true private_modes-keep params in
-      let reset : Keeps (change_modes private_modes false params) = change_modes-keeps private_modes false private_modes-keep params in
+      let set : Keeps (change_modes private_modes true params) =
+      change_modes-keeps private_modes true private_modes-keep params in
+      let reset : Keeps (change_modes private_modes false params) =
+      change_modes-keeps private_modes false private_modes-keep params in
       search (keeping, set, reset)
 
   quote_sequences-keep : AllSequencesKeep quote_sequences
@@ -216,7 +249,9 @@ module _ (params : List ℕ) where
       go false = no_sequences-keep
   sequences_of-keep None (Some inter) = go (inter == 0x22) (inter == byte (codes "!"))
     where
-      go : (t u : Bool) → AllSequencesKeep (unwrap_or (if t then Some quote_sequences else (if u then Some exclamation_sequences else None)) [])
+      go : (t u : Bool)
+          → AllSequencesKeep
+          (unwrap_or (if t then Some quote_sequences else (if u then Some exclamation_sequences else None)) [])
       go true u = quote_sequences-keep
       go false true = exclamation_sequences-keep
       go false false = no_sequences-keep

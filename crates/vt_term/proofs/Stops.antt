@@ -1,28 +1,34 @@
 -- The tab stops, and ranges of numbers.
 use Rattle.std.proofs.lemmas.Bool.Decides.{eqb_tells}
-use Rattle.std.proofs.Common.{◌≡◌, inl, inr, set, get_or-set_same, get_or-set_other, ℕ, ◌+◌, ◌<◌, ◌≤◌, ◌-◌, List, [], ◌∷◌, ◌++◌, zero, suc, Bool, false, length, get_or, refl, sym, ap, ◌∙◌, arith}
+use Rattle.std.proofs.Common.{◌≡◌, inl, inr, set, get_or-set_same, get_or-set_other, ℕ, ◌+◌, ◌<◌, ◌≤◌, ◌-◌, List, []}
+use Rattle.std.proofs.Common.{◌∷◌, ◌++◌, zero, suc, Bool, false, length, get_or, refl, sym, ap, ◌∙◌, arith}
 use Rattle.std.specs.List.{range_with_len, find}
 use Rattle.std.proofs.lemmas.List.FromFn.{get_or-map-range_with_len, length-map-range_with_len, fill_by_all}
 use Rattle.vt_term.specs.State.{stops_where}
 
 -- stops that are those of a formula at every column
-pub stops-same : (f : ℕ → Bool) (stops : List Bool) → length stops ≡ 132 → ((k : ℕ) → k < 132 → get_or stops k false ≡ f (k + 1)) → stops ≡ stops_where f
+pub stops-same : (f : ℕ → Bool) (stops : List Bool) → length stops ≡ 132
+    → ((k : ℕ) → k < 132 → get_or stops k false ≡ f (k + 1)) → stops ≡ stops_where f
 stops-same f stops long same =
-    fill_by_all (λ k. f (k + 1)) stops 132 false long same ∙ sym (fill_by_all (λ k. f (k + 1)) (stops_where f) 132 false (length-map-range_with_len f 1 132) (λ k h.
+    fill_by_all (λ k. f (k + 1)) stops 132 false long same
+    ∙ sym (fill_by_all (λ k. f (k + 1)) (stops_where f) 132 false (length-map-range_with_len f 1 132) (λ k h.
     get_or-map-range_with_len f 1 132 k (k + 1) false h (omega arith)))
 
 pub length-stops_where : (f : ℕ → Bool) → length (stops_where f) ≡ 132
 length-stops_where f = length-map-range_with_len f 1 132
 
 -- a range that is not empty is searched at its first number and then from the next on
-pub find-range : (p : ℕ → Bool) (a b : ℕ) → a < b → p a ≡ false → find p (range_with_len a (b - a)) ≡ find p (range_with_len (a + 1) (b - (a + 1)))
+pub find-range : (p : ℕ → Bool) (a b : ℕ) → a < b → p a ≡ false → find p (range_with_len a (b - a))
+    ≡ find p (range_with_len (a + 1) (b - (a + 1)))
 find-range p a b below not =
     let more : b - a ≡ suc (b - (a + 1)) = omega arith in
     rw (more, not) refl
 
 -- the stop of one more column
-pub one_more_stop : (f : ℕ → Bool) (stops : List Bool) (col : ℕ) (stop : Bool) → 1 ≤ col → col ≤ length stops → stop ≡ f col
-    → ((k : ℕ) → k + 1 < col → get_or stops k false ≡ f (k + 1)) → (k : ℕ) → k + 1 < col + 1 → get_or (set stops (col - 1) stop) k false ≡ f (k + 1)
+pub one_more_stop : (f : ℕ → Bool) (stops : List Bool) (col : ℕ) (stop : Bool) → 1 ≤ col → col ≤ length stops
+    → stop ≡ f col
+    → ((k : ℕ) → k + 1 < col → get_or stops k false ≡ f (k + 1)) → (k : ℕ) → k + 1 < col + 1
+    → get_or (set stops (col - 1) stop) k false ≡ f (k + 1)
 one_more_stop f stops col stop col1 fits is done k below = elim (eqb_tells k (col - 1)) [
   | inl e ↦
       let here : k ≡ col - 1 = e.1 in

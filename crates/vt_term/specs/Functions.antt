@@ -9,10 +9,12 @@ use Rattle.vt_glyph.specs.Designation.{set_of_final}
 use Rattle.vt_glyph.specs.Invocation.{designated, locked_left, locked_right, shifted_once}
 use Rattle.vt_term.specs.State.{Display}
 use Rattle.vt_term.specs.Parameters.{first, second, count}
-use Rattle.vt_term.specs.Moving.{backspace, carriage_return, cursor_up, cursor_down, cursor_forward, cursor_backward, cursor_position, index, reverse_index, next_line, line_feed, set_margins}
+use Rattle.vt_term.specs.Moving.{backspace, carriage_return, cursor_up, cursor_down, cursor_forward, cursor_backward}
+use Rattle.vt_term.specs.Moving.{cursor_position, index, reverse_index, next_line, line_feed, set_margins}
 use Rattle.vt_term.specs.Tabs.{horizontal_tab, set_tab, clear_tabs}
 use Rattle.vt_term.specs.Writing.{write_glyph, print}
-use Rattle.vt_term.specs.Editing.{insert_line, delete_line, insert_character, delete_character, erase_character, erase_in_display, erase_in_line}
+use Rattle.vt_term.specs.Editing.{insert_line, delete_line, insert_character, delete_character, erase_character}
+use Rattle.vt_term.specs.Editing.{erase_in_display, erase_in_line}
 use Rattle.vt_term.specs.Rendition.{select_graphic_rendition, select_character_attribute}
 use Rattle.vt_term.specs.Modes.{ansi_modes, private_modes, change_modes, keypad_mode, report_form}
 use Rattle.vt_term.specs.Saving.{save_cursor, restore_cursor}

@@ -21,7 +21,8 @@ autowrap_mode on s = record s {
   cursor = record s.cursor { wrap = s.cursor.wrap && on };
 }
 
--- DECCOLM: 132 or 80 columns, all blank, full margins, home; the saved column keeps inside the width, and the saved wrap
+-- DECCOLM: 132 or 80 columns, all blank, full margins, home; the saved column keeps inside the width, and the saved
+-- wrap
 -- flag is dropped
 abbrev pub column_mode : Bool → Display → Display
 column_mode wide s = home (record s {

@@ -50,7 +50,8 @@ cursor_position line col s =
 abbrev pub index : Display → Display
 index s = record s {
   grid = if s.cursor.row == s.margins.bottom then scroll_up s.grid s.margins.top s.margins.bottom 1 else s.grid;
-  cursor = at_place (if s.cursor.row == s.margins.bottom then s.cursor.row else min (s.cursor.row + 1) last_row) s.cursor.col;
+  cursor = at_place (if s.cursor.row == s.margins.bottom then s.cursor.row else min (s.cursor.row + 1) last_row)
+      s.cursor.col;
 }
 
 -- RI: up by one, staying at row 1; at the top margin the rows between the margins move down instead

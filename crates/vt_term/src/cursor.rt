@@ -1,6 +1,8 @@
 //! Moving the cursor. Each of these resets the wrap flag, but for margins that have no effect.
 ghost use Rattle.std.specs.Prelude.{◌≡◌, ◌≤◌};
-ghost use Rattle.vt_term.specs.Moving.{home, backspace, carriage_return, cursor_up, cursor_down, cursor_forward, cursor_backward, cursor_position, index, reverse_index, next_line, line_feed, set_margins};
+ghost use Rattle.vt_term.specs.Moving.{home, backspace, carriage_return, cursor_up, cursor_down, cursor_forward};
+ghost use Rattle.vt_term.specs.Moving.{cursor_backward, cursor_position, index, reverse_index, next_line, line_feed};
+ghost use Rattle.vt_term.specs.Moving.{set_margins};
 
 use crate::display::{Display, ROWS};
 use crate::state::{Cursor, Margins};

@@ -34,9 +34,28 @@ impl Model for Display {
 
     ghost Value = { TheDisplay };
 
-    ghost view = { λ d. record { grid = d.screen; cursor = d.cursor; brush = d.brush; sets = d.sets; margins = d.margins; stops = d.stops; modes = d.modes; saved = d.saved } };
+    ghost view = { λ d. record {
+      grid = d.screen;
+      cursor = d.cursor;
+      brush = d.brush;
+      sets = d.sets;
+      margins = d.margins;
+      stops = d.stops;
+      modes = d.modes;
+      saved = d.saved;
+    } };
 
-    ghost invariant = { λ d. IsSoundDisplay (record { grid = d.screen; cursor = d.cursor; brush = d.brush; sets = d.sets; margins = d.margins; stops = d.stops; modes = d.modes; saved = d.saved }) };
+    ghost invariant = { λ d. IsSoundDisplay (record {
+      grid = d.screen;
+      cursor = d.cursor;
+      brush = d.brush;
+      sets = d.sets;
+      margins =
+          d.margins;
+      stops = d.stops;
+      modes = d.modes;
+      saved = d.saved;
+    }) };
 }
 
 /// Whether a column has a tab stop at power-up.

@@ -1,6 +1,7 @@
 //! Inserting, deleting and erasing. Each of these resets the wrap flag, but for a parameter that isn't listed.
 ghost use Rattle.std.specs.Prelude.{◌≡◌, ◌≤◌};
-ghost use Rattle.vt_term.specs.Editing.{insert_line, delete_line, insert_character, delete_character, erase_character, erase_in_display, erase_in_line, rows_between};
+ghost use Rattle.vt_term.specs.Editing.{insert_line, delete_line, insert_character, delete_character, erase_character};
+ghost use Rattle.vt_term.specs.Editing.{erase_in_display, erase_in_line, rows_between};
 ghost use Rattle.vt_screen.specs.Grid.{IsSoundGrid, erase_area};
 
 use crate::display::{Display, ROWS};

@@ -1,5 +1,6 @@
 //! Feeding: a host's bytes in; a state and report bytes out.
-ghost use Rattle.std.specs.Prelude.{◌≡◌, ◌+◌, ◌*◌, ◌≤◌, ◌<◌, ◌++◌, ◌∷◌, [], ℕ, List, All, false, length, take, slice_index, vec_len, vec_capacity, OnOk, OnErr, IsOk};
+ghost use Rattle.std.specs.Prelude.{◌≡◌, ◌+◌, ◌*◌, ◌≤◌, ◌<◌, ◌++◌, ◌∷◌, [], ℕ, List, All, false, length, take};
+ghost use Rattle.std.specs.Prelude.{slice_index, vec_len, vec_capacity, OnOk, OnErr, IsOk};
 ghost use Rattle.std.specs.Bool.{OnTrue};
 ghost use Rattle.vt_glyph.specs.Invocation.{HasGlyph};
 ghost use Rattle.vt_syntax.specs.declared.held.Held.TheVariants.{Nothing};
@@ -64,7 +65,8 @@ impl Terminal {
         }
     }
 
-    /// Plays the front of a piece that isn't empty, and answers how many bytes that is: between sequences as far as the first
+    /// Plays the front of a piece that isn't empty, and answers how many bytes that is: between sequences as far as the
+    /// first
     /// that doesn't stand whole in it, else as far as the first event.
     #[inline(always)]
     fn feed_front(&mut self, piece: &[u8], values: &mut Values, out: &mut Vec<u8>) -> usize
@@ -84,7 +86,8 @@ impl Terminal {
         }
     }
 
-    /// Plays the front of a piece that isn't empty, between sequences, as far as the first byte that goes through the parser,
+    /// Plays the front of a piece that isn't empty, between sequences, as far as the first byte that goes through the
+    /// parser,
     /// and the first event from there on. Answers how many bytes that is.
     #[inline(always)]
     fn feed_between(&mut self, piece: &[u8], values: &mut Values, out: &mut Vec<u8>) -> usize
@@ -111,8 +114,10 @@ impl Terminal {
         at
     }
 
-    /// Plays what stands at the front of a piece that isn't empty, between sequences: a run of graphic bytes that are written
-    /// at once, CR, and LF after it, a control or a sequence; all else goes through the parser. Answers how many bytes that
+    /// Plays what stands at the front of a piece that isn't empty, between sequences: a run of graphic bytes that are
+    /// written
+    /// at once, CR, and LF after it, a control or a sequence; all else goes through the parser. Answers how many bytes
+    /// that
     /// is, and whether it is known that nothing is held then.
     #[inline(always)]
     fn feed_whole(&mut self, piece: &[u8], values: &mut Values, out: &mut Vec<u8>) -> (usize, bool)
@@ -202,7 +207,8 @@ impl Terminal {
         self.display.carry_out(kind, values, out);
     }
 
-    /// Plays the graphic bytes at the front of a piece that begins with a plain one, between sequences: a run of plain bytes
+    /// Plays the graphic bytes at the front of a piece that begins with a plain one, between sequences: a run of plain
+    /// bytes
     /// where GL is ASCII and they may be written at once. Answers how many bytes that is.
     #[inline(always)]
     fn feed_plain(&mut self, piece: &[u8]) -> usize

@@ -5,7 +5,9 @@ ghost use Rattle.vt_syntax.specs.Event.{event_of};
 ghost use Rattle.vt_glyph.specs.Tables.{substitute_glyph};
 ghost use Rattle.vt_term.specs.Writing.{write_glyph};
 ghost use Rattle.vt_term.specs.Parameters.{first, second, count};
-ghost use Rattle.vt_term.specs.Functions.{effect, control, plain_escape, escape_with, designate, lock_left, lock_right, shift_once, sequence, sequence_in, plain_sequences, private_sequences, quote_sequences, exclamation_sequences};
+ghost use Rattle.vt_term.specs.Functions.{effect, control, plain_escape, escape_with, designate, lock_left, lock_right};
+ghost use Rattle.vt_term.specs.Functions.{shift_once, sequence, sequence_in, plain_sequences, private_sequences};
+ghost use Rattle.vt_term.specs.Functions.{quote_sequences, exclamation_sequences};
 ghost use Rattle.vt_term.specs.Reports.{report, sequence_report};
 
 use crate::display::Display;

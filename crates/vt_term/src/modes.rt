@@ -1,6 +1,7 @@
 //! Modes.
 ghost use Rattle.std.specs.Prelude.{◌≡◌};
-ghost use Rattle.vt_term.specs.Modes.{origin_mode, autowrap_mode, column_mode, keypad_mode, report_form, with_mode, change_modes, ansi_modes, private_modes};
+ghost use Rattle.vt_term.specs.Modes.{origin_mode, autowrap_mode, column_mode, keypad_mode, report_form, with_mode};
+ghost use Rattle.vt_term.specs.Modes.{change_modes, ansi_modes, private_modes};
 
 use crate::display::Display;
 use crate::state::{Cursor, Margins};

@@ -1,6 +1,7 @@
 //! The brush: the attributes and the protection of what is written.
 ghost use Rattle.std.specs.Prelude.{◌≡◌};
-ghost use Rattle.vt_term.specs.Rendition.{with_attribute, with_rendition, select_graphic_rendition, select_character_attribute};
+ghost use Rattle.vt_term.specs.Rendition.{with_attribute, with_rendition, select_graphic_rendition};
+ghost use Rattle.vt_term.specs.Rendition.{select_character_attribute};
 
 use crate::display::Display;
 use vt_screen::Rendition;

@@ -1,6 +1,7 @@
 //! The text of the screen.
 ghost use Rattle.vt_glyph.specs.Tables.{space};
-ghost use Rattle.std.specs.Prelude.{◌≡◌, ◌↔◌, IsTrue, ◌+◌, ◌*◌, ◌≤◌, ◌++◌, length, vec_len, vec_capacity, map, encode_utf8, OnOk, OnErr, IsOk};
+ghost use Rattle.std.specs.Prelude.{◌≡◌, ◌↔◌, IsTrue, ◌+◌, ◌*◌, ◌≤◌, ◌++◌, length, vec_len, vec_capacity, map};
+ghost use Rattle.std.specs.Prelude.{encode_utf8, OnOk, OnErr, IsOk};
 ghost use Rattle.vt_term.specs.Text.{text, glyphs_of, line_text, trimmed};
 
 use crate::display::ROWS;

@@ -10,7 +10,8 @@ use Rattle.vt_update.specs.Leads.{silently}
 module _ (two : (s : State) (a b : List ℕ) → play s (a ++ b) ≡ both (play s a) (play (play s a).state b)) where
   -- the first bytes from a place on, and a chunk more
   play_more : (s t : State) (bytes : List ℕ) (start at count : ℕ) → t ≡ (play s (take at (drop start bytes))).state
-      → play s (take (at + count) (drop start bytes)) ≡ both (play s (take at (drop start bytes))) (play t (take count (drop (start + at) bytes)))
+      → play s (take (at + count) (drop start bytes))
+      ≡ both (play s (take at (drop start bytes))) (play t (take count (drop (start + at) bytes)))
   play_more s t bytes start at count h =
       let before = take at (drop start bytes) in
       ap (λ xs. play s xs) (take-add at count (drop start bytes))
@@ -18,12 +19,17 @@ module _ (two : (s : State) (a b : List ℕ) → play s (a ++ b) ≡ both (play 
       ∙ ap (λ (u : State). both (play s before) (play u (take count (drop at (drop start bytes))))) (sym h)
       ∙ ap (λ xs. both (play s before) (play t (take count xs))) (drop-drop at start bytes)
 
-  pub state_more : (s t u : State) (bytes : List ℕ) (start at count : ℕ) → t ≡ (play s (take at (drop start bytes))).state
-      → u ≡ (play t (take count (drop (start + at) bytes))).state → u ≡ (play s (take (at + count) (drop start bytes))).state
-  state_more s t u bytes start at count h step = step ∙ sym (ap (λ (p : Played). p.state) (play_more s t bytes start at count h))
+  pub state_more : (s t u : State) (bytes : List ℕ) (start at count : ℕ)
+      → t ≡ (play s (take at (drop start bytes))).state
+      → u ≡ (play t (take count (drop (start + at) bytes))).state
+      → u ≡ (play s (take (at + count) (drop start bytes))).state
+  state_more s t u bytes start at count h step =
+      step ∙ sym (ap (λ (p : Played). p.state) (play_more s t bytes start at count h))
 
-  pub silent_more : (s t : State) (bytes : List ℕ) (start at count : ℕ) → t ≡ (play s (take at (drop start bytes))).state
-      → (play s (take at (drop start bytes))).reports ≡ [] → (play t (take count (drop (start + at) bytes))).reports ≡ []
+  pub silent_more : (s t : State) (bytes : List ℕ) (start at count : ℕ)
+      → t ≡ (play s (take at (drop start bytes))).state
+      → (play s (take at (drop start bytes))).reports ≡ [] → (play t (take count (drop (start + at) bytes))).reports
+      ≡ []
       → (play s (take (at + count) (drop start bytes))).reports ≡ []
   silent_more s t bytes start at count h first second =
       ap (λ (p : Played). p.reports) (play_more s t bytes start at count h)
@@ -31,9 +37,11 @@ module _ (two : (s : State) (a b : List ℕ) → play s (a ++ b) ≡ both (play 
       ∙ second
 
 -- a play in silence, from what is told of its two parts
-pub played_silently : (s t u : State) (sent : List ℕ) → u ≡ (play s sent).state → (play s sent).reports ≡ [] → u ≡ t → play s sent ≡ silently t
+pub played_silently : (s t u : State) (sent : List ℕ) → u ≡ (play s sent).state → (play s sent).reports ≡ [] → u ≡ t
+    → play s sent ≡ silently t
 played_silently s t u sent state silent same =
-    ap (λ (reports : List ℕ). record { state = (play s sent).state; reports = reports }) silent ∙ ap (λ (v : State). silently v) (sym state ∙ same)
+    ap (λ (reports : List ℕ). record { state = (play s sent).state; reports = reports }) silent
+    ∙ ap (λ (v : State). silently v) (sym state ∙ same)
 
 -- what was appended is taken back
 pub taken_back : (old more now : List ℕ) (n : ℕ) → now ≡ take n (old ++ more) → n ≡ length old → now ≡ old

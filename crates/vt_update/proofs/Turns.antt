@@ -17,7 +17,8 @@ module _ (none : (s : State) → IsSound s → play s [] ≡ silently s)
   }
 
   -- one after the other
-  joined_silently : (s t u : State) (a b : List ℕ) → play s a ≡ silently t → play t b ≡ silently u → play s (a ++ b) ≡ silently u
+  joined_silently : (s t u : State) (a b : List ℕ) → play s a ≡ silently t → play t b ≡ silently u
+      → play s (a ++ b) ≡ silently u
   joined_silently s t u a b first second =
       two s a b ∙ ap (λ (p : Played). both p (play p.state b)) first ∙ ap (λ (p : Played). both (silently t) p) second
 

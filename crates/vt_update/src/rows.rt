@@ -68,7 +68,11 @@ impl Rows<'_> {
         for row in 1..ROWS + 1 {
             let old = self.row(row);
             let new = to.row(row);
-            let differing = if same_cells(old, new) { 0 } else { unlike(old, new) };
+            let differing = if same_cells(old, new) {
+                0
+            } else {
+                unlike(old, new)
+            };
             self.note(row, differing, to);
         }
     }
@@ -115,7 +119,8 @@ impl Rows<'_> {
         self.filled[row - 1]
     }
 
-    /// How many cells erasing a row spares: those that differ, less those that aren't to be blank. A row that is as it is
+    /// How many cells erasing a row spares: those that differ, less those that aren't to be blank. A row that is as it
+    /// is
     /// to be, and isn't blank, is never erased.
     pub(crate) fn gain(&self, row: usize, to: &Terminal) -> i32
         requires { (1 ≤ row) × (row ≤ last_row) }

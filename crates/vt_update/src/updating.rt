@@ -1,5 +1,6 @@
 //! The update: bytes are chosen, played on what the other side shows, and sent where that led to the state asked for.
-ghost use Rattle.std.specs.Prelude.{◌≡◌, ◌↔◌, ◌⊎◌, ◌+◌, ◌*◌, ◌≤◌, ◌<◌, ◌≢◌, ◌++◌, [], IsTrue, IsErrOf, OnOk, OnErr, drop, length, take, vec_len, vec_capacity};
+ghost use Rattle.std.specs.Prelude.{◌≡◌, ◌↔◌, ◌⊎◌, ◌+◌, ◌*◌, ◌≤◌, ◌<◌, ◌≢◌, ◌++◌, [], IsTrue, IsErrOf, OnOk, OnErr};
+ghost use Rattle.std.specs.Prelude.{drop, length, take, vec_len, vec_capacity};
 ghost use Rattle.std.specs.Bool.{OnTrue, OnFalse};
 ghost use Rattle.vt_syntax.specs.declared.held.Held.TheVariants.{Nothing};
 ghost use Rattle.vt_term.specs.State.{State};
@@ -105,7 +106,8 @@ fn copy_part(from: usize, all: &[u8], part: &mut [u8])
 
 /// Appends bytes to `out` that lead from `shown` to `to`, and brings `shown` there.
 ///
-/// Where width and tab stops are equal, at most 28 bytes are sent for each cell that differs, and 230. An update after an
+/// Where width and tab stops are equal, at most 28 bytes are sent for each cell that differs, and 230. An update after
+/// an
 /// update to the same state is empty.
 ///
 /// `UPDATE_LIMIT` bytes of room are reserved first. On an error `shown` and the contents of `out` are unchanged.
@@ -135,7 +137,8 @@ pub fn update(shown: &mut Terminal, to: &Terminal, out: &mut Vec<u8>) -> Result<
     Ok(())
 }
 
-/// Appends bytes to `out` that lead from `shown` to `to`, both between sequences, and brings `shown` there. `out` has the
+/// Appends bytes to `out` that lead from `shown` to `to`, both between sequences, and brings `shown` there. `out` has
+/// the
 /// room: `UPDATE_LIMIT` bytes. It never fails and takes no memory.
 pub fn update_reserved(shown: &mut Terminal, to: &Terminal, out: &mut Vec<u8>)
     requires shown { shown.old.held ≡ Nothing }
@@ -168,7 +171,8 @@ pub fn update_reserved(shown: &mut Terminal, to: &Terminal, out: &mut Vec<u8>)
 /// Whether two terminals have the same width and the same tab stops.
 fn same_columns(shown: &Terminal, to: &Terminal) -> bool
     ensures { IsTrue result
-        ↔ ((shown.now.display.grid.width ≡ to.now.display.grid.width) × (shown.now.display.stops ≡ to.now.display.stops)) }
+        ↔ ((shown.now.display.grid.width ≡ to.now.display.grid.width)
+        × (shown.now.display.stops ≡ to.now.display.stops)) }
 {
     shown.width() == to.width() && same_stops(shown.stops(), to.stops())
 }
@@ -188,7 +192,8 @@ fn is_short(len: usize, shown: &Terminal, to: &Terminal) -> bool
         || len - BYTES_FOR_THE_REST <= BYTES_A_CELL * differing_cells(shown, to)
 }
 
-/// Appends the chosen bytes and plays them on `shown`, where they are short. Where that doesn't lead to `to` in silence,
+/// Appends the chosen bytes and plays them on `shown`, where they are short. Where that doesn't lead to `to` in
+/// silence,
 /// the bytes are taken back, and the answer is false; `shown` is then in any state.
 fn send_choice(
     marks: &[[bool; STOPS]; ROWS],

@@ -1,4 +1,5 @@
-//! Tests of the update that cross crates: worked examples, all pairs of states that the vectors leave, and refused memory.
+//! Tests of the update that cross crates: worked examples, all pairs of states that the vectors leave, and refused
+//! memory.
 #![tactic(auto)]
 
 #[cfg(test)]

@@ -1,4 +1,5 @@
-//! What no clause says of the update: that little is sent where little differs, and that memory is granted when it is there.
+//! What no clause says of the update: that little is sent where little differs, and that memory is granted when it is
+//! there.
 mod common;
 mod examples;
 mod memory;

@@ -12,8 +12,10 @@ expected_of v = record { text = v.text.now; reports = v.reports.now; repaint = o
 
 -- what each answer says of what is expected and what was given; want of memory says nothing of them
 abbrev pub Compares : Result (Unit {0}) Mismatch → (expected given : Outcome) → Type 0
-Compares (Ok u) expected given = (expected.text ≡ given.text) × (expected.reports ≡ given.reports) × (expected.repaint ≡ given.repaint)
+Compares (Ok u) expected given = (expected.text ≡ given.text) × (expected.reports ≡ given.reports)
+    × (expected.repaint ≡ given.repaint)
 Compares (Err Memory) expected given = Unit {0}
 Compares (Err Text) expected given = expected.text ≢ given.text
 Compares (Err Reports) expected given = (expected.text ≡ given.text) × (expected.reports ≢ given.reports)
-Compares (Err Repaint) expected given = (expected.text ≡ given.text) × (expected.reports ≡ given.reports) × (expected.repaint ≢ given.repaint)
+Compares (Err Repaint) expected given = (expected.text ≡ given.text) × (expected.reports ≡ given.reports)
+    × (expected.repaint ≢ given.repaint)

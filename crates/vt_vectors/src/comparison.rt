@@ -1,5 +1,6 @@
 //! Holding the terminal against a vector.
-ghost use Rattle.std.specs.Prelude.{◌≡◌, ◌↔◌, ◌≤◌, ◌+◌, ◌*◌, ◌++◌, ℕ, List, [], IsTrue, IsErrOf, IfOk, length, vec_len, vec_capacity};
+ghost use Rattle.std.specs.Prelude.{◌≡◌, ◌↔◌, ◌≤◌, ◌+◌, ◌*◌, ◌++◌, ℕ, List, [], IsTrue, IsErrOf, IfOk, length, vec_len};
+ghost use Rattle.std.specs.Prelude.{vec_capacity};
 ghost use Rattle.std.specs.Option.{option_copied};
 ghost use Rattle.vt_term.specs.Text.{text};
 ghost use Rattle.vt_vectors.specs.Outcome.{outcome_of, outcome_after, repaint_of};
@@ -21,7 +22,8 @@ use vt_term::{REPORT_LIMIT, Terminal};
 ///
 /// # Errors
 ///
-/// `Memory` where a growth was refused; `Text`, `Reports` or `Repaint` where that one differs and those before it don't.
+/// `Memory` where a growth was refused; `Text`, `Reports` or `Repaint` where that one differs and those before it
+/// don't.
 pub fn check(alloc: Global, v: &Vector<'_>) -> Result<(), Mismatch>
     ensures { Compares result (expected_of v.now) (outcome_of v.now.input.now) }
 {
@@ -120,7 +122,8 @@ impl Bench {
     fn compare(&mut self, v: &Vector<'_>) -> Result<(), Mismatch>
         requires { IsReady self.old }
         ensures kept { IsKept self.old self.new }
-        ensures compares { Compares result (expected_of v.now) (outcome_after (record { state = self.old.terminal; reports = self.old.reports.items })) }
+        ensures compares { Compares result (expected_of v.now)
+            (outcome_after (record { state = self.old.terminal; reports = self.old.reports.items })) }
         ensures no_memory { ¬ IsErrOf result Mismatch.Memory }
     {
         if !self.shows(v.text) {

@@ -20,7 +20,8 @@ fn reads<R: Read>(alloc: Global, reader: &mut R, count: u8) -> Result<Vec<u8>, F
     Ok(line)
 }
 
-/// The answers of so many writes of a piece's rest, in one line: how many bytes were taken, or `!` for an error, and `,`.
+/// The answers of so many writes of a piece's rest, in one line: how many bytes were taken, or `!` for an error, and
+/// `,`.
 fn writes<W: Write>(
     alloc: Global,
     writer: &mut W,

@@ -1,4 +1,5 @@
-//! Runs of graphic bytes, of each length from each column of the last row: at once, and each byte behind a single shift, so
+//! Runs of graphic bytes, of each length from each column of the last row: at once, and each byte behind a single
+//! shift, so
 //! that it is read and written by itself.
 use super::common::Played;
 use std::alloc::Global;
@@ -8,7 +9,8 @@ use std::test::Fail;
 /// The longest run.
 const LONGEST: u8 = 200;
 
-/// G3 is ASCII, as G0 in GL is; G2 in GR is Supplemental. So each graphic byte shows the same glyph behind a single shift.
+/// G3 is ASCII, as G0 in GL is; G2 in GR is Supplemental. So each graphic byte shows the same glyph behind a single
+/// shift.
 const SETS: &[u8] = b"\x1b+B";
 
 /// The single shift behind which a graphic byte shows the glyph that it shows without one.
@@ -29,7 +31,8 @@ fn graphic_bytes(alloc: Global, both: bool) -> Result<Vec<u8>, Fail> {
     Ok(run)
 }
 
-/// Asserts that runs leave the same state at once and byte by byte, on a screen of `E` of this width, after this setting.
+/// Asserts that runs leave the same state at once and byte by byte, on a screen of `E` of this width, after this
+/// setting.
 fn runs_agree(
     rt: &impl Abort,
     alloc: Global,

@@ -100,7 +100,8 @@ const LIGHT_ON_DARK: &str =
 const DARK_ON_LIGHT: &str =
     ".i{fill:#101010}.p{fill:#d0d0d0}</style>\n<rect class='p' width='100%' height='100%'/>\n";
 
-/// An input, the start of its picture, how many empty lines its text alternative begins with, the line after them, how many empty
+/// An input, the start of its picture, how many empty lines its text alternative begins with, the line after them, how
+/// many empty
 /// lines follow, the colours, and the rest but for the last line.
 type Drawn = (
     &'static [u8],
@@ -142,7 +143,8 @@ const DRAWN: [Drawn; 5] = [
         LIGHT_ON_DARK,
         "<text class='i' x='0' y='13' textLength='10' lengthAdjust='spacingAndGlyphs'>a</text>\n<text class='i' x='20' y='13' textLength='10' lengthAdjust='spacingAndGlyphs'>b</text>\n<text class='i' x='790' y='31' textLength='10' lengthAdjust='spacingAndGlyphs'>X</text>\n<text class='i' x='0' y='49' textLength='10' lengthAdjust='spacingAndGlyphs'>Y</text>\n<rect class='c' x='10' y='36' width='10' height='18'/>\n",
     ),
-    // 132 columns, reverse screen, line drawing, underlined and blinking, a reverse space, the cursor in the last column
+    // 132 columns, reverse screen, line drawing, underlined and blinking, a reverse space, the cursor in the last
+    // column
     (
         b"\x1b[?3h\x1b[?5h\x1b[24;1H\x1b(0\x1b[4;5mlq\x1b[m \x1b[7m \x1b[0mk\x1b[2;132H",
         WIDE,

@@ -21,7 +21,8 @@ pub(super) fn repainted(alloc: Global, input: &[u8]) -> Result<Vec<u8>, Fail> {
     Ok(out)
 }
 
-/// Asserts that bytes lead from what one input leaves to what another does, byte by byte and cut in two, and report nothing.
+/// Asserts that bytes lead from what one input leaves to what another does, byte by byte and cut in two, and report
+/// nothing.
 fn lead(
     rt: &impl Abort,
     alloc: Global,

@@ -18,4 +18,8 @@ returns-clause-some c =
     let format = c.get_str.ensures ∙ first_value-rows (found_of c.args.matches.now) (codes "format") in
     let until = c.get_str-2.ensures ∙ first_value-rows (found_of c.args.matches.now) (codes "until") in
     let found : c.format_of.result ≡ format_in rows = rw (← format, ← until) c.format_of.ensures in
-    record { format = sym found ∙ c.in-Some.is; file = c.in_ok-file.ensures ∙ first_value-rows (found_of c.args.matches.now) (codes "file") }
+    record {
+      format = sym found ∙ c.in-Some.is;
+      file = c.in_ok-file.ensures
+          ∙ first_value-rows (found_of c.args.matches.now) (codes "file");
+    }

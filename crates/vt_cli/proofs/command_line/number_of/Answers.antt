@@ -7,10 +7,13 @@ use Rattle.vt_cli.proofs.command_line.number_of.Goals as goal
 pub returns : goal.returns
 returns c =
     let matches = rows_of (found_of c.args.matches.now) in
-    let matched = sym (first_value-rows (found_of c.args.matches.now) c.args.option.now) ∙ sym c.in_ok-get_str.ensures in
+    let matched =
+    sym (first_value-rows (found_of c.args.matches.now) c.args.option.now) ∙ sym c.in_ok-get_str.ensures in
     rw c.ok.ensures.value (record {
-      some = some_number c.args.option.now c.in_ok-get_str.field-0.now matches c.parse.result matched c.parse.ensures.value.0;
-      none = no_number c.args.option.now c.in_ok-get_str.field-0.now matches c.parse.result matched c.parse.ensures.value.0;
+      some = some_number c.args.option.now c.in_ok-get_str.field-0.now matches c.parse.result matched
+          c.parse.ensures.value.0;
+      none = no_number c.args.option.now c.in_ok-get_str.field-0.now matches c.parse.result matched
+          c.parse.ensures.value.0;
     })
 
 pub returns-in_err-get_str-clause-none : goal.returns-in_err-get_str-clause-none

@@ -5,7 +5,8 @@ use Rattle.vt_cli.proofs.command_line.settings.Goals as goal
 
 pub returns-in-Ok-None-clause-err : goal.returns-in-Ok-None-clause-err
 returns-in-Ok-None-clause-err c =
-    let found : Some (c.in-Some.name.now, rows_of (found_of c.in-Some.inner.now)) ≡ found_in c.args.words.items = search rules in
+    let found : Some (c.in-Some.name.now, rows_of (found_of c.in-Some.inner.now)) ≡ found_in c.args.words.items =
+    search rules in
     let no_settings : HasNoSettings (Some (c.in-Some.name.now, rows_of (found_of c.in-Some.inner.now))) =
     rw c.in-Ok-None.field-0-is at c.in-Ok-None.ensures.none in
     elim c.refusal-in-Ok-None.ensures [

@@ -16,7 +16,9 @@ returns-clause-some c = record {
 }
 
 pub returns-in_default-number_of-clause-none : goal.returns-in_default-number_of-clause-none
-returns-in_default-number_of-clause-none c = without_piece c.args.name.now (rows_of (found_of c.args.matches.now)) c.in_default-number_of.ensures.none
+returns-in_default-number_of-clause-none c =
+    without_piece c.args.name.now (rows_of (found_of c.args.matches.now)) c.in_default-number_of.ensures.none
 
 pub returns-in_default-number_of-2-clause-none : goal.returns-in_default-number_of-2-clause-none
-returns-in_default-number_of-2-clause-none c = without_limit c.args.name.now (rows_of (found_of c.args.matches.now)) (c.in_default-number_of-2).ensures.none
+returns-in_default-number_of-2-clause-none c =
+    without_limit c.args.name.now (rows_of (found_of c.args.matches.now)) (c.in_default-number_of-2).ensures.none

@@ -20,9 +20,12 @@ loop-row-preserved c =
     let step = c.push_shown_row-shown.ensures in
     let after_is = step.shown ∙ ap (λ xs. before || not (list_all is_blank xs)) c.row.ensures.cells in
     record {
-      shown = shown-more g w before after (r - 1) r (omega arith) c.loop-row.invariant.shown after_is ∙ ap (λ n. w || not (are_blank g n)) more;
+      shown = shown-more g w before after (r - 1) r (omega arith) c.loop-row.invariant.shown after_is
+          ∙ ap (λ n. w || not (are_blank g n)) more;
       items =
-          rows_shown c.rows.ensures.cell c.rows.ensures.len g w before after (r - 1) r old c.loop-row.out.items c.push_shown_row-shown.new.out.items spelling_sets_events (omega arith) c.loop-row.invariant.shown after_is
+          rows_shown c.rows.ensures.cell c.rows.ensures.len g w before after
+          (r - 1) r old c.loop-row.out.items c.push_shown_row-shown.new.out.items spelling_sets_events
+          (omega arith) c.loop-row.invariant.shown after_is
           c.loop-row.invariant.items (step.items g c.row.ensures.cells)
           ∙ ap (λ n. old ++ spell_events (where_true after (spelling_sets_events ++ rows_from g 1 n))) more;
       bounded = omega (arith, c.loop-row.invariant.bounded, step.bounded);
@@ -38,5 +41,6 @@ returns-clause-items c =
     let all : c.loop-row.row - 1 ≡ 24 = omega arith in
     c.loop-row.invariant.items
     ∙ ap (λ n. old ++ spell_events (where_true c.loop-row.shown (spelling_sets_events ++ rows_from g 1 n))) all
-    ∙ ap (λ b. old ++ spell_events (where_true b (spelling_sets_events ++ rows_from g 1 24))) (c.loop-row.invariant.shown ∙ ap (λ n. w || not (are_blank g n)) all)
+    ∙ ap (λ b. old ++ spell_events (where_true b (spelling_sets_events ++ rows_from g 1 24)))
+    (c.loop-row.invariant.shown ∙ ap (λ n. w || not (are_blank g n)) all)
     ∙ ap (λ es. old ++ spell_events es) (shown-unless w (are_blank g 24) (spelling_sets_events ++ rows_from g 1 24))

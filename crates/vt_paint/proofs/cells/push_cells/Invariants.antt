@@ -10,8 +10,11 @@ use Rattle.vt_paint.proofs.cells.push_cells.Given as goal
 
 abbrev pub invariant-loop-row : goal.invariant-loop-row
 invariant-loop-row l = record {
-  shown : l.shown ≡ (l.wrap || not (list_all (λ r. list_all is_blank (row_of l.t.display.grid r)) (range_with_len 1 (l.row - 1))));
-  items : l.out.items ≡ l.fn.out.items ++ spell_events (where_true l.shown (spelling_sets_events ++ rows_from l.t.display.grid 1 (l.row - 1)));
+  shown : l.shown
+      ≡ (l.wrap || not (list_all (λ r. list_all is_blank (row_of l.t.display.grid r)) (range_with_len 1 (l.row - 1))));
+  items : l.out.items
+      ≡ l.fn.out.items
+      ++ spell_events (where_true l.shown (spelling_sets_events ++ rows_from l.t.display.grid 1 (l.row - 1)));
   bounded : vec_len l.out + head_room l.shown ≤ vec_len l.fn.out + 11 + 3828 * (l.row - 1);
   capacity : vec_capacity l.fn.out ≤ vec_capacity l.out;
 }

@@ -20,7 +20,8 @@ invariant-loop-i l = record {
 abbrev pub invariant-loop-i-then-not-is_blank : goal.invariant-loop-i-then-not-is_blank
 invariant-loop-i-then-not-is_blank l = record {
   items : (g : Grid) → l.cells ≡ row_of g l.row → take l.at l.line ≡ spell_events (pieces_from g l.row 1 l.i);
-  left : (g : Grid) → l.cells ≡ row_of g l.row → (is_blank (cell_at g l.row l.i) ≡ false) × (l.number ≡ brush_number (brush_of (cell_at g l.row l.i)));
+  left : (g : Grid) → l.cells ≡ row_of g l.row → (is_blank (cell_at g l.row l.i) ≡ false)
+      × (l.number ≡ brush_number (brush_of (cell_at g l.row l.i)));
   on : (1 ≤ l.i) × (l.initial.i ≤ l.i);
   within : l.i ≤ length l.cells;
   bounded : l.at ≤ 29 * l.i;

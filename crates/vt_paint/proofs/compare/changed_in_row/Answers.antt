@@ -13,4 +13,6 @@ loop-i-preserved c = record {
 }
 
 pub returns-then-same_cells : goal.returns-then-same_cells
-returns-then-same_cells c = λ i inside. unmarked c.args.a.now c.args.b.now i 132 (c.if-same_cells.ensures.0 (search rules)) (omega (arith, c.requires.short))
+returns-then-same_cells c =
+    λ i inside. unmarked c.args.a.now c.args.b.now i 132 (c.if-same_cells.ensures.0 (search rules))
+    (omega (arith, c.requires.short))

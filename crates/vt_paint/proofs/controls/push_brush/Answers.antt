@@ -4,4 +4,9 @@ use Rattle.vt_paint.proofs.controls.push_brush.Goals as goal
 
 pub returns-clause-items : goal.returns-clause-items
 returns-clause-items c =
-    rw ((brush_at c.args.brush).1, c.push_bytes-2.ensures.items, c.push_bytes.ensures.items, c.brush_part-len.ensures.value) (simp append_assoc)
+    rw (
+      (brush_at c.args.brush).1,
+      c.push_bytes-2.ensures.items,
+      c.push_bytes.ensures.items,
+      c.brush_part-len.ensures.value,
+    ) (simp append_assoc)

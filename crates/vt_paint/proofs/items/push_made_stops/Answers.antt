@@ -11,4 +11,5 @@ returns-clause-items c =
     (then_events (event (private_mode deccolm true) c.push_private_mode.ensures.items)
     (then_events (bytes_of (clear_all_tabs ∷ []) _ clear_spelled c.push_bytes.ensures.items)
     (then_events (events (stops_from c.args.stops.now 1 132) c.push_each_stop.ensures.items)
-    (events (where_true (not c.args.wide) (private_mode deccolm false ∷ [])) c.push_private_mode_where.ensures.items)))).is
+    (events (where_true (not c.args.wide) (private_mode deccolm false ∷ []))
+    c.push_private_mode_where.ensures.items)))).is

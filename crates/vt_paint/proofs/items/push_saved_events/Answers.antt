@@ -2,7 +2,8 @@ use Rattle.std.proofs.Common.{◌∷◌, [], true, false}
 use Rattle.vt_syntax.specs.declared.event.Event.TheVariants.{Print}
 use Rattle.vt_glyph.specs.Tables.{space}
 use Rattle.vt_term.specs.State.{saved_sets}
-use Rattle.vt_paint.specs.Controls.{where_true, private_mode, decom, cursor_position, brush_events, sets_events, save_cursor}
+use Rattle.vt_paint.specs.Controls.{where_true, private_mode, decom, cursor_position, brush_events, sets_events}
+use Rattle.vt_paint.specs.Controls.{save_cursor}
 use Rattle.vt_paint.specs.Items.{saved_events}
 use Rattle.vt_paint.proofs.Pushing.{then_events, events, event, bytes_where}
 use Rattle.vt_paint.proofs.items.push_saved_events.Goals as goal

@@ -6,7 +6,12 @@ use Rattle.vt_picture.proofs.document.push_alternative.Goals as goal
 
 pub loop-row-init : goal.loop-row-init
 unfolding alternative
-loop-row-init c = record { items = sym (append-nil c.args.out.now.items); bounded = omega arith; capacity = omega arith }
+loop-row-init c = record {
+  items = sym (append-nil c.args.out.now.items);
+  bounded = omega arith;
+  capacity =
+      omega arith;
+}
 
 pub loop-row-preserved : goal.loop-row-preserved
 unfolding alternative
@@ -20,7 +25,8 @@ loop-row-preserved c =
           ∙ ap (λ (t : List ℕ). t ++ alternative_line c.row.result.now) c.loop-row.invariant.items
           ∙ append_assoc c.args.out.now.items (alternative (row - 1) g) (alternative_line c.row.result.now)
           ∙ ap (λ (t : List ℕ). c.args.out.now.items ++ t)
-          (ap (λ cells. alternative (row - 1) g ++ alternative_line cells) c.row.ensures.cells ∙ sym more ∙ ap (λ n. alternative n g) next);
+          (ap (λ cells. alternative (row - 1) g ++ alternative_line cells) c.row.ensures.cells ∙ sym more
+          ∙ ap (λ n. alternative n g) next);
       bounded = omega (arith, c.row.ensures.width);
       capacity = omega arith;
     }

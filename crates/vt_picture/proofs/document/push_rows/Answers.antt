@@ -6,7 +6,12 @@ use Rattle.vt_picture.proofs.document.push_rows.Goals as goal
 
 pub loop-row-init : goal.loop-row-init
 unfolding rows_picture
-loop-row-init c = record { items = sym (append-nil c.args.out.now.items); bounded = omega arith; capacity = omega arith }
+loop-row-init c = record {
+  items = sym (append-nil c.args.out.now.items);
+  bounded = omega arith;
+  capacity =
+      omega arith;
+}
 
 pub loop-row-preserved : goal.loop-row-preserved
 unfolding rows_picture
@@ -20,7 +25,8 @@ loop-row-preserved c =
           ∙ ap (λ (t : List ℕ). t ++ row_picture row c.row.result.now) c.loop-row.invariant.items
           ∙ append_assoc c.args.out.now.items (rows_picture (row - 1) g) (row_picture row c.row.result.now)
           ∙ ap (λ (t : List ℕ). c.args.out.now.items ++ t)
-          (ap (λ cells. rows_picture (row - 1) g ++ row_picture row cells) c.row.ensures.cells ∙ sym more ∙ ap (λ n. rows_picture n g) next);
+          (ap (λ cells. rows_picture (row - 1) g ++ row_picture row cells) c.row.ensures.cells ∙ sym more
+          ∙ ap (λ n. rows_picture n g) next);
       bounded = omega (arith, c.row.ensures.width);
       capacity = omega arith;
     }

@@ -12,10 +12,12 @@ loop-end-preserved c =
     let end : last + 1 ≡ c.loop-end.end = omega arith in
     let below : last < length cells = omega (arith, c.loop-end.invariant.within) in
     let cell : Cell = c.index-cells-end.result in
-    let blank : is_blank (get_or cells last cell) ≡ true = ap is_blank (sym c.index-cells-end.is) ∙ sym c.is_blank.ensures ∙ c.if-is_blank.true in
+    let blank : is_blank (get_or cells last cell) ≡ true =
+    ap is_blank (sym c.index-cells-end.is) ∙ sym c.is_blank.ensures ∙ c.if-is_blank.true in
     record {
       within = omega (arith, c.loop-end.invariant.within);
-      same = c.loop-end.invariant.same ∙ ap (λ n. trimmed (take n cells)) (sym end) ∙ trimmed-take-blank cells last cell below blank;
+      same = c.loop-end.invariant.same ∙ ap (λ n. trimmed (take n cells)) (sym end)
+          ∙ trimmed-take-blank cells last cell below blank;
     }
 
 pub returns-clause-value : goal.returns-clause-value
@@ -27,7 +29,8 @@ returns-clause-value c =
           let end : last + 1 ≡ c.loop-end.end = omega arith in
           let below : last < length cells = omega (arith, c.loop-end.invariant.within) in
           let cell : Cell = w.index-cells-end.result in
-          let shown : is_blank (get_or cells last cell) ≡ false = ap is_blank (sym w.index-cells-end.is) ∙ sym w.is_blank.ensures ∙ w.if-is_blank.false in
+          let shown : is_blank (get_or cells last cell) ≡ false =
+          ap is_blank (sym w.index-cells-end.is) ∙ sym w.is_blank.ensures ∙ w.if-is_blank.false in
           sym (c.loop-end.invariant.same ∙ ap (λ n. trimmed (take n cells)) (sym end)
           ∙ trimmed-take-shown cells last cell below shown ∙ ap (λ n. take n cells) end)
       | else-loop-end-test w ↦

@@ -6,7 +6,12 @@ use Rattle.vt_picture.proofs.showing.show_reserved.Goals as goal
 
 pub loop-row-init : goal.loop-row-init
 unfolding shown_lines
-loop-row-init c = record { items = sym (append-nil c.args.out.now.items); bounded = omega arith; capacity = omega arith }
+loop-row-init c = record {
+  items = sym (append-nil c.args.out.now.items);
+  bounded = omega arith;
+  capacity =
+      omega arith;
+}
 
 pub loop-row-preserved : goal.loop-row-preserved
 unfolding shown_lines
@@ -20,7 +25,8 @@ loop-row-preserved c =
           ∙ ap (λ (t : List ℕ). t ++ shown_line c.row.result.now) c.loop-row.invariant.items
           ∙ append_assoc c.args.out.now.items (shown_lines (row - 1) g) (shown_line c.row.result.now)
           ∙ ap (λ (t : List ℕ). c.args.out.now.items ++ t)
-          (ap (λ cells. shown_lines (row - 1) g ++ shown_line cells) c.row.ensures.cells ∙ sym more ∙ ap (λ n. shown_lines n g) next);
+          (ap (λ cells. shown_lines (row - 1) g ++ shown_line cells) c.row.ensures.cells ∙ sym more
+          ∙ ap (λ n. shown_lines n g) next);
       bounded = omega (arith, c.row.ensures.width);
       capacity = omega arith;
     }

@@ -15,5 +15,8 @@ returns-in_err-extend_from_slice-clause-takes g c =
     rw (fault.1, fault.2) (record {
       b = c.loop-left.bytes.items ++ take c.in-Ok.count c.read.new.buf;
       taken = Consumes-trans _ _ _ _ _ c.loop-left.invariant.taken c.in-Ok.ensures.bytes.0;
-      holds = (works, rw length-append (omega (arith, long, bound, part, c.min-want.ensures, c.loop-left.invariant.total)));
+      holds = (
+        works,
+        rw length-append (omega (arith, long, bound, part, c.min-want.ensures, c.loop-left.invariant.total)),
+      );
     })

@@ -14,8 +14,10 @@ took-more p at n = rw rest-is (sym (take-add at n p))
 
 pub loop-at-preserved : goal.loop-at-preserved
 loop-at-preserved g c = record {
-  within = let b = c.in-Ok.ensures.bound in let short : c.in-Ok.n ≤ length (drop c.loop-at.at c.args.piece.now) = rw rest-is at b in let fits = simp length-drop at short in omega (arith, fits);
-  given = rw (← took-more c.args.piece.now c.loop-at.at c.in-Ok.n) (Appends-trans _ _ _ _ _ c.loop-at.invariant.given c.in-Ok.ensures.bytes);
+  within = let b = c.in-Ok.ensures.bound in let short : c.in-Ok.n ≤ length (drop c.loop-at.at c.args.piece.now) =
+      rw rest-is at b in let fits = simp length-drop at short in omega (arith, fits);
+  given = rw (← took-more c.args.piece.now c.loop-at.at c.in-Ok.n)
+      (Appends-trans _ _ _ _ _ c.loop-at.invariant.given c.in-Ok.ensures.bytes);
   failed = grind (arith, common_steps, c.in-Ok.n-test, c.in-Ok.ensures);
 }
 
@@ -24,6 +26,14 @@ returns-in-Err g c = record {
   gives = record {
     w = take c.loop-at.at c.args.piece.now;
     given = Appends-kept _ _ _ _ c.loop-at.invariant.given c.in-Err.ensures.bytes;
-    holds = (grind (arith, common_steps, c.in-Err.ensures), record { more = drop c.loop-at.at c.args.piece.now; whole = sym (take-append-drop c.loop-at.at c.args.piece.now); missing = rw length-drop (omega arith) });
+    holds = (
+      grind (arith, common_steps, c.in-Err.ensures),
+      record {
+        more = drop c.loop-at.at c.args.piece.now;
+        whole =
+            sym (take-append-drop c.loop-at.at c.args.piece.now);
+        missing = rw length-drop (omega arith);
+      },
+    );
   };
 }

@@ -1,4 +1,5 @@
-use Rattle.std.proofs.Common.{◌≡◌, ℕ, ◌*◌, ◌≤◌, ◌<◌, List, [], length, take, nat_lt, true, false, ap, sym, refl, ◌∙◌, arith, append-nil, length-append, length-drop}
+use Rattle.std.proofs.Common.{◌≡◌, ℕ, ◌*◌, ◌≤◌, ◌<◌, List, [], length, take, nat_lt, true, false, ap, sym, refl, ◌∙◌}
+use Rattle.std.proofs.Common.{arith, append-nil, length-append, length-drop}
 use Rattle.std.proofs.lemmas.List.{length-take, take-append-le}
 use Rattle.std.proofs.lemmas.Grind.{common_steps}
 use Rattle.std.proofs.KnownBytes.{Consumes-trans}
@@ -6,7 +7,8 @@ use Rattle.std.proofs.lemmas.Bool.Decides.{nat_tests}
 use Rattle.vt_replay.specs.Due.{sent, sent_for}
 use Rattle.vt_cli.specs.declared.what.What.{What}
 use Rattle.vt_replay.specs.Run.{IsProperBeginning}
-use Rattle.vt_replay.proofs.Steps.{Moves-step, counted, passed, played-more, within-limit, cut-short, earlier-reports, sent-failed}
+use Rattle.vt_replay.proofs.Steps.{Moves-step, counted, passed, played-more, within-limit, cut-short, earlier-reports}
+use Rattle.vt_replay.proofs.Steps.{sent-failed}
 use Rattle.vt_replay.proofs.engine.play_input.Goals as goal
 
 pub loop-left-preserved : goal.loop-left-preserved
@@ -23,14 +25,30 @@ loop-left-preserved g c =
     let sends = gives.holds.1 ∙ ap (λ (x : List ℕ). sent c.args.what x) c.deref.ensures.value in
     record {
       moved = Moves-step _ _ _ _ _ _ _ _ _ gives.w c.loop-left.invariant.moved c.in-Ok.ensures.bytes.0 gives.given
-          (λ b w h. (counted b _ _ _ _ h.0 bound within, played-more c.cuts.ensures.two c.args.what _ _ b _ w _ _ _ gives.w h.1 state reports count sends));
+          (λ b w h. (
+            counted b _ _ _ _ h.0 bound within,
+            played-more c.cuts.ensures.two c.args.what _ _ b _ w _ _ _ gives.w h.1 state reports count sends,
+          ));
       few = omega (arith, few, within, c.loop-left.invariant.few, c.loop-left.invariant.within);
       within = omega (arith, c.loop-left.invariant.within);
       reader_works = grind (arith, common_steps, c.in-Ok.ensures);
       reader_goes_on = grind (arith, common_steps, c.in-Ok.ensures);
       writer_works = gives.holds.0;
-      room = simp (length-append, length-drop) (omega (arith, long, c.min-want.ensures, c.clear.ensures.capacity, c.feed_reserved.ensures.capacity, c.loop-left.invariant.room));
-      capacity = omega (arith, c.clear.ensures.capacity, c.feed_reserved.ensures.capacity, c.loop-left.invariant.capacity);
+      room = simp (length-append, length-drop)
+          (omega (
+            arith,
+            long,
+            c.min-want.ensures,
+            c.clear.ensures.capacity,
+            c.feed_reserved.ensures.capacity,
+            c.loop-left.invariant.room,
+          ));
+      capacity = omega (
+        arith,
+        c.clear.ensures.capacity,
+        c.feed_reserved.ensures.capacity,
+        c.loop-left.invariant.capacity,
+      );
     }
 
 pub returns-then-not-send-clause-moves : goal.returns-then-not-send-clause-moves
@@ -43,7 +61,8 @@ returns-then-not-send-clause-moves g c =
     let reports = rw (take-append-le, c.clear.ensures.items) at c.feed_reserved.ensures.reports in
     let works : c.read.new.self.failed ≡ false = grind (arith, common_steps, c.in-Ok.ensures) in
     let goes_on : c.read.new.self.ended ≡ false = grind (arith, common_steps, c.in-Ok.ensures) in
-    let short : length (take c.in-Ok.count c.read.new.buf) ≤ length c.args.buffer.now = rw length-take (omega (arith, long, bound, c.min-want.ensures, c.loop-left.auto.buffer)) in
+    let short : length (take c.in-Ok.count c.read.new.buf) ≤ length c.args.buffer.now =
+    rw length-take (omega (arith, long, bound, c.min-want.ensures, c.loop-left.auto.buffer)) in
     let failed = sent-failed c.args.what gives.w c.deref.result.now gives.holds.1 in
     let part : IsProperBeginning gives.w c.feed_reserved.new.out.items = rw (← c.deref.ensures.value) failed.1 in
     Moves-step _ _ _ _ _ _ _ _ _ gives.w c.loop-left.invariant.moved c.in-Ok.ensures.bytes.0 gives.given
@@ -60,9 +79,11 @@ returns-then-not-send-clause-moves g c =
 pub returns-in-Ok-eq0-clause-moves : goal.returns-in-Ok-eq0-clause-moves
 returns-in-Ok-eq0-clause-moves g c =
     let works : c.read-2.new.self.failed ≡ false = grind (arith, common_steps, c.in-Ok-eq0.ensures) in
-    let one : 0 < length (take 1 c.loop-left.buffer) = rw length-take (omega (arith, c.requires.some_room, c.loop-left.auto.buffer)) in
+    let one : 0 < length (take 1 c.loop-left.buffer) =
+    rw length-take (omega (arith, c.requires.some_room, c.loop-left.auto.buffer)) in
     let asked : nat_lt 0 (length (take 1 c.loop-left.buffer)) ≡ true = grind (arith, nat_tests) in
-    let ended : c.read-2.new.self.ended ≡ true = c.in-Ok-eq0.ensures.ended ∙ rw (c.loop-left.invariant.reader_goes_on, c.in-Ok-eq0.field-0-test, asked) refl in
+    let ended : c.read-2.new.self.ended ≡ true =
+    c.in-Ok-eq0.ensures.ended ∙ rw (c.loop-left.invariant.reader_goes_on, c.in-Ok-eq0.field-0-test, asked) refl in
     let none = rw c.in-Ok-eq0.field-0-test at c.in-Ok-eq0.ensures.bytes.0 in
     let moved = c.loop-left.invariant.moved in
     record {
@@ -70,14 +91,24 @@ returns-in-Ok-eq0-clause-moves g c =
       w = moved.w;
       taken = rw append-nil at (Consumes-trans _ _ _ moved.b [] moved.taken none);
       given = moved.given;
-      holds = (record { reader_failed = works; reader_ended = ended; writer_failed = c.loop-left.invariant.writer_works }, omega (arith, moved.holds.0), moved.holds.1);
+      holds = (
+        record {
+          reader_failed = works;
+          reader_ended = ended;
+          writer_failed =
+              c.loop-left.invariant.writer_works;
+        },
+        omega (arith, moved.holds.0),
+        moved.holds.1,
+      );
     }
 
 pub returns-in-Ok-read-clause-moves : goal.returns-in-Ok-read-clause-moves
 returns-in-Ok-read-clause-moves g c =
     let long = simp length-take at c.read-2.auto.buf in
     let works : c.read-2.new.self.failed ≡ false = grind (arith, common_steps, c.in-Ok-read.ensures) in
-    let goes_on : c.read-2.new.self.ended ≡ false = grind (arith, common_steps, c.in-Ok-read.ensures, c.in-Ok-read.field-0-test) in
+    let goes_on : c.read-2.new.self.ended ≡ false =
+    grind (arith, common_steps, c.in-Ok-read.ensures, c.in-Ok-read.field-0-test) in
     let moved = c.loop-left.invariant.moved in
     let total : length moved.b ≡ c.args.limit = omega (arith, moved.holds.0) in
     record {

@@ -11,5 +11,13 @@ returns-in_err-room-clause-answer g c =
       w = [];
       taken = Consumes-nil _;
       given = Appends-nil _;
-      holds = (record { reader_failed = c.requires.reader_works; reader_ended = c.requires.reader_goes_on; writer_failed = c.requires.writer_works }, refl, refl);
+      holds = (
+        record {
+          reader_failed = c.requires.reader_works;
+          reader_ended = c.requires.reader_goes_on;
+          writer_failed = c.requires.writer_works;
+        },
+        refl,
+        refl,
+      );
     })

@@ -8,10 +8,12 @@ use Rattle.vt_syntax.proofs.content.content_end.Goals as goal
 pub returns-then-stops-ne0 : goal.returns-then-stops-ne0
 returns-then-stops-ne0 c =
     let stops = c.stops_32-stops.ensures in
-    let run = run_stops goes_on c.args.piece.now c.loop-at.at 32 (omega arith) (omega arith) (omega (arith, stops)) ∙ ap (count_trailing_zeros 64) (sym stops) in
+    let run = run_stops goes_on c.args.piece.now c.loop-at.at 32 (omega arith) (omega arith) (omega (arith, stops))
+    ∙ ap (count_trailing_zeros 64) (sym stops) in
     omega (arith, run, c.loop-at.invariant.so_far)
 
 pub loop-at-preserved : goal.loop-at-preserved
 loop-at-preserved c =
-    let run = run_through goes_on c.args.piece.now c.loop-at.at 32 (omega arith) (omega (arith, c.stops_32-stops.ensures)) in
+    let run = run_through goes_on c.args.piece.now c.loop-at.at 32 (omega arith)
+    (omega (arith, c.stops_32-stops.ensures)) in
     record { within = omega arith; so_far = omega (arith, run, c.loop-at.invariant.so_far) }

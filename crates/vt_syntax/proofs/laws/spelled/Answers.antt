@@ -1,6 +1,8 @@
 -- The laws are lemmas.
 use Rattle.vt_syntax.proofs.EventRanges.{are_events}
-use Rattle.vt_syntax.proofs.EventSpelling.{event_events, event_held, events_events, events_held, all_events, all_held, plain_events, plain_held, all_plain, all_plain_held, escape_events, escape_held}
+use Rattle.vt_syntax.proofs.EventSpelling.{event_events, event_held, events_events, events_held, all_events, all_held}
+use Rattle.vt_syntax.proofs.EventSpelling.{plain_events, plain_held, all_plain, all_plain_held, escape_events}
+use Rattle.vt_syntax.proofs.EventSpelling.{escape_held}
 use Rattle.vt_syntax.proofs.Cutting.{single_events, single_held}
 use Rattle.vt_syntax.proofs.laws.spelled.Goals as goal
 

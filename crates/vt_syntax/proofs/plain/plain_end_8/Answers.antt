@@ -8,10 +8,12 @@ use Rattle.vt_syntax.proofs.plain.plain_end_8.Goals as goal
 pub returns-then-stops-ne0 : goal.returns-then-stops-ne0
 returns-then-stops-ne0 c =
     let stops = c.stops_8-stops.ensures in
-    let run = run_stops is_plain c.args.piece.now c.args.at 8 (omega arith) (omega arith) (omega (arith, stops)) ∙ ap (count_trailing_zeros 64) (sym stops) in
+    let run = run_stops is_plain c.args.piece.now c.args.at 8 (omega arith) (omega arith) (omega (arith, stops))
+    ∙ ap (count_trailing_zeros 64) (sym stops) in
     omega (arith, run)
 
 pub returns : goal.returns
 returns c =
-    let run = run_through is_plain c.args.piece.now c.args.at 8 (omega arith) (omega (arith, c.stops_8-stops.ensures)) in
+    let run = run_through is_plain c.args.piece.now c.args.at 8 (omega arith) (omega (arith, c.stops_8-stops.ensures))
+    in
     omega (arith, run)

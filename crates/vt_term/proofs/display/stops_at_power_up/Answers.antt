@@ -6,10 +6,13 @@ use Rattle.vt_term.proofs.display.stops_at_power_up.Goals as goal
 
 pub loop-col-preserved : goal.loop-col-preserved
 loop-col-preserved c = record {
-  done = one_more_stop is_stop_at_power_up c.loop-col.stops c.loop-col.col c.has_stop_at_power_up.result (omega arith) (omega (arith, c.loop-col.invariant.long)) c.has_stop_at_power_up.ensures c.loop-col.invariant.done;
+  done = one_more_stop is_stop_at_power_up c.loop-col.stops c.loop-col.col c.has_stop_at_power_up.result (omega arith)
+      (omega (arith, c.loop-col.invariant.long)) c.has_stop_at_power_up.ensures c.loop-col.invariant.done;
   long = length-set c.loop-col.stops (c.loop-col.col - 1) c.has_stop_at_power_up.result ∙ c.loop-col.invariant.long;
 }
 
 pub returns : goal.returns
 unfolding stops_at_power_up
-returns c = stops-same is_stop_at_power_up c.loop-col.stops c.loop-col.invariant.long (λ k h. c.loop-col.invariant.done k (omega arith))
+returns c =
+    stops-same is_stop_at_power_up c.loop-col.stops c.loop-col.invariant.long
+    (λ k h. c.loop-col.invariant.done k (omega arith))

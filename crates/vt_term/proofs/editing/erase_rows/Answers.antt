@@ -8,7 +8,8 @@ pub loop-row-init : goal.loop-row-init
 loop-row-init c =
     let g : Grid = c.args.screen.now in record {
       grid = sym (c.areas.ensures.none g c.args.selective c.width-width.ensures.grid)
-          ∙ c.areas.ensures.same g (λ r c. false) (rows_between c.args.first c.args.first) c.args.selective (λ r c r1 r24 c1 cw. no-rows _ r c);
+          ∙ c.areas.ensures.same g (λ r c. false) (rows_between c.args.first c.args.first) c.args.selective
+          (λ r c r1 r24 c1 cw. no-rows _ r c);
       sound = c.width-width.ensures.sound;
     }
 
@@ -19,9 +20,11 @@ loop-row-preserved c =
     let width = c.width-width.ensures.width in
     record {
       grid = c.erase.ensures.grid
-          ∙ ap (λ (h : Grid). erase_area h (columns_of c.loop-row.row 1 c.width-width.result) c.args.selective) c.loop-row.invariant.grid
+          ∙ ap (λ (h : Grid). erase_area h (columns_of c.loop-row.row 1 c.width-width.result) c.args.selective)
+          c.loop-row.invariant.grid
           ∙ c.areas.ensures.both g before (columns_of c.loop-row.row 1 c.width-width.result) c.args.selective
           ∙ c.areas.ensures.same g _ (rows_between c.args.first (c.loop-row.row + 1)) c.args.selective
-          (λ r k r1 r24 k1 kw. one-more-row c.args.first c.loop-row.row c.width-width.result r k c.loop-row.auto.row k1 (omega (arith, width)));
+          (λ r k r1 r24 k1 kw. one-more-row c.args.first c.loop-row.row c.width-width.result r k c.loop-row.auto.row k1
+          (omega (arith, width)));
       sound = c.erase.ensures.sound;
     }

@@ -7,7 +7,8 @@ use Rattle.vt_term.proofs.graphics.graphic_end.Goals as goal
 pub returns-then-stops-ne0 : goal.returns-then-stops-ne0
 returns-then-stops-ne0 c =
     let stops = c.stops_16-stops.ensures in
-    let run = run_stops c.args.piece.now c.loop-at.at 16 (omega arith) (omega arith) (omega (arith, stops)) ∙ ap (count_trailing_zeros 64) (sym stops) in
+    let run = run_stops c.args.piece.now c.loop-at.at 16 (omega arith) (omega arith) (omega (arith, stops))
+    ∙ ap (count_trailing_zeros 64) (sym stops) in
     omega (arith, run, c.loop-at.invariant.so_far)
 
 pub loop-at-preserved : goal.loop-at-preserved

@@ -9,4 +9,5 @@ returns-clause-none c = play-nothing c.one_split.ensures.events_nil c.one_split.
 
 pub returns-clause-all : goal.returns-clause-all
 returns-clause-all c =
-    play_all-joined c.one_split.ensures.events_append c.one_split.ensures.held_append c.one_split.ensures.events_nil c.one_split.ensures.held_nil c.soundness.ensures.play
+    play_all-joined c.one_split.ensures.events_append c.one_split.ensures.held_append c.one_split.ensures.events_nil
+    c.one_split.ensures.held_nil c.soundness.ensures.play

@@ -14,7 +14,8 @@ loop-cell-preserved c =
       shown = c.push_glyph.ensures.items
           ∙ ap (λ (t : List ℕ). t ++ encode_utf8 c.cell-item.result.glyph) c.loop-cell.invariant.shown
           ∙ append_assoc c.args.out.now.items shown (encode_utf8 c.cell-item.result.glyph)
-          ∙ ap (λ (t : List ℕ). c.args.out.now.items ++ t) (ap (λ (cell : Cell). shown ++ encode_utf8 cell.glyph) c.cell-item.is ∙ sym more);
+          ∙ ap (λ (t : List ℕ). c.args.out.now.items ++ t)
+          (ap (λ (cell : Cell). shown ++ encode_utf8 cell.glyph) c.cell-item.is ∙ sym more);
       bounded = omega arith;
       capacity = omega arith;
     }

@@ -10,14 +10,17 @@ loop-at-preserved c =
     let part = ap (λ xs. take c.min-count.result (drop (c.args.start + c.loop-at.at) xs)) c.loop-at.invariant.items in
     let first = c.loop-at.invariant.silent in
     let second = rw part at c.play_chunk.ensures.silent in
-    let more = silent_more two c.args.shown.now c.loop-at.shown items c.args.start c.loop-at.at c.min-count.result c.loop-at.invariant.state in
+    let more = silent_more two c.args.shown.now c.loop-at.shown items c.args.start c.loop-at.at c.min-count.result
+    c.loop-at.invariant.state in
     record {
       within = omega arith;
       items = c.play_chunk.ensures.items ∙ c.loop-at.invariant.items;
       capacity = omega arith;
-      state = state_more two c.args.shown.now c.loop-at.shown c.play_chunk.new.shown items c.args.start c.loop-at.at c.min-count.result c.loop-at.invariant.state (rw part at c.play_chunk.ensures.state);
+      state = state_more two c.args.shown.now c.loop-at.shown c.play_chunk.new.shown items c.args.start c.loop-at.at
+          c.min-count.result c.loop-at.invariant.state (rw part at c.play_chunk.ensures.state);
       silent = λ h. elim c.if-play_chunk.branch [
-        | then-play_chunk w ↦ more (first (search (rules, h, w.silent-is))) (second (search (rules, w.if-play_chunk.true)))
+        | then-play_chunk w ↦ more (first (search (rules, h, w.silent-is)))
+            (second (search (rules, w.if-play_chunk.true)))
         | else-play_chunk w ↦ search (rules, h, w.silent-is)
       ];
     }

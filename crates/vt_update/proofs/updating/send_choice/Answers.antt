@@ -12,5 +12,6 @@ returns-then-same_state-clause-leads c =
       sent = sent;
       appended = c.play_back.ensures.items ∙ search (rules, c.push_choice.ensures.items, c.len-start.ensures);
       leads = c.leading.ensures.played c.args.shown.now c.args.to.now sent c.requires.sound
-          (played_silently c.args.shown.now c.args.to.now c.play_back.new.shown sent c.play_back.ensures.state silent same);
+          (played_silently c.args.shown.now c.args.to.now c.play_back.new.shown sent c.play_back.ensures.state silent
+          same);
     }

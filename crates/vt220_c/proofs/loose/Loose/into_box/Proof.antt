@@ -6,7 +6,8 @@ use mir.MapTy.{inst_fn}
 use base.Logic.{SProp, ent, id⊢}
 use base.Fml.{ftrue, flft}
 use prog.Wp.{WpFn}
-use types.Kit.{‵, raw, ◌⊛◌, some, later, at_ret, ◌$◌, ◌∵◌, !, qed, by, move, keep, drop, split, split3, join, fsplit, fjoin, pick, suffices, use1, await, rewrite, feq_i}
+use types.Kit.{‵, raw, ◌⊛◌, some, later, at_ret, ◌$◌, ◌∵◌, !, qed, by, move, keep, drop, split, split3, join, fsplit}
+use types.Kit.{fjoin, pick, suffices, use1, await, rewrite, feq_i}
 use types.Run.{stop, fld, of_opd, no_more, and_then, first, blocks, exec, returns, enter}
 use types.ByLocal.{alloc_all, pass_all, free_all, look_at, get, get_in, sets, lands_last, env}
 use types.Part.{sub, whole}
@@ -41,17 +42,20 @@ pub into_box_spec : {M : Type 1} → statement M
 into_box_spec 𝓤 𝓛 𝓜 𝓡 wired T A LT LA g methods drop_value drops allocator glue glued =
     let H = 𝓛.H in let 𝓣 = tables 𝓤 H 𝓜 𝓡 𝓡.env in
     let R : RattleType = param 0 T in let Z : RattleType = param 1 A in let LZ = param_laws 1 A LA in
-    let E : box.Bx = record { row = T; laws = LT; al = record { row = A; laws = LA; g = g; d = methods; drops = drops } } in
+    let E : box.Bx =
+    record { row = T; laws = LT; al = record { row = A; laws = LA; g = g; d = methods; drops = drops } } in
     let B : RattleType = box.B E in let L : RattleType = LooseOf R Z LZ g in
     let at : Args = bounded (a_type ∷ a_type ∷ []) (T, (A, tt)) (dcons methods (dcons drop_value (dcons drops dnil))) in
     let fn = inst_fn at code.function in let ended = f.ended T A g methods drop_value drops in
     let c = f.clauses T A g methods drop_value drops 𝓛 𝓜.mem 𝓡.returns in
-    let callee = triple_of 𝓛 (from_raw.signature T A g methods drops) (from_raw.spec T A g methods drops 𝓛 𝓜.mem 𝓡.returns) in
+    let callee =
+    triple_of 𝓛 (from_raw.signature T A g methods drops) (from_raw.spec T A g methods drops 𝓛 𝓜.mem 𝓡.returns) in
     let stayed : Stays ended.signature.params ended.kept = (stay_dropped (plain (λ _. L)) no, tt) in
     proved_at 𝓛 ended stayed c 𝓜 𝓡 (Goes-blank 𝓛 2 (plain (λ _. L)) no (λ κs x w. tt), tt)
     (f.Key.name at) fn (code.unfolded 𝓤 H 𝓜 𝓡 wired (T, (A, tt)) methods drop_value drops) (λ z are.
     let κs = z.0.0 in let qs = z.0.1 in let self = z.0.3.0 in let a = self.alloc in
-    let Post : Val → SProp 𝓤 = (walk_of 𝓛 ended stayed c).post z in let Run : List Val → SProp 𝓤 = λ ws. WpFn 𝓤 H 𝓣.C 𝓣.Λ fn ws Post in
+    let Post : Val → SProp 𝓤 = (walk_of 𝓛 ended stayed c).post z in let Run : List Val → SProp 𝓤 =
+    λ ws. WpFn 𝓤 H 𝓣.C 𝓣.Λ fn ws Post in
     let lives = ‵ (flft κs.0 qs.0) ⊛ ‵ (flft κs.1.0 qs.1.0) ⊛ ‵ ftrue in
     let bounds = raw (fact 𝓤 (κs.0 ⊑ T.lives)) ⊛ raw (fact 𝓤 (κs.1.0 ⊑ A.lives)) ⊛ ‵ ftrue in
     qed 𝓛 ((lives ⊛ ‵ (owns (types_at ended.signature.params κs) z.0.3 z.0.4)) ∷ raw ((c κs z.0.3).requires z.1) ∷ []) ∵
@@ -59,11 +63,15 @@ into_box_spec 𝓤 𝓛 𝓜 𝓡 wired T A LT LA g methods drop_value drops all
     -- [the block; the handle; nothing; the tokens; the bounds]
     let word : Val = both (vptr b o) h in let good = loose_good R Z LZ g b o h ok in
     let y : callee.Ghost = ((κs, qs, tt, (a, (block_ptr b o, tt)), (h ∷ [], (vptr b o ∷ [], tt))), self.value) in
-    move ! (4 ∷ []) $ use1 𝓛 bounds (id⊢ 𝓤 _) $ split3 ! $ move ! (2 ∷ []) $ drop ! $ move ! (1 ∷ 2 ∷ []) $ join ! $ move ! (1 ∷ 0 ∷ []) $ join ! $
-    move ! (2 ∷ []) $ feq_i ! (List Val) (vptr b o ∷ []) _ refl $ fjoin ! $ move ! (2 ∷ 0 ∷ []) $ fjoin ! $ move ! (2 ∷ 0 ∷ []) $ join ! $ join ! $
+    move ! (4 ∷ []) $ use1 𝓛 bounds (id⊢ 𝓤 _) $ split3 ! $ move ! (2 ∷ []) $ drop ! $ move ! (1 ∷ 2 ∷ []) $ join ! $
+    move ! (1 ∷ 0 ∷ []) $ join ! $
+    move ! (2 ∷ []) $ feq_i ! (List Val) (vptr b o ∷ []) _ refl $ fjoin ! $ move ! (2 ∷ 0 ∷ []) $ fjoin ! $
+    move ! (2 ∷ 0 ∷ []) $ join ! $ join ! $
     -- [what `from_raw` asks for]
     use1 𝓛 (raw (callee.pre y)) (id⊢ 𝓤 _) $
-    suffices ! (Run (word ∷ [])) (subst (λ (ws : List Val). ent 𝓤 (Run (word ∷ [])) (Run ws)) (sym (ap (λ (ws : List Val). ws ++ []) words)) (id⊢ 𝓤 _)) $
+    suffices ! (Run (word ∷ []))
+    (subst (λ (ws : List Val). ent 𝓤 (Run (word ∷ [])) (Run ws)) (sym (ap (λ (ws : List Val). ws ++ []) words))
+    (id⊢ 𝓤 _)) $
     enter ! 𝓣.C 𝓣.Λ fn (word ∷ []) Post $ alloc_all ! (λ l. pass_all ! refl (good, tt) $
     sets ! (of_opd ! (get_in ! (fld ! refl (stop !)) (sub ! 0 refl (whole !)))) refl (tt, tt) $
     sets ! (of_opd ! (get_in ! (fld ! refl (stop !)) (sub ! 1 refl (whole !)))) refl ok $
@@ -72,7 +80,8 @@ into_box_spec 𝓤 𝓛 𝓜 𝓡 wired T A LT LA g methods drop_value drops all
     (met 𝓤 𝓛 𝓜 𝓡 (code.calls-std_alloc::boxed::Box::from_raw 𝓡.env wired) T A LT LA g methods drops allocator glued) y
     (and_then ! (get ! refl) (and_then ! (get ! refl) (no_more !))) (λ u.
     use1 𝓛 (later (some (λ (r : B.Denot). (lives ⊛ ‵ (B.own_val r (u ∷ []))) ⊛
-    some (λ (ls : Lasts (from_raw.ended T A g methods drops) κs y.0.3). ‵ (lasts (from_raw.ended T A g methods drops) κs y.0.3 ls) ⊛
+    some (λ (ls : Lasts (from_raw.ended T A g methods drops) κs y.0.3). ‵
+    (lasts (from_raw.ended T A g methods drops) κs y.0.3 ls) ⊛
     (raw (fact 𝓤 (r.value ≡ self.value)) ⊛ raw (fact 𝓤 (r.alloc ≡ a))))))) (id⊢ 𝓤 _) $
     await ! tt $ pick ! (λ r. split ! $ move ! (1 ∷ []) $ pick ! (λ _. split3 ! $ drop ! $
     -- [the value is the same; the handle is the same; the tokens with the box]

@@ -9,7 +9,8 @@ use Rattle.vt_syntax.proofs.parser.Parser.next.Goals as goal
 
 pub invariant_of-self : goal.invariant_of-self
 invariant_of-self c =
-    rw (← ap (λ (t : Step). t.held) c.next_event.ensures.reads) (steps_is_held c.self.inside.held (take c.next_event.result.bytes c.args.piece.now) c.self.invariant)
+    rw (← ap (λ (t : Step). t.held) c.next_event.ensures.reads)
+    (steps_is_held c.self.inside.held (take c.next_event.result.bytes c.args.piece.now) c.self.invariant)
 
 pub returns-clause-event : goal.returns-clause-event
 returns-clause-event c =

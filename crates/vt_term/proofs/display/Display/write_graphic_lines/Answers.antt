@@ -14,12 +14,18 @@ loop-at-preserved c =
     let more : c.loop-at.at < c.min-end.result = omega (arith, c.min-end.ensures, c.room.ensures.some) in
     let fits : (after_wrap before).cursor.col + (c.min-end.result - c.loop-at.at) ≤ (after_wrap before).grid.width + 1 =
     rw (← c.carry_out_wrap.ensures) (omega (arith, c.min-end.ensures, c.room.ensures.room)) in
-    let read : c.put_graphics.new.self ≡ with_run (map shown line) c.carry_out_wrap.new.self = c.put_graphics.ensures ∙ ap (λ (t : InUseTable). with_run (map (glyph_in_use t) line) c.carry_out_wrap.new.self) c.requires.table in
+    let read : c.put_graphics.new.self ≡ with_run (map shown line) c.carry_out_wrap.new.self =
+    c.put_graphics.ensures
+    ∙ ap (λ (t : InUseTable). with_run (map (glyph_in_use t) line) c.carry_out_wrap.new.self) c.requires.table in
     record {
       within = omega (arith, c.min-end.ensures);
       written = read
           ∙ ap (λ (d : Display). with_run (map shown line) d) c.carry_out_wrap.ensures
-          ∙ line-of-run c.runs.ensures HasGlyph shown c.args.run.now c.loop-at.at c.min-end.result c.args.self.now before
-          c.requires.graphic more (omega (arith, c.min-end.ensures)) c.loop-at.invariant.written c.loop-at.invariant.writes fits;
-      writes = rw (read, c.carry_out_wrap.ensures) (with_run-writes HasGlyph shown (map shown line) (after_wrap before) (after_wrap-writes HasGlyph shown before c.loop-at.invariant.writes));
+          ∙ line-of-run c.runs.ensures HasGlyph shown c.args.run.now c.loop-at.at c.min-end.result c.args.self.now
+          before
+          c.requires.graphic more (omega (arith, c.min-end.ensures)) c.loop-at.invariant.written
+          c.loop-at.invariant.writes fits;
+      writes = rw (read, c.carry_out_wrap.ensures)
+          (with_run-writes HasGlyph shown (map shown line) (after_wrap before)
+          (after_wrap-writes HasGlyph shown before c.loop-at.invariant.writes));
     }

@@ -19,7 +19,11 @@ loop-at-preserved c =
       written = c.put_run.ensures
           ∙ ap (λ (d : Display). with_run line d) c.carry_out_wrap.ensures
           ∙ ap (λ (glyphs : List ℕ). with_run glyphs (after_wrap before)) (sym (map-id line))
-          ∙ line-of-run c.runs.ensures IsPlain (λ b. b) c.args.run.now c.loop-at.at c.min-end.result c.args.self.now before
-          c.requires.plain more (omega (arith, c.min-end.ensures)) c.loop-at.invariant.written c.loop-at.invariant.writes fits;
-      writes = rw (c.put_run.ensures, c.carry_out_wrap.ensures) (with_run-writes IsPlain (λ b. b) line (after_wrap before) (after_wrap-writes IsPlain (λ b. b) before c.loop-at.invariant.writes));
+          ∙ line-of-run c.runs.ensures IsPlain (λ b. b) c.args.run.now c.loop-at.at c.min-end.result c.args.self.now
+          before
+          c.requires.plain more (omega (arith, c.min-end.ensures)) c.loop-at.invariant.written
+          c.loop-at.invariant.writes fits;
+      writes = rw (c.put_run.ensures, c.carry_out_wrap.ensures)
+          (with_run-writes IsPlain (λ b. b) line (after_wrap before)
+          (after_wrap-writes IsPlain (λ b. b) before c.loop-at.invariant.writes));
     }

@@ -10,7 +10,8 @@ returns-in-Some-front_escape-clause-reports c =
 
 pub returns-in-Some-front_short_escape-clause-state : goal.returns-in-Some-front_short_escape-clause-state
 returns-in-Some-front_short_escape-clause-state c =
-    c.feed_front_event-in-Some-front_short_escape.ensures.state c.args.piece.now 2 c.in-Some-front_short_escape.ensures.front
+    c.feed_front_event-in-Some-front_short_escape.ensures.state c.args.piece.now 2
+    c.in-Some-front_short_escape.ensures.front
 
 pub returns-in-Some-front_short_escape-clause-reports : goal.returns-in-Some-front_short_escape-clause-reports
 returns-in-Some-front_short_escape-clause-reports c =

@@ -18,11 +18,19 @@ write_graphics-requires-clause-writes c =
 pub returns-clause-state : goal.returns-clause-state
 returns-clause-state c =
     let between = ap (λ (s : State). s.held) c.self.view_is ∙ c.requires.between in
-    let events = sym (graphic-events c.spelled.ensures c.args.run.now c.requires.graphic) ∙ ap (λ (h : Held). events_from h c.args.run.now) (sym between) in
-    let held = between ∙ sym (graphic-held c.spelled.ensures c.args.run.now c.requires.graphic) ∙ ap (λ (h : Held). held_from h c.args.run.now) (sym between) in
-    rw (← c.self.view_is) (play-state _ c.args.run.now (map Print c.args.run.now) c.write_graphics.new.self c.self.inside.parser events c.write_graphics.ensures held)
+    let events =
+    sym (graphic-events c.spelled.ensures c.args.run.now c.requires.graphic)
+    ∙ ap (λ (h : Held). events_from h c.args.run.now) (sym between) in
+    let held = between ∙ sym (graphic-held c.spelled.ensures c.args.run.now c.requires.graphic)
+    ∙ ap (λ (h : Held). held_from h c.args.run.now) (sym between) in
+    rw (← c.self.view_is)
+    (play-state _ c.args.run.now (map Print c.args.run.now) c.write_graphics.new.self c.self.inside.parser events
+    c.write_graphics.ensures held)
 
 pub returns-clause-reports : goal.returns-clause-reports
 returns-clause-reports c =
-    let events = sym (graphic-events c.spelled.ensures c.args.run.now c.requires.graphic) ∙ ap (λ (h : Held). events_from h c.args.run.now) (sym c.requires.between) in
-    sym (play-reports c.args.self.now c.args.run.now (map Print c.args.run.now) events) ∙ prints-report c.args.run.now c.args.self.now.display
+    let events =
+    sym (graphic-events c.spelled.ensures c.args.run.now c.requires.graphic)
+    ∙ ap (λ (h : Held). events_from h c.args.run.now) (sym c.requires.between) in
+    sym (play-reports c.args.self.now c.args.run.now (map Print c.args.run.now) events)
+    ∙ prints-report c.args.run.now c.args.self.now.display

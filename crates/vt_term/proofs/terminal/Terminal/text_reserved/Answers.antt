@@ -18,7 +18,8 @@ loop-row-preserved c =
     let next : row + 1 - 1 ≡ row - 1 + 1 = omega arith in
     let here : row - 1 + 1 ≡ row = omega arith in
     let more : lines_text (row + 1 - 1) grid ≡ lines_text (row - 1) grid ++ line_text c.row.result.now =
-    rw (next, c.row.ensures.cells) (lines_text-more (row - 1) grid ∙ ap (λ r. lines_text (row - 1) grid ++ line_text (row_of grid r)) here) in
+    rw (next, c.row.ensures.cells) (lines_text-more (row - 1) grid
+    ∙ ap (λ r. lines_text (row - 1) grid ++ line_text (row_of grid r)) here) in
     record {
       items = c.push_line.ensures.items
           ∙ ap (λ (t : List ℕ). t ++ line_text c.row.result.now) c.loop-row.invariant.items

@@ -14,7 +14,7 @@ ghost use Rattle.vt_paint.specs.HeaderParts.{brush_number};
 
 use crate::line::{LINE, put_glyph, put_header};
 use crate::room::{push_bytes, push_where};
-use crate::tables::brush_number;
+use crate::tables::cell_brush_number;
 use vt_glyph::Glyph;
 use vt_screen::Cell;
 use vt_screen::laws::rows;
@@ -38,7 +38,7 @@ pub(crate) fn row_cell(t: &Terminal, row: usize, col: usize) -> &Cell
 fn is_blank(cell: &Cell) -> bool
     ensures { result ≡ is_blank_cell cell.now }
 {
-    cell.glyph == Glyph::blank() && brush_number(cell.brush()) == 0
+    cell.glyph == Glyph::blank() && cell_brush_number(cell) == 0
 }
 
 /// Whether a cell isn't blank and is written with the brush of this number.
@@ -47,7 +47,7 @@ fn goes_on(number: u64, cell: &Cell) -> bool
     ensures { (brush : Brush) → number ≡ brush_number brush
         → result ≡ (same_brush brush (brush_of cell.now) && not (is_blank_cell cell.now)) }
 {
-    brush_number(cell.brush()) == number && !(number == 0 && cell.glyph == Glyph::blank())
+    cell_brush_number(cell) == number && !(number == 0 && cell.glyph == Glyph::blank())
 }
 
 /// The pieces of a row by runs: blank cells are passed over, and the cells of one brush are written behind one header.
@@ -64,7 +64,7 @@ fn put_row(row: usize, cells: &[Cell], line: &mut [u8; LINE]) -> usize
         let first = &cells[i];
         i += 1;
         if !is_blank(first) {
-            let number = brush_number(first.brush());
+            let number = cell_brush_number(first);
             at = put_header(row, i, first.brush(), at, line);
             at = put_glyph(first.glyph, at, line);
             while i < cells.len() && goes_on(number, &cells[i]) {

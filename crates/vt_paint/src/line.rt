@@ -103,6 +103,11 @@ pub(crate) fn put_glyph(glyph: Glyph, at: usize, line: &mut [u8; LINE]) -> usize
     ensures items { take result line.new ≡ take at line.old ++ spell_events (spelling_events (spelling_of glyph)) }
     ensures bounded { result ≤ at + 3 }
 {
+    // Most glyphs are plain, and as a byte by itself the code is tested at once.
+    let code = glyph.code() as u8;
+    if 0x20 <= code && code <= 0x7E {
+        return put(code, at, line);
+    }
     match glyph.spelling() {
         Spelling::Plain(code) => put(code, at, line),
         Spelling::Second(code) => put_shifted(b'N', code, at, line),

@@ -92,8 +92,7 @@ pub fn repaint(t: &Terminal, out: &mut Vec<u8>) -> Result<(), PaintError>
 }
 
 /// Appends the repaint of a terminal between sequences to `out`, which has the room: `PAINT_LIMIT` bytes. It never
-/// fails
-/// and takes no memory.
+/// fails and takes no memory.
 pub fn repaint_reserved(t: &Terminal, out: &mut Vec<u8>)
     requires between { t.now.held ≡ Nothing }
     requires room { vec_len out.old + PAINT_LIMIT ≤ vec_capacity out.old }

@@ -1,9 +1,10 @@
 //! The parts of a header, spelled: the place of a row, a column, and a brush. Each entry of a table is filled up with
 //! spaces, so that it is copied whole.
 ghost use Rattle.std.specs.Prelude.{◌≡◌, ◌≤◌, ◌<◌, take, length};
+ghost use Rattle.vt_screen.specs.Cells.{brush_of};
 ghost use Rattle.vt_paint.specs.HeaderParts.{row_part, column_part, brush_part, brush_number, brush_index};
 
-use vt_screen::Brush;
+use vt_screen::{Brush, Cell, Rendition};
 
 /// The bytes of an entry of each table.
 const ROW_LEN: usize = 8;
@@ -69,17 +70,25 @@ pub(crate) fn column_part(col: usize) -> (&'static [u8], usize)
     (&COLUMNS[from..from + COLUMN_LEN], len)
 }
 
-/// The attributes and the protection as a number, in a byte each. The compiler reads them at once.
+/// The attributes and the protection as a number, in a byte each. The compiler reads them at once, where they are those of the
+/// cell itself; of a copy it makes vectors.
 #[inline(always)]
-pub(crate) fn brush_number(brush: Brush) -> u64
-    ensures { result ≡ brush_number brush }
+fn brush_number(rendition: &Rendition, protected: bool) -> u64
+    ensures { result ≡ brush_number (record { rendition = rendition.now; protected = protected }) }
 {
-    let attributes = brush.rendition;
-    attributes.bold as u64
-        + 0x100 * attributes.underline as u64
-        + 0x1_0000 * attributes.blink as u64
-        + 0x100_0000 * attributes.reverse as u64
-        + 0x1_0000_0000 * brush.protected as u64
+    rendition.bold as u64
+        + 0x100 * rendition.underline as u64
+        + 0x1_0000 * rendition.blink as u64
+        + 0x100_0000 * rendition.reverse as u64
+        + 0x1_0000_0000 * protected as u64
+}
+
+/// That number for a cell.
+#[inline(always)]
+pub(crate) fn cell_brush_number(cell: &Cell) -> u64
+    ensures { result ≡ brush_number (brush_of cell.now) }
+{
+    brush_number(&cell.rendition, cell.protected)
 }
 
 /// The place of a brush in its table.
@@ -89,7 +98,8 @@ fn index_of(brush: Brush) -> usize
     ensures below { result < 32 }
 {
     // Each byte of the number comes to a bit of its own, from bit 32 on.
-    (brush_number(brush).wrapping_mul(0x01_0204_0810) >> 32 & 0x1F) as usize
+    (brush_number(&brush.rendition, brush.protected).wrapping_mul(0x01_0204_0810) >> 32
+        & 0x1F) as usize
 }
 
 /// SGR behind its 0, and DECSCA, and their length.

@@ -49,12 +49,11 @@ loop-i-then-not-is_blank-init c =
     let shown : is_blank cell ≡ false = sym c.is_blank.ensures ∙ c.if-not-is_blank.true in
     record {
       items = λ g e. first_written g r i cell _ _ _ _ (cell_is g e) (c.loop-i.invariant.fresh g e (omega arith)) shown
-          c.brush-then-not-is_blank.ensures
+          c.brush.ensures
           (c.loop-i.invariant.items g e) c.put_header-at.ensures.items c.put_glyph-at.ensures.items;
       left = λ g e. (
         ap (λ x. is_blank x) (sym (cell_is g e)) ∙ shown,
-        c.brush_number-number.ensures ∙ ap (λ b. brush_number b) c.brush.ensures
-            ∙ ap (λ x. brush_number (brush_of x)) (cell_is g e),
+        c.cell_brush_number-number.ensures ∙ ap (λ x. brush_number (brush_of x)) (cell_is g e),
       );
       on = (omega arith, omega arith);
       within = omega arith;

@@ -1,10 +1,8 @@
 //! Plays a recording from standard input a frame at a time, as a server would: after each frame that ends between
-//! sequences,
-//! one client is sent an update and another a repaint. Prints how many bytes each was sent.
+//! sequences, one client is sent an update and another a repaint. Prints how many bytes each was sent.
 //!
 //! `frames N [--time]`: frames of N bytes. With `--time` also how long an update and a repaint took, on the average of
-//! the
-//! quickest round of many.
+//! the quickest round of many.
 #![tactic(auto)]
 
 ghost use Rattle.std.specs.Prelude.{◌≤◌};

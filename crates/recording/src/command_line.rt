@@ -177,9 +177,8 @@ fn settings_of(alloc: Global, matches: &ArgMatches<'_>) -> Result<Option<Setting
 ///
 /// The words are those of clap's command `recording`: `--format script` or `--format ttyrec`, with ttyrec `--until
 /// SECONDS`, of up to nine digits and, after a point, up to six decimals, and at most one FILE. `Err` is what to end
-/// with
-/// where there are no settings: the help that was asked for (status 0), want of memory (1), or what is wrong
-/// with the words (2). (this profile)
+/// with where there are no settings: the help that was asked for (status 0), want of memory (1), or what is wrong with
+/// the words (2). (this profile)
 pub(crate) fn settings(alloc: Global, words: Vec<String>) -> Result<Settings, Refused>
     ensures ok { IfOk result (AreSettings (found_in words.items)) }
     ensures no_fault { IfOk result (λ _. faults_in words.items ≡ []) }

@@ -40,9 +40,8 @@ fn words<R: Env + AllocGlobal + Eprint>(rt: &R) -> Result<Vec<String>, ExitCode>
 }
 
 /// Says why the words ask for no replay, and ends the program with the status that they were refused with: with the
-/// help
-/// or the version, for want of memory, or for a fault of theirs. What was asked for and can't be printed is a failed
-/// write.
+/// help or the version, for want of memory, or for a fault of theirs. What was asked for and can't be printed is a
+/// failed write.
 fn refused_by(rt: &(impl Print + Eprint), refused: &Refused) -> ExitCode
     ensures { (exit_status result ≡ refused.now.status)
         ⊎ ((refused.now.status ≡ 0) × (exit_status result ≡ status_of Fault.Write)) }

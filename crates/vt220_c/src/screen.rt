@@ -90,8 +90,7 @@ pub extern "C" fn vt220_repaint(
 }
 
 /// Writes bytes that lead from the terminal that is shown to the one that is to be, and brings the first there. Both
-/// are
-/// between sequences, and `out` has room for the longest update. `shown` and `to` are two handles, and not one.
+/// are between sequences, and `out` has room for the longest update. `shown` and `to` are two handles, and not one.
 #[unsafe(no_mangle)]
 pub extern "C" fn vt220_update(
     shown: &mut Vt220,

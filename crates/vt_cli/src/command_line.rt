@@ -288,9 +288,8 @@ fn settings_of(
 ///
 /// The words are those of clap's command `vt220`: one of the six subcommands `text`, `reports`, `repaint`, `status`,
 /// `show` and `picture`, each with `--piece N` (1 to 65536, else 4096), `--limit N` (0 to 1099511627776, else
-/// 268435456) and at
-/// most one FILE. `Err` is what to end with where there are no settings: the help or the version that was asked for
-/// (status 0), want of memory (1), or what is wrong with the words (2). (this profile)
+/// 268435456) and at most one FILE. `Err` is what to end with where there are no settings: the help or the version that
+/// was asked for (status 0), want of memory (1), or what is wrong with the words (2). (this profile)
 pub fn settings(alloc: Global, words: Vec<String>) -> Result<Settings, Refused>
     ensures ok { IfOk result (AreSettings (found_in words.items)) }
     ensures no_fault { IfOk result (λ _. faults_in words.items ≡ []) }

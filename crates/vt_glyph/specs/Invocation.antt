@@ -1,6 +1,5 @@
--- Designations, shifts, and reading a graphic byte through the sets.
--- (VT220 manual, chapter 4: SCS, the locking shifts and the single shifts. The sets at power-up are this project's
--- choice.)
+-- Designations, shifts, and reading a graphic byte through the sets. (VT220 manual, chapter 4: SCS, the locking shifts
+-- and the single shifts. The sets at power-up are this project's choice.)
 use Rattle.std.specs.Prelude.{ℕ, ◌%◌, ◌≤◌, ◌⊎◌, List, [], ◌∷◌, Bool, Option, Some, None, ◌==◌, ◌&&◌, ◌||◌, not, nat_lt}
 use Rattle.std.specs.Prelude.{if◌then◌else◌, unwrap_or, slice_index_or, slice_set}
 use Rattle.vt_glyph.specs.declared.set.Set.{Set}
@@ -56,8 +55,7 @@ unfoldable pub after_read : GraphicSets → ℕ → GraphicSets
 after_read sets b = if has_no_glyph b then sets else record sets { pending = None }
 
 -- the sets in GL and GR, which graphic bytes are read through where no single shift is pending (VT220 manual, chapter
--- 4:
--- the in-use table)
+-- 4: the in-use table)
 pub record InUseTable : Type 0 where
   pub left : Set
   pub right : Set

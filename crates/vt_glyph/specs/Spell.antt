@@ -15,8 +15,7 @@ abbrev pub code_in : Set → ℕ → Option ℕ
 code_in set n = find (λ code. glyph_of set code == n) set_codes
 
 -- an ASCII glyph is its own byte; another is its first code in Supplemental, or else its code in Special Graphics,
--- after
--- a single shift
+-- after a single shift
 unfoldable pub spelling_of : ℕ → Spelling
 spelling_of n =
     if nat_le 0x20 n && nat_le n 0x7E then Plain n

@@ -26,8 +26,7 @@ abbrev pub reset_item : List Event
 reset_item = reset_to_initial_state ∷ []
 
 -- 2. Where the stops differ from power-up they are made, on a wide screen, where each has its column; the width is left
--- as
--- it is to be. Else a wide screen is asked for, if it is to be wide.
+-- as it is to be. Else a wide screen is asked for, if it is to be wide.
 unfoldable pub stop_events : List Bool → ℕ → List Event
 stop_events stops c = where_true (has_stop_at stops c) (cursor_position 1 c ∷ set_tab ∷ [])
 
@@ -50,8 +49,7 @@ stops_item width stops =
     else made_stops (is_wide width) stops
 
 -- 3. Where the saved record differs from power-up: the cursor is brought where it was saved, a space in the last column
--- sets
--- the wrap flag, and DECSC saves; under DECOM if that was saved.
+-- sets the wrap flag, and DECSC saves; under DECOM if that was saved.
 unfoldable pub saved_events : Saved → List Event
 saved_events saved =
     where_true saved.origin (private_mode decom true ∷ [])

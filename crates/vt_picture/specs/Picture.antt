@@ -1,6 +1,5 @@
 -- The screen as a picture: an SVG document in UTF-8, a column 10 units wide and a row 18 high. (this profile; the
--- elements and
--- attributes are SVG's, the three entities XML's)
+-- elements and attributes are SVG's, the three entities XML's)
 use Rattle.std.specs.Prelude.{ℕ, suc, ◌+◌, ◌-◌, ◌*◌, List, [], ◌∷◌, ◌++◌, Bool, false, not, ◌==◌, ◌&&◌, if◌then◌else◌}
 use Rattle.std.specs.Prelude.{codes, decimal, flat_map, encode_utf8}
 use Rattle.std.specs.List.{range_with_len}
@@ -83,8 +82,7 @@ abbrev pub run_end : List ℕ
 run_end = codes "</text>" ++ line_feed
 
 -- a cell that isn't blank: it starts a run where the cell to its left doesn't go on with its attributes, and ends one
--- where the
--- cell to its right doesn't
+-- where the cell to its right doesn't
 unfoldable pub shown_cell : ℕ → ℕ → Cell → Cell → List Cell → List ℕ
 shown_cell row col left cell rest =
     where_true (not (goes_on cell.rendition left))

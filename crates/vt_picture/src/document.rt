@@ -140,8 +140,7 @@ fn push_cursor(t: &Terminal, out: &mut Vec<u8>)
 }
 
 /// Appends the screen to `out` as a picture: an SVG document in UTF-8, with the screen's text as its text alternative.
-/// A column
-/// is 10 units wide and a row 18 high, and each run of cells has its place and its length.
+/// A column is 10 units wide and a row 18 high, and each run of cells has its place and its length.
 ///
 /// `PICTURE_LIMIT` bytes of room are reserved first. `Err` where that is refused: then the contents of `out` are
 /// unchanged.
@@ -158,8 +157,7 @@ pub fn picture(t: &Terminal, out: &mut Vec<u8>) -> Result<(), AllocError>
 }
 
 /// Appends the screen to `out` as a picture, as [`picture`] does; `out` has the room: `PICTURE_LIMIT` bytes. It never
-/// fails and
-/// takes no memory.
+/// fails and takes no memory.
 #[tactic(auto, unfolding(crate::specs::Picture::picture_of))]
 pub fn picture_reserved(t: &Terminal, out: &mut Vec<u8>)
     requires { vec_len out.old + PICTURE_LIMIT ≤ vec_capacity out.old }

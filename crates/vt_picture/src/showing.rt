@@ -59,8 +59,7 @@ fn push_shown_line(cells: &[Cell], out: &mut Vec<u8>)
 }
 
 /// Appends the screen to `out` as text with its attributes, for the terminals of today: each row in UTF-8 without the
-/// blank
-/// cells at its end, SGR where the attributes change, each line closed plain, and LF.
+/// blank cells at its end, SGR where the attributes change, each line closed plain, and LF.
 ///
 /// `SHOW_LIMIT` bytes of room are reserved first. `Err` where that is refused: then the contents of `out` are
 /// unchanged.
@@ -77,8 +76,7 @@ pub fn show(t: &Terminal, out: &mut Vec<u8>) -> Result<(), AllocError>
 }
 
 /// Appends the screen to `out` as text with its attributes, as [`show`] does; `out` has the room: `SHOW_LIMIT` bytes.
-/// It
-/// never fails and takes no memory.
+/// It never fails and takes no memory.
 pub fn show_reserved(t: &Terminal, out: &mut Vec<u8>)
     requires { vec_len out.old + SHOW_LIMIT ≤ vec_capacity out.old }
     ensures items { out.new.items ≡ out.old.items ++ show t.now }

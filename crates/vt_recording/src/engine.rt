@@ -20,13 +20,11 @@ const PIECE: usize = 65536;
 /// before, and the reader hasn't ended.
 ///
 /// At most `limit` bytes are read (up to 2 to the 40th), and one more to see whether the input goes on. Nothing is
-/// written
-/// before the input has ended, no memory is taken after the first write, and no call of a device is made again after an
-/// error. Where the reader has ended, no byte that it tells of is left.
+/// written before the input has ended, no memory is taken after the first write, and no call of a device is made again
+/// after an error. Where the reader has ended, no byte that it tells of is left.
 ///
 /// `Err` is `Memory` where a growth was refused, `Read` or `Write` where that device failed, `TooLong` where the input
-/// has
-/// more than `limit` bytes, and `Broken` where the recording breaks its format, after all content before that was
+/// has more than `limit` bytes, and `Broken` where the recording breaks its format, after all content before that was
 /// written.
 pub fn run<R: Read, W: Write>(
     alloc: Global,

@@ -1,6 +1,5 @@
 //! Recordings of terminal sessions: their content, taken out of what script(1) and ttyrec write around it, from any
-//! reader to
-//! any writer.
+//! reader to any writer.
 #![tactic(auto)]
 
 mod engine;

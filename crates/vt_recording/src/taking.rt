@@ -10,8 +10,7 @@ use crate::ttyrec::{HEADER, header_of, is_due, time_of};
 use std::alloc::{AllocError, Global};
 
 /// The content of a recording, and the byte at which it breaks its format, if it does: without a first line at byte 0,
-/// else
-/// at the first piece that is cut short. What came before that is content. `Err` where memory was refused.
+/// else at the first piece that is cut short. What came before that is content. `Err` where memory was refused.
 pub fn take_apart(alloc: Global, bytes: &[u8], format: Format) -> Result<Taken, AllocError>
     ensures { IfOk result (λ t. IsTaken format bytes.now t.content.items t.broken) }
 {

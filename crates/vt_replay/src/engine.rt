@@ -31,8 +31,7 @@ use vt_term::{REPORT_LIMIT, TEXT_LIMIT, Terminal};
 ///
 /// The table of answers speaks of the bytes that the reader tells of (`remaining`) and those that the writer tells of
 /// (`contents`), as those over memory do. A file, a pipe, standard input and standard output tell none: of these it
-/// says
-/// which flags go with which answer, and that what was written is what is due for some bytes.
+/// says which flags go with which answer, and that what was written is what is due for some bytes.
 pub fn run<R: Read, W: Write>(
     alloc: Global,
     reader: &mut Watched<R>,
@@ -93,8 +92,7 @@ impl Room {
 }
 
 /// Plays the reader's bytes as the settings ask, and writes what is due: `run` by their kind, piece and limit. Their
-/// file is
-/// not looked at: the reader is what it names. Neither device has failed before, and the reader hasn't ended.
+/// file is not looked at: the reader is what it names. Neither device has failed before, and the reader hasn't ended.
 ///
 /// `Err` is what `run` answers.
 pub fn replay<R: Read, W: Write>(
@@ -183,8 +181,7 @@ fn room_for(what: What) -> usize
 }
 
 /// Appends what is due after the whole input: the text, plain or with its attributes, the picture, the repaint, the
-/// status, or
-/// nothing.
+/// status, or nothing.
 fn push_due_at_end(terminal: &Terminal, what: What, reported: u64, out: &mut Vec<u8>)
     requires room { vec_len out.old + room_for what ≤ vec_capacity out.old }
     requires there { IsThere what terminal.now }

@@ -1,6 +1,5 @@
 //! The replay engine: a reader's bytes are played on a terminal, and what is due is written to a writer. With it comes
-//! the
-//! command line that says what is to be replayed, of the crate vt_cli.
+//! the command line that says what is to be replayed, of the crate vt_cli.
 #![tactic(auto)]
 
 mod engine;

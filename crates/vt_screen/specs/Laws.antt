@@ -50,8 +50,7 @@ pub record AreaLaws : Type 0 where
       → erase_area g a selective ≡ erase_area g b selective
 
 -- a test that a blank cell and each cell of a grid pass is passed at every place; a formula's grid passes a test that
--- the
--- formula passes at every place
+-- the formula passes at every place
 pub record TestLaws : Type 0 where
   pub at : (test : Cell → Bool) (g : Grid) (r c : ℕ) → IsTrue (test blank) → AllCells test g
       → IsTrue (test (cell_at g r c))

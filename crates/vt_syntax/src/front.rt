@@ -1,6 +1,5 @@
 //! Frequent events that stand whole at the front of a piece, between sequences, each by itself: so that a caller
-//! chooses
-//! their function at once.
+//! chooses their function at once.
 ghost use Rattle.std.specs.Prelude.{◌≡◌, [], ◌∷◌, Some, None, IsSome, IfSome, IsTrue, ◌↔◌};
 ghost use Rattle.std.specs.Bool.{OnTrue};
 ghost use Rattle.vt_syntax.specs.declared.event.Event.TheVariants.{Control, Escape, Sequence};

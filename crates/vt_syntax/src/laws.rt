@@ -4,9 +4,8 @@ ghost use Rattle.vt_syntax.specs.Laws.{SplitLaw, SpellingLaw};
 /// Each byte list has exactly one split.
 ///
 /// What bytes leave is a held part. Its spelling leaves it again without an event and, whatever follows, stands for
-/// every
-/// rest that it is held of. Bytes may be cut anywhere: their events and their held part are those of the pieces, each
-/// taken after the held part that the ones before it leave.
+/// every rest that it is held of. Bytes may be cut anywhere: their events and their held part are those of the pieces,
+/// each taken after the held part that the ones before it leave.
 pub fn one_split()
     ensures { SplitLaw }
 {}

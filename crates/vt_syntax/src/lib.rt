@@ -2,10 +2,8 @@
 //!
 //! A byte list has one split into items (single bytes, escape sequences, control sequences, strings and cuts) and a
 //! rest; its events are the reading of these. [`Parser`] takes the bytes of pieces in turn and holds, in bounded room,
-//! as much
-//! of the rest as decides how it goes on; [`laws`] has what a caller may conclude of longer byte lists. Nothing here
-//! takes
-//! memory or refuses a byte.
+//! as much of the rest as decides how it goes on; [`laws`] has what a caller may conclude of longer byte lists. Nothing
+//! here takes memory or refuses a byte.
 #![tactic(auto)]
 
 mod class;

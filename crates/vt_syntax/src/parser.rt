@@ -59,8 +59,7 @@ impl Parser {
     /// answers how many bytes that is and the event. The values of a control sequence are put into `values`.
     ///
     /// [`Parser::push`] takes these bytes one by one to the same event and held part. A sequence that stands whole in
-    /// the piece
-    /// is read from it, and one that pieces cut from what is held: both come in this one form.
+    /// the piece is read from it, and one that pieces cut from what is held: both come in this one form.
     #[inline(always)]
     pub fn next(&mut self, piece: &[u8], values: &mut Values) -> Taken
         ensures some { 1 ≤ length piece.now → 1 ≤ result.bytes }

@@ -13,10 +13,8 @@ use crate::event::EventKind;
 use crate::values::Values;
 
 /// Reads the event that stands whole at the front of a piece: a byte by itself, or a sequence. Answers how many bytes
-/// it
-/// has. `None` where none stands there, and for what isn't common: more than 16 values, a value of four digits, a byte
-/// inside
-/// that has a function of its own, or the piece ends soon.
+/// it has. `None` where none stands there, and for what isn't common: more than 16 values, a value of four digits, a
+/// byte inside that has a function of its own, or the piece ends soon.
 #[inline(always)]
 pub(crate) fn whole_event(piece: &[u8], values: &mut Values) -> Option<(usize, EventKind)>
     ensures { IfSome result (λ t. IsWhole piece.now values.new t.0 t.1) }
@@ -130,8 +128,7 @@ fn marker_at(piece: &[u8], from: usize) -> (Option<u8>, usize)
 }
 
 /// Reads the values from a place on, and answers the place behind them. `None` after the 16th, and where fewer than
-/// four
-/// bytes are left.
+/// four bytes are left.
 #[inline(always)]
 pub(crate) fn read_values(
     piece: &[u8],

@@ -22,8 +22,7 @@ autowrap_mode on s = record s {
 }
 
 -- DECCOLM: 132 or 80 columns, all blank, full margins, home; the saved column keeps inside the width, and the saved
--- wrap
--- flag is dropped
+-- wrap flag is dropped
 abbrev pub column_mode : Bool → Display → Display
 column_mode wide s = home (record s {
   grid = blank_grid wide;

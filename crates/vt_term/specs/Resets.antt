@@ -16,8 +16,7 @@ abbrev pub reset_to_initial_state : Display → Display
 reset_to_initial_state s = display_at_power_up
 
 -- DECSTR. What isn't named here is left: the place, the cells, the stops, SRM, LNM, DECSCLM, DECSCNM, DECARM and the
--- form
--- of reports
+-- form of reports
 abbrev pub soft_reset : Display → Display
 soft_reset s = record s {
   cursor = record s.cursor { wrap = false };

@@ -1,6 +1,5 @@
 -- Runs of graphic bytes: when they are written at once, and what they leave. Contracts of private functions cite this,
--- and
--- no public clause does: it is proved to be what writing the bytes one after another leaves.
+-- and no public clause does: it is proved to be what writing the bytes one after another leaves.
 use Rattle.std.specs.Prelude.{◌≡◌, ℕ, ◌+◌, false, List, length, Some, nat_le, if◌then◌else◌}
 use Rattle.vt_syntax.specs.Class.{IsPlain}
 use Rattle.vt_glyph.specs.Invocation.{glyph_read, after_read, HasGlyph, InUseTable, glyph_in_use}

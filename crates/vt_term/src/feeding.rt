@@ -66,8 +66,7 @@ impl Terminal {
     }
 
     /// Plays the front of a piece that isn't empty, and answers how many bytes that is: between sequences as far as the
-    /// first
-    /// that doesn't stand whole in it, else as far as the first event.
+    /// first that doesn't stand whole in it, else as far as the first event.
     #[inline(always)]
     fn feed_front(&mut self, piece: &[u8], values: &mut Values, out: &mut Vec<u8>) -> usize
         requires some { 1 ≤ length piece.now }
@@ -87,8 +86,7 @@ impl Terminal {
     }
 
     /// Plays the front of a piece that isn't empty, between sequences, as far as the first byte that goes through the
-    /// parser,
-    /// and the first event from there on. Answers how many bytes that is.
+    /// parser, and the first event from there on. Answers how many bytes that is.
     #[inline(always)]
     fn feed_between(&mut self, piece: &[u8], values: &mut Values, out: &mut Vec<u8>) -> usize
         requires some { 1 ≤ length piece.now }
@@ -115,10 +113,8 @@ impl Terminal {
     }
 
     /// Plays what stands at the front of a piece that isn't empty, between sequences: a run of graphic bytes that are
-    /// written
-    /// at once, CR, and LF after it, a control or a sequence; all else goes through the parser. Answers how many bytes
-    /// that
-    /// is, and whether it is known that nothing is held then.
+    /// written at once, CR, and LF after it, a control or a sequence; all else goes through the parser. Answers how
+    /// many bytes that is, and whether it is known that nothing is held then.
     #[inline(always)]
     fn feed_whole(&mut self, piece: &[u8], values: &mut Values, out: &mut Vec<u8>) -> (usize, bool)
         requires some { 1 ≤ length piece.now }
@@ -208,8 +204,7 @@ impl Terminal {
     }
 
     /// Plays the graphic bytes at the front of a piece that begins with a plain one, between sequences: a run of plain
-    /// bytes
-    /// where GL is ASCII and they may be written at once. Answers how many bytes that is.
+    /// bytes where GL is ASCII and they may be written at once. Answers how many bytes that is.
     #[inline(always)]
     fn feed_plain(&mut self, piece: &[u8]) -> usize
         requires some { 1 ≤ length piece.now }

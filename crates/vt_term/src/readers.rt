@@ -77,8 +77,7 @@ impl Terminal {
     }
 
     /// What DECRC gives back: what DECSC saved last, or after a reset what is saved at power-up. A change of the
-    /// columns
-    /// since then (DECCOLM) has brought its column inside the width, and has reset its wrap flag.
+    /// columns since then (DECCOLM) has brought its column inside the width, and has reset its wrap flag.
     pub fn saved(&self) -> Saved
         ensures { result ≡ self.now.display.saved }
     {

@@ -1,6 +1,5 @@
 //! What no clause says: the vectors, whole and in pieces; inputs without measure; readers; the words of the command
-//! line; and
-//! each growth refused in turn.
+//! line; and each growth refused in turn.
 mod beginnings;
 mod command_line;
 mod common;

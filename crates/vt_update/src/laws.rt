@@ -13,8 +13,7 @@ use vt_term::laws::{cuts, soundness};
 /// Where bytes lead is where they play to in silence, whole or cut; no bytes lead from a state to itself alone.
 ///
 /// Updates sent in turn lead a client along the server's states to the last one, whatever states these are. A client
-/// that
-/// gets a repaint first, whatever it shows, and then an update, is led there too.
+/// that gets a repaint first, whatever it shows, and then an update, is led there too.
 pub fn leading()
     ensures played { (s t : State) (bytes : List ℕ) → IsSound s → play s bytes ≡ silently t → Leads s bytes t }
     ensures nothing { (s t : State) → IsSound s → Leads s [] t ↔ (s ≡ t) }

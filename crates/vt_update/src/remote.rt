@@ -81,8 +81,7 @@ impl Remote {
     }
 
     /// The cursor at a place, the wrap flag reset. DECOM goes where the row is outside the margins. All cells of the
-    /// row
-    /// on the left are those of `to`.
+    /// row on the left are those of `to`.
     pub(crate) fn go(&mut self, row: usize, col: usize, to: &Terminal)
         requires { (1 ≤ row) × (row ≤ last_row) }
     {
@@ -206,8 +205,7 @@ impl Remote {
     }
 
     /// SGR: the attributes that are set now, or where one goes, all off and then those that are to be set. An empty
-    /// first
-    /// parameter is 0.
+    /// first parameter is 0.
     fn select_rendition(&mut self, new: Rendition) {
         let was = self.brush.rendition;
         let reset = was.bold && !new.bold
@@ -395,8 +393,7 @@ impl Remote {
     }
 
     /// The saved record, where it is another: all that it holds is made so, and saved by DECSC. All cells are those
-    /// that
-    /// are asked for.
+    /// that are asked for.
     pub(crate) fn set_saved(&mut self, saved: Saved, to: &Terminal)
         requires row { (1 ≤ saved.row) × (saved.row ≤ last_row) }
         requires left { saved.gl < 4 }

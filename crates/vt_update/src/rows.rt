@@ -120,8 +120,7 @@ impl Rows<'_> {
     }
 
     /// How many cells erasing a row spares: those that differ, less those that aren't to be blank. A row that is as it
-    /// is
-    /// to be, and isn't blank, is never erased.
+    /// is to be, and isn't blank, is never erased.
     pub(crate) fn gain(&self, row: usize, to: &Terminal) -> i32
         requires { (1 ≤ row) × (row ≤ last_row) }
     {

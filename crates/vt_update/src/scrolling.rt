@@ -38,8 +38,7 @@ impl Scroll {
     }
 
     /// A scroll inside the margins that leaves at least two cells fewer to be written, if one is found. Where it isn't
-    /// the
-    /// best one, a few bytes more are sent.
+    /// the best one, a few bytes more are sent.
     pub(crate) fn find(rows: &Rows<'_>, shown: &Terminal, to: &Terminal) -> Option<Scroll> {
         let _ = to.width();
         let Margins { top, bottom } = to.margins();

@@ -107,8 +107,7 @@ fn copy_part(from: usize, all: &[u8], part: &mut [u8])
 /// Appends bytes to `out` that lead from `shown` to `to`, and brings `shown` there.
 ///
 /// Where width and tab stops are equal, at most 28 bytes are sent for each cell that differs, and 230. An update after
-/// an
-/// update to the same state is empty.
+/// an update to the same state is empty.
 ///
 /// `UPDATE_LIMIT` bytes of room are reserved first. On an error `shown` and the contents of `out` are unchanged.
 ///
@@ -138,8 +137,7 @@ pub fn update(shown: &mut Terminal, to: &Terminal, out: &mut Vec<u8>) -> Result<
 }
 
 /// Appends bytes to `out` that lead from `shown` to `to`, both between sequences, and brings `shown` there. `out` has
-/// the
-/// room: `UPDATE_LIMIT` bytes. It never fails and takes no memory.
+/// the room: `UPDATE_LIMIT` bytes. It never fails and takes no memory.
 pub fn update_reserved(shown: &mut Terminal, to: &Terminal, out: &mut Vec<u8>)
     requires shown { shown.old.held ≡ Nothing }
     requires to { to.now.held ≡ Nothing }
@@ -193,8 +191,7 @@ fn is_short(len: usize, shown: &Terminal, to: &Terminal) -> bool
 }
 
 /// Appends the chosen bytes and plays them on `shown`, where they are short. Where that doesn't lead to `to` in
-/// silence,
-/// the bytes are taken back, and the answer is false; `shown` is then in any state.
+/// silence, the bytes are taken back, and the answer is false; `shown` is then in any state.
 fn send_choice(
     marks: &[[bool; STOPS]; ROWS],
     shown: &mut Terminal,

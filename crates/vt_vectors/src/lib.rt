@@ -1,6 +1,5 @@
 //! Conformance vectors: inputs, each with the text, the reports and the repaint that a terminal must give; and readers
-//! and
-//! writers over memory that give and take little at a time, and fail when they are told to.
+//! and writers over memory that give and take little at a time, and fail when they are told to.
 #![tactic(auto)]
 
 mod comparison;

@@ -207,8 +207,7 @@ fn the_table_of_devices_holds(rt: HostRuntime) -> Result<(), Fail> {
 }
 
 /// Asserts that each read fails in turn: what was written is the reports of what was read, where they are asked for.
-/// The
-/// read after the one that gave no byte is never made.
+/// The read after the one that gave no byte is never made.
 fn each_read_fails(rt: &impl Abort, alloc: Global, input: &[u8], what: What) -> Result<(), Fail> {
     let mut terminal = Terminal::new(alloc)?;
     let mut reports = Vec::new(alloc);

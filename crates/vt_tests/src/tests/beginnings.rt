@@ -1,6 +1,5 @@
 //! Every beginning of every vector: it has a repaint exactly between sequences, and that rebuilds its state on a
-//! terminal
-//! that holds whatever it may.
+//! terminal that holds whatever it may.
 use super::common::Played;
 use std::alloc::Global;
 use std::process::Abort;
@@ -9,8 +8,7 @@ use vt_paint::{PaintError, repaint};
 use vt_vectors::{held_sample, held_sample_count, vector, vector_count};
 
 /// Asserts that a repaint, in pieces of 1 to 14 bytes, brings a terminal that holds each of the samples into this
-/// state, and
-/// asks for no report.
+/// state, and asks for no report.
 fn rebuilds(rt: &impl Abort, alloc: Global, bytes: &[u8], played: &Played) -> Result<(), Fail> {
     for i in 0..held_sample_count() {
         let mut used = Played::of(alloc, &[held_sample(i)])?;

@@ -152,8 +152,7 @@ fn each_growth_of_feed_text_show_and_repaint_is_refused(rt: HostRuntime) -> Resu
 const LONGEST: usize = 100;
 
 /// Appends the reports of an input, the texts, the picture and the repaint by the calls that can't be refused. False
-/// where the input is too
-/// long or ends inside a sequence.
+/// where the input is too long or ends inside a sequence.
 fn append_reserved(terminal: &mut Terminal, input: &[u8], out: &mut Vec<u8>) -> bool
     requires { vec_len out.old + (1000 + TEXT_LIMIT + SHOW_LIMIT + PICTURE_LIMIT + PAINT_LIMIT) ≤ vec_capacity out.old }
 {

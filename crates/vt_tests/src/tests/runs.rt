@@ -1,6 +1,5 @@
 //! Runs of graphic bytes, of each length from each column of the last row: at once, and each byte behind a single
-//! shift, so
-//! that it is read and written by itself.
+//! shift, so that it is read and written by itself.
 use super::common::Played;
 use std::alloc::Global;
 use std::process::Abort;

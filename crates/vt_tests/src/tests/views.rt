@@ -101,8 +101,7 @@ const DARK_ON_LIGHT: &str =
     ".i{fill:#101010}.p{fill:#d0d0d0}</style>\n<rect class='p' width='100%' height='100%'/>\n";
 
 /// An input, the start of its picture, how many empty lines its text alternative begins with, the line after them, how
-/// many empty
-/// lines follow, the colours, and the rest but for the last line.
+/// many empty lines follow, the colours, and the rest but for the last line.
 type Drawn = (
     &'static [u8],
     &'static str,

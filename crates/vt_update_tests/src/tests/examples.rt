@@ -136,8 +136,7 @@ fn the_rest_are_repaints(rt: HostRuntime) -> Result<(), Fail> {
 }
 
 /// For a single shift that is pending where none is to be no bytes are chosen: of a full screen the one cell that
-/// differs is
-/// sent, and all but the cells.
+/// differs is sent, and all but the cells.
 #[test]
 fn a_single_shift_in_the_way_costs_few_bytes(rt: HostRuntime) -> Result<(), Fail> {
     let alloc = rt.alloc();

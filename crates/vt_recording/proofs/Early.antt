@@ -4,7 +4,8 @@ use Rattle.std.proofs.KnownBytes.{Appends-nil}
 use Rattle.vt_recording.specs.declared.fault.Fault.{Fault}
 use Rattle.vt_recording.specs.declared.fault.Fault.TheVariants.{Memory, Broken, Read, Write, TooLong}
 use Rattle.vt_recording.specs.declared.format.Format.{Format}
-use Rattle.vt_recording.specs.Run.{Moves, Takes, Table, ReadTable}
+use Rattle.vt_device.specs.Runs.{Moves, Takes}
+use Rattle.vt_recording.specs.Run.{Table, ReadTable}
 
 module _ (format : Format) (limit : ℕ) (failed ended writes : Bool) (works : writes ≡ false) (b : List ℕ) where
   -- what a fault of the reading part says of the whole run

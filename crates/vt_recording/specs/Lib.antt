@@ -3,4 +3,3 @@ pub mod Run
 pub mod Script
 pub mod Taken
 pub mod Ttyrec
-pub mod Watched

@@ -1,14 +1,15 @@
 //! A recording is read whole, taken apart, and its content written.
 ghost use Rattle.std.specs.Prelude.{◌≡◌, ◌≤◌, ◌+◌, ℕ, true, false, length};
 ghost use Rattle.std.specs.Io.KnownBytes.{IsAtEnd};
-ghost use Rattle.vt_recording.specs.Run.{Table, Moves, Takes, Gives, WriteTable, ReadTable};
+ghost use Rattle.vt_device.specs.Runs.{Moves, Takes};
+ghost use Rattle.vt_recording.specs.Run.{Table, ReadTable};
 
 use crate::fault::Fault;
 use crate::format::Format;
 use crate::taking::take_apart;
-use crate::watched::Watched;
 use std::alloc::Global;
 use std::io::{Read, Write};
+use vt_device::{Watched, write_whole};
 
 /// The most bytes of a recording that the program takes.
 pub const INPUT_LIMIT: usize = 268_435_456;
@@ -83,21 +84,4 @@ fn read_whole<R: Read>(
         left -= count;
     }
     Err(Fault::TooLong)
-}
-
-/// Writes the whole piece, by as many writes as it takes, and says whether it got through.
-fn write_whole<W: Write>(writer: &mut Watched<W>, piece: &[u8]) -> bool
-    requires { writer.old.failed ≡ false }
-    ensures gives { Gives (W.contents writer.old.device) (W.contents writer.new.device)
-        (WriteTable result writer.new.failed piece.now) }
-{
-    let mut at = 0;
-    while at < piece.len() {
-        match writer.write(&piece[at..]) {
-            Ok(0) => return false,
-            Ok(n) => at += n,
-            Err(_) => return false,
-        }
-    }
-    true
 }

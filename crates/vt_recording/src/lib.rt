@@ -8,10 +8,9 @@ mod format;
 mod script;
 mod taking;
 mod ttyrec;
-mod watched;
 
 pub use engine::{INPUT_LIMIT, run};
 pub use fault::Fault;
 pub use format::{Format, Taken};
 pub use taking::take_apart;
-pub use watched::Watched;
+pub use vt_device::Watched;

@@ -10,7 +10,9 @@ use Rattle.vt_term.specs.Play.{Played, play, both}
 use Rattle.vt_cli.specs.declared.what.What.{What}
 use Rattle.vt_cli.specs.declared.what.What.TheVariants.{Text, Reports, Repaint, Status, Show, Picture}
 use Rattle.vt_replay.specs.Due.{due, due_at_end, sent, sent_for, IsThere}
-use Rattle.vt_replay.specs.Run.{Moves, IsPlayed, IsProperBeginning, HasEarlierReports, Flags, AreFlags, WriteRow}
+use Rattle.vt_device.specs.Runs.{Flags, AreFlags, Moves}
+use Rattle.vt_device.specs.Writing.{IsProperBeginning}
+use Rattle.vt_replay.specs.Run.{IsPlayed, HasEarlierReports, WriteRow}
 
 -- one more read and one more write
 pub Moves-step : (left mid after held hmid hafter : Option (List ℕ)) (P Q : List ℕ → List ℕ → Type 0)

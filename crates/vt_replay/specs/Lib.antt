@@ -2,4 +2,3 @@ pub mod Due
 pub mod Fault
 pub mod Run
 pub mod Status
-pub mod Watched

@@ -1,7 +1,7 @@
 -- What a replay takes from its reader and gives to its writer. (this profile)
-use Rattle.std.specs.Prelude.{◌≡◌, ◌≢◌, ℕ, ◌≤◌, ◌<◌, ◌+◌, ◌++◌, List, [], length, take, Bool, true, false, Result, Ok}
-use Rattle.std.specs.Prelude.{Err, Option}
-use Rattle.std.specs.Io.KnownBytes.{Appends, Consumes}
+use Rattle.std.specs.Prelude.{◌≡◌, ◌≢◌, ℕ, ◌≤◌, ◌+◌, ◌++◌, List, [], length, take, true, false, Result, Ok, Err}
+use Rattle.vt_device.specs.Runs.{Flags, AreFlags}
+use Rattle.vt_device.specs.Writing.{IsProperBeginning}
 use Rattle.vt_syntax.specs.declared.held.Held.TheVariants.{Nothing}
 use Rattle.vt_term.specs.State.{State, power_up}
 use Rattle.vt_term.specs.Play.{play}
@@ -10,24 +10,6 @@ use Rattle.vt_replay.specs.declared.fault.Fault.TheVariants.{Memory, Partial, Re
 use Rattle.vt_cli.specs.declared.what.What.{What}
 use Rattle.vt_cli.specs.declared.what.What.TheVariants.{Text, Reports, Repaint, Status, Show, Picture}
 use Rattle.vt_replay.specs.Due.{due, sent_for, IsThere}
-
--- w is a beginning of what is due, and not all of it
-pub record IsProperBeginning (w due : List ℕ) : Type 0 where
-  pub more : List ℕ
-  pub whole : due ≡ w ++ more
-  pub missing : 0 < length more
-
--- what a run tells of its two devices
-pub record Flags : Type 0 where
-  pub reader_failed : Bool
-  pub reader_ended : Bool
-  pub writer_failed : Bool
-
--- the flags are these
-pub record AreFlags (f : Flags) (read_fails ends write_fails : Bool) : Type 0 where
-  pub reader_failed : f.reader_failed ≡ read_fails
-  pub reader_ended : f.reader_ended ≡ ends
-  pub writer_failed : f.writer_failed ≡ write_fails
 
 -- w has all the reports of the pieces before the last one, which has at most so many bytes
 pub record HasEarlierReports (piece : ℕ) (b w : List ℕ) : Type 0 where
@@ -61,14 +43,6 @@ Table (Err Write) what piece b w f limit = WriteRow what piece b w f × (length 
 Table (Err TooLong) what piece b w f limit = AreFlags f false false false × (length b ≡ limit + 1)
     × (w ≡ sent_for what (take limit b))
 
--- some bytes were taken from the reader, and some by the writer, for which a fact holds
-pub record Moves (left left_after held held_after : Option (List ℕ)) (P : List ℕ → List ℕ → Type 0) : Type 0 where
-  pub b : List ℕ
-  pub w : List ℕ
-  pub taken : Consumes left left_after b
-  pub given : Appends held held_after w
-  pub holds : P b w
-
 -- ---- the parts of a replay
 
 -- the bytes were played, their reports counted, and sent where they are asked for
@@ -88,14 +62,3 @@ ReadTable (Err Write) what t piece b w f limit = (what ≡ Reports) × AreFlags 
     × HasEarlierReports piece b w × (length b ≤ limit) × IsProperBeginning w (play power_up b).reports
 ReadTable (Err TooLong) what t piece b w f limit = AreFlags f false false false × (length b ≡ limit + 1)
     × (w ≡ sent_for what (take limit b))
-
--- some bytes were taken by the writer, for which a fact holds
-pub record Gives (held held_after : Option (List ℕ)) (P : List ℕ → Type 0) : Type 0 where
-  pub w : List ℕ
-  pub given : Appends held held_after w
-  pub holds : P w
-
--- all of the piece and no failure, or a proper beginning and a failure
-abbrev pub WriteTable : Bool → Bool → List ℕ → List ℕ → Type 0
-WriteTable true failed piece w = (failed ≡ false) × (w ≡ piece)
-WriteTable false failed piece w = (failed ≡ true) × IsProperBeginning w piece

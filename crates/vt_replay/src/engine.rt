@@ -5,14 +5,16 @@ ghost use Rattle.std.specs.Io.KnownBytes.{IsAtEnd};
 ghost use Rattle.vt_term.specs.State.{power_up};
 ghost use Rattle.vt_syntax.specs.declared.held.Held.TheVariants.{Nothing};
 ghost use Rattle.vt_replay.specs.Due.{sent, due_at_end, room_for, IsThere};
-ghost use Rattle.vt_replay.specs.Run.{Table, Moves, Gives, WriteTable, ReadTable};
+ghost use Rattle.vt_device.specs.Runs.{Moves};
+ghost use Rattle.vt_device.specs.Writing.{Gives, WriteTable};
+ghost use Rattle.vt_replay.specs.Run.{Table, ReadTable};
 
 use crate::fault::Fault;
 use crate::status::{STATUS_LIMIT, push_status};
-use crate::watched::Watched;
 use std::alloc::Global;
 use std::io::{Read, Write};
 use vt_cli::{Settings, What};
+use vt_device::{Watched, write_whole};
 use vt_paint::{PAINT_LIMIT, repaint_reserved};
 use vt_picture::{PICTURE_LIMIT, SHOW_LIMIT, picture_reserved, show_reserved};
 use vt_term::laws::{cuts, soundness};
@@ -258,22 +260,4 @@ fn send<W: Write>(writer: &mut Watched<W>, what: What, reports: &[u8]) -> bool
         What::Reports => write_whole(writer, reports),
         What::Text | What::Repaint | What::Status | What::Show | What::Picture => true,
     }
-}
-
-/// Writes the whole piece, by as many writes as it takes, and says whether it got through.
-fn write_whole<W: Write>(writer: &mut Watched<W>, piece: &[u8]) -> bool
-    requires { writer.old.failed ≡ false }
-    ensures gives { Gives (W.contents writer.old.device) (W.contents writer.new.device)
-        (WriteTable result writer.new.failed piece.now) }
-    ensures ended { writer.new.ended ≡ writer.old.ended }
-{
-    let mut at = 0;
-    while at < piece.len() {
-        match writer.write(&piece[at..]) {
-            Ok(0) => return false,
-            Ok(n) => at += n,
-            Err(_) => return false,
-        }
-    }
-    true
 }

@@ -5,9 +5,8 @@
 mod engine;
 mod fault;
 mod status;
-mod watched;
 
 pub use engine::{replay, run};
 pub use fault::Fault;
 pub use vt_cli::{Refused, Settings, What, settings};
-pub use watched::Watched;
+pub use vt_device::Watched;

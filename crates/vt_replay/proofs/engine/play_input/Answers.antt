@@ -6,7 +6,7 @@ use Rattle.std.proofs.KnownBytes.{Consumes-trans}
 use Rattle.std.proofs.lemmas.Bool.Decides.{nat_tests}
 use Rattle.vt_replay.specs.Due.{sent, sent_for}
 use Rattle.vt_cli.specs.declared.what.What.{What}
-use Rattle.vt_replay.specs.Run.{IsProperBeginning}
+use Rattle.vt_device.specs.Writing.{IsProperBeginning}
 use Rattle.vt_replay.proofs.Steps.{Moves-step, counted, passed, played-more, within-limit, cut-short, earlier-reports}
 use Rattle.vt_replay.proofs.Steps.{sent-failed}
 use Rattle.vt_replay.proofs.engine.play_input.Goals as goal

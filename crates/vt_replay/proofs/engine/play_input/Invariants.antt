@@ -1,5 +1,6 @@
 use Rattle.std.proofs.Common.{◌≡◌, ◌+◌, ◌-◌, ◌*◌, ◌≤◌, false, length, vec_capacity}
-use Rattle.vt_replay.specs.Run.{Moves, IsPlayed}
+use Rattle.vt_device.specs.Runs.{Moves}
+use Rattle.vt_replay.specs.Run.{IsPlayed}
 use Rattle.vt_replay.proofs.engine.play_input.Given as goal
 
 abbrev pub invariant-loop-left : goal.invariant-loop-left

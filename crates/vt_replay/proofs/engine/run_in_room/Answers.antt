@@ -3,7 +3,7 @@ use Rattle.std.proofs.KnownBytes.{Appends-trans}
 use Rattle.vt_replay.specs.Due.{due_at_end, IsThere}
 use Rattle.vt_term.specs.State.{State, power_up}
 use Rattle.vt_term.specs.Play.{play}
-use Rattle.vt_replay.specs.Run.{IsProperBeginning}
+use Rattle.vt_device.specs.Writing.{IsProperBeginning}
 use Rattle.vt_replay.proofs.Steps.{due-is, due-cut, row-at-end}
 use Rattle.vt_replay.proofs.engine.run_in_room.Goals as goal
 

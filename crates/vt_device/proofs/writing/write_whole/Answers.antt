@@ -3,7 +3,7 @@ use Rattle.std.proofs.Math.Seq.{take-add, take-length}
 use Rattle.std.proofs.lemmas.List.{take-append-drop}
 use Rattle.std.proofs.KnownBytes.{Appends-trans, Appends-kept}
 use Rattle.std.proofs.lemmas.Grind.{common_steps}
-use Rattle.vt_replay.proofs.engine.write_whole.Goals as goal
+use Rattle.vt_device.proofs.writing.write_whole.Goals as goal
 
 -- the part of p from `at` on, to its end
 rest-is : (p : List ℕ) (at : ℕ) → take (length p - at) (drop at p) ≡ drop at p

@@ -2,7 +2,7 @@
 ghost use Rattle.std.specs.Prelude.{◌≡◌, ◌||◌, false};
 ghost use Rattle.std.specs.Io.{ReadsAtMost, WritesAtMost};
 ghost use Rattle.std.specs.Io.KnownBytes.{ReadConsumes, WriteAppends};
-ghost use Rattle.vt_recording.specs.Watched.{read_failed, read_ended, write_failed};
+ghost use Rattle.vt_device.specs.Watched.{read_failed, read_ended, write_failed};
 
 use std::io;
 use std::io::{Read, Write};
@@ -17,7 +17,7 @@ pub struct Watched<D> {
 }
 
 impl<D> Model for Watched<D> {
-    ghost use Rattle.vt_recording.specs.Watched.{Watch};
+    ghost use Rattle.vt_device.specs.Watched.{Watch};
 
     ghost Value = { Watch D };
 

@@ -174,214 +174,167 @@ two_digits n h = length-decimal-le 2 n (omega arith) (omega arith) (omega arith)
 three_digits : (n : ℕ) → n < 1000 → length (decimal n) ≤ 3
 three_digits n h = length-decimal-le 3 n (omega arith) (omega arith) (omega arith)
 
-one_value : (v : ℕ) → v ≤ 9999 → AreValues (v ∷ [])
-one_value v h =
-    record { some = omega arith; few = omega arith; small = All-cons (λ v. v ≤ 9999) v [] h (All-nil (λ v. v ≤ 9999)) }
+-- the values of a sequence, and the bytes that they and what parts them take
+record AreShort (d : ℕ) (values : List ℕ) : Type 0 where
+  are : AreValues values
+  short : length (join_with_byte 0x3B (map decimal values)) ≤ d
 
-two_values : (v w : ℕ) → v ≤ 9999 → w ≤ 9999 → AreValues (v ∷ w ∷ [])
-two_values v w h k =
-    record {
-      some = omega arith;
-      few = omega arith;
-      small =
-          All-cons (λ v. v ≤ 9999) v (w ∷ []) h (All-cons (λ v. v ≤ 9999) w [] k (All-nil (λ v. v ≤ 9999)));
-    }
+one_value : (d v : ℕ) → v ≤ 9999 → length (decimal v) ≤ d → AreShort d (v ∷ [])
+one_value d v h short = record {
+  are = record {
+    some = omega arith;
+    few = omega arith;
+    small = All-cons (λ v. v ≤ 9999) v [] h (All-nil (λ v. v ≤ 9999));
+  };
+  short = short;
+}
+
+two_values : (d e v w : ℕ) → v ≤ 9999 → w ≤ 9999 → length (decimal v) ≤ d → length (decimal w) ≤ e
+    → AreShort (d + 1 + e) (v ∷ w ∷ [])
+two_values d e v w h k first second = record {
+  are = record {
+    some = omega arith;
+    few = omega arith;
+    small = All-cons (λ v. v ≤ 9999) v (w ∷ []) h (All-cons (λ v. v ≤ 9999) w [] k (All-nil (λ v. v ≤ 9999)));
+  };
+  short = rw (length-append (decimal v) (0x3B ∷ decimal w)) (omega (arith, first, second));
+}
 
 -- ---- control sequences
 
-pub cursor_position_within : (r c : ℕ) → r ≤ 24 → c ≤ 132 → AreSpelledWithin 9 (cursor_position r c ∷ [])
-unfolding sequence_report
-cursor_position_within r c h k =
-    let dr = two_digits r (omega arith) in
-    let dc = three_digits c (omega arith) in
-    within-one 9 (cursor_position r c)
+-- these bytes name a function that no report answers
+record NamesFunction (marker inter : Option ℕ) (last : ℕ) : Type 0 where
+  is_marker : IfSome marker IsMarker
+  is_intermediate : IfSome inter IsIntermediate
+  final : (0x40 ≤ last) × (last ≤ 0x7E)
+  silent : (v : ℕ) (s : Display) → sequence_report marker inter last v s ≡ []
+
+sequence_within : (n d : ℕ) (marker inter : Option ℕ) (last : ℕ) (values : List ℕ) → NamesFunction marker inter last
+    → AreShort d values → length (option_to_list marker) + d + length (option_to_list inter) + 3 ≤ n
+    → AreSpelledWithin n (Sequence marker (record { items = values }) inter last ∷ [])
+sequence_within n d marker inter last values f v room =
+    let short = v.short in
+    within-one n (Sequence marker (record { items = values }) inter last)
     (record {
-      is_marker = tt;
-      are_values = two_values r c (omega arith) (omega arith);
-      is_intermediate = tt;
-      low =
-          omega arith;
-      high = omega arith;
-    }) (λ s. refl) (simp length-append (omega (arith, dr, dc))) tt
+      is_marker = f.is_marker;
+      are_values = v.are;
+      is_intermediate = f.is_intermediate;
+      low = f.final.0;
+      high = f.final.1;
+    }) (λ s. f.silent _ s) (simp length-append (omega (arith, room, short))) tt
+
+-- no marker and no intermediate
+plain_function : (last : ℕ) → (0x40 ≤ last) × (last ≤ 0x7E)
+    → ((v : ℕ) (s : Display) → sequence_report None None last v s ≡ []) → NamesFunction None None last
+plain_function last final silent = record { is_marker = tt; is_intermediate = tt; final = final; silent = silent }
+
+cup : NamesFunction None None 0x48
+unfolding sequence_report
+cup = plain_function 0x48 (omega arith, omega arith) (λ v s. refl)
+
+pub cursor_position_within : (r c : ℕ) → r ≤ 24 → c ≤ 132 → AreSpelledWithin 9 (cursor_position r c ∷ [])
+cursor_position_within r c h k =
+    sequence_within 9 6 None None 0x48 _ cup
+    (two_values 2 3 r c (omega arith) (omega arith) (two_digits r (omega arith)) (three_digits c (omega arith)))
+    (omega arith)
 
 -- a place of the first row
 pub column_within : (c : ℕ) → c ≤ 132 → AreSpelledWithin 8 (cursor_position 1 c ∷ [])
-unfolding sequence_report
 column_within c k =
-    let dr = one_digit 1 (omega arith) in
-    let dc = three_digits c (omega arith) in
-    within-one 8 (cursor_position 1 c)
-    (record {
-      is_marker = tt;
-      are_values = two_values 1 c (omega arith) (omega arith);
-      is_intermediate = tt;
-      low =
-          omega arith;
-      high = omega arith;
-    }) (λ s. refl) (simp length-append (omega (arith, dr, dc))) tt
+    sequence_within 8 5 None None 0x48 _ cup
+    (two_values 1 3 1 c (omega arith) (omega arith) (one_digit 1 (omega arith)) (three_digits c (omega arith)))
+    (omega arith)
+
+decstbm : NamesFunction None None 0x72
+unfolding sequence_report
+decstbm = plain_function 0x72 (omega arith, omega arith) (λ v s. refl)
 
 pub margins_to_within : (t b : ℕ) → t ≤ 24 → b ≤ 24 → AreSpelledWithin 8 (margins_to t b ∷ [])
-unfolding sequence_report
 margins_to_within t b h k =
-    let dt = two_digits t (omega arith) in
-    let db = two_digits b (omega arith) in
-    within-one 8 (margins_to t b) (record {
-      is_marker = tt;
-      are_values = two_values t b (omega arith) (omega arith);
-      is_intermediate = tt;
-      low = omega arith;
-      high = omega arith;
-    }) (λ s. refl)
-    (simp length-append (omega (arith, dt, db))) tt
+    sequence_within 8 5 None None 0x72 _ decstbm
+    (two_values 2 2 t b (omega arith) (omega arith) (two_digits t (omega arith)) (two_digits b (omega arith)))
+    (omega arith)
+
+tbc : NamesFunction None None 0x67
+unfolding sequence_report
+tbc = plain_function 0x67 (omega arith, omega arith) (λ v s. refl)
 
 pub clear_within : AreSpelledWithin 4 (clear_all_tabs ∷ [])
-unfolding sequence_report
 clear_within =
-    let d = one_digit 3 (omega arith) in
-    within-one 4 clear_all_tabs (record {
-      is_marker = tt;
-      are_values = one_value 3 (omega arith);
-      is_intermediate =
-          tt;
-      low = omega arith;
-      high = omega arith;
-    }) (λ s. refl) (simp length-append (omega (arith, d))) tt
+    sequence_within 4 1 None None 0x67 _ tbc (one_value 1 3 (omega arith) (one_digit 3 (omega arith))) (omega arith)
+
+-- SM and RM
+ansi_function : (on : Bool) → NamesFunction None None (cond on 0x68 0x6C)
+unfolding sequence_report
+ansi_function true = plain_function 0x68 (omega arith, omega arith) (λ v s. refl)
+ansi_function false = plain_function 0x6C (omega arith, omega arith) (λ v s. refl)
+
+private_function : (on : Bool) → NamesFunction (Some 0x3F) None (cond on 0x68 0x6C)
+unfolding sequence_report
+private_function true = record {
+  is_marker = (omega arith, omega arith);
+  is_intermediate = tt;
+  final = (omega arith, omega arith);
+  silent = λ v s. refl;
+}
+private_function false = record {
+  is_marker = (omega arith, omega arith);
+  is_intermediate = tt;
+  final = (omega arith, omega arith);
+  silent = λ v s. refl;
+}
 
 pub ansi_mode_within : (n : ℕ) (on : Bool) → n < 100 → AreSpelledWithin 5 (ansi_mode n on ∷ [])
-unfolding sequence_report
-ansi_mode_within n true h =
-    let d = two_digits n h in
-    within-one 5 (ansi_mode n true) (record {
-      is_marker = tt;
-      are_values = one_value n (omega arith);
-      is_intermediate =
-          tt;
-      low = omega arith;
-      high = omega arith;
-    }) (λ s. refl) (simp length-append (omega (arith, d))) tt
-ansi_mode_within n false h =
-    let d = two_digits n h in
-    within-one 5 (ansi_mode n false)
-    (record {
-      is_marker = tt;
-      are_values = one_value n (omega arith);
-      is_intermediate = tt;
-      low = omega arith;
-      high = omega arith;
-    }) (λ s. refl) (simp length-append (omega (arith, d))) tt
+ansi_mode_within n on h =
+    sequence_within 5 2 None None _ _ (ansi_function on) (one_value 2 n (omega arith) (two_digits n h)) (omega arith)
 
 pub private_mode_within : (n : ℕ) (on : Bool) → n < 100 → AreSpelledWithin 6 (private_mode n on ∷ [])
-unfolding sequence_report
-private_mode_within n true h =
-    let d = two_digits n h in
-    within-one 6 (private_mode n true)
-    (record {
-      is_marker = (omega arith, omega arith);
-      are_values = one_value n (omega arith);
-      is_intermediate =
-          tt;
-      low = omega arith;
-      high = omega arith;
-    }) (λ s. refl) (simp length-append (omega (arith, d))) tt
-private_mode_within n false h =
-    let d = two_digits n h in
-    within-one 6 (private_mode n false)
-    (record {
-      is_marker = (omega arith, omega arith);
-      are_values = one_value n (omega arith);
-      is_intermediate =
-          tt;
-      low = omega arith;
-      high = omega arith;
-    }) (λ s. refl) (simp length-append (omega (arith, d))) tt
+private_mode_within n on h =
+    sequence_within 6 2 (Some 0x3F) None _ _ (private_function on) (one_value 2 n (omega arith) (two_digits n h))
+    (omega arith)
 
 -- a mode of one digit
 pub small_ansi_mode_within : (n : ℕ) (on : Bool) → n < 10 → AreSpelledWithin 4 (ansi_mode n on ∷ [])
-unfolding sequence_report
-small_ansi_mode_within n true h =
-    let d = one_digit n h in
-    within-one 4 (ansi_mode n true) (record {
-      is_marker = tt;
-      are_values = one_value n (omega arith);
-      is_intermediate =
-          tt;
-      low = omega arith;
-      high = omega arith;
-    }) (λ s. refl) (simp length-append (omega (arith, d))) tt
-small_ansi_mode_within n false h =
-    let d = one_digit n h in
-    within-one 4 (ansi_mode n false)
-    (record {
-      is_marker = tt;
-      are_values = one_value n (omega arith);
-      is_intermediate = tt;
-      low = omega arith;
-      high = omega arith;
-    }) (λ s. refl) (simp length-append (omega (arith, d))) tt
+small_ansi_mode_within n on h =
+    sequence_within 4 1 None None _ _ (ansi_function on) (one_value 1 n (omega arith) (one_digit n h)) (omega arith)
 
 pub small_private_mode_within : (n : ℕ) (on : Bool) → n < 10 → AreSpelledWithin 5 (private_mode n on ∷ [])
+small_private_mode_within n on h =
+    sequence_within 5 1 (Some 0x3F) None _ _ (private_function on) (one_value 1 n (omega arith) (one_digit n h))
+    (omega arith)
+
+-- one digit, an intermediate and a final byte
+intermediate_within : (v i last : ℕ) → v < 10 → NamesFunction None (Some i) last
+    → AreSpelledWithin 5 (Sequence None (record { items = v ∷ [] }) (Some i) last ∷ [])
+intermediate_within v i last h f =
+    sequence_within 5 1 None (Some i) last _ f (one_value 1 v (omega arith) (one_digit v h)) (omega arith)
+
+decstr : NamesFunction None (Some 0x21) 0x70
 unfolding sequence_report
-small_private_mode_within n true h =
-    let d = one_digit n h in
-    within-one 5 (private_mode n true)
-    (record {
-      is_marker = (omega arith, omega arith);
-      are_values = one_value n (omega arith);
-      is_intermediate =
-          tt;
-      low = omega arith;
-      high = omega arith;
-    }) (λ s. refl) (simp length-append (omega (arith, d))) tt
-small_private_mode_within n false h =
-    let d = one_digit n h in
-    within-one 5 (private_mode n false)
-    (record {
-      is_marker = (omega arith, omega arith);
-      are_values = one_value n (omega arith);
-      is_intermediate =
-          tt;
-      low = omega arith;
-      high = omega arith;
-    }) (λ s. refl) (simp length-append (omega (arith, d))) tt
+decstr = record {
+  is_marker = tt;
+  is_intermediate = (omega arith, omega arith);
+  final = (omega arith, omega arith);
+  silent = λ v s. refl;
+}
 
 pub soft_reset_within : AreSpelledWithin 5 (soft_reset ∷ [])
-unfolding sequence_report
-soft_reset_within =
-    let d = one_digit 0 (omega arith) in
-    within-one 5 soft_reset (record {
-      is_marker = tt;
-      are_values = one_value 0 (omega arith);
-      is_intermediate =
-          (omega arith, omega arith);
-      low = omega arith;
-      high = omega arith;
-    }) (λ s. refl)
-    (simp length-append (omega (arith, d))) tt
+soft_reset_within = intermediate_within 0 0x21 0x70 (omega arith) decstr
 
 -- ---- the brush
 
-protection_within : (protected : Bool) → AreSpelledWithin 5 (protection_to protected ∷ [])
+decsca : NamesFunction None (Some 0x22) 0x71
 unfolding sequence_report
-protection_within true =
-    let d = one_digit 1 (omega arith) in
-    within-one 5 (protection_to true)
-    (record {
-      is_marker = tt;
-      are_values = one_value 1 (omega arith);
-      is_intermediate = (omega arith, omega arith);
-      low = omega arith;
-      high = omega arith;
-    }) (λ s. refl) (simp length-append (omega (arith, d))) tt
-protection_within false =
-    let d = one_digit 0 (omega arith) in
-    within-one 5 (protection_to false)
-    (record {
-      is_marker = tt;
-      are_values = one_value 0 (omega arith);
-      is_intermediate = (omega arith, omega arith);
-      low = omega arith;
-      high = omega arith;
-    }) (λ s. refl) (simp length-append (omega (arith, d))) tt
+decsca = record {
+  is_marker = tt;
+  is_intermediate = (omega arith, omega arith);
+  final = (omega arith, omega arith);
+  silent = λ v s. refl;
+}
+
+protection_within : (protected : Bool) → AreSpelledWithin 5 (protection_to protected ∷ [])
+protection_within true = intermediate_within 1 0x22 0x71 (omega arith) decsca
+protection_within false = intermediate_within 0 0x22 0x71 (omega arith) decsca
 
 -- the values of the attributes: 0 and at most four more, each of one digit
 record AreDigits (n : ℕ) (values : List ℕ) : Type 0 where
@@ -406,24 +359,20 @@ joined_short v (w ∷ values) h =
     let ih = joined_short w values (λ k e l. h (suc k) e (omega arith)) in
     rw (length-append (decimal v) (0x3B ∷ join_with_byte 0x3B (map decimal (w ∷ values)))) (omega (arith, d, ih))
 
+sgr : NamesFunction None None 0x6D
+unfolding sequence_report
+sgr = plain_function 0x6D (omega arith, omega arith) (λ v s. refl)
+
 values_within : (n v : ℕ) (values : List ℕ) → v < 10 → n ≤ 4 → AreDigits n values
     → AreSpelledWithin (4 + 2 * n) (Sequence None (record { items = v ∷ values }) None 0x6D ∷ [])
-unfolding sequence_report
 values_within n v values low few h =
     let all = All-cons (λ v. v < 10) v values low h.small in
     let j = joined_short v values all in
     let count : length values ≤ n = h.count in
-    within-one (4 + 2 * n) (Sequence None (record { items = v ∷ values }) None 0x6D)
-    (record {
-      is_marker = tt;
-      are_values =
-          record { some = omega arith; few = omega arith; small = λ k d l. omega (arith, all k d l) };
-      is_intermediate =
-          tt;
-      low = omega arith;
-      high = omega arith;
-    })
-    (λ s. refl) (simp length-append (omega (arith, j, count))) tt
+    sequence_within (4 + 2 * n) (1 + 2 * n) None None 0x6D (v ∷ values) sgr (record {
+      are = record { some = omega arith; few = omega arith; small = λ k d l. omega (arith, all k d l) };
+      short = omega (arith, j, count);
+    }) (omega arith)
 
 rendition_within : (r : Rendition) → AreSpelledWithin 12 (rendition_to r ∷ [])
 rendition_within r =

@@ -9,7 +9,8 @@ pub mod Cutting
 pub mod EventSpelling
 pub mod EventRanges
 pub mod PlainRuns
-pub mod Lanes
+pub mod Masks
+pub mod GraphicRuns
 pub mod SilentBytes
 pub mod ContentRuns
 pub mod WholeSequences

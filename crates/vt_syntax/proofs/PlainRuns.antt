@@ -1,5 +1,5 @@
 -- Runs of plain bytes, seen a vector at a time through the mask of the lanes that aren't plain.
-use Rattle.std.proofs.Common.{◌≡◌, ℕ, ◌+◌, ◌-◌, ◌%◌, ◌^◌, ◌<◌, ◌≤◌, true, cond, ltb, List, [], ◌∷◌, map, length, take}
+use Rattle.std.proofs.Common.{◌≡◌, ℕ, ◌+◌, ◌-◌, ◌%◌, ◌^◌, ◌<◌, ◌≤◌, true, not, cond, ltb, List, [], ◌∷◌, map, length, take}
 use Rattle.std.proofs.Common.{replicate, get_or, refl, sym, ap, ap₂, subst, ◌∙◌, arith, w8, Fits, inl, inr}
 use Rattle.std.specs.Prelude.{All}
 use Rattle.std.specs.List.{prefix_len}
@@ -10,24 +10,24 @@ use Rattle.std.proofs.lemmas.List.Elements.{All-from_get_or}
 use Rattle.std.proofs.lemmas.List.Sums.{prefix_len_passes, prefix_len_stops}
 use Rattle.std.proofs.lemmas.Simd.{tops_compared, zip2_splat, zip2_splat_left, map-map, mask_l-mod}
 use lib.Lanes.{zip2, mask_l, top, Each1}
-use Rattle.vt_syntax.specs.Class.{is_plain, is_not_plain, IsPlain}
+use Rattle.vt_syntax.specs.Class.{is_plain, IsPlain}
 
 -- ---- the mask of a vector
 
 -- a byte less 20, with wrapping, is above 5E where it isn't plain
-above : (x : ℕ) → x < 256 → ltb 94 ((x + 224) % 256) ≡ is_not_plain x
+above : (x : ℕ) → x < 256 → ltb 94 ((x + 224) % 256) ≡ not (is_plain x)
 above x h = elim (cases_lt x 32) [
   | inl low ↦ let m : (x + 224) % 256 ≡ x + 224 = omega arith in rw m (grind (arith, nat_tests))
   | inr high ↦ let m : (x + 224) % 256 ≡ x - 32 = omega arith in rw m (grind (arith, nat_tests))
 ]
 
-each_above : (v : List ℕ) → Each1 (Fits w8) v → map (λ x. ltb 94 ((x + 224) % 256)) v ≡ map is_not_plain v
+each_above : (v : List ℕ) → Each1 (Fits w8) v → map (λ x. ltb 94 ((x + 224) % 256)) v ≡ map (λ b. not (is_plain b)) v
 each_above [] h = refl
 each_above (x ∷ v) h = ap₂ (λ a b. a ∷ b) (above x h.0.fits) (each_above v h.1)
 
 pub stops_mask : (n : ℕ) (v : List ℕ) → length v ≡ n → n ≤ 64 → Each1 (Fits w8) v
     → mask_l (map (top 7) (zip2 (λ a b. cond (ltb a b) 255 0) (replicate n 94) (zip2 (λ a b. (a + (256 - b)) % 256) v
-    (replicate n 32)))) % 2 ^ 64 ≡ mask_l (map is_not_plain v)
+    (replicate n 32)))) % 2 ^ 64 ≡ mask_l (map (λ b. not (is_plain b)) v)
 stops_mask n v long few fits =
     let shift = λ (x : ℕ). (x + 224) % 256 in
     ap (λ m. mask_l m % 2 ^ 64)
@@ -36,27 +36,12 @@ stops_mask n v long few fits =
     ∙ zip2_splat_left ltb 94 n (map shift v) (length-map v shift ∙ long)
     ∙ map-map (λ y. ltb 94 y) shift v
     ∙ each_above v fits)
-    ∙ mask_l-mod (map is_not_plain v) 64 (omega (arith, length-map v is_not_plain))
+    ∙ mask_l-mod (map (λ b. not (is_plain b)) v) 64 (omega (arith, length-map v (λ b. not (is_plain b))))
 
--- ---- the longest front of plain bytes
+-- ---- the test and its meaning
 
-plain_byte : (b : ℕ) → is_plain b ≡ true → IsPlain b
+pub plain_byte : (b : ℕ) → is_plain b ≡ true → IsPlain b
 plain_byte b e = (grind (arith, nat_tests), grind (arith, nat_tests))
 
-plain_test : (b : ℕ) → IsPlain b → is_plain b ≡ true
+pub plain_test : (b : ℕ) → IsPlain b → is_plain b ≡ true
 plain_test b h = grind (arith, nat_tests)
-
-pub front_plain : (xs : List ℕ) → All IsPlain (take (prefix_len is_plain xs) xs)
-front_plain xs =
-    let n = prefix_len is_plain xs in
-    All-from_get_or IsPlain (take n xs) 0
-    (λ k h. let below : k < n =
-    omega (arith, h, length-take n xs) in subst (λ (b : ℕ). IsPlain b) (sym (get_or-take n xs k 0 below))
-    (plain_byte _ (prefix_len_passes is_plain xs k 0 below)))
-
-pub next_not_plain : (xs : List ℕ) → prefix_len is_plain xs < length xs
-    → IsPlain (get_or xs (prefix_len is_plain xs) 0) → ⊥
-next_not_plain xs h p =
-    let e = plain_test (get_or xs (prefix_len is_plain xs) 0) p in
-    let f = prefix_len_stops is_plain xs 0 h in
-    let no = sym e ∙ f in cc

@@ -1,6 +1,6 @@
 -- The classes of bytes (ECMA-48 5.4, ECMA-35 13; which bytes are quiet is this profile). A byte is at most 0xFF.
 use Rattle.std.specs.Prelude.{◌≡◌, ◌≤◌, ℕ, List, [], ◌∷◌, Bool, true, false, nat_lt, nat_le, ◌==◌, ◌||◌, ◌&&◌, not}
-use Rattle.std.specs.Prelude.{if◌then◌else◌}
+use Rattle.std.specs.Prelude.{if◌then◌else◌, ◌⊎◌}
 use Rattle.vt_syntax.specs.declared.class.Class.{Class}
 use Rattle.vt_syntax.specs.declared.class.Class.TheVariants.{Quiet, Cancel, Esc, Intermediate, Parameter, Final, High}
 
@@ -51,11 +51,15 @@ is_opener b = b == 0x1B || opens b
 abbrev pub is_plain : ℕ → Bool
 is_plain b = nat_le 0x20 b && nat_lt b 0x7F
 
-abbrev pub is_not_plain : ℕ → Bool
-is_not_plain b = not (is_plain b)
-
 abbrev pub IsPlain : ℕ → Type 0
 IsPlain b = (0x20 ≤ b) × (b ≤ 0x7E)
+
+-- the bytes of the two graphic areas of the code table, with the space: 20..7E and A1..FE (ECMA-35 6.2)
+abbrev pub is_in_areas : ℕ → Bool
+is_in_areas b = (nat_le 0x20 b && nat_le b 0x7E) || (nat_le 0xA1 b && nat_le b 0xFE)
+
+abbrev pub IsInAreas : ℕ → Type 0
+IsInAreas b = ((0x20 ≤ b) × (b ≤ 0x7E)) ⊎ ((0xA1 ≤ b) × (b ≤ 0xFE))
 
 -- each byte of the list passes
 abbrev pub Each : (ℕ → Bool) → List ℕ → Type 0

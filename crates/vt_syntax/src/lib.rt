@@ -10,7 +10,9 @@ mod class;
 mod content;
 mod event;
 mod front;
+mod graphic;
 mod held;
+mod lanes;
 pub mod laws;
 mod parser;
 mod plain;
@@ -20,6 +22,7 @@ mod whole;
 
 pub use event::{Event, EventKind, Taken};
 pub use front::{front_control, front_escape, front_sequence, front_short_escape};
+pub use graphic::{graphic_run, is_in_areas};
 pub use held::{Held, Inters, Phase};
 pub use parser::Parser;
 pub use plain::plain_run;

@@ -1,10 +1,36 @@
 //! Runs of plain bytes, found by lanes.
-ghost use Rattle.std.specs.Prelude.{◌≡◌, ◌+◌, ◌<◌, ◌≤◌, length, map, take, drop, slice_index, All};
-ghost use Rattle.std.specs.List.{prefix_len};
-ghost use Rattle.std.specs.Simd.Lanes.{mask_l};
-ghost use Rattle.vt_syntax.specs.Class.{is_plain, is_not_plain, IsPlain};
+ghost use Rattle.std.specs.Prelude.{◌≡◌, ◌<◌, ◌≤◌, length, take, slice_index, All};
+ghost use Rattle.vt_syntax.specs.Class.{is_plain, IsPlain};
 
+use crate::lanes::{ByteClass, end_of};
 use std::simd::prelude::*;
+
+/// The plain bytes.
+struct Plain;
+
+impl ByteClass for Plain {
+    ghost test = { is_plain };
+
+    #[inline(always)]
+    fn has(byte: u8) -> bool {
+        0x20 <= byte && byte < 0x7F
+    }
+
+    /// Less 20, with wrapping, it is above 5E.
+    #[inline(always)]
+    fn ends_16(lanes: u8x16) -> u64 {
+        u8x16::splat(0x5E)
+            .simd_lt(lanes - u8x16::splat(0x20))
+            .to_bitmask()
+    }
+
+    #[inline(always)]
+    fn ends_8(lanes: u8x8) -> u64 {
+        u8x8::splat(0x5E)
+            .simd_lt(lanes - u8x8::splat(0x20))
+            .to_bitmask()
+    }
+}
 
 /// How many bytes of `piece`, from the first on, are plain, that is 20..7E.
 pub fn plain_run(piece: &[u8]) -> usize
@@ -12,66 +38,5 @@ pub fn plain_run(piece: &[u8]) -> usize
     ensures plain { All IsPlain (take result piece.now) }
     ensures stops { result < length piece.now → ¬ IsPlain (slice_index piece.now result) }
 {
-    plain_end(piece)
-}
-
-/// The place of the first byte that isn't plain, or the length, looked for a vector of 16 bytes at a time.
-fn plain_end(piece: &[u8]) -> usize
-    ensures { result ≡ prefix_len is_plain piece.now }
-{
-    let mut at = 0;
-    while at + 16 <= piece.len() {
-        let stops = stops_16(u8x16::from_slice(&piece[at..]));
-        if stops != 0 {
-            return at + stops.trailing_zeros() as usize;
-        }
-        at += 16;
-    }
-    plain_end_8(piece, at)
-}
-
-/// The same from `at` on, where fewer than 16 bytes are left.
-fn plain_end_8(piece: &[u8], at: usize) -> usize
-    requires { at ≤ length piece.now }
-    ensures { result ≡ at + prefix_len is_plain (drop at piece.now) }
-{
-    if piece.len() - at < 8 {
-        return plain_end_slowly(piece, at);
-    }
-    let stops = stops_8(u8x8::from_slice(&piece[at..]));
-    if stops != 0 {
-        return at + stops.trailing_zeros() as usize;
-    }
-    plain_end_slowly(piece, at + 8)
-}
-
-/// The same, a byte at a time.
-fn plain_end_slowly(piece: &[u8], from: usize) -> usize
-    requires { from ≤ length piece.now }
-    ensures { result ≡ from + prefix_len is_plain (drop from piece.now) }
-{
-    let mut at = from;
-    while at < piece.len() && 0x20 <= piece[at] && piece[at] < 0x7F {
-        at += 1;
-    }
-    at
-}
-
-/// A bit for each lane that isn't plain: less 20, with wrapping, it is above 5E.
-#[inline(always)]
-fn stops_16(lanes: u8x16) -> u64
-    ensures { result ≡ mask_l (map is_not_plain lanes) }
-{
-    u8x16::splat(0x5E)
-        .simd_lt(lanes - u8x16::splat(0x20))
-        .to_bitmask()
-}
-
-#[inline(always)]
-fn stops_8(lanes: u8x8) -> u64
-    ensures { result ≡ mask_l (map is_not_plain lanes) }
-{
-    u8x8::splat(0x5E)
-        .simd_lt(lanes - u8x8::splat(0x20))
-        .to_bitmask()
+    end_of::<Plain>(piece)
 }

@@ -5,7 +5,6 @@ mod PowerUp
 mod Cuts
 mod Lines
 mod Runs
-mod GraphicRuns
 mod Bytes
 mod GlyphSizes
 mod Equal

@@ -3,7 +3,6 @@ pub mod Sound
 pub mod Parameters
 pub mod Moving
 pub mod Tabs
-pub mod Graphics
 pub mod Writing
 pub mod Runs
 pub mod Editing

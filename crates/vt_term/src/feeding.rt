@@ -11,7 +11,6 @@ ghost use Rattle.vt_syntax.specs.Spelling.{IsEvent, IsGraphic};
 ghost use Rattle.vt_term.specs.Play.{play};
 ghost use Rattle.vt_term.specs.Runs.{WritesAscii};
 
-use crate::graphics::{graphic_run, has_glyph, right_half_at};
 use crate::laws::cuts;
 use crate::terminal::{REPORT_LIMIT, Terminal};
 use std::alloc::AllocError;
@@ -19,11 +18,17 @@ use vt_glyph::laws::in_use;
 use vt_syntax::laws::{one_split, spelled};
 use vt_syntax::{
     EventKind, Taken, Values, front_control, front_escape, front_sequence, front_short_escape,
-    plain_run,
+    graphic_run, is_in_areas, plain_run,
 };
 
 /// From how many plain bytes on they are written by themselves, also where bytes of the right half follow.
 const LONG_RUN: usize = 8;
+
+/// Whether there is a byte at a place, and it is of the right half.
+#[inline(always)]
+fn right_half_at(piece: &[u8], at: usize) -> bool {
+    at < piece.len() && piece[at] >= 0xA0
+}
 
 impl Terminal {
     /// Plays a piece of the host's bytes, and appends the reports to `out`.
@@ -138,7 +143,7 @@ impl Terminal {
         if byte == 0x0D {
             return (self.feed_carriage_return(piece), true);
         }
-        if has_glyph(byte) {
+        if is_in_areas(byte) {
             return (self.feed_graphics(piece), true);
         }
         if let Some(control) = front_control(piece) {

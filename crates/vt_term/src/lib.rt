@@ -6,7 +6,6 @@ mod display;
 mod editing;
 mod feeding;
 mod functions;
-mod graphics;
 pub mod laws;
 mod modes;
 mod readers;

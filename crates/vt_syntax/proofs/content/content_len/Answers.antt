@@ -5,7 +5,7 @@ use Rattle.vt_syntax.proofs.ContentRuns.{run_goes_on}
 use Rattle.vt_syntax.proofs.content.content_len.Goals as goal
 
 pub returns-clause-within : goal.returns-clause-within
-returns-clause-within c = omega (arith, c.content_end.ensures, prefix_len-le-length goes_on c.args.piece.now)
+returns-clause-within c = omega (arith, c.end_of.ensures, prefix_len-le-length goes_on c.args.piece.now)
 
 pub returns-clause-content : goal.returns-clause-content
-returns-clause-content c = λ osc. rw (c.content_end.ensures) (run_goes_on osc c.args.piece.now)
+returns-clause-content c = λ osc. rw (c.end_of.ensures) (run_goes_on osc c.args.piece.now)

@@ -1,7 +1,0 @@
--- The lanes are bytes.
-use Rattle.std.proofs.Common.{arith}
-use Rattle.vt_syntax.proofs.ContentRuns.{stops_mask}
-use Rattle.vt_syntax.proofs.content.stops_32.Goals as goal
-
-pub returns : goal.returns
-returns c = stops_mask 32 c.args.lanes c.fits-lanes.0 (omega arith) c.fits-lanes.1

@@ -1,0 +1,52 @@
+//! Runs of bytes of the graphic areas, found by lanes.
+ghost use Rattle.std.specs.Prelude.{◌≡◌, ◌<◌, ◌≤◌, length, take, slice_index, All};
+ghost use Rattle.std.specs.Bool.{OnTrue};
+ghost use Rattle.vt_syntax.specs.Class.{is_in_areas, IsInAreas};
+
+use crate::lanes::{ByteClass, end_of};
+use std::simd::prelude::*;
+
+/// The bytes of the graphic areas.
+struct Graphic;
+
+impl ByteClass for Graphic {
+    ghost test = { is_in_areas };
+
+    #[inline(always)]
+    fn has(byte: u8) -> bool {
+        is_in_areas(byte)
+    }
+
+    /// Less 20 it is above 5E, and less A1 above 5D, both with wrapping.
+    #[inline(always)]
+    fn ends_16(lanes: u8x16) -> u64 {
+        let not_left = u8x16::splat(0x5E).simd_lt(lanes - u8x16::splat(0x20));
+        let not_right = u8x16::splat(0x5D).simd_lt(lanes - u8x16::splat(0xA1));
+        (not_left & not_right).to_bitmask()
+    }
+
+    #[inline(always)]
+    fn ends_8(lanes: u8x8) -> u64 {
+        let not_left = u8x8::splat(0x5E).simd_lt(lanes - u8x8::splat(0x20));
+        let not_right = u8x8::splat(0x5D).simd_lt(lanes - u8x8::splat(0xA1));
+        (not_left & not_right).to_bitmask()
+    }
+}
+
+/// Whether a byte is of one of the two graphic areas of the code table, or the space: 20..7E or A1..FE.
+#[inline(always)]
+pub fn is_in_areas(byte: u8) -> bool
+    ensures tells { result ≡ is_in_areas byte }
+    ensures graphic { OnTrue result (IsInAreas byte) }
+{
+    (0x20 <= byte && byte <= 0x7E) || (0xA1 <= byte && byte <= 0xFE)
+}
+
+/// How many bytes of `piece`, from the first on, are of the graphic areas.
+pub fn graphic_run(piece: &[u8]) -> usize
+    ensures within { result ≤ length piece.now }
+    ensures graphic { All IsInAreas (take result piece.now) }
+    ensures stops { result < length piece.now → ¬ IsInAreas (slice_index piece.now result) }
+{
+    end_of::<Graphic>(piece)
+}

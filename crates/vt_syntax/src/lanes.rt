@@ -1,0 +1,68 @@
+//! Where a run of bytes of one class ends, looked for by lanes.
+ghost use Rattle.std.specs.Prelude.{◌≡◌, ◌+◌, ◌≤◌, ℕ, Bool, length, map, not, drop};
+ghost use Rattle.std.specs.List.{prefix_len};
+ghost use Rattle.std.specs.Simd.Lanes.{mask_l};
+
+use std::simd::prelude::*;
+
+/// A class of bytes, by its test: of one byte, and of each lane of a vector.
+pub(crate) trait ByteClass {
+    ghost test: { ℕ → Bool };
+
+    /// Whether a byte is of the class.
+    fn has(byte: u8) -> bool
+        ensures { result ≡ test byte };
+
+    /// A bit for each lane that isn't of the class.
+    fn ends_16(lanes: u8x16) -> u64
+        ensures { result ≡ mask_l (map (λ b. not (test b)) lanes) };
+
+    /// A bit for each lane that isn't of the class.
+    fn ends_8(lanes: u8x8) -> u64
+        ensures { result ≡ mask_l (map (λ b. not (test b)) lanes) };
+}
+
+/// The place of the first byte that isn't of the class, or the length, looked for a vector of 16 bytes at a time.
+#[inline(always)]
+pub(crate) fn end_of<C: ByteClass>(piece: &[u8]) -> usize
+    ensures { result ≡ prefix_len C.test piece.now }
+{
+    let mut at = 0;
+    while at + 16 <= piece.len() {
+        let ends = C::ends_16(u8x16::from_slice(&piece[at..]));
+        if ends != 0 {
+            return at + ends.trailing_zeros() as usize;
+        }
+        at += 16;
+    }
+    end_of_8::<C>(piece, at)
+}
+
+/// The same from `at` on, where fewer than 16 bytes are left.
+#[inline(always)]
+fn end_of_8<C: ByteClass>(piece: &[u8], at: usize) -> usize
+    requires { at ≤ length piece.now }
+    ensures { result ≡ at + prefix_len C.test (drop at piece.now) }
+{
+    if piece.len() - at < 8 {
+        return end_of_slowly::<C>(piece, at);
+    }
+    let ends = C::ends_8(u8x8::from_slice(&piece[at..]));
+    if ends != 0 {
+        return at + ends.trailing_zeros() as usize;
+    }
+    end_of_slowly::<C>(piece, at + 8)
+}
+
+/// The same, a byte at a time.
+#[inline(always)]
+fn end_of_slowly<C: ByteClass>(piece: &[u8], from: usize) -> usize
+    requires { from ≤ length piece.now }
+    ensures { result ≡ from + prefix_len C.test (drop from piece.now) }
+{
+    let mut at = from;
+    while at < piece.len() && C::has(piece[at]) {
+        at += 1;
+    }
+    at
+}

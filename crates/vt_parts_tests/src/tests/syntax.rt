@@ -2,7 +2,10 @@
 use arrayvec::ArrayVec;
 use std::process::Abort;
 use std::test::Fail;
-use vt_syntax::{Event, EventKind, Held, Inters, Parser, Phase, Taken, Values, plain_run};
+use vt_syntax::{
+    Event, EventKind, Held, Inters, Parser, Phase, Taken, Values, graphic_run, is_in_areas,
+    plain_run,
+};
 
 /// A new parser after these bytes, and the event that the last of them completed.
 fn parsed(bytes: &[u8]) -> (Parser, Option<Event>) {
@@ -286,4 +289,19 @@ fn plain_runs(rt: HostRuntime) -> Result<(), Fail> {
         assert_eq!(rt; plain_run(piece), want);
     }
     Ok(())
+}
+
+#[test]
+fn graphic_runs(rt: HostRuntime) {
+    let mut pounds = [0xA3; 40];
+    pounds[30] = 0xA0;
+    for (piece, want) in [
+        (b"".as_slice(), 0),
+        ([0x7F, 0x41].as_slice(), 0),
+        ([0x20, 0x7E, 0xA1, 0xFE, 0xFF].as_slice(), 4),
+        (pounds.as_slice(), 30),
+    ] {
+        assert_eq!(rt; graphic_run(piece), want);
+    }
+    assert!(rt; is_in_areas(0xA1) && !is_in_areas(0x9B));
 }

@@ -1,7 +1,10 @@
 -- One more row.
-use Rattle.std.proofs.Common.{◌≡◌, ℕ, zero, suc, ◌+◌, List, [], ◌∷◌, ◌++◌, ap, ◌∙◌, arith, append-nil}
+use Rattle.std.proofs.Common.{◌≡◌, ℕ, zero, suc, ◌+◌, ◌-◌, ◌≤◌, List, [], ◌∷◌, ◌++◌, ap, ◌∙◌, arith, append-nil}
+use Rattle.std.proofs.Common.{append_assoc, sym}
 use Rattle.std.specs.List.{range_with_len, flat_map}
 use Rattle.std.proofs.lemmas.Grind.{flat_map-append}
+use Rattle.vt_screen.specs.declared.cell.Cell.{Cell}
+use Rattle.vt_screen.specs.Grid.{Grid, row_of}
 
 range-suc : (a n : ℕ) → range_with_len a (suc n) ≡ range_with_len a n ++ (a + n) ∷ []
 range-suc a zero = let e : a ≡ a + 0 = omega arith in ap (λ (m : ℕ). let ms : List ℕ = m ∷ [] in ms) e
@@ -20,3 +23,18 @@ rows-more f n m e =
     ∙ ap (λ (rows : List ℕ). flat_map f rows) (range-suc 1 n ∙ ap (λ k. range_with_len 1 n ++ k ∷ []) last)
     ∙ flat_map-append f (range_with_len 1 n) (m ∷ [])
     ∙ ap (λ (t : List ℕ). flat_map f (range_with_len 1 n) ++ t) (append-nil (f m))
+
+-- what is written of the first rows of a grid, each by its number and its cells
+abbrev pub of_rows : (ℕ → List Cell → List ℕ) → ℕ → Grid → List ℕ
+of_rows f count g = flat_map (λ r. f r (row_of g r)) (range_with_len 1 count)
+
+-- behind those before a row, what is written of that row
+pub row_written : (f : ℕ → List Cell → List ℕ) (g : Grid) (row : ℕ) (before held after : List ℕ) (cells : List Cell)
+    → 1 ≤ row → cells ≡ row_of g row → held ≡ before ++ of_rows f (row - 1) g → after ≡ held ++ f row cells
+    → after ≡ before ++ of_rows f (row + 1 - 1) g
+row_written f g row before held after cells from_1 are was is =
+    let next : row - 1 + 1 ≡ row + 1 - 1 = omega arith in
+    is ∙ ap (λ (t : List ℕ). t ++ f row cells) was ∙ append_assoc before (of_rows f (row - 1) g) (f row cells)
+    ∙ ap (λ (t : List ℕ). before ++ t)
+    (ap (λ c. of_rows f (row - 1) g ++ f row c) are
+    ∙ sym (rows-more (λ r. f r (row_of g r)) (row - 1) row (omega arith)) ∙ ap (λ n. of_rows f n g) next)

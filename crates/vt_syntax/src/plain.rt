@@ -15,11 +15,27 @@ pub fn plain_run(piece: &[u8]) -> usize
     plain_end(piece)
 }
 
-/// The place of the first byte that isn't plain, or the length, looked for a vector of 16 bytes at a time.
+/// The place of the first byte that isn't plain, or the length, looked for a vector of 16 bytes at a time. (Most runs end
+/// in the first vector, which therefore stands before the loop.)
 fn plain_end(piece: &[u8]) -> usize
     ensures { result ≡ prefix_len is_plain piece.now }
 {
-    let mut at = 0;
+    if piece.len() < 16 {
+        return plain_end_8(piece, 0);
+    }
+    let stops = stops_16(u8x16::from_slice(piece));
+    if stops != 0 {
+        return stops.trailing_zeros() as usize;
+    }
+    plain_end_from(piece, 16)
+}
+
+/// The same from a place on.
+fn plain_end_from(piece: &[u8], from: usize) -> usize
+    requires { from ≤ length piece.now }
+    ensures { result ≡ from + prefix_len is_plain (drop from piece.now) }
+{
+    let mut at = from;
     while at + 16 <= piece.len() {
         let stops = stops_16(u8x16::from_slice(&piece[at..]));
         if stops != 0 {

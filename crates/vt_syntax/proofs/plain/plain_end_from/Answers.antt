@@ -3,7 +3,7 @@ use Rattle.std.proofs.Common.{sym, ap, ◌∙◌, arith}
 use Rattle.vt_syntax.specs.Class.{is_plain}
 use lib.Count.{count_trailing_zeros}
 use Rattle.vt_syntax.proofs.Lanes.{run_through, run_stops}
-use Rattle.vt_syntax.proofs.plain.plain_end.Goals as goal
+use Rattle.vt_syntax.proofs.plain.plain_end_from.Goals as goal
 
 pub returns-then-stops-ne0 : goal.returns-then-stops-ne0
 returns-then-stops-ne0 c =

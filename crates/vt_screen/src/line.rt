@@ -1,6 +1,7 @@
 //! Edits of the cells of one row. A line counts its cells from 0.
 ghost use Rattle.std.specs.Prelude.{◌≡◌, ℕ, ◌+◌, ◌-◌, ◌<◌, ◌≤◌, ◌↔◌, IsTrue, length, slice_index, slice_index_or, All};
-ghost use Rattle.vt_screen.specs.Cells.{blank, erased, selectively_erased, cell_like};
+ghost use Rattle.std.specs.Bool.{OnTrue};
+ghost use Rattle.vt_screen.specs.Cells.{blank, brush_of, plain_brush, erased, selectively_erased, cell_like};
 ghost use Rattle.vt_screen.specs.Words.{cell_word};
 ghost use Rattle.vt_glyph.specs.Encoding.{encoded_glyph, encoding_of};
 ghost use Rattle.vt_glyph.specs.Invocation.{HasGlyph, glyph_in_use};
@@ -136,15 +137,134 @@ fn write(place: &mut Cell, cell: &Cell)
 }
 
 /// Writes ASCII codes, each with the attributes and the protection of `like`.
+#[inline(always)]
 pub fn write_codes(cells: &mut [Cell], codes: &[u8], like: Cell)
     requires codes { All (λ code. (0x20 ≤ code) × (code ≤ 0x7E)) codes.now }
     requires len { length cells.old ≡ length codes.now }
     ensures { (k : ℕ) → k < length codes.now
         → slice_index_or cells.new k blank ≡ cell_like like (slice_index codes.now k) }
 {
-    for (i, code) in codes.iter().enumerate() {
-        write_like(&mut cells[i], &like, Glyph::ascii(*code));
+    if codes.len() < 8 {
+        write_few(cells, codes, &like);
+    } else if is_plain(&like) {
+        write_blocks(cells, codes, &Cell::blank());
+    } else {
+        write_each(cells, codes, &like);
     }
+}
+
+/// Whether a cell has no attribute and isn't protected.
+#[inline(always)]
+fn is_plain(cell: &Cell) -> bool
+    ensures { OnTrue result (brush_of cell.now ≡ plain_brush) }
+{
+    !(cell.rendition.bold
+        | cell.rendition.underline
+        | cell.rendition.blink
+        | cell.rendition.reverse
+        | cell.protected)
+}
+
+/// Writes ASCII codes one after another.
+#[inline(never)]
+fn write_each(cells: &mut [Cell], codes: &[u8], like: &Cell)
+    requires codes { All (λ code. (0x20 ≤ code) × (code ≤ 0x7E)) codes.now }
+    requires len { length cells.old ≡ length codes.now }
+    ensures { (k : ℕ) → k < length codes.now
+        → slice_index_or cells.new k blank ≡ cell_like like.now (slice_index codes.now k) }
+{
+    for (i, code) in codes.iter().enumerate() {
+        write_like(&mut cells[i], like, Glyph::ascii(*code));
+    }
+}
+
+/// Writes at least eight ASCII codes: sixteen at a time, and then the rest in blocks that end with the last cell, so
+/// that some cells are written twice. (Where `like` is a constant the compiler makes one move of each two cells.)
+#[inline(always)]
+fn write_blocks(cells: &mut [Cell], codes: &[u8], like: &Cell)
+    requires codes { All (λ code. (0x20 ≤ code) × (code ≤ 0x7E)) codes.now }
+    requires len { length cells.old ≡ length codes.now }
+    requires many { 8 ≤ length codes.now }
+    ensures { (k : ℕ) → k < length codes.now
+        → slice_index_or cells.new k blank ≡ cell_like like.now (slice_index codes.now k) }
+{
+    let len = codes.len();
+    let mut at = 0;
+    while len - at >= 16 {
+        write_eight(cells, codes, at, like);
+        write_eight(cells, codes, at + 8, like);
+        at += 16;
+    }
+    if len - at >= 8 {
+        write_eight(cells, codes, at, like);
+    }
+    write_eight(cells, codes, len - 8, like);
+}
+
+/// The same for fewer than eight codes.
+#[inline(always)]
+fn write_few(cells: &mut [Cell], codes: &[u8], like: &Cell)
+    requires codes { All (λ code. (0x20 ≤ code) × (code ≤ 0x7E)) codes.now }
+    requires len { length cells.old ≡ length codes.now }
+    requires few { length codes.now < 8 }
+    ensures { (k : ℕ) → k < length codes.now
+        → slice_index_or cells.new k blank ≡ cell_like like.now (slice_index codes.now k) }
+{
+    let len = codes.len();
+    if len >= 4 {
+        write_four(cells, codes, 0, like);
+        write_four(cells, codes, len - 4, like);
+    } else if len >= 2 {
+        write_two(cells, codes, 0, like);
+        write_two(cells, codes, len - 2, like);
+    } else if len == 1 {
+        write_like(&mut cells[0], like, Glyph::ascii(codes[0]));
+    }
+}
+
+/// Writes the eight ASCII codes from a place on.
+#[inline(always)]
+fn write_eight(cells: &mut [Cell], codes: &[u8], at: usize, like: &Cell)
+    requires codes { All (λ code. (0x20 ≤ code) × (code ≤ 0x7E)) codes.now }
+    requires len { length cells.old ≡ length codes.now }
+    requires at { at + 8 ≤ length codes.now }
+    ensures here { (k : ℕ) → at ≤ k → k < at + 8
+        → slice_index_or cells.new k blank ≡ cell_like like.now (slice_index codes.now k) }
+    ensures front { (k : ℕ) → k < at → slice_index_or cells.new k blank ≡ slice_index_or cells.old k blank }
+{
+    write_four(cells, codes, at, like);
+    write_four(cells, codes, at + 4, like);
+}
+
+/// Writes the four ASCII codes from a place on.
+#[inline(always)]
+fn write_four(cells: &mut [Cell], codes: &[u8], at: usize, like: &Cell)
+    requires codes { All (λ code. (0x20 ≤ code) × (code ≤ 0x7E)) codes.now }
+    requires len { length cells.old ≡ length codes.now }
+    requires at { at + 4 ≤ length codes.now }
+    ensures here { (k : ℕ) → at ≤ k → k < at + 4
+        → slice_index_or cells.new k blank ≡ cell_like like.now (slice_index codes.now k) }
+    ensures front { (k : ℕ) → k < at → slice_index_or cells.new k blank ≡ slice_index_or cells.old k blank }
+{
+    write_two(cells, codes, at, like);
+    write_two(cells, codes, at + 2, like);
+}
+
+/// Writes the two ASCII codes from a place on. (Both are read before a cell is written: so the compiler makes one move
+/// of two cells.)
+#[inline(always)]
+fn write_two(cells: &mut [Cell], codes: &[u8], at: usize, like: &Cell)
+    requires codes { All (λ code. (0x20 ≤ code) × (code ≤ 0x7E)) codes.now }
+    requires len { length cells.old ≡ length codes.now }
+    requires at { at + 2 ≤ length codes.now }
+    ensures here { (k : ℕ) → at ≤ k → k < at + 2
+        → slice_index_or cells.new k blank ≡ cell_like like.now (slice_index codes.now k) }
+    ensures front { (k : ℕ) → k < at → slice_index_or cells.new k blank ≡ slice_index_or cells.old k blank }
+{
+    let first = codes[at];
+    let second = codes[at + 1];
+    write_like(&mut cells[at], like, Glyph::ascii(first));
+    write_like(&mut cells[at + 1], like, Glyph::ascii(second));
 }
 
 /// Writes the glyphs of graphic bytes, each with the attributes and the protection of `like`: eight at a time, since a
@@ -158,8 +278,8 @@ pub fn write_graphics(cells: &mut [Cell], bytes: &[u8], table: &InUse, like: Cel
 {
     let mut at = 0;
     while bytes.len() - at >= 8 {
-        write_four(cells, bytes, at, table, &like);
-        write_four(cells, bytes, at + 4, table, &like);
+        write_four_graphics(cells, bytes, at, table, &like);
+        write_four_graphics(cells, bytes, at + 4, table, &like);
         at += 8;
     }
     while at < bytes.len() {
@@ -170,7 +290,7 @@ pub fn write_graphics(cells: &mut [Cell], bytes: &[u8], table: &InUse, like: Cel
 
 /// Writes the glyphs of the four graphic bytes from a place on.
 #[inline(always)]
-fn write_four(cells: &mut [Cell], bytes: &[u8], at: usize, table: &InUse, like: &Cell)
+fn write_four_graphics(cells: &mut [Cell], bytes: &[u8], at: usize, table: &InUse, like: &Cell)
     requires bytes { All HasGlyph bytes.now }
     requires len { length cells.old ≡ length bytes.now }
     requires at { at + 4 ≤ length bytes.now }

@@ -156,6 +156,7 @@ impl Screen {
     /// without codes nothing changes.
     ///
     /// (The clause speaks of glyphs: that of an ASCII code has the same number.)
+    #[inline(always)]
     pub fn put_run(&mut self, row: usize, column: usize, codes: &[u8], like: Cell)
         requires row { (1 ≤ row) × (row ≤ last_row) }
         requires column { (1 ≤ column) × (column ≤ self.old.width) }

@@ -16,7 +16,8 @@ use crate::whole::{ends_escape, is_introducer, plain_escape, read_values};
 /// byte. Its values are put into `values`.
 ///
 /// `None` where none stands whole at the front of the piece, and for what isn't common: more than 16 values, a value of
-/// four digits, a byte inside that has a function of its own, or the piece ends soon.
+/// four digits, a final byte above `r`, a byte inside that has a function of its own, or the piece ends soon. (So a
+/// caller that has a function for final bytes up to `r` chooses it without a further test.)
 #[inline(always)]
 pub fn front_sequence(piece: &[u8], values: &mut Values) -> Option<(usize, u8)>
     ensures { IfSome result (λ t. IsFront piece.now t.0 (Sequence None (record { items = values.new }) None t.1)) }
@@ -26,7 +27,7 @@ pub fn front_sequence(piece: &[u8], values: &mut Values) -> Option<(usize, u8)>
     }
     let at = read_values(piece, 2, None, values)?;
     let last = piece[at];
-    if 0x40 <= last && last < 0x7F {
+    if 0x40 <= last && last <= b'r' {
         return Some((at + 1, last));
     }
     None

@@ -22,12 +22,29 @@ pub(crate) trait ByteClass {
         ensures { result ≡ mask_l (map (λ b. not (test b)) lanes) };
 }
 
-/// The place of the first byte that isn't of the class, or the length, looked for a vector of 16 bytes at a time.
+/// The place of the first byte that isn't of the class, or the length, looked for a vector of 16 bytes at a time. (Most runs
+/// end in the first vector, which therefore stands before the loop.)
 #[inline(always)]
 pub(crate) fn end_of<C: ByteClass>(piece: &[u8]) -> usize
     ensures { result ≡ prefix_len C.test piece.now }
 {
-    let mut at = 0;
+    if piece.len() < 16 {
+        return end_of_8::<C>(piece, 0);
+    }
+    let ends = C::ends_16(u8x16::from_slice(piece));
+    if ends != 0 {
+        return ends.trailing_zeros() as usize;
+    }
+    end_from::<C>(piece, 16)
+}
+
+/// The same from a place on.
+#[inline(always)]
+fn end_from<C: ByteClass>(piece: &[u8], from: usize) -> usize
+    requires { from ≤ length piece.now }
+    ensures { result ≡ from + prefix_len C.test (drop from piece.now) }
+{
+    let mut at = from;
     while at + 16 <= piece.len() {
         let ends = C::ends_16(u8x16::from_slice(&piece[at..]));
         if ends != 0 {

@@ -185,24 +185,21 @@ fn read_value(piece: &[u8], at: usize) -> (u16, usize)
         return (0, at);
     };
     let Some(b) = digit(piece[at + 1]) else {
-        return (a, at + 1);
+        return (a as u16, at + 1);
     };
     let Some(c) = digit(piece[at + 2]) else {
-        return (10 * a + b, at + 2);
+        return ((10 * a + b) as u16, at + 2);
     };
-    (100 * a + 10 * b + c, at + 3)
+    ((100 * a + 10 * b + c) as u16, at + 3)
 }
 
-/// The number that a digit stands for.
+/// The number that a digit stands for. (In 32 bits, since of a byte the compiler would widen it again at each use.)
 #[inline(always)]
-fn digit(b: u8) -> Option<u16>
+fn digit(b: u8) -> Option<u32>
     ensures { IfSome result (λ d. (48 ≤ b) × (b ≤ 57) × (d ≡ b - 48)) }
 {
-    if b'0' <= b && b <= b'9' {
-        Some((b - b'0') as u16)
-    } else {
-        None
-    }
+    let d = (b as u32).wrapping_sub(0x30);
+    if d < 10 { Some(d) } else { None }
 }
 
 /// An escape sequence.

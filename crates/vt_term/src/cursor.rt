@@ -3,6 +3,7 @@ ghost use Rattle.std.specs.Prelude.{◌≡◌, ◌≤◌};
 ghost use Rattle.vt_term.specs.Moving.{home, backspace, carriage_return, cursor_up, cursor_down, cursor_forward};
 ghost use Rattle.vt_term.specs.Moving.{cursor_backward, cursor_position, index, reverse_index, next_line, line_feed};
 ghost use Rattle.vt_term.specs.Moving.{set_margins};
+ghost use Rattle.vt_screen.specs.Grid.{scroll_up};
 
 use crate::display::{Display, ROWS};
 use crate::state::{Cursor, Margins};
@@ -95,14 +96,39 @@ impl Display {
     pub(crate) fn index(&mut self)
         ensures { self.new ≡ index self.old }
     {
-        let mut row = self.cursor.row;
+        let Cursor { row, col, .. } = self.cursor;
         if row == self.margins.bottom {
-            self.screen
-                .scroll_up(self.margins.top, self.margins.bottom, 1);
+            self.cursor = Cursor::at(row, col);
+            self.scroll_up_once();
         } else {
-            row = (row + 1).min(ROWS);
+            self.cursor = Cursor::at((row + 1).min(ROWS), col);
         }
-        self.cursor = Cursor::at(row, self.cursor.col);
+    }
+
+    /// The scroll region moves up by one. (The whole screen has a call of its own: its rows are moved by a copy of a
+    /// fixed size.)
+    #[inline(always)]
+    fn scroll_up_once(&mut self)
+        ensures { self.new ≡ record self.old {
+          grid = scroll_up self.old.grid self.old.margins.top self.old.margins.bottom 1;
+        } }
+    {
+        if self.margins.top == 1 && self.margins.bottom == ROWS {
+            self.screen.scroll_up(1, ROWS, 1);
+        } else {
+            self.scroll_region_up();
+        }
+    }
+
+    /// The same, whatever the margins are.
+    #[inline(never)]
+    fn scroll_region_up(&mut self)
+        ensures { self.new ≡ record self.old {
+          grid = scroll_up self.old.grid self.old.margins.top self.old.margins.bottom 1;
+        } }
+    {
+        self.screen
+            .scroll_up(self.margins.top, self.margins.bottom, 1);
     }
 
     /// RI: up by one, staying in row 1; at the top margin the scroll region moves down instead.

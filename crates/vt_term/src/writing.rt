@@ -159,6 +159,7 @@ impl Display {
     }
 
     /// Writes a run of plain bytes that ends in the cursor's row.
+    #[inline(always)]
     fn put_run(&mut self, run: &[u8])
         requires plain { All IsPlain run.now }
         requires some { 1 ≤ length run.now }

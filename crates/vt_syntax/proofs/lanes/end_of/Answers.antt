@@ -1,4 +1,4 @@
--- The run goes through the vector, or ends at its first stop.
+-- The run goes through the first vector, or ends at its first stop.
 use Rattle.std.proofs.Common.{sym, ap, ◌∙◌, arith}
 use lib.Count.{count_trailing_zeros}
 use Rattle.vt_syntax.proofs.Masks.{run_through, run_stops}
@@ -7,12 +7,11 @@ use Rattle.vt_syntax.proofs.lanes.end_of.Goals as goal
 pub returns-then-ends-ne0 : goal.returns-then-ends-ne0
 returns-then-ends-ne0 g c =
     let ends = c.ends_16-ends.ensures in
-    let run = run_stops g.C.ByteClass.test c.args.piece.now c.loop-at.at 16 (omega arith) (omega arith)
-    (omega (arith, ends)) ∙ ap (count_trailing_zeros 64) (sym ends) in
-    omega (arith, run, c.loop-at.invariant.so_far)
+    sym (run_stops g.C.ByteClass.test c.args.piece.now 0 16 (omega arith) (omega arith) (omega (arith, ends))
+    ∙ ap (count_trailing_zeros 64) (sym ends))
 
-pub loop-at-preserved : goal.loop-at-preserved
-loop-at-preserved g c =
-    let run = run_through g.C.ByteClass.test c.args.piece.now c.loop-at.at 16 (omega arith)
+pub returns : goal.returns
+returns g c =
+    let run = run_through g.C.ByteClass.test c.args.piece.now 0 16 (omega arith)
     (omega (arith, c.ends_16-ends.ensures)) in
-    record { within = omega arith; so_far = omega (arith, run, c.loop-at.invariant.so_far) }
+    omega (arith, run, c.end_from.ensures)

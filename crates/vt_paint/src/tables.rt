@@ -93,7 +93,7 @@ pub(crate) fn cell_brush_number(cell: &Cell) -> u64
 }
 
 /// A cell as one number, a byte of it for each byte of the cell, so that it is read as one word.
-#[inline(always)]
+#[inline]
 pub(crate) fn cell_word(cell: &Cell) -> u64
     ensures word { result ≡ cell_word cell.now }
     ensures glyph { encoded_glyph (encoding_of cell.now.glyph) ≡ cell.now.glyph }

@@ -3,7 +3,7 @@ ghost use Rattle.std.specs.Prelude.{◌≤◌};
 ghost use Rattle.vt_screen.specs.Grid.{last_row};
 
 use crate::remote::Remote;
-use crate::rows::{ROWS, Rows, is_blank};
+use crate::rows::{BLANK, ROWS, Rows, word_of};
 use vt_screen::Cell;
 use vt_term::Terminal;
 
@@ -39,39 +39,57 @@ impl Remote {
             let here = gains[row - 1];
             below = below.wrapping_sub(here);
             if erased {
-                self.set_row(row, rows.blank(), Spared { here: 0, below: 0 }, to);
+                self.set_row(
+                    row,
+                    rows.blank(),
+                    i32::MAX,
+                    Spared { here: 0, below: 0 },
+                    to,
+                );
             } else if rows.differs(row) {
-                erased = self.set_row(row, rows.row(row), Spared { here, below }, to);
+                let differing = rows.differing(row);
+                erased = self.set_row(row, rows.row(row), differing, Spared { here, below }, to);
             }
         }
     }
 
-    /// The cells of a row. Answers whether the rows below were erased.
-    fn set_row(&mut self, row: usize, old: &[Cell], spared: Spared, to: &Terminal) -> bool
+    /// The cells of a row, which differ in so many places. Answers whether the rows below were erased.
+    fn set_row(
+        &mut self,
+        row: usize,
+        old: &[Cell],
+        differing: i32,
+        spared: Spared,
+        to: &Terminal,
+    ) -> bool
         requires { (1 ≤ row) × (row ≤ last_row) }
     {
+        let mut left = differing;
         let mut here = spared.here;
         let mut erased = Erased::Nothing;
         for (i, (old, new)) in old.iter().zip(to.row(row)).enumerate() {
-            let blank = is_blank(new);
-            if erased != Erased::Nothing {
-                if !blank {
-                    self.go(row, i + 1, to);
-                    self.write(*new);
-                }
-            } else if old != new {
-                if blank {
+            let word = word_of(new);
+            let was = if erased == Erased::Nothing {
+                word_of(old)
+            } else {
+                BLANK
+            };
+            if was == word {
+                here = here.wrapping_add((word != BLANK) as i32);
+            } else {
+                if word == BLANK {
                     let spared = Spared { here, ..spared };
                     erased = self.erase(row, i + 1, spared, to);
-                }
-                if erased == Erased::Nothing {
-                    self.go(row, i + 1, to);
-                    self.write(*new);
                     here = here.wrapping_sub(1);
                 }
-            }
-            if !blank {
-                here = here.wrapping_add(1);
+                if erased == Erased::Nothing || word != BLANK {
+                    self.go(row, i + 1, to);
+                    self.write(new);
+                }
+                left = left.wrapping_sub(1);
+                if left == 0 && erased == Erased::Nothing {
+                    break;
+                }
             }
         }
         erased == Erased::Below

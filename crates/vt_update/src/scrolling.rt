@@ -60,7 +60,7 @@ impl Scroll {
             }
         }
         let voted = voted?;
-        Gains::new(voted, shown, to).best(voted)
+        Gains::new(voted, rows, shown, to).best(voted)
     }
 }
 
@@ -120,14 +120,14 @@ struct Gains {
 }
 
 impl Gains {
-    fn new(scroll: Scroll, shown: &Terminal, to: &Terminal) -> Gains {
+    fn new(scroll: Scroll, rows: &Rows<'_>, shown: &Terminal, to: &Terminal) -> Gains {
         let mut gains = Gains {
             moved: [0; ROWS],
             blank: [0; ROWS],
         };
         for row in scroll.top..scroll.bottom + 1 {
             let new = to.row(row);
-            let differing = unlike(shown.row(row), new);
+            let differing = rows.differing(row);
             let source = scroll.source(row);
             if 1 <= source && source <= ROWS {
                 gains.moved[row - 1] = differing.wrapping_sub(unlike(shown.row(source), new));

@@ -1,12 +1,12 @@
 //! The other side: what it has now, its cells apart. Each method sends bytes, and changes it as they change a terminal.
 //!
 //! Of the cells one thing holds: those before the place looked at are already those that are asked for.
-ghost use Rattle.std.specs.Prelude.{◌≡◌, ◌≤◌, ◌<◌, ◌⊎◌, IfSome};
+ghost use Rattle.std.specs.Prelude.{◌≡◌, ◌≤◌, ◌<◌, ◌⊎◌, IfSome, length};
 ghost use Rattle.vt_screen.specs.Grid.{last_row};
 ghost use Rattle.vt_glyph.specs.Invocation.{HasGlyph};
 
 use crate::chosen::Chosen;
-use crate::rows::word_of;
+use crate::rows::{BLANK, word_of};
 use vt_glyph::{Glyph, Set, Sets, Spelling};
 use vt_screen::{Brush, Cell, Rendition};
 use vt_term::{Cursor, Margins, Modes, Saved, Terminal};
@@ -277,18 +277,57 @@ impl Remote {
         }
         let byte = self.byte_of(cell.glyph);
         self.chosen.push(byte);
-        if self.cursor.col < self.width {
-            self.cursor.col += 1;
+        self.pass(1);
+    }
+
+    /// Writes the first cell where the cursor is, and those behind it as long as they differ from the old ones, are plain
+    /// and not blank, and have its brush. Answers how many these are.
+    pub(crate) fn write_run(&mut self, old: &[Cell], new: &[Cell]) -> usize
+        requires some { 1 ≤ length new.now }
+        requires len { length old.now ≡ length new.now }
+        ensures some { 1 ≤ result }
+        ensures within { result ≤ length new.now }
+    {
+        self.write(&new[0]);
+        if !self.has_ascii() {
+            return 1;
+        }
+        let least = (word_of(&new[0]) >> 24 << 24) + b' ' as u64;
+        let mut count = 1;
+        while count < new.len() {
+            let word = word_of(&new[count]);
+            if word == word_of(&old[count]) || word == BLANK || word.wrapping_sub(least) > 0x5E {
+                break;
+            }
+            count += 1;
+        }
+        self.chosen.put_codes(&new[1..count]);
+        self.pass(count - 1);
+        count
+    }
+
+    /// The cursor behind so many cells more of its row.
+    fn pass(&mut self, count: usize) {
+        let col = self.cursor.col.saturating_add(count);
+        if col <= self.width {
+            self.cursor.col = col;
         } else {
+            self.cursor.col = self.width;
             self.cursor.wrap = self.modes.decawm;
         }
+    }
+
+    /// Whether ASCII is in GL.
+    #[inline(always)]
+    fn has_ascii(&self) -> bool {
+        self.sets.set(self.sets.left()) == Set::Ascii
     }
 
     /// The byte that writes a glyph, after its set was brought to GL where neither GL nor GR shows it. Most are plain.
     #[inline(always)]
     fn byte_of(&mut self, glyph: Glyph) -> u8 {
         let code = glyph.code() as u8;
-        if 0x20 <= code && code <= 0x7E && self.sets.set(self.sets.left()) == Set::Ascii {
+        if 0x20 <= code && code <= 0x7E && self.has_ascii() {
             return code;
         }
         self.other_byte_of(glyph)

@@ -92,7 +92,8 @@ pub(crate) fn cell_brush_number(cell: &Cell) -> u64
     brush_number(&cell.rendition, cell.protected)
 }
 
-/// A cell as one number, a byte of it for each byte of the cell, so that it is read as one word.
+/// A cell as one number, a byte of it for each byte of the cell, so that it is read as one word. (Inlined `always`, it
+/// would be inlined before its loads are made one.)
 #[inline]
 pub(crate) fn cell_word(cell: &Cell) -> u64
     ensures word { result ≡ cell_word cell.now }

@@ -144,7 +144,8 @@ impl Rows<'_> {
 /// The word of a blank cell: that of a space.
 pub(crate) const BLANK: u64 = 0x20;
 
-/// A cell as one number, a byte of it for each byte of the cell, so that it is read as one word.
+/// A cell as one number, a byte of it for each byte of the cell, so that it is read as one word. (Inlined `always`, it
+/// would be inlined before its loads are made one.)
 #[inline]
 pub(crate) fn word_of(cell: &Cell) -> u64 {
     cell.glyph.code() as u64

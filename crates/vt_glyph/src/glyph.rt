@@ -55,7 +55,7 @@ impl Eq for Glyph {
 
 impl Glyph {
     ghost use Rattle.vt_glyph.specs.Tables.{space, substitute_glyph, IsGlyph};
-    ghost use Rattle.vt_glyph.specs.Encoding.{encoded_glyph, encoding_of, IsEncoding};
+    ghost use Rattle.vt_glyph.specs.Encoding.{encoded_glyph, encoded_spelling, encoding_of, IsEncoding};
     ghost use Rattle.vt_glyph.specs.Spell.{spelling_of};
 
     /// The space, U+0020, which a blank cell shows.
@@ -99,6 +99,7 @@ impl Glyph {
     pub fn code(&self) -> u32
         ensures value { result ≡ encoding_of self.now }
         ensures glyph { encoded_glyph result ≡ self.now }
+        ensures spelling { encoded_spelling result ≡ spelling_of self.now }
         ensures bound { result < 0x100 }
     {
         self.byte as u32 + 0x100 * self.second as u32 + 0x1_0000 * self.third as u32

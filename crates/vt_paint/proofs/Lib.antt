@@ -20,5 +20,6 @@ pub mod ChangeRuns
 pub mod EveryMode
 pub mod ChangeChain
 pub mod ChangesWhole
+pub mod CellWords
 pub mod Differing
 pub mod Marks

@@ -7,13 +7,6 @@ use Rattle.vt_syntax.specs.Spelling.{spell_events}
 use Rattle.vt_screen.specs.declared.cell.Brush.{Brush}
 use Rattle.vt_paint.specs.Controls.{rendition_to, cursor_position, protection_to, brush_events, clear_all_tabs, set_tab}
 use Rattle.vt_paint.specs.ChangeEvents.{has_all, all_attributes, short_brush_events, start_item}
-use Rattle.std.proofs.Common.{nat_lt, nat_le, true, false, ◌≤◌, sym, ap, ◌∙◌, arith}
-use Rattle.std.proofs.lemmas.Bool.Decides.{nat_tests}
-use Rattle.vt_glyph.specs.declared.glyph.Spelling.TheVariants.{Plain}
-use Rattle.vt_glyph.specs.Tables.{glyph_of}
-use Rattle.vt_glyph.specs.Spell.{spelling_of}
-use Rattle.vt_glyph.specs.Encoding.{encoded_glyph}
-use Rattle.vt_paint.specs.Controls.{spelling_events}
 
 pub clear_spelled : spell_events (clear_all_tabs ∷ []) ≡ (0x1B ∷ 0x5B ∷ 0x33 ∷ 0x67 ∷ [])
 unfolding digits
@@ -63,26 +56,3 @@ short_without_0 brush p h e =
     ap (λ b. cond b all_attributes (rendition_to brush.rendition) ∷ protection_to p ∷ []) (sym h)
     ∙ ap (λ p. cond (has_all brush.rendition) all_attributes (rendition_to brush.rendition) ∷ protection_to p ∷ [])
     (sym e)
-
--- ---- a glyph of a plain code
-
-plain_encoded : (code : ℕ) → 0x20 ≤ code → code ≤ 0x7E → encoded_glyph code ≡ code
-unfolding encoded_glyph glyph_of
-plain_encoded code low high =
-    let a : nat_lt code 0x20 ≡ false = grind (arith, nat_tests) in
-    let b : nat_lt code 0x80 ≡ true = grind (arith, nat_tests) in
-    rw (a, b) refl
-
-plain_spelling : (code : ℕ) → 0x20 ≤ code → code ≤ 0x7E → spelling_of code ≡ Plain code
-unfolding spelling_of
-plain_spelling code low high =
-    let a : nat_le 0x20 code ≡ true = grind (arith, nat_tests) in
-    let b : nat_le code 0x7E ≡ true = grind (arith, nat_tests) in
-    rw (a, b) refl
-
--- its spelling is that code
-pub plain_spelled : (code glyph : ℕ) → 0x20 ≤ code → code ≤ 0x7E → encoded_glyph code ≡ glyph
-    → spell_events (spelling_events (spelling_of glyph)) ≡ code ∷ []
-plain_spelled code glyph low high is =
-    ap (λ n. spell_events (spelling_events (spelling_of n))) (sym is ∙ plain_encoded code low high)
-    ∙ ap (λ s. spell_events (spelling_events s)) (plain_spelling code low high)

@@ -1,7 +1,10 @@
--- The parts of a header, and a brush as a number. No public clause speaks of them.
+-- The parts of a header, and a brush and a cell as numbers. No public clause speaks of them.
 use Rattle.std.specs.Prelude.{ℕ, ◌+◌, ◌*◌, Bool, List, [], ◌∷◌, ◌++◌, if◌then◌else◌, decimal, drop}
 use Rattle.vt_syntax.specs.Spelling.{spell_events}
+use Rattle.vt_glyph.specs.Encoding.{encoding_of}
 use Rattle.vt_screen.specs.declared.cell.Brush.{Brush}
+use Rattle.vt_screen.specs.declared.cell.Cell.{Cell}
+use Rattle.vt_screen.specs.Cells.{brush_of}
 use Rattle.vt_paint.specs.Controls.{brush_events}
 
 -- CUP up to its column, and the rest of it
@@ -29,3 +32,7 @@ abbrev pub brush_index : Brush → ℕ
 brush_index brush =
     bit brush.rendition.bold + 2 * bit brush.rendition.underline + 4 * bit brush.rendition.blink
     + 8 * bit brush.rendition.reverse + 16 * bit brush.protected
+
+-- three bytes for the glyph, and above them those of the brush
+abbrev pub cell_word : Cell → ℕ
+cell_word cell = encoding_of cell.glyph + 0x1000000 * brush_number (brush_of cell)

@@ -14,14 +14,16 @@ ghost use Rattle.vt_paint.specs.HeaderParts.{brush_number};
 
 use crate::line::{LINE, put_glyph, put_header};
 use crate::room::{push_bytes, push_where};
-use crate::tables::cell_brush_number;
-use vt_glyph::Glyph;
+use crate::tables::{cell_brush_number, cell_word};
 use vt_screen::Cell;
 use vt_screen::laws::rows;
 use vt_term::{ROWS, Terminal};
 
 /// The sets that the spellings of glyphs are for: G0 ASCII, G2 Supplemental, G3 Special Graphics, and G0 in GL.
 pub(crate) const SPELLING_SETS: &[u8] = b"\x1B(B\x1B*<\x1B+0\x0F";
+
+/// The word of a blank cell: that of a space.
+const BLANK: u64 = 0x20;
 
 /// The cell at a place.
 pub(crate) fn row_cell(t: &Terminal, row: usize, col: usize) -> &Cell
@@ -38,7 +40,7 @@ pub(crate) fn row_cell(t: &Terminal, row: usize, col: usize) -> &Cell
 fn is_blank(cell: &Cell) -> bool
     ensures { result ≡ is_blank_cell cell.now }
 {
-    cell.glyph == Glyph::blank() && cell_brush_number(cell) == 0
+    cell_word(cell) == BLANK
 }
 
 /// Whether a cell isn't blank and is written with the brush of this number.
@@ -47,7 +49,8 @@ fn goes_on(number: u64, cell: &Cell) -> bool
     ensures { (brush : Brush) → number ≡ brush_number brush
         → result ≡ (same_brush brush (brush_of cell.now) && not (is_blank_cell cell.now)) }
 {
-    cell_brush_number(cell) == number && !(number == 0 && cell.glyph == Glyph::blank())
+    let word = cell_word(cell);
+    word >> 24 == number && word != BLANK
 }
 
 /// The pieces of a row by runs: blank cells are passed over, and the cells of one brush are written behind one header.

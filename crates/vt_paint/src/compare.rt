@@ -1,29 +1,20 @@
 //! The places at which the screens of two terminals differ.
 ghost use Rattle.std.specs.Prelude.{◌≡◌, ◌≤◌, ◌<◌, ℕ, ◌*◌, false, not, length, slice_index_or};
-ghost use Rattle.vt_screen.specs.Cells.{blank, brush_of};
+ghost use Rattle.vt_screen.specs.Cells.{blank};
 ghost use Rattle.vt_screen.specs.Grid.{Grid, row_of};
-ghost use Rattle.vt_paint.specs.Same.{same_brush};
 ghost use Rattle.vt_paint.specs.Changes.{same_cell, differing_from, differing, AreChanges};
 
-use crate::tables::cell_brush_number;
+use crate::tables::cell_word;
 use vt_screen::laws::rows;
 use vt_screen::{Cell, same_cells};
 use vt_term::{ROWS, STOPS, Terminal};
 
-/// Whether two cells differ. The compiler compares all attributes at once.
+/// Whether two cells differ, compared as words.
 #[inline(always)]
 fn differ(a: &Cell, b: &Cell) -> bool
     ensures { result ≡ not (same_cell a.now b.now) }
 {
-    !(a.glyph == b.glyph && same_brush(a, b))
-}
-
-/// Whether two cells have the same brush.
-#[inline(always)]
-fn same_brush(a: &Cell, b: &Cell) -> bool
-    ensures { result ≡ same_brush (brush_of a.now) (brush_of b.now) }
-{
-    cell_brush_number(a) == cell_brush_number(b)
+    cell_word(a) != cell_word(b)
 }
 
 /// At how many places two rows of the same length have different cells.

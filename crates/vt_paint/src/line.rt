@@ -6,7 +6,7 @@ ghost use Rattle.vt_glyph.specs.Spell.{spelling_of};
 ghost use Rattle.vt_paint.specs.Controls.{cursor_position, brush_events, spelling_events};
 
 use crate::tables::{brush_part, column_part, row_part};
-use vt_glyph::{Glyph, Spelling};
+use vt_glyph::Glyph;
 use vt_screen::Brush;
 
 /// The most bytes of a row: 29 for each of 132 cells.
@@ -103,14 +103,13 @@ pub(crate) fn put_glyph(glyph: Glyph, at: usize, line: &mut [u8; LINE]) -> usize
     ensures items { take result line.new ≡ take at line.old ++ spell_events (spelling_events (spelling_of glyph)) }
     ensures bounded { result ≤ at + 3 }
 {
-    // Most glyphs are plain, and as a byte by itself the code is tested at once.
+    // Most glyphs are plain. By its spelling the compiler would choose code and shift without a jump.
     let code = glyph.code() as u8;
-    if 0x20 <= code && code <= 0x7E {
-        return put(code, at, line);
-    }
-    match glyph.spelling() {
-        Spelling::Plain(code) => put(code, at, line),
-        Spelling::Second(code) => put_shifted(b'N', code, at, line),
-        Spelling::Third(code) => put_shifted(b'O', code, at, line),
+    if 0x20 <= code && code < 0x80 {
+        put(code, at, line)
+    } else if code < 0x20 {
+        put_shifted(b'O', code + 0x60, at, line)
+    } else {
+        put_shifted(b'N', code - 0x80, at, line)
     }
 }

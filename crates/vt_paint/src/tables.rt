@@ -1,8 +1,9 @@
 //! The parts of a header, spelled: the place of a row, a column, and a brush. Each entry of a table is filled up with
 //! spaces, so that it is copied whole.
 ghost use Rattle.std.specs.Prelude.{◌≡◌, ◌≤◌, ◌<◌, take, length};
+ghost use Rattle.vt_glyph.specs.Encoding.{encoded_glyph, encoding_of};
 ghost use Rattle.vt_screen.specs.Cells.{brush_of};
-ghost use Rattle.vt_paint.specs.HeaderParts.{row_part, column_part, brush_part, brush_number, brush_index};
+ghost use Rattle.vt_paint.specs.HeaderParts.{row_part, column_part, brush_part, brush_number, brush_index, cell_word};
 
 use vt_screen::{Brush, Cell, Rendition};
 
@@ -89,6 +90,22 @@ pub(crate) fn cell_brush_number(cell: &Cell) -> u64
     ensures { result ≡ brush_number (brush_of cell.now) }
 {
     brush_number(&cell.rendition, cell.protected)
+}
+
+/// A cell as one number, a byte of it for each byte of the cell, so that it is read as one word. (Inlined `always`, it
+/// would be inlined before its loads are made one.)
+#[inline]
+pub(crate) fn cell_word(cell: &Cell) -> u64
+    ensures word { result ≡ cell_word cell.now }
+    ensures glyph { encoded_glyph (encoding_of cell.now.glyph) ≡ cell.now.glyph }
+    ensures bound { encoding_of cell.now.glyph < 0x100 }
+{
+    cell.glyph.code() as u64
+        + 0x100_0000 * cell.rendition.bold as u64
+        + 0x1_0000_0000 * cell.rendition.underline as u64
+        + 0x100_0000_0000 * cell.rendition.blink as u64
+        + 0x1_0000_0000_0000 * cell.rendition.reverse as u64
+        + 0x100_0000_0000_0000 * cell.protected as u64
 }
 
 /// The place of a brush in its table.

@@ -305,8 +305,9 @@ fn write_four_graphics(cells: &mut [Cell], bytes: &[u8], at: usize, table: &InUs
 }
 
 /// A cell as one number, a byte of it for each byte of the cell, so that it is read as one word. (Each field is read
-/// from the cell itself. Of copies of its parts the compiler makes vectors.)
-#[inline(always)]
+/// from the cell itself. Of copies of its parts the compiler makes vectors. Inlined `always`, it would be inlined before
+/// its loads are made one.)
+#[inline]
 fn word_of(cell: &Cell) -> u64
     ensures word { result ≡ cell_word cell.now }
     ensures glyph { encoded_glyph (encoding_of cell.now.glyph) ≡ cell.now.glyph }
@@ -336,10 +337,11 @@ fn same_four(a: &[Cell], b: &[Cell], at: usize) -> bool
     ensures { IsTrue result
         ↔ ((k : ℕ) → at ≤ k → k < at + 4 → slice_index_or a.now k blank ≡ slice_index_or b.now k blank) }
 {
+    // Not `&&`, so that there is one branch.
     same_cell(&a[at], &b[at])
-        && same_cell(&a[at + 1], &b[at + 1])
-        && same_cell(&a[at + 2], &b[at + 2])
-        && same_cell(&a[at + 3], &b[at + 3])
+        & same_cell(&a[at + 1], &b[at + 1])
+        & same_cell(&a[at + 2], &b[at + 2])
+        & same_cell(&a[at + 3], &b[at + 3])
 }
 
 /// Whether two rows have the same cells: as many, and each the same. (Four cells are compared at a time, each as one

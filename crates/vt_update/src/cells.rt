@@ -3,7 +3,7 @@ ghost use Rattle.std.specs.Prelude.{◌≤◌};
 ghost use Rattle.vt_screen.specs.Grid.{last_row};
 
 use crate::remote::Remote;
-use crate::rows::{ROWS, Rows, is_blank};
+use crate::rows::{BLANK, ROWS, Rows, word_of};
 use vt_screen::Cell;
 use vt_term::Terminal;
 
@@ -39,42 +39,61 @@ impl Remote {
             let here = gains[row - 1];
             below = below.wrapping_sub(here);
             if erased {
-                self.set_row(row, rows.blank(), Spared { here: 0, below: 0 }, to);
+                self.write_filled(row, 0, rows.blank(), to);
             } else if rows.differs(row) {
-                erased = self.set_row(row, rows.row(row), Spared { here, below }, to);
+                erased = self.set_row(row, rows, Spared { here, below }, to);
             }
         }
     }
 
-    /// The cells of a row. Answers whether the rows below were erased.
-    fn set_row(&mut self, row: usize, old: &[Cell], spared: Spared, to: &Terminal) -> bool
+    /// The cells of a row that differs. Answers whether the rows below were erased.
+    fn set_row(&mut self, row: usize, rows: &Rows<'_>, spared: Spared, to: &Terminal) -> bool
         requires { (1 ≤ row) × (row ≤ last_row) }
     {
+        let old = rows.row(row);
+        let new = to.row(row);
+        let columns = old.len().min(new.len());
+        let mut left = rows.differing(row);
         let mut here = spared.here;
-        let mut erased = Erased::Nothing;
-        for (i, (old, new)) in old.iter().zip(to.row(row)).enumerate() {
-            let blank = is_blank(new);
-            if erased != Erased::Nothing {
-                if !blank {
-                    self.go(row, i + 1, to);
-                    self.write(*new);
-                }
-            } else if old != new {
-                if blank {
-                    let spared = Spared { here, ..spared };
-                    erased = self.erase(row, i + 1, spared, to);
-                }
-                if erased == Erased::Nothing {
-                    self.go(row, i + 1, to);
-                    self.write(*new);
-                    here = here.wrapping_sub(1);
-                }
+        let mut i = 0;
+        while i < columns && left > 0 {
+            let word = word_of(&new[i]);
+            if word_of(&old[i]) == word {
+                here = here.wrapping_add((word != BLANK) as i32);
+                i += 1;
+                continue;
             }
-            if !blank {
-                here = here.wrapping_add(1);
+            if word == BLANK {
+                let erased = self.erase(row, i + 1, Spared { here, ..spared }, to);
+                if erased != Erased::Nothing {
+                    self.write_filled(row, i, rows.blank(), to);
+                    return erased == Erased::Below;
+                }
+                here = here.wrapping_sub(1);
+            }
+            self.go(row, i + 1, to);
+            let count = self.write_run(&old[i..columns], &new[i..columns]);
+            left = left.wrapping_sub(count as i32);
+            i += count;
+        }
+        false
+    }
+
+    /// The cells of a row that aren't blank, from a place on where the other side has a blank row.
+    fn write_filled(&mut self, row: usize, from: usize, blank: &[Cell], to: &Terminal)
+        requires { (1 ≤ row) × (row ≤ last_row) }
+    {
+        let new = to.row(row);
+        let columns = blank.len().min(new.len());
+        let mut i = from;
+        while i < columns {
+            if word_of(&new[i]) == BLANK {
+                i += 1;
+            } else {
+                self.go(row, i + 1, to);
+                i += self.write_run(&blank[i..columns], &new[i..columns]);
             }
         }
-        erased == Erased::Below
     }
 
     /// ED or EL from a place on, where that pays.

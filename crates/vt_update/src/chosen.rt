@@ -2,6 +2,7 @@
 ghost use Rattle.std.specs.Prelude.{◌≤◌, length};
 
 use itoa::Buffer;
+use vt_screen::Cell;
 
 /// The most bytes that are chosen: where more were needed, the repaint is sent.
 pub(crate) const CHOICE_LIMIT: usize = 16384;
@@ -43,6 +44,16 @@ impl Chosen {
         for byte in bytes.iter() {
             self.push(*byte);
         }
+    }
+
+    /// The codes of plain cells.
+    pub(crate) fn put_codes(&mut self, cells: &[Cell]) {
+        let start = self.len;
+        let count = cells.len().min(CHOICE_LIMIT - start);
+        for (i, cell) in cells[..count].iter().enumerate() {
+            self.bytes[start + i] = cell.glyph.code() as u8;
+        }
+        self.len = start + count;
     }
 
     /// A number in decimal.

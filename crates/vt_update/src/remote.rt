@@ -1,11 +1,12 @@
 //! The other side: what it has now, its cells apart. Each method sends bytes, and changes it as they change a terminal.
 //!
 //! Of the cells one thing holds: those before the place looked at are already those that are asked for.
-ghost use Rattle.std.specs.Prelude.{◌≡◌, ◌≤◌, ◌<◌, ◌⊎◌, IfSome};
+ghost use Rattle.std.specs.Prelude.{◌≡◌, ◌≤◌, ◌<◌, ◌⊎◌, IfSome, length};
 ghost use Rattle.vt_screen.specs.Grid.{last_row};
 ghost use Rattle.vt_glyph.specs.Invocation.{HasGlyph};
 
 use crate::chosen::Chosen;
+use crate::rows::{BLANK, word_of};
 use vt_glyph::{Glyph, Set, Sets, Spelling};
 use vt_screen::{Brush, Cell, Rendition};
 use vt_term::{Cursor, Margins, Modes, Saved, Terminal};
@@ -80,15 +81,21 @@ impl Remote {
         };
     }
 
-    /// The cursor at a place, the wrap flag reset. DECOM goes where the row is outside the margins. All cells of the
-    /// row on the left are those of `to`.
+    /// The cursor at a place, the wrap flag reset. All cells of the row on the left are those of `to`.
+    #[inline(always)]
     pub(crate) fn go(&mut self, row: usize, col: usize, to: &Terminal)
         requires { (1 ≤ row) × (row ≤ last_row) }
     {
         let at = self.cursor;
-        if at.row == row && at.col == col && !at.wrap {
-            return;
+        if !(at.row == row && at.col == col && !at.wrap) {
+            self.go_elsewhere(row, col, to);
         }
+    }
+
+    /// The cursor at another place. DECOM goes where the row is outside the margins.
+    fn go_elsewhere(&mut self, row: usize, col: usize, to: &Terminal)
+        requires { (1 ≤ row) × (row ≤ last_row) }
+    {
         if self.modes.decom && !(self.margins.top <= row && row <= self.margins.bottom) {
             self.set_origin(false);
         }
@@ -157,12 +164,12 @@ impl Remote {
         }
         let gap = &cells[start - 1..col - 1];
         for cell in gap.iter() {
-            if cell.brush() != self.brush || self.one_byte(cell.glyph).is_none() {
+            if !self.has_brush(cell) || self.one_byte(cell.glyph).is_none() {
                 return false;
             }
         }
         for cell in gap.iter() {
-            self.write(*cell);
+            self.write(cell);
         }
         true
     }
@@ -182,7 +189,7 @@ impl Remote {
             }
             let cells = to.row(cursor.row);
             if let Some(cell) = cells.last() {
-                self.write(*cell);
+                self.write(cell);
             }
         }
     }
@@ -253,25 +260,81 @@ impl Remote {
         }
     }
 
+    /// Whether a cell is written with the brush that is there.
+    #[inline(always)]
+    fn has_brush(&self, cell: &Cell) -> bool {
+        word_of(cell) >> 24 == brush_number(&self.brush)
+    }
+
     /// Writes a cell where the cursor is; the wrap flag is reset.
-    pub(crate) fn write(&mut self, cell: Cell) {
-        let glyph = cell.glyph;
+    pub(crate) fn write(&mut self, cell: &Cell) {
         if self.modes.irm {
             self.chosen.put(b"\x1B[4l");
             self.modes.irm = false;
         }
-        self.set_brush(cell.brush());
-        let byte = self.byte_of(glyph);
+        if !self.has_brush(cell) {
+            self.set_brush(cell.brush());
+        }
+        let byte = self.byte_of(cell.glyph);
         self.chosen.push(byte);
-        if self.cursor.col < self.width {
-            self.cursor.col += 1;
+        self.pass(1);
+    }
+
+    /// Writes the first cell where the cursor is, and those behind it as long as they differ from the old ones, are plain
+    /// and not blank, and have its brush. Answers how many these are.
+    pub(crate) fn write_run(&mut self, old: &[Cell], new: &[Cell]) -> usize
+        requires some { 1 ≤ length new.now }
+        requires len { length old.now ≡ length new.now }
+        ensures some { 1 ≤ result }
+        ensures within { result ≤ length new.now }
+    {
+        self.write(&new[0]);
+        if !self.has_ascii() {
+            return 1;
+        }
+        let least = (word_of(&new[0]) >> 24 << 24) + b' ' as u64;
+        let mut count = 1;
+        while count < new.len() {
+            let word = word_of(&new[count]);
+            if word == word_of(&old[count]) || word == BLANK || word.wrapping_sub(least) > 0x5E {
+                break;
+            }
+            count += 1;
+        }
+        self.chosen.put_codes(&new[1..count]);
+        self.pass(count - 1);
+        count
+    }
+
+    /// The cursor behind so many cells more of its row.
+    fn pass(&mut self, count: usize) {
+        let col = self.cursor.col.saturating_add(count);
+        if col <= self.width {
+            self.cursor.col = col;
         } else {
+            self.cursor.col = self.width;
             self.cursor.wrap = self.modes.decawm;
         }
     }
 
-    /// The byte that writes a glyph, after its set was brought to GL where neither GL nor GR shows it.
+    /// Whether ASCII is in GL.
+    #[inline(always)]
+    fn has_ascii(&self) -> bool {
+        self.sets.set(self.sets.left()) == Set::Ascii
+    }
+
+    /// The byte that writes a glyph, after its set was brought to GL where neither GL nor GR shows it. Most are plain.
+    #[inline(always)]
     fn byte_of(&mut self, glyph: Glyph) -> u8 {
+        let code = glyph.code() as u8;
+        if 0x20 <= code && code <= 0x7E && self.has_ascii() {
+            return code;
+        }
+        self.other_byte_of(glyph)
+    }
+
+    /// That byte where it may be no ASCII.
+    fn other_byte_of(&mut self, glyph: Glyph) -> u8 {
         if let Some(byte) = self.one_byte(glyph) {
             return byte;
         }
@@ -421,6 +484,16 @@ impl Remote {
         self.saved = saved;
         self.set_margins(to.margins());
     }
+}
+
+/// A brush as a number, a byte of it for each truth value: what is left of a cell's word without the glyph.
+#[inline(always)]
+fn brush_number(brush: &Brush) -> u64 {
+    brush.rendition.bold as u64
+        + 0x100 * brush.rendition.underline as u64
+        + 0x1_0000 * brush.rendition.blink as u64
+        + 0x100_0000 * brush.rendition.reverse as u64
+        + 0x1_0000_0000 * brush.protected as u64
 }
 
 /// The set of a glyph's spelling, and its code there.

@@ -112,6 +112,13 @@ impl Rows<'_> {
         self.differing[row - 1] != 0
     }
 
+    /// In how many places a row is to be another.
+    pub(crate) fn differing(&self, row: usize) -> i32
+        requires { (1 ≤ row) × (row ≤ last_row) }
+    {
+        self.differing[row - 1]
+    }
+
     /// How many cells of a row that differs aren't to be blank.
     pub(crate) fn filled(&self, row: usize) -> i32
         requires { (1 ≤ row) × (row ≤ last_row) }
@@ -126,7 +133,7 @@ impl Rows<'_> {
     {
         if self.differs(row) {
             self.differing[row - 1].wrapping_sub(self.filled[row - 1])
-        } else if filled(to.row(row)) == 0 {
+        } else if is_blank_row(to.row(row)) {
             0
         } else {
             NEVER
@@ -134,10 +141,30 @@ impl Rows<'_> {
     }
 }
 
+/// The word of a blank cell: that of a space.
+pub(crate) const BLANK: u64 = 0x20;
+
+/// A cell as one number, a byte of it for each byte of the cell, so that it is read as one word. (Inlined `always`, it
+/// would be inlined before its loads are made one.)
+#[inline]
+pub(crate) fn word_of(cell: &Cell) -> u64 {
+    cell.glyph.code() as u64
+        + 0x100_0000 * cell.rendition.bold as u64
+        + 0x1_0000_0000 * cell.rendition.underline as u64
+        + 0x100_0000_0000 * cell.rendition.blink as u64
+        + 0x1_0000_0000_0000 * cell.rendition.reverse as u64
+        + 0x100_0000_0000_0000 * cell.protected as u64
+}
+
+/// Whether all cells are blank.
+fn is_blank_row(cells: &[Cell]) -> bool {
+    cells.iter().all(is_blank)
+}
+
 /// Whether a cell is blank.
 #[inline(always)]
-pub(crate) fn is_blank(cell: &Cell) -> bool {
-    *cell == Cell::blank()
+fn is_blank(cell: &Cell) -> bool {
+    word_of(cell) == BLANK
 }
 
 /// How many places of a row are marked.
@@ -153,7 +180,7 @@ fn marked(marks: &[bool; WIDE]) -> i32 {
 pub(crate) fn unlike(old: &[Cell], new: &[Cell]) -> i32 {
     let mut count = 0i32;
     for (old, new) in old.iter().zip(new) {
-        count = count.wrapping_add((old != new) as i32);
+        count = count.wrapping_add((word_of(old) != word_of(new)) as i32);
     }
     count
 }

@@ -3,8 +3,8 @@ ghost use Rattle.std.specs.Prelude.{◌≤◌, ◌<◌, ◌+◌};
 ghost use Rattle.vt_screen.specs.Grid.{last_row};
 
 use crate::remote::Remote;
-use crate::rows::{ROWS, Rows, filled, unlike};
-use vt_screen::same_cells;
+use crate::rows::{ROWS, Rows, filled, unlike, word_of};
+use vt_screen::{Cell, same_cells};
 use vt_term::{Margins, Terminal};
 
 /// The fewest cells that have to come to their rows by a scroll, for it to be looked at.
@@ -60,13 +60,15 @@ impl Scroll {
             }
         }
         let voted = voted?;
-        Gains::new(voted, shown, to).best(voted)
+        Gains::new(voted, rows, shown, to).best(voted)
     }
 }
 
-/// How many filled cells come to their rows, as whole rows that differ, where all move by so many rows up or down.
+/// How many filled cells come to their rows, as whole rows that differ, where all move by so many rows up or down. Rows
+/// are compared where their sums are the same.
 #[derive(Drop)]
 struct Votes {
+    sums: [u64; ROWS],
     up: [i32; ROWS],
     down: [i32; ROWS],
 }
@@ -74,9 +76,15 @@ struct Votes {
 impl Votes {
     fn new(rows: &Rows<'_>, shown: &Terminal, to: &Terminal) -> Votes {
         let mut votes = Votes {
+            sums: [0; ROWS],
             up: [0; ROWS],
             down: [0; ROWS],
         };
+        for row in 1..ROWS + 1 {
+            if rows.differs(row) {
+                votes.sums[row - 1] = sum_of(shown.row(row));
+            }
+        }
         for row in 1..ROWS + 1 {
             if rows.differs(row) {
                 votes.count(row, rows, shown, to);
@@ -94,8 +102,12 @@ impl Votes {
         if cells == 0 {
             return;
         }
+        let sum = sum_of(new);
         for source in 1..ROWS + 1 {
-            if rows.differs(source) && same_cells(shown.row(source), new) {
+            if rows.differs(source)
+                && self.sums[source - 1] == sum
+                && same_cells(shown.row(source), new)
+            {
                 if row < source {
                     self.up[source - row] = self.up[source - row].wrapping_add(cells);
                 } else {
@@ -112,6 +124,15 @@ impl Votes {
     }
 }
 
+/// The sum of the cells' words.
+fn sum_of(cells: &[Cell]) -> u64 {
+    let mut sum = 0u64;
+    for cell in cells.iter() {
+        sum = sum.wrapping_add(word_of(cell));
+    }
+    sum
+}
+
 /// How many cells fewer differ at each row between the margins, where it comes from another row, and where it is blank.
 #[derive(Drop)]
 struct Gains {
@@ -120,14 +141,14 @@ struct Gains {
 }
 
 impl Gains {
-    fn new(scroll: Scroll, shown: &Terminal, to: &Terminal) -> Gains {
+    fn new(scroll: Scroll, rows: &Rows<'_>, shown: &Terminal, to: &Terminal) -> Gains {
         let mut gains = Gains {
             moved: [0; ROWS],
             blank: [0; ROWS],
         };
         for row in scroll.top..scroll.bottom + 1 {
             let new = to.row(row);
-            let differing = unlike(shown.row(row), new);
+            let differing = rows.differing(row);
             let source = scroll.source(row);
             if 1 <= source && source <= ROWS {
                 gains.moved[row - 1] = differing.wrapping_sub(unlike(shown.row(source), new));

@@ -25,11 +25,12 @@ const BYTES_A_CELL: usize = 28;
 /// The most bytes for all else then.
 const BYTES_FOR_THE_REST: usize = 230;
 
-/// How many bytes of an update are played at a time.
-const CHUNK: usize = 64;
+/// How many bytes of an update are played at a time: at most so many, and fewer where there isn't room for their
+/// reports, ten bytes for each byte.
+const CHUNK: usize = 1024;
 
-/// The room for the reports of a chunk, ten bytes for each byte. None ever stays.
-const REPORT_ROOM: usize = 10 * CHUNK;
+/// The room for the reports of the 64 bytes that are played at least. None ever stays.
+const REPORT_ROOM: usize = 10 * 64;
 
 /// The most bytes of an update, and the room that it needs: that of a repaint, and room for the play of it.
 pub const UPDATE_LIMIT: usize = PAINT_LIMIT + REPORT_ROOM;
@@ -67,10 +68,11 @@ fn play_back(start: usize, shown: &mut Terminal, out: &mut Vec<u8>) -> bool
 {
     cuts();
     let all = out.len() - start;
+    let chunk = CHUNK.min((out.capacity() - out.len()) / 10);
     let mut silent = true;
     let mut at = 0;
     while at < all {
-        let count = CHUNK.min(all - at);
+        let count = chunk.min(all - at);
         silent = play_chunk(start + at, count, shown, out) && silent;
         at += count;
     }
@@ -81,7 +83,7 @@ fn play_back(start: usize, shown: &mut Terminal, out: &mut Vec<u8>) -> bool
 fn play_chunk(from: usize, count: usize, shown: &mut Terminal, out: &mut Vec<u8>) -> bool
     requires count { count ≤ CHUNK }
     requires within { from + count ≤ vec_len out.old }
-    requires room { vec_len out.old + REPORT_ROOM ≤ vec_capacity out.old }
+    requires room { vec_len out.old + 10 * count ≤ vec_capacity out.old }
     ensures state { shown.new ≡ (play shown.old (take count (drop from out.old.items))).state }
     ensures silent { IsTrue result → (play shown.old (take count (drop from out.old.items))).reports ≡ [] }
     ensures items { out.new.items ≡ out.old.items }

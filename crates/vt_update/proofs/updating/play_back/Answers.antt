@@ -14,6 +14,9 @@ loop-at-preserved c =
     c.loop-at.invariant.state in
     record {
       within = omega arith;
+      some = c.loop-at.invariant.some;
+      chunk = c.loop-at.invariant.chunk;
+      room = c.loop-at.invariant.room;
       items = c.play_chunk.ensures.items ∙ c.loop-at.invariant.items;
       capacity = omega arith;
       state = state_more two c.args.shown.now c.loop-at.shown c.play_chunk.new.shown items c.args.start c.loop-at.at

@@ -3,6 +3,7 @@ use Rattle.std.proofs.Common.{◌≡◌, ℕ, List, [], ◌∷◌, ◌++◌, Non
 use Rattle.std.proofs.Common.{arith, map, refl, sym, ap, ◌∙◌, ◌+◌, take, drop, length, ◌-◌, length-drop, append-nil}
 use Rattle.std.proofs.Common.{append_assoc}
 use Rattle.std.proofs.Math.Seq.{take-add, take-length}
+use Rattle.std.proofs.lemmas.List.{drop-drop}
 use Rattle.vt_syntax.specs.declared.event.Event.{Event}
 use Rattle.vt_syntax.specs.declared.event.Event.TheVariants.{Print, Control}
 use Rattle.vt_syntax.specs.declared.held.Held.{Held}
@@ -70,6 +71,42 @@ nothing-held = record { rest = None; is_rest = tt; of_rest = refl }
 pub rest-of : (piece : List ℕ) (at : ℕ) → take (length piece - at) (drop at piece) ≡ drop at piece
 rest-of piece at = let e : length piece - at ≡ length (drop at piece) = sym (length-drop at piece) in
     rw e (take-length (drop at piece))
+
+-- how many bytes of a piece are taken where this rest is left
+abbrev pub taken : List ℕ → List ℕ → ℕ
+taken piece rest = length piece - length rest
+
+-- what is left of a rest behind so many bytes
+abbrev pub behind : ℕ → List ℕ → List ℕ
+behind n rest = take (length rest - n) (drop n rest)
+
+pub taken-more : (piece rest : List ℕ) (n : ℕ) → length rest ≤ length piece → n ≤ length rest
+    → taken piece (behind n rest) ≡ taken piece rest + n
+taken-more piece rest n within fits = rw (rest-of rest n) (omega (arith, length-drop n rest))
+
+pub behind-more : (piece rest : List ℕ) (n : ℕ) → length rest ≤ length piece → n ≤ length rest
+    → rest ≡ drop (taken piece rest) piece → behind n rest ≡ drop (taken piece (behind n rest)) piece
+behind-more piece rest n within fits is =
+    rest-of rest n ∙ ap (λ (xs : List ℕ). drop n xs) is ∙ drop-drop n (taken piece rest) piece
+    ∙ ap (λ (at : ℕ). drop at piece) (sym (taken-more piece rest n within fits))
+
+pub rest-state : Cuts → (s t u : State) (piece rest : List ℕ) (n : ℕ) → length rest ≤ length piece → n ≤ length rest
+    → rest ≡ drop (taken piece rest) piece → t ≡ (play s (take (taken piece rest) piece)).state
+    → u ≡ (play t (take n rest)).state → u ≡ (play s (take (taken piece (behind n rest)) piece)).state
+rest-state cuts s t u piece rest n within fits is so_far then =
+    play-more-state cuts s t u piece (taken piece rest) n so_far
+    (then ∙ ap (λ (xs : List ℕ). (play t (take n xs)).state) is)
+    ∙ ap (λ (at : ℕ). (play s (take at piece)).state) (sym (taken-more piece rest n within fits))
+
+pub rest-reports : Cuts → (s t : State) (piece rest before out more : List ℕ) (n : ℕ)
+    → length rest ≤ length piece → n ≤ length rest → rest ≡ drop (taken piece rest) piece
+    → t ≡ (play s (take (taken piece rest) piece)).state
+    → out ≡ before ++ (play s (take (taken piece rest) piece)).reports → more ≡ out ++ (play t (take n rest)).reports
+    → more ≡ before ++ (play s (take (taken piece (behind n rest)) piece)).reports
+rest-reports cuts s t piece rest before out more n within fits is so_far was then =
+    play-more-reports cuts s t piece before out more (taken piece rest) n so_far was
+    (then ∙ ap (λ (xs : List ℕ). out ++ (play t (take n xs)).reports) is)
+    ∙ ap (λ (at : ℕ). before ++ (play s (take at piece)).reports) (sym (taken-more piece rest n within fits))
 
 -- an event that is spelled by one byte, between sequences
 one-event : SpellingLaw → SplitLaw → (event : Event) (byte : ℕ) → IsEvent event → spell_event event ≡ byte ∷ []

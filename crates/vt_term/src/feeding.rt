@@ -106,15 +106,15 @@ impl Terminal {
     {
         self.soundness();
         cuts();
-        let mut at = 0;
-        while at < piece.len() {
-            let (bytes, is_between) = self.feed_whole(&piece[at..], values, out);
-            at += bytes;
+        let mut rest = piece;
+        while !rest.is_empty() {
+            let (bytes, is_between) = self.feed_whole(rest, values, out);
+            rest = &rest[bytes..];
             if !is_between {
-                return at;
+                return piece.len() - rest.len();
             }
         }
-        at
+        piece.len()
     }
 
     /// Plays what stands at the front of a piece that isn't empty, between sequences: a run of graphic bytes that are

@@ -1,6 +1,6 @@
 -- An event that stands whole at the front of a piece, between sequences.
 use Rattle.std.specs.Prelude.{◌≡◌, ◌≤◌, ℕ, zero, suc, ◌+◌, List, [], ◌∷◌, length, take, drop, slice_index, ◌⊎◌, min}
-use Rattle.std.specs.Prelude.{Bool, true, false, nat_le, ◌==◌, ◌&&◌, if◌then◌else◌}
+use Rattle.std.specs.Prelude.{Bool, true, false, nat_le, nat_lt, ◌==◌, ◌&&◌, if◌then◌else◌}
 use Rattle.std.specs.List.{prefix_len}
 use Rattle.vt_syntax.specs.declared.event.Event.{Event}
 use Rattle.vt_syntax.specs.declared.held.Held.TheVariants.{Nothing, Escape}
@@ -44,9 +44,9 @@ abbrev pub behind_value : List ℕ → ℕ → ℕ
 behind_value piece at = at + min 3 (prefix_len is_digit (drop at piece))
 
 abbrev pub is_front_final : ℕ → Bool
-is_front_final b = nat_le 0x40 b && nat_le b 0x72
+is_front_final b = nat_le 0x40 b && nat_lt b 0x7F
 
--- from a place on at most so many values of at most three digits, with `;` between them, and a final byte 40..72; at
+-- from a place on at most so many values of at most three digits, with `;` between them, and a final byte 40..7E; at
 -- the place where a value begins there are at least four bytes
 unfoldable pub are_front_values : ℕ → List ℕ → ℕ → Bool
 are_front_values zero piece at = false

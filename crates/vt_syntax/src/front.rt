@@ -17,8 +17,7 @@ use crate::whole::{ends_escape, is_introducer, plain_escape, read_values};
 /// byte. Its values are put into `values`.
 ///
 /// `None` just where none stands whole at the front of the piece that is of the common form: at most 16 values of at
-/// most three digits each, a final byte up to `r`, no byte inside that has a function of its own, and the piece doesn't
-/// end soon. (So a caller that has functions for final bytes up to `r` chooses one without a further test.)
+/// most three digits each, no byte inside that has a function of its own, and the piece doesn't end soon.
 #[inline(always)]
 pub fn front_sequence(piece: &[u8], values: &mut Values) -> Option<(usize, u8)>
     ensures front { IfSome result
@@ -30,7 +29,7 @@ pub fn front_sequence(piece: &[u8], values: &mut Values) -> Option<(usize, u8)>
     }
     let at = read_values(piece, 2, None, values)?;
     let last = piece[at];
-    if 0x40 <= last && last <= b'r' {
+    if 0x40 <= last && last < 0x7F {
         return Some((at + 1, last));
     }
     None

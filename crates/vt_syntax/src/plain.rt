@@ -15,8 +15,8 @@ pub fn plain_run(piece: &[u8]) -> usize
     plain_end(piece)
 }
 
-/// The place of the first byte that isn't plain, or the length, looked for a vector of 16 bytes at a time. (Most runs end
-/// in the first vector, which therefore stands before the loop.)
+/// The place of the first byte that isn't plain, or the length, looked for a vector of 16 bytes at a time. (Most runs
+/// end in the first vector, which therefore stands before the loop.)
 fn plain_end(piece: &[u8]) -> usize
     ensures { result ≡ prefix_len is_plain piece.now }
 {

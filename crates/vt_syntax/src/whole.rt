@@ -142,7 +142,8 @@ pub(crate) fn read_values(
     requires within { start ≤ length piece.now }
     requires begun { steps Nothing (take start piece.now) ≡ step_to (begun marker) [] }
     ensures reads { IfSome result (λ at. (at < length piece.now) × AreRead piece.now at marker values.new) }
-    ensures ends { IfSome result (λ at. are_front_values 16 piece.now start ≡ is_front_final (slice_index piece.now at)) }
+    ensures ends { IfSome result
+        (λ at. are_front_values 16 piece.now start ≡ is_front_final (slice_index piece.now at)) }
     ensures none { IsNone result → are_front_values 16 piece.now start ≡ false }
 {
     let (at, count) = read_list(piece, start, marker, &mut values.list)?;
@@ -162,7 +163,8 @@ fn read_list(
     requires begun { steps Nothing (take start piece.now) ≡ step_to (begun marker) [] }
     ensures reads { IfSome result (λ t. (t.0 < length piece.now) × (t.1 ≤ 16)
         × AreRead piece.now t.0 marker (take t.1 list.new)) }
-    ensures ends { IfSome result (λ t. are_front_values 16 piece.now start ≡ is_front_final (slice_index piece.now t.0)) }
+    ensures ends { IfSome result
+        (λ t. are_front_values 16 piece.now start ≡ is_front_final (slice_index piece.now t.0)) }
     ensures none { IsNone result → are_front_values 16 piece.now start ≡ false }
 {
     let mut count = 0;

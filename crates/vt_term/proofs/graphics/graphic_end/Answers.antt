@@ -14,5 +14,6 @@ returns-then-stops-ne0 c =
 
 pub loop-at-preserved : goal.loop-at-preserved
 loop-at-preserved c =
-    let run = run_through has_glyph c.args.piece.now c.loop-at.at 16 (omega arith) (omega (arith, c.stops_16-stops.ensures)) in
+    let run = run_through has_glyph c.args.piece.now c.loop-at.at 16 (omega arith)
+    (omega (arith, c.stops_16-stops.ensures)) in
     record { within = omega arith; so_far = omega (arith, run, c.loop-at.invariant.so_far) }

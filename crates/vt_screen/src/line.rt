@@ -146,10 +146,25 @@ pub fn write_codes(cells: &mut [Cell], codes: &[u8], like: Cell)
 {
     if codes.len() < 8 {
         write_few(cells, codes, &like);
-    } else if is_plain(&like) {
+    } else {
+        write_many(cells, codes, &like);
+    }
+}
+
+/// The same for at least eight codes. (Out of line: where the test of a brush is compiled beside a short run, the
+/// compiler takes the cell apart for both.)
+#[inline(never)]
+fn write_many(cells: &mut [Cell], codes: &[u8], like: &Cell)
+    requires codes { All (λ code. (0x20 ≤ code) × (code ≤ 0x7E)) codes.now }
+    requires len { length cells.old ≡ length codes.now }
+    requires many { 8 ≤ length codes.now }
+    ensures { (k : ℕ) → k < length codes.now
+        → slice_index_or cells.new k blank ≡ cell_like like.now (slice_index codes.now k) }
+{
+    if is_plain(like) {
         write_blocks(cells, codes, &Cell::blank());
     } else {
-        write_each(cells, codes, &like);
+        write_each(cells, codes, like);
     }
 }
 
@@ -166,7 +181,7 @@ fn is_plain(cell: &Cell) -> bool
 }
 
 /// Writes ASCII codes one after another.
-#[inline(never)]
+#[inline(always)]
 fn write_each(cells: &mut [Cell], codes: &[u8], like: &Cell)
     requires codes { All (λ code. (0x20 ≤ code) × (code ≤ 0x7E)) codes.now }
     requires len { length cells.old ≡ length codes.now }

@@ -15,3 +15,4 @@ pub mod SilentBytes
 pub mod ContentRuns
 pub mod WholeSequences
 pub mod Fronts
+pub mod FrontValues

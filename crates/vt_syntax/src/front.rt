@@ -6,6 +6,7 @@ ghost use Rattle.vt_syntax.specs.declared.event.Event.TheVariants.{Control, Esca
 ghost use Rattle.vt_syntax.specs.declared.held.Held.TheVariants.{Nothing};
 ghost use Rattle.vt_syntax.specs.Event.{event_of};
 ghost use Rattle.vt_syntax.specs.Front.{IsFront, IsControl, BeginsWithControl, BeginsWithShortEscape, BeginsWithEscape};
+ghost use Rattle.vt_syntax.specs.Front.{BeginsWithSequence};
 ghost use Rattle.vt_syntax.specs.Steps.{step_to, step_between};
 
 use crate::event::EventKind;
@@ -15,19 +16,20 @@ use crate::whole::{ends_escape, is_introducer, plain_escape, read_values};
 /// A control sequence without marker and intermediate whose introducer is `ESC [`: how many bytes it has, and its final
 /// byte. Its values are put into `values`.
 ///
-/// `None` where none stands whole at the front of the piece, and for what isn't common: more than 16 values, a value of
-/// four digits, a final byte above `r`, a byte inside that has a function of its own, or the piece ends soon. (So a
-/// caller that has a function for final bytes up to `r` chooses it without a further test.)
+/// `None` just where none stands whole at the front of the piece that is of the common form: at most 16 values of at
+/// most three digits each, no byte inside that has a function of its own, and the piece doesn't end soon.
 #[inline(always)]
 pub fn front_sequence(piece: &[u8], values: &mut Values) -> Option<(usize, u8)>
-    ensures { IfSome result (λ t. IsFront piece.now t.0 (Sequence None (record { items = values.new }) None t.1)) }
+    ensures front { IfSome result
+        (λ t. IsFront piece.now t.0 (Sequence None (record { items = values.new }) None t.1)) }
+    ensures exact { IsSome result ↔ BeginsWithSequence piece.now }
 {
     if piece.len() < 6 || !is_introducer(piece[0], piece[1]) {
         return None;
     }
     let at = read_values(piece, 2, None, values)?;
     let last = piece[at];
-    if 0x40 <= last && last <= b'r' {
+    if 0x40 <= last && last < 0x7F {
         return Some((at + 1, last));
     }
     None

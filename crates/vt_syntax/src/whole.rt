@@ -1,10 +1,12 @@
 //! Events that stand whole at the front of a piece, between sequences: read from the piece, and never held.
 ghost use Rattle.std.specs.Prelude.{◌≡◌, ◌+◌, ◌-◌, ◌<◌, ◌≤◌, ℕ, List, [], ◌∷◌, ◌++◌, Option, IfSome, IsTrue, ◌↔◌};
+ghost use Rattle.std.specs.Prelude.{IsSome, IsNone, true};
 ghost use Rattle.std.specs.Prelude.{false, length, take, slice_index};
 ghost use Rattle.vt_syntax.specs.declared.held.Held.TheVariants.{Nothing, Escape, Control};
 ghost use Rattle.vt_syntax.specs.declared.held.Inters.TheVariants.{Zero};
 ghost use Rattle.std.specs.Bool.{OnTrue};
 ghost use Rattle.vt_syntax.specs.Event.{event_of};
+ghost use Rattle.vt_syntax.specs.Front.{is_digit, behind_value, is_front_final, are_front_values};
 ghost use Rattle.vt_syntax.specs.Held.{IsEnding, ended_by};
 ghost use Rattle.vt_syntax.specs.Steps.{step_to, step_between, opened_by, steps};
 ghost use Rattle.vt_syntax.specs.Whole.{IsWhole, AreRead, begun};
@@ -41,7 +43,8 @@ pub(crate) fn whole_event(piece: &[u8], values: &mut Values) -> Option<(usize, E
 /// Whether two bytes are ESC and `[`, which introduce a control sequence: one comparison of both.
 #[inline(always)]
 pub(crate) fn is_introducer(first: u8, second: u8) -> bool
-    ensures { OnTrue result ((first ≡ 0x1B) × (second ≡ 0x5B)) }
+    ensures introducer { OnTrue result ((first ≡ 0x1B) × (second ≡ 0x5B)) }
+    ensures exact { first ≡ 0x1B → second ≡ 0x5B → IsTrue result }
 {
     first as u16 + 256 * second as u16 == 0x5B1B
 }
@@ -138,7 +141,10 @@ pub(crate) fn read_values(
 ) -> Option<usize>
     requires within { start ≤ length piece.now }
     requires begun { steps Nothing (take start piece.now) ≡ step_to (begun marker) [] }
-    ensures { IfSome result (λ at. (at < length piece.now) × AreRead piece.now at marker values.new) }
+    ensures reads { IfSome result (λ at. (at < length piece.now) × AreRead piece.now at marker values.new) }
+    ensures ends { IfSome result
+        (λ at. are_front_values 16 piece.now start ≡ is_front_final (slice_index piece.now at)) }
+    ensures none { IsNone result → are_front_values 16 piece.now start ≡ false }
 {
     let (at, count) = read_list(piece, start, marker, &mut values.list)?;
     values.len = count;
@@ -155,8 +161,11 @@ fn read_list(
 ) -> Option<(usize, usize)>
     requires within { start ≤ length piece.now }
     requires begun { steps Nothing (take start piece.now) ≡ step_to (begun marker) [] }
-    ensures { IfSome result (λ t. (t.0 < length piece.now) × (t.1 ≤ 16)
+    ensures reads { IfSome result (λ t. (t.0 < length piece.now) × (t.1 ≤ 16)
         × AreRead piece.now t.0 marker (take t.1 list.new)) }
+    ensures ends { IfSome result
+        (λ t. are_front_values 16 piece.now start ≡ is_front_final (slice_index piece.now t.0)) }
+    ensures none { IsNone result → are_front_values 16 piece.now start ≡ false }
 {
     let mut count = 0;
     let mut at = start;
@@ -178,6 +187,7 @@ fn read_value(piece: &[u8], at: usize) -> (u16, usize)
     requires { at + 4 ≤ length piece.now }
     ensures low { at ≤ result.1 }
     ensures high { result.1 ≤ at + 3 }
+    ensures end { result.1 ≡ behind_value piece.now at }
     ensures reads { (marker : Option ℕ) (xs : List ℕ) → AreRead piece.now at marker (xs ++ 0 ∷ [])
         → AreRead piece.now result.1 marker (xs ++ result.0 ∷ []) }
 {
@@ -196,7 +206,8 @@ fn read_value(piece: &[u8], at: usize) -> (u16, usize)
 /// The number that a digit stands for. (In 32 bits, since of a byte the compiler would widen it again at each use.)
 #[inline(always)]
 fn digit(b: u8) -> Option<u32>
-    ensures { IfSome result (λ d. (48 ≤ b) × (b ≤ 57) × (d ≡ b - 48)) }
+    ensures number { IfSome result (λ d. (48 ≤ b) × (b ≤ 57) × (d ≡ b - 48)) }
+    ensures exact { IsSome result ↔ (is_digit b ≡ true) }
 {
     let d = (b as u32).wrapping_sub(0x30);
     if d < 10 { Some(d) } else { None }

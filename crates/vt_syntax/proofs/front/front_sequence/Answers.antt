@@ -7,12 +7,12 @@ use Rattle.vt_syntax.proofs.front.front_sequence.Goals as goal
 
 pub read_values-requires-clause-begun : goal.read_values-requires-clause-begun
 read_values-requires-clause-begun c =
-    steps_introducer c.args.piece.now (omega arith) c.if-not-is_introducer.ensures.0
-    c.if-not-is_introducer.ensures.1
+    steps_introducer c.args.piece.now (omega arith) c.if-not-is_introducer.ensures.introducer.0
+    c.if-not-is_introducer.ensures.introducer.1
 
-pub returns-then-last-le114 : goal.returns-then-last-le114
-returns-then-last-le114 c =
+pub returns-then-last-lt127-clause-front : goal.returns-then-last-lt127-clause-front
+returns-then-last-lt127-clause-front c =
     front_of c.args.piece.now c.read_values.new.values (c.in_ok-at.at + 1)
     (kind.Sequence None None (get_or c.args.piece.now c.in_ok-at.at 0))
-    (steps_control c.args.piece.now c.read_values.new.values None c.in_ok-at.at c.in_ok-at.ensures.1
-    c.in_ok-at.ensures.0 c.if-last-ge64.true (omega (arith, c.if-last-le114.true)))
+    (steps_control c.args.piece.now c.read_values.new.values None c.in_ok-at.at c.in_ok-at.ensures.reads.1
+    c.in_ok-at.ensures.reads.0 c.if-last-ge64.true c.if-last-lt127.true)

@@ -5,7 +5,8 @@ use Rattle.vt_syntax.proofs.whole.whole_event.Goals as goal
 
 pub whole_control-requires-clause-introduced : goal.whole_control-requires-clause-introduced
 whole_control-requires-clause-introduced c =
-    steps_introducer c.args.piece.now c.if-piece-lt2.false c.if-is_introducer.ensures.0 c.if-is_introducer.ensures.1
+    steps_introducer c.args.piece.now c.if-piece-lt2.false c.if-is_introducer.ensures.introducer.0
+    c.if-is_introducer.ensures.introducer.1
 
 pub returns-in-Some : goal.returns-in-Some
 returns-in-Some c = steps_alone c.args.piece.now c.in-Some.kind (omega arith) c.in-Some.ensures c.args.values.now

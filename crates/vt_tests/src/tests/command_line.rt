@@ -1,7 +1,8 @@
 //! Which words are taken, and what is said of the others.
+use super::common::holds;
 use std::alloc::{AllocError, Global};
 use std::test::Fail;
-use vt_replay::{What, settings};
+use vt_replay::{Settings, What, settings};
 
 /// The words of a line, cut at each space.
 pub(super) fn words_of(alloc: Global, line: &str) -> Result<Vec<String>, AllocError> {
@@ -83,25 +84,27 @@ const TAKEN: [Taken; 14] = [
     ),
 ];
 
+/// Whether settings are those of a row.
+fn are_taken(found: &Settings, (_line, what, piece, limit, file): &Taken) -> bool {
+    found.what == *what
+        && found.piece == *piece
+        && found.limit == *limit
+        && found.file.as_ref().map(|name| name.as_str()) == *file
+}
+
+/// Whether the line of a row asks for its settings.
+fn asks_for(alloc: Global, row: &Taken) -> Result<bool, Fail> {
+    let asked = settings(alloc, words_of(alloc, row.0)?);
+    Ok(match &asked {
+        Ok(found) => are_taken(found, row),
+        Err(_) => false,
+    })
+}
+
 #[test]
 fn words_ask_for_settings(rt: HostRuntime) -> Result<(), Fail> {
-    for (line, what, piece, limit, file) in TAKEN {
-        match settings(rt.alloc(), words_of(rt.alloc(), line)?) {
-            Ok(found) => {
-                assert_eq!(rt; found.what, what, "{line}");
-                assert_eq!(rt; found.piece, piece, "{line}");
-                assert_eq!(rt; found.limit, limit, "{line}");
-                assert_eq!(rt;
-                    found.file.as_ref().map(|name| name.as_str()),
-                    file,
-                    "{line}"
-                );
-            }
-            Err(refused) => {
-                let text = refused.text.as_str();
-                assert!(rt; false, "{line}: {text}");
-            }
-        }
+    for row in &TAKEN {
+        holds(&rt, row.0, asks_for(rt.alloc(), row)?);
     }
     Ok(())
 }
@@ -156,16 +159,19 @@ const REFUSED: [(&str, u8, &str); 18] = [
     ("vt220 --version", 0, "vt220 0.2.0\n"),
 ];
 
+/// Whether a line is refused with this status, and a text that begins so.
+fn is_refused(alloc: Global, line: &str, status: u8, text: &str) -> Result<bool, Fail> {
+    let asked = settings(alloc, words_of(alloc, line)?);
+    Ok(match &asked {
+        Ok(_) => false,
+        Err(refused) => refused.status == status && refused.text.as_str().starts_with(text),
+    })
+}
+
 #[test]
 fn words_are_refused(rt: HostRuntime) -> Result<(), Fail> {
-    for (line, status, text) in REFUSED {
-        match settings(rt.alloc(), words_of(rt.alloc(), line)?) {
-            Ok(_) => assert!(rt; false, "{line}"),
-            Err(refused) => {
-                assert_eq!(rt; refused.status, status, "{line}");
-                assert!(rt; refused.text.as_str().starts_with(text), "{line}");
-            }
-        }
+    for (line, status, text) in &REFUSED {
+        holds(&rt, line, is_refused(rt.alloc(), line, *status, text)?);
     }
     Ok(())
 }

@@ -33,6 +33,19 @@ pub(super) fn at(row: usize, col: usize) -> Cursor {
     }
 }
 
+/// How many bytes a replay reads at a time.
+#[derive(Clone, Copy)]
+struct Piece {
+    count: usize,
+    ghost in_range: { (1 ≤ count) × (count ≤ 65536) },
+}
+
+const PIECES: [Piece; 3] = [
+    Piece { count: 4096 },
+    Piece { count: 3 },
+    Piece { count: 1 },
+];
+
 /// A terminal, and its reports so far.
 #[derive(Drop)]
 pub(super) struct Played {
@@ -56,11 +69,27 @@ impl Played {
     pub(super) fn feed(&mut self, piece: &[u8]) -> Result<(), Fail> {
         Ok(self.terminal.feed(piece, &mut self.reports)?)
     }
+
+    /// Whether another terminal is in the same state, and has reported the same.
+    pub(super) fn is_same(&self, other: &Played) -> bool {
+        self.terminal.same_state(&other.terminal)
+            && self.reports.as_slice() == other.reports.as_slice()
+    }
+}
+
+/// Asserts what a test has found of a row, which it names: the tests are of small functions that answer whether a row
+/// holds, since the proof of one long function takes far more time than those of its parts.
+pub(super) fn holds(rt: &impl Abort, row: &str, found: bool) {
+    assert!(rt; found, "{row}");
+}
+
+/// Asserts the same of a row that has a number.
+pub(super) fn holds_at(rt: &impl Abort, row: usize, found: bool) {
+    assert!(rt; found, "row {row}");
 }
 
 /// What a replay of these bytes writes.
 pub(super) fn replayed(
-    rt: &impl Abort,
     alloc: Global,
     input: &[u8],
     what: What,
@@ -71,6 +100,23 @@ pub(super) fn replayed(
     let mut reader = Watched::new(input);
     let mut writer = Watched::new(Vec::new(alloc));
     run(alloc, &mut reader, &mut writer, what, piece, LIMIT)?;
-    assert!(rt; reader.ended() && !reader.failed() && !writer.failed());
+    if !reader.ended() || reader.failed() || writer.failed() {
+        return Err(Fail::new("the devices of a replay that ended well"));
+    }
     Ok(writer.into_inner())
+}
+
+/// Whether a replay of these bytes writes this, in pieces of 4096 bytes, of 3 and of 1.
+pub(super) fn is_replayed(
+    alloc: Global,
+    input: &[u8],
+    what: What,
+    expected: &[u8],
+) -> Result<bool, Fail> {
+    for size in PIECES {
+        if replayed(alloc, input, what, size.count)?.as_slice() != expected {
+            return Ok(false);
+        }
+    }
+    Ok(true)
 }

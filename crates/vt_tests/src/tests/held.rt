@@ -1,5 +1,6 @@
 //! What a terminal holds after each of the inputs that end inside a sequence.
-use super::common::Played;
+use super::common::{Played, holds_at};
+use std::alloc::Global;
 use std::test::Fail;
 use vt_vectors::{held_sample, held_sample_count};
 
@@ -20,19 +21,25 @@ const HELD: [&str; 14] = [
     "Escape(Zero)",
 ];
 
+/// Whether an input is held so, and asks for no report.
+fn is_held(alloc: Global, input: &[u8], expected: &str) -> Result<bool, Fail> {
+    let played = Played::of(alloc, &[input])?;
+    let held = format!(in alloc; "{:?}", played.terminal.held())?;
+    let is_between = played.terminal.is_between();
+    Ok(
+        held.as_str() == expected
+            && is_between == (expected == "Nothing")
+            && played.reports.is_empty(),
+    )
+}
+
 #[test]
 fn samples_leave_their_held_parts(rt: HostRuntime) -> Result<(), Fail> {
-    assert_eq!(rt; held_sample_count(), HELD.len());
+    assert!(rt; held_sample_count() == HELD.len());
     for i in 0..held_sample_count() {
-        let played = Played::of(rt.alloc(), &[held_sample(i)])?;
-        let held = format!(in rt.alloc(); "{:?}", played.terminal.held())?;
-        assert_eq!(rt; Some(held.as_str()), HELD.get(i).copied(), "sample {i}");
-        assert!(rt; !played.terminal.is_between());
-        assert!(rt; played.reports.is_empty());
+        let found = is_held(rt.alloc(), held_sample(i), HELD[i])?;
+        holds_at(&rt, i, found);
     }
-    let nothing = Played::of(rt.alloc(), &[])?;
-    let held = format!(in rt.alloc(); "{:?}", nothing.terminal.held())?;
-    assert_eq!(rt; held.as_str(), "Nothing");
-    assert!(rt; nothing.terminal.is_between());
+    assert!(rt; is_held(rt.alloc(), b"", "Nothing")?);
     Ok(())
 }

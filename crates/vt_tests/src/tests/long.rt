@@ -1,52 +1,50 @@
 //! Inputs without measure: whole, byte by byte, and in pieces of 7.
 ghost use Rattle.std.specs.Prelude.{◌≤◌};
 
-use super::common::Played;
+use super::common::{Played, holds_at};
 use std::alloc::Global;
-use std::process::Abort;
 use std::test::Fail;
 use vt_term::Cursor;
 
 /// How often a byte is repeated.
 const MILLION: usize = 1_000_000;
 
-/// Asserts what an input leaves, in pieces of this size: its first lines, with LF after each, and the cursor. The other
-/// lines are empty.
-fn leaves_by(
-    rt: &impl Abort,
-    alloc: Global,
-    size: usize,
-    input: &[u8],
-    lines: &[u8],
-    cursor: Cursor,
-) -> Result<(), Fail>
+/// What an input leaves, and asks for, in pieces of this size.
+fn played_by(alloc: Global, size: usize, input: &[u8]) -> Result<Played, Fail>
     requires { 1 ≤ size }
 {
     let mut played = Played::of(alloc, &[])?;
     for piece in input.chunks(size) {
         played.feed(piece)?;
     }
-    let mut text = Vec::new(alloc);
-    played.terminal.text(&mut text)?;
-    assert_eq!(rt; text.get(..lines.len()), Some(lines));
-    let empty = text.get(lines.len()..).unwrap_or(b"");
-    assert!(rt; empty.iter().all(|byte| *byte == b'\n'));
-    assert_eq!(rt; played.terminal.cursor(), cursor);
-    assert!(rt; played.reports.is_empty());
-    Ok(())
+    Ok(played)
 }
 
-/// Asserts the same whole, byte by byte, and in pieces of 7.
-fn leaves(
-    rt: &impl Abort,
-    alloc: Global,
-    input: &[u8],
-    lines: &[u8],
-    cursor: Cursor,
-) -> Result<(), Fail> {
-    leaves_by(rt, alloc, MILLION, input, lines, cursor)?;
-    leaves_by(rt, alloc, 7, input, lines, cursor)?;
-    leaves_by(rt, alloc, 1, input, lines, cursor)
+/// Whether a text has these first lines, with LF after each, and no others.
+fn has_lines(text: &[u8], lines: &[u8]) -> bool {
+    let rest = text.get(lines.len()..).unwrap_or(b"");
+    text.starts_with(lines) && rest.iter().all(|byte| *byte == b'\n')
+}
+
+/// Whether a terminal shows these lines and the cursor there, and has reported nothing.
+fn shows(alloc: Global, played: &Played, lines: &[u8], cursor: Cursor) -> Result<bool, Fail> {
+    let mut text = Vec::new(alloc);
+    played.terminal.text(&mut text)?;
+    Ok(has_lines(&text, lines) && played.terminal.cursor() == cursor && played.reports.is_empty())
+}
+
+/// Whether an input leaves these lines, the cursor there and nothing in reverse: whole, byte by byte, and in pieces
+/// of 7.
+fn leaves(alloc: Global, input: &[u8], lines: &[u8], cursor: Cursor) -> Result<bool, Fail> {
+    let whole = played_by(alloc, MILLION, input)?;
+    let by_sevens = played_by(alloc, 7, input)?;
+    let by_bytes = played_by(alloc, 1, input)?;
+    Ok(
+        shows(alloc, &whole, lines, cursor)?
+            && !whole.terminal.brush().rendition.reverse
+            && whole.is_same(&by_sevens)
+            && whole.is_same(&by_bytes),
+    )
 }
 
 /// So many times this byte, between a front and an end.
@@ -98,37 +96,61 @@ const LONG: [Long; 4] = [
     (b"\x9d", MILLION, b'a', b"\x07A", b"A\n", (1, 2)),
 ];
 
+/// Whether the input of a row leaves what the row says.
+fn is_read(
+    alloc: Global,
+    (front, count, byte, end, lines, (row, col)): &Long,
+) -> Result<bool, Fail> {
+    let input = repeated(alloc, front, *count, *byte, end)?;
+    leaves(alloc, &input, lines, at(*row, *col, false))
+}
+
 #[test]
 fn long_sequences_and_strings_are_read(rt: HostRuntime) -> Result<(), Fail> {
-    for (front, count, byte, end, lines, (row, col)) in LONG {
-        let input = repeated(rt.alloc(), front, count, byte, end)?;
-        leaves(&rt, rt.alloc(), &input, lines, at(row, col, false))?;
-        let played = Played::of(rt.alloc(), &[input.as_slice()])?;
-        assert!(rt; !played.terminal.brush().rendition.reverse);
+    for (i, row) in LONG.iter().enumerate() {
+        holds_at(&rt, i, is_read(rt.alloc(), row)?);
     }
     Ok(())
 }
 
+/// A text of so many full lines, and these bytes behind them.
+fn full_lines_and(alloc: Global, count: usize, rest: &[u8]) -> Result<Vec<u8>, Fail> {
+    let mut lines = full_lines(alloc, count)?;
+    lines.extend_from_slice(rest)?;
+    Ok(lines)
+}
+
+/// Whether so many letters leave these lines, and the cursor there.
+fn fill(alloc: Global, letters: usize, lines: &[u8], cursor: Cursor) -> Result<bool, Fail> {
+    let input = repeated(alloc, b"", letters, b'a', b"")?;
+    leaves(alloc, &input, lines, cursor)
+}
+
 #[test]
 fn long_runs_fill_the_screen_and_scroll(rt: HostRuntime) -> Result<(), Fail> {
-    let full = repeated(rt.alloc(), b"", 1920, b'a', b"")?;
-    let lines = full_lines(rt.alloc(), 24)?;
-    assert_eq!(rt; lines.len(), 1944);
-    leaves(&rt, rt.alloc(), &full, &lines, at(24, 80, true))?;
-    let one_more = repeated(rt.alloc(), b"", 1921, b'a', b"")?;
-    let mut lines = full_lines(rt.alloc(), 23)?;
-    lines.extend_from_slice(b"a\n")?;
-    assert_eq!(rt; lines.len(), 1865);
-    leaves(&rt, rt.alloc(), &one_more, &lines, at(24, 2, false))
+    let lines = full_lines_and(rt.alloc(), 24, b"")?;
+    assert!(rt; lines.len() == 1944);
+    assert!(rt; fill(rt.alloc(), 1920, &lines, at(24, 80, true))?);
+    let lines = full_lines_and(rt.alloc(), 23, b"a\n")?;
+    assert!(rt; lines.len() == 1865);
+    assert!(rt; fill(rt.alloc(), 1921, &lines, at(24, 2, false))?);
+    Ok(())
+}
+
+/// The lines 1 to 1000 in a scroll region.
+fn numbered_lines(alloc: Global) -> Result<Vec<u8>, Fail> {
+    let mut input = Vec::from_slice(alloc, b"\x1b[5;10r\x1b[10;1H")?;
+    for k in 1..1001u16 {
+        let line = format!(in alloc; "{k}\r\n")?;
+        input.extend_from_slice(line.as_bytes())?;
+    }
+    Ok(input)
 }
 
 #[test]
 fn a_scroll_region_keeps_its_last_lines(rt: HostRuntime) -> Result<(), Fail> {
-    let mut input = Vec::from_slice(rt.alloc(), b"\x1b[5;10r\x1b[10;1H")?;
-    for k in 1..1001u16 {
-        let line = format!(in rt.alloc(); "{k}\r\n")?;
-        input.extend_from_slice(line.as_bytes())?;
-    }
+    let input = numbered_lines(rt.alloc())?;
     let lines = b"\n\n\n\n996\n997\n998\n999\n1000\n";
-    leaves(&rt, rt.alloc(), &input, lines, at(10, 1, false))
+    assert!(rt; leaves(rt.alloc(), &input, lines, at(10, 1, false))?);
+    Ok(())
 }

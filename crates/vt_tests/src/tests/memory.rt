@@ -2,14 +2,13 @@
 ghost use Rattle.std.specs.Prelude.{◌+◌, ◌≤◌, vec_len, vec_capacity};
 
 use super::command_line::words_of;
-use super::common::{LIMIT, Played, replayed};
+use super::common::{LIMIT, Played, holds, holds_at, replayed};
 use super::scarce::{BLOCKS, Scarce};
 use std::alloc::{AllocError, Global};
-use std::process::Abort;
 use std::test::Fail;
 use vt_paint::{PAINT_LIMIT, PaintError, repaint, repaint_reserved};
 use vt_picture::{PICTURE_LIMIT, SHOW_LIMIT, picture, picture_reserved, show, show_reserved};
-use vt_replay::{Fault, Watched, What, run, settings};
+use vt_replay::{Fault, Refused, Settings, Watched, What, run, settings};
 use vt_term::{TEXT_LIMIT, Terminal};
 use vt_vectors::{Mismatch, Vector, check, vector, vector_count};
 
@@ -21,129 +20,168 @@ const INPUTS: [&[u8]; 4] = [
     b"\x1b G\x1b[c\x1b[>c",
 ];
 
+/// A call that takes memory.
+trait Growing {
+    /// Makes the call, and answers whether it had its memory.
+    fn has_memory(&mut self) -> bool;
+
+    /// Whether all is as it was before the first call.
+    fn is_unchanged(&self) -> bool;
+}
+
+/// How often a call was refused, and how often that has changed something, until it had its memory: one growth more is
+/// granted each time.
+fn refusals<G: Growing>(alloc: Global, call: &mut G) -> Result<(u32, u32), Fail> {
+    let mut scarce = Scarce::new(alloc)?;
+    let mut refused = 0u32;
+    let mut changed = 0u32;
+    for _ in 0..BLOCKS {
+        if call.has_memory() {
+            break;
+        }
+        refused = refused.saturating_add(1);
+        if !call.is_unchanged() {
+            changed = changed.saturating_add(1);
+        }
+        scarce.relent();
+    }
+    Ok((refused, changed))
+}
+
+/// `Terminal::new`.
+#[derive(Drop)]
+struct Making {
+    alloc: Global,
+    made: Option<Terminal>,
+}
+
+impl Growing for Making {
+    fn has_memory(&mut self) -> bool {
+        self.made = Terminal::new(self.alloc).ok();
+        self.made.is_some()
+    }
+
+    fn is_unchanged(&self) -> bool {
+        self.made.is_none()
+    }
+}
+
+/// Whether a terminal that was refused at first is then as any other.
+fn new_is_refused(alloc: Global) -> Result<bool, Fail> {
+    let never_asked = Terminal::new(alloc)?;
+    let mut making = Making { alloc, made: None };
+    let (refused, changed) = refusals(alloc, &mut making)?;
+    let made = making.made.ok_or("never made")?;
+    Ok(refused > 0 && changed == 0 && made.same_state(&never_asked))
+}
+
 #[test]
 fn each_growth_of_new_is_refused(rt: HostRuntime) -> Result<(), Fail> {
-    let never_asked = Terminal::new(rt.alloc())?;
-    let mut scarce = Scarce::new(rt.alloc())?;
-    let mut refused = 0u32;
-    let mut made = None;
-    for _ in 0..BLOCKS {
-        match Terminal::new(rt.alloc()) {
-            Ok(terminal) => {
-                made = Some(terminal);
-                break;
-            }
-            Err(_) => refused = refused.saturating_add(1),
-        }
-        scarce.relent();
-    }
-    drop(scarce);
-    assert!(rt; refused > 0);
-    let terminal = made.ok_or("never made")?;
-    assert!(rt; terminal.same_state(&never_asked));
+    assert!(rt; new_is_refused(rt.alloc())?);
     Ok(())
 }
 
-/// Asserts that a piece that was refused, also more than once, is then played as if it never had been.
-fn feed_is_refused(rt: &impl Abort, alloc: Global, input: &[u8]) -> Result<(), Fail> {
-    let expected = Played::of(alloc, &[input])?;
-    let never_asked = Terminal::new(alloc)?;
-    let mut terminal = Terminal::new(alloc)?;
-    let mut out = Vec::from_slice(alloc, b"ok")?;
-    let mut scarce = Scarce::new(alloc)?;
-    let mut refused = 0u32;
-    let mut changed = 0u32;
-    for _ in 0..BLOCKS {
-        if terminal.feed(input, &mut out).is_ok() {
-            break;
-        }
-        refused = refused.saturating_add(1);
-        if !terminal.same_state(&never_asked) || out.as_slice() != b"ok".as_slice() {
-            changed = changed.saturating_add(1);
-        }
-        scarce.relent();
-    }
-    drop(scarce);
-    assert_eq!(rt; refused > 0, !input.is_empty());
-    assert_eq!(rt; changed, 0);
-    assert!(rt; terminal.same_state(&expected.terminal));
-    assert_eq!(rt; out.get(..2), Some(b"ok".as_slice()));
-    assert_eq!(rt; out.get(2..), Some(expected.reports.as_slice()));
-    Ok(())
+/// `Terminal::feed`.
+#[derive(Drop)]
+struct Feeding<'a> {
+    terminal: Terminal,
+    out: Vec<u8>,
+    input: &'a [u8],
+    /// A terminal that was never asked.
+    other: Terminal,
 }
 
-/// Appends the picture, the text with its attributes or, for all else, the plain text.
-fn append_view(terminal: &Terminal, what: What, out: &mut Vec<u8>) -> Result<(), AllocError> {
+impl Growing for Feeding<'_> {
+    fn has_memory(&mut self) -> bool {
+        self.terminal.feed(self.input, &mut self.out).is_ok()
+    }
+
+    fn is_unchanged(&self) -> bool {
+        self.terminal.same_state(&self.other) && self.out.as_slice() == b"ok".as_slice()
+    }
+}
+
+/// Whether a piece that was refused, also more than once, is then played as if it never had been.
+fn feed_is_refused(alloc: Global, input: &[u8]) -> Result<bool, Fail> {
+    let mut feeding = Feeding {
+        terminal: Terminal::new(alloc)?,
+        out: Vec::from_slice(alloc, b"ok")?,
+        input,
+        other: Terminal::new(alloc)?,
+    };
+    let (refused, changed) = refusals(alloc, &mut feeding)?;
+    Ok((refused > 0) != input.is_empty() && changed == 0 && is_fed(alloc, &feeding)?)
+}
+
+/// Whether the piece was played as by a call that had its memory at once.
+fn is_fed(alloc: Global, feeding: &Feeding<'_>) -> Result<bool, Fail> {
+    let expected = Played::of(alloc, &[feeding.input])?;
+    Ok(
+        feeding.terminal.same_state(&expected.terminal)
+            && is_behind_ok(&feeding.out, &expected.reports),
+    )
+}
+
+/// Whether an output has what was expected behind what stood there.
+fn is_behind_ok(out: &[u8], expected: &[u8]) -> bool {
+    out.get(..2) == Some(b"ok".as_slice()) && out.get(2..) == Some(expected)
+}
+
+/// Appends the picture, the text with its attributes, the repaint or, for all else, the plain text, and answers whether
+/// that had its memory.
+fn append_view(terminal: &Terminal, what: What, out: &mut Vec<u8>) -> bool {
     match what {
-        What::Picture => picture(terminal, out),
-        What::Show => show(terminal, out),
-        _ => terminal.text(out),
+        What::Picture => picture(terminal, out).is_ok(),
+        What::Show => show(terminal, out).is_ok(),
+        What::Repaint => repaint(terminal, out) != Err(PaintError::Memory),
+        _ => terminal.text(out).is_ok(),
     }
 }
 
-/// Asserts the same of a text, a text with its attributes or a picture.
-fn view_is_refused(rt: &impl Abort, alloc: Global, input: &[u8], what: What) -> Result<(), Fail> {
-    let played = Played::of(alloc, &[input])?;
-    let mut expected = Vec::from_slice(alloc, b"ok")?;
-    append_view(&played.terminal, what, &mut expected)?;
-    let mut out = Vec::from_slice(alloc, b"ok")?;
-    let mut scarce = Scarce::new(alloc)?;
-    let mut refused = 0u32;
-    let mut changed = 0u32;
-    for _ in 0..BLOCKS {
-        if append_view(&played.terminal, what, &mut out).is_ok() {
-            break;
-        }
-        refused = refused.saturating_add(1);
-        if out.as_slice() != b"ok".as_slice() {
-            changed = changed.saturating_add(1);
-        }
-        scarce.relent();
-    }
-    drop(scarce);
-    assert!(rt; refused > 0);
-    assert_eq!(rt; changed, 0);
-    assert_eq!(rt; out.as_slice(), expected.as_slice());
-    Ok(())
+/// A view, appended.
+#[derive(Drop)]
+struct Viewing {
+    terminal: Terminal,
+    out: Vec<u8>,
+    what: What,
 }
 
-/// Asserts the same of a repaint.
-fn repaint_is_refused(rt: &impl Abort, alloc: Global, input: &[u8]) -> Result<(), Fail> {
-    let played = Played::of(alloc, &[input])?;
-    let mut expected = Vec::from_slice(alloc, b"ok")?;
-    repaint(&played.terminal, &mut expected)?;
-    let mut out = Vec::from_slice(alloc, b"ok")?;
-    let mut scarce = Scarce::new(alloc)?;
-    let mut refused = 0u32;
-    let mut changed = 0u32;
-    let mut answered = Err(PaintError::Memory);
-    for _ in 0..BLOCKS {
-        answered = repaint(&played.terminal, &mut out);
-        if answered != Err(PaintError::Memory) {
-            break;
-        }
-        refused = refused.saturating_add(1);
-        if out.as_slice() != b"ok".as_slice() {
-            changed = changed.saturating_add(1);
-        }
-        scarce.relent();
+impl Growing for Viewing {
+    fn has_memory(&mut self) -> bool {
+        append_view(&self.terminal, self.what, &mut self.out)
     }
-    drop(scarce);
-    assert!(rt; refused > 0);
-    assert_eq!(rt; answered, Ok(()));
-    assert_eq!(rt; changed, 0);
-    assert_eq!(rt; out.as_slice(), expected.as_slice());
-    Ok(())
+
+    fn is_unchanged(&self) -> bool {
+        self.out.as_slice() == b"ok".as_slice()
+    }
+}
+
+/// Whether a view that was refused, also more than once, is then appended as if it never had been.
+fn view_is_refused(alloc: Global, input: &[u8], what: What) -> Result<bool, Fail> {
+    let mut viewing = Viewing {
+        terminal: Played::of(alloc, &[input])?.terminal,
+        out: Vec::from_slice(alloc, b"ok")?,
+        what,
+    };
+    let (refused, changed) = refusals(alloc, &mut viewing)?;
+    let mut expected = Vec::new(alloc);
+    let has_memory = append_view(&viewing.terminal, what, &mut expected);
+    Ok(
+        refused > 0
+            && changed == 0
+            && has_memory
+            && !expected.is_empty()
+            && is_behind_ok(&viewing.out, &expected),
+    )
 }
 
 #[test]
 fn each_growth_of_feed_text_show_and_repaint_is_refused(rt: HostRuntime) -> Result<(), Fail> {
-    for input in INPUTS {
-        feed_is_refused(&rt, rt.alloc(), input)?;
-        for what in [What::Text, What::Show] {
-            view_is_refused(&rt, rt.alloc(), input, what)?;
+    for (i, input) in INPUTS.iter().enumerate() {
+        holds_at(&rt, i, feed_is_refused(rt.alloc(), input)?);
+        for what in [What::Text, What::Show, What::Repaint] {
+            holds_at(&rt, i, view_is_refused(rt.alloc(), input, what)?);
         }
-        repaint_is_refused(&rt, rt.alloc(), input)?;
     }
     Ok(())
 }
@@ -179,22 +217,18 @@ fn append(terminal: &mut Terminal, input: &[u8], out: &mut Vec<u8>) -> bool {
         && repaint(terminal, out).is_ok()
 }
 
-/// Asserts that calls with the room for what they append are never refused, take no memory, and append.
-fn appends_in_room(
-    rt: &impl Abort,
+/// Whether calls with the room for what they append are never refused, take no memory, and append this.
+fn takes_no_memory(
     alloc: Global,
     input: &[u8],
     reserved: bool,
-) -> Result<(), Fail> {
-    let mut expected = Vec::from_slice(alloc, b"ok")?;
-    let mut amply = Terminal::new(alloc)?;
-    assert!(rt; append(&mut amply, input, &mut expected));
+    expected: &[u8],
+) -> Result<bool, Fail> {
     let mut terminal = Terminal::new(alloc)?;
     let mut out = Vec::with_capacity(
         alloc,
         2000 + TEXT_LIMIT + SHOW_LIMIT + PICTURE_LIMIT + PAINT_LIMIT,
     )?;
-    out.extend_from_slice(b"ok")?;
     let capacity = out.capacity();
     let scarce = Scarce::new(alloc)?;
     let answered = if reserved {
@@ -203,44 +237,81 @@ fn appends_in_room(
         append(&mut terminal, input, &mut out)
     };
     drop(scarce);
-    assert!(rt; answered);
-    assert_eq!(rt; out.capacity(), capacity);
-    assert_eq!(rt; out.as_slice(), expected.as_slice());
-    Ok(())
+    Ok(answered && out.capacity() == capacity && out.as_slice() == expected)
+}
+
+/// What these calls append.
+fn appended(alloc: Global, input: &[u8]) -> Result<Vec<u8>, Fail> {
+    let mut out = Vec::new(alloc);
+    let mut terminal = Terminal::new(alloc)?;
+    if !append(&mut terminal, input, &mut out) {
+        return Err(Fail::new("refused with ample memory"));
+    }
+    Ok(out)
 }
 
 #[test]
 fn calls_with_room_take_no_memory(rt: HostRuntime) -> Result<(), Fail> {
-    for input in INPUTS {
-        appends_in_room(&rt, rt.alloc(), input, false)?;
-        appends_in_room(&rt, rt.alloc(), input, true)?;
+    for (i, input) in INPUTS.iter().enumerate() {
+        let expected = appended(rt.alloc(), input)?;
+        holds_at(
+            &rt,
+            i,
+            takes_no_memory(rt.alloc(), input, false, &expected)?,
+        );
+        holds_at(&rt, i, takes_no_memory(rt.alloc(), input, true, &expected)?);
     }
     Ok(())
 }
 
-/// Asserts that a replay that was refused, also more than once, has read and written nothing.
-fn run_is_refused(rt: &impl Abort, alloc: Global, input: &[u8], what: What) -> Result<(), Fail> {
-    let expected = replayed(rt, alloc, input, what, 4096)?;
-    let mut reader = Watched::new(input);
-    let mut writer = Watched::new(Vec::with_capacity(alloc, TEXT_LIMIT)?);
-    let mut scarce = Scarce::new(alloc)?;
-    let mut refused = 0u32;
-    let mut answered = Err(Fault::Memory);
-    for _ in 0..BLOCKS {
-        if reader.failed() || reader.ended() || writer.failed() {
-            break;
+/// `run`.
+#[derive(Drop)]
+struct Running<'a> {
+    alloc: Global,
+    reader: Watched<&'a [u8]>,
+    writer: Watched<Vec<u8>>,
+    what: What,
+    answered: Result<(), Fault>,
+}
+
+impl Growing for Running<'_> {
+    fn has_memory(&mut self) -> bool {
+        if self.reader.failed() || self.reader.ended() || self.writer.failed() {
+            return true;
         }
-        answered = run(alloc, &mut reader, &mut writer, what, 4096, LIMIT);
-        if answered == Err(Fault::Memory) {
-            refused = refused.saturating_add(1);
-        }
-        scarce.relent();
+        self.answered = run(
+            self.alloc,
+            &mut self.reader,
+            &mut self.writer,
+            self.what,
+            4096,
+            LIMIT,
+        );
+        self.answered != Err(Fault::Memory)
     }
-    drop(scarce);
-    assert!(rt; refused > 2);
-    assert_eq!(rt; answered, Ok(()));
-    assert_eq!(rt; writer.into_inner().as_slice(), expected.as_slice());
-    Ok(())
+
+    fn is_unchanged(&self) -> bool {
+        !self.reader.failed() && !self.reader.ended() && !self.writer.failed()
+    }
+}
+
+/// Whether a replay that was refused, also more than once, has read and written nothing.
+fn run_is_refused(alloc: Global, input: &[u8], what: What) -> Result<bool, Fail> {
+    let mut running = Running {
+        alloc,
+        reader: Watched::new(input),
+        writer: Watched::new(Vec::with_capacity(alloc, TEXT_LIMIT)?),
+        what,
+        answered: Err(Fault::Memory),
+    };
+    let (refused, changed) = refusals(alloc, &mut running)?;
+    let expected = replayed(alloc, input, what, 4096)?;
+    Ok(
+        refused > 2
+            && changed == 0
+            && running.answered == Ok(())
+            && running.writer.into_inner().as_slice() == expected.as_slice(),
+    )
 }
 
 #[test]
@@ -252,48 +323,68 @@ fn each_growth_of_run_is_refused(rt: HostRuntime) -> Result<(), Fail> {
         What::Status,
         What::Show,
     ] {
-        for input in INPUTS {
-            run_is_refused(&rt, rt.alloc(), input, what)?;
+        for (i, input) in INPUTS.iter().enumerate() {
+            holds_at(&rt, i, run_is_refused(rt.alloc(), input, what)?);
         }
     }
     Ok(())
 }
 
-/// Asserts that words that were refused for want of memory, also more than once, are then answered as with ample
-/// memory.
-fn settings_is_refused(rt: &impl Abort, alloc: Global, line: &str) -> Result<(), Fail> {
-    let expected = settings(alloc, words_of(alloc, line)?);
+/// `settings`, which takes the words.
+#[derive(Drop)]
+struct Asking {
+    alloc: Global,
+    copies: Vec<Vec<String>>,
+    answered: Option<Result<Settings, Refused>>,
+}
+
+/// Whether words were refused for want of memory.
+fn is_want(answered: &Result<Settings, Refused>) -> bool {
+    match answered {
+        Ok(_) => false,
+        Err(refused) => refused.status == 1,
+    }
+}
+
+impl Growing for Asking {
+    fn has_memory(&mut self) -> bool {
+        let Some(words) = self.copies.pop() else {
+            return true;
+        };
+        let answered = settings(self.alloc, words);
+        let has_memory = !is_want(&answered);
+        self.answered = Some(answered);
+        has_memory
+    }
+
+    fn is_unchanged(&self) -> bool {
+        match &self.answered {
+            Some(Err(refused)) => refused.text.is_empty(),
+            _ => false,
+        }
+    }
+}
+
+/// So many copies of the words of a line as a call can be refused.
+fn copies_of(alloc: Global, line: &str) -> Result<Vec<Vec<String>>, AllocError> {
     let mut copies = Vec::with_capacity(alloc, BLOCKS as usize)?;
     for _ in 0..BLOCKS {
         copies.push(words_of(alloc, line)?)?;
     }
-    let mut scarce = Scarce::new(alloc)?;
-    let mut refused = 0u32;
-    let mut with_text = 0u32;
-    let mut answered = None;
-    for _ in 0..BLOCKS {
-        let Some(words) = copies.pop() else {
-            break;
-        };
-        match settings(alloc, words) {
-            Err(memory) if memory.status == 1 => {
-                refused = refused.saturating_add(1);
-                if !memory.text.is_empty() {
-                    with_text = with_text.saturating_add(1);
-                }
-            }
-            other => {
-                answered = Some(other);
-                break;
-            }
-        }
-        scarce.relent();
-    }
-    drop(scarce);
-    assert!(rt; refused > 2, "{line}");
-    assert_eq!(rt; with_text, 0, "{line}");
-    assert_eq!(rt; answered, Some(expected), "{line}");
-    Ok(())
+    Ok(copies)
+}
+
+/// Whether words that were refused for want of memory, also more than once and each time without a text, are then
+/// answered as with ample memory.
+fn settings_is_refused(alloc: Global, line: &str) -> Result<bool, Fail> {
+    let mut asking = Asking {
+        alloc,
+        copies: copies_of(alloc, line)?,
+        answered: None,
+    };
+    let (refused, with_text) = refusals(alloc, &mut asking)?;
+    let expected = settings(alloc, words_of(alloc, line)?);
+    Ok(refused > 2 && with_text == 0 && asking.answered == Some(expected))
 }
 
 #[test]
@@ -303,30 +394,45 @@ fn each_growth_of_settings_is_refused(rt: HostRuntime) -> Result<(), Fail> {
         "vt220 --help",
         "vt220 text --piece x",
     ] {
-        settings_is_refused(&rt, rt.alloc(), line)?;
+        holds(&rt, line, settings_is_refused(rt.alloc(), line)?);
     }
     Ok(())
 }
 
-/// Asserts that a check that was refused, also more than once, answers so and nothing else, and is then made as if it
-/// never had been.
-fn check_is_refused(rt: &impl Abort, alloc: Global, v: &Vector) -> Result<(), Fail> {
-    let mut scarce = Scarce::new(alloc)?;
-    let mut refused = 0u32;
-    let mut answered = Err(Mismatch::Memory);
-    for _ in 0..BLOCKS {
-        answered = check(alloc, v);
-        if answered != Err(Mismatch::Memory) {
-            break;
-        }
-        refused = refused.saturating_add(1);
-        scarce.relent();
+/// `check`.
+#[derive(Drop)]
+struct Checking {
+    alloc: Global,
+    vector: Vector<'static>,
+    answered: Result<(), Mismatch>,
+}
+
+impl Growing for Checking {
+    fn has_memory(&mut self) -> bool {
+        self.answered = check(self.alloc, &self.vector);
+        self.answered != Err(Mismatch::Memory)
     }
-    drop(scarce);
-    assert!(rt; refused > 2);
-    assert_eq!(rt; answered, Ok(()));
-    assert_eq!(rt; check(alloc, v), Ok(()));
-    Ok(())
+
+    fn is_unchanged(&self) -> bool {
+        self.answered == Err(Mismatch::Memory)
+    }
+}
+
+/// Whether a check that was refused, also more than once, answers so and nothing else, and is then made as if it never
+/// had been.
+fn check_is_refused(alloc: Global, vector: Vector<'static>) -> Result<bool, Fail> {
+    let mut checking = Checking {
+        alloc,
+        vector,
+        answered: Err(Mismatch::Memory),
+    };
+    let (refused, changed) = refusals(alloc, &mut checking)?;
+    Ok(
+        refused > 2
+            && changed == 0
+            && checking.answered == Ok(())
+            && check(alloc, &vector) == Ok(()),
+    )
 }
 
 #[test]
@@ -335,10 +441,10 @@ fn each_growth_of_check_is_refused(rt: HostRuntime) -> Result<(), Fail> {
     for i in 0..vector_count() {
         let v = vector(i);
         if INPUTS.iter().any(|input| *input == v.input) {
-            check_is_refused(&rt, rt.alloc(), &v)?;
+            holds_at(&rt, i, check_is_refused(rt.alloc(), v)?);
             found = found.saturating_add(1);
         }
     }
-    assert_eq!(rt; found, 4);
+    assert!(rt; found == 4);
     Ok(())
 }

@@ -1,21 +1,29 @@
 //! A repaint that is refused.
-use super::common::Played;
+use super::common::{Played, holds};
+use std::alloc::Global;
 use std::test::Fail;
 use vt_paint::{PaintError, repaint};
 
+/// Whether a repaint inside a sequence is refused, and leaves the output as it was.
+fn is_partial(alloc: Global) -> Result<bool, Fail> {
+    let inside = Played::of(alloc, &[b"\x1b[1"])?;
+    let mut out = Vec::from_slice(alloc, b"ok")?;
+    let answer = repaint(&inside.terminal, &mut out);
+    Ok(answer == Err(PaintError::Partial) && out.as_slice() == b"ok".as_slice())
+}
+
+/// Whether an error says this.
+fn says(alloc: Global, error: PaintError, message: &str) -> Result<bool, Fail> {
+    let said = format!(in alloc; "{error}")?;
+    Ok(said.as_str() == message)
+}
+
 #[test]
 fn a_repaint_is_refused_inside_a_sequence(rt: HostRuntime) -> Result<(), Fail> {
-    let inside = Played::of(rt.alloc(), &[b"\x1b[1"])?;
-    let mut out = Vec::from_slice(rt.alloc(), b"ok")?;
-    let answer = repaint(&inside.terminal, &mut out);
-    assert_eq!(rt; answer, Err(PaintError::Partial));
-    assert_eq!(rt; out.as_slice(), b"ok".as_slice());
-    for (error, message) in [
-        (PaintError::Partial, "partial"),
-        (PaintError::Memory, "memory"),
-    ] {
-        let shown = format!(in rt.alloc(); "{error}")?;
-        assert_eq!(rt; shown.as_str(), message);
-    }
+    holds(&rt, "partial", is_partial(rt.alloc())?);
+    let partial = says(rt.alloc(), PaintError::Partial, "partial")?;
+    holds(&rt, "the message of partial", partial);
+    let memory = says(rt.alloc(), PaintError::Memory, "memory")?;
+    holds(&rt, "the message of memory", memory);
     Ok(())
 }

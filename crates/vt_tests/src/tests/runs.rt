@@ -1,6 +1,6 @@
 //! Runs of graphic bytes, of each length from each column of the last row: at once, and each byte behind a single
 //! shift, so that it is read and written by itself.
-use super::common::Played;
+use super::common::{Played, holds_at};
 use std::alloc::Global;
 use std::process::Abort;
 use std::test::Fail;
@@ -30,30 +30,68 @@ fn graphic_bytes(alloc: Global, both: bool) -> Result<Vec<u8>, Fail> {
     Ok(run)
 }
 
-/// Asserts that runs leave the same state at once and byte by byte, on a screen of `E` of this width, after this
-/// setting.
-fn runs_agree(
-    rt: &impl Abort,
+/// Whether a run from this column on leaves, at once, what its bytes have left one by one, each behind a single shift.
+fn run_agrees(
+    alloc: Global,
+    setting: &[u8],
+    place: &[u8],
+    front: &[u8],
+    by_bytes: &Played,
+) -> Result<bool, Fail> {
+    let whole = Played::of(alloc, &[SETS, setting, place, front])?;
+    Ok(whole.terminal.same_state(&by_bytes.terminal))
+}
+
+/// Whether runs of each length agree from this place on.
+fn runs_agree_from(
+    alloc: Global,
+    setting: &[u8],
+    place: &[u8],
+    run: &[u8],
+    by_bytes: &mut Played,
+) -> Result<bool, Fail> {
+    for length in 0..run.len() + 1 {
+        let (front, rest) = run.split_at(length);
+        if !run_agrees(alloc, setting, place, front, by_bytes)? {
+            return Ok(false);
+        }
+        if let Some(next) = rest.first() {
+            by_bytes.feed(&[shift_of(*next), *next])?;
+        }
+    }
+    Ok(true)
+}
+
+/// Whether they do from this column on, on a screen of `E` of this width, after this setting.
+fn runs_agree_at(
     alloc: Global,
     setting: &[u8],
     width: usize,
+    col: usize,
     run: &[u8],
-) -> Result<(), Fail> {
-    for col in 1..=width {
-        let place = format!(in alloc; "\x1b#8\x1b[1m\x1b[24;{col}H")?;
-        let mut by_bytes = Played::of(alloc, &[SETS, setting, place.as_bytes()])?;
-        assert_eq!(rt; by_bytes.terminal.cursor().col, col);
-        assert_eq!(rt; by_bytes.terminal.width(), width);
-        for length in 0..run.len() + 1 {
-            let (front, rest) = run.split_at(length);
-            let whole = Played::of(alloc, &[SETS, setting, place.as_bytes(), front])?;
-            assert!(rt;
-                whole.terminal.same_state(&by_bytes.terminal),
-                "{length} from column {col}"
-            );
-            if let Some(next) = rest.first() {
-                by_bytes.feed(&[shift_of(*next), *next])?;
-            }
+) -> Result<bool, Fail> {
+    let place = format!(in alloc; "\x1b#8\x1b[1m\x1b[24;{col}H")?;
+    let mut by_bytes = Played::of(alloc, &[SETS, setting, place.as_bytes()])?;
+    Ok(
+        by_bytes.terminal.cursor().col == col
+            && by_bytes.terminal.width() == width
+            && runs_agree_from(alloc, setting, place.as_bytes(), run, &mut by_bytes)?,
+    )
+}
+
+/// A setting, and the width that it leaves: with autowrap and without, on either width.
+const SETTINGS: [(&[u8], usize); 4] = [
+    (b"", 80),
+    (b"\x1b[?7l", 80),
+    (b"\x1b[?3h", 132),
+    (b"\x1b[?3h\x1b[?7l", 132),
+];
+
+/// Asserts that runs agree from each column on.
+fn runs_agree(rt: &impl Abort, alloc: Global, run: &[u8]) -> Result<(), Fail> {
+    for (setting, width) in &SETTINGS {
+        for col in 1..=*width {
+            holds_at(rt, col, runs_agree_at(alloc, setting, *width, col, run)?);
         }
     }
     Ok(())
@@ -61,13 +99,6 @@ fn runs_agree(
 
 #[test]
 fn runs_leave_what_their_bytes_leave_alone(rt: HostRuntime) -> Result<(), Fail> {
-    for both in [false, true] {
-        let run = graphic_bytes(rt.alloc(), both)?;
-        // with autowrap and without, on either width
-        runs_agree(&rt, rt.alloc(), b"", 80, &run)?;
-        runs_agree(&rt, rt.alloc(), b"\x1b[?7l", 80, &run)?;
-        runs_agree(&rt, rt.alloc(), b"\x1b[?3h", 132, &run)?;
-        runs_agree(&rt, rt.alloc(), b"\x1b[?3h\x1b[?7l", 132, &run)?;
-    }
-    Ok(())
+    runs_agree(&rt, rt.alloc(), &graphic_bytes(rt.alloc(), false)?)?;
+    runs_agree(&rt, rt.alloc(), &graphic_bytes(rt.alloc(), true)?)
 }

@@ -1,5 +1,5 @@
 //! The status of a replay.
-use super::common::replayed;
+use super::common::{holds_at, is_replayed};
 use std::test::Fail;
 use vt_replay::What;
 
@@ -53,13 +53,9 @@ const STATUS: [(&[u8], &str); 11] = [
 
 #[test]
 fn status_has_five_lines(rt: HostRuntime) -> Result<(), Fail> {
-    for (input, status) in STATUS {
-        let whole = replayed(&rt, rt.alloc(), input, What::Status, 4096)?;
-        assert_eq!(rt; whole.as_slice(), status.as_bytes());
-        let by_threes = replayed(&rt, rt.alloc(), input, What::Status, 3)?;
-        assert_eq!(rt; by_threes.as_slice(), status.as_bytes());
-        let by_bytes = replayed(&rt, rt.alloc(), input, What::Status, 1)?;
-        assert_eq!(rt; by_bytes.as_slice(), status.as_bytes());
+    for (i, (input, status)) in STATUS.iter().enumerate() {
+        let found = is_replayed(rt.alloc(), input, What::Status, status.as_bytes())?;
+        holds_at(&rt, i, found);
     }
     Ok(())
 }

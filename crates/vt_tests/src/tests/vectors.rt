@@ -1,56 +1,59 @@
 //! The terminal meets every vector, alone and through a replay, and no wrong one.
-ghost use Rattle.std.specs.Prelude.{◌≤◌};
+ghost use Rattle.std.specs.Prelude.{◌≤◌, ◌<◌};
 
-use super::common::{LIMIT, replayed};
+use super::common::{LIMIT, holds, holds_at, is_replayed};
 use std::alloc::Global;
-use std::process::Abort;
 use std::test::Fail;
 use vt_replay::{Fault, Watched, What, run};
-use vt_vectors::{Mismatch, Vector, check, vector, vector_count, vector_name};
+use vt_vectors::{Mismatch, VECTOR_COUNT, Vector, check, vector, vector_count, vector_name};
 
-/// Asserts that replays by pieces of this size write what the vector expects; inside a sequence there is no repaint.
-fn is_replayed(rt: &impl Abort, alloc: Global, v: &Vector, piece: usize) -> Result<(), Fail>
+/// Whether a replay for a repaint answers and writes what the vector expects: inside a sequence there is none.
+fn is_repainted(alloc: Global, v: &Vector, piece: usize) -> bool
     requires { (1 ≤ piece) × (piece ≤ 65536) }
 {
-    let text = replayed(rt, alloc, v.input, What::Text, piece)?;
-    assert_eq!(rt; text.as_slice(), v.text, "{v:?}");
-    let reports = replayed(rt, alloc, v.input, What::Reports, piece)?;
-    assert_eq!(rt; reports.as_slice(), v.reports, "{v:?}");
     let mut writer = Watched::new(Vec::new(alloc));
     let mut reader = Watched::new(v.input);
     let answer = run(alloc, &mut reader, &mut writer, What::Repaint, piece, LIMIT);
-    let due = if v.repaint.is_some() {
-        Ok(())
-    } else {
-        Err(Fault::Partial)
-    };
-    assert_eq!(rt; answer, due, "{v:?}");
     let written = writer.into_inner();
-    assert_eq!(rt; written.as_slice(), v.repaint.unwrap_or(b""), "{v:?}");
-    Ok(())
+    match v.repaint {
+        Some(due) => answer == Ok(()) && written.as_slice() == due,
+        None => answer == Err(Fault::Partial) && written.is_empty(),
+    }
+}
+
+/// Whether replays write what the vector expects.
+fn is_met(alloc: Global, v: &Vector) -> Result<bool, Fail> {
+    Ok(
+        check(alloc, v) == Ok(())
+            && is_replayed(alloc, v.input, What::Text, v.text)?
+            && is_replayed(alloc, v.input, What::Reports, v.reports)?
+            && is_repainted(alloc, v, 1)
+            && is_repainted(alloc, v, 4096),
+    )
 }
 
 #[test]
 fn every_vector_is_met(rt: HostRuntime) -> Result<(), Fail> {
     for i in 0..vector_count() {
-        let v = vector(i);
-        assert_eq!(rt; check(rt.alloc(), &v), Ok(()), "{v:?}");
-        is_replayed(&rt, rt.alloc(), &v, 1)?;
-        is_replayed(&rt, rt.alloc(), &v, 4096)?;
+        holds_at(&rt, i, is_met(rt.alloc(), &vector(i))?);
     }
     Ok(())
 }
 
+/// Whether two vectors have one name or one input.
+fn are_alike(i: usize, j: usize) -> bool
+    requires { (i < VECTOR_COUNT) × (j < VECTOR_COUNT) }
+{
+    vector_name(i) == vector_name(j) || vector(i).input == vector(j).input
+}
+
 #[test]
-fn each_vector_has_a_name_and_an_input_of_its_own(rt: HostRuntime) -> Result<(), Fail> {
+fn each_vector_has_a_name_and_an_input_of_its_own(rt: HostRuntime) {
     for i in 0..vector_count() {
         for j in 0..i {
-            assert!(rt; vector_name(i) != vector_name(j), "{i} {j}");
-            let repeated = vector(i).input == vector(j).input;
-            assert!(rt; !repeated, "{i} {j}");
+            holds_at(&rt, i, !are_alike(i, j));
         }
     }
-    Ok(())
 }
 
 /// An input, and how many bytes its text and its repaint have.
@@ -98,21 +101,24 @@ const LENGTHS: [(&[u8], usize, usize); 29] = [
     ),
 ];
 
-#[test]
-fn texts_and_repaints_have_their_lengths(rt: HostRuntime) -> Result<(), Fail> {
-    let mut found = 0u32;
+/// How many vectors have this input, with a text and a repaint of these lengths.
+fn found_with(input: &[u8], text: usize, repaint: usize) -> usize {
+    let mut found = 0usize;
     for i in 0..vector_count() {
         let v = vector(i);
-        for (input, text, repaint) in LENGTHS {
-            if input == v.input {
-                assert_eq!(rt; v.text.len(), text, "vector {i}");
-                assert_eq!(rt; v.repaint.map(|bytes| bytes.len()), Some(repaint));
-                found = found.saturating_add(1);
-            }
+        let painted = v.repaint.unwrap_or(b"").len();
+        if v.input == input && v.text.len() == text && painted == repaint {
+            found = found.saturating_add(1);
         }
     }
-    assert_eq!(rt; found, 29);
-    Ok(())
+    found
+}
+
+#[test]
+fn texts_and_repaints_have_their_lengths(rt: HostRuntime) {
+    for (i, (input, text, repaint)) in LENGTHS.iter().enumerate() {
+        holds_at(&rt, i, found_with(input, *text, *repaint) == 1);
+    }
 }
 
 /// A letter, and what it must give.
@@ -128,58 +134,77 @@ const LETTER: Vector<'static> = Vector {
 /// No line shown.
 const EMPTY: &[u8] = b"\n\n\n\n\n\n\n\n\n\n\n\n\n\n\n\n\n\n\n\n\n\n\n\n";
 
+const WRONG_TEXT: Vector<'static> = Vector {
+    text: EMPTY,
+    ..LETTER
+};
+
+const WRONG_REPORTS: Vector<'static> = Vector {
+    reports: b"x",
+    ..LETTER
+};
+
+const NO_REPAINT: Vector<'static> = Vector {
+    repaint: None,
+    ..LETTER
+};
+
+const TWO_WRONG: Vector<'static> = Vector {
+    repaint: None,
+    ..WRONG_REPORTS
+};
+
+const ALL_WRONG: Vector<'static> = Vector {
+    text: EMPTY,
+    ..TWO_WRONG
+};
+
+/// An input that ends inside a sequence.
+const HELD: Vector<'static> = Vector {
+    input: b"\x1b[1",
+    text: EMPTY,
+    repaint: None,
+    ..LETTER
+};
+
+const HELD_WITH_REPAINT: Vector<'static> = Vector {
+    repaint: Some(b"\x1bc"),
+    ..HELD
+};
+
+const ANSWERS: [(Vector<'static>, Result<(), Mismatch>); 8] = [
+    (LETTER, Ok(())),
+    (WRONG_TEXT, Err(Mismatch::Text)),
+    (WRONG_REPORTS, Err(Mismatch::Reports)),
+    (NO_REPAINT, Err(Mismatch::Repaint)),
+    (TWO_WRONG, Err(Mismatch::Reports)),
+    (ALL_WRONG, Err(Mismatch::Text)),
+    (HELD, Ok(())),
+    (HELD_WITH_REPAINT, Err(Mismatch::Repaint)),
+];
+
 #[test]
-fn the_first_difference_decides(rt: HostRuntime) -> Result<(), Fail> {
-    let wrong_text = Vector {
-        text: EMPTY,
-        ..LETTER
-    };
-    let wrong_reports = Vector {
-        reports: b"x",
-        ..LETTER
-    };
-    let no_repaint = Vector {
-        repaint: None,
-        ..LETTER
-    };
-    let two_wrong = Vector {
-        repaint: None,
-        ..wrong_reports
-    };
-    let all_wrong = Vector {
-        text: EMPTY,
-        ..two_wrong
-    };
-    let held = Vector {
-        input: b"\x1b[1",
-        text: EMPTY,
-        repaint: None,
-        ..LETTER
-    };
-    let held_with_repaint = Vector {
-        repaint: Some(b"\x1bc"),
-        ..held
-    };
-    for (v, expected) in [
-        (LETTER, Ok(())),
-        (wrong_text, Err(Mismatch::Text)),
-        (wrong_reports, Err(Mismatch::Reports)),
-        (no_repaint, Err(Mismatch::Repaint)),
-        (two_wrong, Err(Mismatch::Reports)),
-        (all_wrong, Err(Mismatch::Text)),
-        (held, Ok(())),
-        (held_with_repaint, Err(Mismatch::Repaint)),
-    ] {
-        assert_eq!(rt; check(rt.alloc(), &v), expected, "{v:?}");
+fn the_first_difference_decides(rt: HostRuntime) {
+    for (i, (v, expected)) in ANSWERS.iter().enumerate() {
+        holds_at(&rt, i, check(rt.alloc(), v) == *expected);
     }
+}
+
+/// Whether a mismatch says this.
+fn says(alloc: Global, mismatch: Mismatch, message: &str) -> Result<bool, Fail> {
+    let said = format!(in alloc; "{mismatch}")?;
+    Ok(said.as_str() == message)
+}
+
+#[test]
+fn mismatches_have_messages(rt: HostRuntime) -> Result<(), Fail> {
     for (mismatch, message) in [
         (Mismatch::Memory, "memory"),
         (Mismatch::Text, "text"),
         (Mismatch::Reports, "reports"),
         (Mismatch::Repaint, "repaint"),
     ] {
-        let shown = format!(in rt.alloc(); "{mismatch}")?;
-        assert_eq!(rt; shown.as_str(), message);
+        holds(&rt, message, says(rt.alloc(), mismatch, message)?);
     }
     Ok(())
 }

@@ -1,7 +1,6 @@
 //! The screen for the eye, against what was written by hand: as text with its attributes, and as a picture.
-use super::common::{Played, replayed};
+use super::common::{Played, holds_at, is_replayed};
 use std::alloc::{AllocError, Global};
-use std::process::Abort;
 use std::test::Fail;
 use vt_picture::{picture, show};
 use vt_replay::What;
@@ -49,34 +48,42 @@ const SHOWN: [(&[u8], usize, &str, usize); 7] = [
     ),
 ];
 
-#[test]
-fn rows_are_shown_with_their_attributes(rt: HostRuntime) -> Result<(), Fail> {
-    for (input, before, line, after) in SHOWN {
-        let mut expected = Vec::new(rt.alloc());
-        push_line_feeds(before, &mut expected)?;
-        expected.extend_from_slice(line.as_bytes())?;
-        push_line_feeds(after, &mut expected)?;
-        let played = Played::of(rt.alloc(), &[input])?;
-        let mut out = Vec::new(rt.alloc());
-        show(&played.terminal, &mut out)?;
-        assert_eq!(rt; out.as_slice(), expected.as_slice());
-        is_replayed(&rt, rt.alloc(), input, What::Show, expected.as_slice())?;
-    }
-    Ok(())
+/// A line with so many LF before and after it.
+fn with_line_feeds(
+    alloc: Global,
+    before: usize,
+    line: &str,
+    after: usize,
+) -> Result<Vec<u8>, AllocError> {
+    let mut lines = Vec::new(alloc);
+    push_line_feeds(before, &mut lines)?;
+    lines.extend_from_slice(line.as_bytes())?;
+    push_line_feeds(after, &mut lines)?;
+    Ok(lines)
 }
 
-/// Asserts that a replay writes this, in pieces of whatever size.
-fn is_replayed(
-    rt: &impl Abort,
-    alloc: Global,
-    input: &[u8],
-    what: What,
-    expected: &[u8],
-) -> Result<(), Fail> {
-    let whole = replayed(rt, alloc, input, what, 4096)?;
-    assert_eq!(rt; whole.as_slice(), expected);
-    let by_bytes = replayed(rt, alloc, input, what, 1)?;
-    assert_eq!(rt; by_bytes.as_slice(), expected);
+/// The text with its attributes of what an input leaves.
+fn shown(alloc: Global, input: &[u8]) -> Result<Vec<u8>, Fail> {
+    let played = Played::of(alloc, &[input])?;
+    let mut out = Vec::new(alloc);
+    show(&played.terminal, &mut out)?;
+    Ok(out)
+}
+
+/// Whether a text is shown so, by a replay too.
+fn is_shown(alloc: Global, input: &[u8], expected: &[u8]) -> Result<bool, Fail> {
+    Ok(
+        shown(alloc, input)?.as_slice() == expected
+            && is_replayed(alloc, input, What::Show, expected)?,
+    )
+}
+
+#[test]
+fn rows_are_shown_with_their_attributes(rt: HostRuntime) -> Result<(), Fail> {
+    for (i, (input, before, line, after)) in SHOWN.iter().enumerate() {
+        let expected = with_line_feeds(rt.alloc(), *before, line, *after)?;
+        holds_at(&rt, i, is_shown(rt.alloc(), input, &expected)?);
+    }
     Ok(())
 }
 
@@ -165,21 +172,41 @@ const DRAWN: [Drawn; 5] = [
     ),
 ];
 
+/// The picture of a row, as it was written by hand.
+fn drawn_by_hand(
+    alloc: Global,
+    (_input, start, before, line, after, colours, cells): &Drawn,
+) -> Result<Vec<u8>, AllocError> {
+    let text = with_line_feeds(alloc, *before, line, *after)?;
+    let mut picture = Vec::from_slice(alloc, start.as_bytes())?;
+    picture.extend_from_slice(&text)?;
+    for part in [STYLE, colours, cells, "</svg>\n"] {
+        picture.extend_from_slice(part.as_bytes())?;
+    }
+    Ok(picture)
+}
+
+/// The picture of what an input leaves.
+fn drawn(alloc: Global, input: &[u8]) -> Result<Vec<u8>, Fail> {
+    let played = Played::of(alloc, &[input])?;
+    let mut out = Vec::new(alloc);
+    picture(&played.terminal, &mut out)?;
+    Ok(out)
+}
+
+/// Whether an input is drawn so, by a replay too.
+fn is_drawn(alloc: Global, input: &[u8], expected: &[u8]) -> Result<bool, Fail> {
+    Ok(
+        drawn(alloc, input)?.as_slice() == expected
+            && is_replayed(alloc, input, What::Picture, expected)?,
+    )
+}
+
 #[test]
 fn pictures_are_those_written_by_hand(rt: HostRuntime) -> Result<(), Fail> {
-    for (input, start, before, line, after, colours, cells) in DRAWN {
-        let mut expected = Vec::from_slice(rt.alloc(), start.as_bytes())?;
-        push_line_feeds(before, &mut expected)?;
-        expected.extend_from_slice(line.as_bytes())?;
-        push_line_feeds(after, &mut expected)?;
-        for part in [STYLE, colours, cells, "</svg>\n"] {
-            expected.extend_from_slice(part.as_bytes())?;
-        }
-        let played = Played::of(rt.alloc(), &[input])?;
-        let mut out = Vec::new(rt.alloc());
-        picture(&played.terminal, &mut out)?;
-        assert_eq!(rt; out.as_slice(), expected.as_slice());
-        is_replayed(&rt, rt.alloc(), input, What::Picture, expected.as_slice())?;
+    for (i, row) in DRAWN.iter().enumerate() {
+        let expected = drawn_by_hand(rt.alloc(), row)?;
+        holds_at(&rt, i, is_drawn(rt.alloc(), row.0, &expected)?);
     }
     Ok(())
 }

@@ -2,6 +2,7 @@
 //! there.
 mod common;
 mod examples;
+mod long_choices;
 mod memory;
 mod pairs;
 mod scarce;

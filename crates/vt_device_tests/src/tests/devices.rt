@@ -2,7 +2,6 @@
 ghost use Rattle.std.specs.Prelude.{◌≤◌};
 
 use std::alloc::Global;
-use std::process::Abort;
 use std::test::Fail;
 use vt_replay::{Fault, Watched, What, run};
 use vt_term::Terminal;
@@ -196,87 +195,100 @@ fn table() -> [(Replay, Result<(), Fault>, usize); 11] {
     ]
 }
 
+/// Whether a replay answers this, and has written this.
+fn leaves(
+    alloc: Global,
+    input: &[u8],
+    replay: Replay,
+    answer: Result<(), Fault>,
+    written: &[u8],
+) -> Result<bool, Fail> {
+    let (answered, bytes) = replayed(alloc, input, replay)?;
+    Ok(answered == answer && bytes.as_slice() == written)
+}
+
 #[test]
 fn the_table_of_devices_holds(rt: HostRuntime) -> Result<(), Fail> {
-    for (replay, expected, count) in table() {
-        let (answer, written) = replayed(rt.alloc(), REQUESTS, replay)?;
-        assert_eq!(rt; answer, expected);
-        assert_eq!(rt; Some(written.as_slice()), ANSWERS.get(..count));
+    for (replay, answer, count) in table() {
+        let written = ANSWERS.get(..count).ok_or("too many")?;
+        assert!(rt; leaves(rt.alloc(), REQUESTS, replay, answer, written)?);
     }
     Ok(())
 }
 
-/// Asserts that each read fails in turn: what was written is the reports of what was read, where they are asked for.
-/// The read after the one that gave no byte is never made.
-fn each_read_fails(rt: &impl Abort, alloc: Global, input: &[u8], what: What) -> Result<(), Fail> {
+/// What is asked for in turn.
+const KINDS: [What; 4] = [What::Text, What::Reports, What::Repaint, What::Status];
+
+/// A replay whose read of this number fails.
+fn with_failing_read(what: What, number: usize) -> Replay {
+    Replay {
+        what,
+        failing_read: Some(number),
+        ..REPORTS
+    }
+}
+
+/// Whether the read after the one that gave no byte is never made.
+fn ends_before(alloc: Global, input: &[u8], what: What, is_between: bool) -> Result<bool, Fail> {
+    let replay = with_failing_read(what, input.len().saturating_add(2));
+    let (answer, _written) = replayed(alloc, input, replay)?;
+    Ok(if what == What::Repaint && !is_between {
+        answer == Err(Fault::Partial)
+    } else {
+        answer == Ok(())
+    })
+}
+
+/// Whether each read fails in turn: what was written is the reports of what was read, where they are asked for.
+fn each_read_fails(alloc: Global, input: &[u8], what: What) -> Result<bool, Fail> {
     let mut terminal = Terminal::new(alloc)?;
     let mut reports = Vec::new(alloc);
     for call in 0..input.len() + 1 {
-        let replay = Replay {
-            what,
-            failing_read: Some(call + 1),
-            ..REPORTS
-        };
-        let (answer, written) = replayed(alloc, input, replay)?;
-        assert_eq!(rt; answer, Err(Fault::Read), "read {call} of {input:?}");
         let due = if what == What::Reports {
             reports.as_slice()
         } else {
             b""
         };
-        assert_eq!(rt; written.as_slice(), due, "read {call} of {input:?}");
+        let replay = with_failing_read(what, call + 1);
+        if !leaves(alloc, input, replay, Err(Fault::Read), due)? {
+            return Ok(false);
+        }
         if let Some(byte) = input.get(call..call + 1) {
             terminal.feed(byte, &mut reports)?;
         }
     }
-    let replay = Replay {
-        what,
-        failing_read: Some(input.len() + 2),
-        ..REPORTS
-    };
-    let (answer, _written) = replayed(alloc, input, replay)?;
-    let expected = if what == What::Repaint && !terminal.is_between() {
-        Err(Fault::Partial)
-    } else {
-        Ok(())
-    };
-    assert_eq!(rt; answer, expected, "the read after the end of {input:?}");
-    Ok(())
+    ends_before(alloc, input, what, terminal.is_between())
 }
 
-/// Asserts that each write of one byte fails in turn: what was written is what is due up to there.
-fn each_write_fails(rt: &impl Abort, alloc: Global, input: &[u8], what: What) -> Result<(), Fail> {
-    let whole = Replay {
+/// A replay whose write of one byte of this number fails.
+fn with_failing_write(what: What, number: Option<usize>) -> Replay {
+    Replay {
         what,
         bounds: ONE,
+        failing_write: number,
         ..REPORTS
-    };
-    let (answered, due) = replayed(alloc, input, whole)?;
-    for call in 0..due.len() + 1 {
-        let replay = Replay {
-            failing_write: Some(call + 1),
-            ..whole
-        };
-        let (answer, written) = replayed(alloc, input, replay)?;
-        if call < due.len() {
-            assert_eq!(rt; answer, Err(Fault::Write), "write {call} of {input:?}");
-        } else {
-            assert_eq!(rt; answer, answered, "write {call} of {input:?}");
-        }
-        assert_eq!(rt;
-            Some(written.as_slice()),
-            due.get(..call),
-            "write {call} of {input:?}"
-        );
     }
-    Ok(())
+}
+
+/// Whether each write of one byte fails in turn: what was written is what is due up to there.
+fn each_write_fails(alloc: Global, input: &[u8], what: What) -> Result<bool, Fail> {
+    let (answered, due) = replayed(alloc, input, with_failing_write(what, None))?;
+    for call in 0..due.len() {
+        let replay = with_failing_write(what, Some(call + 1));
+        if !leaves(alloc, input, replay, Err(Fault::Write), &due[..call])? {
+            return Ok(false);
+        }
+    }
+    let replay = with_failing_write(what, Some(due.len().saturating_add(1)));
+    leaves(alloc, input, replay, answered, &due)
 }
 
 #[test]
 fn each_read_of_each_vector_fails(rt: HostRuntime) -> Result<(), Fail> {
     for i in 0..vector_count() {
-        for what in [What::Text, What::Reports, What::Repaint, What::Status] {
-            each_read_fails(&rt, rt.alloc(), vector(i).input, what)?;
+        for what in KINDS {
+            let fails = each_read_fails(rt.alloc(), vector(i).input, what)?;
+            assert!(rt; fails, "vector {i}");
         }
     }
     Ok(())
@@ -285,8 +297,9 @@ fn each_read_of_each_vector_fails(rt: HostRuntime) -> Result<(), Fail> {
 #[test]
 fn each_write_of_each_vector_fails(rt: HostRuntime) -> Result<(), Fail> {
     for i in 0..vector_count() {
-        for what in [What::Text, What::Reports, What::Repaint, What::Status] {
-            each_write_fails(&rt, rt.alloc(), vector(i).input, what)?;
+        for what in KINDS {
+            let fails = each_write_fails(rt.alloc(), vector(i).input, what)?;
+            assert!(rt; fails, "vector {i}");
         }
     }
     Ok(())

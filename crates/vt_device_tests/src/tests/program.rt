@@ -31,40 +31,42 @@ fn answer<W: Write>(
     run(alloc, &mut reader, writer, what, piece, limit)
 }
 
-#[test]
-fn a_writer_that_is_full_is_a_fault(rt: HostRuntime) -> Result<(), Fail> {
+/// Whether a writer with room for five bytes is a fault, and has these.
+fn is_full(alloc: Global, input: &[u8], what: What, piece: usize, expected: &[u8]) -> bool
+    requires { (1 ≤ piece) × (piece ≤ 65536) }
+{
     let mut room = [0u8; 5];
     let mut writer = Watched::new(room.as_mut_slice());
-    let answered = answer(rt.alloc(), b"A\r\nBCD", &mut writer, What::Text, 3, LIMIT);
-    assert_eq!(rt; answered, Err(Fault::Write));
-    assert!(rt; writer.failed());
+    let answered = answer(alloc, input, &mut writer, what, piece, LIMIT);
+    let failed = writer.failed();
     drop(writer);
-    assert_eq!(rt; room.as_slice(), b"A\nBCD".as_slice());
-
-    let mut room = [0u8; 5];
-    let mut writer = Watched::new(room.as_mut_slice());
-    let answered = answer(rt.alloc(), REQUESTS, &mut writer, What::Reports, 1, LIMIT);
-    assert_eq!(rt; answered, Err(Fault::Write));
-    assert!(rt; writer.failed());
-    drop(writer);
-    assert_eq!(rt; room.as_slice(), b"\x9b?62;".as_slice());
-    Ok(())
+    answered == Err(Fault::Write) && failed && room.as_slice() == expected
 }
 
 #[test]
+fn a_writer_that_is_full_is_a_fault(rt: HostRuntime) {
+    assert!(rt; is_full(rt.alloc(), b"A\r\nBCD", What::Text, 3, b"A\nBCD"));
+    assert!(rt; is_full(rt.alloc(), REQUESTS, What::Reports, 1, b"\x9b?62;"));
+}
+
+/// Whether a fault has this status and line, which is its message too.
+fn has_line(alloc: Global, fault: &Fault, status: u8, line: &str) -> Result<bool, Fail> {
+    let message = fault.to_string(alloc)?;
+    Ok(fault.status() == status && fault.line() == line && message.as_str() == line)
+}
+
+const FAULTS: [(Fault, u8, &str); 5] = [
+    (Fault::Memory, 1, "vt220: out of memory"),
+    (Fault::Partial, 3, "vt220: input ends inside a sequence"),
+    (Fault::Read, 4, "vt220: read failed"),
+    (Fault::Write, 5, "vt220: write failed"),
+    (Fault::TooLong, 6, "vt220: input is longer than the limit"),
+];
+
+#[test]
 fn faults_have_a_status_and_a_line(rt: HostRuntime) -> Result<(), Fail> {
-    let faults = [
-        (Fault::Memory, 1u8, "vt220: out of memory"),
-        (Fault::Partial, 3, "vt220: input ends inside a sequence"),
-        (Fault::Read, 4, "vt220: read failed"),
-        (Fault::Write, 5, "vt220: write failed"),
-        (Fault::TooLong, 6, "vt220: input is longer than the limit"),
-    ];
-    for (fault, status, line) in faults {
-        assert_eq!(rt; fault.status(), status);
-        assert_eq!(rt; fault.line(), line);
-        let message = fault.to_string(rt.alloc())?;
-        assert_eq!(rt; message.as_str(), line);
+    for (fault, status, line) in &FAULTS {
+        assert!(rt; has_line(rt.alloc(), fault, *status, line)?, "{line}");
     }
     Ok(())
 }

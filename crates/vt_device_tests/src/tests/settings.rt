@@ -42,13 +42,21 @@ fn replayed(
     Ok((answer, writer.into_inner()))
 }
 
+/// Whether the line of a row is answered as the row says.
+fn is_answered(alloc: Global, (line, failing_read, expected, first): &Asked) -> Result<bool, Fail> {
+    let (answer, written) = replayed(alloc, line, *failing_read)?;
+    Ok(
+        answer == *expected
+            && written.as_slice().starts_with(first)
+            && written.is_empty() == first.is_empty(),
+    )
+}
+
 #[test]
 fn settings_are_at_work(rt: HostRuntime) -> Result<(), Fail> {
-    for (line, failing_read, expected, first) in ASKED {
-        let (answer, written) = replayed(rt.alloc(), line, failing_read)?;
-        assert_eq!(rt; answer, expected, "{line}");
-        assert!(rt; written.as_slice().starts_with(first), "{line}");
-        assert_eq!(rt; written.is_empty(), first.is_empty(), "{line}");
+    for row in &ASKED {
+        let line = row.0;
+        assert!(rt; is_answered(rt.alloc(), row)?, "{line}");
     }
     Ok(())
 }

@@ -57,39 +57,58 @@ const THREE: Most = Most { count: 3 };
 
 const NINE: Most = Most { count: 9 };
 
+/// The most bytes of a read, the call that fails, and the answers of eight reads.
+const READERS: [(Most, Option<usize>, &[u8]); 6] = [
+    (ONE, None, b"a,b,c,d,e,f,g,,"),
+    (THREE, None, b"abc,def,g,,,,,,"),
+    (NINE, None, b"abcd,efg,,,,,,,"),
+    (ONE, Some(3), b"a,b,!,c,d,e,f,g,"),
+    (THREE, Some(1), b"!,abc,def,g,,,,,"),
+    (THREE, Some(0), b"abc,def,g,,,,,,"),
+];
+
+/// Whether a reader's answers are these.
+fn is_read(alloc: Global, most: Most, fail: Option<usize>, line: &[u8]) -> Result<bool, Fail> {
+    let mut reader = ShortReader::new(b"abcdefg", most.count, fail);
+    Ok(reads(alloc, &mut reader, 8)?.as_slice() == line)
+}
+
 #[test]
 fn a_reader_gives_little_and_fails_once(rt: HostRuntime) -> Result<(), Fail> {
-    let rows: [(Most, Option<usize>, &[u8]); 6] = [
-        (ONE, None, b"a,b,c,d,e,f,g,,"),
-        (THREE, None, b"abc,def,g,,,,,,"),
-        (NINE, None, b"abcd,efg,,,,,,,"),
-        (ONE, Some(3), b"a,b,!,c,d,e,f,g,"),
-        (THREE, Some(1), b"!,abc,def,g,,,,,"),
-        (THREE, Some(0), b"abc,def,g,,,,,,"),
-    ];
-    for (most, fail, line) in rows {
-        let mut reader = ShortReader::new(b"abcdefg", most.count, fail);
-        let answers = reads(rt.alloc(), &mut reader, 8)?;
-        assert_eq!(rt; answers.as_slice(), line);
+    for (most, fail, line) in &READERS {
+        assert!(rt; is_read(rt.alloc(), *most, *fail, line)?);
     }
     Ok(())
 }
 
+/// The room, the most bytes of a write, the call that fails, the answers of four writes, and what was taken.
+const WRITERS: [(usize, Most, Option<usize>, &str, &[u8]); 5] = [
+    (9, THREE, None, "3,3,1,0,", b"abcdefg"),
+    (5, THREE, None, "3,2,0,0,", b"abcde"),
+    (9, THREE, Some(2), "3,!,3,1,", b"abcdefg"),
+    (9, NINE, Some(1), "!,7,0,0,", b"abcdefg"),
+    (0, ONE, Some(5), "0,0,0,0,", b""),
+];
+
+/// Whether a writer's answers are these, and what it has taken.
+fn is_written(
+    alloc: Global,
+    room: usize,
+    most: Most,
+    fail: Option<usize>,
+    line: &str,
+    taken: &[u8],
+) -> Result<bool, Fail> {
+    let into = Vec::with_capacity(alloc, room)?;
+    let mut writer = ShortWriter::new(into, room, most.count, fail);
+    let answers = writes(alloc, &mut writer, b"abcdefg", 4)?;
+    Ok(answers.as_str() == line && writer.taken() == taken)
+}
+
 #[test]
 fn a_writer_takes_little_and_fails_once(rt: HostRuntime) -> Result<(), Fail> {
-    let rows: [(usize, Most, Option<usize>, &str, &[u8]); 5] = [
-        (9, THREE, None, "3,3,1,0,", b"abcdefg"),
-        (5, THREE, None, "3,2,0,0,", b"abcde"),
-        (9, THREE, Some(2), "3,!,3,1,", b"abcdefg"),
-        (9, NINE, Some(1), "!,7,0,0,", b"abcdefg"),
-        (0, ONE, Some(5), "0,0,0,0,", b""),
-    ];
-    for (room, most, fail, line, taken) in rows {
-        let into = Vec::with_capacity(rt.alloc(), room)?;
-        let mut writer = ShortWriter::new(into, room, most.count, fail);
-        let answers = writes(rt.alloc(), &mut writer, b"abcdefg", 4)?;
-        assert_eq!(rt; answers.as_str(), line);
-        assert_eq!(rt; writer.taken(), taken);
+    for (room, most, fail, line, taken) in &WRITERS {
+        assert!(rt; is_written(rt.alloc(), *room, *most, *fail, line, taken)?);
     }
     Ok(())
 }

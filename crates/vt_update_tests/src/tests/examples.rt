@@ -1,5 +1,5 @@
 //! Worked examples. The bytes follow from the rule where nothing shorter does the same.
-use super::common::{repainted, terminal, updated};
+use super::common::{holds, holds_at, lead, repainted, sends, sends_fewer, terminal};
 use std::alloc::Global;
 use std::test::Fail;
 use vt_update::laws::leading;
@@ -65,9 +65,8 @@ const EXAMPLES: [Example; 22] = [
 #[test]
 fn updates_are_these(rt: HostRuntime) -> Result<(), Fail> {
     leading();
-    for (name, from, to, expected) in EXAMPLES {
-        let sent = updated(&rt, rt.alloc(), name, from, to)?;
-        assert_eq!(rt; sent.as_slice(), expected, "{name}");
+    for (name, from, to, expected) in &EXAMPLES {
+        holds(&rt, name, sends(rt.alloc(), from, to, expected)?);
     }
     Ok(())
 }
@@ -89,110 +88,143 @@ fn lines(alloc: Global, first: u32) -> Result<Vec<u8>, Fail> {
 fn a_line_is_scrolled_in(rt: HostRuntime) -> Result<(), Fail> {
     let from = lines(rt.alloc(), 10)?;
     let to = lines(rt.alloc(), 11)?;
-    let sent = updated(&rt, rt.alloc(), "scrolled up", &from, &to)?;
-    assert_eq!(rt; sent.as_slice(), b"\n\rline number 34".as_slice());
-    let sent = updated(&rt, rt.alloc(), "scrolled down", &to, &from)?;
-    assert_eq!(rt;
-        sent.as_slice(),
-        b"\x1b[H\x1b[Lline number 10\x1b[24;15H".as_slice()
+    let up = sends(rt.alloc(), &from, &to, b"\n\rline number 34")?;
+    holds(&rt, "scrolled up", up);
+    let down = sends(
+        rt.alloc(),
+        &to,
+        &from,
+        b"\x1b[H\x1b[Lline number 10\x1b[24;15H",
+    )?;
+    holds(&rt, "scrolled down", down);
+    Ok(())
+}
+
+/// A full line, and then this.
+fn line_and(alloc: Global, end: &[u8]) -> Result<Vec<u8>, Fail> {
+    let mut input = Vec::from_slice(alloc, LINE)?;
+    input.extend_from_slice(end)?;
+    Ok(input)
+}
+
+#[test]
+fn a_saved_wrap_flag_is_kept(rt: HostRuntime) -> Result<(), Fail> {
+    let saved = line_and(rt.alloc(), b"\x1b7")?;
+    holds(
+        &rt,
+        "with the line",
+        sends(rt.alloc(), b"", &saved, &saved)?,
     );
     Ok(())
 }
 
 #[test]
-fn a_saved_wrap_flag_is_kept(rt: HostRuntime) -> Result<(), Fail> {
-    let alloc = rt.alloc();
-    let mut saved = Vec::from_slice(alloc, LINE)?;
-    saved.extend_from_slice(b"\x1b7")?;
-    let sent = updated(&rt, alloc, "with the line", b"", &saved)?;
-    assert_eq!(rt; sent.as_slice(), saved.as_slice());
+fn a_saved_wrap_flag_costs_few_bytes(rt: HostRuntime) -> Result<(), Fail> {
     // DECAWM is reset, under which no glyph sets the flag.
-    let mut without = Vec::from_slice(alloc, LINE)?;
-    without.extend_from_slice(b"\x1b[?7l")?;
-    saved.extend_from_slice(b"\x1b[?7l")?;
-    let sent = updated(&rt, alloc, "the flag under DECAWM reset", &without, &saved)?;
-    assert!(rt; sent.len() < 30);
-    let sent = updated(&rt, alloc, "and back", &saved, &without)?;
-    assert!(rt; sent.len() < 30);
+    let without = line_and(rt.alloc(), b"\x1b[?7l")?;
+    let saved = line_and(rt.alloc(), b"\x1b7\x1b[?7l")?;
+    let there = sends_fewer(rt.alloc(), &without, &saved, 30)?;
+    holds(&rt, "the flag under DECAWM reset", there);
+    let back = sends_fewer(rt.alloc(), &saved, &without, 30)?;
+    holds(&rt, "and back", back);
     Ok(())
 }
+
+/// A name, what the client shows, and what is asked for.
+const REPAINTED: [(&str, &[u8], &[u8]); 3] = [
+    ("to 132 columns", b"A", b"\x1b[?3hA"),
+    ("to 80 columns", b"\x1b[?3hA", b"A"),
+    ("other tab stops", b"A", b"A\x1b[3g"),
+];
 
 /// What only a repaint can do: another width, and other tab stops.
 #[test]
 fn the_rest_are_repaints(rt: HostRuntime) -> Result<(), Fail> {
-    for (name, from, to) in [
-        ("to 132 columns", b"A".as_slice(), b"\x1b[?3hA".as_slice()),
-        ("to 80 columns", b"\x1b[?3hA".as_slice(), b"A".as_slice()),
-        ("other tab stops", b"A".as_slice(), b"A\x1b[3g".as_slice()),
-    ] {
-        let sent = updated(&rt, rt.alloc(), name, from, to)?;
-        assert_eq!(rt;
-            sent.as_slice(),
-            repainted(rt.alloc(), to)?.as_slice(),
-            "{name}"
-        );
+    for (name, from, to) in &REPAINTED {
+        let expected = repainted(rt.alloc(), to)?;
+        holds(&rt, name, sends(rt.alloc(), from, to, &expected)?);
     }
     Ok(())
+}
+
+/// A full screen, and then this.
+fn full_screen_and(alloc: Global, end: &[u8]) -> Result<Vec<u8>, Fail> {
+    let mut input = Vec::new(alloc);
+    for _ in 0..24u8 {
+        input.extend_from_slice(LINE)?;
+    }
+    input.extend_from_slice(end)?;
+    Ok(input)
 }
 
 /// For a single shift that is pending where none is to be no bytes are chosen: of a full screen the one cell that
 /// differs is sent, and all but the cells.
 #[test]
 fn a_single_shift_in_the_way_costs_few_bytes(rt: HostRuntime) -> Result<(), Fail> {
-    let alloc = rt.alloc();
-    let mut from = Vec::new(alloc);
-    for _ in 0..24u8 {
-        from.extend_from_slice(LINE)?;
-    }
-    let mut to = Vec::from_slice(alloc, &from)?;
-    from.extend_from_slice(b"\x1b[H\x1bN")?;
-    to.extend_from_slice(b"\x1b[H\x1b[1;4;5;7mB")?;
-    let sent = updated(&rt, alloc, "one cell of a full screen", &from, &to)?;
-    assert!(rt; sent.len() <= 28 + 230);
-    assert!(rt; sent.len() < repainted(alloc, &to)?.len());
+    let from = full_screen_and(rt.alloc(), b"\x1b[H\x1bN")?;
+    let to = full_screen_and(rt.alloc(), b"\x1b[H\x1b[1;4;5;7mB")?;
+    let most = repainted(rt.alloc(), &to)?.len().min(28 + 230 + 1);
+    let few = sends_fewer(rt.alloc(), &from, &to, most)?;
+    holds(&rt, "one cell of a full screen", few);
     Ok(())
+}
+
+/// What a server has shown, and what it shows then.
+const FIRST: &[u8] = b"\x1b[4mfirst\x1b7\r\n";
+
+const LATER: &[u8] = b"\x1b[4mfirst\x1b7\r\nsecond\x1b8";
+
+/// A repaint of the first state, and the update from it to the later one.
+fn sent_to_a_late_client(alloc: Global) -> Result<Vec<u8>, Fail> {
+    let mut sent = repainted(alloc, FIRST)?;
+    let mut shown = terminal(alloc, FIRST)?;
+    update(&mut shown, &terminal(alloc, LATER)?, &mut sent)?;
+    Ok(sent)
 }
 
 #[test]
 fn a_client_that_joins_late_is_led_too(rt: HostRuntime) -> Result<(), Fail> {
-    let alloc = rt.alloc();
-    let server = terminal(alloc, b"\x1b[4mfirst\x1b7\r\n")?;
-    let mut client = terminal(alloc, b"\x1b[?3hother\x1b[2;7r")?;
-    let mut sent = repainted(alloc, b"\x1b[4mfirst\x1b7\r\n")?;
-    let mut shown = terminal(alloc, b"\x1b[4mfirst\x1b7\r\n")?;
-    assert!(rt; shown.same_state(&server));
-    let later = terminal(alloc, b"\x1b[4mfirst\x1b7\r\nsecond\x1b8")?;
-    update(&mut shown, &later, &mut sent)?;
-    let mut reports = Vec::new(alloc);
-    client.feed(&sent, &mut reports)?;
-    assert!(rt; client.same_state(&later));
-    assert!(rt; reports.is_empty());
+    let sent = sent_to_a_late_client(rt.alloc())?;
+    let later = terminal(rt.alloc(), LATER)?;
+    let led = lead(rt.alloc(), b"\x1b[?3hother\x1b[2;7r", &sent, 4096, &later)?;
+    holds(&rt, "a late client", led);
     Ok(())
 }
 
+/// Whether an update inside a sequence is refused, and leaves all as it was.
+fn is_partial(alloc: Global, from: &[u8], to: &[u8]) -> Result<bool, Fail> {
+    let mut shown = terminal(alloc, from)?;
+    let before = terminal(alloc, from)?;
+    let mut out = Vec::from_slice(alloc, b"ok")?;
+    let answered = update(&mut shown, &terminal(alloc, to)?, &mut out);
+    Ok(
+        answered == Err(UpdateError::Partial)
+            && shown.same_state(&before)
+            && out.as_slice() == b"ok".as_slice(),
+    )
+}
+
+const PARTIAL: [(&[u8], &[u8]); 3] = [(b"A\x1b[", b"A"), (b"A", b"A\x1b["), (b"A\x1b[", b"A\x1b[")];
+
 #[test]
 fn inside_a_sequence_it_is_partial(rt: HostRuntime) -> Result<(), Fail> {
-    let alloc = rt.alloc();
-    for (from, to) in [
-        (b"A\x1b[".as_slice(), b"A".as_slice()),
-        (b"A".as_slice(), b"A\x1b[".as_slice()),
-        (b"A\x1b[".as_slice(), b"A\x1b[".as_slice()),
-    ] {
-        let mut shown = terminal(alloc, from)?;
-        let mut out = Vec::from_slice(alloc, b"ok")?;
-        let answered = update(&mut shown, &terminal(alloc, to)?, &mut out);
-        assert_eq!(rt; answered, Err(UpdateError::Partial));
-        assert!(rt; shown.same_state(&terminal(alloc, from)?));
-        assert_eq!(rt; out.as_slice(), b"ok".as_slice());
+    for (i, (from, to)) in PARTIAL.iter().enumerate() {
+        holds_at(&rt, i, is_partial(rt.alloc(), from, to)?);
     }
     Ok(())
 }
 
+/// Whether an error says this.
+fn says(alloc: Global, error: UpdateError, message: &str) -> Result<bool, Fail> {
+    let said = format!(in alloc; "{error}")?;
+    Ok(said.as_str() == message)
+}
+
 #[test]
 fn messages_are_the_names_in_lower_case(rt: HostRuntime) -> Result<(), Fail> {
-    let partial = format!(in rt.alloc(); "{}", UpdateError::Partial)?;
-    let memory = format!(in rt.alloc(); "{}", UpdateError::Memory)?;
-    assert_eq!(rt; partial.as_str(), "partial");
-    assert_eq!(rt; memory.as_str(), "memory");
+    let partial = says(rt.alloc(), UpdateError::Partial, "partial")?;
+    holds(&rt, "partial", partial);
+    let memory = says(rt.alloc(), UpdateError::Memory, "memory")?;
+    holds(&rt, "memory", memory);
     Ok(())
 }

@@ -1,7 +1,9 @@
 //! Each growth refused; and with room no memory is asked for.
-use super::common::terminal;
+use super::common::{holds_at, sends, terminal, updated};
 use super::scarce::{BLOCKS, Scarce};
+use std::alloc::Global;
 use std::test::Fail;
+use vt_term::Terminal;
 use vt_update::{UPDATE_LIMIT, UpdateError, update, update_reserved};
 
 /// What is shown, and what is asked for: one letter, and what only a repaint does.
@@ -11,58 +13,113 @@ const PAIRS: [(&[u8], &[u8]); 3] = [
     (b"A\x1b7", b"\x1b[2;5r\x1b[?6hC\x1b(0"),
 ];
 
+/// What an update was asked for, and what it has left.
+#[derive(Drop)]
+struct Asked {
+    shown: Terminal,
+    to: Terminal,
+    /// What was shown before.
+    before: Terminal,
+    out: Vec<u8>,
+}
+
+impl Asked {
+    /// Nothing has been asked yet.
+    fn new(alloc: Global, (from, to): &(&[u8], &[u8]), out: Vec<u8>) -> Result<Asked, Fail> {
+        Ok(Asked {
+            shown: terminal(alloc, from)?,
+            to: terminal(alloc, to)?,
+            before: terminal(alloc, from)?,
+            out,
+        })
+    }
+
+    /// What an update answers.
+    fn update(&mut self) -> Result<(), UpdateError> {
+        update(&mut self.shown, &self.to, &mut self.out)
+    }
+
+    fn is_unchanged(&self) -> bool {
+        self.shown.same_state(&self.before) && self.out.as_slice() == b"ok".as_slice()
+    }
+}
+
+/// How often an update was refused, and how often that has changed something, until it had its memory: one growth more
+/// is granted each time.
+fn refusals(alloc: Global, asked: &mut Asked) -> Result<(u32, u32), Fail> {
+    let mut scarce = Scarce::new(alloc)?;
+    let mut refused = 0u32;
+    let mut changed = 0u32;
+    for _ in 0..BLOCKS {
+        if asked.update() != Err(UpdateError::Memory) {
+            break;
+        }
+        refused = refused.saturating_add(1);
+        if !asked.is_unchanged() {
+            changed = changed.saturating_add(1);
+        }
+        scarce.relent();
+    }
+    Ok((refused, changed))
+}
+
+/// Whether an output has what was expected behind what stood there.
+fn is_behind_ok(out: &[u8], expected: &Option<Vec<u8>>) -> bool {
+    out.get(..2) == Some(b"ok".as_slice())
+        && match expected {
+            Some(sent) => out.get(2..) == Some(sent.as_slice()),
+            None => false,
+        }
+}
+
+/// Whether an update that was refused, also more than once, is then made as if it never had been.
+fn is_refused(alloc: Global, pair: &(&[u8], &[u8])) -> Result<bool, Fail> {
+    let mut asked = Asked::new(alloc, pair, Vec::from_slice(alloc, b"ok")?)?;
+    let (refused, changed) = refusals(alloc, &mut asked)?;
+    let expected = updated(alloc, pair.0, pair.1)?;
+    Ok(
+        refused > 0
+            && changed == 0
+            && asked.shown.same_state(&asked.to)
+            && is_behind_ok(&asked.out, &expected),
+    )
+}
+
 #[test]
 fn each_growth_is_refused(rt: HostRuntime) -> Result<(), Fail> {
-    let alloc = rt.alloc();
-    for (from, to) in PAIRS {
-        let to = terminal(alloc, to)?;
-        let before = terminal(alloc, from)?;
-        let mut shown = terminal(alloc, from)?;
-        let mut out = Vec::from_slice(alloc, b"ok")?;
-        let mut scarce = Scarce::new(alloc)?;
-        let mut refused = 0u32;
-        let mut changed = 0u32;
-        let mut answered = Err(UpdateError::Memory);
-        for _ in 0..BLOCKS {
-            answered = update(&mut shown, &to, &mut out);
-            if answered != Err(UpdateError::Memory) {
-                break;
-            }
-            refused = refused.saturating_add(1);
-            if !shown.same_state(&before) || out.as_slice() != b"ok".as_slice() {
-                changed = changed.saturating_add(1);
-            }
-            scarce.relent();
-        }
-        drop(scarce);
-        assert!(rt; refused > 0);
-        assert_eq!(rt; changed, 0);
-        assert_eq!(rt; answered, Ok(()));
-        assert!(rt; shown.same_state(&to));
-        assert_eq!(rt; out.get(..2), Some(b"ok".as_slice()));
+    for (i, pair) in PAIRS.iter().enumerate() {
+        holds_at(&rt, i, is_refused(rt.alloc(), pair)?);
     }
     Ok(())
 }
 
+/// Whether an update with room asks for no memory, and leads there.
+fn takes_no_memory(alloc: Global, pair: &(&[u8], &[u8])) -> Result<bool, Fail> {
+    let mut asked = Asked::new(alloc, pair, Vec::with_capacity(alloc, UPDATE_LIMIT)?)?;
+    let scarce = Scarce::new(alloc)?;
+    let answered = asked.update();
+    drop(scarce);
+    Ok(answered == Ok(()) && asked.shown.same_state(&asked.to))
+}
+
+/// Whether one that can't be refused asks for none either, and leads there.
+fn reserved_takes_no_memory(alloc: Global, pair: &(&[u8], &[u8])) -> Result<bool, Fail> {
+    let mut shown = terminal(alloc, pair.0)?;
+    let to = terminal(alloc, pair.1)?;
+    let mut out = Vec::with_capacity(alloc, UPDATE_LIMIT)?;
+    let scarce = Scarce::new(alloc)?;
+    if shown.is_between() && to.is_between() {
+        update_reserved(&mut shown, &to, &mut out);
+    }
+    drop(scarce);
+    Ok(shown.same_state(&to) && sends(alloc, pair.0, pair.1, &out)?)
+}
+
 #[test]
 fn with_room_no_memory_is_asked_for(rt: HostRuntime) -> Result<(), Fail> {
-    let alloc = rt.alloc();
-    for (from, to) in PAIRS {
-        let to = terminal(alloc, to)?;
-        let mut first = terminal(alloc, from)?;
-        let mut second = terminal(alloc, from)?;
-        let mut out = Vec::with_capacity(alloc, UPDATE_LIMIT)?;
-        let mut sent = Vec::with_capacity(alloc, UPDATE_LIMIT)?;
-        let scarce = Scarce::new(alloc)?;
-        let answered = update(&mut first, &to, &mut out);
-        if second.is_between() && to.is_between() {
-            update_reserved(&mut second, &to, &mut sent);
-        }
-        drop(scarce);
-        assert_eq!(rt; answered, Ok(()));
-        assert!(rt; first.same_state(&to));
-        assert!(rt; second.same_state(&to));
-        assert_eq!(rt; out.as_slice(), sent.as_slice());
+    for (i, pair) in PAIRS.iter().enumerate() {
+        holds_at(&rt, i, takes_no_memory(rt.alloc(), pair)?);
+        holds_at(&rt, i, reserved_takes_no_memory(rt.alloc(), pair)?);
     }
     Ok(())
 }

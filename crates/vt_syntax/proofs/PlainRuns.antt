@@ -1,13 +1,9 @@
 -- Runs of plain bytes, seen a vector at a time through the mask of the lanes that aren't plain.
-use Rattle.std.proofs.Common.{◌≡◌, ℕ, ◌+◌, ◌-◌, ◌%◌, ◌^◌, ◌<◌, ◌≤◌, true, not, cond, ltb, List, [], ◌∷◌, map, length, take}
-use Rattle.std.proofs.Common.{replicate, get_or, refl, sym, ap, ap₂, subst, ◌∙◌, arith, w8, Fits, inl, inr}
-use Rattle.std.specs.Prelude.{All}
-use Rattle.std.specs.List.{prefix_len}
+use Rattle.std.proofs.Common.{◌≡◌, ℕ, ◌+◌, ◌-◌, ◌%◌, ◌^◌, ◌<◌, ◌≤◌, true, not, cond, ltb, List, [], ◌∷◌, map, length}
+use Rattle.std.proofs.Common.{replicate, refl, ap, ap₂, ◌∙◌, arith, w8, Fits, inl, inr}
 use Rattle.std.proofs.lemmas.Bool.{cases_lt}
 use Rattle.std.proofs.lemmas.Bool.Decides.{nat_tests}
-use Rattle.std.proofs.lemmas.List.{length-map, length-take, get_or-take}
-use Rattle.std.proofs.lemmas.List.Elements.{All-from_get_or}
-use Rattle.std.proofs.lemmas.List.Sums.{prefix_len_passes, prefix_len_stops}
+use Rattle.std.proofs.lemmas.List.{length-map}
 use Rattle.std.proofs.lemmas.Simd.{tops_compared, zip2_splat, zip2_splat_left, map-map, mask_l-mod}
 use lib.Lanes.{zip2, mask_l, top, Each1}
 use Rattle.vt_syntax.specs.Class.{is_plain, IsPlain}

@@ -71,8 +71,8 @@ pub(crate) fn column_part(col: usize) -> (&'static [u8], usize)
     (&COLUMNS[from..from + COLUMN_LEN], len)
 }
 
-/// The attributes and the protection as a number, in a byte each. The compiler reads them at once, where they are those of the
-/// cell itself; of a copy it makes vectors.
+/// The attributes and the protection as a number, in a byte each. The compiler reads them at once, where they are those
+/// of the cell itself; of a copy it makes vectors.
 #[inline(always)]
 fn brush_number(rendition: &Rendition, protected: bool) -> u64
     ensures { result ≡ brush_number (record { rendition = rendition.now; protected = protected }) }

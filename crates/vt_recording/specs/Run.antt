@@ -1,5 +1,6 @@
 -- What is taken from the reader of a recording and given to the writer of its content. (this profile)
-use Rattle.std.specs.Prelude.{◌≡◌, ℕ, ◌≤◌, ◌+◌, List, [], length, Bool, true, false, Result, Ok, Err, Option, Some, None}
+use Rattle.std.specs.Prelude.{◌≡◌, ℕ, ◌≤◌, ◌+◌, List, [], length, Bool, true, false, Result, Ok, Err, Option, Some}
+use Rattle.std.specs.Prelude.{None}
 use Rattle.std.specs.declared.alloc.Global.{Global}
 use Rattle.std.specs.declared.vec.Vec.{Vec}
 use Rattle.vt_device.specs.Runs.{Flags, AreFlags}

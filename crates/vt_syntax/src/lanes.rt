@@ -22,8 +22,8 @@ pub(crate) trait ByteClass {
         ensures { result ≡ mask_l (map (λ b. not (test b)) lanes) };
 }
 
-/// The place of the first byte that isn't of the class, or the length, looked for a vector of 16 bytes at a time. (Most runs
-/// end in the first vector, which therefore stands before the loop.)
+/// The place of the first byte that isn't of the class, or the length, looked for a vector of 16 bytes at a time. (Most
+/// runs end in the first vector, which therefore stands before the loop.)
 #[inline(always)]
 pub(crate) fn end_of<C: ByteClass>(piece: &[u8]) -> usize
     ensures { result ≡ prefix_len C.test piece.now }

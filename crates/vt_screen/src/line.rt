@@ -185,8 +185,8 @@ fn write_four(cells: &mut [Cell], bytes: &[u8], at: usize, table: &InUse, like: 
 }
 
 /// A cell as one number, a byte of it for each byte of the cell, so that it is read as one word. (Each field is read
-/// from the cell itself. Of copies of its parts the compiler makes vectors. Inlined `always`, it would be inlined before
-/// its loads are made one.)
+/// from the cell itself. Of copies of its parts the compiler makes vectors. Inlined `always`, it would be inlined
+/// before its loads are made one.)
 #[inline]
 fn word_of(cell: &Cell) -> u64
     ensures word { result ≡ cell_word cell.now }

@@ -280,8 +280,8 @@ impl Remote {
         self.pass(1);
     }
 
-    /// Writes the first cell where the cursor is, and those behind it as long as they differ from the old ones, are plain
-    /// and not blank, and have its brush. Answers how many these are.
+    /// Writes the first cell where the cursor is, and those behind it as long as they differ from the old ones, are
+    /// plain and not blank, and have its brush. Answers how many these are.
     pub(crate) fn write_run(&mut self, old: &[Cell], new: &[Cell]) -> usize
         requires some { 1 ≤ length new.now }
         requires len { length old.now ≡ length new.now }

@@ -1,6 +1,6 @@
 //! Worked rows, and every glyph.
+use super::common::holds;
 use std::alloc::{AllocError, Global};
-use std::process::Abort;
 use std::test::Fail;
 use vt_glyph::{Glyph, Set, Sets, Spelling};
 
@@ -46,148 +46,229 @@ fn shown(sets: &mut Sets, b: u8) -> Option<char> {
     }
 }
 
-fn assert_shows(rt: &impl Abort, sets: &mut Sets, bytes: &[u8], text: &str) {
+/// Whether these bytes show this text, one after another.
+fn shows(sets: &mut Sets, bytes: &[u8], text: &str) -> bool {
     for (b, c) in bytes.iter().zip(text.chars()) {
-        assert_eq!(rt; shown(sets, *b), Some(c), "byte {b}");
+        if shown(sets, *b) != Some(c) {
+            return false;
+        }
     }
+    true
+}
+
+/// Whether a set in G0 shows these bytes as this text.
+fn set_shows(set: Set, bytes: &[u8], text: &str) -> bool {
+    let mut sets = Sets::power_up();
+    sets.designate(0, set);
+    shows(&mut sets, bytes, text)
+}
+
+/// Whether a glyph's spelling shows it, and leaves the sets as they were.
+fn is_spelled(glyph: &Glyph) -> bool {
+    let mut sets = spelling_sets();
+    let read = match glyph.spelling() {
+        Spelling::Plain(code) => shown(&mut sets, code),
+        Spelling::Second(code) => {
+            sets.shift_once(2);
+            shown(&mut sets, code)
+        }
+        Spelling::Third(code) => {
+            sets.shift_once(3);
+            shown(&mut sets, code)
+        }
+    };
+    read == Some(glyph.to_char()) && sets == spelling_sets()
+}
+
+/// Whether each of these glyphs is spelled.
+fn are_spelled(glyphs: &[Glyph]) -> bool {
+    for glyph in glyphs {
+        if !is_spelled(glyph) {
+            return false;
+        }
+    }
+    true
 }
 
 #[test]
 fn every_glyph_is_spelled(rt: HostRuntime) -> Result<(), Fail> {
     let glyphs = all_glyphs(rt.alloc())?;
-    assert_eq!(rt; glyphs.len(), 204);
-    assert!(rt; glyphs.contains(&Glyph::blank()));
-    assert!(rt; glyphs.contains(&Glyph::substitute()));
-    for glyph in &glyphs {
-        let mut sets = spelling_sets();
-        let read = match glyph.spelling() {
-            Spelling::Plain(code) => shown(&mut sets, code),
-            Spelling::Second(code) => {
-                sets.shift_once(2);
-                shown(&mut sets, code)
-            }
-            Spelling::Third(code) => {
-                sets.shift_once(3);
-                shown(&mut sets, code)
-            }
-        };
-        assert_eq!(rt; read, Some(glyph.to_char()));
-        assert!(rt; sets == spelling_sets());
-    }
+    holds(&rt, "204 glyphs", glyphs.len() == 204);
+    holds(&rt, "the space", glyphs.contains(&Glyph::blank()));
+    holds(&rt, "the substitute", glyphs.contains(&Glyph::substitute()));
+    holds(&rt, "spellings", are_spelled(&glyphs));
     Ok(())
+}
+
+/// The final byte that designates each set.
+const FINALS: [(u8, Set); 5] = [
+    (b'B', Set::Ascii),
+    (b'A', Set::British),
+    (b'K', Set::German),
+    (b'0', Set::Special),
+    (b'<', Set::Supplemental),
+];
+
+/// Whether the final bytes designate the sets, and the sets tell them.
+fn finals_are_of_the_sets() -> bool {
+    for (last, set) in FINALS {
+        if Set::of_final(last) != Some(set) || set.last() != last {
+            return false;
+        }
+    }
+    true
 }
 
 #[test]
 fn finals_designate(rt: HostRuntime) {
-    for (last, set) in [
-        (b'B', Set::Ascii),
-        (b'A', Set::British),
-        (b'K', Set::German),
-        (b'0', Set::Special),
-        (b'<', Set::Supplemental),
-    ] {
-        assert_eq!(rt; Set::of_final(last), Some(set));
-        assert_eq!(rt; set.last(), last);
-    }
-    assert_eq!(rt; Set::of_final(b'Z'), None);
+    holds(&rt, "finals", finals_are_of_the_sets());
+    holds(&rt, "no set", Set::of_final(b'Z').is_none());
+}
+
+/// LS1R: the right half shows ASCII.
+fn right_half_is_locked() -> bool {
+    let mut sets = Sets::power_up();
+    sets.lock_right(1);
+    shows(&mut sets, b"\xE1", "a") && sets.right() == 1
+}
+
+/// Whether a second single shift replaces the first.
+fn second_shift_replaces(sets: &mut Sets) -> bool {
+    sets.shift_once(2);
+    sets.shift_once(3);
+    shows(sets, b"qq", "─q")
+}
+
+/// Whether A0 and FF, which show nothing here, leave a single shift.
+fn other_bytes_leave_a_shift(sets: &mut Sets) -> bool {
+    sets.shift_once(3);
+    shown(sets, 0xA0).is_none()
+        && shown(sets, 0xFF).is_none()
+        && sets.pending() == Some(3)
+        && shows(sets, b"q", "─")
+}
+
+/// Whether a space uses a single shift up.
+fn space_uses_a_shift(sets: &mut Sets) -> bool {
+    sets.shift_once(3);
+    shows(sets, b" q", " q") && sets.pending().is_none()
+}
+
+/// SO with G1 Special Graphics.
+fn shift_out_shows_lines() -> bool {
+    let mut sets = Sets::power_up();
+    let read_before = sets.reads_ascii();
+    sets.designate(1, Set::Special);
+    sets.lock_left(1);
+    read_before && sets.left() == 1 && !sets.reads_ascii() && shows(&mut sets, b"lqk", "┌─┐")
+}
+
+/// DECRC: the sets in use are the saved ones, and a pending single shift stays.
+fn restored_sets_keep_a_shift() -> bool {
+    let saved = Sets::power_up();
+    let mut sets = Sets::power_up();
+    sets.designate(1, Set::Special);
+    sets.lock_left(1);
+    sets.shift_once(2);
+    sets.restore(saved.designations(), saved.left(), saved.right());
+    sets.set(1) == Set::Ascii && sets != saved && shows(&mut sets, b"$", "␦") && sets == saved
 }
 
 #[test]
 fn shifts_choose_the_set(rt: HostRuntime) {
-    // LS1R: the right half shows ASCII
-    let mut sets = Sets::power_up();
-    sets.lock_right(1);
-    assert_shows(&rt, &mut sets, b"\xE1", "a");
-    assert_eq!(rt; sets.right(), 1);
-
-    // a second single shift replaces the first; A0 leaves it, 20 uses it up
+    holds(&rt, "LS1R", right_half_is_locked());
     let mut sets = Sets::power_up();
     sets.designate(3, Set::Special);
-    sets.shift_once(2);
-    sets.shift_once(3);
-    assert_shows(&rt, &mut sets, b"qq", "─q");
-    sets.shift_once(3);
-    assert_eq!(rt; shown(&mut sets, 0xA0), None);
-    assert_eq!(rt; shown(&mut sets, 0xFF), None);
-    assert_eq!(rt; sets.pending(), Some(3));
-    assert_shows(&rt, &mut sets, b"q", "─");
-    sets.shift_once(3);
-    assert_shows(&rt, &mut sets, b" q", " q");
-    assert_eq!(rt; sets.pending(), None);
+    holds(&rt, "SS2, SS3", second_shift_replaces(&mut sets));
+    holds(&rt, "A0 and FF", other_bytes_leave_a_shift(&mut sets));
+    holds(&rt, "space", space_uses_a_shift(&mut sets));
+    holds(&rt, "SO", shift_out_shows_lines());
+    holds(&rt, "DECRC", restored_sets_keep_a_shift());
+}
 
-    // SO with G1 Special Graphics
+/// A set in G0, bytes, and what they show.
+const CHARTS: [(Set, &[u8], &str); 7] = [
+    (Set::Ascii, b"\xA8\xD7\xDD\xF7\xFD\xA3\xE9", "¤ŒŸœÿ£é"),
+    (Set::Ascii, b"\xA4\xFE", "␦␦"),
+    (Set::Ascii, b"#$", "#$"),
+    (Set::Special, b"_x}", " │£"),
+    (Set::British, b"#$", "£$"),
+    (Set::German, b"@[\\]{|}~", "§ÄÖÜäöüß"),
+    (Set::German, b"$A", "$A"),
+];
+
+/// German in the right half.
+fn right_half_shows_german() -> bool {
     let mut sets = Sets::power_up();
-    assert!(rt; sets.reads_ascii());
-    sets.designate(1, Set::Special);
-    sets.lock_left(1);
-    assert_eq!(rt; sets.left(), 1);
-    assert!(rt; !sets.reads_ascii());
-    assert_shows(&rt, &mut sets, b"lqk", "┌─┐");
-
-    // DECRC
-    let saved = Sets::power_up();
-    sets.shift_once(2);
-    sets.restore(saved.designations(), saved.left(), saved.right());
-    assert_eq!(rt; sets.set(1), Set::Ascii);
-    assert!(rt; sets != saved);
-    assert_shows(&rt, &mut sets, b"$", "␦");
-    assert!(rt; sets == saved);
+    sets.designate(1, Set::German);
+    sets.lock_right(1);
+    shows(&mut sets, b"\xDB", "Ä")
 }
 
 #[test]
 fn sets_show_their_charts(rt: HostRuntime) {
-    let mut sets = Sets::power_up();
-    assert_shows(&rt, &mut sets, b"\xA8\xD7\xDD\xF7\xFD\xA3\xE9", "¤ŒŸœÿ£é");
-    assert_shows(&rt, &mut sets, b"\xA4\xFE", "␦␦");
+    for (set, bytes, text) in &CHARTS {
+        holds(&rt, text, set_shows(*set, bytes, text));
+    }
+    holds(&rt, "GR", right_half_shows_german());
+}
 
-    sets.designate(0, Set::Special);
-    assert_shows(&rt, &mut sets, b"_x}", " │£");
+/// A set, a code, and the spelling of the glyph that the set shows for it. The pound sign has one spelling, whichever
+/// set showed it.
+const SPELLINGS: [(Set, u8, Spelling); 6] = [
+    (Set::Ascii, b'a', Spelling::Plain(b'a')),
+    (Set::German, b'[', Spelling::Second(b'D')),
+    (Set::Special, b'q', Spelling::Third(b'q')),
+    (Set::British, b'#', Spelling::Second(b'#')),
+    (Set::Special, b'}', Spelling::Second(b'#')),
+    (Set::Supplemental, b'#', Spelling::Second(b'#')),
+];
 
-    sets.designate(0, Set::British);
-    assert_shows(&rt, &mut sets, b"#$", "£$");
-
-    sets.designate(0, Set::German);
-    assert_shows(&rt, &mut sets, b"@[\\]{|}~", "§ÄÖÜäöüß");
-    assert_shows(&rt, &mut sets, b"$A", "$A");
-
-    let mut sets = Sets::power_up();
-    sets.designate(1, Set::German);
-    sets.lock_right(1);
-    assert_shows(&rt, &mut sets, b"\xDB", "Ä");
+/// Whether the glyphs of the sets have these spellings.
+fn glyphs_have_their_spellings() -> bool {
+    for (set, code, spelling) in SPELLINGS {
+        if set.glyph(code).spelling() != spelling {
+            return false;
+        }
+    }
+    true
 }
 
 #[test]
 fn spellings_are_of_the_glyph(rt: HostRuntime) {
-    assert_eq!(rt; Glyph::ascii(b'a').spelling(), Spelling::Plain(b'a'));
-    assert_eq!(rt; Glyph::blank().spelling(), Spelling::Plain(b' '));
-    assert_eq!(rt; Glyph::substitute().spelling(), Spelling::Second(b'$'));
-    assert_eq!(rt; Set::German.glyph(b'[').spelling(), Spelling::Second(b'D'));
-    assert_eq!(rt; Set::Special.glyph(b'q').spelling(), Spelling::Third(b'q'));
+    let blank = Glyph::blank().spelling();
+    let substitute = Glyph::substitute().spelling();
+    let letter = Glyph::ascii(b'a').spelling();
+    holds(&rt, "space", blank == Spelling::Plain(b' '));
+    holds(&rt, "substitute", substitute == Spelling::Second(b'$'));
+    holds(&rt, "letter", letter == Spelling::Plain(b'a'));
+    holds(&rt, "sets", glyphs_have_their_spellings());
+}
 
-    // the pound sign has one spelling, whichever set showed it
-    for glyph in [
-        Set::British.glyph(b'#'),
-        Set::Special.glyph(b'}'),
-        Set::Supplemental.glyph(b'#'),
-    ] {
-        assert_eq!(rt; glyph.spelling(), Spelling::Second(b'#'));
+/// Bytes of both halves, and what they show with German in G0.
+const HALVES: [(u8, char); 5] = [
+    (b' ', ' '),
+    (b'[', 'Ä'),
+    (b'~', 'ß'),
+    (0xA4, '␦'),
+    (0xE9, 'é'),
+];
+
+/// Whether the sets in use show these bytes so.
+fn both_halves_are_shown() -> bool {
+    let mut sets = Sets::power_up();
+    sets.designate(0, Set::German);
+    let in_use = sets.in_use();
+    for (b, c) in HALVES {
+        let is_graphic = (0x20 <= b && b <= 0x7E) || (0xA1 <= b && b <= 0xFE);
+        if !is_graphic || in_use.glyph(b).to_char() != c {
+            return false;
+        }
     }
+    true
 }
 
 #[test]
 fn the_sets_in_use_show_both_halves(rt: HostRuntime) {
-    let mut sets = Sets::power_up();
-    sets.designate(0, Set::German);
-    let in_use = sets.in_use();
-    for (b, c) in [
-        (b' ', ' '),
-        (b'[', 'Ä'),
-        (b'~', 'ß'),
-        (0xA4, '␦'),
-        (0xE9, 'é'),
-    ] {
-        if (0x20 <= b && b <= 0x7E) || (0xA1 <= b && b <= 0xFE) {
-            assert_eq!(rt; in_use.glyph(b).to_char(), c, "byte {b}");
-        }
-    }
+    holds(&rt, "halves", both_halves_are_shown());
 }

@@ -1,6 +1,6 @@
 //! Recordings written by hand, with the content that they have, and runs from end to end.
+use super::common::holds;
 use std::alloc::Global;
-use std::process::Abort;
 use std::test::Fail;
 use vt_recording::{Fault, Format, Watched, run, take_apart};
 
@@ -64,23 +64,32 @@ fn ttyrecs() -> [Row; 8] {
     ]
 }
 
-fn holds(rt: &impl Abort, alloc: Global, rows: &[Row]) -> Result<(), Fail> {
-    for (input, format, content, broken) in rows {
-        let taken = take_apart(alloc, input, *format)?;
-        assert_eq!(rt; taken.content.as_slice(), *content);
-        assert_eq!(rt; taken.broken, *broken);
+/// Whether a recording is taken apart as its row says.
+fn is_taken_apart(alloc: Global, (input, format, content, broken): &Row) -> Result<bool, Fail> {
+    let taken = take_apart(alloc, input, *format)?;
+    Ok(taken.content.as_slice() == *content && taken.broken == *broken)
+}
+
+/// Whether each of these is.
+fn are_taken_apart(alloc: Global, rows: &[Row]) -> Result<bool, Fail> {
+    for row in rows {
+        if !is_taken_apart(alloc, row)? {
+            return Ok(false);
+        }
     }
-    Ok(())
+    Ok(true)
 }
 
 #[test]
 fn scripts_by_hand(rt: HostRuntime) -> Result<(), Fail> {
-    holds(&rt, rt.alloc(), &scripts())
+    holds(&rt, "scripts", are_taken_apart(rt.alloc(), &scripts())?);
+    Ok(())
 }
 
 #[test]
 fn ttyrecs_by_hand(rt: HostRuntime) -> Result<(), Fail> {
-    holds(&rt, rt.alloc(), &ttyrecs())
+    holds(&rt, "ttyrecs", are_taken_apart(rt.alloc(), &ttyrecs())?);
+    Ok(())
 }
 
 /// What a run answers, and what it has written.
@@ -96,26 +105,40 @@ fn written(
     Ok((answer, writer.into_inner()))
 }
 
+/// Whether a run answers this, and has written this.
+fn leaves(
+    alloc: Global,
+    input: &[u8],
+    limit: usize,
+    answer: Result<(), Fault>,
+    content: &[u8],
+) -> Result<bool, Fail> {
+    let (ended, bytes) = written(alloc, input, ALL, limit)?;
+    Ok(ended == answer && bytes.as_slice() == content)
+}
+
 #[test]
 fn runs_from_end_to_end(rt: HostRuntime) -> Result<(), Fail> {
     let alloc = rt.alloc();
-    let cut = &PIECES[..60];
-    for (input, limit, answer, content) in [
-        (PIECES, 1000, Ok(()), b"one\r\ntwo\r\nlate\r\n".as_slice()),
-        (PIECES, 64, Ok(()), b"one\r\ntwo\r\nlate\r\n"),
-        (PIECES, 63, Err(Fault::TooLong), b""),
-        (cut, 1000, Err(Fault::Broken(46)), b"one\r\ntwo\r\n"),
-    ] {
-        let (ended, bytes) = written(alloc, input, ALL, limit)?;
-        assert_eq!(rt; ended, answer);
-        assert_eq!(rt; bytes.as_slice(), content);
-    }
+    let all = b"one\r\ntwo\r\nlate\r\n";
+    let broken = Err(Fault::Broken(46));
+    holds(&rt, "all", leaves(alloc, PIECES, 1000, Ok(()), all)?);
+    holds(&rt, "the limit", leaves(alloc, PIECES, 64, Ok(()), all)?);
+    let above = leaves(alloc, PIECES, 63, Err(Fault::TooLong), b"")?;
+    holds(&rt, "above the limit", above);
+    let cut = leaves(alloc, &PIECES[..60], 1000, broken, b"one\r\ntwo\r\n")?;
+    holds(&rt, "cut", cut);
     Ok(())
+}
+
+/// Whether a fault says where the recording is broken.
+fn says_where(alloc: Global) -> Result<bool, Fail> {
+    let line = Fault::Broken(46).to_string(alloc)?;
+    Ok(line.as_str() == "recording: broken at byte 46")
 }
 
 #[test]
 fn faults_say_where(rt: HostRuntime) -> Result<(), Fail> {
-    let line = Fault::Broken(46).to_string(rt.alloc())?;
-    assert_eq!(rt; line.as_str(), "recording: broken at byte 46");
+    holds(&rt, "a line", says_where(rt.alloc())?);
     Ok(())
 }

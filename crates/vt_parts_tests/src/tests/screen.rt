@@ -1,6 +1,8 @@
 //! Worked rows, and the edges of the calls.
 ghost use Rattle.std.specs.Prelude.{◌≤◌};
 
+use super::common::holds;
+use std::alloc::Global;
 use std::mem::size_of;
 use std::test::Fail;
 use vt_glyph::{Glyph, Set, Sets};
@@ -32,15 +34,27 @@ fn shows(screen: &Screen, row: usize, text: &str) -> bool
     true
 }
 
-/// Whether the rows from `first` on are blank, attributes and all.
-fn is_blank_from(screen: &Screen, first: usize) -> bool
-    requires { 1 ≤ first }
+/// Whether a row has plain spaces alone.
+fn is_blank(screen: &Screen, row: usize) -> bool
+    requires { (1 ≤ row) × (row ≤ 24) }
 {
-    for row in first..25 {
-        for cell in screen.row(row) {
-            if *cell != Cell::blank() {
-                return false;
-            }
+    for cell in screen.row(row) {
+        if *cell != Cell::blank() {
+            return false;
+        }
+    }
+    true
+}
+
+/// Whether the first rows show these lines, and those below are blank, attributes and all.
+fn shows_lines(screen: &Screen, lines: &[&str]) -> bool {
+    for row in 1..25 {
+        let is_so = match lines.get(row - 1) {
+            Some(line) => shows(screen, row, line),
+            None => is_blank(screen, row),
+        };
+        if !is_so {
+            return false;
         }
     }
     true
@@ -49,190 +63,268 @@ fn is_blank_from(screen: &Screen, first: usize) -> bool
 #[test]
 fn a_new_screen_is_narrow_and_blank(rt: HostRuntime) -> Result<(), Fail> {
     let screen = Screen::new(rt.alloc())?;
-    assert_eq!(rt; screen.width(), 80);
-    assert!(rt; is_blank_from(&screen, 1));
-    assert_eq!(rt; screen.cell(24, 80), Cell::blank());
-    assert!(rt; size_of::<Cell>() <= 8);
+    holds(&rt, "80 columns", screen.width() == 80);
+    holds(&rt, "blank", shows_lines(&screen, &[]));
+    holds(&rt, "the size of a cell", size_of::<Cell>() <= 8);
     Ok(())
 }
+
+/// Writes a thousand numbers in row 10, and scrolls the region from row 5 to 10 up behind each.
+fn scroll_numbers(alloc: Global, screen: &mut Screen) -> Result<(), Fail> {
+    for k in 1..1001u16 {
+        let line = format!(in alloc; "{k}")?;
+        write(screen, 10, 1, line.as_bytes(), &Cell::blank());
+        screen.scroll_up(5, 10, 1);
+    }
+    Ok(())
+}
+
+/// What the first rows show then.
+const SCROLLED: [&str; 9] = ["", "", "", "", "996", "997", "998", "999", "1000"];
 
 #[test]
 fn a_scroll_region_keeps_its_last_lines(rt: HostRuntime) -> Result<(), Fail> {
     let mut screen = Screen::new(rt.alloc())?;
-    for k in 1..1001u16 {
-        let line = format!(in rt.alloc(); "{k}")?;
-        write(&mut screen, 10, 1, line.as_bytes(), &Cell::blank());
-        screen.scroll_up(5, 10, 1);
-    }
-    assert!(rt; shows(&screen, 4, ""));
-    assert!(rt; shows(&screen, 5, "996"));
-    assert!(rt; shows(&screen, 6, "997"));
-    assert!(rt; shows(&screen, 7, "998"));
-    assert!(rt; shows(&screen, 8, "999"));
-    assert!(rt; shows(&screen, 9, "1000"));
-    assert!(rt; is_blank_from(&screen, 10));
+    scroll_numbers(rt.alloc(), &mut screen)?;
+    holds(&rt, "rows", shows_lines(&screen, &SCROLLED));
     Ok(())
+}
+
+/// Changes a row that shows `ABC`, in five ways.
+fn change_cells(screen: &mut Screen) {
+    for row in 1..6 {
+        write(screen, row, 1, b"ABC", &Cell::blank());
+    }
+    if screen.width() == 80 {
+        screen.erase(1, 2, 2, false);
+        screen.insert_cells(2, 2, 2);
+        screen.insert_cells(3, 2, 9999);
+        screen.delete_cells(4, 2, 1);
+        screen.put_inserting(5, 1, Cell::new(Glyph::ascii(b'X'), Brush::plain()));
+    }
 }
 
 #[test]
 fn cells_of_a_row_are_erased_inserted_and_deleted(rt: HostRuntime) -> Result<(), Fail> {
     let mut screen = Screen::new(rt.alloc())?;
-    let plain = Cell::blank();
-    for row in 1..6 {
-        write(&mut screen, row, 1, b"ABC", &plain);
-    }
-    assert_eq!(rt; screen.width(), 80);
-    screen.erase(1, 2, 2, false);
-    screen.insert_cells(2, 2, 2);
-    screen.insert_cells(3, 2, 9999);
-    screen.delete_cells(4, 2, 1);
-    screen.put_inserting(5, 1, Cell::new(Glyph::ascii(b'X'), Brush::plain()));
-    assert!(rt; shows(&screen, 1, "A C"));
-    assert!(rt; shows(&screen, 2, "A  BC"));
-    assert!(rt; shows(&screen, 3, "A"));
-    assert!(rt; shows(&screen, 4, "AC"));
-    assert!(rt; shows(&screen, 5, "XABC"));
+    change_cells(&mut screen);
+    let changed = ["A C", "A  BC", "A", "AC", "XABC"];
+    holds(&rt, "rows", shows_lines(&screen, &changed));
     Ok(())
+}
+
+/// Writes a letter in each of the first three rows.
+fn write_letters(screen: &mut Screen) {
+    write(screen, 1, 1, b"A", &Cell::blank());
+    write(screen, 2, 1, b"B", &Cell::blank());
+    write(screen, 3, 1, b"C", &Cell::blank());
 }
 
 #[test]
 fn lines_are_inserted_and_deleted(rt: HostRuntime) -> Result<(), Fail> {
     let mut screen = Screen::new(rt.alloc())?;
-    let plain = Cell::blank();
-    write(&mut screen, 1, 1, b"A", &plain);
-    write(&mut screen, 2, 1, b"B", &plain);
-    write(&mut screen, 3, 1, b"C", &plain);
+    write_letters(&mut screen);
     screen.scroll_down(2, 3, 1);
-    assert!(rt; shows(&screen, 1, "A"));
-    assert!(rt; shows(&screen, 2, ""));
-    assert!(rt; shows(&screen, 3, "B"));
-    assert!(rt; is_blank_from(&screen, 4));
+    holds(
+        &rt,
+        "down in a region",
+        shows_lines(&screen, &["A", "", "B"]),
+    );
     screen.scroll_down(1, 24, 1);
-    assert!(rt; shows(&screen, 2, "A"));
-    assert!(rt; shows(&screen, 4, "B"));
+    holds(&rt, "down", shows_lines(&screen, &["", "A", "", "B"]));
     screen.scroll_up(3, 24, 99);
-    assert!(rt; shows(&screen, 1, ""));
-    assert!(rt; shows(&screen, 2, "A"));
-    assert!(rt; is_blank_from(&screen, 3));
+    holds(
+        &rt,
+        "up by more than there are",
+        shows_lines(&screen, &["", "A"]),
+    );
     Ok(())
+}
+
+/// A space with this brush.
+fn space(reverse: bool, protected: bool) -> Cell {
+    let rendition = Rendition {
+        reverse,
+        ..Rendition::plain()
+    };
+    let brush = Brush {
+        rendition,
+        protected,
+    };
+    Cell::new(Glyph::blank(), brush)
+}
+
+/// Erases the first row, where `AB` is protected and `C` behind it isn't.
+fn erase_first_row(screen: &mut Screen, selective: bool) {
+    write(screen, 1, 1, b"AB", &space(false, true));
+    write(screen, 1, 3, b"C", &space(true, false));
+    if screen.width() == 80 {
+        screen.erase(1, 1, 80, selective);
+    }
+}
+
+/// Whether the place of `A` is protected still, and that of `C` in reverse.
+fn keeps_brushes(screen: &Screen) -> bool {
+    let protected = space(false, true).brush();
+    let reverse = space(true, false).rendition;
+    screen.width() == 80
+        && screen.cell(1, 1).brush() == protected
+        && screen.cell(1, 3).rendition == reverse
 }
 
 #[test]
 fn a_selective_erase_keeps_attributes_and_protected_cells(rt: HostRuntime) -> Result<(), Fail> {
     let mut screen = Screen::new(rt.alloc())?;
-    let reverse = Rendition {
-        reverse: true,
-        ..Rendition::plain()
-    };
-    let protected = Brush {
-        rendition: Rendition::plain(),
-        protected: true,
-    };
-    let unprotected = Brush {
-        rendition: reverse,
-        protected: false,
-    };
-    write(
-        &mut screen,
-        1,
-        1,
-        b"AB",
-        &Cell::new(Glyph::blank(), protected),
-    );
-    write(
-        &mut screen,
-        1,
-        3,
-        b"C",
-        &Cell::new(Glyph::blank(), unprotected),
-    );
-    assert_eq!(rt; screen.width(), 80);
-    screen.erase(1, 1, 80, true);
-    assert!(rt; shows(&screen, 1, "AB"));
-    assert!(rt; screen.cell(1, 1).brush() == protected);
-    assert!(rt; screen.cell(1, 3).rendition == reverse);
-    screen.erase(1, 1, 80, false);
-    assert!(rt; is_blank_from(&screen, 1));
+    erase_first_row(&mut screen, true);
+    holds(&rt, "selective", shows_lines(&screen, &["AB"]));
+    holds(&rt, "brushes", keeps_brushes(&screen));
+    erase_first_row(&mut screen, false);
+    holds(&rt, "all", shows_lines(&screen, &[]));
     Ok(())
+}
+
+/// Writes letters in three corners of a wide screen.
+fn write_corners(screen: &mut Screen) {
+    screen.set_width(true);
+    write(screen, 24, 1, b"a", &Cell::blank());
+    write(screen, 24, 132, b"z", &Cell::blank());
+    write(screen, 1, 1, b"A", &Cell::blank());
+}
+
+/// Moves by 0, writes no codes, and says whether the last row has its letters still.
+fn stays_by_nothing(screen: &mut Screen) -> bool {
+    if screen.width() != 132 {
+        return false;
+    }
+    screen.scroll_up(1, 24, 0);
+    screen.scroll_down(1, 24, 0);
+    screen.insert_cells(24, 1, 0);
+    screen.delete_cells(24, 132, 0);
+    screen.put_run(24, 132, &[], Cell::blank());
+    screen.cell(24, 1).glyph == Glyph::ascii(b'a')
+        && screen.cell(24, 132).glyph == Glyph::ascii(b'z')
+}
+
+/// Writes and deletes in the last column, and says whether what was there is lost.
+fn loses_the_last_column(screen: &mut Screen) -> bool {
+    if screen.width() != 132 {
+        return false;
+    }
+    let mark = Cell::new(Glyph::substitute(), Brush::plain());
+    screen.put_inserting(24, 132, mark);
+    let written = screen.cell(24, 132) == mark;
+    screen.delete_cells(24, 132, 65535);
+    written && screen.cell(24, 132) == Cell::blank()
+}
+
+/// Inserts more cells in the last row than there are, and scrolls a region of one row up and down.
+fn clear_by_edges(screen: &mut Screen) {
+    if screen.width() == 132 {
+        screen.insert_cells(24, 1, 65535);
+        screen.scroll_up(1, 1, 1);
+        screen.put(1, 132, Cell::new(Glyph::substitute(), Brush::plain()));
+        screen.scroll_down(1, 1, 65535);
+    }
 }
 
 #[test]
 fn the_edges_hold(rt: HostRuntime) -> Result<(), Fail> {
     let mut screen = Screen::new(rt.alloc())?;
-    let plain = Cell::blank();
+    write_corners(&mut screen);
+    holds(&rt, "moves by 0", stays_by_nothing(&mut screen));
+    holds(&rt, "last column", loses_the_last_column(&mut screen));
+    holds(&rt, "first row", shows(&screen, 1, "A"));
+    clear_by_edges(&mut screen);
+    holds(&rt, "blank", shows_lines(&screen, &[]));
+    Ok(())
+}
+
+/// Whether each row has as many cells as this, and the last of them shows this letter.
+fn is_filled(screen: &Screen, width: usize, letter: u8) -> bool
+    requires { (32 ≤ letter) × (letter ≤ 126) }
+{
+    for row in 1..25 {
+        let cells = screen.row(row);
+        let last = Cell::new(Glyph::ascii(letter), Brush::plain());
+        if cells.len() != width || cells.last() != Some(&last) {
+            return false;
+        }
+    }
+    true
+}
+
+#[test]
+fn a_width_blanks(rt: HostRuntime) -> Result<(), Fail> {
+    let mut screen = Screen::new(rt.alloc())?;
+    screen.fill(Cell::new(Glyph::ascii(b'E'), Brush::plain()));
+    holds(&rt, "filled", is_filled(&screen, 80, b'E'));
     screen.set_width(true);
-    assert_eq!(rt; screen.width(), 132);
-    write(&mut screen, 24, 1, b"a", &plain);
-    write(&mut screen, 24, 132, b"z", &plain);
-    write(&mut screen, 1, 1, b"A", &plain);
-    assert_eq!(rt; screen.width(), 132);
-    // Nothing moves by 0, nor is anything written of no codes.
-    screen.scroll_up(1, 24, 0);
-    screen.scroll_down(1, 24, 0);
-    screen.insert_cells(24, 1, 0);
-    screen.delete_cells(24, 132, 0);
-    screen.put_run(24, 132, &[], plain);
-    assert_eq!(rt; screen.cell(24, 1).glyph, Glyph::ascii(b'a'));
-    assert_eq!(rt; screen.cell(24, 132).glyph, Glyph::ascii(b'z'));
-    // The last column is lost, deleted and written.
-    screen.put_inserting(24, 132, Cell::new(Glyph::substitute(), Brush::plain()));
-    assert_eq!(rt; screen.cell(24, 132).glyph, Glyph::substitute());
-    screen.delete_cells(24, 132, 65535);
-    assert_eq!(rt; screen.cell(24, 132), Cell::blank());
-    screen.insert_cells(24, 1, 65535);
-    assert!(rt; is_blank_from(&screen, 2));
-    // A region of one row.
-    screen.scroll_up(1, 1, 1);
-    assert!(rt; is_blank_from(&screen, 1));
-    screen.put(1, 132, Cell::new(Glyph::substitute(), Brush::plain()));
-    screen.scroll_down(1, 1, 65535);
-    assert!(rt; is_blank_from(&screen, 1));
+    holds(&rt, "wide", is_filled(&screen, 132, b' '));
+    holds(&rt, "blank", shows_lines(&screen, &[]));
     Ok(())
 }
 
 #[test]
-fn a_width_blanks_and_screens_compare(rt: HostRuntime) -> Result<(), Fail> {
+fn screens_compare(rt: HostRuntime) -> Result<(), Fail> {
     let mut screen = Screen::new(rt.alloc())?;
     let other = Screen::new(rt.alloc())?;
-    assert!(rt; screen.same(&other));
+    holds(&rt, "new", screen.same(&other));
     screen.fill(Cell::new(Glyph::ascii(b'E'), Brush::plain()));
-    assert_eq!(rt; screen.row(24).len(), 80);
-    assert_eq!(rt; screen.row(24)[79].glyph, Glyph::ascii(b'E'));
-    assert!(rt; !screen.same(&other));
+    holds(&rt, "filled", !screen.same(&other));
     screen.set_width(true);
-    assert_eq!(rt; screen.row(1).len(), 132);
-    assert!(rt; is_blank_from(&screen, 1));
-    assert!(rt; !screen.same(&other));
+    holds(&rt, "wide", !screen.same(&other));
     screen.set_width(false);
     // Rows that are kept elsewhere are the same rows.
     screen.scroll_up(1, 24, 7);
-    assert!(rt; screen.same(&other));
+    holds(&rt, "narrow again", screen.same(&other));
     Ok(())
+}
+
+/// Bold and protected.
+fn bold() -> Brush {
+    let rendition = Rendition {
+        bold: true,
+        ..Rendition::plain()
+    };
+    Brush {
+        rendition,
+        protected: true,
+    }
+}
+
+/// Writes graphic bytes of both halves through the sets, Special Graphics in G0.
+fn write_graphics(screen: &mut Screen) {
+    let mut sets = Sets::power_up();
+    sets.designate(0, Set::Special);
+    if screen.width() == 80 {
+        let like = Cell::new(Glyph::blank(), bold());
+        screen.put_graphics(3, 76, b"lqk\xE9\xA3", &sets.in_use(), like);
+    }
+}
+
+/// What these bytes show.
+const SHOWN: [char; 5] = ['┌', '─', '┐', 'é', '£'];
+
+/// Whether these cells show that, with this brush.
+fn are_shown(cells: &[Cell], brush: Brush) -> bool {
+    for (cell, shown) in cells.iter().zip(&SHOWN) {
+        if cell.glyph.to_char() != *shown || cell.brush() != brush {
+            return false;
+        }
+    }
+    true
+}
+
+/// Whether the last five cells of row 3 show that, and the cell in front of them is blank.
+fn graphics_are_written(screen: &Screen) -> bool {
+    let cells = screen.row(3);
+    cells.len() == 80 && cells[74] == Cell::blank() && are_shown(&cells[75..], bold())
 }
 
 #[test]
 fn graphic_bytes_are_written_through_the_sets(rt: HostRuntime) -> Result<(), Fail> {
     let mut screen = Screen::new(rt.alloc())?;
-    let mut sets = Sets::power_up();
-    sets.designate(0, Set::Special);
-    let bold = Brush {
-        rendition: Rendition {
-            bold: true,
-            ..Rendition::plain()
-        },
-        protected: true,
-    };
-    assert_eq!(rt; screen.width(), 80);
-    let like = Cell::new(Glyph::blank(), bold);
-    screen.put_graphics(3, 76, b"lqk\xE9\xA3", &sets.in_use(), like);
-    for cell in screen.row(3).iter().take(75) {
-        assert_eq!(rt; *cell, Cell::blank());
-    }
-    for (i, shown) in ['┌', '─', '┐', 'é', '£'].iter().enumerate() {
-        let cell = screen.row(3).get(75 + i).ok_or("no cell")?;
-        assert_eq!(rt; cell.glyph.to_char(), *shown);
-        assert_eq!(rt; cell.brush(), bold);
-    }
-    assert!(rt; is_blank_from(&screen, 4));
+    write_graphics(&mut screen);
+    holds(&rt, "written", graphics_are_written(&screen));
     Ok(())
 }

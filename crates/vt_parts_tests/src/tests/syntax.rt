@@ -1,6 +1,7 @@
 //! Rows of held parts, events and plain runs.
+use super::common::holds;
 use arrayvec::ArrayVec;
-use std::process::Abort;
+use std::alloc::Global;
 use std::test::Fail;
 use vt_syntax::{
     Event, EventKind, Held, Inters, Parser, Phase, Taken, Values, graphic_run, is_in_areas,
@@ -43,265 +44,303 @@ fn sequence(params: &[u16], inter: Option<u8>, last: u8) -> Option<Event> {
     })
 }
 
-/// These bytes leave this held part, and the last of them completes this event.
-fn leaves(rt: &impl Abort, bytes: &[u8], held: Held, event: Option<Event>) {
+/// Whether these bytes leave this held part, and the last of them completes this event.
+fn leaves(bytes: &[u8], held: Held, event: Option<Event>) -> bool {
     let (parser, last) = parsed(bytes);
-    assert_eq!(rt; parser.held(), &held);
-    assert_eq!(rt; parser.is_between(), held == Held::Nothing);
-    assert_eq!(rt; last, event);
+    *parser.held() == held && parser.is_between() == (held == Held::Nothing) && last == event
+}
+
+/// Whether these bytes leave this held part, and the last of them completes no event.
+fn holds_back(bytes: &[u8], held: Held) -> bool {
+    leaves(bytes, held, None)
+}
+
+/// Whether the last of these bytes completes this event, and nothing is held.
+fn ends(bytes: &[u8], event: Option<Event>) -> bool {
+    leaves(bytes, Held::Nothing, event)
 }
 
 #[test]
-fn held_parts(rt: HostRuntime) -> Result<(), Fail> {
-    let zeros = [0u16; 16];
+fn escapes_are_held(rt: HostRuntime) {
     let bell = Some(Event::Control(0x07));
-    leaves(&rt, &[0x1B], Held::Escape(Inters::Zero), None);
-    leaves(
+    let one = Held::Escape(Inters::One(0x28));
+    let zero = Held::Escape(Inters::Zero);
+    holds(&rt, "ESC", holds_back(b"\x1B", zero));
+    holds(&rt, "ESC ( BEL", leaves(b"\x1B(\x07", one, bell));
+    holds(
         &rt,
-        &[0x1B, 0x28, 0x07],
-        Held::Escape(Inters::One(0x28)),
-        bell,
+        "two intermediates",
+        holds_back(b"\x1B( ", Held::Escape(Inters::Many)),
     );
-    leaves(&rt, &[0x1B, 0x28, 0x20], Held::Escape(Inters::Many), None);
-    leaves(&rt, &[0x9B], control(None, &[0], false, Phase::Start), None);
-    leaves(
+    holds(
         &rt,
-        &[0x9B, 0x3F],
-        control(Some(0x3F), &[0], false, Phase::Values),
-        None,
+        "ESC in a string",
+        holds_back(b"\x9D1\x1B", Held::Escape(Inters::Zero)),
     );
-    leaves(
-        &rt,
-        &[0x9B, 0x3B],
-        control(None, &[0, 0], false, Phase::Values),
-        None,
-    );
-    leaves(
-        &rt,
-        &[0x9B, 0x31, 0x20],
-        control(None, &[1], false, Phase::Inter(0x20)),
-        None,
-    );
-    leaves(&rt, &[0x9B, 0x20, 0x31], Held::Spoilt, None);
-    leaves(&rt, &[0x1B, 0x5B, 0x31, 0x3A], Held::Spoilt, None);
-    let mut bytes = [0x3Bu8; 17];
+}
+
+#[test]
+fn control_sequences_are_held(rt: HostRuntime) {
+    let start = control(None, &[0], false, Phase::Start);
+    let marked = control(Some(b'?'), &[0], false, Phase::Values);
+    let two = control(None, &[0, 0], false, Phase::Values);
+    let inter = control(None, &[1], false, Phase::Inter(b' '));
+    holds(&rt, "CSI", holds_back(b"\x9B", start));
+    holds(&rt, "marker", holds_back(b"\x9B?", marked));
+    holds(&rt, "two values", holds_back(b"\x9B;", two));
+    holds(&rt, "intermediate", holds_back(b"\x9B1 ", inter));
+}
+
+#[test]
+fn sixteen_values_are_held(rt: HostRuntime) {
+    let mut bytes = [b';'; 17];
     bytes[0] = 0x9B;
-    leaves(
-        &rt,
-        &bytes[..16],
-        control(None, &zeros, false, Phase::Values),
-        None,
-    );
-    leaves(
-        &rt,
-        &bytes,
-        control(None, &zeros, true, Phase::Values),
-        None,
-    );
-    leaves(&rt, &[0x90, 0x41], Held::Text { osc: false }, None);
-    leaves(
-        &rt,
-        &[0x1B, 0x07, 0x5D, 0x31],
-        Held::Text { osc: true },
-        None,
-    );
-    assert_eq!(rt; parsed(&[0x1B, 0x07]).1, Some(Event::Control(0x07)));
-    leaves(&rt, &[0x9D, 0x31, 0x1B], Held::Escape(Inters::Zero), None);
-    Ok(())
+    let all = control(None, &[0; 16], false, Phase::Values);
+    let full = control(None, &[0; 16], true, Phase::Values);
+    holds(&rt, "16 values", holds_back(&bytes[..16], all));
+    holds(&rt, "17 values", holds_back(&bytes, full));
 }
 
 #[test]
-fn events(rt: HostRuntime) {
-    // a control is carried out inside a sequence, which goes on
+fn what_is_not_carried_out_is_held(rt: HostRuntime) {
+    holds(
+        &rt,
+        "value behind an intermediate",
+        holds_back(b"\x9B 1", Held::Spoilt),
+    );
+    holds(&rt, "colon", holds_back(b"\x1B[1:", Held::Spoilt));
+    holds(&rt, "DCS", holds_back(b"\x90A", Held::Text { osc: false }));
+    holds(
+        &rt,
+        "DCS by ESC P",
+        holds_back(b"\x1BPqabc", Held::Text { osc: false }),
+    );
+    holds(
+        &rt,
+        "OSC",
+        holds_back(b"\x1B\x07]1", Held::Text { osc: true }),
+    );
+}
+
+#[test]
+fn controls_are_carried_out_inside_a_sequence(rt: HostRuntime) {
+    let held = control(None, &[1], false, Phase::Values);
     let line_feed = Some(Event::Control(0x0A));
-    leaves(
+    holds(&rt, "LF inside", leaves(b"\x1B[1\n", held, line_feed));
+    holds(
         &rt,
-        b"\x1B[1\n",
-        control(None, &[1], false, Phase::Values),
-        line_feed,
+        "goes on",
+        ends(b"\x1B[1\n2H", sequence(&[12], None, b'H')),
     );
-    leaves(
-        &rt,
-        b"\x1B[1\n2H",
-        Held::Nothing,
-        sequence(&[12], None, b'H'),
-    );
-    // a C1 control in its 7-bit form
-    leaves(&rt, b"\x1BD", Held::Nothing, Some(Event::Control(0x84)));
-    // a byte 80..FF cuts a sequence off, and stands by itself
-    leaves(
-        &rt,
-        &[0x9B, 0x35, 0x9B, 0x32, 0x48],
-        Held::Nothing,
-        sequence(&[2], None, b'H'),
-    );
-    leaves(
-        &rt,
-        &[0x1B, 0x5B, 0x31, 0xE9],
-        Held::Nothing,
-        Some(Event::Print(0xE9)),
-    );
-    // spoilt, and an intermediate
-    leaves(&rt, b"\x1B[1:2H", Held::Nothing, None);
-    leaves(
-        &rt,
-        b"\x1B[5 H",
-        Held::Nothing,
-        sequence(&[5], Some(b' '), b'H'),
-    );
-    // a value above 9999
-    leaves(
-        &rt,
-        b"\x1B[10001;0H",
-        Held::Nothing,
-        sequence(&[9999, 0], None, b'H'),
-    );
-    leaves(
-        &rt,
-        b"\x1B[65537;0H",
-        Held::Nothing,
-        sequence(&[9999, 0], None, b'H'),
-    );
-    // the 16th value is kept, and the 17th dropped
-    let mut kept = [0u16; 16];
-    leaves(
-        &rt,
-        b"\x1B[0;0;0;0;0;0;0;0;0;0;0;0;0;0;0;0;7m",
-        Held::Nothing,
-        sequence(&kept, None, b'm'),
-    );
-    kept[15] = 7;
-    leaves(
-        &rt,
-        b"\x1B[0;0;0;0;0;0;0;0;0;0;0;0;0;0;0;7m",
-        Held::Nothing,
-        sequence(&kept, None, b'm'),
-    );
-    // CAN and SUB
-    leaves(
-        &rt,
-        b"\x1B[1\x1A",
-        Held::Nothing,
-        Some(Event::Control(0x1A)),
-    );
-    leaves(&rt, b"\x1B[1\x18", Held::Nothing, None);
-    leaves(
-        &rt,
-        &[0x9D, 0x31, 0x1A],
-        Held::Nothing,
-        Some(Event::Control(0x1A)),
-    );
-    // BEL ends OSC, and nothing of a string is shown
-    leaves(&rt, b"\x1B]0;t\x07", Held::Nothing, None);
-    leaves(
-        &rt,
-        b"\x1B]0;t\x07A",
-        Held::Nothing,
-        Some(Event::Print(b'A')),
-    );
-    leaves(&rt, b"\x1BPqabc", Held::Text { osc: false }, None);
-}
-
-/// A new parser that has taken `before` takes this many bytes at the front of `piece`, to this event and held part.
-fn takes(
-    rt: &impl Abort,
-    before: &[u8],
-    piece: &[u8],
-    bytes: usize,
-    event: Option<EventKind>,
-    held: Held,
-) -> Values {
-    let (mut parser, _) = parsed(before);
-    let mut values = Values::new();
-    let taken = parser.next(piece, &mut values);
-    assert_eq!(rt; taken, Taken { bytes, event });
-    assert_eq!(rt; parser.held(), &held);
-    values
+    let bell = Some(Event::Control(0x07));
+    holds(&rt, "BEL", parsed(b"\x1B\x07").1 == bell);
 }
 
 #[test]
-fn next_events(rt: HostRuntime) {
-    let cup = Some(EventKind::Sequence {
+fn sequences_end(rt: HostRuntime) {
+    let index = Some(Event::Control(0x84));
+    let shift = sequence(&[5], Some(b' '), b'H');
+    holds(&rt, "a C1 control in its 7-bit form", ends(b"\x1BD", index));
+    holds(&rt, "intermediate", ends(b"\x1B[5 H", shift));
+    holds(&rt, "spoilt", ends(b"\x1B[1:2H", None));
+}
+
+#[test]
+fn sequences_are_cut_off(rt: HostRuntime) {
+    let home = sequence(&[2], None, b'H');
+    let print = Some(Event::Print(0xE9));
+    let sub = Some(Event::Control(0x1A));
+    holds(&rt, "by CSI", ends(b"\x9B5\x9B2H", home));
+    holds(&rt, "by a graphic byte", ends(b"\x1B[1\xE9", print));
+    holds(&rt, "by SUB", ends(b"\x1B[1\x1A", sub));
+    holds(&rt, "by CAN", ends(b"\x1B[1\x18", None));
+}
+
+#[test]
+fn strings_end(rt: HostRuntime) {
+    let letter = Some(Event::Print(b'A'));
+    let sub = Some(Event::Control(0x1A));
+    holds(&rt, "by SUB", ends(b"\x9D1\x1A", sub));
+    holds(&rt, "by BEL", ends(b"\x1B]0;t\x07", None));
+    holds(
+        &rt,
+        "nothing of it is shown",
+        ends(b"\x1B]0;t\x07A", letter),
+    );
+}
+
+#[test]
+fn values_stop_at_9999(rt: HostRuntime) {
+    let greatest = sequence(&[9999, 0], None, b'H');
+    holds(&rt, "10001", ends(b"\x1B[10001;0H", greatest));
+    let greatest = sequence(&[9999, 0], None, b'H');
+    holds(&rt, "65537", ends(b"\x1B[65537;0H", greatest));
+}
+
+#[test]
+fn values_stop_at_sixteen(rt: HostRuntime) {
+    let mut kept = [0u16; 16];
+    let dropped = sequence(&kept, None, b'm');
+    kept[15] = 7;
+    let last = sequence(&kept, None, b'm');
+    holds(
+        &rt,
+        "the 17th is dropped",
+        ends(b"\x1B[0;0;0;0;0;0;0;0;0;0;0;0;0;0;0;0;7m", dropped),
+    );
+    holds(
+        &rt,
+        "the 16th is kept",
+        ends(b"\x1B[0;0;0;0;0;0;0;0;0;0;0;0;0;0;0;7m", last),
+    );
+}
+
+/// Whether a new parser that has taken `before` takes this many bytes at the front of `piece`, to this event, these
+/// values and this held part.
+fn takes(before: &[u8], piece: &[u8], taken: Taken, values: &[u16], held: Held) -> bool {
+    let (mut parser, _) = parsed(before);
+    let mut read = Values::new();
+    let found = parser.next(piece, &mut read);
+    found == taken && read.as_slice() == values && *parser.held() == held
+}
+
+/// Whether it takes this many bytes, to this event, and nothing is held.
+fn takes_whole(before: &[u8], piece: &[u8], bytes: usize, event: Option<EventKind>) -> bool {
+    let (mut parser, _) = parsed(before);
+    let found = parser.next(piece, &mut Values::new());
+    found == Taken { bytes, event } && parser.is_between()
+}
+
+#[test]
+fn next_sequences(rt: HostRuntime) {
+    let event = Some(EventKind::Sequence {
         marker: None,
         inter: None,
         last: b'H',
     });
-    let whole = takes(&rt, b"", b"\x1B[12;7HA", 7, cup, Held::Nothing);
-    assert_eq!(rt; whole.as_slice(), [12u16, 7].as_slice());
-    let cut = takes(&rt, b"\x1B[1", b"2;7HA", 4, cup, Held::Nothing);
-    assert_eq!(rt; cut.as_slice(), [12u16, 7].as_slice());
+    let whole = Taken { bytes: 7, event };
+    let rest = Taken { bytes: 4, event };
+    let none = Taken {
+        bytes: 4,
+        event: None,
+    };
+    let held = control(None, &[12], false, Phase::Values);
+    holds(
+        &rt,
+        "whole",
+        takes(b"", b"\x1B[12;7HA", whole, &[12, 7], Held::Nothing),
+    );
+    holds(
+        &rt,
+        "cut",
+        takes(b"\x1B[1", b"2;7HA", rest, &[12, 7], Held::Nothing),
+    );
+    holds(&rt, "unfinished", takes(b"", b"\x1B[12", none, &[], held));
+}
+
+#[test]
+fn next_escapes(rt: HostRuntime) {
     let escape = Some(EventKind::Escape {
         inter: Some(b'('),
         last: b'0',
     });
-    takes(&rt, b"", b"\x1B(0", 3, escape, Held::Nothing);
-    takes(&rt, b"\x1B(", b"0", 1, escape, Held::Nothing);
     let index = Some(EventKind::Control(0x84));
-    takes(&rt, b"", b"\x1BD", 2, index, Held::Nothing);
-    takes(&rt, b"", b"\x84", 1, index, Held::Nothing);
-    let held = control(None, &[12], false, Phase::Values);
-    takes(&rt, b"", b"\x1B[12", 4, None, held);
-    let inside = control(None, &[1], false, Phase::Values);
-    let bell = Some(EventKind::Control(0x07));
-    takes(&rt, b"", b"\x1B[1\x07H", 4, bell, inside);
-    takes(&rt, b"", b"\x9D0;title\x07", 9, None, Held::Nothing);
+    holds(&rt, "whole", takes_whole(b"", b"\x1B(0", 3, escape));
+    holds(&rt, "cut", takes_whole(b"\x1B(", b"0", 1, escape));
+    holds(&rt, "7 bits", takes_whole(b"", b"\x1BD", 2, index));
+    holds(&rt, "8 bits", takes_whole(b"", b"\x84", 1, index));
+    holds(&rt, "string", takes_whole(b"", b"\x9D0;title\x07", 9, None));
+}
+
+#[test]
+fn next_control_inside_a_sequence(rt: HostRuntime) {
+    let bell = Taken {
+        bytes: 4,
+        event: Some(EventKind::Control(0x07)),
+    };
+    let held = control(None, &[1], false, Phase::Values);
+    holds(&rt, "BEL", takes(b"", b"\x1B[1\x07H", bell, &[], held));
+}
+
+/// Whether a million bytes inside an OSC string complete no event.
+fn long_string_is_held() -> bool {
+    let mut parser = Parser::new();
+    parser.push(0x9D);
+    for _ in 0..1_000_000u32 {
+        if parser.push(b'a').is_some() {
+            return false;
+        }
+    }
+    *parser.held() == Held::Text { osc: true }
+}
+
+/// The event of a final byte behind CSI and so many of one byte.
+fn ended_behind(count: u32, b: u8, last: u8) -> Option<Event> {
+    let (mut parser, _) = parsed(b"\x1B[");
+    for _ in 0..count {
+        parser.push(b);
+    }
+    parser.push(last)
 }
 
 #[test]
 fn long_inputs(rt: HostRuntime) {
-    let mut parser = Parser::new();
-    parser.push(0x9D);
-    for _ in 0..1_000_000u32 {
-        assert_eq!(rt; parser.push(b'a'), None);
+    let greatest = sequence(&[9999], None, b'H');
+    let zeros = sequence(&[0; 16], None, b'm');
+    holds(&rt, "string", long_string_is_held());
+    holds(
+        &rt,
+        "digits",
+        ended_behind(1_000_000, b'9', b'H') == greatest,
+    );
+    holds(&rt, "values", ended_behind(999, b';', b'm') == zeros);
+}
+
+/// Whether the run of plain bytes in front of a piece has this length.
+fn is_plain_for(piece: &[u8], length: usize) -> bool {
+    plain_run(piece) == length
+}
+
+/// Whether all bytes from 20 to 7E are plain.
+fn all_are_plain(alloc: Global) -> Result<bool, Fail> {
+    let mut each = Vec::new(alloc);
+    for b in 0x20..0x7Fu8 {
+        each.push(b)?;
     }
-    assert_eq!(rt; parser.held(), &Held::Text { osc: true });
-    let (mut parser, _) = parsed(b"\x1B[");
-    for _ in 0..1_000_000u32 {
-        parser.push(b'9');
-    }
-    assert_eq!(rt; parser.push(b'H'), sequence(&[9999], None, b'H'));
-    let (mut parser, _) = parsed(b"\x1B[");
-    for _ in 0..999u32 {
-        parser.push(b';');
-    }
-    parser.push(b'7');
-    assert_eq!(rt; parser.push(b'm'), sequence(&[0; 16], None, b'm'));
+    Ok(is_plain_for(&each, 95))
 }
 
 #[test]
 fn plain_runs(rt: HostRuntime) -> Result<(), Fail> {
-    let mut each = Vec::new(rt.alloc());
-    for b in 0x20..0x7Fu8 {
-        each.push(b)?;
-    }
-    assert_eq!(rt; plain_run(&each), 95);
     let mut tildes = [b'~'; 65];
     tildes[64] = 0x7F;
     let mut letters = [b'a'; 33];
     letters[31] = 0x1B;
-    for (piece, want) in [
-        (b"".as_slice(), 0),
-        (b"\x1FA".as_slice(), 0),
-        ([0x80, 0x41].as_slice(), 0),
-        (letters.as_slice(), 31),
-        (tildes.as_slice(), 64),
-    ] {
-        assert_eq!(rt; plain_run(piece), want);
-    }
+    holds(&rt, "all", all_are_plain(rt.alloc())?);
+    holds(&rt, "none", is_plain_for(b"", 0));
+    holds(&rt, "a control", is_plain_for(b"\x1FA", 0));
+    holds(&rt, "the right half", is_plain_for(b"\x80A", 0));
+    holds(&rt, "letters", is_plain_for(&letters, 31));
+    holds(&rt, "tildes", is_plain_for(&tildes, 64));
     Ok(())
+}
+
+/// Whether the run of graphic bytes in front of a piece has this length.
+fn is_graphic_for(piece: &[u8], length: usize) -> bool {
+    graphic_run(piece) == length
 }
 
 #[test]
 fn graphic_runs(rt: HostRuntime) {
     let mut pounds = [0xA3; 40];
     pounds[30] = 0xA0;
-    for (piece, want) in [
-        (b"".as_slice(), 0),
-        ([0x7F, 0x41].as_slice(), 0),
-        ([0x20, 0x7E, 0xA1, 0xFE, 0xFF].as_slice(), 4),
-        (pounds.as_slice(), 30),
-    ] {
-        assert_eq!(rt; graphic_run(piece), want);
-    }
-    assert!(rt; is_in_areas(0xA1) && !is_in_areas(0x9B));
+    holds(&rt, "none", is_graphic_for(b"", 0));
+    holds(&rt, "DEL", is_graphic_for(b"\x7FA", 0));
+    holds(
+        &rt,
+        "both halves",
+        is_graphic_for(b"\x20\x7E\xA1\xFE\xFF", 4),
+    );
+    holds(&rt, "pounds", is_graphic_for(&pounds, 30));
+    holds(&rt, "areas", is_in_areas(0xA1) && !is_in_areas(0x9B));
 }

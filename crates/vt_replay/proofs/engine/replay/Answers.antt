@@ -1,0 +1,4 @@
+use Rattle.vt_replay.proofs.engine.replay.Goals as goal
+
+pub returns-clause-answer : goal.returns-clause-answer
+returns-clause-answer g c = c.run.ensures.answer

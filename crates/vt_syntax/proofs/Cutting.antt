@@ -122,7 +122,7 @@ pub step_is_held : (held : Held) (b : ℕ) → IsHeldPart held → IsHeldPart (s
 step_is_held held b i = subst (λ (h : Held). IsHeldPart h) (step_held held b i) (held_part (spell held ++ b ∷ []))
 
 -- a byte between sequences that opens nothing
-single_step : (b : ℕ) → is_opener b ≡ false → step_of Nothing b ≡ step_to Nothing (single_function b)
+pub single_step : (b : ℕ) → is_opener b ≡ false → step_of Nothing b ≡ step_to Nothing (single_function b)
 unfolding step_of
 single_step b e = let n = not_opener b e in rw (n.0, n.1, n.2) refl
 

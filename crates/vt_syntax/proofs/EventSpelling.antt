@@ -56,7 +56,7 @@ item_reads_as item event h r = record {
 
 -- ---- single bytes
 
-graphic_alone : (b : ℕ) → IsGraphic b → (is_opener b ≡ false) × (single_function b ≡ Print b ∷ [])
+pub graphic_alone : (b : ℕ) → IsGraphic b → (is_opener b ≡ false) × (single_function b ≡ Print b ∷ [])
 unfolding opens_string
 graphic_alone b (inl h) = (grind (arith, nat_tests), grind (arith, nat_tests))
 graphic_alone b (inr h) = (grind (arith, nat_tests), grind (arith, nat_tests))

@@ -1,14 +1,23 @@
 -- An event that stands whole at the front of a piece is what the split of its bytes reads.
-use Rattle.std.proofs.Common.{◌≡◌, ℕ, List, [], ◌∷◌, take, Some, ap, sym, ◌∙◌}
+use Rattle.std.proofs.Common.{◌≡◌, ◌+◌, ◌<◌, ◌≤◌, ℕ, List, [], ◌∷◌, length, take, get_or, Some, None, arith, refl, ap, sym, ◌∙◌}
+use Rattle.vt_syntax.specs.declared.event.Event.{Event}
+use Rattle.vt_syntax.specs.declared.event.Event.TheVariants as event
 use Rattle.vt_syntax.specs.declared.event.EventKind.{EventKind}
+use Rattle.vt_syntax.specs.declared.event.EventKind.TheVariants as kind
+use Rattle.vt_syntax.specs.declared.held.Held.{Held}
 use Rattle.vt_syntax.specs.declared.held.Held.TheVariants.{Nothing}
+use Rattle.vt_syntax.specs.Class.{opens_string}
 use Rattle.vt_syntax.specs.Event.{event_of}
-use Rattle.vt_syntax.specs.Front.{IsFront}
+use Rattle.vt_syntax.specs.Front.{IsFront, IsFinal}
 use Rattle.vt_syntax.specs.Held.{events_from}
-use Rattle.vt_syntax.specs.Steps.{Step}
-use Rattle.vt_syntax.specs.Whole.{IsWhole}
-use Rattle.vt_syntax.proofs.Cutting.{steps_events, steps_held, nothing_held}
+use Rattle.vt_syntax.specs.Spelling.{IsGraphic}
+use Rattle.vt_syntax.specs.Steps.{Step, step_to, steps}
+use Rattle.vt_syntax.specs.Whole.{IsWhole, AreRead}
+use Rattle.vt_syntax.proofs.Cutting.{steps_events, steps_held, nothing_held, single_step}
 use Rattle.vt_syntax.proofs.EventRanges.{is_kind}
+use Rattle.vt_syntax.proofs.EventSpelling.{graphic_alone}
+use Rattle.vt_syntax.proofs.SilentBytes.{steps_nil}
+use Rattle.vt_syntax.proofs.WholeSequences.{steps_event, steps_alone, steps_control}
 
 pub front_of : (piece values : List ℕ) (bytes : ℕ) (kind : EventKind) → IsWhole piece values bytes kind
     → IsFront piece bytes (event_of kind values)
@@ -22,3 +31,43 @@ front_of piece values bytes kind whole =
       held = steps_held Nothing (take bytes piece) nothing_held ∙ ap (λ (t : Step). t.held) whole.reads;
       is_event = is_kind _ (Some kind) values (sym events);
     }
+
+-- a final byte after values without a marker
+pub front_control : (piece values : List ℕ) (at : ℕ) → AreRead piece at None values → at < length piece
+    → IsFinal (get_or piece at 0)
+    → IsFront piece (at + 1) (event.Sequence None (record { items = values }) None (get_or piece at 0))
+front_control piece values at read inside final =
+    front_of piece values (at + 1) (kind.Sequence None None (get_or piece at 0))
+    (steps_control piece values None at read inside final.0 (omega (arith, final.1)))
+
+-- an event at the front is read by steps
+pub whole_of : (piece values : List ℕ) (bytes : ℕ) (kind : EventKind) → IsFront piece bytes (event_of kind values)
+    → IsWhole piece values bytes kind
+whole_of piece values bytes kind front =
+    let front_bytes = take bytes piece in
+    let events = sym (steps_events Nothing front_bytes nothing_held) ∙ front.events in
+    let held = sym (steps_held Nothing front_bytes nothing_held) ∙ front.held in
+    record {
+      some = front.some;
+      within = front.within;
+      reads = ap (λ (es : List Event). step_to (steps Nothing front_bytes).held es) events
+          ∙ ap (λ (h : Held). step_to h (event_of kind values ∷ [])) held;
+    }
+
+-- a graphic byte at the front
+pub whole_graphic : (piece values : List ℕ) → 1 ≤ length piece → IsGraphic (get_or piece 0 0)
+    → IsWhole piece values 1 (kind.Print (get_or piece 0 0))
+whole_graphic piece values some is = let a = graphic_alone (get_or piece 0 0) is in record {
+  some = omega arith;
+  within = some;
+  reads = steps_event Nothing Nothing Nothing piece 0 (event.Print (get_or piece 0 0)) (omega arith)
+      (steps_nil Nothing)
+      (single_step (get_or piece 0 0) a.0 ∙ ap (λ (es : List Event). step_to Nothing es) a.1);
+}
+
+-- CR at the front
+pub whole_return : (piece values : List ℕ) → 1 ≤ length piece → get_or piece 0 0 ≡ 0x0D
+    → IsWhole piece values 1 (kind.Control (get_or piece 0 0))
+unfolding opens_string
+whole_return piece values some is =
+    steps_alone piece (kind.Control (get_or piece 0 0)) some (λ values. rw is refl) values

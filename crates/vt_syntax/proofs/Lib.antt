@@ -15,4 +15,3 @@ pub mod SilentBytes
 pub mod ContentRuns
 pub mod WholeSequences
 pub mod Fronts
-pub mod FrontValues

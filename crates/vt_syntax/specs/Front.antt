@@ -1,10 +1,15 @@
--- An event that stands whole at the front of a piece, between sequences.
-use Rattle.std.specs.Prelude.{◌≡◌, ◌≤◌, ℕ, zero, suc, ◌+◌, List, [], ◌∷◌, length, take, drop, slice_index, ◌⊎◌, min}
-use Rattle.std.specs.Prelude.{Bool, true, false, nat_le, nat_lt, ◌==◌, ◌&&◌, if◌then◌else◌}
-use Rattle.std.specs.List.{prefix_len}
+-- What stands whole at the front of a piece, between sequences.
+use Rattle.std.specs.Prelude.{◌≡◌, ◌≤◌, ℕ, List, [], ◌∷◌, length, take, slice_index, ◌⊎◌, true}
 use Rattle.vt_syntax.specs.declared.event.Event.{Event}
-use Rattle.vt_syntax.specs.declared.held.Held.TheVariants.{Nothing, Escape}
+use Rattle.vt_syntax.specs.declared.event.Event.TheVariants as event
+use Rattle.vt_syntax.specs.declared.front.Front.{Front}
+use Rattle.vt_syntax.specs.declared.front.Front.TheVariants.{Escape, Introducer, Plain, Right, Empty, CarriageReturn}
+use Rattle.vt_syntax.specs.declared.front.Front.TheVariants.{Control, Other}
+use Rattle.vt_syntax.specs.declared.front.FrontValues.{FrontValues}
+use Rattle.vt_syntax.specs.declared.held.Held.TheVariants.{Nothing}
+use Rattle.vt_syntax.specs.declared.held.Held.TheVariants as held
 use Rattle.vt_syntax.specs.declared.held.Inters.TheVariants.{Zero}
+use Rattle.vt_syntax.specs.Class.{IsPlain, opens_string}
 use Rattle.vt_syntax.specs.Held.{events_from, held_from, IsEnding}
 use Rattle.vt_syntax.specs.Spelling.{IsEvent, IsC0, IsC1, IsIntermediate}
 
@@ -16,48 +21,41 @@ pub record IsFront (piece : List ℕ) (bytes : ℕ) (event : Event) : Type 0 whe
   pub held : held_from Nothing (take bytes piece) ≡ Nothing
   pub is_event : IsEvent event
 
--- ---- which fronts there are, by their bytes
+-- ---- what a piece begins with
 
 -- a control of C0 other than CAN and ESC, or the 8-bit form of one of C1 that opens nothing
 abbrev pub IsControl : ℕ → Type 0
 IsControl b = IsC0 b ⊎ IsC1 b
 
-abbrev pub BeginsWithControl : List ℕ → Type 0
-BeginsWithControl piece = (1 ≤ length piece) × IsControl (slice_index piece 0)
+-- what the first byte is (ECMA-35 6.2, ECMA-48 5.2); a control and a graphic byte are each an event
+abbrev pub Begins : Front → List ℕ → Type 0
+Begins Escape piece = slice_index piece 0 ≡ 0x1B
+Begins Introducer piece = slice_index piece 0 ≡ 0x9B
+Begins Plain piece = IsPlain (slice_index piece 0)
+Begins Right piece = (0xA1 ≤ slice_index piece 0) × (slice_index piece 0 ≤ 0xFE)
+Begins Empty piece = (slice_index piece 0 ≡ 0xA0) ⊎ (0xFF ≤ slice_index piece 0)
+Begins CarriageReturn piece = slice_index piece 0 ≡ 0x0D
+Begins (Control b) piece = IsFront piece 1 (event.Control b)
+Begins Other piece =
+    (slice_index piece 0 ≡ 0x18) ⊎ ((slice_index piece 0 ≡ 0x7F) ⊎ (opens_string (slice_index piece 0) ≡ true))
+
+-- 40..7E, the final byte of a control sequence (ECMA-48 5.4)
+abbrev pub IsFinal : ℕ → Type 0
+IsFinal b = (0x40 ≤ b) × (b ≤ 0x7E)
+
+-- the first values of a control sequence
+abbrev pub front_list : FrontValues → List ℕ
+front_list f = take f.count (f.first ∷ f.second ∷ f.third ∷ [])
+
+-- ---- which escape sequences there are, by their bytes
 
 -- ESC and a final byte 30..7E that stands for no C1 control which opens something
 abbrev pub BeginsWithShortEscape : List ℕ → Type 0
 BeginsWithShortEscape piece =
-    (2 ≤ length piece) × (slice_index piece 0 ≡ 0x1B) × IsEnding (Escape Zero) (slice_index piece 1)
+    (2 ≤ length piece) × (slice_index piece 0 ≡ 0x1B) × IsEnding (held.Escape Zero) (slice_index piece 1)
 
 -- ESC, an intermediate 20..2F and a final byte 30..7E
 abbrev pub BeginsWithEscape : List ℕ → Type 0
 BeginsWithEscape piece =
     (3 ≤ length piece) × (slice_index piece 0 ≡ 0x1B) × IsIntermediate (slice_index piece 1)
     × (0x30 ≤ slice_index piece 2) × (slice_index piece 2 ≤ 0x7E)
-
-abbrev pub is_digit : ℕ → Bool
-is_digit b = nat_le 0x30 b && nat_le b 0x39
-
--- the place behind a value of at most three digits, or none, that begins at a place
-abbrev pub behind_value : List ℕ → ℕ → ℕ
-behind_value piece at = at + min 3 (prefix_len is_digit (drop at piece))
-
-abbrev pub is_front_final : ℕ → Bool
-is_front_final b = nat_le 0x40 b && nat_lt b 0x7F
-
--- from a place on at most so many values of at most three digits, with `;` between them, and a final byte 40..7E; at
--- the place where a value begins there are at least four bytes
-unfoldable pub are_front_values : ℕ → List ℕ → ℕ → Bool
-are_front_values zero piece at = false
-are_front_values (suc n) piece at =
-    nat_le (at + 4) (length piece)
-    && (if slice_index piece (behind_value piece at) == 0x3B
-    then are_front_values n piece (behind_value piece at + 1)
-    else is_front_final (slice_index piece (behind_value piece at)))
-
--- ESC `[`, at most 16 such values and their final byte, in a piece of at least six bytes
-abbrev pub BeginsWithSequence : List ℕ → Type 0
-BeginsWithSequence piece =
-    (6 ≤ length piece) × (slice_index piece 0 ≡ 0x1B) × (slice_index piece 1 ≡ 0x5B)
-    × (are_front_values 16 piece 2 ≡ true)

@@ -18,11 +18,10 @@ mod parser;
 mod plain;
 mod step;
 mod values;
-mod whole;
 
 pub use event::{Event, EventKind, Taken};
-pub use front::{front_control, front_escape, front_sequence, front_short_escape};
-pub use graphic::{graphic_run, is_in_areas};
+pub use front::{Front, FrontValues, front_escape, front_short_escape, front_values, is_final};
+pub use graphic::graphic_run;
 pub use held::{Held, Inters, Phase};
 pub use parser::Parser;
 pub use plain::plain_run;

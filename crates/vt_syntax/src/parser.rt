@@ -10,7 +10,7 @@ use crate::event::{Event, EventKind, Taken};
 use crate::held::Held;
 use crate::step::{hold_content, step};
 use crate::values::Values;
-use crate::whole::whole_event;
+use crate::front::front_event;
 use arrayvec::ArrayVec;
 use std::marker::Model;
 
@@ -97,7 +97,7 @@ fn next_event(held: &mut Held, piece: &[u8], values: &mut Values) -> Taken
     ensures all { IfNone result.event (result.bytes ≡ length piece.now) }
 {
     if matches!(held, Held::Nothing) {
-        if let Some((bytes, kind)) = whole_event(piece, values) {
+        if let Some((bytes, kind)) = front_event(piece, values) {
             return Taken {
                 bytes,
                 event: Some(kind),

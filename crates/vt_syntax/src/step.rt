@@ -15,7 +15,7 @@ use crate::content::content_len;
 use crate::event::EventKind;
 use crate::held::{Held, Inters, Phase};
 use crate::values::Values;
-use crate::whole::plain_escape;
+use crate::front::plain_escape;
 use arrayvec::ArrayVec;
 
 /// Takes one byte after a held part, and answers the event that it gives, if there is one. The values of a control

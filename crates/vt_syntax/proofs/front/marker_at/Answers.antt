@@ -1,5 +1,5 @@
 use Rattle.vt_syntax.proofs.WholeSequences.{steps_marker}
-use Rattle.vt_syntax.proofs.whole.marker_at.Goals as goal
+use Rattle.vt_syntax.proofs.front.marker_at.Goals as goal
 
 pub returns-then-piece-from-lt64-clause-reads : goal.returns-then-piece-from-lt64-clause-reads
 returns-then-piece-from-lt64-clause-reads c =

@@ -1,6 +1,6 @@
 use Rattle.std.proofs.Common.{◌+◌, ◌*◌, arith, refl}
 use Rattle.vt_syntax.proofs.WholeSequences.{read_digit}
-use Rattle.vt_syntax.proofs.whole.read_value.Goals as goal
+use Rattle.vt_syntax.proofs.front.read_value.Goals as goal
 
 pub returns-in_default-digit-clause-reads : goal.returns-in_default-digit-clause-reads
 returns-in_default-digit-clause-reads c =

@@ -1,14 +1,12 @@
 -- The values so far, and a new one begins.
 use Rattle.std.proofs.Common.{◌≡◌, ◌-◌, ◌<◌, ◌≤◌, ◌++◌, [], ◌∷◌, length, take}
-use Rattle.vt_syntax.specs.Front.{are_front_values}
 use Rattle.vt_syntax.specs.Whole.{AreRead}
-use Rattle.vt_syntax.proofs.whole.read_list.Given as goal
+use Rattle.vt_syntax.proofs.front.read_list.Given as goal
 
 abbrev pub invariant-loop-at : goal.invariant-loop-at
 invariant-loop-at l = record {
   within : l.at ≤ length l.piece;
   few : l.count ≤ 16;
-  ends : are_front_values 16 l.piece l.fn.start ≡ are_front_values (16 - l.count) l.piece l.at;
   reads : l.count < 16 → AreRead l.piece l.at l.fn.marker (take l.count l.list ++ 0 ∷ []);
 }
 

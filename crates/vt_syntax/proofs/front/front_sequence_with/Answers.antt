@@ -1,5 +1,5 @@
 use Rattle.vt_syntax.proofs.WholeSequences.{steps_control_with}
-use Rattle.vt_syntax.proofs.whole.whole_control_with.Goals as goal
+use Rattle.vt_syntax.proofs.front.front_sequence_with.Goals as goal
 
 pub returns : goal.returns
 returns c =

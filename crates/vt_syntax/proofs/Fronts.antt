@@ -1,5 +1,5 @@
 -- An event that stands whole at the front of a piece is what the split of its bytes reads.
-use Rattle.std.proofs.Common.{◌≡◌, ◌+◌, ◌<◌, ◌≤◌, ℕ, List, [], ◌∷◌, length, take, get_or, Some, None, arith, refl, ap, sym, ◌∙◌}
+use Rattle.std.proofs.Common.{◌≡◌, ◌+◌, ◌-◌, ◌<◌, ◌≤◌, ℕ, List, [], ◌∷◌, length, take, get_or, Option, Some, None, IfSome, arith, refl, ap, sym, ◌∙◌}
 use Rattle.vt_syntax.specs.declared.event.Event.{Event}
 use Rattle.vt_syntax.specs.declared.event.Event.TheVariants as event
 use Rattle.vt_syntax.specs.declared.event.EventKind.{EventKind}
@@ -9,7 +9,7 @@ use Rattle.vt_syntax.specs.declared.held.Held.TheVariants.{Nothing}
 use Rattle.vt_syntax.specs.Class.{opens_string}
 use Rattle.vt_syntax.specs.Event.{event_of}
 use Rattle.vt_syntax.specs.Front.{IsFront, IsFinal}
-use Rattle.vt_syntax.specs.Held.{events_from}
+use Rattle.vt_syntax.specs.Held.{events_from, IsHeldPart}
 use Rattle.vt_syntax.specs.Spelling.{IsGraphic}
 use Rattle.vt_syntax.specs.Steps.{Step, step_to, steps}
 use Rattle.vt_syntax.specs.Whole.{IsWhole, AreRead}
@@ -29,6 +29,7 @@ front_of piece values bytes kind whole =
       within = whole.within;
       events = events;
       held = steps_held Nothing (take bytes piece) nothing_held ∙ ap (λ (t : Step). t.held) whole.reads;
+      last = steps_events Nothing (take (bytes - 1) piece) nothing_held ∙ whole.silent;
       is_event = is_kind _ (Some kind) values (sym events);
     }
 
@@ -52,6 +53,7 @@ whole_of piece values bytes kind front =
       within = front.within;
       reads = ap (λ (es : List Event). step_to (steps Nothing front_bytes).held es) events
           ∙ ap (λ (h : Held). step_to h (event_of kind values ∷ [])) held;
+      silent = sym (steps_events Nothing (take (bytes - 1) piece) nothing_held) ∙ front.last;
     }
 
 -- a graphic byte at the front
@@ -63,6 +65,7 @@ whole_graphic piece values some is = let a = graphic_alone (get_or piece 0 0) is
   reads = steps_event Nothing Nothing Nothing piece 0 (event.Print (get_or piece 0 0)) (omega arith)
       (steps_nil Nothing)
       (single_step (get_or piece 0 0) a.0 ∙ ap (λ (es : List Event). step_to Nothing es) a.1);
+  silent = ap (λ (t : Step). t.events) (steps_nil Nothing);
 }
 
 -- CR at the front
@@ -71,3 +74,9 @@ pub whole_return : (piece values : List ℕ) → 1 ≤ length piece → get_or p
 unfolding opens_string
 whole_return piece values some is =
     steps_alone piece (kind.Control (get_or piece 0 0)) some (λ values. rw is refl) values
+
+-- bytes that give no event by steps have none
+pub none_before : (held : Held) (bytes : List ℕ) (event : Option EventKind) → IsHeldPart held
+    → IfSome event (λ kind. (steps held bytes).events ≡ []) → IfSome event (λ kind. events_from held bytes ≡ [])
+none_before held bytes None part silent = tt
+none_before held bytes (Some kind) part silent = steps_events held bytes part ∙ silent

@@ -17,7 +17,7 @@ use Rattle.vt_syntax.specs.declared.held.Phase.TheVariants.{Start, Values, Inter
 use Rattle.vt_syntax.specs.declared.class.Class.TheVariants.{Parameter, Intermediate}
 use Rattle.vt_syntax.specs.Class.{class_of}
 use Rattle.vt_syntax.specs.Held.{IsEnding, ended_by, phase_inter}
-use Rattle.vt_syntax.specs.Steps.{step_to, step_of, step_between, opened_by, with_digit, IsEarly, steps}
+use Rattle.vt_syntax.specs.Steps.{Step, step_to, step_of, step_between, opened_by, with_digit, IsEarly, steps}
 use Rattle.vt_syntax.specs.Whole.{IsWhole, AreRead, marker_phase, begun}
 use Rattle.vt_syntax.proofs.Classes.{class_parameter, class_intermediate}
 use Rattle.vt_syntax.proofs.Cutting.{steps_append}
@@ -51,6 +51,12 @@ pub steps_last : (held now : Held) (piece : List ℕ) (at : ℕ) → at < length
 steps_last held now piece at inside so_far ends =
     steps_event held now Nothing piece at (ended_by now (get_or piece at 0)) inside so_far
     (step_final now (get_or piece at 0) ends)
+
+-- the bytes before the last one gave no event
+pub silent_before : (held : Held) (piece : List ℕ) (at : ℕ) → steps Nothing (take at piece) ≡ step_to held []
+    → (steps Nothing (take (at + 1 - 1) piece)).events ≡ []
+silent_before held piece at so_far =
+    let e : at + 1 - 1 ≡ at = omega arith in rw e (ap (λ (t : Step). t.events) so_far)
 
 -- ESC at the front of a piece
 pub steps_escape : (piece : List ℕ) → 1 ≤ length piece → get_or piece 0 0 ≡ 0x1B
@@ -153,6 +159,7 @@ steps_control piece values marker at read inside low high = record {
       (low, omega arith)
       ∙ ap (λ (i : Option ℕ). step_to Nothing (event.Sequence marker (record { items = values }) i (get_or piece at 0)
       ∷ [])) (early_inter read.phase read.early);
+  silent = silent_before _ piece at read.reads;
 }
 
 -- an intermediate and a final byte after the values
@@ -170,6 +177,7 @@ steps_control_with piece values marker at read inside low high low2 high2 =
       some = omega arith;
       within = inside;
       reads = rw two (steps_last Nothing inter piece (at + 1) (omega arith) reads (low2, omega arith));
+      silent = rw two (silent_before inter piece (at + 1) reads);
     }
 
 -- a byte by itself
@@ -182,6 +190,7 @@ steps_alone piece kind some is values = record {
   within = some;
   reads = steps_event Nothing Nothing Nothing piece 0 (event_of kind values) (omega arith) (steps_nil Nothing)
       (is values);
+  silent = ap (λ (t : Step). t.events) (steps_nil Nothing);
 }
 
 -- ---- escape sequences
@@ -200,6 +209,7 @@ escape_whole piece kind long first ends is values = record {
   within = long;
   reads = steps_last Nothing (Escape Zero) piece 1 (omega arith) (steps_escape piece (omega arith) first) ends
       ∙ ap (λ (e : Event). step_to Nothing (e ∷ [])) (sym (is values));
+  silent = ap (λ (t : Step). t.events) (steps_escape piece (omega arith) first);
 }
 
 -- ESC, an intermediate and a final byte
@@ -207,12 +217,11 @@ pub escape_with_whole : (piece : List ℕ) → 3 ≤ length piece → get_or pie
     → get_or piece 1 0 < 0x30
     → 0x30 ≤ get_or piece 2 0 → get_or piece 2 0 < 0x7F
     → (values : List ℕ) → IsWhole piece values 3 (kind.Escape (Some (get_or piece 1 0)) (get_or piece 2 0))
-escape_with_whole piece long first low high low2 high2 values = record {
-  some = omega arith;
-  within = long;
-  reads = steps_last Nothing (Escape (One (get_or piece 1 0))) piece 2 (omega arith)
-      (steps_more Nothing (Escape Zero) (Escape (One (get_or piece 1 0))) piece 1 (omega arith)
-      (steps_escape piece (omega arith) first)
-      (escape_inter_step (get_or piece 1 0) low high))
-      (low2, omega arith);
-}
+escape_with_whole piece long first low high low2 high2 values =
+    let inter = steps_more Nothing (Escape Zero) (Escape (One (get_or piece 1 0))) piece 1 (omega arith)
+    (steps_escape piece (omega arith) first) (escape_inter_step (get_or piece 1 0) low high) in record {
+      some = omega arith;
+      within = long;
+      reads = steps_last Nothing (Escape (One (get_or piece 1 0))) piece 2 (omega arith) inter (low2, omega arith);
+      silent = ap (λ (t : Step). t.events) inter;
+    }

@@ -1,5 +1,5 @@
 -- What stands whole at the front of a piece, between sequences.
-use Rattle.std.specs.Prelude.{◌≡◌, ◌≤◌, ℕ, List, [], ◌∷◌, length, take, slice_index, ◌⊎◌, true}
+use Rattle.std.specs.Prelude.{◌≡◌, ◌≤◌, ◌-◌, ℕ, List, [], ◌∷◌, length, take, slice_index, ◌⊎◌, true}
 use Rattle.vt_syntax.specs.declared.event.Event.{Event}
 use Rattle.vt_syntax.specs.declared.event.Event.TheVariants as event
 use Rattle.vt_syntax.specs.declared.front.Front.{Front}
@@ -13,12 +13,13 @@ use Rattle.vt_syntax.specs.Class.{IsPlain, opens_string}
 use Rattle.vt_syntax.specs.Held.{events_from, held_from, IsEnding}
 use Rattle.vt_syntax.specs.Spelling.{IsEvent, IsC0, IsC1, IsIntermediate}
 
--- so many bytes of the piece, after which nothing is held, are just this event
+-- so many bytes of the piece are just this event: the last of them completes it, and nothing is held after it
 pub record IsFront (piece : List ℕ) (bytes : ℕ) (event : Event) : Type 0 where
   pub some : 1 ≤ bytes
   pub within : bytes ≤ length piece
   pub events : events_from Nothing (take bytes piece) ≡ event ∷ []
   pub held : held_from Nothing (take bytes piece) ≡ Nothing
+  pub last : events_from Nothing (take (bytes - 1) piece) ≡ []
   pub is_event : IsEvent event
 
 -- ---- what a piece begins with
@@ -46,6 +47,10 @@ IsFinal b = (0x40 ≤ b) × (b ≤ 0x7E)
 -- the first values of a control sequence
 abbrev pub front_list : FrontValues → List ℕ
 front_list f = take f.count (f.first ∷ f.second ∷ f.third ∷ [])
+
+-- a second value that isn't there is 0
+abbrev pub AreFirst : FrontValues → Type 0
+AreFirst f = (slice_index (front_list f) 0 ≡ f.first) × (slice_index (front_list f) 1 ≡ f.second)
 
 -- ---- which escape sequences there are, by their bytes
 

@@ -1,6 +1,6 @@
 -- A sequence that stands whole in a piece, by steps. Contracts of private functions cite this, and no public clause
 -- does.
-use Rattle.std.specs.Prelude.{◌≡◌, ◌≤◌, ℕ, List, [], ◌∷◌, length, take, Option, Some, None, false}
+use Rattle.std.specs.Prelude.{◌≡◌, ◌≤◌, ◌-◌, ℕ, List, [], ◌∷◌, length, take, Option, Some, None, false}
 use Rattle.vt_syntax.specs.declared.event.EventKind.{EventKind}
 use Rattle.vt_syntax.specs.declared.held.Held.{Held}
 use Rattle.vt_syntax.specs.declared.held.Held.TheVariants.{Nothing, Control}
@@ -9,11 +9,12 @@ use Rattle.vt_syntax.specs.declared.held.Phase.TheVariants.{Start, Values}
 use Rattle.vt_syntax.specs.Event.{event_of}
 use Rattle.vt_syntax.specs.Steps.{step_to, IsEarly, steps}
 
--- these bytes at the front of the piece are one event, and nothing is held after it
+-- these bytes at the front of the piece are one event, which the last of them completes, and nothing is held after it
 pub record IsWhole (piece values : List ℕ) (bytes : ℕ) (kind : EventKind) : Type 0 where
   pub some : 1 ≤ bytes
   pub within : bytes ≤ length piece
   pub reads : steps Nothing (take bytes piece) ≡ step_to Nothing (event_of kind values ∷ [])
+  pub silent : (steps Nothing (take (bytes - 1) piece)).events ≡ []
 
 -- the phase after the introducer, or a marker
 abbrev pub marker_phase : Option ℕ → Phase

@@ -11,7 +11,7 @@ ghost use Rattle.vt_syntax.specs.declared.held.Held.TheVariants.{Nothing, Escape
 ghost use Rattle.vt_syntax.specs.declared.held.Inters.TheVariants.{Zero};
 ghost use Rattle.vt_syntax.specs.Event.{event_of};
 ghost use Rattle.vt_syntax.specs.Front.{Begins, IsFront, IsControl, IsFinal, BeginsWithShortEscape, BeginsWithEscape};
-ghost use Rattle.vt_syntax.specs.Front.{front_list};
+ghost use Rattle.vt_syntax.specs.Front.{front_list, AreFirst};
 ghost use Rattle.vt_syntax.specs.Held.{IsEnding, ended_by};
 ghost use Rattle.vt_syntax.specs.Steps.{step_to, step_between, opened_by, steps};
 ghost use Rattle.vt_syntax.specs.Whole.{IsWhole, AreRead, begun};
@@ -92,8 +92,8 @@ impl Front {
 pub fn front_values(piece: &[u8]) -> Option<FrontValues>
     ensures front { IfSome result (λ f. IsFinal f.last
         → IsFront piece.now f.bytes (Sequence None (record { items = front_list f }) None f.last)) }
-    ensures few { IfSome result (λ f. f.count ≤ 3) }
-    ensures absent { IfSome result (λ f. f.count ≤ 1 → f.second ≡ 0) }
+    ensures few { IfSome result (λ f. (1 ≤ f.count) × (f.count ≤ 3)) }
+    ensures values { IfSome result (λ f. AreFirst f) }
 {
     if piece.len() < 10 || !is_introducer(piece[0], piece[1]) {
         return None;
@@ -291,12 +291,7 @@ fn marker_at(piece: &[u8], from: usize) -> (Option<u8>, usize)
 /// Reads the values from a place on, and returns the place after them. Returns `None` after the 16th, and if fewer than
 /// four bytes are left.
 #[inline(always)]
-fn read_values(
-    piece: &[u8],
-    start: usize,
-    marker: Option<u8>,
-    values: &mut Values,
-) -> Option<usize>
+fn read_values(piece: &[u8], start: usize, marker: Option<u8>, values: &mut Values) -> Option<usize>
     requires within { start ≤ length piece.now }
     requires begun { steps Nothing (take start piece.now) ≡ step_to (begun marker) [] }
     ensures reads { IfSome result (λ at. (at < length piece.now) × AreRead piece.now at marker values.new) }

@@ -1,5 +1,5 @@
 //! The parser: bytes, one at a time, into events.
-ghost use Rattle.std.specs.Prelude.{◌≡◌, ◌<◌, ◌≤◌, [], ◌∷◌, IsTrue, ◌↔◌, IfSome, IfNone, length, take};
+ghost use Rattle.std.specs.Prelude.{◌≡◌, ◌-◌, ◌<◌, ◌≤◌, [], ◌∷◌, IsTrue, ◌↔◌, IfSome, IfNone, length, take};
 ghost use Rattle.std.specs.Option.{option_to_list};
 ghost use Rattle.vt_syntax.specs.Held.{IsHeldPart, events_from, held_from};
 ghost use Rattle.vt_syntax.specs.Spelling.{IsEvent};
@@ -7,10 +7,10 @@ ghost use Rattle.vt_syntax.specs.Event.{event_of, event_in};
 ghost use Rattle.vt_syntax.specs.Steps.{step_to, step_of, steps};
 
 use crate::event::{Event, EventKind, Taken};
+use crate::front::front_event;
 use crate::held::Held;
 use crate::step::{hold_content, step};
 use crate::values::Values;
-use crate::front::front_event;
 use arrayvec::ArrayVec;
 use std::marker::Model;
 
@@ -55,8 +55,8 @@ impl Parser {
         step_with_values(&mut self.held, b)
     }
 
-    /// Takes the front of a piece as far as the first byte that completes an event, or all of it where none does, and
-    /// answers how many bytes that is and the event. The values of a control sequence are put into `values`.
+    /// Takes the bytes of a piece up to and including the first that completes an event, or all of them if none does.
+    /// Returns how many it took, and the event. The values of a control sequence are put into `values`.
     ///
     /// [`Parser::push`] takes these bytes one by one to the same event and held part. A sequence that stands whole in
     /// the piece is read from it, and one that pieces cut from what is held: both come in this one form.
@@ -66,6 +66,7 @@ impl Parser {
         ensures within { result.bytes ≤ length piece.now }
         ensures event { event_in result.event values.new ≡ events_from self.old (take result.bytes piece.now) }
         ensures held { self.new ≡ held_from self.old (take result.bytes piece.now) }
+        ensures last { IfSome result.event (λ _. events_from self.old (take (result.bytes - 1) piece.now) ≡ []) }
         ensures all { IfNone result.event (result.bytes ≡ length piece.now) }
         ensures in_range { IfSome result.event (λ kind. IsEvent (event_of kind values.new)) }
     {
@@ -94,6 +95,7 @@ fn next_event(held: &mut Held, piece: &[u8], values: &mut Values) -> Taken
     ensures some { 1 ≤ length piece.now → 1 ≤ result.bytes }
     ensures within { result.bytes ≤ length piece.now }
     ensures reads { steps held.old (take result.bytes piece.now) ≡ step_to held.new (event_in result.event values.new) }
+    ensures silent { IfSome result.event (λ _. (steps held.old (take (result.bytes - 1) piece.now)).events ≡ []) }
     ensures all { IfNone result.event (result.bytes ≡ length piece.now) }
 {
     if matches!(held, Held::Nothing) {
@@ -113,6 +115,7 @@ fn next_held(held: &mut Held, piece: &[u8], values: &mut Values) -> Taken
     ensures some { 1 ≤ length piece.now → 1 ≤ result.bytes }
     ensures within { result.bytes ≤ length piece.now }
     ensures reads { steps held.old (take result.bytes piece.now) ≡ step_to held.new (event_in result.event values.new) }
+    ensures silent { IfSome result.event (λ _. (steps held.old (take (result.bytes - 1) piece.now)).events ≡ []) }
     ensures all { IfNone result.event (result.bytes ≡ length piece.now) }
 {
     let mut bytes = 0;

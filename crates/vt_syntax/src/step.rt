@@ -13,9 +13,9 @@ ghost use Rattle.vt_syntax.specs.Steps.{step_intermediate, with_digit, steps, op
 use crate::class::{Class, class_of};
 use crate::content::content_len;
 use crate::event::EventKind;
+use crate::front::plain_escape;
 use crate::held::{Held, Inters, Phase};
 use crate::values::Values;
-use crate::front::plain_escape;
 use arrayvec::ArrayVec;
 
 /// Takes one byte after a held part, and answers the event that it gives, if there is one. The values of a control

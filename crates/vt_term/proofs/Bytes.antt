@@ -8,6 +8,7 @@ use Rattle.vt_syntax.specs.declared.event.Event.{Event}
 use Rattle.vt_syntax.specs.declared.event.Event.TheVariants.{Print, Control}
 use Rattle.vt_syntax.specs.declared.held.Held.{Held}
 use Rattle.vt_syntax.specs.declared.held.Held.TheVariants.{Nothing}
+use Rattle.vt_syntax.specs.Front.{IsFront}
 use Rattle.vt_syntax.specs.Reading.{events_of}
 use Rattle.vt_syntax.specs.Laws.{SplitLaw, SpellingLaw}
 use Rattle.vt_syntax.specs.Spelling.{IsEvent, IsGraphic, spell_event, spell_events}
@@ -138,6 +139,25 @@ event-reports spelling split s event byte is spelled between silent =
     sym (play-reports s (byte ∷ []) (event ∷ []) (one-event spelling split event byte is spelled
     ∙ ap (λ (k : Held). events_from k (byte ∷ [])) (sym between)))
     ∙ append-nil (report event s.display) ∙ silent
+
+-- an event that stands whole at the front of a piece, between sequences
+pub front-state : (s : State) (piece : List ℕ) (bytes : ℕ) (event : Event) (d : Display) (h : Held)
+    → IsFront piece bytes event → s.held ≡ Nothing → h ≡ s.held → d ≡ effect event s.display
+    → record { display = d; held = h } ≡ (play s (take bytes piece)).state
+front-state s piece bytes event d h front between same then =
+    play-state s (take bytes piece) (event ∷ []) d h
+    (sym (ap (λ (k : Held). events_from k (take bytes piece)) between ∙ front.events))
+    then
+    (same ∙ between ∙ sym (ap (λ (k : Held). held_from k (take bytes piece)) between ∙ front.held))
+
+pub front-reports : (s : State) (piece before out : List ℕ) (bytes : ℕ) (event : Event) → IsFront piece bytes event
+    → s.held ≡ Nothing → out ≡ before ++ report event s.display
+    → out ≡ before ++ (play s (take bytes piece)).reports
+front-reports s piece before out bytes event front between told =
+    told ∙ ap (λ (t : List ℕ). before ++ t)
+    (sym (append-nil (report event s.display))
+    ∙ play-reports s (take bytes piece) (event ∷ [])
+    (sym (ap (λ (k : Held). events_from k (take bytes piece)) between ∙ front.events)))
 
 -- BS to CR are events by themselves, and report nothing
 pub c0-event : (b : ℕ) → 0x08 ≤ b → b ≤ 0x0D → IsEvent (Control b)

@@ -17,8 +17,8 @@ use std::alloc::AllocError;
 use vt_glyph::laws::in_use;
 use vt_syntax::laws::{one_split, spelled};
 use vt_syntax::{
-    EventKind, Taken, Values, front_control, front_escape, front_sequence, front_short_escape,
-    graphic_run, is_in_areas, plain_run,
+    EventKind, Front, Taken, Values, front_escape, front_short_escape, front_values, graphic_run,
+    plain_run,
 };
 
 /// From how many plain bytes on they are written by themselves, also where bytes of the right half follow.
@@ -66,14 +66,14 @@ impl Terminal {
         let mut values = Values::new();
         let mut at = 0;
         while at < piece.len() {
-            at += self.feed_front(&piece[at..], &mut values, out);
+            at += self.feed_next(&piece[at..], &mut values, out);
         }
     }
 
     /// Plays the front of a piece that isn't empty, and answers how many bytes that is: between sequences as far as the
     /// first that doesn't stand whole in it, else as far as the first event.
     #[inline(always)]
-    fn feed_front(&mut self, piece: &[u8], values: &mut Values, out: &mut Vec<u8>) -> usize
+    fn feed_next(&mut self, piece: &[u8], values: &mut Values, out: &mut Vec<u8>) -> usize
         requires some { 1 ≤ length piece.now }
         requires room { vec_len out.old + 10 * length piece.now ≤ vec_capacity out.old }
         ensures some { 1 ≤ result }
@@ -86,7 +86,7 @@ impl Terminal {
         if self.parser.is_between() {
             self.feed_between(piece, values, out)
         } else {
-            self.feed_event(piece, values, out)
+            self.feed_by_parser(piece, values, out)
         }
     }
 
@@ -108,7 +108,7 @@ impl Terminal {
         cuts();
         let mut rest = piece;
         while !rest.is_empty() {
-            let (bytes, is_between) = self.feed_whole(rest, values, out);
+            let (bytes, is_between) = self.feed_front(rest, values, out);
             rest = &rest[bytes..];
             if !is_between {
                 return piece.len() - rest.len();
@@ -121,7 +121,7 @@ impl Terminal {
     /// written at once, CR, and LF after it, a control or a sequence; all else goes through the parser. Answers how
     /// many bytes that is, and whether it is known that nothing is held then.
     #[inline(always)]
-    fn feed_whole(&mut self, piece: &[u8], values: &mut Values, out: &mut Vec<u8>) -> (usize, bool)
+    fn feed_front(&mut self, piece: &[u8], values: &mut Values, out: &mut Vec<u8>) -> (usize, bool)
         requires some { 1 ≤ length piece.now }
         requires room { vec_len out.old + 10 * length piece.now ≤ vec_capacity out.old }
         requires between { self.old.held ≡ Nothing }
@@ -133,24 +133,22 @@ impl Terminal {
         ensures bounded { vec_len out.new ≤ vec_len out.old + 10 * result.0 }
         ensures capacity { vec_capacity out.old ≤ vec_capacity out.new }
     {
-        let byte = piece[0];
-        if byte == 0x1B {
-            return self.feed_escape(piece, values, out);
+        match Front::of(piece) {
+            Front::Escape => self.feed_escape(piece, values, out),
+            Front::Plain => (self.feed_ascii(piece), true),
+            Front::CarriageReturn => (self.feed_carriage_return(piece), true),
+            Front::Right => (self.feed_graphics(piece), true),
+            Front::Control(control) => {
+                self.carry_out_front(EventKind::Control(control), &[], out);
+                (1, true)
+            }
+            Front::Empty => {
+                self.print_between(piece[0]);
+                (1, true)
+            }
+            Front::Introducer => (self.feed_by_parser(piece, values, out), false),
+            Front::Other => (self.feed_by_parser(piece, values, out), false),
         }
-        if 0x20 <= byte && byte < 0x7F {
-            return (self.feed_plain(piece), true);
-        }
-        if byte == 0x0D {
-            return (self.feed_carriage_return(piece), true);
-        }
-        if is_in_areas(byte) {
-            return (self.feed_graphics(piece), true);
-        }
-        if let Some(control) = front_control(piece) {
-            self.feed_front_event(EventKind::Control(control), &[], out);
-            return (1, true);
-        }
-        (self.feed_event(piece, values, out), false)
     }
 
     /// Plays the front of a piece that begins with ESC, between sequences, as far as the first event. Answers how many
@@ -168,32 +166,49 @@ impl Terminal {
         ensures bounded { vec_len out.new ≤ vec_len out.old + 10 }
         ensures capacity { vec_capacity out.old ≤ vec_capacity out.new }
     {
-        if let Some((bytes, last)) = front_sequence(piece, values) {
-            let (marker, inter) = (None, None);
-            let kind = EventKind::Sequence {
-                marker,
-                inter,
-                last,
-            };
-            self.feed_front_event(kind, values.as_slice(), out);
-            return (bytes, true);
+        if let Some(front) = front_values(piece) {
+            if self.display.carry_out_values(&front, out) {
+                return (front.bytes, true);
+            }
         }
+        self.feed_other_escape(piece, values, out)
+    }
+
+    /// Plays a sequence that begins with ESC and that `front_values` doesn't read.
+    #[inline(always)]
+    fn feed_other_escape(
+        &mut self,
+        piece: &[u8],
+        values: &mut Values,
+        out: &mut Vec<u8>,
+    ) -> (usize, bool)
+        requires some { 1 ≤ length piece.now }
+        requires room { vec_len out.old + 10 ≤ vec_capacity out.old }
+        requires between { self.old.held ≡ Nothing }
+        ensures some { 1 ≤ result.0 }
+        ensures within { result.0 ≤ length piece.now }
+        ensures between { OnTrue result.1 (self.new.held ≡ Nothing) }
+        ensures state { self.new ≡ (play self.old (take result.0 piece.now)).state }
+        ensures reports { out.new.items ≡ out.old.items ++ (play self.old (take result.0 piece.now)).reports }
+        ensures bounded { vec_len out.new ≤ vec_len out.old + 10 }
+        ensures capacity { vec_capacity out.old ≤ vec_capacity out.new }
+    {
         if let Some((inter, last)) = front_escape(piece) {
             let inter = Some(inter);
-            self.feed_front_event(EventKind::Escape { inter, last }, &[], out);
+            self.carry_out_front(EventKind::Escape { inter, last }, &[], out);
             return (3, true);
         }
         if let Some(kind) = front_short_escape(piece) {
-            self.feed_front_event(kind, &[], out);
+            self.carry_out_front(kind, &[], out);
             return (2, true);
         }
-        (self.feed_event(piece, values, out), false)
+        (self.feed_by_parser(piece, values, out), false)
     }
 
     /// An event that stands whole at the front of a piece, between sequences. It is compiled in the place of each call,
     /// so that what is known of its kind costs no dispatch.
     #[inline(always)]
-    fn feed_front_event(&mut self, kind: EventKind, values: &[u16], out: &mut Vec<u8>)
+    fn carry_out_front(&mut self, kind: EventKind, values: &[u16], out: &mut Vec<u8>)
         requires event { IsEvent (event_of kind values.now) }
         requires room { vec_len out.old + 10 ≤ vec_capacity out.old }
         requires between { self.old.held ≡ Nothing }
@@ -211,7 +226,7 @@ impl Terminal {
     /// Plays the graphic bytes at the front of a piece that begins with a plain one, between sequences: a run of plain
     /// bytes where GL is ASCII and they may be written at once. Answers how many bytes that is.
     #[inline(always)]
-    fn feed_plain(&mut self, piece: &[u8]) -> usize
+    fn feed_ascii(&mut self, piece: &[u8]) -> usize
         requires some { 1 ≤ length piece.now }
         requires plain { IsPlain (slice_index piece.now 0) }
         requires between { self.old.held ≡ Nothing }
@@ -224,7 +239,7 @@ impl Terminal {
         if self.display.writes_over() && self.display.sets.reads_ascii() {
             let run = plain_run(piece);
             if run >= LONG_RUN || !right_half_at(piece, run) {
-                self.feed_run(&piece[..run]);
+                self.write_ascii(&piece[..run]);
                 return run;
             }
         }
@@ -245,16 +260,16 @@ impl Terminal {
         ensures reports { (play self.old (take result piece.now)).reports ≡ [] }
     {
         if !self.display.writes_over() {
-            self.feed_graphic(piece[0]);
+            self.print_between(piece[0]);
             return 1;
         }
         let run = graphic_run(piece);
-        self.feed_in_use(&piece[..run]);
+        self.write_in_use(&piece[..run]);
         run
     }
 
     /// A graphic byte, between sequences.
-    fn feed_graphic(&mut self, byte: u8)
+    fn print_between(&mut self, byte: u8)
         requires graphic { IsGraphic byte }
         requires between { self.old.held ≡ Nothing }
         ensures between { self.new.held ≡ Nothing }
@@ -278,18 +293,18 @@ impl Terminal {
         ensures state { self.new ≡ (play self.old (take result piece.now)).state }
         ensures reports { (play self.old (take result piece.now)).reports ≡ [] }
     {
-        self.feed_control(piece[0]);
+        self.control_between(piece[0]);
         if piece.len() < 2 || piece[1] != 0x0A {
             return 1;
         }
         cuts();
-        self.feed_control(piece[1]);
+        self.control_between(piece[1]);
         2
     }
 
     /// A C0 control that changes the display, between sequences.
     #[inline(always)]
-    fn feed_control(&mut self, byte: u8)
+    fn control_between(&mut self, byte: u8)
         requires control { (0x08 ≤ byte) × (byte ≤ 0x0D) }
         requires between { self.old.held ≡ Nothing }
         ensures between { self.new.held ≡ Nothing }
@@ -303,7 +318,7 @@ impl Terminal {
 
     /// Plays the front of a piece that isn't empty as far as the first event, and answers how many bytes that is.
     #[inline(never)]
-    fn feed_event(&mut self, piece: &[u8], values: &mut Values, out: &mut Vec<u8>) -> usize
+    fn feed_by_parser(&mut self, piece: &[u8], values: &mut Values, out: &mut Vec<u8>) -> usize
         requires some { 1 ≤ length piece.now }
         requires room { vec_len out.old + 10 ≤ vec_capacity out.old }
         ensures some { 1 ≤ result }
@@ -321,7 +336,7 @@ impl Terminal {
     }
 
     /// A run of plain bytes.
-    fn feed_run(&mut self, run: &[u8])
+    fn write_ascii(&mut self, run: &[u8])
         requires plain { All IsPlain run.now }
         requires some { 1 ≤ length run.now }
         requires between { self.old.held ≡ Nothing }
@@ -336,7 +351,7 @@ impl Terminal {
     }
 
     /// A run of graphic bytes, where the sets in GL and GR are read.
-    fn feed_in_use(&mut self, run: &[u8])
+    fn write_in_use(&mut self, run: &[u8])
         requires graphic { All HasGlyph run.now }
         requires some { 1 ≤ length run.now }
         requires between { self.old.held ≡ Nothing }

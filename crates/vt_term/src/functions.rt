@@ -1,7 +1,10 @@
 //! Which function or report an event asks for.
 ghost use Rattle.std.specs.Prelude.{◌≡◌, ◌<◌, ◌≤◌, ◌+◌, ◌++◌, vec_len, vec_capacity, Some, None};
 ghost use Rattle.vt_syntax.specs.Spelling.{IsEvent};
+ghost use Rattle.std.specs.Bool.{OnTrue, OnFalse};
+ghost use Rattle.vt_syntax.specs.declared.event.Event.TheVariants.{Sequence};
 ghost use Rattle.vt_syntax.specs.Event.{event_of};
+ghost use Rattle.vt_syntax.specs.Front.{IsFinal, AreFirst, front_list};
 ghost use Rattle.vt_glyph.specs.Tables.{substitute_glyph};
 ghost use Rattle.vt_term.specs.Writing.{write_glyph};
 ghost use Rattle.vt_term.specs.Parameters.{first, second, count};
@@ -12,7 +15,7 @@ ghost use Rattle.vt_term.specs.Reports.{report, sequence_report};
 
 use crate::display::Display;
 use vt_glyph::{Glyph, Set};
-use vt_syntax::EventKind;
+use vt_syntax::{EventKind, FrontValues, is_final};
 
 /// The first parameter; one that isn't there is 0.
 pub(crate) fn first(params: &[u16]) -> u16
@@ -64,6 +67,41 @@ impl Display {
                 last,
             } => self.sequence(marker, values, inter, last, out),
         }
+    }
+
+    /// Carries out a control sequence of these values if its last byte is a final byte, and returns whether it is.
+    ///
+    /// Speed: CUP and SGR are told before the table, and all others out of line.
+    #[inline(always)]
+    #[tactic(auto, unfolding(crate::specs::Functions::sequences_of, crate::specs::Functions::sequence_in, crate::specs::Reports::sequence_report))]
+    pub(crate) fn carry_out_values(&mut self, front: &FrontValues, out: &mut Vec<u8>) -> bool
+        requires few { (1 ≤ front.now.count) × (front.now.count ≤ 3) }
+        requires values { AreFirst front.now }
+        requires room { vec_len out.old + 10 ≤ vec_capacity out.old }
+        ensures ends { OnTrue result (IsFinal front.now.last) }
+        ensures state { OnTrue result (self.new
+            ≡ effect (Sequence None (record { items = front_list front.now }) None front.now.last) self.old) }
+        ensures items { OnTrue result (out.new.items ≡ out.old.items
+            ++ report (Sequence None (record { items = front_list front.now }) None front.now.last) self.old) }
+        ensures same { OnFalse result (self.new ≡ self.old) }
+        ensures same_out { OnFalse result (out.new ≡ out.old) }
+        ensures bounded { vec_len out.new ≤ vec_len out.old + 10 }
+        ensures capacity { vec_capacity out.old ≤ vec_capacity out.new }
+    {
+        if front.last == b'H' {
+            self.cursor_position(front.first, front.second);
+            return true;
+        }
+        if front.last == b'm' {
+            self.select_front_rendition(front);
+            return true;
+        }
+        if !is_final(front.last) {
+            return false;
+        }
+        let list = [front.first, front.second, front.third];
+        self.plain_sequence(front.last, &list[..front.count], out);
+        true
     }
 
     /// A C0 or C1 control. (It is compiled in the place of each call, so that CR and LF cost no dispatch.)
@@ -199,7 +237,7 @@ impl Display {
     }
 
     /// A control sequence without marker and intermediate: DA and DSR report, and the others change the display.
-    #[inline(always)]
+    #[inline(never)]
     #[tactic(auto, unfolding(crate::specs::Functions::sequence_in, crate::specs::Reports::sequence_report))]
     fn plain_sequence(&mut self, last: u8, params: &[u16], out: &mut Vec<u8>)
         requires room { vec_len out.old + 10 ≤ vec_capacity out.old }

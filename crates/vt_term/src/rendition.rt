@@ -1,10 +1,12 @@
 //! The brush: the attributes and the protection of what is written.
-ghost use Rattle.std.specs.Prelude.{◌≡◌};
+ghost use Rattle.std.specs.Prelude.{◌≡◌, ◌≤◌};
+ghost use Rattle.vt_syntax.specs.Front.{front_list};
 ghost use Rattle.vt_term.specs.Rendition.{with_attribute, with_rendition, select_graphic_rendition};
 ghost use Rattle.vt_term.specs.Rendition.{select_character_attribute};
 
 use crate::display::Display;
 use vt_screen::Rendition;
+use vt_syntax::FrontValues;
 
 impl Display {
     /// SGR: each parameter in order.
@@ -15,6 +17,23 @@ impl Display {
         for p in params {
             self.change_rendition(*p);
         }
+    }
+
+    /// Carries out SGR of one to three parameters.
+    #[inline(always)]
+    pub(crate) fn select_front_rendition(&mut self, front: &FrontValues)
+        requires few { (1 ≤ front.now.count) × (front.now.count ≤ 3) }
+        ensures { self.new ≡ select_graphic_rendition (front_list front.now) self.old }
+    {
+        self.change_rendition(front.first);
+        if front.count == 1 {
+            return;
+        }
+        self.change_rendition(front.second);
+        if front.count == 2 {
+            return;
+        }
+        self.change_rendition(front.third);
     }
 
     /// One parameter of SGR.

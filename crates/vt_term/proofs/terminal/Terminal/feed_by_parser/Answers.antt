@@ -4,7 +4,7 @@ use Rattle.vt_syntax.specs.Event.{event_of, event_in}
 use Rattle.vt_term.specs.Functions.{effect}
 use Rattle.vt_term.specs.Reports.{report}
 use Rattle.vt_term.proofs.Bytes.{play-state, play-reports}
-use Rattle.vt_term.proofs.terminal.Terminal.feed_event.Goals as goal
+use Rattle.vt_term.proofs.terminal.Terminal.feed_by_parser.Goals as goal
 
 pub returns-in-Some-clause-state : goal.returns-in-Some-clause-state
 returns-in-Some-clause-state c =

@@ -4,7 +4,7 @@ use Rattle.vt_syntax.specs.Held.{events_from, held_from}
 use Rattle.vt_syntax.specs.declared.held.Held.{Held}
 use Rattle.vt_term.specs.State.{State}
 use Rattle.vt_term.proofs.Bytes.{play-state, play-reports, prints-report, graphic-events, graphic-held}
-use Rattle.vt_term.proofs.terminal.Terminal.feed_in_use.Goals as goal
+use Rattle.vt_term.proofs.terminal.Terminal.write_in_use.Goals as goal
 
 pub write_graphics-requires-clause-writes : goal.write_graphics-requires-clause-writes
 write_graphics-requires-clause-writes c =

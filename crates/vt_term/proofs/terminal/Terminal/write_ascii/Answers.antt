@@ -4,7 +4,7 @@ use Rattle.vt_syntax.specs.Held.{events_from, held_from}
 use Rattle.vt_syntax.specs.declared.held.Held.{Held}
 use Rattle.vt_term.specs.State.{State}
 use Rattle.vt_term.proofs.Bytes.{play-state, play-reports, prints-report}
-use Rattle.vt_term.proofs.terminal.Terminal.feed_run.Goals as goal
+use Rattle.vt_term.proofs.terminal.Terminal.write_ascii.Goals as goal
 
 pub returns-clause-state : goal.returns-clause-state
 returns-clause-state c =

@@ -2,7 +2,7 @@ use Rattle.std.proofs.Common.{refl, ap, ◌∙◌}
 use Rattle.vt_syntax.specs.declared.event.Event.TheVariants.{Print}
 use Rattle.vt_term.specs.State.{State}
 use Rattle.vt_term.proofs.Bytes.{event-state, event-reports}
-use Rattle.vt_term.proofs.terminal.Terminal.feed_graphic.Goals as goal
+use Rattle.vt_term.proofs.terminal.Terminal.print_between.Goals as goal
 
 pub returns-clause-state : goal.returns-clause-state
 returns-clause-state c =

@@ -42,7 +42,8 @@ pub fn is_in_areas(byte: u8) -> bool
     (0x20 <= byte && byte <= 0x7E) || (0xA1 <= byte && byte <= 0xFE)
 }
 
-/// How many bytes of `piece`, from the first on, are of the graphic areas.
+/// Returns how many bytes of `piece`, from the first on, are of the graphic areas.
+#[inline(always)]
 pub fn graphic_run(piece: &[u8]) -> usize
     ensures within { result ≤ length piece.now }
     ensures graphic { All IsInAreas (take result piece.now) }

@@ -78,7 +78,25 @@ impl Display {
     }
 
     /// CUP and HVP: to a line and column, where 0 stands for 1. Under DECOM lines count from the top margin.
+    ///
+    /// Speed: a place on the screen is taken as it is, and any other is bounded out of line.
+    #[inline(always)]
     pub(crate) fn cursor_position(&mut self, line: u16, col: u16)
+        ensures { self.new ≡ cursor_position line col self.old }
+    {
+        let row = line as usize;
+        let column = col as usize;
+        let is_row = row.wrapping_sub(1) < ROWS;
+        if !self.modes.decom && is_row && column.wrapping_sub(1) < self.screen.width() {
+            self.cursor = Cursor::at(row, column);
+            return;
+        }
+        self.bounded_position(line, col);
+    }
+
+    /// Moves the cursor to a line and column, within the screen or, under DECOM, the margins.
+    #[inline(never)]
+    fn bounded_position(&mut self, line: u16, col: u16)
         ensures { self.new ≡ cursor_position line col self.old }
     {
         let line = (line as usize).max(1);
@@ -167,6 +185,7 @@ impl Display {
     }
 
     /// DECSTBM: margins of at least two rows, and the cursor goes home; else no effect.
+    #[inline(never)]
     pub(crate) fn set_margins(&mut self, top: u16, bottom: u16)
         ensures { self.new ≡ set_margins top bottom self.old }
     {

@@ -11,6 +11,7 @@ use vt_screen::laws::areas;
 
 impl Display {
     /// IL: `n` blank rows come in at the cursor's row, above the bottom margin.
+    #[inline(never)]
     pub(crate) fn insert_line(&mut self, n: u16)
         ensures { self.new ≡ insert_line n self.old }
     {
@@ -24,6 +25,7 @@ impl Display {
     }
 
     /// DL: `n` rows go from the cursor's row on, above the bottom margin.
+    #[inline(never)]
     pub(crate) fn delete_line(&mut self, n: u16)
         ensures { self.new ≡ delete_line n self.old }
     {
@@ -37,6 +39,7 @@ impl Display {
     }
 
     /// ICH: `n` blank cells come in at the cursor.
+    #[inline(never)]
     pub(crate) fn insert_character(&mut self, n: u16)
         ensures { self.new ≡ insert_character n self.old }
     {
@@ -46,6 +49,7 @@ impl Display {
     }
 
     /// DCH: `n` cells go from the cursor on.
+    #[inline(never)]
     pub(crate) fn delete_character(&mut self, n: u16)
         ensures { self.new ≡ delete_character n self.old }
     {
@@ -55,6 +59,7 @@ impl Display {
     }
 
     /// ECH: `n` cells, at least one, from the cursor on become blank, not past the last column.
+    #[inline(never)]
     pub(crate) fn erase_character(&mut self, n: u16)
         requires { 1 ≤ n }
         ensures { self.new ≡ erase_character n self.old }
@@ -66,6 +71,7 @@ impl Display {
     }
 
     /// ED, and DECSED which is selective: 0 from the cursor on, 1 up to the cursor, 2 the whole screen.
+    #[inline(never)]
     pub(crate) fn erase_in_display(&mut self, selective: bool, p: u16)
         ensures { self.new ≡ erase_in_display selective p self.old }
     {
@@ -89,6 +95,7 @@ impl Display {
     }
 
     /// EL, and DECSEL which is selective: 0 from the cursor on, 1 up to the cursor, 2 the whole line.
+    #[inline(never)]
     pub(crate) fn erase_in_line(&mut self, selective: bool, p: u16)
         ensures { self.new ≡ erase_in_line selective p self.old }
     {

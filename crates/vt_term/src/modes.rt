@@ -8,6 +8,7 @@ use crate::state::{Cursor, Margins};
 
 impl Display {
     /// SM and RM of ANSI modes: each parameter in order.
+    #[inline(never)]
     pub(crate) fn change_ansi_modes(&mut self, params: &[u16], on: bool)
         ensures { self.new ≡ change_modes ansi_modes on params.now self.old }
     {

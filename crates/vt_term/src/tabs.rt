@@ -22,6 +22,7 @@ impl Display {
     }
 
     /// TBC: 0 clears the stop at the cursor's column, 3 all stops.
+    #[inline(never)]
     pub(crate) fn clear_tabs(&mut self, p: u16)
         ensures { self.new ≡ clear_tabs p self.old }
     {

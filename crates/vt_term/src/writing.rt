@@ -140,13 +140,15 @@ impl Display {
         }
     }
 
-    /// Whether no wrap is pending, and a run ends before the last column.
+    /// Returns whether a run ends before the last column. Then no wrap is pending, since the flag is set in that column alone.
     #[inline(always)]
     fn fits(&self, run: &[u8]) -> bool
+        requires some { 1 ≤ length run.now }
         ensures { OnTrue result ((self.now.cursor.wrap ≡ false)
             × (self.now.cursor.col + length run.now ≤ self.now.grid.width)) }
     {
-        !self.cursor.wrap && self.cursor.col + run.len() <= self.screen.width()
+        self.soundness();
+        self.cursor.col + run.len() <= self.screen.width()
     }
 
     /// How many cells there are from the cursor to the end of its row.
@@ -194,10 +196,11 @@ impl Display {
         requires room { self.old.cursor.col + n ≤ self.old.grid.width + 1 }
         ensures { self.new ≡ record self.old { cursor = advanced_by n self.old } }
     {
+        self.soundness();
         let Cursor { row, col, .. } = self.cursor;
         let width = self.screen.width();
         if col + n <= width {
-            self.cursor = Cursor::at(row, col + n);
+            self.cursor.col = col + n;
         } else {
             self.cursor = Cursor {
                 row,

@@ -1,5 +1,5 @@
 -- Where the rows of the screen are kept. No public clause speaks of it.
-use Rattle.std.specs.Prelude.{ℕ, true, ◌+◌, ◌-◌, ◌*◌, List, slice_index, slice_index_or}
+use Rattle.std.specs.Prelude.{ℕ, true, ◌+◌, ◌-◌, ◌*◌, List, map, slice_index, slice_index_or}
 use Rattle.std.specs.List.{range_with_len}
 use Rattle.std.specs.List.Sorted.{IsPermutation}
 use Rattle.vt_screen.specs.declared.cell.Cell.{Cell}
@@ -14,13 +14,17 @@ stride = columns true
 abbrev pub room : ℕ
 room = last_row * stride
 
--- each row number once
+-- where rows may begin
+abbrev pub starts : List ℕ
+starts = map (λ number. number * stride) (range_with_len 0 last_row)
+
+-- each of these once
 abbrev pub IsOrder : List ℕ → Type 0
-IsOrder order = IsPermutation (range_with_len 0 last_row) order
+IsOrder order = IsPermutation starts order
 
 -- where the cells of a row begin
 abbrev pub start_of : List ℕ → ℕ → ℕ
-start_of order row = slice_index order (row - 1) * stride
+start_of order row = slice_index order (row - 1)
 
 -- the cell that is kept for a place
 abbrev pub stored : List ℕ → List Cell → ℕ → ℕ → Cell

@@ -12,10 +12,10 @@ pub const ROWS: usize = 24;
 /// The most columns of the screen: those of a wide one. Two rows are kept so many cells apart, whatever the width.
 pub const COLUMNS: usize = 132;
 
-/// The number under which each row of the screen is kept. Scrolling moves these numbers, and no cell.
+/// The place where the cells of each row of the screen begin. Scrolling moves these starts, and no cell.
 #[derive(Debug, Drop)]
 pub struct RowOrder {
-    rows: [u8; ROWS],
+    rows: [u16; ROWS],
 }
 
 impl Model for RowOrder {
@@ -30,14 +30,14 @@ impl Model for RowOrder {
 }
 
 impl RowOrder {
-    /// Each row under its own number.
+    /// The rows one after another.
     pub fn new() -> RowOrder
         ensures { IsOrder result }
     {
         RowOrder {
             rows: [
-                0, 1, 2, 3, 4, 5, 6, 7, 8, 9, 10, 11, 12, 13, 14, 15, 16, 17, 18, 19, 20, 21, 22,
-                23,
+                0, 132, 264, 396, 528, 660, 792, 924, 1056, 1188, 1320, 1452, 1584, 1716, 1848,
+                1980, 2112, 2244, 2376, 2508, 2640, 2772, 2904, 3036,
             ],
         }
     }
@@ -49,7 +49,7 @@ impl RowOrder {
         ensures bound { result + stride ≤ room }
         ensures order { IsOrder self.now }
     {
-        self.rows[row - 1] as usize * COLUMNS
+        self.rows[row - 1] as usize
     }
 
     /// Moves the rows `top` to `bottom` up by `n`; the first of them become the last.
@@ -96,9 +96,9 @@ impl RowOrder {
     }
 }
 
-/// The first number goes behind the others.
+/// Moves the first start behind the others.
 #[inline(always)]
-fn move_first_behind(rows: &mut [u8])
+fn move_first_behind(rows: &mut [u16])
     requires { 1 ≤ length rows.old }
     ensures moved { (k : ℕ) → k + 1 < length rows.old → slice_index rows.new k ≡ slice_index rows.old (k + 1) }
     ensures last { slice_index rows.new (length rows.old - 1) ≡ slice_index rows.old 0 }
@@ -110,8 +110,8 @@ fn move_first_behind(rows: &mut [u8])
     rows[last] = first;
 }
 
-/// The last number goes before the others.
-fn move_last_before(rows: &mut [u8])
+/// Moves the last start before the others.
+fn move_last_before(rows: &mut [u16])
     requires { 1 ≤ length rows.old }
     ensures moved { (k : ℕ) → 1 ≤ k → k < length rows.old → slice_index rows.new k ≡ slice_index rows.old (k - 1) }
     ensures first { slice_index rows.new 0 ≡ slice_index rows.old (length rows.old - 1) }

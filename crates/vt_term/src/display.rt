@@ -9,7 +9,7 @@ use std::alloc::{AllocError, Global};
 use std::marker::Model;
 use vt_glyph::Sets;
 pub use vt_screen::ROWS;
-use vt_screen::{Brush, COLUMNS, Screen};
+use vt_screen::{COLUMNS, Cell, Screen};
 
 /// The columns that have a tab stop or none, whatever the width.
 pub const STOPS: usize = COLUMNS;
@@ -19,7 +19,8 @@ pub const STOPS: usize = COLUMNS;
 pub(crate) struct Display {
     pub(crate) screen: Screen,
     pub(crate) cursor: Cursor,
-    pub(crate) brush: Brush,
+    /// What glyphs are written with, as the cell that a space becomes. (Speed: a run copies it as one word.)
+    pub(crate) pen: Cell,
     pub(crate) sets: Sets,
     pub(crate) margins: Margins,
     /// Place c - 1 for column c.
@@ -31,13 +32,14 @@ pub(crate) struct Display {
 impl Model for Display {
     ghost use Rattle.vt_term.specs.State.{Display as TheDisplay};
     ghost use Rattle.vt_term.specs.Sound.{IsSoundDisplay};
+    ghost use Rattle.vt_screen.specs.Cells.{brush_of};
 
     ghost Value = { TheDisplay };
 
     ghost view = { λ d. record {
       grid = d.screen;
       cursor = d.cursor;
-      brush = d.brush;
+      brush = brush_of d.pen;
       sets = d.sets;
       margins = d.margins;
       stops = d.stops;
@@ -48,7 +50,7 @@ impl Model for Display {
     ghost invariant = { λ d. IsSoundDisplay (record {
       grid = d.screen;
       cursor = d.cursor;
-      brush = d.brush;
+      brush = brush_of d.pen;
       sets = d.sets;
       margins =
           d.margins;
@@ -84,7 +86,7 @@ impl Display {
         Ok(Display {
             screen: Screen::new(alloc)?,
             cursor: Cursor::at(1, 1),
-            brush: Brush::plain(),
+            pen: Cell::blank(),
             sets: Sets::power_up(),
             margins: Margins::full(),
             stops: stops_at_power_up(),
@@ -105,7 +107,7 @@ impl Display {
         ensures { IsTrue result ↔ (self.now ≡ other.now) }
     {
         self.cursor == other.cursor
-            && same_brush(&self.brush, &other.brush)
+            && same_brush(&self.pen.brush(), &other.pen.brush())
             && self.sets == other.sets
             && self.margins == other.margins
             && same_stops(&self.stops, &other.stops)

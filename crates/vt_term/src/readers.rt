@@ -45,7 +45,7 @@ impl Terminal {
     pub fn brush(&self) -> Brush
         ensures { result ≡ self.now.display.brush }
     {
-        self.display.brush
+        self.display.pen.brush()
     }
 
     /// The graphic sets, designated and invoked.

@@ -43,15 +43,15 @@ impl Display {
         ensures { self.new ≡ with_rendition (with_attribute p self.old.brush.rendition) self.old }
     {
         match p {
-            0 => self.brush.rendition = Rendition::plain(),
-            1 => self.brush.rendition.bold = true,
-            4 => self.brush.rendition.underline = true,
-            5 => self.brush.rendition.blink = true,
-            7 => self.brush.rendition.reverse = true,
-            22 => self.brush.rendition.bold = false,
-            24 => self.brush.rendition.underline = false,
-            25 => self.brush.rendition.blink = false,
-            27 => self.brush.rendition.reverse = false,
+            0 => self.pen.rendition = Rendition::plain(),
+            1 => self.pen.rendition.bold = true,
+            4 => self.pen.rendition.underline = true,
+            5 => self.pen.rendition.blink = true,
+            7 => self.pen.rendition.reverse = true,
+            22 => self.pen.rendition.bold = false,
+            24 => self.pen.rendition.underline = false,
+            25 => self.pen.rendition.blink = false,
+            27 => self.pen.rendition.reverse = false,
             _ => {}
         }
     }
@@ -61,8 +61,8 @@ impl Display {
         ensures { self.new ≡ select_character_attribute p self.old }
     {
         match p {
-            0 | 2 => self.brush.protected = false,
-            1 => self.brush.protected = true,
+            0 | 2 => self.pen.protected = false,
+            1 => self.pen.protected = true,
             _ => {}
         }
     }

@@ -24,7 +24,7 @@ impl Display {
     {
         self.screen.set_width(false);
         self.cursor = Cursor::at(1, 1);
-        self.brush = Brush::plain();
+        self.pen = Cell::blank();
         self.sets = Sets::power_up();
         self.margins = Margins::full();
         self.stops = stops_at_power_up();
@@ -37,7 +37,7 @@ impl Display {
         ensures { self.new ≡ soft_reset self.old }
     {
         self.cursor.wrap = false;
-        self.brush = Brush::plain();
+        self.pen = Cell::blank();
         self.sets = Sets::power_up();
         self.margins = Margins::full();
         self.modes.dectcem = true;

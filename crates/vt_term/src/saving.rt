@@ -4,6 +4,8 @@ ghost use Rattle.vt_term.specs.Saving.{save_cursor, restore_cursor};
 
 use crate::display::Display;
 use crate::state::{Cursor, Saved};
+use vt_glyph::Glyph;
+use vt_screen::Cell;
 
 impl Display {
     /// DECSC.
@@ -14,7 +16,7 @@ impl Display {
             row: self.cursor.row,
             col: self.cursor.col,
             wrap: self.cursor.wrap,
-            brush: self.brush,
+            brush: self.pen.brush(),
             g: self.sets.designations(),
             gl: self.sets.left(),
             gr: self.sets.right(),
@@ -37,7 +39,7 @@ impl Display {
             col: saved.col,
             wrap: saved.wrap && self.modes.decawm,
         };
-        self.brush = saved.brush;
+        self.pen = Cell::new(Glyph::blank(), saved.brush);
         self.sets.restore(saved.g, saved.gl, saved.gr);
         self.modes.decom = saved.origin;
     }

@@ -51,7 +51,7 @@ impl Display {
         ensures { self.new ≡ put_glyph glyph self.old }
     {
         let Cursor { row, col, .. } = self.cursor;
-        let cell = Cell::new(glyph, self.brush);
+        let cell = Cell::new(glyph, self.pen.brush());
         if self.modes.irm {
             self.screen.put_inserting(row, col, cell);
         } else {
@@ -169,10 +169,9 @@ impl Display {
         ensures { self.new ≡ with_run run.now self.old }
     {
         let Cursor { row, col, .. } = self.cursor;
-        let like = Cell::new(Glyph::blank(), self.brush);
         // The cursor goes first: behind the cells the compiler would read it and the width anew.
         self.advance(run.len());
-        self.screen.put_run(row, col, run, like);
+        self.screen.put_run(row, col, run, self.pen);
     }
 
     /// Writes a run of graphic bytes that ends in the cursor's row.
@@ -184,9 +183,8 @@ impl Display {
         ensures { self.new ≡ with_run (map (glyph_in_use table.now) run.now) self.old }
     {
         let Cursor { row, col, .. } = self.cursor;
-        let like = Cell::new(Glyph::blank(), self.brush);
         self.advance(run.len());
-        self.screen.put_graphics(row, col, run, table, like);
+        self.screen.put_graphics(row, col, run, table, self.pen);
     }
 
     /// The cursor goes behind `n` glyphs that were written in its row.

@@ -6,7 +6,7 @@ invariant_of-result c =
     rw (
       c.in_ok-new.ensures,
       c.at.ensures,
-      c.plain.ensures,
+      c.blank.ensures,
       c.power_up.ensures,
       c.full.ensures,
       c.stops_at_power_up.ensures,

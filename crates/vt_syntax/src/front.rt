@@ -87,7 +87,7 @@ impl Front {
 
 /// Reads the first values of a control sequence without a marker, whose introducer is `ESC [`, and the byte after them.
 ///
-/// Returns `None` if none stands there, if fewer than ten bytes are left, or if a value has more than three digits.
+/// Returns `None` if none stands there, if fewer than ten bytes are left, and for three values that aren't those of SGR.
 #[inline(always)]
 pub fn front_values(piece: &[u8]) -> Option<FrontValues>
     ensures front { IfSome result (λ f. IsFinal f.last
@@ -112,26 +112,30 @@ pub fn front_values(piece: &[u8]) -> Option<FrontValues>
     }
     let (second, end) = read_value(piece, end + 1);
     let last = piece[end];
-    if last == b';' && piece.len() >= 14 {
-        let (third, end) = read_value(piece, end + 1);
-        if piece[end] == b'm' {
-            return Some(FrontValues {
-                bytes: end + 1,
-                count: 3,
-                first,
-                second,
-                third,
-                last: piece[end],
-            });
-        }
+    if last != b';' {
+        return Some(FrontValues {
+            bytes: end + 1,
+            count: 2,
+            first,
+            second,
+            third: 0,
+            last,
+        });
+    }
+    if piece.len() < 14 {
+        return None;
+    }
+    let (third, end) = read_value(piece, end + 1);
+    if piece[end] != b'm' {
+        return None;
     }
     Some(FrontValues {
         bytes: end + 1,
-        count: 2,
+        count: 3,
         first,
         second,
-        third: 0,
-        last,
+        third,
+        last: piece[end],
     })
 }
 

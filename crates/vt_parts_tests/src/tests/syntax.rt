@@ -4,7 +4,7 @@ use arrayvec::ArrayVec;
 use std::alloc::Global;
 use std::test::Fail;
 use vt_syntax::{
-    Event, EventKind, Held, Inters, Parser, Phase, Taken, Values, graphic_run, is_in_areas,
+    Event, EventKind, Held, Inters, Parser, Phase, Taken, Values, Front, front_values, graphic_run, is_final,
     plain_run,
 };
 
@@ -342,5 +342,44 @@ fn graphic_runs(rt: HostRuntime) {
         is_graphic_for(b"\x20\x7E\xA1\xFE\xFF", 4),
     );
     holds(&rt, "pounds", is_graphic_for(&pounds, 30));
-    holds(&rt, "areas", is_in_areas(0xA1) && !is_in_areas(0x9B));
+}
+
+/// Whether a piece begins so.
+fn begins(piece: &[u8], front: Front) -> bool {
+    Front::of(piece) == front
+}
+
+#[test]
+fn fronts(rt: HostRuntime) {
+    holds(&rt, "ESC", begins(b"\x1B[H", Front::Escape));
+    holds(&rt, "CSI", begins(b"\x9BH", Front::Introducer));
+    holds(&rt, "space", begins(b" ", Front::Plain));
+    holds(&rt, "right", begins(b"\xFE", Front::Right));
+    holds(&rt, "empty", begins(b"\xA0", Front::Empty));
+    holds(&rt, "CR", begins(b"\r\n", Front::CarriageReturn));
+    holds(&rt, "IND", begins(b"\x84", Front::Control(0x84)));
+    holds(&rt, "DEL", begins(b"\x7F", Front::Other));
+}
+
+/// Whether the values at the front of a piece are so many, these two first, and this byte is after them.
+fn has_values(piece: &[u8], count: usize, first: u16, second: u16, last: u8) -> bool {
+    match front_values(piece) {
+        Some(f) => {
+            f.count == count && f.first == first && f.second == second && f.last == last
+        }
+        None => false,
+    }
+}
+
+#[test]
+fn values_at_the_front(rt: HostRuntime) {
+    holds(&rt, "one", has_values(b"\x1B[12Habcdef", 1, 12, 0, b'H'));
+    holds(&rt, "two", has_values(b"\x1B[;132Habcdef", 2, 0, 132, b'H'));
+    holds(
+        &rt,
+        "three",
+        has_values(b"\x1B[0;1;7mabcdefgh", 3, 0, 1, b'm'),
+    );
+    holds(&rt, "few bytes", front_values(b"\x1B[12Ha").is_none());
+    holds(&rt, "final", is_final(b'@') && !is_final(0x7F));
 }

@@ -13,8 +13,8 @@ returns-then-last-ne59-clause-front c = λ final.
     front_control c.args.piece.now (c.read_value-first.result.0 ∷ []) c.read_value-first.result.1 one (omega arith)
     final
 
-pub returns-then-piece-end-eq109-clause-front : goal.returns-then-piece-end-eq109-clause-front
-returns-then-piece-end-eq109-clause-front c = λ final.
+pub returns-clause-front : goal.returns-clause-front
+returns-clause-front c = λ final.
     let introduced = steps_introducer c.args.piece.now (omega arith) c.if-not-is_introducer.ensures.introducer.0
     c.if-not-is_introducer.ensures.introducer.1 in
     let one = c.read_value-first.ensures.reads None [] (read_none c.args.piece.now 2 None (omega arith) introduced) in
@@ -23,13 +23,13 @@ returns-then-piece-end-eq109-clause-front c = λ final.
     c.if-last-ne59.false (omega arith)) in
     let three = c.read_value-third.ensures.reads None (c.read_value-first.result.0 ∷ c.read_value-second.result.0 ∷ [])
     (read_separator c.args.piece.now c.read_value-second.result.1 None (c.read_value-first.result.0 ∷ [])
-    c.read_value-second.result.0 two (omega arith) c.if-last-eq59.true (omega arith)) in
+    c.read_value-second.result.0 two (omega arith) c.if-last-ne59-2.false (omega arith)) in
     front_control c.args.piece.now
     (c.read_value-first.result.0 ∷ c.read_value-second.result.0 ∷ c.read_value-third.result.0 ∷ [])
     c.read_value-third.result.1 three (omega arith) final
 
-pub returns-clause-front : goal.returns-clause-front
-returns-clause-front c = λ final.
+pub returns-then-last-ne59-2-clause-front : goal.returns-then-last-ne59-2-clause-front
+returns-then-last-ne59-2-clause-front c = λ final.
     let introduced = steps_introducer c.args.piece.now (omega arith) c.if-not-is_introducer.ensures.introducer.0
     c.if-not-is_introducer.ensures.introducer.1 in
     let one = c.read_value-first.ensures.reads None [] (read_none c.args.piece.now 2 None (omega arith) introduced) in

@@ -1,5 +1,5 @@
 /* keep: keeps programs running on terminals of their own.
- *   ./build-c && gcc -O2 -Iinclude -o keep examples/keep/[a-z]*.c out/libvt220.a */
+ *   ./build-c && gcc -O2 -Iinclude -o out/keep keep/*.c out/libvt220.a */
 #include "keep.h"
 #include <errno.h>
 #include <poll.h>

@@ -1,11 +1,15 @@
-/* The folder of the sockets. Nobody but its user may get in, so it must be his own, with mode 0700, and no link; whoever could
- * write to it could put a socket of his own there. All names are then used relative to the folder that was looked at: nothing
- * can be put in its place, and its path may have any length. */
+/* The directory of the sockets.
+ *
+ * Only its user may get in: whoever could write to it could put a socket there. So it must belong to the user, have mode 0700
+ * and be no link. In it is one directory for each boot of each machine, named by the kernel's boot id, and in that the sockets.
+ * So machines that share a file system never see each other's sockets, and a socket that nobody listens to is surely the one
+ * of a keeper of this machine that was killed. All names are used relative to the directory that was checked: nothing can be
+ * put in its place, and its path may have any length. */
 #include "keep.h"
-#include <dirent.h>
 #include <errno.h>
 #include <fcntl.h>
 #include <limits.h>
+#include <stdarg.h>
 #include <stdio.h>
 #include <stdlib.h>
 #include <string.h>
@@ -13,54 +17,117 @@
 #include <sys/socket.h>
 #include <sys/stat.h>
 #include <sys/un.h>
+#include <time.h>
 #include <unistd.h>
 
-enum { NAME_LENGTH = 64 };
+enum { PATIENCE = 2000, QUEUE = 128, BOOT_LIMIT = 64 };
 
-int open_folder(void) {
-    char path[PATH_MAX];
+static bool refuse(char *why, const char *words, ...) {
+    va_list list;
+    va_start(list, words);
+    vsnprintf(why, WHY_LIMIT, words, list);
+    va_end(list);
+    return false;
+}
+
+/* Opens a directory of this user's own; makes it if it isn't there, whatever the umask is. */
+static bool open_own(int at, const char *path, int *file, char *why) {
     struct stat it;
-    const char *named = getenv("KEEP_DIR"), *home = getenv("HOME");
-    bool is_named = named != NULL && *named != 0;
-    if (!is_named && (home == NULL || *home == 0)) fail(1, "neither KEEP_DIR nor HOME is set");
-    int len = is_named ? snprintf(path, sizeof path, "%s", named) : snprintf(path, sizeof path, "%s/.keep", home);
-    if (len < 0 || (size_t)len >= sizeof path) fail(1, "the folder's name is too long");
-    while (len > 1 && path[len - 1] == '/') path[--len] = 0; /* with it, O_NOFOLLOW would follow a link */
-    if (mkdir(path, 0700) != 0 && errno != EEXIST) fail(1, "%s: %s", path, strerror(errno));
-    int folder = open(path, O_RDONLY | O_DIRECTORY | O_NOFOLLOW | O_CLOEXEC);
-    if (folder < 0 || fstat(folder, &it) != 0) {
-        fail(1, "%s: %s", path, errno == ELOOP || errno == ENOTDIR ? "is no folder of its own, but a link or a file" : strerror(errno));
+    mode_t mask = umask(0);
+    int error = mkdirat(at, path, 0700) == 0 ? 0 : errno;
+    umask(mask);
+    if (error != 0 && error != EEXIST) return refuse(why, "%s: %s", path, strerror(error));
+    *file = openat(at, path, O_RDONLY | O_DIRECTORY | O_NOFOLLOW | O_CLOEXEC);
+    if (*file < 0) return refuse(why, "%s: %s", path, errno == ELOOP || errno == ENOTDIR ? "not a directory" : strerror(errno));
+    bool is_fine = false;
+    if (fstat(*file, &it) != 0) {
+        refuse(why, "%s: %s", path, strerror(errno));
+    } else if (it.st_uid != geteuid()) {
+        refuse(why, "%s belongs to another user; choose another directory with KEEP_DIR", path);
+    } else if ((it.st_mode & 0777) != 0700) {
+        refuse(why, "%s has mode %03o; it must have mode 700", path, it.st_mode & 0777u);
+    } else {
+        is_fine = true;
     }
-    if (it.st_uid != geteuid()) fail(1, "%s belongs to another user", path);
-    if ((it.st_mode & 0777) != 0700) fail(1, "%s has mode %03o; it must have mode 700", path, it.st_mode & 0777u);
+    if (!is_fine) close(*file);
+    return is_fine;
+}
+
+/* Reads the boot id, which is random and new each time that a kernel starts. */
+static bool read_boot(char *boot, char *why) {
+    static const char file[] = "/proc/sys/kernel/random/boot_id", letters[] = "0123456789abcdef-";
+    int from = open(file, O_RDONLY | O_CLOEXEC);
+    ssize_t len = from < 0 ? -1 : read(from, boot, BOOT_LIMIT - 1);
+    if (from >= 0) close(from);
+    if (len < 0) return refuse(why, "%s: %s", file, strerror(errno));
+    boot[len] = 0;
+    boot[strcspn(boot, "\n")] = 0;
+    size_t used = strspn(boot, letters);
+    return used >= 32 && boot[used] == 0 ? true : refuse(why, "%s is no boot id", file);
+}
+
+bool try_folder(const char *path, struct folder *folder, char *why) {
+    char boot[BOOT_LIMIT], link[64], whole[PATH_MAX];
+    int above;
+    if (!read_boot(boot, why) || !open_own(AT_FDCWD, path, &above, why)) return false;
+    snprintf(link, sizeof link, "/proc/self/fd/%d", above);
+    ssize_t len = readlink(link, whole, sizeof whole);
+    bool is_fine = len > 0 && (size_t)len < sizeof whole;
+    if (!is_fine) refuse(why, "%s: its path can't be read from /proc", path);
+    folder->path = is_fine ? strndup(whole, (size_t)len) : NULL;
+    is_fine = is_fine && open_own(above, boot, &folder->file, why);
+    if (!is_fine) free(folder->path);
+    close(above);
+    return is_fine;
+}
+
+struct folder open_folder(void) {
+    char path[PATH_MAX], why[WHY_LIMIT];
+    struct folder folder;
+    const char *named = getenv("KEEP_DIR");
+    bool is_named = named != NULL && *named != 0;
+    int len = is_named ? snprintf(path, sizeof path, "%s", named) : snprintf(path, sizeof path, "/tmp/keep-%u", geteuid());
+    if (len < 0 || (size_t)len >= sizeof path) fail(1, "the path of the directory is too long");
+    while (len > 1 && path[len - 1] == '/') path[--len] = 0; /* with it, O_NOFOLLOW would follow a link */
+    if (!try_folder(path, &folder, why)) fail(1, "%s", why);
     return folder;
 }
 
-static bool is_name(const char *name) {
-    static const char letters[] = "abcdefghijklmnopqrstuvwxyzABCDEFGHIJKLMNOPQRSTUVWXYZ0123456789._-";
-    size_t len = strlen(name);
-    return len > 0 && len <= NAME_LENGTH && strspn(name, letters) == len && *name != '.' && *name != '-';
+/* --- the lock --- */
+
+bool lock_folder(int folder) {
+    struct timespec pause = {0, 10000000};
+    for (long long end = now() + PATIENCE; flock(folder, LOCK_EX | LOCK_NB) != 0;) {
+        if (now() > end) return false;
+        nanosleep(&pause, NULL);
+    }
+    return true;
 }
 
-/* Binds or connects, from inside the folder; the working folder is then as before. */
-static int inside(int folder, int (*call)(int, const struct sockaddr *, socklen_t), int socket, const char *name) {
+void unlock_folder(int folder) {
+    flock(folder, LOCK_UN);
+}
+
+/* --- names and sockets --- */
+
+bool is_name(const char *name) {
+    static const char letters[] = "abcdefghijklmnopqrstuvwxyzABCDEFGHIJKLMNOPQRSTUVWXYZ0123456789._-";
+    size_t len = strlen(name);
+    return len > 0 && len <= NAME_LIMIT && strspn(name, letters) == len && *name != '.' && *name != '-';
+}
+
+/* The address of a name in an open directory, which fits whatever the path of the directory is. */
+static struct sockaddr_un address_of(int folder, const char *name) {
     struct sockaddr_un address = {.sun_family = AF_UNIX};
-    if (!is_name(name)) fail(2, "a name is of 1 to %d letters, digits and ._-, and begins with no dot and no dash", NAME_LENGTH);
-    memcpy(address.sun_path, name, strlen(name));
-    int back = open(".", O_PATH | O_DIRECTORY | O_CLOEXEC);
-    if (back < 0 || fchdir(folder) != 0) fail(1, "the working folder: %s", strerror(errno));
-    int done = call(socket, (const struct sockaddr *)&address, sizeof address), why = errno;
-    if (fchdir(back) != 0) fail(1, "the working folder: %s", strerror(errno));
-    close(back);
-    errno = why;
-    return done;
+    snprintf(address.sun_path, sizeof address.sun_path, "/proc/self/fd/%d/%.*s", folder, NAME_LIMIT, name);
+    return address;
 }
 
 /* A socket that waits at most two seconds for a keeper, which may be stopped. */
 static int new_socket(void) {
-    struct timeval patience = {2, 0};
+    struct timeval patience = {PATIENCE / 1000, 0};
     int made = socket(AF_UNIX, SOCK_STREAM | SOCK_CLOEXEC, 0);
-    if (made < 0 || setsockopt(made, SOL_SOCKET, SO_SNDTIMEO, &patience, sizeof patience) != 0) fail(1, "socket: %s", strerror(errno));
+    if (made >= 0) setsockopt(made, SOL_SOCKET, SO_SNDTIMEO, &patience, sizeof patience);
     return made;
 }
 
@@ -71,52 +138,74 @@ bool is_same_user(int socket) {
 }
 
 int connect_to(int folder, const char *name) {
-    int made = new_socket();
-    if (inside(folder, connect, made, name) == 0) {
-        if (is_same_user(made)) return made;
-        fail(1, "%s is another user's", name);
+    struct sockaddr_un address = address_of(folder, name);
+    struct stat it;
+    int made = -1, error;
+    if (fstatat(folder, name, &it, AT_SYMLINK_NOFOLLOW) != 0) return -1;
+    if (!S_ISSOCK(it.st_mode)) {
+        errno = ENOTSOCK;
+        return -1;
     }
-    int why = errno;
-    close(made);
-    if (why != ENOENT && why != ECONNREFUSED) fail(1, "%s: %s", name, strerror(why));
-    errno = why;
+    made = new_socket();
+    if (made >= 0 && connect(made, (const struct sockaddr *)&address, sizeof address) == 0) {
+        if (is_same_user(made)) return made;
+        errno = EPERM;
+    }
+    error = errno;
+    if (made >= 0) close(made);
+    errno = error;
     return -1;
 }
 
-/* The folder is locked from the look at a name until one listens there, or a socket that nobody listens to is removed. */
-int open_listener(int folder, const char *name) {
-    flock(folder, LOCK_EX);
-    int other = connect_to(folder, name), made = new_socket();
-    if (other >= 0) fail(1, "there is a session %s already", name);
-    unlinkat(folder, name, 0); /* what a keeper left that was killed */
-    mode_t mask = umask(0077);
-    if (inside(folder, bind, made, name) != 0 || listen(made, 16) != 0) fail(1, "%s: %s", name, strerror(errno));
-    umask(mask);
-    flock(folder, LOCK_UN);
-    return made;
+/* Whether a keeper listens to a socket, even one that is stopped and whose queue is full. */
+bool is_listening(int folder, const char *name) {
+    struct sockaddr_un address = address_of(folder, name);
+    int made = socket(AF_UNIX, SOCK_STREAM | SOCK_CLOEXEC | SOCK_NONBLOCK, 0);
+    bool is_there = made < 0 || connect(made, (const struct sockaddr *)&address, sizeof address) == 0 || errno != ECONNREFUSED;
+    if (made >= 0) close(made);
+    return is_there;
 }
 
-void remove_socket(int folder, const char *name) {
-    unlinkat(folder, name, 0);
+/* Whether a name can be used. A socket of this user that nobody listens to is removed; nothing else ever is. */
+bool is_free(int folder, const char *name, char *why) {
+    struct stat it;
+    if (fstatat(folder, name, &it, AT_SYMLINK_NOFOLLOW) != 0) return errno == ENOENT ? true : refuse(why, "%s: %s", name, strerror(errno));
+    if (!S_ISSOCK(it.st_mode) || it.st_uid != geteuid()) return refuse(why, "%s: a file that isn't a session has this name", name);
+    if (is_listening(folder, name)) return refuse(why, "session %s exists already", name);
+    return unlinkat(folder, name, 0) == 0 ? true : refuse(why, "%s: %s", name, strerror(errno));
 }
 
-static int is_shown(const struct dirent *it) {
-    return is_name(it->d_name) && (it->d_type == DT_SOCK || it->d_type == DT_UNKNOWN);
-}
-
-void list_sessions(int folder, void (*show)(int socket, const char *name)) {
-    struct dirent **found;
-    int count = scandirat(folder, ".", &found, is_shown, alphasort);
-    if (count < 0) fail(1, "the folder: %s", strerror(errno));
-    flock(folder, LOCK_EX);
-    for (int i = 0; i < count; free(found[i++])) {
-        int socket = connect_to(folder, found[i]->d_name);
-        if (socket >= 0) {
-            show(socket, found[i]->d_name);
-        } else if (errno == ECONNREFUSED) {
-            remove_socket(folder, found[i]->d_name);
-        }
+/* The directory is locked from the look at a name until one listens there. */
+int open_listener(int folder, const char *name, struct identity *made, char *why) {
+    struct sockaddr_un address = address_of(folder, name);
+    struct stat it;
+    if (!lock_folder(folder)) {
+        refuse(why, "another keep holds the lock of the directory");
+        return -1;
     }
-    flock(folder, LOCK_UN);
-    free(found);
+    int listener = is_free(folder, name, why) ? new_socket() : -2;
+    mode_t mask = umask(0077);
+    bool is_bound = listener >= 0 && bind(listener, (const struct sockaddr *)&address, sizeof address) == 0;
+    bool is_fine = is_bound && listen(listener, QUEUE) == 0 && fstatat(folder, name, &it, AT_SYMLINK_NOFOLLOW) == 0;
+    if (!is_fine && listener != -2) refuse(why, "%s: %s", name, strerror(errno));
+    umask(mask);
+    unlock_folder(folder);
+    if (is_fine) {
+        *made = (struct identity){it.st_dev, it.st_ino};
+        fcntl(listener, F_SETFL, O_NONBLOCK);
+        return listener;
+    }
+    if (listener >= 0) close(listener);
+    return -1;
+}
+
+bool is_own(int folder, const char *name, const struct identity *made) {
+    struct stat it;
+    bool is_there = fstatat(folder, name, &it, AT_SYMLINK_NOFOLLOW) == 0 && S_ISSOCK(it.st_mode);
+    return is_there && it.st_dev == made->device && it.st_ino == made->number;
+}
+
+/* Its keeper calls this while it still listens, so that no other keeper can have taken the name in between. */
+void remove_own(int folder, const char *name, const struct identity *made) {
+    if (is_own(folder, name, made)) unlinkat(folder, name, 0);
 }

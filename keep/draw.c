@@ -131,7 +131,7 @@ static void set_hint(size_t width, const vt220_cursor_place *cursor) {
     size_t bottom = outer.top + outer.rows < VT220_ROWS ? outer.top + outer.rows : VT220_ROWS;
     size_t right = outer.left + outer.cols < width ? outer.left + outer.cols : width;
     int len = snprintf(outer.hint, sizeof outer.hint, "[%zu-%zu/%d %zu-%zu/%zu]", outer.top + 1, bottom, VT220_ROWS, outer.left + 1, right, width);
-    if (outer.rows < 2 || outer.cols < 2 * (size_t)len) outer.hint[0] = 0;
+    if (outer.rows < 2 || outer.cols < (size_t)len + 2) outer.hint[0] = 0;
     outer.hint_row = cursor->row == outer.top + 1 ? outer.rows : 1;
     outer.hint_col = outer.cols - (size_t)len + 1;
 }

@@ -79,6 +79,8 @@ static int do_new(char **words, const struct options *options) {
     struct folder folder = open_folder();
     struct beginning beginning = {words[0], options->locale, words + 1};
     check_name(words[0]);
+    if (strcmp(words[1], "--") == 0) beginning.command++;
+    if (*beginning.command == NULL) fail(2, "new: an argument is missing; keep --help shows which");
     if (is_there(&folder, words[0], options->attaches)) {
         if (!options->attaches) fail(1, "session %s exists already", words[0]);
     } else {

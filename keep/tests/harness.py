@@ -237,7 +237,7 @@ class Raw:
 class Terminal:
     """An outer terminal of its own, whose bytes can be looked at: a command runs on it."""
 
-    def __init__(self, *words, rows=24, columns=80, **environment):
+    def __init__(self, *words, rows=24, columns=80, script=None, **environment):
         self.master, line = pty.openpty()
         fcntl.ioctl(line, termios.TIOCSWINSZ, struct.pack("HHHH", rows, columns, 0, 0))
         os.set_blocking(self.master, False)
@@ -247,7 +247,8 @@ class Terminal:
             os.setsid()
             fcntl.ioctl(0, termios.TIOCSCTTY, 0)
 
-        self.process = subprocess.Popen([KEEP, *words], stdin=line, stdout=line, stderr=line, preexec_fn=own_line, env=ENVIRONMENT | environment)
+        command = [KEEP, *words] if script is None else ["sh", "-c", script]
+        self.process = subprocess.Popen(command, stdin=line, stdout=line, stderr=line, preexec_fn=own_line, env=ENVIRONMENT | environment)
         os.close(line)
 
     def read(self):

@@ -2,6 +2,7 @@
 #include "session.h"
 #include <errno.h>
 #include <limits.h>
+#include <malloc.h>
 #include <poll.h>
 #include <stdio.h>
 #include <stdlib.h>
@@ -275,6 +276,13 @@ void hear(struct client *c) {
 
 /* --- who comes and goes --- */
 
+bool has_clients(void) {
+    for (size_t i = 0; i < CLIENT_LIMIT; i++) {
+        if (the.clients[i] != NULL) return true;
+    }
+    return false;
+}
+
 /* Finds a place. If too many clients are here that aren't attached, the one that came first goes. */
 static size_t free_place(void) {
     size_t others = 0, oldest = CLIENT_LIMIT, i = 0;
@@ -320,6 +328,7 @@ void let_go(size_t i) {
     vt220_close(&c->shown);
     free(c);
     the.clients[i] = NULL;
+    if (!has_clients()) malloc_trim(0); /* a keeper may live for months after a crowd */
 }
 
 /* When something falls due for a client, or LLONG_MAX. */

@@ -98,13 +98,6 @@ static void look_for_end(void) {
     if (the.kill_at != 0) the.is_seen = true; /* who ended it knows */
 }
 
-static bool has_clients(void) {
-    for (size_t i = 0; i < CLIENT_LIMIT; i++) {
-        if (the.clients[i] != NULL) return true;
-    }
-    return false;
-}
-
 static void earlier(long long *until, long long time) {
     if (time < *until) *until = time;
 }

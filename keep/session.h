@@ -73,6 +73,7 @@ long long next_time(const struct client *c);
 void ring_clients(void);
 void tell_end(void);
 void answer_waiting(void);
+bool has_clients(void);
 
 /* program.c */
 bool run_command(char **command, const char *locale, char *why, int *status);

@@ -16,7 +16,7 @@ enum { BOLD = 1, UNDERLINE = 2, BLINK = 4, REVERSE = 8 };
 enum { PIECE = 64, PLACE_LIMIT = 48 /* the most bytes that a place takes, with its CUP and SGR */, PATIENCE = 1000 };
 
 struct place {
-    uint32_t glyph; /* its Unicode number; 0 where it isn't known what is there */
+    uint32_t glyph; /* its Unicode number; 0 if it isn't known what is there */
     uint32_t brush; /* of the four attributes above */
 };
 
@@ -24,7 +24,7 @@ static struct {
     int line;            /* where it is written, without waiting */
     size_t rows, cols;   /* of the screen that is drawn on */
     struct place *drawn; /* what is on it, row by row */
-    size_t row, col;     /* where its cursor is; row 0 where that isn't known */
+    size_t row, col;     /* where its cursor is; row 0 if that isn't known */
     uint32_t brush;      /* what its SGR is */
     bool has_cursor;     /* whether its cursor is shown */
     bool rings;          /* whether a bell is to be rung */
@@ -180,7 +180,7 @@ void draw_bell(void) {
     outer.rings = true;
 }
 
-/* Asks for the size of the outer screen. All of it is then drawn anew. False where there is no memory for it. */
+/* Asks for the size of the outer screen. All of it is then drawn anew. False if there is no memory for it. */
 bool draw_resize(void) {
     struct winsize size = {0};
     ioctl(outer.line, TIOCGWINSZ, &size);

@@ -67,16 +67,15 @@ static bool read_boot(char *boot, char *why) {
 }
 
 bool try_folder(const char *path, struct folder *folder, char *why) {
-    char boot[BOOT_LIMIT], link[64], whole[PATH_MAX];
+    char boot[BOOT_LIMIT], link[64];
     int above;
     if (!read_boot(boot, why) || !open_own(AT_FDCWD, path, &above, why)) return false;
     snprintf(link, sizeof link, "/proc/self/fd/%d", above);
-    ssize_t len = readlink(link, whole, sizeof whole);
-    bool is_fine = len > 0 && (size_t)len < sizeof whole;
-    if (!is_fine) refuse(why, "%s: its path can't be read from /proc", path);
-    folder->path = is_fine ? strndup(whole, (size_t)len) : NULL;
+    ssize_t len = readlink(link, folder->path, sizeof folder->path);
+    bool is_fine = len > 0 && (size_t)len < sizeof folder->path;
+    if (is_fine) folder->path[len] = 0;
+    else refuse(why, "%s: its path can't be read from /proc", path);
     is_fine = is_fine && open_own(above, boot, &folder->file, why);
-    if (!is_fine) free(folder->path);
     close(above);
     return is_fine;
 }

@@ -27,7 +27,7 @@ _keep() {
   fi
   case $command in
     new)
-      if [ "$index" -eq 2 ]; then mapfile -t COMPREPLY < <(compgen -c -- "$word"); else mapfile -t COMPREPLY < <(compgen -f -- "$word"); fi
+      if [ "$index" -eq 2 ]; then mapfile -t COMPREPLY < <(compgen -c -- "$word" | sort -u); else mapfile -t COMPREPLY < <(compgen -f -- "$word"); fi
       compopt -o filenames 2>/dev/null
       ;;
     send)

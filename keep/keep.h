@@ -8,6 +8,7 @@
 
 #include "protocol.h"
 #include "vt220.h"
+#include <limits.h>
 #include <stdnoreturn.h>
 #include <sys/types.h>
 
@@ -22,8 +23,8 @@ long long now(void); /* milliseconds of a clock that never jumps */
 /* --- folder.c: the directory of the sockets, and the sockets in it --- */
 
 struct folder {
-    int file;   /* the directory of this boot of this machine, in which the sockets are */
-    char *path; /* the directory that has it, from the root on */
+    int file;            /* the directory of this boot of this machine, in which the sockets are */
+    char path[PATH_MAX]; /* the directory that has it, from the root on */
 };
 
 /* Which file a socket is, so that another one of its name isn't taken for it. */

@@ -41,7 +41,6 @@ static void mend_socket(void) {
     struct folder folder;
     struct identity made;
     if (the.listener < 0 || !try_folder(the.folder.path, &folder, why)) return;
-    free(folder.path);
     int listener = -1;
     if (is_own(folder.file, the.name, &the.socket)) {
         close(folder.file);
@@ -200,13 +199,13 @@ static void set_title(char **command) {
     }
 }
 
-/* For how long the last screen of a command is kept that ended while nobody was attached: KEEP_LINGER seconds, or a day. */
+/* For how many milliseconds the last screen of a command is kept that ended while nobody was attached; -1 if KEEP_LINGER is wrong. */
 static long long linger(void) {
     const char *named = getenv("KEEP_LINGER");
     char *end;
-    long long seconds = named == NULL || *named == 0 ? LINGER : strtoll(named, &end, 10);
-    if (named != NULL && *named != 0 && (*end != 0 || seconds < 0 || seconds > 366LL * LINGER)) seconds = LINGER;
-    return seconds * 1000;
+    if (named == NULL || *named == 0) return LINGER * 1000LL;
+    long long seconds = strtoll(named, &end, 10);
+    return *end != 0 || seconds < 0 || seconds > 366LL * LINGER ? -1 : seconds * 1000;
 }
 
 struct report {
@@ -220,7 +219,9 @@ static bool begin(const struct beginning *beginning, struct report *report) {
     set_title(beginning->command);
     the.linger = linger();
     the.began = time(NULL);
-    report->status = 1;
+    report->status = the.linger < 0 ? 2 : 1;
+    if (the.linger < 0) snprintf(report->why, WHY_LIMIT, "KEEP_LINGER='%.100s': give a number of seconds, at most a year", getenv("KEEP_LINGER"));
+    if (the.linger < 0) return false;
     the.listener = open_listener(the.folder.file, the.name, &the.socket, report->why);
     if (the.listener < 0) return false;
     bool is_open = vt220_open(&the.terminal) == VT220_OK && vt220_open(&the.settled) == VT220_OK;

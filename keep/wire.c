@@ -65,7 +65,7 @@ int wire_begin(int socket, char ask, uint8_t flags, struct hello *hello, char *w
     if (!wire_receive(socket, &letter, told, sizeof told - 1, &len)) return WIRE_SILENT;
     if (letter == FRAME_FULL) return WIRE_FULL;
     if (letter == FRAME_ANSWER) {
-        snprintf(why, WHY_LIMIT, "is kept by a keep of before version 0.3.0; use that program");
+        snprintf(why, WHY_LIMIT, "is kept by an older keep, whose protocol has no version; use that program");
         return WIRE_OTHER_VERSION;
     }
     if (letter != FRAME_HELLO || len < 4) return WIRE_SILENT;

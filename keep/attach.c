@@ -42,7 +42,8 @@ static struct {
 
 static volatile sig_atomic_t has_new_size, was_continued, is_told_to_go, is_told_to_stop;
 
-static const int ending_signals[] = {SIGTERM, SIGHUP, SIGINT, SIGQUIT, SIGALRM, SIGUSR1, SIGUSR2, SIGPIPE, SIGVTALRM, SIGPROF, SIGXCPU, SIGPWR, SIGIO, SIGSTKFLT};
+static const int ending_signals[] = {SIGTERM, SIGHUP,    SIGINT,  SIGQUIT, SIGALRM, SIGUSR1, SIGUSR2,
+                                     SIGPIPE, SIGVTALRM, SIGPROF, SIGXCPU, SIGPWR,  SIGIO,   SIGSTKFLT};
 
 static void on_signal(int number) {
     if (number == SIGWINCH) has_new_size = 1;
@@ -313,7 +314,8 @@ static int show_last(const char *name) {
         if (len > 1) fwrite(text, 1, len, stdout);
         time_t when = (time_t)it.ending.time;
         struct tm parts;
-        if (localtime_r(&when, &parts) != NULL && strftime(day, sizeof day, "%Y-%m-%d %H:%M:%S", &parts) > 0) printf("keep: ended on %s\n", day);
+        bool has_day = localtime_r(&when, &parts) != NULL && strftime(day, sizeof day, "%Y-%m-%d %H:%M:%S", &parts) > 0;
+        if (has_day) printf("keep: ended on %s\n", day);
     }
     int status = say(name);
     if (fflush(stdout) == 0 && it.why == FRAME_ENDED) confirm_end();

@@ -176,7 +176,8 @@ static void turn(const sigset_t *open_mask) {
 /* These signals come in ppoll alone. Every other one that would end a keeper and that can be ignored is. */
 static void hold_signals(void) {
     static const int caught[] = {SIGCHLD, SIGTERM, SIGHUP, SIGINT, SIGQUIT, SIGUSR1};
-    static const int ignored[] = {SIGPIPE, SIGUSR2, SIGALRM, SIGVTALRM, SIGPROF, SIGXCPU, SIGXFSZ, SIGIO, SIGPWR, SIGSTKFLT, SIGTSTP, SIGTTIN, SIGTTOU};
+    static const int ignored[] = {SIGPIPE, SIGUSR2, SIGALRM,   SIGVTALRM, SIGPROF, SIGXCPU, SIGXFSZ,
+                                  SIGIO,   SIGPWR,  SIGSTKFLT, SIGTSTP,   SIGTTIN, SIGTTOU};
     struct sigaction action = {.sa_handler = on_signal};
     sigset_t held;
     sigemptyset(&held);

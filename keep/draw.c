@@ -1,7 +1,7 @@
-/* Draws a terminal on the one that standard output is, whatever that is: characters in UTF-8, CUP, SGR 0 1 4 5 7, and the cursor
- * shown or hidden. What is drawn there is remembered, and only what differs is drawn. The screens may have any two sizes: what
- * doesn't fit isn't drawn, and what is beyond the kept screen is blank. A drawing is gathered and written as the outer terminal
- * takes it; the next one is made when that is done. */
+/* Draws a terminal on the one that standard output is, whatever that is: characters in UTF-8, CUP, SGR 0 1 4 5 7, BEL, and the
+ * cursor shown or hidden. What is drawn there is remembered, and only what differs is drawn. The screens may have any two sizes.
+ * A smaller one shows the part that has the cursor, and says in a corner which part that is; on a larger one the rest is blank.
+ * A drawing is gathered and written as the outer terminal takes it; the next one is made when that is done. */
 #include "keep.h"
 #include <errno.h>
 #include <fcntl.h>
@@ -16,7 +16,7 @@ enum { BOLD = 1, UNDERLINE = 2, BLINK = 4, REVERSE = 8 };
 enum { PIECE = 64, PLACE_LIMIT = 48 /* the most bytes that a place takes, with its CUP and SGR */, PATIENCE = 1000 };
 
 struct place {
-    uint32_t glyph; /* its Unicode number; 0 where it isn't known what is there */
+    uint32_t glyph; /* its Unicode number; 0 if it isn't known what is there */
     uint32_t brush; /* of the four attributes above */
 };
 
@@ -24,12 +24,17 @@ static struct {
     int line;            /* where it is written, without waiting */
     size_t rows, cols;   /* of the screen that is drawn on */
     struct place *drawn; /* what is on it, row by row */
-    size_t row, col;     /* where its cursor is; row 0 where that isn't known */
+    size_t row, col;     /* where its cursor is; row 0 if that isn't known */
     uint32_t brush;      /* what its SGR is */
     bool has_cursor;     /* whether its cursor is shown */
+    bool rings;          /* whether a bell is to be rung */
+    bool has_keypad;     /* whether its keypad sends application sequences */
+    size_t top, left;    /* how many rows and columns of the kept screen are above and left of it */
+    char hint[PIECE];    /* which part is shown; empty if all is */
+    size_t hint_row, hint_col;
 } outer;
 
-static char *out; /* what is written as far as `at`; the room is for one whole drawing, and what enters or leaves */
+static char *out; /* what is written as far as `at`; there is room for one whole drawing, and for what enters or leaves */
 static size_t at, length;
 
 static void put(const char *text) {
@@ -109,29 +114,73 @@ static struct place place_of(const vt220_cell *cell, bool is_reversed) {
     return (struct place){cell->glyph, brush | (cell->reverse != is_reversed ? REVERSE : 0)};
 }
 
-void draw(vt220 *t) {
+/* Moves the part that is shown no further than needed to have the cursor in it; by half a screen if to the side. */
+static size_t pan(size_t first, size_t shown, size_t all, size_t cursor, size_t step) {
+    if (shown >= all) return 0;
+    if (cursor <= first) first = cursor - 1 > step ? cursor - 1 - step : 0;
+    if (cursor > first + shown) first = cursor - shown + step;
+    return first + shown > all ? all - shown : first;
+}
+
+/* Says which rows and columns are shown, in the upper right corner, or in the lower one if the cursor is in the upper row. */
+static void set_hint(size_t width, const vt220_cursor_place *cursor) {
+    outer.top = pan(outer.top, outer.rows, VT220_ROWS, cursor->row, 0);
+    outer.left = pan(outer.left, outer.cols, width, cursor->col, outer.cols / 2);
+    outer.hint[0] = 0;
+    if (outer.rows >= VT220_ROWS && outer.cols >= width) return;
+    size_t bottom = outer.top + outer.rows < VT220_ROWS ? outer.top + outer.rows : VT220_ROWS;
+    size_t right = outer.left + outer.cols < width ? outer.left + outer.cols : width;
+    int len = snprintf(outer.hint, sizeof outer.hint, "[%zu-%zu/%d %zu-%zu/%zu]", outer.top + 1, bottom, VT220_ROWS, outer.left + 1, right, width);
+    if (outer.rows < 2 || outer.cols < (size_t)len + 2) outer.hint[0] = 0;
+    outer.hint_row = cursor->row == outer.top + 1 ? outer.rows : 1;
+    outer.hint_col = outer.cols - (size_t)len + 1;
+}
+
+static struct place hint_or(size_t row, size_t col, struct place it) {
+    if (outer.hint[0] == 0 || row != outer.hint_row || col < outer.hint_col) return it;
+    return (struct place){(uint8_t)outer.hint[col - outer.hint_col], REVERSE};
+}
+
+static void draw_row(vt220 *t, size_t row, bool is_reversed) {
     static const struct place blank = {' ', 0};
     vt220_cell cells[VT220_COLUMNS];
+    memset(cells, 0, sizeof cells);
+    size_t width = vt220_row(t, outer.top + row, cells, VT220_COLUMNS);
+    for (size_t col = 1; col <= outer.cols; col++) {
+        size_t at = outer.left + col;
+        draw_place(row, col, hint_or(row, col, at <= width ? place_of(&cells[at - 1], is_reversed) : blank));
+    }
+}
+
+static void draw_modes(const vt220_mode_set *modes) {
+    if (outer.rings) put("\a");
+    outer.rings = false;
+    if (outer.has_keypad != modes->keypad_application) put(modes->keypad_application ? "\033=" : "\033>");
+    outer.has_keypad = modes->keypad_application;
+}
+
+void draw(vt220 *t) {
     vt220_mode_set modes;
     vt220_cursor_place cursor;
-    memset(cells, 0, sizeof cells);
     memset(&modes, 0, sizeof modes);
     memset(&cursor, 0, sizeof cursor);
     vt220_modes(t, &modes);
     vt220_cursor(t, &cursor);
-    for (size_t row = 1; row <= outer.rows; row++) {
-        size_t width = vt220_row(t, row, cells, VT220_COLUMNS);
-        for (size_t col = 1; col <= outer.cols; col++) {
-            draw_place(row, col, col <= width ? place_of(&cells[col - 1], modes.decscnm) : blank);
-        }
-    }
-    bool is_inside = cursor.row <= outer.rows && cursor.col <= outer.cols;
-    if (is_inside) go(cursor.row, cursor.col);
+    set_hint(vt220_width(t), &cursor);
+    draw_modes(&modes);
+    for (size_t row = 1; row <= outer.rows; row++) draw_row(t, row, modes.decscnm);
+    size_t row = cursor.row - outer.top, col = cursor.col - outer.left;
+    bool is_inside = row <= outer.rows && col <= outer.cols;
+    if (is_inside) go(row, col);
     show_cursor(is_inside && modes.dectcem);
     draw_on();
 }
 
-/* Asks for the size of the outer screen. All of it is then drawn anew. False where there is no memory for it. */
+void draw_bell(void) {
+    outer.rings = true;
+}
+
+/* Asks for the size of the outer screen. All of it is then drawn anew. False if there is no memory for it. */
 bool draw_resize(void) {
     struct winsize size = {0};
     ioctl(outer.line, TIOCGWINSZ, &size);
@@ -148,19 +197,22 @@ bool draw_resize(void) {
 /* The alternate screen of the outer terminal. It is opened once more, so that only this program's writes don't wait. */
 bool draw_enter(void) {
     const char *name = ttyname(STDOUT_FILENO);
-    outer.line = name != NULL ? open(name, O_WRONLY | O_NONBLOCK | O_NOCTTY | O_CLOEXEC) : -1;
+    if (outer.line == 0) outer.line = name != NULL ? open(name, O_WRONLY | O_NONBLOCK | O_NOCTTY | O_CLOEXEC) : -1;
     if (outer.line < 0) outer.line = STDOUT_FILENO;
+    at = length = 0;
     if (!draw_resize()) return false;
     put("\033[?1049h\033[0m\033[?25h");
     outer.has_cursor = true;
+    outer.brush = 0;
     return true;
 }
 
-/* Back to its own screen and cursor. What is begun is written to its end, if that takes no longer than a second. */
+/* Back to its own screen, cursor and keypad. What is begun is written to its end, if that takes no longer than a second. */
 void draw_leave(void) {
     struct pollfd line = {outer.line, POLLOUT, 0};
     if (out == NULL) return;
-    put("\033[0m\033[?25h\033[?1049l");
+    put(outer.has_keypad ? "\033>\033[0m\033[?25h\033[?1049l" : "\033[0m\033[?25h\033[?1049l");
+    outer.has_keypad = false;
     do draw_on();
     while (!draw_is_done() && poll(&line, 1, PATIENCE) > 0);
 }

@@ -1,0 +1,354 @@
+/* A client: plays what the keeper sends on a terminal of its own, which so equals the keeper's, draws it on the terminal that it
+ * runs in, and sends the keys that are typed there. */
+#include "keep.h"
+#include <errno.h>
+#include <poll.h>
+#include <signal.h>
+#include <stdio.h>
+#include <stdlib.h>
+#include <string.h>
+#include <sys/socket.h>
+#include <sys/wait.h>
+#include <termios.h>
+#include <time.h>
+#include <unistd.h>
+
+enum {
+    TYPED_LIMIT = 1 << 20, /* the most bytes that wait here while the program reads nothing */
+    TWICE = 300,           /* milliseconds in which the key that detaches may be pressed again */
+    KEY_PATIENCE = 50      /* milliseconds until the rest of a function key must have come */
+};
+
+static struct {
+    int socket;
+    vt220 terminal;
+    uint8_t frames[2 * (FRAME_HEAD + FRAME_LIMIT)]; /* what came and isn't played */
+    size_t frames_len;
+    uint8_t typed[TYPED_LIMIT + KEYS_GROWTH * KEYS_LIMIT]; /* keys that aren't sent */
+    size_t typed_at, typed_len;
+    uint8_t frame[FRAME_HEAD + KEYS_LIMIT]; /* the frame of keys that is being sent */
+    size_t frame_at, frame_len;
+    struct keys keys;
+    uint8_t detach;        /* the key that detaches */
+    long long pressed;     /* when it was pressed; 0 if it wasn't */
+    long long held;        /* since when the beginning of a key waits for its end */
+    bool is_read_only;
+    bool is_behind;        /* whether there is something new to draw */
+    struct termios before; /* how the outer terminal was */
+    char why;              /* the frame that ended it; 'k' for the key, 's' for a signal, 'm' if out of memory, '?' if the
+                            * keeper is gone; 0 as long as it goes on */
+    struct ending ending;
+} it;
+
+static volatile sig_atomic_t has_new_size, was_continued, is_told_to_go, is_told_to_stop;
+
+static const int ending_signals[] = {SIGTERM, SIGHUP,    SIGINT,  SIGQUIT, SIGALRM, SIGUSR1, SIGUSR2,
+                                     SIGPIPE, SIGVTALRM, SIGPROF, SIGXCPU, SIGPWR,  SIGIO,   SIGSTKFLT};
+
+static void on_signal(int number) {
+    if (number == SIGWINCH) has_new_size = 1;
+    else if (number == SIGCONT) was_continued = 1;
+    else if (number == SIGTSTP) is_told_to_stop = 1;
+    else is_told_to_go = 1;
+}
+
+static void set_raw(void) {
+    struct termios raw = it.before;
+    cfmakeraw(&raw);
+    tcsetattr(STDIN_FILENO, TCSADRAIN, &raw);
+}
+
+static void hold_signal(int number, sigset_t *held) {
+    struct sigaction action = {.sa_handler = on_signal};
+    sigaddset(held, number);
+    sigaction(number, &action, NULL);
+}
+
+/* Signals come in ppoll alone, but for those that nobody can hold. */
+static void hold_signals(sigset_t *open_mask) {
+    static const int others[] = {SIGWINCH, SIGCONT, SIGTSTP};
+    sigset_t held;
+    sigemptyset(&held);
+    for (size_t i = 0; i < sizeof ending_signals / sizeof *ending_signals; i++) hold_signal(ending_signals[i], &held);
+    for (size_t i = 0; i < sizeof others / sizeof *others; i++) hold_signal(others[i], &held);
+    sigprocmask(SIG_BLOCK, &held, open_mask);
+    for (int number = 1; number < NSIG; number++) {
+        if (sigismember(&held, number) == 1) sigdelset(open_mask, number);
+    }
+}
+
+/* --- keys --- */
+
+static void type(const uint8_t *bytes, size_t len) {
+    if (it.is_read_only || len == 0) return;
+    it.typed_len += keys_translate(&it.keys, &it.terminal, bytes, len, it.typed + it.typed_len);
+    it.held = it.keys.held_len > 0 ? now() : 0;
+    if (it.keys.rings) {
+        draw_bell();
+        it.is_behind = true;
+    }
+    it.keys.rings = false;
+}
+
+/* The key that detaches does so when another key follows, or none for some time; pressed twice, it is sent once. */
+static void take_typed(const uint8_t *bytes, size_t len) {
+    while (len > 0 && it.why == 0) {
+        if (it.pressed != 0 && *bytes != it.detach) {
+            it.why = 'k';
+        } else if (it.pressed != 0) {
+            it.pressed = 0;
+            type(bytes++, 1);
+            len--;
+        } else {
+            const uint8_t *key = memchr(bytes, it.detach, len);
+            size_t n = key != NULL ? (size_t)(key - bytes) : len;
+            type(bytes, n);
+            if (key != NULL) it.pressed = now();
+            n += key != NULL;
+            bytes += n;
+            len -= n;
+        }
+    }
+}
+
+static bool has_room(void) {
+    if (it.typed_at > 0) {
+        it.typed_len -= it.typed_at;
+        memmove(it.typed, it.typed + it.typed_at, it.typed_len);
+        it.typed_at = 0;
+    }
+    return it.typed_len < TYPED_LIMIT - KEYS_GROWTH * sizeof it.keys.held;
+}
+
+static void read_keys(void) {
+    uint8_t bytes[KEYS_LIMIT];
+    ssize_t n = read(STDIN_FILENO, bytes, sizeof bytes);
+    if (n < 0 && (errno == EINTR || errno == EAGAIN)) return;
+    if (n <= 0) it.why = 's'; /* the outer terminal is gone */
+    else take_typed(bytes, (size_t)n);
+}
+
+static bool has_keys(void) {
+    return it.frame_at < it.frame_len || it.typed_at < it.typed_len;
+}
+
+static void begin_frame(void) {
+    uint32_t len = it.typed_len - it.typed_at < KEYS_LIMIT ? (uint32_t)(it.typed_len - it.typed_at) : KEYS_LIMIT;
+    it.frame[0] = FRAME_KEYS;
+    memcpy(it.frame + 1, &len, sizeof len);
+    memcpy(it.frame + FRAME_HEAD, it.typed + it.typed_at, len);
+    it.typed_at += len;
+    it.frame_at = 0;
+    it.frame_len = FRAME_HEAD + len;
+}
+
+/* What the keeper can't take now waits here. That the keeper is gone is told by what comes of it. */
+static void send_keys(void) {
+    while (has_keys()) {
+        if (it.frame_at == it.frame_len) begin_frame();
+        ssize_t n = send(it.socket, it.frame + it.frame_at, it.frame_len - it.frame_at, MSG_NOSIGNAL | MSG_DONTWAIT);
+        if (n < 0 && errno == EINTR) continue;
+        if (n < 0 && errno == EAGAIN) return;
+        if (n < 0) it.typed_at = it.typed_len;
+        it.frame_at = n < 0 ? it.frame_len : it.frame_at + (size_t)n;
+    }
+}
+
+/* --- frames --- */
+
+static void play(const uint8_t *bytes, size_t len) {
+    uint8_t none[VT220_REPORT_LIMIT];
+    size_t reports;
+    for (size_t at = 0; at < len;) at += vt220_feed(&it.terminal, bytes + at, len - at, none, sizeof none, &reports);
+}
+
+static void take_frame(char letter, const uint8_t *bytes, size_t len) {
+    if (letter == FRAME_PLAY) {
+        play(bytes, len);
+        it.is_behind = true;
+    } else if (letter == FRAME_BELL) {
+        draw_bell();
+        it.is_behind = true;
+    } else {
+        if (letter == FRAME_ENDED && len == sizeof it.ending) memcpy(&it.ending, bytes, len);
+        it.why = letter == FRAME_ENDED || letter == FRAME_DETACHED || letter == FRAME_FULL ? letter : '?';
+    }
+}
+
+/* Takes the whole frames that came. */
+static void take_frames(void) {
+    size_t at = 0;
+    while (it.why == 0 && it.frames_len - at >= FRAME_HEAD) {
+        uint8_t *frame = it.frames + at;
+        uint32_t len;
+        memcpy(&len, frame + 1, sizeof len);
+        if (len > FRAME_LIMIT) it.why = '?';
+        if (len > FRAME_LIMIT || it.frames_len - at - FRAME_HEAD < len) break;
+        take_frame((char)*frame, frame + FRAME_HEAD, len);
+        at += FRAME_HEAD + len;
+    }
+    it.frames_len -= at;
+    memmove(it.frames, it.frames + at, it.frames_len);
+}
+
+static void read_frames(int flags) {
+    ssize_t n = recv(it.socket, it.frames + it.frames_len, sizeof it.frames - it.frames_len, flags);
+    if (n < 0 && (errno == EINTR || (errno == EAGAIN && flags != 0))) return;
+    if (n <= 0) {
+        it.why = '?';
+        return;
+    }
+    it.frames_len += (size_t)n;
+    take_frames();
+}
+
+/* --- the loop --- */
+
+/* Stops as any program does that doesn't handle SIGTSTP, with the outer terminal as it was. */
+static void stop(void) {
+    struct sigaction normal = {.sa_handler = SIG_DFL}, before;
+    sigset_t only, mask;
+    draw_leave();
+    tcsetattr(STDIN_FILENO, TCSADRAIN, &it.before);
+    sigemptyset(&only);
+    sigaddset(&only, SIGTSTP);
+    sigaction(SIGTSTP, &normal, &before);
+    sigprocmask(SIG_UNBLOCK, &only, &mask);
+    raise(SIGTSTP);
+    sigprocmask(SIG_SETMASK, &mask, NULL);
+    sigaction(SIGTSTP, &before, NULL);
+    set_raw();
+    if (!draw_enter()) it.why = 'm';
+    it.is_behind = true;
+}
+
+static void obey_signals(void) {
+    if (is_told_to_go) it.why = 's';
+    if (is_told_to_stop) stop();
+    if (was_continued) set_raw();
+    if (was_continued || has_new_size) {
+        if (!draw_resize()) it.why = 'm';
+        it.is_behind = true;
+    }
+    is_told_to_stop = was_continued = has_new_size = 0;
+}
+
+static void obey_clock(void) {
+    long long time = now();
+    if (it.pressed != 0 && time - it.pressed >= TWICE) it.why = 'k';
+    if (it.held != 0 && time - it.held >= KEY_PATIENCE) {
+        it.typed_len += keys_flush(&it.keys, it.typed + it.typed_len);
+        it.held = 0;
+    }
+}
+
+static void turn(const sigset_t *open_mask) {
+    long long time = now(), rest = it.pressed != 0 ? it.pressed + TWICE - time : -1;
+    if (it.held != 0 && (rest < 0 || it.held + KEY_PATIENCE - time < rest)) rest = it.held + KEY_PATIENCE - time;
+    bool is_timed = it.pressed != 0 || it.held != 0;
+    struct timespec timeout = {rest > 0 ? rest / 1000 : 0, rest > 0 ? rest % 1000 * 1000000 : 0};
+    struct pollfd polled[3] = {
+        {has_room() ? STDIN_FILENO : -1, POLLIN, 0},
+        {it.socket, (short)(POLLIN | (has_keys() ? POLLOUT : 0)), 0},
+        {draw_is_done() ? -1 : draw_line(), POLLOUT, 0},
+    };
+    if (ppoll(polled, 3, is_timed ? &timeout : NULL, open_mask) < 0) polled[0].revents = polled[1].revents = polled[2].revents = 0;
+    obey_signals();
+    if (polled[1].revents & (POLLIN | POLLHUP | POLLERR)) read_frames(MSG_DONTWAIT);
+    if (polled[0].revents && it.why == 0) read_keys();
+    obey_clock();
+    send_keys();
+    if (polled[2].revents) draw_on();
+    if (it.is_behind && draw_is_done() && it.why == 0) {
+        it.is_behind = false;
+        draw(&it.terminal);
+    }
+}
+
+/* --- the end --- */
+
+/* The exit status of an ended command, as a shell has it. */
+int shell_status(int ending) {
+    return WIFSIGNALED(ending) ? 128 + WTERMSIG(ending) : WEXITSTATUS(ending);
+}
+
+/* Confirms the end to the keeper, and waits until it has let the name go, so that the name can be used when this returns. */
+static void confirm_end(void) {
+    uint8_t rest[256];
+    wire_patience(it.socket, 1);
+    if (!wire_send(it.socket, FRAME_SEEN, "", 0)) return;
+    while (recv(it.socket, rest, sizeof rest, 0) > 0) {}
+}
+
+/* Says how it ended; the status is the command's own if that has ended. */
+static int say(const char *name) {
+    switch (it.why) {
+    case 'k':
+    case FRAME_DETACHED: printf("keep: detached from %s\n", name); return 0;
+    case 's': return 0;
+    case 'm': fprintf(stderr, "keep: out of memory\n"); return 1;
+    case FRAME_FULL: fprintf(stderr, "keep: %s takes no more clients\n", name); return 1;
+    case FRAME_ENDED:
+        if (WIFSIGNALED(it.ending.status)) {
+            printf("keep: %s was ended by signal %d (%s)\n", name, WTERMSIG(it.ending.status), strsignal(WTERMSIG(it.ending.status)));
+        } else {
+            printf("keep: %s ended with status %d\n", name, WEXITSTATUS(it.ending.status));
+        }
+        return shell_status(it.ending.status);
+    default: fprintf(stderr, "keep: %s is gone: its keeper has ended\n", name); return 1;
+    }
+}
+
+/* The command has ended before: shows its last screen as text, and how and when it ended. */
+static int show_last(const char *name) {
+    static uint8_t text[VT220_TEXT_LIMIT];
+    vt220_scratch scratch = VT220_INIT;
+    size_t len = 0;
+    char day[32] = "";
+    wire_patience(it.socket, 2);
+    while (it.why == 0) read_frames(0);
+    if (it.why == FRAME_ENDED && vt220_scratch_open(&scratch) == VT220_OK) {
+        vt220_text(&it.terminal, &scratch, text, sizeof text, &len);
+        vt220_scratch_close(&scratch);
+        while (len > 1 && text[len - 1] == '\n' && text[len - 2] == '\n') len--;
+        if (len > 1) fwrite(text, 1, len, stdout);
+        time_t when = (time_t)it.ending.time;
+        struct tm parts;
+        bool has_day = localtime_r(&when, &parts) != NULL && strftime(day, sizeof day, "%Y-%m-%d %H:%M:%S", &parts) > 0;
+        if (has_day) printf("keep: ended on %s\n", day);
+    }
+    int status = say(name);
+    if (fflush(stdout) == 0 && it.why == FRAME_ENDED) confirm_end();
+    return status;
+}
+
+static int follow(const char *name) {
+    sigset_t open_mask;
+    hold_signals(&open_mask);
+    set_raw();
+    if (!draw_enter()) it.why = 'm';
+    while (it.why == 0) turn(&open_mask);
+    draw_leave();
+    tcsetattr(STDIN_FILENO, TCSADRAIN, &it.before);
+    if (it.why == FRAME_ENDED) confirm_end();
+    return say(name);
+}
+
+int attach(int socket, const char *name, bool is_read_only) {
+    struct hello hello;
+    char why[WHY_LIMIT] = "doesn't answer";
+    const char *inside = getenv("KEEP_SESSION");
+    it.socket = socket;
+    it.is_read_only = is_read_only;
+    it.detach = (uint8_t)keys_detach();
+    if (inside != NULL) fail(1, "cannot attach to %s from inside session %s: its terminal knows no UTF-8", name, inside);
+    if (!isatty(STDOUT_FILENO) || tcgetattr(STDIN_FILENO, &it.before) != 0) fail(2, "attach needs a terminal");
+    if (vt220_open(&it.terminal) != VT220_OK) fail(1, "out of memory");
+    int result = wire_begin(socket, ASK_ATTACH, is_read_only ? FLAG_READ_ONLY : 0, &hello, why);
+    if (result == WIRE_FULL) fail(1, "%s takes no more clients", name);
+    if (result != WIRE_OK) fail(1, "%s %s", name, why);
+    int status = hello.is_over ? show_last(name) : follow(name);
+    vt220_close(&it.terminal);
+    close(socket);
+    return status;
+}

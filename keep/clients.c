@@ -1,0 +1,338 @@
+/* The keeper's side of its clients. */
+#include "session.h"
+#include <errno.h>
+#include <limits.h>
+#include <malloc.h>
+#include <poll.h>
+#include <stdio.h>
+#include <stdlib.h>
+#include <string.h>
+#include <sys/socket.h>
+#include <sys/wait.h>
+#include <unistd.h>
+
+enum { LISTEN_PAUSE = 1000 };
+
+/* --- what goes to a client --- */
+
+bool is_sent(const struct client *c) {
+    return c->at == c->len;
+}
+
+/* Makes room in front when all was sent, so that a whole update fits; returns where the bytes of a frame go. */
+static uint8_t *frame_room(struct client *c) {
+    if (is_sent(c)) c->at = c->len = 0;
+    return c->out + c->len + FRAME_HEAD;
+}
+
+static void put_frame(struct client *c, char letter, size_t len) {
+    uint32_t length = (uint32_t)len;
+    c->out[c->len] = (uint8_t)letter;
+    memcpy(c->out + c->len + 1, &length, sizeof length);
+    c->len += FRAME_HEAD + len;
+}
+
+static void put(struct client *c, char letter, const void *bytes, size_t len) {
+    uint8_t *room = frame_room(c);
+    if (len + FRAME_HEAD > sizeof c->out - c->len) return;
+    if (len > 0) memcpy(room, bytes, len);
+    put_frame(c, letter, len);
+}
+
+/* Nothing more is put for it, and it is let go when all was sent. */
+static void leave(struct client *c) {
+    c->state = LEAVING;
+    c->deadline = now() + PATIENCE;
+}
+
+static void refuse(struct client *c, const char *why) {
+    put(c, FRAME_REFUSED, why, strlen(why));
+    leave(c);
+}
+
+/* The first frame: a repaint, which leaves any terminal in the state of `settled`. */
+static void put_repaint(struct client *c) {
+    uint8_t *room = frame_room(c), none[VT220_REPORT_LIMIT];
+    size_t len = 0, reports;
+    vt220_repaint(&the.settled, &the.scratch, room, FRAME_LIMIT, &len);
+    for (size_t at = 0; at < len;) at += vt220_feed(&c->shown, room + at, len - at, none, sizeof none, &reports);
+    put_frame(c, FRAME_PLAY, len);
+    c->changes = the.changes;
+}
+
+static void put_update(struct client *c) {
+    uint8_t *room = frame_room(c);
+    size_t len = 0;
+    vt220_update(&c->shown, &the.settled, &the.scratch, room, FRAME_LIMIT, &len);
+    if (len > 0) put_frame(c, FRAME_PLAY, len);
+    c->changes = the.changes;
+}
+
+static void put_ending(struct client *c) {
+    put(c, FRAME_ENDED, &the.ending, sizeof the.ending);
+    c->awaits_seen = true;
+    leave(c);
+}
+
+static void send_on(struct client *c) {
+    while (!is_sent(c)) {
+        ssize_t n = send(c->socket, c->out + c->at, c->len - c->at, MSG_NOSIGNAL | MSG_DONTWAIT);
+        if (n < 0 && errno == EINTR) continue;
+        if (n < 0) {
+            if (errno != EAGAIN) c->deadline = 0; /* it is gone */
+            return;
+        }
+        c->at += (size_t)n;
+    }
+}
+
+/* Does what is due for a client at this time. */
+void serve(struct client *c, long long time) {
+    send_on(c);
+    if (c->state == ATTACHED && is_sent(c)) {
+        bool is_due = time >= c->due || the.is_over;
+        if (is_due && (c->changes != the.changes || c->rings)) {
+            if (c->changes != the.changes) put_update(c);
+            if (c->rings) put(c, FRAME_BELL, NULL, 0);
+            c->rings = false;
+            c->due = time + INTERVAL;
+        }
+        if (the.is_over) put_ending(c);
+    }
+    send_on(c);
+}
+
+void ring_clients(void) {
+    for (size_t i = 0; i < CLIENT_LIMIT; i++) {
+        if (the.clients[i] != NULL && the.clients[i]->state == ATTACHED) the.clients[i]->rings = true;
+    }
+}
+
+/* The command has ended: each client has some time for the last frames. */
+void tell_end(void) {
+    for (size_t i = 0; i < CLIENT_LIMIT; i++) {
+        if (the.clients[i] != NULL) the.clients[i]->deadline = now() + PATIENCE;
+    }
+}
+
+/* The session is over, and its name is free: who wanted that is told so. */
+void answer_waiting(void) {
+    for (size_t i = 0; i < CLIENT_LIMIT; i++) {
+        struct client *c = the.clients[i];
+        if (c == NULL || c->state != WAITING) continue;
+        put(c, FRAME_ANSWER, NULL, 0);
+        leave(c);
+    }
+}
+
+/* --- what a client asks --- */
+
+static size_t count_attached(void) {
+    size_t count = 0;
+    for (size_t i = 0; i < CLIENT_LIMIT; i++) count += the.clients[i] != NULL && the.clients[i]->state == ATTACHED;
+    return count;
+}
+
+static void admit(struct client *c) {
+    if (count_attached() >= ATTACHED_LIMIT || vt220_open(&c->shown) != VT220_OK) {
+        put(c, FRAME_FULL, NULL, 0);
+        leave(c);
+        return;
+    }
+    c->state = ATTACHED;
+    c->deadline = the.is_over ? now() + PATIENCE : LLONG_MAX;
+    put_repaint(c);
+}
+
+static void detach_all(void) {
+    for (size_t i = 0; i < CLIENT_LIMIT; i++) {
+        struct client *c = the.clients[i];
+        if (c == NULL || c->state != ATTACHED) continue;
+        put(c, FRAME_DETACHED, NULL, 0);
+        leave(c);
+    }
+}
+
+static size_t write_line(char *to) {
+    char end[64] = "-\t-";
+    if (the.is_over) snprintf(end, sizeof end, "%lld\t%d", (long long)the.ending.time, shell_status(the.ending.status));
+    return (size_t)snprintf(to, SMALL_FRAMES, "%s\t%d\t%zu\t%zu\t%ld\t%lld\t%s\t%s", the.is_over ? "ended" : "running", VT220_ROWS,
+                            vt220_width(&the.terminal), count_attached(), (long)the.command, (long long)the.began, end, the.title);
+}
+
+static void answer(struct client *c) {
+    uint8_t *room = frame_room(c);
+    size_t len = 0;
+    if (c->ask == ASK_DETACH) {
+        detach_all();
+    } else if (c->ask == ASK_LIST) {
+        len = write_line((char *)room);
+    } else if (c->ask == ASK_TEXT) {
+        vt220_text(&the.terminal, &the.scratch, room, FRAME_LIMIT, &len);
+    } else if (c->ask == ASK_REPAINT) {
+        vt220_repaint(&the.settled, &the.scratch, room, FRAME_LIMIT, &len);
+    } else {
+        refuse(c, "this keep doesn't know what is asked");
+        return;
+    }
+    put_frame(c, FRAME_ANSWER, len);
+    leave(c);
+}
+
+/* Takes the client's first bytes; what it asks is then begun, or answered. */
+static void begin(struct client *c) {
+    bool is_known = c->in[HELLO_LOWEST] <= PROTOCOL_HIGHEST && c->in[HELLO_HIGHEST] >= PROTOCOL_LOWEST;
+    uint8_t version = c->in[HELLO_HIGHEST] < PROTOCOL_HIGHEST ? c->in[HELLO_HIGHEST] : PROTOCOL_HIGHEST;
+    uint8_t told[64] = {is_known ? version : 0, PROTOCOL_LOWEST, PROTOCOL_HIGHEST, the.is_over};
+    int len = snprintf((char *)told + 4, sizeof told - 4, "%d.%d.%d", VT220_VERSION / 10000, VT220_VERSION / 100 % 100, VT220_VERSION % 100);
+    put(c, FRAME_HELLO, told, 4 + (size_t)len);
+    c->ask = (char)c->in[HELLO_ASK];
+    c->is_read_only = c->in[HELLO_FLAGS] & FLAG_READ_ONLY;
+    c->in_len -= HELLO_LENGTH;
+    memmove(c->in, c->in + HELLO_LENGTH, c->in_len);
+    if (!is_known) {
+        leave(c);
+    } else if (c->ask == ASK_ATTACH) {
+        admit(c);
+    } else if (c->ask == ASK_SEND) {
+        c->state = SENDING;
+        c->deadline = LLONG_MAX;
+    } else if (c->ask == ASK_KILL) {
+        c->state = WAITING;
+        c->deadline = LLONG_MAX;
+        if (the.is_over) give_up();
+        else hang_up();
+    } else if (c->ask != ASK_RENAME) { /* for that, the name must come first */
+        answer(c);
+    }
+}
+
+/* A client of before version 1 asks with one letter. Its list can show a line; what else it wants it is refused. */
+static void begin_old(struct client *c) {
+    static const char line[] = "is kept by a newer keep\n";
+    if (c->in[0] == ASK_LIST) put(c, FRAME_ANSWER, line, sizeof line - 1);
+    leave(c);
+}
+
+static void take_name(struct client *c, const uint8_t *bytes, size_t len) {
+    char name[NAME_LIMIT + 1] = {0}, why[WHY_LIMIT];
+    if (len <= NAME_LIMIT) memcpy(name, bytes, len);
+    if (strlen(name) != len || !is_name(name)) {
+        refuse(c, "the new name isn't valid");
+    } else if (!rename_session(name, why)) {
+        refuse(c, why);
+    } else {
+        put(c, FRAME_ANSWER, NULL, 0);
+        leave(c);
+    }
+}
+
+/* Takes a frame. False if there is no room now for its keys. */
+static bool take_frame(struct client *c, char letter, const uint8_t *bytes, size_t len) {
+    bool is_typing = c->state == SENDING || (c->state == ATTACHED && !c->is_read_only);
+    if (letter == FRAME_KEYS && is_typing && !the.is_over) return add_input(bytes, len, false);
+    if (letter == FRAME_DONE && c->state == SENDING) {
+        put(c, FRAME_ANSWER, NULL, 0);
+        leave(c);
+    } else if (letter == FRAME_NAME && c->state == ASKING && c->ask == ASK_RENAME) {
+        take_name(c, bytes, len);
+    } else if (letter == FRAME_SEEN && c->awaits_seen) {
+        the.is_seen = true;
+    }
+    return true;
+}
+
+/* Takes the whole frames that came. One that is too long is no frame of this protocol. */
+static void take_frames(struct client *c) {
+    size_t at = 0;
+    while (c->in_len - at >= FRAME_HEAD) {
+        uint32_t len;
+        memcpy(&len, c->in + at + 1, sizeof len);
+        if (len > KEYS_LIMIT) c->deadline = 0;
+        if (len > KEYS_LIMIT || c->in_len - at - FRAME_HEAD < len) break;
+        if (!take_frame(c, (char)c->in[at], c->in + at + FRAME_HEAD, len)) break;
+        at += FRAME_HEAD + len;
+    }
+    c->in_len -= at;
+    memmove(c->in, c->in + at, c->in_len);
+}
+
+/* Whether more is read of a client. When it isn't, keys wait in its socket, and then in the client. */
+bool hears(const struct client *c) {
+    return c->in_len < sizeof c->in;
+}
+
+void hear(struct client *c) {
+    ssize_t n = hears(c) ? recv(c->socket, c->in + c->in_len, sizeof c->in - c->in_len, MSG_DONTWAIT) : -2;
+    if (n == 0 || (n == -1 && errno != EAGAIN && errno != EINTR)) c->deadline = 0;
+    if (n > 0) c->in_len += (size_t)n;
+    if (c->state == ASKING && c->ask == 0 && c->in_len > 0) {
+        size_t known = c->in_len < HELLO_MAGIC ? c->in_len : HELLO_MAGIC;
+        if (memcmp(c->in, "keep", known) != 0) begin_old(c);
+        else if (c->in_len >= HELLO_LENGTH) begin(c);
+    }
+    if (c->ask != 0) take_frames(c);
+}
+
+/* --- who comes and goes --- */
+
+bool has_clients(void) {
+    for (size_t i = 0; i < CLIENT_LIMIT; i++) {
+        if (the.clients[i] != NULL) return true;
+    }
+    return false;
+}
+
+/* Finds a place. If too many clients are here that aren't attached, the one that came first goes. */
+static size_t free_place(void) {
+    size_t others = 0, oldest = CLIENT_LIMIT, i = 0;
+    for (size_t k = 0; k < CLIENT_LIMIT; k++) {
+        struct client *c = the.clients[k];
+        if (c == NULL || c->state == ATTACHED) continue;
+        others++;
+        if (oldest == CLIENT_LIMIT) oldest = k;
+        struct client *first = the.clients[oldest];
+        bool is_better = c->state == first->state ? c->came < first->came : c->state == ASKING;
+        if (is_better) oldest = k;
+    }
+    if (others >= ASKING_LIMIT) let_go(oldest);
+    while (i < CLIENT_LIMIT && the.clients[i] != NULL) i++;
+    return i;
+}
+
+void let_in(long long time) {
+    int socket = accept4(the.listener, NULL, NULL, SOCK_CLOEXEC);
+    if (socket < 0) {
+        /* No more files, or no memory: to look again at once would only turn in a circle. */
+        if (errno != EAGAIN && errno != EINTR && errno != ECONNABORTED) the.listens_at = time + LISTEN_PAUSE;
+        return;
+    }
+    size_t i = is_same_user(socket) ? free_place() : CLIENT_LIMIT;
+    struct client *c = i < CLIENT_LIMIT ? calloc(1, sizeof *c) : NULL;
+    if (c == NULL) {
+        static const char full[FRAME_HEAD] = {FRAME_FULL};
+        send(socket, full, sizeof full, MSG_NOSIGNAL | MSG_DONTWAIT);
+        close(socket);
+        return;
+    }
+    c->socket = socket;
+    c->came = time;
+    c->deadline = time + PATIENCE;
+    the.clients[i] = c;
+}
+
+void let_go(size_t i) {
+    struct client *c = the.clients[i];
+    if (c->state == ATTACHED) hear(c); /* what it typed before it went */
+    close(c->socket);
+    vt220_close(&c->shown);
+    free(c);
+    the.clients[i] = NULL;
+    if (!has_clients()) malloc_trim(0); /* a keeper may live for months after a crowd */
+}
+
+/* When something falls due for a client, or LLONG_MAX. */
+long long next_time(const struct client *c) {
+    bool has_news = c->state == ATTACHED && is_sent(c) && (c->changes != the.changes || c->rings);
+    return has_news && c->due < c->deadline ? c->due : c->deadline;
+}

@@ -1,0 +1,216 @@
+/* keep: keeps programs running on terminals of their own.
+ *   ./build-c && gcc -O2 -Iinclude -o out/keep keep/[a-z]*.c out/libvt220.a */
+#include "keep.h"
+#include <errno.h>
+#include <fcntl.h>
+#include <getopt.h>
+#include <limits.h>
+#include <stdarg.h>
+#include <stdio.h>
+#include <stdlib.h>
+#include <string.h>
+#include <time.h>
+#include <unistd.h>
+
+static const char usage[] =
+    "usage: keep new [-A] [--locale=LOCALE] NAME COMMAND [ARGUMENT ...]\n"
+    "                                 run a command on a VT220 of its own, 24 by 80, in the background;\n"
+    "                                 -A attaches to it, and to the session NAME if there is one already\n"
+    "       keep attach [-r] NAME     show a session on this terminal, and send it the keys; -r only shows it\n"
+    "       keep detach NAME          detach all clients\n"
+    "       keep list [--tsv]         list sessions; --tsv: one line each with tabs, for scripts\n"
+    "       keep text NAME            print the screen as text\n"
+    "       keep repaint NAME         print the bytes that rebuild the whole terminal\n"
+    "       keep send [-l] NAME [KEY ...]\n"
+    "                                 send keys, by name (Enter, Up, PF1, ^C ..) or as text, or standard input;\n"
+    "                                 -l: each KEY is text\n"
+    "       keep kill NAME            end the command\n"
+    "       keep rename NAME NEW      give a session another name\n"
+    "       keep help | --help        print this\n"
+    "       keep version | --version  print the version\n"
+    "Ctrl-\\ detaches; pressed twice, it is sent. KEEP_KEY=^A makes Ctrl-A that key.\n"
+    "Sockets are in $KEEP_DIR (default /tmp/keep-UID).\n";
+
+noreturn void fail(int status, const char *why, ...) {
+    va_list words;
+    va_start(words, why);
+    fputs("keep: ", stderr);
+    vfprintf(stderr, why, words);
+    fputc('\n', stderr);
+    va_end(words);
+    exit(status);
+}
+
+long long now(void) {
+    struct timespec time;
+    clock_gettime(CLOCK_MONOTONIC, &time);
+    return time.tv_sec * 1000LL + time.tv_nsec / 1000000;
+}
+
+/* --- the commands; each gets the words after its options, and returns the exit status --- */
+
+struct options {
+    bool attaches, is_read_only, is_for_scripts, is_text;
+    const char *locale;
+};
+
+static void check_name(const char *name) {
+    if (is_name(name)) return;
+    fail(2, "invalid session name '%s': use 1-%d letters, digits, '.', '_' or '-', not starting with '.' or '-'", name, NAME_LIMIT);
+}
+
+/* Whether there is a session of this name. One whose command has ended gives way if it isn't wanted. */
+static bool is_there(const struct folder *folder, const char *name, bool is_wanted) {
+    static uint8_t bytes[FRAME_LIMIT];
+    struct hello hello;
+    char why[WHY_LIMIT];
+    int socket = connect_to(folder->file, name);
+    if (socket < 0 && errno == ENOENT && call_keepers(folder)) socket = connect_to(folder->file, name);
+    if (socket < 0) return false;
+    bool is_over = wire_begin(socket, ASK_LIST, 0, &hello, why) == WIRE_OK && hello.is_over;
+    close(socket);
+    if (is_wanted || !is_over) return true;
+    socket = connect_to(folder->file, name);
+    if (socket >= 0) wire_ask(socket, name, ASK_KILL, NULL, bytes);
+    return false;
+}
+
+static int do_new(char **words, const struct options *options) {
+    struct folder folder = open_folder();
+    struct beginning beginning = {words[0], options->locale, words + 1};
+    check_name(words[0]);
+    if (strcmp(words[1], "--") == 0) beginning.command++;
+    if (*beginning.command == NULL) fail(2, "new: an argument is missing; keep --help shows which");
+    if (is_there(&folder, words[0], options->attaches)) {
+        if (!options->attaches) fail(1, "session %s exists already", words[0]);
+    } else {
+        start_session(&folder, &beginning);
+    }
+    return options->attaches ? attach(existing(&folder, words[0]), words[0], false) : 0;
+}
+
+static int do_attach(char **words, const struct options *options) {
+    struct folder folder = open_folder();
+    return attach(existing(&folder, words[0]), words[0], options->is_read_only);
+}
+
+static int do_list(char **words, const struct options *options) {
+    struct folder folder = open_folder();
+    (void)words;
+    list_sessions(&folder, options->is_for_scripts);
+    return 0;
+}
+
+static int do_send(char **words, const struct options *options) {
+    struct folder folder = open_folder();
+    send_keys_to(&folder, words[0], words + 1, options->is_text);
+    return 0;
+}
+
+static int ask(const char *name, char letter, const char *argument) {
+    static uint8_t bytes[FRAME_LIMIT];
+    struct folder folder = open_folder();
+    size_t len = wire_ask(existing(&folder, name), name, letter, argument, bytes);
+    fwrite(bytes, 1, len, stdout);
+    return 0;
+}
+
+static int do_detach(char **words, const struct options *options) {
+    (void)options;
+    return ask(words[0], ASK_DETACH, NULL);
+}
+
+static int do_text(char **words, const struct options *options) {
+    (void)options;
+    return ask(words[0], ASK_TEXT, NULL);
+}
+
+static int do_repaint(char **words, const struct options *options) {
+    (void)options;
+    return ask(words[0], ASK_REPAINT, NULL);
+}
+
+static int do_kill(char **words, const struct options *options) {
+    (void)options;
+    return ask(words[0], ASK_KILL, NULL);
+}
+
+static int do_rename(char **words, const struct options *options) {
+    (void)options;
+    check_name(words[1]);
+    return ask(words[0], ASK_RENAME, words[1]);
+}
+
+static int do_help(char **words, const struct options *options) {
+    (void)words, (void)options;
+    fputs(usage, stdout);
+    return 0;
+}
+
+static int do_version(char **words, const struct options *options) {
+    (void)words, (void)options;
+    printf("keep %d.%d.%d\n", VT220_VERSION / 10000, VT220_VERSION / 100 % 100, VT220_VERSION % 100);
+    return 0;
+}
+
+static const struct command {
+    const char *word, *letters; /* its name, and its options of one letter */
+    int least, most;            /* how many words it takes after these */
+    int (*run)(char **words, const struct options *options);
+} commands[] = {{"new", "+hA", 2, INT_MAX, do_new},   {"attach", "+hr", 1, 1, do_attach}, {"detach", "+h", 1, 1, do_detach},
+                {"list", "+h", 0, 0, do_list},        {"text", "+h", 1, 1, do_text},      {"repaint", "+h", 1, 1, do_repaint},
+                {"send", "+hl", 1, INT_MAX, do_send}, {"kill", "+h", 1, 1, do_kill},      {"rename", "+h", 2, 2, do_rename},
+                {"help", "+h", 0, 1, do_help},        {"--help", "+h", 0, 0, do_help},    {"-h", "+h", 0, 0, do_help},
+                {"version", "+h", 0, 0, do_version},  {"--version", "+h", 0, 0, do_version}};
+
+static const struct command *command_of(const char *word) {
+    for (size_t i = 0; i < sizeof commands / sizeof *commands; i++) {
+        if (strcmp(word, commands[i].word) == 0) return &commands[i];
+    }
+    fail(2, "unknown command '%s'; keep --help lists them", word);
+}
+
+/* Reads the options after the command; returns where the words begin. */
+static int read_options(const struct command *command, int argc, char **argv, struct options *options) {
+    static const struct option none[] = {{"help", 0, NULL, 'h'}, {0}}, for_new[] = {{"help", 0, NULL, 'h'}, {"locale", 1, NULL, 'L'}, {0}},
+                               for_list[] = {{"help", 0, NULL, 'h'}, {"tsv", 0, NULL, 't'}, {0}};
+    const struct option *longer = command->run == do_new ? for_new : command->run == do_list ? for_list : none;
+    opterr = 0;
+    for (int letter; (letter = getopt_long(argc - 1, argv + 1, command->letters, longer, NULL)) >= 0;) {
+        switch (letter) {
+        case 'h': fputs(usage, stdout), exit(fflush(stdout) == 0 ? 0 : 1);
+        case 'A': options->attaches = true; break;
+        case 'r': options->is_read_only = true; break;
+        case 'l': options->is_text = true; break;
+        case 't': options->is_for_scripts = true; break;
+        case 'L': options->locale = optarg; break;
+        default: fail(2, "%s: '%s' isn't an option of it; keep --help lists them", command->word, argv[optind < argc ? optind : argc - 1]);
+        }
+    }
+    return optind + 1;
+}
+
+/* Opens standard streams that were closed, so that no other file gets one of their numbers, and closes what else was left
+ * open: it would stay so in the keeper and in the command, for as long as they live. */
+static void set_files(void) {
+    int file;
+    while ((file = open("/dev/null", O_RDWR)) >= 0 && file < 3) {}
+    if (file >= 3) close(file);
+    close_range(3, UINT_MAX, 0);
+}
+
+int main(int argc, char **argv) {
+    struct options options = {0};
+    set_files();
+    if (argc < 2) {
+        fputs(usage, stderr);
+        return 2;
+    }
+    const struct command *command = command_of(argv[1]);
+    int at = read_options(command, argc, argv, &options);
+    if (argc - at < command->least) fail(2, "%s: an argument is missing; keep --help shows which", command->word);
+    if (argc - at > command->most) fail(2, "%s: '%s' is one argument too many", command->word, argv[at + command->most]);
+    int status = command->run(argv + at, &options);
+    if (fflush(stdout) != 0) fail(1, "standard output: %s", strerror(errno));
+    return status;
+}

@@ -1,0 +1,113 @@
+/* keep: a program goes on without a terminal, and shows its screen to clients that attach. What the parts share. */
+#ifndef KEEP_H
+#define KEEP_H
+
+#ifndef _GNU_SOURCE
+#define _GNU_SOURCE /* for struct ucred, openpty, ppoll and close_range */
+#endif
+
+#include "protocol.h"
+#include "vt220.h"
+#include <limits.h>
+#include <stdnoreturn.h>
+#include <sys/types.h>
+
+enum { NAME_LIMIT = 64, WHY_LIMIT = 512 };
+
+/* --- keep.c --- */
+
+/* Says why on standard error, and ends with this status. */
+noreturn void fail(int status, const char *why, ...) __attribute__((format(printf, 2, 3)));
+long long now(void); /* milliseconds of a clock that never jumps */
+
+/* --- folder.c: the directory of the sockets, and the sockets in it --- */
+
+struct folder {
+    int file;            /* the directory of this boot of this machine, in which the sockets are */
+    char path[PATH_MAX]; /* the directory that has it, from the root on */
+};
+
+/* Which file a socket is, so that another one of its name isn't taken for it. */
+struct identity {
+    dev_t device;
+    ino_t number;
+};
+
+bool is_name(const char *name);
+struct folder open_folder(void); /* ends the program if it can't be had */
+bool try_folder(const char *path, struct folder *folder, char *why);
+bool lock_folder(int folder); /* false if somebody else holds it for two seconds */
+void unlock_folder(int folder);
+int open_listener(int folder, const char *name, struct identity *made, char *why); /* -1, and why */
+int connect_to(int folder, const char *name);                                       /* -1, and errno */
+int existing(const struct folder *folder, const char *name);                         /* ends the program if there is none */
+bool is_listening(int folder, const char *name);
+bool is_free(int folder, const char *name, char *why); /* removes the socket of a killed keeper; the caller has the lock */
+bool is_own(int folder, const char *name, const struct identity *made);
+void remove_own(int folder, const char *name, const struct identity *made);
+bool is_same_user(int socket);
+
+/* --- wire.c: a client's side of the protocol --- */
+
+struct hello {
+    uint8_t version, lowest, highest;
+    bool is_over; /* the command has ended */
+};
+
+enum { WIRE_OK, WIRE_SILENT, WIRE_FULL, WIRE_OTHER_VERSION };
+
+int wire_begin(int socket, char ask, uint8_t flags, struct hello *hello, char *why);
+bool wire_send(int socket, char letter, const void *bytes, size_t len);
+bool wire_receive(int socket, char *letter, uint8_t *bytes, size_t room, size_t *len);
+void wire_patience(int socket, int seconds);
+/* Asks for one answer; ends the program if there is none. `bytes` has FRAME_LIMIT bytes. */
+size_t wire_ask(int socket, const char *name, char ask, const char *argument, uint8_t *bytes);
+
+/* --- list.c --- */
+
+void list_sessions(const struct folder *folder, bool is_for_scripts);
+bool call_keepers(const struct folder *folder);
+
+/* --- session.c: starts a keeper, which goes on in the background --- */
+
+struct beginning {
+    const char *name, *locale;
+    char **command;
+};
+
+void start_session(const struct folder *folder, const struct beginning *beginning);
+
+/* --- keys.c: what is typed on the outer terminal, as the keys of a VT220 --- */
+
+struct keys {
+    uint8_t held[16]; /* the beginning of a key whose end hasn't come */
+    size_t held_len;
+    bool rings; /* something was typed that a VT220 has no key for */
+};
+
+enum { KEYS_GROWTH = 2 /* a key takes at most so many times the bytes that it was typed as */ };
+
+size_t keys_translate(struct keys *keys, vt220 *t, const uint8_t *typed, size_t len, uint8_t *to);
+size_t keys_flush(struct keys *keys, uint8_t *to); /* what is held isn't the beginning of a key */
+size_t keys_named(vt220 *t, const char *name, uint8_t *to); /* 0 if no key has this name; at most 8 bytes */
+int keys_detach(void); /* the key that detaches, as KEEP_KEY says */
+
+/* --- attach.c and send.c --- */
+
+int attach(int socket, const char *name, bool is_read_only);
+void send_keys_to(const struct folder *folder, const char *name, char **keys, bool is_text);
+int shell_status(int ending);
+
+
+/* --- draw.c: draws a terminal on the one that standard output is --- */
+
+bool draw_enter(void);
+bool draw_resize(void);
+void draw(vt220 *t); /* only when all is written that was drawn before */
+void draw_bell(void);
+bool draw_is_done(void);
+void draw_on(void);  /* writes what the outer terminal takes now */
+int draw_line(void); /* the file to wait for, until it takes more */
+void draw_leave(void);
+
+#endif

@@ -1,0 +1,175 @@
+/* The keeper's side of the program: its terminal line, and the terminal that plays what it writes. */
+#include "session.h"
+#include <errno.h>
+#include <fcntl.h>
+#include <pty.h>
+#include <signal.h>
+#include <stdio.h>
+#include <stdlib.h>
+#include <string.h>
+#include <sys/ioctl.h>
+#include <sys/wait.h>
+#include <unistd.h>
+#include <utmp.h>
+
+enum { DRAIN_LIMIT = 256 /* the most chunks that are read once the command has ended */ };
+
+/* --- what goes to the program --- */
+
+/* Keys and reports wait in one queue, in the order that they came in. Each kind has room of its own: a program that asks without
+ * end and never reads can't keep the keys out, nor a paste the reports. False if there is no room for all of it. */
+bool add_input(const uint8_t *bytes, size_t len, bool is_report) {
+    size_t *count = is_report ? &the.reports : &the.keys;
+    if (*count + len > INPUT_LIMIT) return false;
+    memcpy(the.input + the.waiting, bytes, len);
+    memset(the.is_report + the.waiting, is_report, len);
+    the.waiting += len;
+    *count += len;
+    return true;
+}
+
+void write_program(void) {
+    ssize_t n = write(the.master, the.input, the.waiting);
+    if (n <= 0) return;
+    for (ssize_t i = 0; i < n; i++) --*(the.is_report[i] ? &the.reports : &the.keys);
+    the.waiting -= (size_t)n;
+    memmove(the.input, the.input + n, the.waiting);
+    memmove(the.is_report, the.is_report + n, the.waiting);
+}
+
+/* --- what comes from the program --- */
+
+/* Brings `settled` along if the terminal is between sequences, and the line's window to the terminal's width. */
+void settle(void) {
+    static uint8_t unused[FRAME_LIMIT];
+    size_t len = 0;
+    if (vt220_update(&the.settled, &the.terminal, &the.scratch, unused, sizeof unused, &len) == VT220_OK && len > 0) the.changes++;
+    if (the.width != vt220_width(&the.terminal)) {
+        the.width = vt220_width(&the.terminal);
+        struct winsize size = {.ws_row = VT220_ROWS, .ws_col = (unsigned short)the.width};
+        ioctl(the.master, TIOCSWINSZ, &size);
+    }
+}
+
+/* Plays bytes of the program, and answers its requests. Reports of a chunk that find no room are dropped together, since a
+ * program that asks and never reads must not stop its own screen. */
+static void feed(const uint8_t *bytes, size_t len) {
+    static uint8_t reports[PIECE * VT220_REPORT_LIMIT];
+    size_t written;
+    vt220_feed(&the.terminal, bytes, len, reports, sizeof reports, &written);
+    add_input(reports, written, true);
+}
+
+/* Plays a chunk. A BEL rings when the terminal carries it out, which is everywhere but inside a control string. One ring for a
+ * chunk is enough, and a chunk without BEL costs no more than the search for it. */
+static void play(const uint8_t *bytes, size_t len) {
+    bool has_rung = false;
+    for (size_t at = 0; at < len;) {
+        const uint8_t *bell = has_rung ? NULL : memchr(bytes + at, 7, len - at);
+        size_t end = bell != NULL ? (size_t)(bell - bytes) : len;
+        feed(bytes + at, end - at);
+        if (bell == NULL) break;
+        has_rung = vt220_held_kind(&the.terminal) != VT220_HELD_STRING;
+        feed(bell, 1);
+        at = end + 1;
+    }
+    if (has_rung) ring_clients();
+    settle();
+}
+
+/* Whether a byte begins a sequence: ESC, DCS, SOS, CSI, OSC, PM, APC. */
+static bool is_introducer(uint8_t byte) {
+    return byte == 0x1B || byte == 0x90 || byte == 0x98 || byte == 0x9B || (byte >= 0x9D && byte <= 0x9F);
+}
+
+/* Plays a chunk of what the program writes, its last sequence by itself, as that may be unfinished. False if there is none. */
+bool read_program(void) {
+    static uint8_t piece[PIECE];
+    ssize_t n = read(the.master, piece, sizeof piece);
+    if (n <= 0) return false;
+    size_t len = (size_t)n, cut = len;
+    while (cut > 0 && !is_introducer(piece[cut - 1])) cut--;
+    if (cut > 0) cut--;
+    if (cut > 0) play(piece, cut);
+    play(piece + cut, len - cut);
+    return true;
+}
+
+/* Once the command has ended, its last bytes are played. Others may still have its line open, and are hung up. */
+void drain_program(void) {
+    for (int i = 0; i < DRAIN_LIMIT && read_program(); i++) {}
+    close(the.master);
+    close(the.slave);
+    the.master = the.slave = -1;
+}
+
+/* --- the command --- */
+
+/* The command has every signal, also those that its starter ignores: Ctrl-C is to end it. */
+static void free_signals(void) {
+    sigset_t none;
+    sigemptyset(&none);
+    for (int number = 1; number < NSIG; number++) signal(number, SIG_DFL);
+    sigprocmask(SIG_SETMASK, &none, NULL);
+}
+
+/* The environment says what the command's terminal is, and nothing of the one that `keep new` ran on. The C locale is needed as
+ * a VT220 reads no UTF-8: many of its bytes are control characters there, and one is enough to make the rest unseen. */
+static void set_environment(const char *locale) {
+    static const char *const others[] = {
+        "ABDUCO_SESSION", "ABDUCO_SOCKET", "ALACRITTY_LOG", "ALACRITTY_SOCKET", "ALACRITTY_WINDOW_ID", "COLORFGBG", "COLORTERM", "COLUMNS",
+        "GNOME_TERMINAL_SCREEN", "GNOME_TERMINAL_SERVICE", "INSIDE_EMACS", "ITERM_PROFILE", "ITERM_SESSION_ID", "KITTY_PID",
+        "KITTY_WINDOW_ID", "KONSOLE_DBUS_SERVICE", "KONSOLE_DBUS_SESSION", "KONSOLE_VERSION", "LC_TERMINAL", "LC_TERMINAL_VERSION",
+        "LINES", "STY", "TERMCAP", "TERMINFO", "TERM_PROGRAM", "TERM_PROGRAM_VERSION", "TERM_SESSION_ID", "TMUX", "TMUX_PANE",
+        "VTE_VERSION", "WEZTERM_PANE", "WINDOW", "WINDOWID", "XTERM_LOCALE", "XTERM_SHELL", "XTERM_VERSION", "ZELLIJ"};
+    for (size_t i = 0; i < sizeof others / sizeof *others; i++) unsetenv(others[i]);
+    setenv("TERM", "vt220", 1);
+    setenv("KEEP_SESSION", the.name, 1);
+    if (locale == NULL) locale = "C";
+    if (*locale != 0) setenv("LC_ALL", locale, 1);
+}
+
+static noreturn void become_command(char **command, const char *locale, int told) {
+    free_signals();
+    set_environment(locale);
+    int why = login_tty(the.slave) == 0 ? 0 : errno;
+    if (why == 0) execvp(command[0], command);
+    why = why == 0 ? errno : why;
+    if (write(told, &why, sizeof why) < 0) _exit(1);
+    _exit(127);
+}
+
+/* Runs the command on a new line. The keeper has the line's other side open as well, so that it never looks closed while the
+ * command lives. Returns when the command runs; false if it can't be run: then *status is what env(1) would end with. */
+bool run_command(char **command, const char *locale, char *why, int *status) {
+    struct winsize size = {.ws_row = VT220_ROWS, .ws_col = 80};
+    int told[2], error = 0;
+    *status = 1;
+    the.width = 80;
+    if (pipe2(told, O_CLOEXEC) != 0 || openpty(&the.master, &the.slave, NULL, NULL, &size) != 0) {
+        snprintf(why, WHY_LIMIT, "a terminal line: %s", strerror(errno));
+        return false;
+    }
+    fcntl(the.master, F_SETFD, FD_CLOEXEC);
+    fcntl(the.slave, F_SETFD, FD_CLOEXEC);
+    fcntl(the.master, F_SETFL, O_NONBLOCK);
+    the.command = fork();
+    if (the.command == 0) become_command(command, locale, told[1]);
+    if (the.command < 0) error = errno;
+    close(told[1]);
+    while (the.command > 0 && read(told[0], &error, sizeof error) < 0 && errno == EINTR) {}
+    close(told[0]);
+    if (error == 0) return true;
+    if (the.command > 0) waitpid(the.command, NULL, 0);
+    snprintf(why, WHY_LIMIT, "%.200s: %s", command[0], strerror(error));
+    *status = error == ENOENT ? 127 : 126;
+    return false;
+}
+
+/* Tells the command that its terminal is gone; what doesn't end of that is killed some time later. */
+void hang_up(void) {
+    if (the.is_over || the.kill_at != 0) return;
+    the.kill_at = now() + PATIENCE;
+    kill(-the.command, SIGHUP);
+    kill(-the.command, SIGCONT);
+}

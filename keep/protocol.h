@@ -1,0 +1,63 @@
+/* What goes over a session's socket.
+ *
+ * A client begins with HELLO_LENGTH bytes, whose form is the same in every version of the protocol: "keep", the lowest and the
+ * highest version that it speaks, what it asks, and flags. After that both sides send frames: a letter, the length as a
+ * uint32_t of this machine, and that many bytes. The keeper's first frame is FRAME_HELLO, which has the same form in every
+ * version, too: the version that both will speak (0 if there is none), the lowest and the highest that the keeper speaks,
+ * whether the command has ended, and the keeper's own version as text.
+ *
+ * A keeper runs as long as its session, so it may be older than the client. A version of the protocol may therefore add asks and
+ * frames, but never changes what one means. A client that speaks more than one version is served in the highest that both know. */
+#ifndef KEEP_PROTOCOL_H
+#define KEEP_PROTOCOL_H
+
+#include "vt220.h"
+
+enum { PROTOCOL_LOWEST = 1, PROTOCOL_HIGHEST = 1 };
+enum { HELLO_LENGTH = 8, HELLO_MAGIC = 4, HELLO_LOWEST = 4, HELLO_HIGHEST = 5, HELLO_ASK = 6, HELLO_FLAGS = 7 };
+
+enum {
+    ASK_ATTACH = 'a',
+    ASK_DETACH = 'd',
+    ASK_LIST = 'l',
+    ASK_TEXT = 't',
+    ASK_REPAINT = 'r',
+    ASK_SEND = 's',  /* frames of keys follow, and FRAME_DONE */
+    ASK_KILL = 'x',  /* answered when the session is over */
+    ASK_RENAME = 'n' /* FRAME_NAME follows */
+};
+enum { FLAG_READ_ONLY = 1 };
+
+/* The frames of a client. */
+enum {
+    FRAME_KEYS = 'K', /* for the program; the bytes of one frame stay together */
+    FRAME_DONE = 'Q', /* that were all the keys */
+    FRAME_NAME = 'N', /* the new name */
+    FRAME_SEEN = 'S'  /* the end of the command was shown to somebody */
+};
+
+/* The frames of a keeper. */
+enum {
+    FRAME_HELLO = 'H',
+    FRAME_PLAY = 'P',     /* a repaint first, then updates: the client plays them on its terminal */
+    FRAME_BELL = 'B',     /* the program rang the bell */
+    FRAME_ANSWER = 'A',   /* what was asked for: a line, the text, the repaint */
+    FRAME_REFUSED = 'R',  /* why it can't be had */
+    FRAME_DETACHED = 'D', /* somebody asked for it */
+    FRAME_ENDED = 'E',    /* a struct ending */
+    FRAME_FULL = 'F'      /* no more clients are let in, or none of this user */
+};
+
+struct ending {
+    int32_t status; /* as waitpid writes it */
+    int32_t unused;
+    int64_t time; /* of the end, in seconds since 1970 */
+};
+
+enum {
+    FRAME_HEAD = 5,
+    FRAME_LIMIT = VT220_UPDATE_LIMIT, /* of what a keeper sends */
+    KEYS_LIMIT = 4096                 /* of what a client sends */
+};
+
+#endif

@@ -1,0 +1,71 @@
+/* Sends keys to a session without a terminal. */
+#include "keep.h"
+#include <errno.h>
+#include <string.h>
+#include <sys/socket.h>
+#include <unistd.h>
+
+static struct {
+    const char *name;
+    int socket;
+    vt220 terminal; /* in the session's state, so that keys have the form that the program asked for */
+    struct keys keys;
+    uint8_t bytes[FRAME_LIMIT];
+} it;
+
+static void send_bytes(const uint8_t *bytes, size_t len) {
+    for (size_t at = 0, n; at < len; at += n) {
+        n = len - at < KEYS_LIMIT ? len - at : KEYS_LIMIT;
+        if (!wire_send(it.socket, FRAME_KEYS, bytes + at, n)) fail(1, "%s takes no keys", it.name);
+    }
+}
+
+static void send_text(const char *text, size_t len) {
+    uint8_t to[KEYS_GROWTH * (KEYS_LIMIT + sizeof it.keys.held)];
+    for (size_t at = 0, n; at < len; at += n) {
+        n = len - at < KEYS_LIMIT ? len - at : KEYS_LIMIT;
+        send_bytes(to, keys_translate(&it.keys, &it.terminal, (const uint8_t *)text + at, n, to));
+    }
+}
+
+static void send_input(void) {
+    char text[KEYS_LIMIT];
+    for (;;) {
+        ssize_t n = read(STDIN_FILENO, text, sizeof text);
+        if (n < 0 && errno == EINTR) continue;
+        if (n < 0) fail(1, "standard input: %s", strerror(errno));
+        if (n == 0) return;
+        send_text(text, (size_t)n);
+    }
+}
+
+static void play_repaint(const struct folder *folder) {
+    uint8_t none[VT220_REPORT_LIMIT];
+    size_t reports, len = wire_ask(existing(folder, it.name), it.name, ASK_REPAINT, NULL, it.bytes);
+    if (vt220_open(&it.terminal) != VT220_OK) fail(1, "out of memory");
+    for (size_t at = 0; at < len;) at += vt220_feed(&it.terminal, it.bytes + at, len - at, none, sizeof none, &reports);
+}
+
+/* Each of `keys` is a key's name, or else text; `is_text` says that all are text. Without any, standard input is sent. */
+void send_keys_to(const struct folder *folder, const char *name, char **keys, bool is_text) {
+    char why[WHY_LIMIT] = "doesn't answer", letter;
+    uint8_t key[16];
+    struct hello hello;
+    size_t len;
+    it.name = name;
+    play_repaint(folder);
+    it.socket = existing(folder, name);
+    if (wire_begin(it.socket, ASK_SEND, 0, &hello, why) != WIRE_OK) fail(1, "%s %s", name, why);
+    if (hello.is_over) fail(1, "the command of %s has ended", name);
+    if (*keys == NULL) send_input();
+    for (; *keys != NULL; keys++) {
+        len = is_text ? 0 : keys_named(&it.terminal, *keys, key);
+        if (len > 0) send_bytes(key, len);
+        else send_text(*keys, strlen(*keys));
+    }
+    send_bytes(key, keys_flush(&it.keys, key));
+    bool is_done = wire_send(it.socket, FRAME_DONE, "", 0) && wire_receive(it.socket, &letter, it.bytes, sizeof it.bytes, &len);
+    if (!is_done || letter != FRAME_ANSWER) fail(1, "%s takes no keys", name);
+    close(it.socket);
+    vt220_close(&it.terminal);
+}

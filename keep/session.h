@@ -1,0 +1,91 @@
+/* The keeper: a command on a pseudo-terminal, the terminal that plays what it writes, and the clients. What its parts share.
+ *
+ * Clients see `settled`, the newest state between sequences, so that one that comes while the program is inside a sequence
+ * gets a screen at once. Each client has a terminal that is in the state of what was sent to it. An update leads from
+ * there to `settled`, and is made only when the last one is wholly written and its time has come: so a slow client
+ * gets the newest state, and nothing ever waits for it in a queue. */
+#ifndef KEEP_SESSION_H
+#define KEEP_SESSION_H
+
+#include "keep.h"
+
+enum {
+    ATTACHED_LIMIT = 32,
+    ASKING_LIMIT = 16,  /* clients that aren't attached; one more takes the place of the oldest, so silent ones keep nobody out */
+    CLIENT_LIMIT = ATTACHED_LIMIT + ASKING_LIMIT,
+    INTERVAL = 20,      /* milliseconds from one update of a client to its next */
+    PATIENCE = 2000,    /* milliseconds that a client has to ask, or to take the last frames */
+    PIECE = 4096,       /* the most bytes of one read of the program */
+    INPUT_LIMIT = 8192, /* the most bytes of keys that wait for the program, and as many of reports */
+    SMALL_FRAMES = 1024 /* room for what follows an update */
+};
+
+struct client {
+    int socket;
+    enum { ASKING, ATTACHED, SENDING, WAITING, LEAVING } state;
+    char ask; /* 0 until it has asked */
+    bool is_read_only, rings, awaits_seen;
+    vt220 shown;           /* as the client's own terminal is when it has played all of `out` */
+    unsigned long changes; /* how many changes of the screen `shown` has */
+    long long due;         /* when the next update may go */
+    long long deadline;    /* when it is let go, done or not */
+    long long came;
+    size_t in_len;
+    uint8_t in[FRAME_HEAD + KEYS_LIMIT];
+    size_t at, len; /* `out` is written as far as `at` */
+    uint8_t out[FRAME_HEAD + FRAME_LIMIT + SMALL_FRAMES];
+};
+
+struct session {
+    struct folder folder;
+    char name[NAME_LIMIT + 1];
+    struct identity socket;
+    vt220 terminal, settled;
+    vt220_scratch scratch;
+    unsigned long changes; /* of `settled`, so far */
+    size_t width;
+    int master, slave, listener; /* the program's terminal line, and where clients come in; -1 once closed */
+    pid_t command;
+    long long listens_at; /* the listener isn't looked at before this time */
+    long long kill_at;    /* when the command is killed that was told to end */
+    long long leave_at;   /* when the last screen is given up */
+    long long linger;     /* for how long it is kept */
+    int64_t began;
+    bool is_over, is_seen, is_given_up;
+    struct ending ending;
+    size_t keys, reports, waiting; /* how many bytes of each wait for the program */
+    uint8_t input[2 * INPUT_LIMIT];
+    bool is_report[2 * INPUT_LIMIT];
+    struct client *clients[CLIENT_LIMIT];
+    char title[256];
+};
+
+extern struct session the;
+
+/* clients.c */
+void let_in(long long time);
+void let_go(size_t i);
+void serve(struct client *c, long long time);
+void hear(struct client *c);
+bool hears(const struct client *c);
+bool is_sent(const struct client *c);
+long long next_time(const struct client *c);
+void ring_clients(void);
+void tell_end(void);
+void answer_waiting(void);
+bool has_clients(void);
+
+/* program.c */
+bool run_command(char **command, const char *locale, char *why, int *status);
+bool read_program(void);
+void write_program(void);
+bool add_input(const uint8_t *bytes, size_t len, bool is_report);
+void settle(void);
+void drain_program(void);
+void hang_up(void);
+
+/* session.c */
+void give_up(void);
+bool rename_session(const char *name, char *why);
+
+#endif

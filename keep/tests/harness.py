@@ -1,0 +1,291 @@
+"""What the tests of the session keeper share: sessions, windows of tmux, and clients that speak the protocol themselves."""
+import contextlib
+import fcntl
+import os
+import pathlib
+import pty
+import re
+import shutil
+import signal
+import socket
+import struct
+import subprocess
+import sys
+import tempfile
+import termios
+import time
+
+PATIENCE = 15
+passed = failed = 0
+ROOM = pathlib.Path(tempfile.mkdtemp(prefix="keep-"))
+KEEP = str(ROOM / "keep")
+PROGRAM = os.path.abspath(sys.argv[2])
+FOLDER = ROOM / "folder"
+BOOT = pathlib.Path("/proc/sys/kernel/random/boot_id").read_text().strip()
+SOCKETS = FOLDER / BOOT
+ENVIRONMENT = {name: value for name, value in os.environ.items() if name not in ("TMUX", "TMUX_PANE", "KEEP_KEY", "KEEP_SESSION", "KEEP_LINGER")}
+ENVIRONMENT |= {"KEEP_DIR": str(FOLDER), "LC_ALL": "C", "SHELL": "/bin/sh", "HOME": str(ROOM), "PS1": "$ ", "KEEP_LINGER": "60"}
+
+
+def check(is_so, what):
+    global passed, failed
+    if is_so:
+        passed += 1
+    else:
+        failed += 1
+        print(f"failed: {what}", file=sys.stderr)
+    return is_so
+
+
+def until(condition):
+    end = time.monotonic() + PATIENCE
+    while not condition():
+        if time.monotonic() > end:
+            return False
+        time.sleep(0.02)
+    return True
+
+
+def wait(condition, what):
+    return check(until(condition), what)
+
+
+def keep(*words, **more):
+    given = {"env": ENVIRONMENT, "capture_output": True, "text": True, "timeout": PATIENCE} | more
+    return subprocess.run([KEEP, *words], **given)
+
+
+def text(name):
+    return keep("text", name).stdout
+
+
+def lines(name):
+    return text(name).splitlines()
+
+
+def row(name):
+    """What `list --tsv` tells of a session, by name, or None."""
+    titles = ("name", "state", "rows", "columns", "attached", "pid", "began", "ended", "status", "words")
+    for line in keep("list", "--tsv").stdout.splitlines():
+        if line.split("\t")[0] == name:
+            return dict(zip(titles, line.split("\t")))
+    return None
+
+
+def listed(name):
+    """The width of a session, how many are attached, the pid of its command, and its words; None if it has ended."""
+    it = row(name)
+    return (int(it["columns"]), int(it["attached"]), int(it["pid"]), it["words"]) if it and it["state"] == "running" else None
+
+
+def attached(name):
+    line = listed(name)
+    return line and line[1]
+
+
+def parent(pid):
+    return int(pathlib.Path(f"/proc/{pid}/stat").read_text().rpartition(")")[2].split()[1])
+
+
+def keeper(name):
+    """The pid of a session's keeper."""
+    return parent(listed(name)[2])
+
+
+def resident(pid):
+    return int(pathlib.Path(f"/proc/{pid}/statm").read_text().split()[1]) * os.sysconf("SC_PAGESIZE")
+
+
+def new(name, *command):
+    return check(keep("new", name, *command).returncode == 0, f"new {name}")
+
+
+def shell(name, script):
+    return new(name, "sh", "-c", script)
+
+
+def end(name):
+    check(keep("kill", name).returncode == 0 and row(name) is None, f"{name} ends")
+
+
+class Outer:
+    """A window of tmux in which a shell attaches to a session, and then says the status."""
+
+    count = 0
+
+    def __init__(self, name, columns=80, rows=24, settings="", words="attach"):
+        Outer.count += 1
+        self.before, self.after = ROOM / f"before-{Outer.count}", ROOM / f"after-{Outer.count}"
+        script = f"stty -g >{self.before}; echo BEFORE; {settings} {KEEP} {words} {name}; echo \"status $?\"; stty -g >{self.after}; exec sleep 1000"
+        self.target = tmux("new-window", "-d", "-P", "-F", "#{pane_id}", "sh", "-c", script).strip()
+        self.resize(columns, rows)
+
+    def resize(self, columns, rows):
+        tmux("resize-window", "-t", self.target, "-x", str(columns), "-y", str(rows))
+
+    def shown(self):
+        return [line.rstrip() for line in tmux("capture-pane", "-p", "-t", self.target).splitlines()]
+
+    def styled(self):
+        return tmux("capture-pane", "-e", "-p", "-t", self.target)
+
+    def keys(self, *keys):
+        tmux("send-keys", "-t", self.target, *keys)
+
+    def tells(self, what):
+        return tmux("display-message", "-p", "-t", self.target, f"#{{{what}}}").strip()
+
+    def client(self):
+        """The pid of keep attach, once it runs."""
+        shell, found = self.tells("pane_pid"), []
+
+        def is_there():
+            found[:] = pathlib.Path(f"/proc/{shell}/task/{shell}/children").read_text().split()
+            with contextlib.suppress(FileNotFoundError):
+                return found and os.readlink(f"/proc/{found[0]}/exe") == KEEP
+
+        wait(is_there, "a client runs")
+        return int(found[0])
+
+    def part(self, rows, columns, shown):
+        """Which row and column of the session is the first one shown, and where the hint is that says so: its row and column."""
+        for at in (0, rows - 1):
+            found = re.search(r"\[(\d+)-(\d+)/24 (\d+)-(\d+)/(\d+)\]$", shown[at].ljust(columns))
+            if found:
+                return int(found[1]) - 1, int(found[3]) - 1, at, found.start()
+        return 0, 0, None, None
+
+    def shows(self, name):
+        """Whether the window shows the session's screen, or the part of it that its hint names, and nothing else."""
+        rows, columns = int(self.tells("pane_height")), int(self.tells("pane_width"))
+        shown = self.shown() + [""] * rows
+        top, left, hint, start = self.part(rows, columns, shown)
+        wanted = [line[left : left + columns].rstrip() for line in lines(name)[top : top + rows]]
+        wanted += [""] * (rows - len(wanted))
+        if hint is not None:
+            wanted[hint] = wanted[hint][:start].rstrip()
+            shown[hint] = shown[hint][:start].rstrip()
+        elif rows < 24 or columns < 80:
+            return self.tells("alternate_on") == "1" and (rows < 2 or columns < 20)
+        return self.tells("alternate_on") == "1" and shown[:rows] == wanted
+
+    def follows(self, name, what):
+        if not wait(lambda: self.shows(name), f"{what}: the outer terminal shows the screen"):
+            print(*self.shown(), "--", *lines(name), sep="\n", file=sys.stderr)
+
+    def is_left(self, what, *said):
+        """Whether the outer terminal is as it was, with these lines on it."""
+        if not wait(lambda: self.shown()[: 1 + len(said)] == ["BEFORE", *said], f"{what}: it says {said}"):
+            print(*self.shown(), "--", keep("list").stdout, sep="\n", file=sys.stderr)
+        check(self.tells("alternate_on") == "0" and self.tells("cursor_flag") == "1", f"{what}: the screen and the cursor are back")
+        wait(lambda: self.after.exists() and self.after.read_text() == self.before.read_text(), f"{what}: the line is as it was")
+        self.close()
+
+    def close(self):
+        tmux("kill-window", "-t", self.target)
+        for file in (self.before, self.after):
+            file.unlink(missing_ok=True)
+
+
+def tmux(*words):
+    command = ["tmux", "-u", "-S", str(ROOM / "tmux"), "-f", str(ROOM / "tmux.conf"), *words]
+    done = subprocess.run(command, env=ENVIRONMENT | {"LC_ALL": "C.UTF-8"}, capture_output=True, encoding="utf-8", timeout=PATIENCE)
+    return done.stdout
+
+
+def frame(letter, content=b""):
+    return letter + struct.pack("=I", len(content)) + content
+
+
+class Raw:
+    """A client that speaks to the socket itself. It asks with a letter, or sends `first` as it is."""
+
+    def __init__(self, name, letter, flags=0, first=None):
+        self.socket = socket.socket(socket.AF_UNIX)
+        self.socket.settimeout(PATIENCE)
+        self.hello = None
+        until(lambda: self.socket.connect_ex(str(SOCKETS / name)) == 0)
+        with contextlib.suppress(BrokenPipeError):
+            self.socket.send(b"keep\1\1" + letter + bytes([flags]) if first is None else first)
+        if first is None:
+            self.hello = self.frame()
+
+    def frame(self):
+        with contextlib.suppress(ConnectionResetError):
+            head = self.socket.recv(5, socket.MSG_WAITALL)
+            if len(head) == 5:
+                length = struct.unpack("=I", head[1:])[0]
+                return head[:1], self.socket.recv(length, socket.MSG_WAITALL) if length else b""
+        return b"", b""
+
+    def keys(self, keys):
+        for at in range(0, len(keys), 4096):
+            self.socket.sendall(frame(b"K", keys[at : at + 4096]))
+
+    def seen(self):
+        with contextlib.suppress(OSError):
+            self.socket.sendall(frame(b"S"))
+
+    def size(self):
+        """How many bytes wait in the socket."""
+        return struct.unpack("i", fcntl.ioctl(self.socket, termios.FIONREAD, bytes(4)))[0]
+
+    def close(self):
+        self.socket.close()
+
+
+class Terminal:
+    """An outer terminal of its own, whose bytes can be looked at: a command runs on it."""
+
+    def __init__(self, *words, rows=24, columns=80, script=None, **environment):
+        self.master, line = pty.openpty()
+        fcntl.ioctl(line, termios.TIOCSWINSZ, struct.pack("HHHH", rows, columns, 0, 0))
+        os.set_blocking(self.master, False)
+        self.got = b""
+
+        def own_line():
+            os.setsid()
+            fcntl.ioctl(0, termios.TIOCSCTTY, 0)
+
+        command = [KEEP, *words] if script is None else ["sh", "-c", script]
+        self.process = subprocess.Popen(command, stdin=line, stdout=line, stderr=line, preexec_fn=own_line, env=ENVIRONMENT | environment)
+        os.close(line)
+
+    def read(self):
+        with contextlib.suppress(BlockingIOError, OSError):
+            while True:
+                more = os.read(self.master, 65536)
+                if not more:
+                    break
+                self.got += more
+        return self.got
+
+    def shows(self, what):
+        return until(lambda: what in self.read())
+
+    def type(self, keys):
+        os.write(self.master, keys)
+
+    def status(self):
+        """The exit status of the command, once it has ended."""
+        until(lambda: self.read() is None or self.process.poll() is not None)
+        return self.process.returncode
+
+    def close(self):
+        self.process.kill()
+        self.process.wait()
+        os.close(self.master)
+
+
+def sweep():
+    """Ends all that the tests left."""
+    for line in keep("list", "--tsv").stdout.splitlines():
+        with contextlib.suppress(Exception):
+            keep("kill", line.split("\t")[0])
+    shutil.rmtree(ROOM, ignore_errors=True)
+
+
+def report(title):
+    """The last line, and the exit status."""
+    print(f"{title}: {passed} passed, {failed} failed")
+    sys.exit(failed != 0)

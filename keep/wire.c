@@ -1,0 +1,102 @@
+/* A client's side of the protocol. */
+#include "keep.h"
+#include <errno.h>
+#include <stdio.h>
+#include <string.h>
+#include <sys/socket.h>
+#include <sys/time.h>
+#include <unistd.h>
+
+enum { PATIENCE = 2, KILL_PATIENCE = 10 };
+
+void wire_patience(int socket, int seconds) {
+    struct timeval patience = {seconds, 0};
+    setsockopt(socket, SOL_SOCKET, SO_RCVTIMEO, &patience, sizeof patience);
+    setsockopt(socket, SOL_SOCKET, SO_SNDTIMEO, &patience, sizeof patience);
+}
+
+static bool receive(int socket, void *to, size_t len) {
+    for (size_t at = 0; at < len;) {
+        ssize_t n = recv(socket, (char *)to + at, len - at, 0);
+        if (n < 0 && errno == EINTR) continue;
+        if (n <= 0) return false;
+        at += (size_t)n;
+    }
+    return true;
+}
+
+static bool send_all(int socket, const void *bytes, size_t len) {
+    for (size_t at = 0; at < len;) {
+        ssize_t n = send(socket, (const char *)bytes + at, len - at, MSG_NOSIGNAL);
+        if (n < 0 && errno == EINTR) continue;
+        if (n <= 0) return false;
+        at += (size_t)n;
+    }
+    return true;
+}
+
+bool wire_send(int socket, char letter, const void *bytes, size_t len) {
+    uint8_t head[FRAME_HEAD] = {(uint8_t)letter};
+    uint32_t length = (uint32_t)len;
+    memcpy(head + 1, &length, sizeof length);
+    return send_all(socket, head, sizeof head) && send_all(socket, bytes, len);
+}
+
+bool wire_receive(int socket, char *letter, uint8_t *bytes, size_t room, size_t *len) {
+    uint8_t head[FRAME_HEAD];
+    uint32_t length;
+    if (!receive(socket, head, sizeof head)) return false;
+    *letter = (char)head[0];
+    memcpy(&length, head + 1, sizeof length);
+    *len = length;
+    return length <= room && receive(socket, bytes, length);
+}
+
+/* Asks, and reads the keeper's first frame. A keeper of before version 1 answers an empty FRAME_ANSWER. */
+int wire_begin(int socket, char ask, uint8_t flags, struct hello *hello, char *why) {
+    const uint8_t asked[HELLO_LENGTH] = {'k', 'e', 'e', 'p', PROTOCOL_LOWEST, PROTOCOL_HIGHEST, (uint8_t)ask, flags};
+    uint8_t told[256];
+    char letter;
+    size_t len;
+    wire_patience(socket, PATIENCE);
+    memset(hello, 0, sizeof *hello);
+    /* A keeper that lets nobody in closes at once, so what it said is read even if nothing could be sent. */
+    send_all(socket, asked, sizeof asked);
+    if (!wire_receive(socket, &letter, told, sizeof told - 1, &len)) return WIRE_SILENT;
+    if (letter == FRAME_FULL) return WIRE_FULL;
+    if (letter == FRAME_ANSWER) {
+        snprintf(why, WHY_LIMIT, "is kept by an older keep, whose protocol has no version; use that program");
+        return WIRE_OTHER_VERSION;
+    }
+    if (letter != FRAME_HELLO || len < 4) return WIRE_SILENT;
+    told[len] = 0;
+    *hello = (struct hello){told[0], told[1], told[2], told[3] != 0};
+    if (hello->version >= PROTOCOL_LOWEST && hello->version <= PROTOCOL_HIGHEST) return WIRE_OK;
+    for (uint8_t *at = told + 4; *at != 0; at++) *at = *at >= ' ' && *at <= '~' ? *at : '?';
+    snprintf(why, WHY_LIMIT, "is kept by keep %.100s, which speaks protocol %u to %u; this one speaks %u to %u", (char *)told + 4,
+             hello->lowest, hello->highest, PROTOCOL_LOWEST, PROTOCOL_HIGHEST);
+    return WIRE_OTHER_VERSION;
+}
+
+/* Ends the program unless the keeper will do what it is asked. */
+static void begin(int socket, const char *name, char ask) {
+    struct hello hello;
+    char why[WHY_LIMIT];
+    int result = wire_begin(socket, ask, 0, &hello, why);
+    if (result == WIRE_FULL) fail(1, "%s takes no more clients", name);
+    if (result == WIRE_OTHER_VERSION) fail(1, "%s %s", name, why);
+    if (result != WIRE_OK) fail(1, "%s doesn't answer", name);
+}
+
+size_t wire_ask(int socket, const char *name, char ask, const char *argument, uint8_t *bytes) {
+    char letter;
+    size_t len;
+    begin(socket, name, ask);
+    if (ask == ASK_KILL) wire_patience(socket, KILL_PATIENCE);
+    bool is_sent = argument == NULL || wire_send(socket, FRAME_NAME, argument, strlen(argument));
+    if (!is_sent || !wire_receive(socket, &letter, bytes, FRAME_LIMIT, &len)) fail(1, "%s doesn't answer", name);
+    if (letter == FRAME_REFUSED) fail(1, "%s: %.*s", name, (int)(len < WHY_LIMIT ? len : WHY_LIMIT), (char *)bytes);
+    if (letter != FRAME_ANSWER) fail(1, "%s doesn't answer", name);
+    close(socket);
+    return len;
+}

@@ -25,17 +25,19 @@ use Rattle.vt_screen.specs.declared.cell.Rendition.{Rendition}
 use Rattle.vt_paint.specs.Controls.{rendition_values}
 use Rattle.vt_paint.specs.Spoken.{Element, Character, Control, Escape, Sequence, element_bytes, is_one_of, is_among}
 use Rattle.vt_paint.specs.Spoken.{are_numbers, are_attributes, is_designation, mode_numbers, spoken_controls}
-use Rattle.vt_paint.specs.Spoken.{spoken_escapes, spoken_sequences, is_spoken, Speaks}
+use Rattle.vt_paint.specs.Spoken.{spoken_escapes, spoken_sequences, is_spoken, AreElements, Speaks}
+use Rattle.std.specs.Coded.{le_prop}
+use Rattle.std.proofs.Math.Logic.{∥∥₁_elim, ∥∥₁_map₂}
 
 both : (a b : Bool) → (a && b) ≡ true → (a ≡ true) × (b ≡ true)
 both true b h = (refl, h)
 both false b h = absurd cc
 
 pub speaks-none : Speaks []
-speaks-none = record { elements = []; are_spoken = refl; are_bytes = refl }
+speaks-none = ∣ record { elements = []; are_spoken = refl; are_bytes = refl } ∣₁
 
-pub speaks-append : (xs ys : List ℕ) → Speaks xs → Speaks ys → Speaks (xs ++ ys)
-speaks-append xs ys a b = record {
+elements-append : (xs ys : List ℕ) → AreElements xs → AreElements ys → AreElements (xs ++ ys)
+elements-append xs ys a b = record {
   elements = a.elements ++ b.elements;
   are_spoken = list_all-append is_spoken a.elements b.elements ∙ ap (λ t. t && list_all is_spoken b.elements) a.are_spoken
       ∙ b.are_spoken;
@@ -44,12 +46,15 @@ speaks-append xs ys a b = record {
       ∙ sym (flat_map-append element_bytes a.elements b.elements);
 }
 
+pub speaks-append : (xs ys : List ℕ) → Speaks xs → Speaks ys → Speaks (xs ++ ys)
+speaks-append xs ys a b = ∥∥₁_map₂ a b (elements-append xs ys)
+
 pub speaks-one : (element : Element) → is_spoken element ≡ true → Speaks (element_bytes element)
-speaks-one element h = record {
+speaks-one element h = ∣ record {
   elements = element ∷ [];
   are_spoken = ap (λ t. t && true) h;
   are_bytes = sym (append-nil (element_bytes element));
-}
+} ∣₁
 
 -- ---- ASCII
 
@@ -174,7 +179,7 @@ sequences_are =
     )
 
 element_ascii : (element : Element) → is_spoken element ≡ true → IsAscii (element_bytes element)
-unfolding is_spoken ascii_bytes fits
+unfolding ascii_bytes fits
 element_ascii (Character b) h =
     let two = both (leb 0x20 b) (leb b 0x7E) h in
     IsAscii-cons b [] (grind (arith, nat_tests, two.1)) IsAscii-nil
@@ -200,7 +205,8 @@ elements_ascii (element ∷ elements) h =
     (elements_ascii elements two.1)
 
 pub speaks-ascii : (bytes : List ℕ) → Speaks bytes → IsAscii bytes
-speaks-ascii bytes h = subst IsAscii (sym h.are_bytes) (elements_ascii h.elements h.are_spoken)
+speaks-ascii bytes h =
+    ∥∥₁_elim h (hlevel le_prop) (λ h. subst IsAscii (sym h.are_bytes) (elements_ascii h.elements h.are_spoken))
 
 -- ---- control sequences with numbers and modes
 
@@ -226,7 +232,6 @@ takes_numbers last = is_one_of (codes "CDHLMr") last
 
 pub numbers_spoken : (text : List ℕ) (last : ℕ) → takes_numbers last ≡ true → are_numbers text ≡ true
     → is_spoken (Sequence text (last ∷ [])) ≡ true
-unfolding is_spoken
 numbers_spoken text last h k = go (eqb 0x43 last) (eqb 0x44 last) (eqb 0x48 last) (eqb 0x4C last) (eqb 0x4D last)
     (eqb 0x72 last) refl refl refl refl refl refl h
   where
@@ -248,12 +253,10 @@ numbers_spoken text last h k = go (eqb 0x43 last) (eqb 0x44 last) (eqb 0x48 last
 
 pub mode_spoken : (text : List ℕ) (on : Bool) → is_among mode_numbers text ≡ true
     → is_spoken (Sequence text (cond on 0x68 0x6C ∷ [])) ≡ true
-unfolding is_spoken
 mode_spoken text true h = rw h refl
 mode_spoken text false h = rw h refl
 
 pub attributes_spoken : (text : List ℕ) → are_attributes text ≡ true → is_spoken (Sequence text (0x6D ∷ [])) ≡ true
-unfolding is_spoken
 attributes_spoken text h = rw h refl
 
 -- ---- elements that are events, spelled
@@ -265,12 +268,10 @@ sequence_speaks marker inter last values h =
     speaks-one (Sequence (spell_values marker values false) (option_to_list inter ++ last ∷ [])) h
 
 pub character_speaks : (b : ℕ) → 0x20 ≤ b → b ≤ 0x7E → Speaks (b ∷ [])
-unfolding is_spoken
 character_speaks b h k = speaks-one (Character b) (grind (arith, nat_tests, h, k))
 
 pub designation_speaks : (inter : ℕ) (set : Set) → is_one_of (codes "()*+") inter ≡ true
     → Speaks (0x1B ∷ inter ∷ final_of set ∷ [])
-unfolding is_spoken
 designation_speaks inter set h = 
     speaks-one (Escape (inter ∷ final_of set ∷ []))
     (either (is_among spoken_escapes (inter ∷ final_of set ∷ [])) (go set))
@@ -344,7 +345,7 @@ pub ansi_mode_spoken : (n : ℕ) (on : Bool) → is_ansi_mode n ≡ true
     → is_spoken (Sequence (spell_values None (n ∷ []) false) (cond on 0x68 0x6C ∷ [])) ≡ true
 unfolding AreAll digits
 ansi_mode_spoken n on h =
-    mode_spoken _ on
+    mode_spoken (spell_values None (n ∷ []) false) on
     (of_one (λ n. is_among mode_numbers (spell_values None (n ∷ []) false) ≡ true) (2 ∷ 4 ∷ 12 ∷ 20 ∷ []) n
     (refl, (refl, (refl, (refl, tt)))) h)
 
@@ -352,7 +353,7 @@ pub private_mode_spoken : (n : ℕ) (on : Bool) → is_private_mode n ≡ true
     → is_spoken (Sequence (spell_values (Some 0x3F) (n ∷ []) false) (cond on 0x68 0x6C ∷ [])) ≡ true
 unfolding AreAll digits
 private_mode_spoken n on h =
-    mode_spoken _ on
+    mode_spoken (spell_values (Some 0x3F) (n ∷ []) false) on
     (of_one (λ n. is_among mode_numbers (spell_values (Some 0x3F) (n ∷ []) false) ≡ true)
     (1 ∷ 3 ∷ 4 ∷ 5 ∷ 6 ∷ 7 ∷ 8 ∷ 25 ∷ []) n
     (refl, (refl, (refl, (refl, (refl, (refl, (refl, (refl, tt)))))))) h)

@@ -211,7 +211,7 @@ unfolding sequence_report
 tbc = plain_function 0x67 (omega arith, omega arith) (λ v s. refl)
 
 pub clear_within : AreSpelledWithin 4 (clear_all_tabs ∷ [])
-unfolding is_spoken digits
+unfolding digits
 clear_within =
     sequence_within 4 1 None None 0x67 (3 ∷ []) tbc (one_value 1 3 (omega arith) (one_digit 3 (omega arith)))
     (omega arith) refl
@@ -279,7 +279,7 @@ decstr = record {
 }
 
 pub soft_reset_within : AreSpelledWithin 5 (soft_reset ∷ [])
-unfolding is_spoken digits
+unfolding digits
 soft_reset_within = intermediate_within 0 0x21 0x70 (omega arith) decstr refl
 
 -- ---- the brush
@@ -294,7 +294,7 @@ decsca = record {
 }
 
 protection_within : (protected : Bool) → AreSpelledWithin 5 (protection_to protected ∷ [])
-unfolding is_spoken digits
+unfolding digits
 protection_within true = intermediate_within 1 0x22 0x71 (omega arith) decsca refl
 protection_within false = intermediate_within 0 0x22 0x71 (omega arith) decsca refl
 
@@ -389,50 +389,44 @@ brush_within brush =
 -- ---- controls and escape sequences
 
 pub set_tab_within : AreSpelledWithin 2 (set_tab ∷ [])
-unfolding control_report opens_string is_spoken
+unfolding control_report opens_string
 set_tab_within = within-one 2 set_tab (inr (omega arith, omega arith, refl)) (λ s. refl) (omega arith)
     (speaks-one (spoken.Escape (0x48 ∷ [])) refl)
 
 pub shift_to_2_within : AreSpelledWithin 2 (shift_to_2 ∷ [])
-unfolding control_report opens_string is_spoken
+unfolding control_report opens_string
 shift_to_2_within = within-one 2 shift_to_2 (inr (omega arith, omega arith, refl)) (λ s. refl) (omega arith)
     (speaks-one (spoken.Escape (0x4E ∷ [])) refl)
 
 pub shift_to_3_within : AreSpelledWithin 2 (shift_to_3 ∷ [])
-unfolding control_report opens_string is_spoken
+unfolding control_report opens_string
 shift_to_3_within = within-one 2 shift_to_3 (inr (omega arith, omega arith, refl)) (λ s. refl) (omega arith)
     (speaks-one (spoken.Escape (0x4F ∷ [])) refl)
 
 pub reset_within : AreSpelledWithin 2 (reset_to_initial_state ∷ [])
-unfolding is_spoken
 reset_within = within-one 2 reset_to_initial_state (tt, inr (omega arith, omega arith)) (λ s. refl) (omega arith)
     (speaks-one (spoken.Escape (0x63 ∷ [])) refl)
 
 pub save_within : AreSpelledWithin 2 (save_cursor ∷ [])
-unfolding is_spoken
 save_within = within-one 2 save_cursor (tt, inl (omega arith, omega arith)) (λ s. refl) (omega arith)
     (speaks-one (spoken.Escape (0x37 ∷ [])) refl)
 
 pub keypad_within : AreSpelledWithin 2 (application_keypad ∷ [])
-unfolding is_spoken
 keypad_within = within-one 2 application_keypad (tt, inl (omega arith, omega arith)) (λ s. refl) (omega arith)
     (speaks-one (spoken.Escape (0x3D ∷ [])) refl)
 
 pub reports_within : AreSpelledWithin 3 (reports_8bit ∷ [])
-unfolding is_spoken
 reports_within =
     within-one 3 reports_8bit ((omega arith, omega arith), (omega arith, omega arith)) (λ s. refl) (omega arith)
     (speaks-one (spoken.Escape (0x20 ∷ 0x47 ∷ [])) refl)
 
 pub keypad_event_within : (application : Bool) → AreSpelledWithin 2 (keypad_event application ∷ [])
-unfolding is_spoken
 keypad_event_within application =
     within-if 2 application _ _ keypad_within
     (within-one 2 (Escape None 0x3E) (tt, inl (omega arith, omega arith)) (λ s. refl) (omega arith)
     (speaks-one (spoken.Escape (0x3E ∷ [])) refl))
 
 pub report_form_event_within : (eight : Bool) → AreSpelledWithin 3 (report_form_event eight ∷ [])
-unfolding is_spoken
 report_form_event_within eight =
     within-if 3 eight _ _ reports_within
     (within-one 3 (Escape (Some 0x20) 0x46) ((omega arith, omega arith), (omega arith, omega arith)) (λ s. refl)
@@ -465,17 +459,16 @@ plain_escape_within last h k is =
 
 -- SI and SO
 shift_in_within : AreSpelledWithin 1 (Control 0x0F ∷ [])
-unfolding control_report is_spoken
+unfolding control_report
 shift_in_within = within-one 1 (Control 0x0F) (inl (omega arith, (λ e. omega arith), (λ e. omega arith))) (λ s. refl)
     (omega arith) (speaks-one (spoken.Control 0x0F) refl)
 
 shift_out_within : AreSpelledWithin 2 (Control 0x0E ∷ [])
-unfolding control_report is_spoken
+unfolding control_report
 shift_out_within = within-one 2 (Control 0x0E) (inl (omega arith, (λ e. omega arith), (λ e. omega arith))) (λ s. refl)
     (omega arith) (speaks-one (spoken.Control 0x0E) refl)
 
 left_within : (slot : ℕ) → AreSpelledWithin 2 (left_event slot ∷ [])
-unfolding is_spoken
 left_within slot =
     within-if 2 (eqb slot 0) _ _ (within-upto 1 2 _ (omega arith) shift_in_within)
     (within-if 2 (eqb slot 1) _ _ shift_out_within
@@ -483,7 +476,6 @@ left_within slot =
     (plain_escape_within 0x6F (omega arith) (omega arith) refl)))
 
 right_within : (slot : ℕ) → AreSpelledWithin 2 (right_event slot ∷ [])
-unfolding is_spoken
 right_within slot =
     within-if 2 (eqb slot 1) _ _ (plain_escape_within 0x7E (omega arith) (omega arith) refl)
     (within-if 2 (eqb slot 2) _ _ (plain_escape_within 0x7D (omega arith) (omega arith) refl)

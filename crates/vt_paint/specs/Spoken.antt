@@ -80,7 +80,7 @@ spoken_sequences =
     ∷ (codes "!p", is_among (codes "0" ∷ []))
     ∷ []
 
-unfoldable pub is_spoken : Element → Bool
+abbrev pub is_spoken : Element → Bool
 is_spoken (Character b) = nat_le 0x20 b && nat_le b 0x7E
 is_spoken (Control b) = is_one_of spoken_controls b
 is_spoken (Escape ending) = is_among spoken_escapes ending || is_designation ending
@@ -88,7 +88,11 @@ is_spoken (Sequence parameters ending) =
     list_any (λ (row : List ℕ × (List ℕ → Bool)). bytes_eq row.0 ending && row.1 parameters) spoken_sequences
 
 -- the bytes are elements of the tables, one after another
-pub record Speaks (bytes : List ℕ) : Type 0 where
+pub record AreElements (bytes : List ℕ) : Type 0 where
   pub elements : List Element
   pub are_spoken : list_all is_spoken elements ≡ true
   pub are_bytes : bytes ≡ flat_map element_bytes elements
+
+-- there are such elements
+abbrev pub Speaks : List ℕ → Type 0
+Speaks bytes = ∥ AreElements bytes ∥₁

@@ -7,4 +7,5 @@ returns-then-not-send_choice-clause-leads c =
     let taken : c.send_choice.new.out.items ≡ c.args.out.now.items = search (rules, c.if-not-send_choice.true) in
     let same = c.same_columns.ensures.0 (search (rules, c.if-not-same_columns.false)) in
     subst (λ (before : List ℕ). Updates c.args.shown.now c.args.to.now before c.send_changes.new.out.items) taken
-    (c.send_changes.ensures.leads c.args.shown.now (search rules) (c.changed_places-marks.ensures same.1))
+    (c.send_changes.ensures.leads c.args.shown.now (search rules)
+    (record { width = same.0; stops = same.1; marked = c.changed_places-marks.ensures.marked }))

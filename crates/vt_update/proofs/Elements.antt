@@ -2,6 +2,7 @@
 use Rattle.std.proofs.Common.{◌≡◌, Bool, true, false, ℕ, ◌+◌, ◌-◌, ◌<◌, ◌≤◌, List, [], ◌∷◌, ◌++◌, length, take, drop, refl}
 use Rattle.std.proofs.Common.{sym, ap, subst, ◌∙◌, append_assoc, arith, set}
 use Rattle.std.proofs.lemmas.List.{take_more_set}
+use Rattle.std.proofs.Math.Seq.{drop-append_seam}
 use Rattle.vt_paint.specs.Spoken.{are_attributes, Speaks}
 use Rattle.vt_paint.proofs.Speech.{speaks-append, character_speaks}
 use Rattle.vt_update.specs.Attributes.{attributes}
@@ -70,3 +71,10 @@ attributes_behind false false true true = refl
 attributes_behind false false true false = refl
 attributes_behind false false false true = refl
 attributes_behind false false false false = refl
+
+-- what stands behind what was there before
+pub behind_speaks : (old sent now : List ℕ) (n : ℕ) → n ≡ length old → now ≡ old ++ sent → Speaks sent
+    → Speaks (drop n now)
+behind_speaks old sent now n e h k =
+    subst Speaks
+    (sym (ap (λ n. drop n now) e ∙ ap (λ (xs : List ℕ). drop (length old) xs) h ∙ drop-append_seam old sent)) k

@@ -1,8 +1,11 @@
 //! Room that the calls which write a whole screen work in. Many terminals share one.
-ghost use Rattle.std.specs.Prelude.{◌≡◌, ◌↔◌, ◌≤◌, IsTrue, true, false, length};
+ghost use Rattle.std.specs.Prelude.{◌≡◌, ◌↔◌, ◌+◌, ◌*◌, ◌≤◌, IsTrue, true, false, length, take};
+ghost use Rattle.std.specs.Str.{IsAscii};
 ghost use Rattle.vt_syntax.specs.declared.held.Held.TheVariants.{Nothing};
 ghost use Rattle.vt_term.specs.Text.{text};
 ghost use Rattle.vt_paint.specs.Repaint.{paint};
+ghost use Rattle.vt_paint.specs.Changes.{differing};
+ghost use Rattle.vt_paint.specs.Spoken.{Speaks};
 ghost use Rattle.vt220_c.specs.Written.{written_over, UpdatedOver};
 
 use crate::bytes::{Copied, copy_out};
@@ -70,6 +73,11 @@ impl Scratch {
         ensures shown { shown.new ≡ to.now }
         ensures out { UpdatedOver shown.old to.now out.old out.new result }
         ensures nothing { (result ≡ 0) ↔ (shown.old ≡ to.now) }
+        ensures small { shown.old.display.grid.width ≡ to.now.display.grid.width
+            → shown.old.display.stops ≡ to.now.display.stops
+            → result ≤ 28 * differing shown.old.display.grid to.now.display.grid + 230 }
+        ensures speaks { Speaks (take result out.new) }
+        ensures ascii { IsAscii (take result out.new) }
     {
         self.room.clear();
         shown.update(to, &mut self.room);

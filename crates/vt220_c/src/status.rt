@@ -1,4 +1,4 @@
-//! What the calls answer.
+//! What the calls answer: the numbers that `specs/Status` states, and the header.
 
 /// It was done.
 pub(crate) const OK: u32 = 0;

@@ -14,7 +14,7 @@ use Rattle.vt_term.specs.Functions.{sequence_in, sequences_of}
 use Rattle.vt_paint.specs.Same.{same_brush}
 use Rattle.vt_paint.specs.Controls.{cursor_position, protection_to, rendition_to, brush_events}
 use Rattle.vt_paint.specs.Pieces.{glyph_events}
-use Rattle.vt_paint.specs.Changes.{same_cell, differs_at, is_marked}
+use Rattle.vt_paint.specs.Changes.{same_cell, differs_at, is_marked, AreMarked}
 use Rattle.vt_paint.specs.ChangeEvents.{has_all, all_attributes, short_brush_events, change_of, change, changes_from}
 use Rattle.vt_paint.specs.ChangeEvents.{changed_row, changed_rows, changed_cells}
 use Rattle.vt_paint.proofs.LowerLaws.{GridLaws, GlyphLaws}
@@ -67,10 +67,6 @@ short_brush_leaves x brush = go (has_all brush.rendition) refl
     go false e = brush_leaves x brush
 
 -- ---- the cells
-
--- the marks are at the places at which the cells differ from those underneath
-abbrev pub AreMarked : List (List Bool) → Grid → Grid → Type 0
-AreMarked marks b g = (r c : ℕ) → 1 ≤ r → r ≤ 24 → 1 ≤ c → c ≤ g.width → is_marked marks r c ≡ differs_at b g r c
 
 -- the cells before a place are written
 pub record IsWritten (base : Display) (b g : Grid) (r c : ℕ) (x : Display) : Type 0 where

@@ -34,33 +34,36 @@ use Rattle.vt_paint.proofs.Within.{short_brush_within, save_within, keypad_event
 use Rattle.vt_paint.proofs.Within.{sets_within, spelling_sets_within}
 use Rattle.vt_paint.proofs.Whole.{glyph_within, wrap_item_within, margins_item_within, shift_item_within, line_small}
 use Rattle.vt_paint.proofs.Whole.{width_small, sound_glyphs}
-use Rattle.vt_paint.proofs.ChangeRuns.{AreMarked}
+use Rattle.vt_paint.specs.Changes.{AreMarked}
+use Rattle.vt_paint.specs.Spoken.{Speaks}
+use Rattle.std.proofs.Common.{drop, subst}
+use Rattle.std.proofs.Math.Seq.{drop-append_seam}
 use Rattle.vt_paint.proofs.ChangeChain.{changes_leaves}
 
 -- ---- the items are fine
 
 start_within : AreSpelledWithin 10 start_item
 unfolding start_item
-start_within = within-append 5 5 (soft_reset ∷ []) _ soft_reset_within (small_private_mode_within 7 true (omega arith))
+start_within = within-append 5 5 (soft_reset ∷ []) _ soft_reset_within (small_private_mode_within 7 true (omega arith) refl)
 
 small_origin_within : (on : Bool) → AreSpelledWithin 5 (origin_item on)
 unfolding origin_item
-small_origin_within on = within-where 5 on _ (small_private_mode_within 6 true (omega arith))
+small_origin_within on = within-where 5 on _ (small_private_mode_within 6 true (omega arith) refl)
 
 every_mode_within : (m : Modes) → AreSpelledWithin 54 (every_mode m)
 unfolding every_mode
 every_mode_within m =
     within-upto _ 54 _ (omega arith)
-    (within-append _ _ (ansi_mode 2 m.kam ∷ []) _ (small_ansi_mode_within 2 m.kam (omega arith))
-    (within-append _ _ (ansi_mode 4 m.irm ∷ []) _ (small_ansi_mode_within 4 m.irm (omega arith))
-    (within-append _ _ (ansi_mode 12 m.srm ∷ []) _ (ansi_mode_within 12 m.srm (omega arith))
-    (within-append _ _ (ansi_mode 20 m.lnm ∷ []) _ (ansi_mode_within 20 m.lnm (omega arith))
-    (within-append _ _ (private_mode 1 m.decckm ∷ []) _ (small_private_mode_within 1 m.decckm (omega arith))
-    (within-append _ _ (private_mode 4 m.decsclm ∷ []) _ (small_private_mode_within 4 m.decsclm (omega arith))
-    (within-append _ _ (private_mode 5 m.decscnm ∷ []) _ (small_private_mode_within 5 m.decscnm (omega arith))
-    (within-append _ _ (private_mode 7 m.decawm ∷ []) _ (small_private_mode_within 7 m.decawm (omega arith))
-    (within-append _ _ (private_mode 8 m.decarm ∷ []) _ (small_private_mode_within 8 m.decarm (omega arith))
-    (within-append _ _ (private_mode 25 m.dectcem ∷ []) _ (private_mode_within 25 m.dectcem (omega arith))
+    (within-append _ _ (ansi_mode 2 m.kam ∷ []) _ (small_ansi_mode_within 2 m.kam (omega arith) refl)
+    (within-append _ _ (ansi_mode 4 m.irm ∷ []) _ (small_ansi_mode_within 4 m.irm (omega arith) refl)
+    (within-append _ _ (ansi_mode 12 m.srm ∷ []) _ (ansi_mode_within 12 m.srm (omega arith) refl)
+    (within-append _ _ (ansi_mode 20 m.lnm ∷ []) _ (ansi_mode_within 20 m.lnm (omega arith) refl)
+    (within-append _ _ (private_mode 1 m.decckm ∷ []) _ (small_private_mode_within 1 m.decckm (omega arith) refl)
+    (within-append _ _ (private_mode 4 m.decsclm ∷ []) _ (small_private_mode_within 4 m.decsclm (omega arith) refl)
+    (within-append _ _ (private_mode 5 m.decscnm ∷ []) _ (small_private_mode_within 5 m.decscnm (omega arith) refl)
+    (within-append _ _ (private_mode 7 m.decawm ∷ []) _ (small_private_mode_within 7 m.decawm (omega arith) refl)
+    (within-append _ _ (private_mode 8 m.decarm ∷ []) _ (small_private_mode_within 8 m.decarm (omega arith) refl)
+    (within-append _ _ (private_mode 25 m.dectcem ∷ []) _ (private_mode_within 25 m.dectcem (omega arith) refl)
     (within-append _ _ (keypad_event m.keypad_application ∷ []) _ (keypad_event_within m.keypad_application)
     (report_form_event_within m.reports_8bit))))))))))))
 
@@ -144,7 +147,7 @@ module _ (grids : GridLaws) (glyphs : GlyphLaws) where
       (within-append _ _ _ _ spelling_sets_within
       (within-append _ _ (margins_item s.margins) _ (margins_item_within s.margins top i.margins.to_last_row)
       (within-append _ _ (private_mode decom s.modes.decom ∷ []) _
-      (small_private_mode_within 6 s.modes.decom (omega arith))
+      (small_private_mode_within 6 s.modes.decom (omega arith) refl)
       (within-append _ _ (position_item s) _
       (cursor_position_within (line_of_cursor s) s.cursor.col (line_small s i) col)
       (within-append _ _ (wrap_item s.grid s.cursor) _ (wrap_item_within glyphs s.grid s.cursor are)
@@ -158,6 +161,13 @@ module _ (grids : GridLaws) (glyphs : GlyphLaws) where
   few marks s t before i changes =
       let short = (changes_within marks s t i changes).short in
       rw (length-append before (spell_events (change_events marks s))) (omega (arith, short))
+
+  pub changes_speak : (marks : List (List Bool)) (s t : Display) (before : List ℕ) → IsSoundDisplay s
+      → AreChanges marks t s
+      → Speaks (drop (length before) (before ++ spell_events (change_events marks s)))
+  changes_speak marks s t before i changes =
+      subst Speaks (sym (drop-append_seam before (spell_events (change_events marks s))))
+      (changes_within marks s t i changes).speaks
 
   module _ (reading : SpellingLaw) where
     -- the bytes are the events, whatever is held before them

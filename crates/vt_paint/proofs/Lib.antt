@@ -9,6 +9,7 @@ pub mod Stops
 pub mod ModeItems
 pub mod SavedRecord
 pub mod Chain
+pub mod Speech
 pub mod Within
 pub mod Whole
 pub mod Canonical

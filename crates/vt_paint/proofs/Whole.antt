@@ -33,6 +33,8 @@ use Rattle.vt_paint.specs.Items.{reset_item, stop_events, stops_from, is_wide, m
 use Rattle.vt_paint.specs.Items.{saved_item, cells_item, margins_item, origin_item, position_item, wrap_item}
 use Rattle.vt_paint.specs.Items.{ansi_mode_item, private_mode_item, modes_item, shift_item}
 use Rattle.vt_paint.specs.Repaint.{repaint_events, paint}
+use Rattle.vt_paint.specs.Spoken.{Speaks}
+use Rattle.vt_paint.proofs.Speech.{speaks-ascii, is_ansi_mode, is_private_mode}
 use Rattle.vt_paint.proofs.LowerLaws.{GridLaws, GlyphLaws}
 use Rattle.vt_paint.proofs.AfterEvents.{display_after, display_after-then, display_after-after_events}
 use Rattle.vt_paint.proofs.Within.{AreSpelledWithin, within-append, within-upto, within-none, within-where}
@@ -71,26 +73,26 @@ stops_item_within width stops = go (pointwise same_bool stops stops_at_power_up)
         (private_mode deccolm true ∷ clear_all_tabs
         ∷ (stops_from stops 1 132 ++ where_true (not (is_wide width)) (private_mode deccolm false ∷ []))))
     go true = within-where 1336 (is_wide width) _
-        (within-upto 6 1336 _ (omega arith) (private_mode_within 3 true (omega arith)))
+        (within-upto 6 1336 _ (omega arith) (private_mode_within 3 true (omega arith) refl))
     go false =
         within-upto _ 1336 _ (omega arith)
-        (within-append _ _ (private_mode deccolm true ∷ []) _ (private_mode_within 3 true (omega arith))
+        (within-append _ _ (private_mode deccolm true ∷ []) _ (private_mode_within 3 true (omega arith) refl)
         (within-append _ _ (clear_all_tabs ∷ []) _ clear_within
         (within-append _ _ (stops_from stops 1 132) _ (stops_from_within stops 132 1 (omega arith))
-        (within-where 6 (not (is_wide width)) _ (private_mode_within 3 false (omega arith))))))
+        (within-where 6 (not (is_wide width)) _ (private_mode_within 3 false (omega arith) refl)))))
 
 saved_item_within : (saved : Saved) → saved.row ≤ 24 → saved.col ≤ 132 → AreSpelledWithin 57 (saved_item saved)
 unfolding saved_item saved_events
 saved_item_within saved h k =
     within-where 57 (not (same_saved saved saved_at_power_up)) (saved_events saved)
     (within-upto _ 57 _ (omega arith)
-    (within-append _ _ _ _ (within-where 6 saved.origin _ (private_mode_within 6 true (omega arith)))
+    (within-append _ _ _ _ (within-where 6 saved.origin _ (private_mode_within 6 true (omega arith) refl))
     (within-append _ _ (cursor_position saved.row saved.col ∷ []) _ (cursor_position_within saved.row saved.col h k)
     (within-append _ _ _ _ (within-where 1 saved.wrap _ (print_within 0x20 (omega arith) (omega arith)))
     (within-append _ _ _ _ (brush_within saved.brush)
     (within-append _ _ _ _ (sets_within (saved_sets saved))
     (within-append _ _ (save_cursor ∷ []) _ save_within
-    (within-where 6 saved.origin _ (private_mode_within 6 false (omega arith))))))))))
+    (within-where 6 saved.origin _ (private_mode_within 6 false (omega arith) refl)))))))))
 
 module _ (glyphs : GlyphLaws) where
   pub glyph_within : (cell : Cell) → IsGlyph cell.glyph → AreSpelledWithin 3 (glyph_events cell)
@@ -147,7 +149,7 @@ margins_item_within m h k = within-unless 8 (eqb m.top 1 && eqb m.bottom 24) _ (
 
 origin_item_within : (on : Bool) → AreSpelledWithin 6 (origin_item on)
 unfolding origin_item
-origin_item_within on = within-where 6 on _ (private_mode_within 6 true (omega arith))
+origin_item_within on = within-where 6 on _ (private_mode_within 6 true (omega arith) refl)
 
 pub line_small : (s : Display) → IsSoundDisplay s → line_of_cursor s ≤ 24
 line_small s i = go s.modes.decom
@@ -156,26 +158,28 @@ line_small s i = go s.modes.decom
     go true = omega (arith, i.cursor.row_24, i.margins.from_row_1)
     go false = i.cursor.row_24
 
-ansi_within : (n : ℕ) (at_power_up on : Bool) → n < 100 → AreSpelledWithin 5 (ansi_mode_item n at_power_up on)
-ansi_within n at_power_up on h = within-unless 5 (same_bool at_power_up on) _ (ansi_mode_within n on h)
+ansi_within : (n : ℕ) (at_power_up on : Bool) → n < 100 → is_ansi_mode n ≡ true
+    → AreSpelledWithin 5 (ansi_mode_item n at_power_up on)
+ansi_within n at_power_up on h is = within-unless 5 (same_bool at_power_up on) _ (ansi_mode_within n on h is)
 
-private_within : (n : ℕ) (at_power_up on : Bool) → n < 100 → AreSpelledWithin 6 (private_mode_item n at_power_up on)
-private_within n at_power_up on h = within-unless 6 (same_bool at_power_up on) _ (private_mode_within n on h)
+private_within : (n : ℕ) (at_power_up on : Bool) → n < 100 → is_private_mode n ≡ true
+    → AreSpelledWithin 6 (private_mode_item n at_power_up on)
+private_within n at_power_up on h is = within-unless 6 (same_bool at_power_up on) _ (private_mode_within n on h is)
 
 modes_item_within : (m : Modes) → AreSpelledWithin 61 (modes_item m)
 unfolding modes_item
 modes_item_within m =
     within-upto _ 61 _ (omega arith)
-    (within-append _ _ _ _ (ansi_within 2 false m.kam (omega arith))
-    (within-append _ _ _ _ (ansi_within 4 false m.irm (omega arith))
-    (within-append _ _ _ _ (ansi_within 12 true m.srm (omega arith))
-    (within-append _ _ _ _ (ansi_within 20 false m.lnm (omega arith))
-    (within-append _ _ _ _ (private_within 1 false m.decckm (omega arith))
-    (within-append _ _ _ _ (private_within 4 false m.decsclm (omega arith))
-    (within-append _ _ _ _ (private_within 5 false m.decscnm (omega arith))
-    (within-append _ _ _ _ (private_within 7 true m.decawm (omega arith))
-    (within-append _ _ _ _ (private_within 8 true m.decarm (omega arith))
-    (within-append _ _ _ _ (private_within 25 true m.dectcem (omega arith))
+    (within-append _ _ _ _ (ansi_within 2 false m.kam (omega arith) refl)
+    (within-append _ _ _ _ (ansi_within 4 false m.irm (omega arith) refl)
+    (within-append _ _ _ _ (ansi_within 12 true m.srm (omega arith) refl)
+    (within-append _ _ _ _ (ansi_within 20 false m.lnm (omega arith) refl)
+    (within-append _ _ _ _ (private_within 1 false m.decckm (omega arith) refl)
+    (within-append _ _ _ _ (private_within 4 false m.decsclm (omega arith) refl)
+    (within-append _ _ _ _ (private_within 5 false m.decscnm (omega arith) refl)
+    (within-append _ _ _ _ (private_within 7 true m.decawm (omega arith) refl)
+    (within-append _ _ _ _ (private_within 8 true m.decarm (omega arith) refl)
+    (within-append _ _ _ _ (private_within 25 true m.dectcem (omega arith) refl)
     (within-append _ _ _ _ (within-where 2 m.keypad_application _ keypad_within)
     (within-where 3 m.reports_8bit _ reports_within))))))))))))
 
@@ -267,9 +271,12 @@ module _ (grids : GridLaws) (glyphs : GlyphLaws) where
   unfolding paint
   short s i = (repaint_within s.display i.display).short
 
-  pub ascii : (s : State) → IsSound s → IsAscii (paint s)
+  pub speaks : (s : State) → IsSound s → Speaks (paint s)
   unfolding paint
-  ascii s i = (repaint_within s.display i.display).ascii
+  speaks s i = (repaint_within s.display i.display).speaks
+
+  pub ascii : (s : State) → IsSound s → IsAscii (paint s)
+  ascii s i = speaks-ascii (paint s) (speaks s i)
 
   module _ (reading : SpellingLaw) where
     -- the bytes are the events, whatever is held before them

@@ -6,13 +6,9 @@ use Rattle.std.specs.Prelude.{All, decimal}
 use Rattle.std.specs.List.{join_with_byte}
 use Rattle.std.proofs.lemmas.List.Elements.{All-nil, All-cons, All-append}
 use Rattle.std.proofs.lemmas.Grind.{flat_map-append}
-use Rattle.std.proofs.lemmas.Fmt.{length-decimal-le, IsAscii-decimal}
+use Rattle.std.proofs.lemmas.Fmt.{length-decimal-le}
 use Rattle.std.specs.Prelude.{IfSome}
 use Rattle.std.specs.Option.{option_to_list}
-use Rattle.std.specs.Str.{IsAscii}
-use Rattle.std.proofs.lemmas.Str.{IsAscii-append}
-use Rattle.std.proofs.lemmas.Str.Ascii.{IsAscii-nil}
-use Rattle.std.proofs.lemmas.Bool.Decides.{nat_tests}
 use Rattle.vt_syntax.specs.Held.{spell_values}
 use Rattle.vt_syntax.specs.declared.event.Event.{Event}
 use Rattle.vt_syntax.specs.declared.event.Event.TheVariants.{Print, Control, Escape, Sequence}
@@ -33,6 +29,14 @@ use Rattle.vt_term.specs.State.{Display}
 use Rattle.vt_term.specs.Functions.{effect}
 use Rattle.vt_term.specs.Reports.{report, control_report, sequence_report}
 use Rattle.vt_term.specs.Play.{reports_of, after_events}
+use Rattle.std.proofs.Common.{subst, append-nil, codes}
+use Rattle.std.specs.Fmt.{digits}
+use Rattle.vt_paint.specs.Spoken.{is_one_of, are_numbers, are_attributes, is_spoken, Speaks}
+use Rattle.vt_paint.specs.Spoken as spoken
+use Rattle.vt_paint.proofs.Speech.{speaks-none, speaks-append, speaks-one, two_numbers_are, takes_numbers}
+use Rattle.vt_paint.proofs.Speech.{numbers_spoken, attributes_spoken, sequence_speaks, character_speaks}
+use Rattle.vt_paint.proofs.Speech.{designation_speaks, rendition_speaks, all_attributes_speak, is_ansi_mode}
+use Rattle.vt_paint.proofs.Speech.{is_private_mode, ansi_mode_spoken, private_mode_spoken}
 use Rattle.vt_paint.specs.ChangeEvents.{soft_reset, keypad_event, report_form_event, has_all, all_attributes}
 use Rattle.vt_paint.specs.ChangeEvents.{short_rendition, short_brush_events}
 use Rattle.vt_paint.specs.Controls.{where_true, ansi_mode, private_mode, cursor_position, margins_to, clear_all_tabs}
@@ -40,76 +44,12 @@ use Rattle.vt_paint.specs.Controls.{rendition_to, protection_to, brush_events, s
 use Rattle.vt_paint.specs.Controls.{reset_to_initial_state, save_cursor, application_keypad, reports_8bit, left_event}
 use Rattle.vt_paint.specs.Controls.{right_event, sets_events, spelling_sets_events, spelling_events}
 
--- ---- seven bits
-
--- a graphic byte of the left half, or another event
-abbrev pub IsSevenBit : Event → Type 0
-IsSevenBit (Print b) = b < 0x80
-IsSevenBit (Control b) = Unit {0}
-IsSevenBit (Escape inter last) = Unit {0}
-IsSevenBit (Sequence marker params inter last) = Unit {0}
-
-ascii-cons : (b : ℕ) (bytes : List ℕ) → b < 128 → IsAscii bytes → IsAscii (b ∷ bytes)
-ascii-cons b bytes h k zero = h
-ascii-cons b bytes h k (suc i) = k i
-
-one_ascii : (b : ℕ) → b < 128 → IsAscii (b ∷ [])
-one_ascii b h = ascii-cons b [] h IsAscii-nil
-
-joined_ascii : (values : List ℕ) → All (λ v. v ≤ 9999) values → IsAscii (join_with_byte 0x3B (map decimal values))
-joined_ascii [] h = IsAscii-nil
-joined_ascii (v ∷ []) h = let small = h 0 0 (omega arith) in IsAscii-decimal v (omega arith)
-joined_ascii (v ∷ w ∷ values) h =
-    let small = h 0 0 (omega arith) in
-    IsAscii-append (decimal v) (0x3B ∷ join_with_byte 0x3B (map decimal (w ∷ values))) (IsAscii-decimal v (omega arith))
-    (ascii-cons 0x3B _ (omega arith) (joined_ascii (w ∷ values) (λ k e l. h (suc k) e (omega arith))))
-
--- an intermediate and a final byte
-last_ascii : (inter : Option ℕ) (last : ℕ) → IfSome inter IsIntermediate → last < 128
-    → IsAscii (option_to_list inter ++ last ∷ [])
-last_ascii None last h k = one_ascii last k
-last_ascii (Some i) last h k = ascii-cons i (last ∷ []) (omega (arith, h)) (one_ascii last k)
-
-marker_ascii : (marker : Option ℕ) → IfSome marker IsMarker → IsAscii (option_to_list marker)
-marker_ascii None h = IsAscii-nil
-marker_ascii (Some m) h = one_ascii m (omega (arith, h))
-
-final_ascii : (inter : Option ℕ) (last : ℕ) → IsEscapeFinal inter last → last < 128
-final_ascii None last (inl h) = omega (arith, h)
-final_ascii None last (inr h) = omega (arith, h)
-final_ascii (Some i) last h = omega (arith, h)
-
-control_ascii : (b : ℕ) (t : Bool) → ltb b 0x80 ≡ t → b < 0xA0 → IsAscii (cond t (b ∷ []) (0x1B ∷ (b - 0x40) ∷ []))
-control_ascii b true e h = one_ascii b (grind (arith, nat_tests))
-control_ascii b false e h = ascii-cons 0x1B ((b - 0x40) ∷ []) (omega arith) (one_ascii (b - 0x40) (omega arith))
-
-control_small : (b : ℕ) → IsEvent (Control b) → b < 0xA0
-control_small b (inl h) = omega (arith, h)
-control_small b (inr h) = omega (arith, h)
-
-spelled_ascii : (e : Event) → IsEvent e → IsSevenBit e → IsAscii (spell_event e)
-spelled_ascii (Print b) is seven = one_ascii b seven
-spelled_ascii (Control b) is seven = control_ascii b (ltb b 0x80) refl (control_small b is)
-spelled_ascii (Escape inter last) is seven =
-    ascii-cons 0x1B (option_to_list inter ++ last ∷ []) (omega arith)
-    (last_ascii inter last is.0 (final_ascii inter last is.1))
-spelled_ascii (Sequence marker params inter last) is seven =
-    let high = is.high in
-    let bytes = spell_values marker params.items false ++ (option_to_list inter ++ last ∷ []) in
-    ascii-cons 0x1B (0x5B ∷ bytes) (omega arith)
-    (ascii-cons 0x5B bytes (omega arith)
-    (IsAscii-append (spell_values marker params.items false) (option_to_list inter ++ last ∷ [])
-    (IsAscii-append (option_to_list marker ++ join_with_byte 0x3B (map decimal params.items)) []
-    (IsAscii-append (option_to_list marker) (join_with_byte 0x3B (map decimal params.items))
-    (marker_ascii marker is.is_marker) (joined_ascii params.items is.are_values.small)) IsAscii-nil)
-    (last_ascii inter last is.is_intermediate (omega arith))))
-
--- these are events, which report nothing, and their spelling has at most n bytes
+-- these are events, which report nothing, and their spelling is spoken and has at most n bytes
 pub record AreSpelledWithin (n : ℕ) (es : List Event) : Type 0 where
   pub events : All IsEvent es
   pub silent : (s : Display) → reports_of es s ≡ []
   pub short : length (spell_events es) ≤ n
-  pub ascii : IsAscii (spell_events es)
+  pub speaks : Speaks (spell_events es)
 
 reports-append : (es fs : List Event) (s : Display)
     → reports_of (es ++ fs) s ≡ reports_of es s ++ reports_of fs (after_events es s)
@@ -126,7 +66,8 @@ within-append m n es fs h k = record {
       ∙ k.silent (after_events es s);
   short = rw (flat_map-append spell_event es fs, length-append (spell_events es) (spell_events fs))
       (omega (arith, h.short, k.short));
-  ascii = rw (flat_map-append spell_event es fs) (IsAscii-append (spell_events es) (spell_events fs) h.ascii k.ascii);
+  speaks = rw (flat_map-append spell_event es fs)
+      (speaks-append (spell_events es) (spell_events fs) h.speaks k.speaks);
 }
 
 pub within-upto : (m n : ℕ) (es : List Event) → m ≤ n → AreSpelledWithin m es → AreSpelledWithin n es
@@ -134,20 +75,20 @@ within-upto m n es l h = record {
   events = h.events;
   silent = h.silent;
   short = omega (arith, h.short);
-  ascii =
-      h.ascii;
+  speaks =
+      h.speaks;
 }
 
 pub within-none : AreSpelledWithin 0 []
-within-none = record { events = All-nil IsEvent; silent = λ s. refl; short = omega arith; ascii = IsAscii-nil }
+within-none = record { events = All-nil IsEvent; silent = λ s. refl; short = omega arith; speaks = speaks-none }
 
 within-one : (n : ℕ) (e : Event) → IsEvent e → ((s : Display) → report e s ≡ []) → length (spell_event e) ≤ n
-    → IsSevenBit e → AreSpelledWithin n (e ∷ [])
-within-one n e is silent short seven = record {
+    → Speaks (spell_event e) → AreSpelledWithin n (e ∷ [])
+within-one n e is silent short spoken = record {
   events = All-cons IsEvent e [] is (All-nil IsEvent);
   silent = λ s. ap (λ (bytes : List ℕ). bytes ++ []) (silent s);
   short = rw (length-append (spell_event e) []) (omega (arith, short));
-  ascii = IsAscii-append (spell_event e) [] (spelled_ascii e is seven) IsAscii-nil;
+  speaks = speaks-append (spell_event e) [] spoken speaks-none;
 }
 
 pub within-where : (n : ℕ) (b : Bool) (es : List Event) → AreSpelledWithin n es → AreSpelledWithin n (where_true b es)
@@ -211,8 +152,9 @@ record NamesFunction (marker inter : Option ℕ) (last : ℕ) : Type 0 where
 
 sequence_within : (n d : ℕ) (marker inter : Option ℕ) (last : ℕ) (values : List ℕ) → NamesFunction marker inter last
     → AreShort d values → length (option_to_list marker) + d + length (option_to_list inter) + 3 ≤ n
+    → is_spoken (spoken.Sequence (spell_values marker values false) (option_to_list inter ++ last ∷ [])) ≡ true
     → AreSpelledWithin n (Sequence marker (record { items = values }) inter last ∷ [])
-sequence_within n d marker inter last values f v room =
+sequence_within n d marker inter last values f v room speaks =
     let short = v.short in
     within-one n (Sequence marker (record { items = values }) inter last)
     (record {
@@ -221,12 +163,21 @@ sequence_within n d marker inter last values f v room =
       is_intermediate = f.is_intermediate;
       low = f.final.0;
       high = f.final.1;
-    }) (λ s. f.silent _ s) (simp length-append (omega (arith, room, short))) tt
+    }) (λ s. f.silent _ s) (simp length-append (omega (arith, room, short)))
+    (sequence_speaks marker inter last values speaks)
 
 -- no marker and no intermediate
 plain_function : (last : ℕ) → (0x40 ≤ last) × (last ≤ 0x7E)
     → ((v : ℕ) (s : Display) → sequence_report None None last v s ≡ []) → NamesFunction None None last
 plain_function last final silent = record { is_marker = tt; is_intermediate = tt; final = final; silent = silent }
+
+-- a sequence with two numbers
+two_spoken : (n m last : ℕ) → n < 1000 → m < 1000 → takes_numbers last ≡ true
+    → is_spoken (spoken.Sequence (spell_values None (n ∷ m ∷ []) false) (last ∷ [])) ≡ true
+two_spoken n m last h k is =
+    numbers_spoken (spell_values None (n ∷ m ∷ []) false) last is
+    (subst (λ text. are_numbers text ≡ true) (sym (append-nil (decimal n ++ 0x3B ∷ decimal m)))
+    (two_numbers_are n m (omega arith) (omega arith)))
 
 cup : NamesFunction None None 0x48
 unfolding sequence_report
@@ -236,14 +187,14 @@ pub cursor_position_within : (r c : ℕ) → r ≤ 24 → c ≤ 132 → AreSpell
 cursor_position_within r c h k =
     sequence_within 9 6 None None 0x48 _ cup
     (two_values 2 3 r c (omega arith) (omega arith) (two_digits r (omega arith)) (three_digits c (omega arith)))
-    (omega arith)
+    (omega arith) (two_spoken r c 0x48 (omega arith) (omega arith) refl)
 
 -- a place of the first row
 pub column_within : (c : ℕ) → c ≤ 132 → AreSpelledWithin 8 (cursor_position 1 c ∷ [])
 column_within c k =
     sequence_within 8 5 None None 0x48 _ cup
     (two_values 1 3 1 c (omega arith) (omega arith) (one_digit 1 (omega arith)) (three_digits c (omega arith)))
-    (omega arith)
+    (omega arith) (two_spoken 1 c 0x48 (omega arith) (omega arith) refl)
 
 decstbm : NamesFunction None None 0x72
 unfolding sequence_report
@@ -253,15 +204,17 @@ pub margins_to_within : (t b : ℕ) → t ≤ 24 → b ≤ 24 → AreSpelledWith
 margins_to_within t b h k =
     sequence_within 8 5 None None 0x72 _ decstbm
     (two_values 2 2 t b (omega arith) (omega arith) (two_digits t (omega arith)) (two_digits b (omega arith)))
-    (omega arith)
+    (omega arith) (two_spoken t b 0x72 (omega arith) (omega arith) refl)
 
 tbc : NamesFunction None None 0x67
 unfolding sequence_report
 tbc = plain_function 0x67 (omega arith, omega arith) (λ v s. refl)
 
 pub clear_within : AreSpelledWithin 4 (clear_all_tabs ∷ [])
+unfolding digits
 clear_within =
-    sequence_within 4 1 None None 0x67 _ tbc (one_value 1 3 (omega arith) (one_digit 3 (omega arith))) (omega arith)
+    sequence_within 4 1 None None 0x67 (3 ∷ []) tbc (one_value 1 3 (omega arith) (one_digit 3 (omega arith)))
+    (omega arith) refl
 
 -- SM and RM
 ansi_function : (on : Bool) → NamesFunction None None (cond on 0x68 0x6C)
@@ -284,30 +237,37 @@ private_function false = record {
   silent = λ v s. refl;
 }
 
-pub ansi_mode_within : (n : ℕ) (on : Bool) → n < 100 → AreSpelledWithin 5 (ansi_mode n on ∷ [])
-ansi_mode_within n on h =
+pub ansi_mode_within : (n : ℕ) (on : Bool) → n < 100 → is_ansi_mode n ≡ true
+    → AreSpelledWithin 5 (ansi_mode n on ∷ [])
+ansi_mode_within n on h is =
     sequence_within 5 2 None None _ _ (ansi_function on) (one_value 2 n (omega arith) (two_digits n h)) (omega arith)
+    (ansi_mode_spoken n on is)
 
-pub private_mode_within : (n : ℕ) (on : Bool) → n < 100 → AreSpelledWithin 6 (private_mode n on ∷ [])
-private_mode_within n on h =
+pub private_mode_within : (n : ℕ) (on : Bool) → n < 100 → is_private_mode n ≡ true
+    → AreSpelledWithin 6 (private_mode n on ∷ [])
+private_mode_within n on h is =
     sequence_within 6 2 (Some 0x3F) None _ _ (private_function on) (one_value 2 n (omega arith) (two_digits n h))
-    (omega arith)
+    (omega arith) (private_mode_spoken n on is)
 
 -- a mode of one digit
-pub small_ansi_mode_within : (n : ℕ) (on : Bool) → n < 10 → AreSpelledWithin 4 (ansi_mode n on ∷ [])
-small_ansi_mode_within n on h =
+pub small_ansi_mode_within : (n : ℕ) (on : Bool) → n < 10 → is_ansi_mode n ≡ true
+    → AreSpelledWithin 4 (ansi_mode n on ∷ [])
+small_ansi_mode_within n on h is =
     sequence_within 4 1 None None _ _ (ansi_function on) (one_value 1 n (omega arith) (one_digit n h)) (omega arith)
+    (ansi_mode_spoken n on is)
 
-pub small_private_mode_within : (n : ℕ) (on : Bool) → n < 10 → AreSpelledWithin 5 (private_mode n on ∷ [])
-small_private_mode_within n on h =
+pub small_private_mode_within : (n : ℕ) (on : Bool) → n < 10 → is_private_mode n ≡ true
+    → AreSpelledWithin 5 (private_mode n on ∷ [])
+small_private_mode_within n on h is =
     sequence_within 5 1 (Some 0x3F) None _ _ (private_function on) (one_value 1 n (omega arith) (one_digit n h))
-    (omega arith)
+    (omega arith) (private_mode_spoken n on is)
 
 -- one digit, an intermediate and a final byte
 intermediate_within : (v i last : ℕ) → v < 10 → NamesFunction None (Some i) last
+    → is_spoken (spoken.Sequence (spell_values None (v ∷ []) false) (i ∷ last ∷ [])) ≡ true
     → AreSpelledWithin 5 (Sequence None (record { items = v ∷ [] }) (Some i) last ∷ [])
-intermediate_within v i last h f =
-    sequence_within 5 1 None (Some i) last _ f (one_value 1 v (omega arith) (one_digit v h)) (omega arith)
+intermediate_within v i last h f speaks =
+    sequence_within 5 1 None (Some i) last _ f (one_value 1 v (omega arith) (one_digit v h)) (omega arith) speaks
 
 decstr : NamesFunction None (Some 0x21) 0x70
 unfolding sequence_report
@@ -319,7 +279,8 @@ decstr = record {
 }
 
 pub soft_reset_within : AreSpelledWithin 5 (soft_reset ∷ [])
-soft_reset_within = intermediate_within 0 0x21 0x70 (omega arith) decstr
+unfolding digits
+soft_reset_within = intermediate_within 0 0x21 0x70 (omega arith) decstr refl
 
 -- ---- the brush
 
@@ -333,8 +294,9 @@ decsca = record {
 }
 
 protection_within : (protected : Bool) → AreSpelledWithin 5 (protection_to protected ∷ [])
-protection_within true = intermediate_within 1 0x22 0x71 (omega arith) decsca
-protection_within false = intermediate_within 0 0x22 0x71 (omega arith) decsca
+unfolding digits
+protection_within true = intermediate_within 1 0x22 0x71 (omega arith) decsca refl
+protection_within false = intermediate_within 0 0x22 0x71 (omega arith) decsca refl
 
 -- the values of the attributes: 0 and at most four more, each of one digit
 record AreDigits (n : ℕ) (values : List ℕ) : Type 0 where
@@ -364,15 +326,16 @@ unfolding sequence_report
 sgr = plain_function 0x6D (omega arith, omega arith) (λ v s. refl)
 
 values_within : (n v : ℕ) (values : List ℕ) → v < 10 → n ≤ 4 → AreDigits n values
+    → are_attributes (spell_values None (v ∷ values) false) ≡ true
     → AreSpelledWithin (4 + 2 * n) (Sequence None (record { items = v ∷ values }) None 0x6D ∷ [])
-values_within n v values low few h =
+values_within n v values low few h speaks =
     let all = All-cons (λ v. v < 10) v values low h.small in
     let j = joined_short v values all in
     let count : length values ≤ n = h.count in
     sequence_within (4 + 2 * n) (1 + 2 * n) None None 0x6D (v ∷ values) sgr (record {
       are = record { some = omega arith; few = omega arith; small = λ k d l. omega (arith, all k d l) };
       short = omega (arith, j, count);
-    }) (omega arith)
+    }) (omega arith) (attributes_spoken (spell_values None (v ∷ values) false) speaks)
 
 rendition_within : (r : Rendition) → AreSpelledWithin 12 (rendition_to r ∷ [])
 rendition_within r =
@@ -382,7 +345,7 @@ rendition_within r =
     (omega arith) (omega arith)
     (digits_where 3 1 r.bold _ (omega arith)
     (digits_where 2 4 r.underline _ (omega arith)
-    (digits_where 1 5 r.blink _ (omega arith) (digits_last 7 r.reverse (omega arith)))))
+    (digits_where 1 5 r.blink _ (omega arith) (digits_last 7 r.reverse (omega arith))))) (rendition_speaks r)
 
 -- where not every attribute is set, at most three are
 three_set : (b u k r : Bool) → has_all (record { bold = b; underline = u; blink = k; reverse = r }) ≡ false
@@ -401,6 +364,7 @@ all_attributes_within : AreSpelledWithin 10 (all_attributes ∷ [])
 all_attributes_within =
     values_within 3 1 (4 ∷ 5 ∷ 7 ∷ []) (omega arith) (omega arith)
     (digits_where 2 4 true _ (omega arith) (digits_where 1 5 true _ (omega arith) (digits_last 7 true (omega arith))))
+    all_attributes_speak
 
 short_rendition_within : (r : Rendition) → AreSpelledWithin 10 (short_rendition r ∷ [])
 short_rendition_within r = go (has_all r) refl
@@ -408,6 +372,7 @@ short_rendition_within r = go (has_all r) refl
     go : (b : Bool) → has_all r ≡ b → AreSpelledWithin 10 (cond b all_attributes (rendition_to r) ∷ [])
     go true e = all_attributes_within
     go false e = values_within 3 0 _ (omega arith) (omega arith) (three_set r.bold r.underline r.blink r.reverse e)
+        (rendition_speaks r)
 
 pub short_brush_within : (brush : Brush) → AreSpelledWithin 15 (short_brush_events brush)
 unfolding short_brush_events
@@ -425,42 +390,50 @@ brush_within brush =
 
 pub set_tab_within : AreSpelledWithin 2 (set_tab ∷ [])
 unfolding control_report opens_string
-set_tab_within = within-one 2 set_tab (inr (omega arith, omega arith, refl)) (λ s. refl) (omega arith) tt
+set_tab_within = within-one 2 set_tab (inr (omega arith, omega arith, refl)) (λ s. refl) (omega arith)
+    (speaks-one (spoken.Escape (0x48 ∷ [])) refl)
 
 pub shift_to_2_within : AreSpelledWithin 2 (shift_to_2 ∷ [])
 unfolding control_report opens_string
-shift_to_2_within = within-one 2 shift_to_2 (inr (omega arith, omega arith, refl)) (λ s. refl) (omega arith) tt
+shift_to_2_within = within-one 2 shift_to_2 (inr (omega arith, omega arith, refl)) (λ s. refl) (omega arith)
+    (speaks-one (spoken.Escape (0x4E ∷ [])) refl)
 
 pub shift_to_3_within : AreSpelledWithin 2 (shift_to_3 ∷ [])
 unfolding control_report opens_string
-shift_to_3_within = within-one 2 shift_to_3 (inr (omega arith, omega arith, refl)) (λ s. refl) (omega arith) tt
+shift_to_3_within = within-one 2 shift_to_3 (inr (omega arith, omega arith, refl)) (λ s. refl) (omega arith)
+    (speaks-one (spoken.Escape (0x4F ∷ [])) refl)
 
 pub reset_within : AreSpelledWithin 2 (reset_to_initial_state ∷ [])
-reset_within = within-one 2 reset_to_initial_state (tt, inr (omega arith, omega arith)) (λ s. refl) (omega arith) tt
+reset_within = within-one 2 reset_to_initial_state (tt, inr (omega arith, omega arith)) (λ s. refl) (omega arith)
+    (speaks-one (spoken.Escape (0x63 ∷ [])) refl)
 
 pub save_within : AreSpelledWithin 2 (save_cursor ∷ [])
-save_within = within-one 2 save_cursor (tt, inl (omega arith, omega arith)) (λ s. refl) (omega arith) tt
+save_within = within-one 2 save_cursor (tt, inl (omega arith, omega arith)) (λ s. refl) (omega arith)
+    (speaks-one (spoken.Escape (0x37 ∷ [])) refl)
 
 pub keypad_within : AreSpelledWithin 2 (application_keypad ∷ [])
-keypad_within = within-one 2 application_keypad (tt, inl (omega arith, omega arith)) (λ s. refl) (omega arith) tt
+keypad_within = within-one 2 application_keypad (tt, inl (omega arith, omega arith)) (λ s. refl) (omega arith)
+    (speaks-one (spoken.Escape (0x3D ∷ [])) refl)
 
 pub reports_within : AreSpelledWithin 3 (reports_8bit ∷ [])
 reports_within =
-    within-one 3 reports_8bit ((omega arith, omega arith), (omega arith, omega arith)) (λ s. refl) (omega arith) tt
+    within-one 3 reports_8bit ((omega arith, omega arith), (omega arith, omega arith)) (λ s. refl) (omega arith)
+    (speaks-one (spoken.Escape (0x20 ∷ 0x47 ∷ [])) refl)
 
 pub keypad_event_within : (application : Bool) → AreSpelledWithin 2 (keypad_event application ∷ [])
 keypad_event_within application =
     within-if 2 application _ _ keypad_within
-    (within-one 2 (Escape None 0x3E) (tt, inl (omega arith, omega arith)) (λ s. refl) (omega arith) tt)
+    (within-one 2 (Escape None 0x3E) (tt, inl (omega arith, omega arith)) (λ s. refl) (omega arith)
+    (speaks-one (spoken.Escape (0x3E ∷ [])) refl))
 
 pub report_form_event_within : (eight : Bool) → AreSpelledWithin 3 (report_form_event eight ∷ [])
 report_form_event_within eight =
     within-if 3 eight _ _ reports_within
     (within-one 3 (Escape (Some 0x20) 0x46) ((omega arith, omega arith), (omega arith, omega arith)) (λ s. refl)
-    (omega arith) tt)
+    (omega arith) (speaks-one (spoken.Escape (0x20 ∷ 0x46 ∷ [])) refl))
 
 pub print_within : (b : ℕ) → 0x20 ≤ b → b ≤ 0x7E → AreSpelledWithin 1 (Print b ∷ [])
-print_within b h k = within-one 1 (Print b) (inl (h, k)) (λ s. refl) (omega arith) (omega arith)
+print_within b h k = within-one 1 (Print b) (inl (h, k)) (λ s. refl) (omega arith) (character_speaks b h k)
 
 -- ---- sets
 
@@ -472,52 +445,56 @@ final_is Special = (omega arith, omega arith)
 final_is Supplemental = (omega arith, omega arith)
 
 designation_within : (inter : ℕ) (set : Set) → 0x20 ≤ inter → inter ≤ 0x2F
+    → is_one_of (codes "()*+") inter ≡ true
     → AreSpelledWithin 3 (Escape (Some inter) (final_of set) ∷ [])
-designation_within inter set h k =
-    within-one 3 (Escape (Some inter) (final_of set)) ((h, k), final_is set) (λ s. refl) (omega arith) tt
+designation_within inter set h k is =
+    within-one 3 (Escape (Some inter) (final_of set)) ((h, k), final_is set) (λ s. refl) (omega arith)
+    (designation_speaks inter set is)
 
 -- an escape sequence without an intermediate
-plain_escape_within : (last : ℕ) → 0x60 ≤ last → last ≤ 0x7E → AreSpelledWithin 2 (Escape None last ∷ [])
-plain_escape_within last h k = within-one 2 (Escape None last) (tt, inr (h, k)) (λ s. refl) (omega arith) tt
+plain_escape_within : (last : ℕ) → 0x60 ≤ last → last ≤ 0x7E → is_spoken (spoken.Escape (last ∷ [])) ≡ true
+    → AreSpelledWithin 2 (Escape None last ∷ [])
+plain_escape_within last h k is =
+    within-one 2 (Escape None last) (tt, inr (h, k)) (λ s. refl) (omega arith) (speaks-one (spoken.Escape (last ∷ [])) is)
 
 -- SI and SO
 shift_in_within : AreSpelledWithin 1 (Control 0x0F ∷ [])
 unfolding control_report
 shift_in_within = within-one 1 (Control 0x0F) (inl (omega arith, (λ e. omega arith), (λ e. omega arith))) (λ s. refl)
-    (omega arith) tt
+    (omega arith) (speaks-one (spoken.Control 0x0F) refl)
 
 shift_out_within : AreSpelledWithin 2 (Control 0x0E ∷ [])
 unfolding control_report
 shift_out_within = within-one 2 (Control 0x0E) (inl (omega arith, (λ e. omega arith), (λ e. omega arith))) (λ s. refl)
-    (omega arith) tt
+    (omega arith) (speaks-one (spoken.Control 0x0E) refl)
 
 left_within : (slot : ℕ) → AreSpelledWithin 2 (left_event slot ∷ [])
 left_within slot =
     within-if 2 (eqb slot 0) _ _ (within-upto 1 2 _ (omega arith) shift_in_within)
     (within-if 2 (eqb slot 1) _ _ shift_out_within
-    (within-if 2 (eqb slot 2) _ _ (plain_escape_within 0x6E (omega arith) (omega arith))
-    (plain_escape_within 0x6F (omega arith) (omega arith))))
+    (within-if 2 (eqb slot 2) _ _ (plain_escape_within 0x6E (omega arith) (omega arith) refl)
+    (plain_escape_within 0x6F (omega arith) (omega arith) refl)))
 
 right_within : (slot : ℕ) → AreSpelledWithin 2 (right_event slot ∷ [])
 right_within slot =
-    within-if 2 (eqb slot 1) _ _ (plain_escape_within 0x7E (omega arith) (omega arith))
-    (within-if 2 (eqb slot 2) _ _ (plain_escape_within 0x7D (omega arith) (omega arith))
-    (plain_escape_within 0x7C (omega arith) (omega arith)))
+    within-if 2 (eqb slot 1) _ _ (plain_escape_within 0x7E (omega arith) (omega arith) refl)
+    (within-if 2 (eqb slot 2) _ _ (plain_escape_within 0x7D (omega arith) (omega arith) refl)
+    (plain_escape_within 0x7C (omega arith) (omega arith) refl))
 
 pub sets_within : (t : GraphicSets) → AreSpelledWithin 16 (sets_events t)
 unfolding sets_events
 sets_within t =
-    within-append 3 13 _ _ (designation_within 0x28 (set_at t 0) (omega arith) (omega arith))
-    (within-append 3 10 _ _ (designation_within 0x29 (set_at t 1) (omega arith) (omega arith))
-    (within-append 3 7 _ _ (designation_within 0x2A (set_at t 2) (omega arith) (omega arith))
-    (within-append 3 4 _ _ (designation_within 0x2B (set_at t 3) (omega arith) (omega arith))
+    within-append 3 13 _ _ (designation_within 0x28 (set_at t 0) (omega arith) (omega arith) refl)
+    (within-append 3 10 _ _ (designation_within 0x29 (set_at t 1) (omega arith) (omega arith) refl)
+    (within-append 3 7 _ _ (designation_within 0x2A (set_at t 2) (omega arith) (omega arith) refl)
+    (within-append 3 4 _ _ (designation_within 0x2B (set_at t 3) (omega arith) (omega arith) refl)
     (within-append 2 2 _ _ (left_within t.left) (right_within t.right)))))
 
 pub spelling_sets_within : AreSpelledWithin 10 spelling_sets_events
 spelling_sets_within =
-    within-append 3 7 _ _ (designation_within 0x28 Ascii (omega arith) (omega arith))
-    (within-append 3 4 _ _ (designation_within 0x2A Supplemental (omega arith) (omega arith))
-    (within-append 3 1 _ _ (designation_within 0x2B Special (omega arith) (omega arith)) shift_in_within))
+    within-append 3 7 _ _ (designation_within 0x28 Ascii (omega arith) (omega arith) refl)
+    (within-append 3 4 _ _ (designation_within 0x2A Supplemental (omega arith) (omega arith) refl)
+    (within-append 3 1 _ _ (designation_within 0x2B Special (omega arith) (omega arith) refl) shift_in_within))
 
 -- ---- glyphs
 

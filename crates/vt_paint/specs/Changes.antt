@@ -33,12 +33,16 @@ differing a b = differing_rows a b 1 last_row
 abbrev pub is_marked : List (List Bool) → ℕ → ℕ → Bool
 is_marked marks r c = slice_index_or (slice_index_or marks (r - 1) []) (c - 1) false
 
--- two displays have the same width and the same stops, and marked are the places of the screen at which they differ
+-- of the places of a screen exactly those are marked at which two screens differ
+abbrev pub AreMarked : List (List Bool) → Grid → Grid → Type 0
+AreMarked marks a b =
+    (r c : ℕ) → 1 ≤ r → r ≤ last_row → 1 ≤ c → c ≤ b.width → is_marked marks r c ≡ differs_at a b r c
+
+-- two displays have the same width and the same stops, and the places are marked at which their screens differ
 pub record AreChanges (marks : List (List Bool)) (s t : Display) : Type 0 where
   pub width : last_column s ≡ last_column t
   pub stops : s.stops ≡ t.stops
-  pub marked : (r c : ℕ) → 1 ≤ r → r ≤ last_row → 1 ≤ c → c ≤ last_column t
-      → is_marked marks r c ≡ differs_at s.grid t.grid r c
+  pub marked : AreMarked marks s.grid t.grid
 
 -- to what was there before, bytes are appended that lead from one state to the other, and ask for no report
 pub record Changes (s t : State) (before after : List ℕ) : Type 0 where

@@ -3,6 +3,7 @@ pub mod Controls
 pub mod Pieces
 pub mod Items
 pub mod Repaint
+pub mod Spoken
 pub mod Room
 pub mod HeaderParts
 pub mod Changes

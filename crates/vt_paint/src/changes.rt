@@ -1,6 +1,6 @@
 //! The bytes that change one terminal into another: the cells at the places where the screens differ, and all else.
 ghost use Rattle.std.specs.Prelude.{◌≡◌, ◌+◌, ◌-◌, ◌*◌, ◌≤◌, ◌<◌, ◌++◌, ◌∷◌, [], ℕ, List, Bool, length, slice_index_or};
-ghost use Rattle.std.specs.Prelude.{vec_len, vec_capacity};
+ghost use Rattle.std.specs.Prelude.{drop, vec_len, vec_capacity};
 ghost use Rattle.vt_syntax.specs.declared.held.Held.TheVariants.{Nothing};
 ghost use Rattle.vt_syntax.specs.Spelling.{spell_event, spell_events};
 ghost use Rattle.vt_screen.specs.Grid.{Grid, row_of, last_row};
@@ -8,6 +8,7 @@ ghost use Rattle.vt_term.specs.State.{State};
 ghost use Rattle.vt_term.specs.Sound.{IsSound};
 ghost use Rattle.vt_term.specs.Play.{play};
 ghost use Rattle.vt_paint.specs.Changes.{differing, AreChanges, Changes};
+ghost use Rattle.vt_paint.specs.Spoken.{Speaks};
 ghost use Rattle.vt_paint.specs.ChangeEvents.{keypad_event, report_form_event, has_all, short_brush_events, change_of};
 ghost use Rattle.vt_paint.specs.ChangeEvents.{changed_row, changed_cells, record_item, every_mode, change_events};
 
@@ -170,7 +171,7 @@ fn push_every_mode(m: Modes, out: &mut Vec<u8>)
 
 // ---- the whole
 
-/// What is asked for leads where it should, and is few bytes.
+/// What is asked for leads where it should, is few bytes, and is made of what repaints are made of.
 fn changes_lead()
     ensures played { (marks : List (List Bool)) (s t : State) → IsSound s → IsSound t → t.held ≡ Nothing
         → AreChanges marks s.display t.display
@@ -179,6 +180,9 @@ fn changes_lead()
         → AreChanges marks s.display t.display
         → length (before ++ spell_events (change_events marks t.display))
         ≤ length before + 28 * differing s.display.grid t.display.grid + 230 }
+    ensures speaks { (marks : List (List Bool)) (s t : State) (before : List ℕ) → IsSound t
+        → AreChanges marks s.display t.display
+        → Speaks (drop (length before) (before ++ spell_events (change_events marks t.display))) }
 {
     spelled();
     spelling();
@@ -224,6 +228,8 @@ pub fn repaint_changes_reserved(marks: &[[bool; STOPS]; ROWS], t: &Terminal, out
         → Changes s t.now out.old.items out.new.items }
     ensures small { (s : State) → AreChanges marks.now s.display t.now.display
         → vec_len out.new ≤ vec_len out.old + 28 * differing s.display.grid t.now.display.grid + 230 }
+    ensures speaks { (s : State) → AreChanges marks.now s.display t.now.display
+        → Speaks (drop (vec_len out.old) out.new.items) }
     ensures bounded { vec_len out.new ≤ vec_len out.old + PAINT_LIMIT }
     ensures capacity { vec_capacity out.old ≤ vec_capacity out.new }
 {

@@ -2,7 +2,7 @@
 ghost use Rattle.std.specs.Prelude.{◌≡◌, ◌≤◌, ◌<◌, ℕ, ◌*◌, false, not, length, slice_index_or};
 ghost use Rattle.vt_screen.specs.Cells.{blank};
 ghost use Rattle.vt_screen.specs.Grid.{Grid, row_of};
-ghost use Rattle.vt_paint.specs.Changes.{same_cell, differing_from, differing, AreChanges};
+ghost use Rattle.vt_paint.specs.Changes.{same_cell, differing_from, differing, AreMarked};
 
 use crate::tables::cell_word;
 use vt_screen::laws::rows;
@@ -64,11 +64,11 @@ fn changed_in_row(a: &[Cell], b: &[Cell]) -> [bool; STOPS]
     marks
 }
 
-/// The places at which the screens of two terminals of the same width have different cells: place c - 1 of row r - 1
-/// for row r and column c.
+/// Marks exactly the places at which the screens of two terminals of the same width have different cells: place c - 1
+/// of row r - 1 for row r and column c.
 pub fn changed_places(a: &Terminal, b: &Terminal) -> [[bool; STOPS]; ROWS]
     requires { a.now.display.grid.width ≡ b.now.display.grid.width }
-    ensures { a.now.display.stops ≡ b.now.display.stops → AreChanges result a.now.display b.now.display }
+    ensures marked { AreMarked result a.now.display.grid b.now.display.grid }
 {
     rows();
     let mut marks = [[false; STOPS]; ROWS];

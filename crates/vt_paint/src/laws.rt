@@ -6,6 +6,7 @@ ghost use Rattle.vt_term.specs.Sound.{IsSound};
 ghost use Rattle.vt_term.specs.Play.{play};
 ghost use Rattle.std.specs.Str.{IsAscii};
 ghost use Rattle.vt_paint.specs.Repaint.{paint, IsRebuilt, AreBytes};
+ghost use Rattle.vt_paint.specs.Spoken.{Speaks};
 
 use crate::PAINT_LIMIT;
 use vt_glyph::laws::{glyphs, spelling};
@@ -45,6 +46,19 @@ pub fn canonical()
 pub fn bounded()
     ensures len { (s : State) → IsSound s → length (paint s) ≤ PAINT_LIMIT }
     ensures ascii { (s : State) → IsSound s → IsAscii (paint s) }
+{
+    spelling();
+    glyphs();
+    places();
+    rows();
+    tests();
+}
+
+/// A repaint is made of graphic characters and of the control functions that `Spoken` names, in their 7-bit forms, and
+/// of nothing else. All that is made of these is ASCII.
+pub fn spoken()
+    ensures repaint { (s : State) → IsSound s → Speaks (paint s) }
+    ensures ascii { (bytes : List ℕ) → Speaks bytes → IsAscii bytes }
 {
     spelling();
     glyphs();

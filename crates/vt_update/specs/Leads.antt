@@ -1,5 +1,5 @@
 -- What an update promises: not its bytes, but where they lead. (this profile)
-use Rattle.std.specs.Prelude.{◌≡◌, ℕ, List, [], ◌∷◌, ◌++◌}
+use Rattle.std.specs.Prelude.{◌≡◌, ◌≢◌, ◌⊎◌, ℕ, List, [], ◌∷◌, ◌++◌}
 use Rattle.vt_term.specs.State.{State}
 use Rattle.vt_term.specs.Play.{Played, play, play_all, joined}
 
@@ -29,3 +29,7 @@ LeadsAlong shown (sent ∷ others) (to ∷ states) = Leads shown sent to × Lead
 abbrev pub last_state : State → List State → State
 last_state s [] = s
 last_state s (to ∷ states) = last_state to states
+
+-- two states have another width or other tab stops
+abbrev pub HasOtherColumns : State → State → Type 0
+HasOtherColumns s t = (s.display.grid.width ≢ t.display.grid.width) ⊎ (s.display.stops ≢ t.display.stops)

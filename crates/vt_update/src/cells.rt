@@ -105,11 +105,11 @@ impl Remote {
             Erased::Nothing
         } else if below > 0 && here.wrapping_add(below) > ERASURE {
             self.go(row, col, to);
-            self.chosen.put(b"\x1B[J");
+            self.chosen.sequence(b"", b"J");
             Erased::Below
         } else if here > ERASURE {
             self.go(row, col, to);
-            self.chosen.put(b"\x1B[K");
+            self.chosen.sequence(b"", b"K");
             Erased::Line
         } else {
             Erased::Nothing

@@ -1,5 +1,7 @@
-//! The choice of bytes. Nothing rests on it but their number: they are played before they are sent.
+//! The choice of bytes. What rests on it is their number and that they are elements of what updates are made of: where
+//! they lead is seen when they are played, before they are sent.
 ghost use Rattle.std.specs.Prelude.{◌≡◌, ◌+◌, ◌≤◌, ◌++◌, drop, vec_len, vec_capacity};
+ghost use Rattle.vt_paint.specs.Spoken.{Speaks};
 
 use crate::chosen::CHOICE_LIMIT;
 use crate::remote::Remote;
@@ -18,6 +20,7 @@ pub(crate) fn push_choice(
 )
     requires { vec_len out.old + CHOICE_LIMIT ≤ vec_capacity out.old }
     ensures items { out.new.items ≡ out.old.items ++ drop (vec_len out.old) out.new.items }
+    ensures speaks { Speaks (drop (vec_len out.old) out.new.items) }
     ensures bounded { vec_len out.new ≤ vec_len out.old + CHOICE_LIMIT }
     ensures capacity { vec_capacity out.old ≤ vec_capacity out.new }
 {

@@ -1,9 +1,10 @@
 //! The other side: what it has now, its cells apart. Each method sends bytes, and changes it as they change a terminal.
 //!
 //! Of the cells one thing holds: those before the place looked at are already those that are asked for.
-ghost use Rattle.std.specs.Prelude.{◌≡◌, ◌≤◌, ◌<◌, ◌⊎◌, IfSome, length};
+ghost use Rattle.std.specs.Prelude.{◌≡◌, ◌+◌, ◌≤◌, ◌<◌, ◌++◌, true, length, take};
 ghost use Rattle.vt_screen.specs.Grid.{last_row};
-ghost use Rattle.vt_glyph.specs.Invocation.{HasGlyph};
+ghost use Rattle.vt_paint.specs.Spoken.{is_among, mode_numbers};
+ghost use Rattle.vt_update.specs.Attributes.{attribute, attributes};
 
 use crate::chosen::Chosen;
 use crate::rows::{BLANK, word_of};
@@ -48,7 +49,7 @@ impl Remote {
     pub(crate) fn set_margins(&mut self, margins: Margins) {
         if self.margins != margins {
             self.chosen
-                .control_of_two(margins.top, margins.bottom, b'r');
+                .numbered_twice(margins.top, margins.bottom, b'r');
             self.margins = margins;
             self.home();
         }
@@ -57,7 +58,7 @@ impl Remote {
     /// DECOM, where it is another; the cursor is then home.
     pub(crate) fn set_origin(&mut self, on: bool) {
         if self.modes.decom != on {
-            self.chosen.put(if on { b"\x1B[?6h" } else { b"\x1B[?6l" });
+            self.chosen.mode(b"?6", on);
             self.modes.decom = on;
             self.home();
         }
@@ -118,15 +119,15 @@ impl Remote {
     /// CUP.
     fn cursor_position(&mut self, line: usize, col: usize) {
         if col == 1 {
-            self.chosen.control(line, b'H');
+            self.chosen.numbered(line, b'H');
         } else {
-            self.chosen.control_of_two(line, col, b'H');
+            self.chosen.numbered_twice(line, col, b'H');
         }
     }
 
     /// LF to the next row, which is `row`; under LNM it goes to column 1.
     pub(crate) fn line_feed(&mut self, row: usize) {
-        self.chosen.push(b'\n');
+        self.chosen.control(b'\n');
         let col = if self.modes.lnm { 1 } else { self.cursor.col };
         self.stands_at(row, col);
     }
@@ -138,18 +139,18 @@ impl Remote {
         let start = self.cursor.col;
         if 1 < col && col < start {
             match start - col {
-                1 => self.chosen.push(b'\x08'),
-                n => self.chosen.control(n, b'D'),
+                1 => self.chosen.control(b'\x08'),
+                n => self.chosen.numbered(n, b'D'),
             }
             return;
         }
         if col < start || self.cursor.wrap {
-            self.chosen.push(b'\r');
+            self.chosen.control(b'\r');
             self.stands_at(row, 1);
         }
         let start = self.cursor.col;
         if start < col && !self.write_again(row, col, to) {
-            self.chosen.control(col - start, b'C');
+            self.chosen.numbered(col - start, b'C');
         }
     }
 
@@ -169,7 +170,7 @@ impl Remote {
             }
         }
         for cell in gap.iter() {
-            self.write(cell);
+            self.write(cell, false);
         }
         true
     }
@@ -184,12 +185,12 @@ impl Remote {
         self.go(cursor.row, cursor.col, to);
         if cursor.wrap {
             if !self.modes.decawm {
-                self.chosen.put(b"\x1B[?7h");
+                self.chosen.mode(b"?7", true);
                 self.modes.decawm = true;
             }
             let cells = to.row(cursor.row);
             if let Some(cell) = cells.last() {
-                self.write(cell);
+                self.write(cell, false);
             }
         }
     }
@@ -202,11 +203,11 @@ impl Remote {
             self.select_rendition(brush.rendition);
         }
         if self.brush.protected != brush.protected {
-            self.chosen.put(if brush.protected {
-                b"\x1B[1\"q"
+            if brush.protected {
+                self.chosen.sequence(b"1", b"\"q");
             } else {
-                b"\x1B[\"q"
-            });
+                self.chosen.sequence(b"", b"\"q");
+            }
         }
         self.brush = brush;
     }
@@ -219,42 +220,30 @@ impl Remote {
             || was.underline && !new.underline
             || was.blink && !new.blink
             || was.reverse && !new.reverse;
-        let attributes = [
-            (b'1', was.bold, new.bold),
-            (b'4', was.underline, new.underline),
-            (b'5', was.blink, new.blink),
-            (b'7', was.reverse, new.reverse),
-        ];
-        self.chosen.put(b"\x1B[");
-        let mut first = !reset;
-        for (digit, was_set, set) in attributes {
-            if set && (reset || !was_set) {
-                if !first {
-                    self.chosen.push(b';');
-                }
-                self.chosen.push(digit);
-                first = false;
-            }
+        let mut text = [0; 8];
+        let at = put_attributes(
+            new.bold && (reset || !was.bold),
+            new.underline && (reset || !was.underline),
+            new.blink && (reset || !was.blink),
+            new.reverse && (reset || !was.reverse),
+            &mut text,
+        );
+        if reset || at == 0 {
+            self.chosen.sequence(&text[..at], b"m");
+        } else {
+            self.chosen.sequence(&text[1..at], b"m");
         }
-        self.chosen.push(b'm');
     }
 
-    /// The byte that writes a glyph under the sets in GL and GR, if one does.
+    /// The byte that writes a glyph under the set in GL, if one does.
     fn one_byte(&self, glyph: Glyph) -> Option<u8> {
         let (_, code) = home_of(glyph);
         if code == b' ' {
             return Some(code);
         }
-        if !(0x21 <= code && code <= 0x7E) {
-            return None;
-        }
         let left = self.sets.set(self.sets.left());
-        if left.glyph(code) == glyph {
-            return Some(code);
-        }
-        let right = self.sets.set(self.sets.right());
-        if right.glyph(code) == glyph {
-            Some(code + 0x80)
+        if 0x21 <= code && code <= 0x7E && left.glyph(code) == glyph {
+            Some(code)
         } else {
             None
         }
@@ -266,17 +255,22 @@ impl Remote {
         word_of(cell) >> 24 == brush_number(&self.brush)
     }
 
-    /// Writes a cell where the cursor is; the wrap flag is reset.
-    pub(crate) fn write(&mut self, cell: &Cell) {
+    /// Writes a cell where the cursor is; the wrap flag is reset. `goes_on` says that the cell behind it is written next,
+    /// and is of the same set.
+    pub(crate) fn write(&mut self, cell: &Cell, goes_on: bool) {
         if self.modes.irm {
-            self.chosen.put(b"\x1B[4l");
+            self.chosen.mode(b"4", false);
             self.modes.irm = false;
         }
         if !self.has_brush(cell) {
             self.set_brush(cell.brush());
         }
-        let byte = self.byte_of(cell.glyph);
-        self.chosen.push(byte);
+        let code = cell.glyph.code() as u8;
+        if 0x20 <= code && code <= 0x7E && self.has_ascii() {
+            self.chosen.character(code);
+        } else {
+            self.write_glyph(cell.glyph, goes_on);
+        }
         self.pass(1);
     }
 
@@ -288,7 +282,7 @@ impl Remote {
         ensures some { 1 ≤ result }
         ensures within { result ≤ length new.now }
     {
-        self.write(&new[0]);
+        self.write(&new[0], goes_on(old, new));
         if !self.has_ascii() {
             return 1;
         }
@@ -301,7 +295,7 @@ impl Remote {
             }
             count += 1;
         }
-        self.chosen.put_codes(&new[1..count]);
+        self.chosen.characters(&new[1..count]);
         self.pass(count - 1);
         count
     }
@@ -323,24 +317,32 @@ impl Remote {
         self.sets.set(self.sets.left()) == Set::Ascii
     }
 
-    /// The byte that writes a glyph, after its set was brought to GL where neither GL nor GR shows it. Most are plain.
-    #[inline(always)]
-    fn byte_of(&mut self, glyph: Glyph) -> u8 {
-        let code = glyph.code() as u8;
-        if 0x20 <= code && code <= 0x7E && self.has_ascii() {
-            return code;
-        }
-        self.other_byte_of(glyph)
-    }
-
-    /// That byte where it may be no ASCII.
-    fn other_byte_of(&mut self, glyph: Glyph) -> u8 {
+    /// Writes a glyph that may be no ASCII: by one byte where GL shows it; alone, behind a single shift, where G2 or G3 has
+    /// its set; else after its set was brought to GL.
+    #[inline(never)]
+    fn write_glyph(&mut self, glyph: Glyph, goes_on: bool) {
         if let Some(byte) = self.one_byte(glyph) {
-            return byte;
+            self.chosen.character(byte);
+            return;
         }
         let (set, code) = home_of(glyph);
-        self.bring_to_left(set);
-        code
+        if goes_on || !self.shift_once(set) {
+            self.bring_to_left(set);
+        }
+        self.chosen.character(code);
+    }
+
+    /// SS2 or SS3, where G2 or G3 has a set.
+    fn shift_once(&mut self, set: Set) -> bool {
+        if self.sets.set(2) == set {
+            self.chosen.escape(b"N");
+            true
+        } else if self.sets.set(3) == set {
+            self.chosen.escape(b"O");
+            true
+        } else {
+            false
+        }
     }
 
     /// A set in GL: a slot that has it is locked, or it is designated in the slot that is there.
@@ -361,13 +363,12 @@ impl Remote {
     fn designate(&mut self, slot: u8, set: Set)
         requires { slot < 4 }
     {
-        let inter = match slot {
-            0 => b'(',
-            1 => b')',
-            2 => b'*',
-            _ => b'+',
-        };
-        self.chosen.put(&[0x1B, inter, set.last()]);
+        match slot {
+            0 => self.chosen.designation(b'(', set),
+            1 => self.chosen.designation(b')', set),
+            2 => self.chosen.designation(b'*', set),
+            _ => self.chosen.designation(b'+', set),
+        }
         self.sets.designate(slot, set);
     }
 
@@ -376,10 +377,10 @@ impl Remote {
         requires { slot < 4 }
     {
         match slot {
-            0 => self.chosen.put(b"\x0F"),
-            1 => self.chosen.put(b"\x0E"),
-            2 => self.chosen.put(b"\x1Bn"),
-            _ => self.chosen.put(b"\x1Bo"),
+            0 => self.chosen.control(0x0F),
+            1 => self.chosen.control(0x0E),
+            2 => self.chosen.escape(b"n"),
+            _ => self.chosen.escape(b"o"),
         }
         self.sets.lock_left(slot);
     }
@@ -389,9 +390,9 @@ impl Remote {
         requires { (1 ≤ slot) × (slot < 4) }
     {
         match slot {
-            1 => self.chosen.put(b"\x1B~"),
-            2 => self.chosen.put(b"\x1B}"),
-            _ => self.chosen.put(b"\x1B|"),
+            1 => self.chosen.escape(b"~"),
+            2 => self.chosen.escape(b"}"),
+            _ => self.chosen.escape(b"|"),
         }
         self.sets.lock_right(slot);
     }
@@ -415,17 +416,41 @@ impl Remote {
     pub(crate) fn set_shift(&mut self, pending: Option<u8>) {
         match pending {
             None => {}
-            Some(2) => self.chosen.put(b"\x1BN"),
-            Some(_) => self.chosen.put(b"\x1BO"),
+            Some(2) => self.chosen.escape(b"N"),
+            Some(_) => self.chosen.escape(b"O"),
         }
     }
 
     // ---- modes and the saved record
 
-    /// One of two byte strings, where a mode is another.
-    fn switch(&mut self, now: bool, new: bool, off: &[u8], on: &[u8]) {
+    /// SM or RM, where a mode is another.
+    fn switch(&mut self, now: bool, new: bool, number: &[u8])
+        requires { is_among mode_numbers number.now ≡ true }
+    {
         if now != new {
-            self.chosen.put(if new { on } else { off });
+            self.chosen.mode(number, new);
+        }
+    }
+
+    /// DECKPAM or DECKPNM, where the keypad is in the other mode.
+    fn set_keypad(&mut self, application: bool) {
+        if self.modes.keypad_application != application {
+            if application {
+                self.chosen.escape(b"=");
+            } else {
+                self.chosen.escape(b">");
+            }
+        }
+    }
+
+    /// S8C1T or S7C1T, where the form of reports is the other one.
+    fn set_report_form(&mut self, eight: bool) {
+        if self.modes.reports_8bit != eight {
+            if eight {
+                self.chosen.escape(b" G");
+            } else {
+                self.chosen.escape(b" F");
+            }
         }
     }
 
@@ -435,23 +460,18 @@ impl Remote {
         if now == new {
             return;
         }
-        self.switch(now.kam, new.kam, b"\x1B[2l", b"\x1B[2h");
-        self.switch(now.irm, new.irm, b"\x1B[4l", b"\x1B[4h");
-        self.switch(now.srm, new.srm, b"\x1B[12l", b"\x1B[12h");
-        self.switch(now.lnm, new.lnm, b"\x1B[20l", b"\x1B[20h");
-        self.switch(now.decckm, new.decckm, b"\x1B[?1l", b"\x1B[?1h");
-        self.switch(now.decsclm, new.decsclm, b"\x1B[?4l", b"\x1B[?4h");
-        self.switch(now.decscnm, new.decscnm, b"\x1B[?5l", b"\x1B[?5h");
-        self.switch(now.decawm, new.decawm, b"\x1B[?7l", b"\x1B[?7h");
-        self.switch(now.decarm, new.decarm, b"\x1B[?8l", b"\x1B[?8h");
-        self.switch(now.dectcem, new.dectcem, b"\x1B[?25l", b"\x1B[?25h");
-        self.switch(
-            now.keypad_application,
-            new.keypad_application,
-            b"\x1B>",
-            b"\x1B=",
-        );
-        self.switch(now.reports_8bit, new.reports_8bit, b"\x1B F", b"\x1B G");
+        self.switch(now.kam, new.kam, b"2");
+        self.switch(now.irm, new.irm, b"4");
+        self.switch(now.srm, new.srm, b"12");
+        self.switch(now.lnm, new.lnm, b"20");
+        self.switch(now.decckm, new.decckm, b"?1");
+        self.switch(now.decsclm, new.decsclm, b"?4");
+        self.switch(now.decscnm, new.decscnm, b"?5");
+        self.switch(now.decawm, new.decawm, b"?7");
+        self.switch(now.decarm, new.decarm, b"?8");
+        self.switch(now.dectcem, new.dectcem, b"?25");
+        self.set_keypad(new.keypad_application);
+        self.set_report_form(new.reports_8bit);
         self.modes = new;
     }
 
@@ -480,10 +500,54 @@ impl Remote {
         let mut sets = self.sets;
         sets.restore(saved.g, saved.gl, saved.gr);
         self.set_sets(&sets);
-        self.chosen.put(b"\x1B7");
+        self.chosen.escape(b"7");
         self.saved = saved;
         self.set_margins(to.margins());
     }
+}
+
+/// `;` and an attribute, where it is set. Answers the place behind it.
+fn put_attribute(digit: u8, set: bool, at: usize, text: &mut [u8; 8]) -> usize
+    requires { at ≤ 6 }
+    ensures items { take result text.new ≡ take at text.old ++ attribute set digit }
+    ensures bounded { result ≤ at + 2 }
+{
+    if !set {
+        return at;
+    }
+    text[at] = b';';
+    text[at + 1] = digit;
+    at + 2
+}
+
+/// The attributes that are to be set, each behind `;`. Answers how many bytes that is.
+fn put_attributes(
+    bold: bool,
+    underline: bool,
+    blink: bool,
+    reverse: bool,
+    text: &mut [u8; 8],
+) -> usize
+    ensures items { take result text.new ≡ attributes bold underline blink reverse }
+    ensures bounded { result ≤ 8 }
+{
+    let at = put_attribute(b'1', bold, 0, text);
+    let at = put_attribute(b'4', underline, at, text);
+    let at = put_attribute(b'5', blink, at, text);
+    put_attribute(b'7', reverse, at, text)
+}
+
+/// Whether the second cell differs from the old one, and is of the same set as the first, which is no ASCII.
+#[inline(always)]
+fn goes_on(old: &[Cell], new: &[Cell]) -> bool
+    requires some { 1 ≤ length new.now }
+    requires len { length old.now ≡ length new.now }
+{
+    let code = new[0].glyph.code() as u8;
+    !(0x20 <= code && code <= 0x7E)
+        && new.len() > 1
+        && word_of(&new[1]) != word_of(&old[1])
+        && home_of(new[0].glyph).0 == home_of(new[1].glyph).0
 }
 
 /// A brush as a number, a byte of it for each truth value: what is left of a cell's word without the glyph.

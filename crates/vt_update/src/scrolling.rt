@@ -222,11 +222,11 @@ impl Remote {
         let (deleted, inserted) = if up { (top, low) } else { (low, top) };
         if up || bottom != margins.bottom {
             self.go(deleted, 1, to);
-            self.chosen.control(by, b'M');
+            self.chosen.numbered(by, b'M');
         }
         if !up || bottom != margins.bottom {
             self.go(inserted, 1, to);
-            self.chosen.control(by, b'L');
+            self.chosen.numbered(by, b'L');
         }
     }
 }

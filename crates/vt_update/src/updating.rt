@@ -2,13 +2,15 @@
 ghost use Rattle.std.specs.Prelude.{◌≡◌, ◌↔◌, ◌⊎◌, ◌+◌, ◌*◌, ◌≤◌, ◌<◌, ◌≢◌, ◌++◌, [], IsTrue, IsErrOf, OnOk, OnErr};
 ghost use Rattle.std.specs.Prelude.{drop, length, take, vec_len, vec_capacity};
 ghost use Rattle.std.specs.Bool.{OnTrue, OnFalse};
+ghost use Rattle.std.specs.Str.{IsAscii};
 ghost use Rattle.vt_syntax.specs.declared.held.Held.TheVariants.{Nothing};
 ghost use Rattle.vt_term.specs.State.{State};
 ghost use Rattle.vt_term.specs.Sound.{IsSound};
 ghost use Rattle.vt_term.specs.Play.{play};
 ghost use Rattle.vt_paint.specs.Repaint.{paint};
 ghost use Rattle.vt_paint.specs.Changes.{differing, AreChanges};
-ghost use Rattle.vt_update.specs.Leads.{Leads, Updates};
+ghost use Rattle.vt_paint.specs.Spoken.{Speaks};
+ghost use Rattle.vt_update.specs.Leads.{Leads, Updates, HasOtherColumns};
 
 use crate::choice::push_choice;
 use crate::laws::leading;
@@ -16,6 +18,7 @@ use thiserror::Error;
 use vt_paint::{
     PAINT_LIMIT, changed_places, differing_cells, repaint_changes_reserved, repaint_reserved,
 };
+use vt_paint::laws::spoken;
 use vt_term::laws::cuts;
 use vt_term::{ROWS, STOPS, Terminal};
 
@@ -108,8 +111,10 @@ fn copy_part(from: usize, all: &[u8], part: &mut [u8])
 
 /// Appends bytes to `out` that lead from `shown` to `to`, and brings `shown` there.
 ///
-/// Where width and tab stops are equal, at most 28 bytes are sent for each cell that differs, and 230. An update after
-/// an update to the same state is empty.
+/// Where width and tab stops are equal, at most 28 * n + 230 bytes are sent for n cells that differ; else the repaint
+/// is. An update after an update to the same state is empty.
+///
+/// The bytes are ASCII: graphic characters, and the control functions that `Spoken` names, in their 7-bit forms.
 ///
 /// `UPDATE_LIMIT` bytes of room are reserved first. On an error `shown` and the contents of `out` are unchanged.
 ///
@@ -127,6 +132,9 @@ pub fn update(shown: &mut Terminal, to: &Terminal, out: &mut Vec<u8>) -> Result<
     ensures small { OnOk result (shown.old.display.grid.width ≡ to.now.display.grid.width
         → shown.old.display.stops ≡ to.now.display.stops
         → vec_len out.new ≤ vec_len out.old + 28 * differing shown.old.display.grid to.now.display.grid + 230) }
+    ensures repaint { OnOk result (HasOtherColumns shown.old to.now → out.new.items ≡ out.old.items ++ paint to.now) }
+    ensures speaks { OnOk result (Speaks (drop (vec_len out.old) out.new.items)) }
+    ensures ascii { OnOk result (IsAscii (drop (vec_len out.old) out.new.items)) }
     ensures bounded { vec_len out.new ≤ vec_len out.old + UPDATE_LIMIT }
     ensures capacity { vec_capacity out.old ≤ vec_capacity out.new }
 {
@@ -150,10 +158,14 @@ pub fn update_reserved(shown: &mut Terminal, to: &Terminal, out: &mut Vec<u8>)
     ensures small { shown.old.display.grid.width ≡ to.now.display.grid.width
         → shown.old.display.stops ≡ to.now.display.stops
         → vec_len out.new ≤ vec_len out.old + 28 * differing shown.old.display.grid to.now.display.grid + 230 }
+    ensures repaint { HasOtherColumns shown.old to.now → out.new.items ≡ out.old.items ++ paint to.now }
+    ensures speaks { Speaks (drop (vec_len out.old) out.new.items) }
+    ensures ascii { IsAscii (drop (vec_len out.old) out.new.items) }
     ensures bounded { vec_len out.new ≤ vec_len out.old + UPDATE_LIMIT }
     ensures capacity { vec_capacity out.old ≤ vec_capacity out.new }
 {
     leading();
+    spoken();
     soundness(shown);
     if shown.same_state(to) {
         return;
@@ -207,6 +219,7 @@ fn send_choice(
     ensures shown { OnTrue result (shown.new ≡ to.now) }
     ensures small { OnTrue result
         (vec_len out.new ≤ vec_len out.old + 28 * differing shown.old.display.grid to.now.display.grid + 230) }
+    ensures speaks { OnTrue result (Speaks (drop (vec_len out.old) out.new.items)) }
     ensures taken_back { OnFalse result (out.new.items ≡ out.old.items) }
     ensures bounded { vec_len out.new ≤ vec_len out.old + UPDATE_LIMIT }
     ensures capacity { vec_capacity out.old ≤ vec_capacity out.new }
@@ -239,6 +252,8 @@ fn send_changes(
     ensures shown { shown.new ≡ to.now }
     ensures small { (s : State) → AreChanges marks.now s.display to.now.display
         → vec_len out.new ≤ vec_len out.old + 28 * differing s.display.grid to.now.display.grid + 230 }
+    ensures speaks { (s : State) → AreChanges marks.now s.display to.now.display
+        → Speaks (drop (vec_len out.old) out.new.items) }
     ensures bounded { vec_len out.new ≤ vec_len out.old + PAINT_LIMIT }
     ensures capacity { vec_capacity out.old ≤ vec_capacity out.new }
 {
@@ -256,11 +271,14 @@ fn send_repaint(shown: &mut Terminal, to: &Terminal, out: &mut Vec<u8>)
     ensures items { out.new.items ≡ out.old.items ++ paint to.now }
     ensures leads { (s : State) → IsSound s → Updates s to.now out.old.items out.new.items }
     ensures shown { shown.new ≡ to.now }
+    ensures speaks { Speaks (drop (vec_len out.old) out.new.items) }
     ensures bounded { vec_len out.new ≤ vec_len out.old + PAINT_LIMIT }
     ensures capacity { vec_capacity out.old ≤ vec_capacity out.new }
 {
     leading();
+    spoken();
     soundness(shown);
+    soundness(to);
     let start = out.len();
     repaint_reserved(to, out);
     let _ = play_back(start, shown, out);

@@ -1,5 +1,5 @@
 use Rattle.vt_paint.proofs.LowerLaws.{GridLaws, GlyphLaws}
-use Rattle.vt_paint.proofs.ChangesWhole.{changes_played, few}
+use Rattle.vt_paint.proofs.ChangesWhole.{changes_played, few, changes_speak}
 use Rattle.vt_paint.proofs.changes.changes_lead.Goals as goal
 
 pub returns : goal.returns
@@ -10,4 +10,6 @@ returns c =
       played = λ marks s t i j between changes. changes_played grids glyphs c.spelled.ensures marks t s j between i
           changes;
       few = λ marks s t before i changes. few grids glyphs marks t.display s.display before i.display changes;
+      speaks = λ marks s t before i changes. changes_speak grids glyphs marks t.display s.display before i.display
+          changes;
     }

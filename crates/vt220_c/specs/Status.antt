@@ -1,0 +1,30 @@
+-- The numbers that the calls answer, and the version: those of the header. (this profile)
+use Rattle.std.specs.Prelude.{ℕ}
+
+-- it was done
+abbrev pub status_ok : ℕ
+status_ok = 0
+
+-- memory was refused
+abbrev pub status_memory : ℕ
+status_memory = 1
+
+-- the handle is open already
+abbrev pub status_in_use : ℕ
+status_in_use = 2
+
+-- a handle is closed
+abbrev pub status_closed : ℕ
+status_closed = 3
+
+-- a terminal is inside a sequence
+abbrev pub status_partial : ℕ
+status_partial = 4
+
+-- the caller's room is too little
+abbrev pub status_room : ℕ
+status_room = 5
+
+-- 0.2.0, as 10000 * major + 100 * minor + patch
+abbrev pub version : ℕ
+version = 200

@@ -12,6 +12,7 @@ log = logging.getLogger("fleet.claims")
 
 HANDFUL = 16  # sessions that are taken at once
 TRIES = 10  # workers that may die of a session before it is given up
+LOOKS = 2  # at a worker's count, besides the lease, until it counts as dead
 COMPARE = 10.0  # seconds between comparisons of all sessions with the store
 
 News = namedtuple("News", "has_beaten is_dead is_draining is_to_be_compared", defaults=(False,) * 4)
@@ -25,7 +26,7 @@ class Claims:
     def enter(self):
         """Begins as a worker with a name that no other ever had."""
         self.me = f"{os.uname().nodename}-{os.getpid()}-{secrets.token_hex(4)}"
-        self.others = {}  # worker -> (its count, since when)
+        self.others = {}  # worker -> (its count, since when, how often it was looked at since)
         self.beaten, self.compared = 0.0, time.monotonic()
         self.outages, self.cursor = self.store.outages, b"0"
         self.is_anything_waiting = True
@@ -43,7 +44,7 @@ class Claims:
         if answer[0] == "dead":
             return News(is_dead=True)
         # While this worker was stopped or the store was away, others could not show that they live.
-        if time.monotonic() - self.beaten > self.lease / 2 or self.store.outages != self.outages:
+        if time.monotonic() - self.beaten > self.lease or self.store.outages != self.outages:
             self.others, self.outages = {}, self.store.outages
         self.beaten = time.monotonic()
         _, draining, count, waiting, workers = answer
@@ -60,9 +61,9 @@ class Claims:
         for worker, count in counts.items():
             if worker == self.me:
                 continue
-            before, since = self.others.get(worker, (None, now))
-            self.others[worker] = (count, since if count == before else now)
-            if now - self.others[worker][1] > self.lease:
+            before, since, looks = self.others.get(worker, (None, now, 0))
+            self.others[worker] = (count, since, looks + 1) if count == before else (count, now, 0)
+            if count == before and now - since > self.lease and looks >= LOOKS:
                 self.bury(worker, count)
         for gone in self.others.keys() - counts.keys():
             del self.others[gone]

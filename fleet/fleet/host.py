@@ -164,7 +164,7 @@ class Host:
         each one once and in order."""
         streams = {self.part("answers"): self.last_answer, self.part("keys"): self.last_key}
         got = []
-        for stream, entries in self.store.xread(streams, count=256, block=int(patience * 1000)):
+        for stream, entries in self.store.xread(streams, count=256, block=int(patience * 1000) or None):
             is_answer = stream == self.part("answers").encode()
             for entry_id, fields in entries:
                 got += self.report_of(entry_id, fields) if is_answer else self.key_of(entry_id, fields)

@@ -15,7 +15,7 @@ from .frames import Frames
 from .inbox import Inbox
 from .keys import key
 from .session import Session, restored
-from .store import AnotherRun
+from .store import AnotherRun, ResponseError
 
 log = logging.getLogger("fleet.worker")
 
@@ -39,6 +39,7 @@ class Kept(Session):
         self.was_damaged = was_damaged
         self.last = f"{self.at}-0"  # the last entry that was read
         self.queue = []  # what was read and isn't played: (id, fields), the first one perhaps in part
+        self.is_read_out = False  # this turn's read brought all that there was
         self.reports = []  # that the store hasn't
         self.checked = self.at  # the position of the last checkpoint
         self.checkpoint = None  # one that the store hasn't
@@ -166,7 +167,10 @@ class Worker:
                 self.guarded(each, self.adopt_one, each, *answers[3 * number : 3 * number + 3])
 
     def adopt_one(self, incarnation, checkpoint, about, is_there):
-        if not isinstance(about, list) or about[0] is None or not is_there:
+        for answer in (checkpoint, about, is_there):
+            if isinstance(answer, Exception):
+                raise answer
+        if about[0] is None or not is_there:
             raise keys.Lost("the store no longer has this session's bytes")
         session, was_damaged = restored(incarnation, checkpoint)
         kept = self.kept[incarnation] = Kept(session, int(about[0]), was_damaged)
@@ -199,7 +203,7 @@ class Worker:
         if its checkpoint isn't the one that was read, it is read again."""
         session = self.kept.pop(incarnation, None)
         self.due.discard(incarnation)
-        seen = session.seen if session else (self.store.hget(key(incarnation, "checkpoint"), "at") or b"").decode("ascii", "replace")
+        seen = session.seen if session else self.seen_at(incarnation)
         answer = self.store.run("give_up", self.claims.me, incarnation, seen, fault[:1000])[0]
         if answer == "ok":
             self.counts["faults"] += 1
@@ -208,6 +212,13 @@ class Worker:
             self.adopt_some([incarnation])
         else:
             log.info("%s lost %s, at which it had met %s", self.claims.me, incarnation, fault)
+
+    def seen_at(self, incarnation):
+        """Returns where a session's checkpoint is, as the store has it."""
+        try:
+            return (self.store.hget(key(incarnation, "checkpoint"), "at") or b"").decode("ascii", "replace")
+        except ResponseError:
+            return ""
 
     # Playing.
 
@@ -244,6 +255,7 @@ class Worker:
 
     def listen(self, patience):
         """Collects which sessions have something, for at most so long, and for what is left of a turn's least time."""
+        patience = min(patience, self.settings.lease / 16)  # the next beat isn't late
         self.inbox.wait(patience if not self.frames.is_due() else min(patience, 0.02))
         rest = self.begun + GATHER - time.monotonic()
         if rest > 0:
@@ -274,14 +286,25 @@ class Worker:
         self.due |= set(choked) - self.choked
 
     def read(self, sessions):
+        """Reads what came for sessions, for many with one call. If that is refused, each is read by itself."""
         for at in range(0, len(sessions), CHUNK):
-            streams = {key(session.incarnation, "bytes").encode(): session for session in sessions[at : at + CHUNK]}
-            words = ["XREAD", "COUNT", READ, "STREAMS", *streams, *(session.last for session in streams.values())]
-            for stream, entries in self.store.execute_command(*words) or []:
-                session = streams[stream]
-                session.queue = list(entries)
-                session.last = entries[-1][0].decode()
+            some = sessions[at : at + CHUNK]
+            try:
+                self.read_some(some)
+            except ResponseError:
+                for session in some:
+                    self.guarded(session.incarnation, self.read_some, [session])
             self.look_after_claims()
+
+    def read_some(self, sessions):
+        streams = {key(session.incarnation, "bytes").encode(): session for session in sessions}
+        for session in sessions:
+            session.is_read_out = True
+        words = ["XREAD", "COUNT", READ, "STREAMS", *streams, *(session.last for session in sessions)]
+        for stream, entries in self.store.execute_command(*words) or []:
+            session = streams[stream]
+            session.queue, session.is_read_out = list(entries), len(entries) < READ
+            session.last = entries[-1][0].decode()
 
     def play(self, session):
         """Plays a session's share of this turn. It stays due while there may be more."""
@@ -294,8 +317,9 @@ class Worker:
         session.play_some(self.settings.every)
         self.counts["bytes"] += session.at - begin
         self.counts["entries"] += entries - len(session.queue)
-        if not session.queue and entries < READ:
+        if not session.queue and session.is_read_out:
             self.due.discard(session.incarnation)
+        session.is_read_out = False
 
     # Telling.
 

@@ -2,7 +2,7 @@
 -- Returns the next cursor, and how many were found.
 local found, walked = 0, redis.call('SSCAN', 'fleet:live', ARGV[1], 'COUNT', ARGV[2])
 for _, inc in ipairs(walked[2]) do
-  local owner = redis.call('HGET', key(inc, 'about'), 'owner')
+  local owner = field(inc, 'about', 'owner')
   local is_had = owner and redis.call('HEXISTS', 'fleet:workers', owner) == 1 and redis.call('SISMEMBER', 'fleet:of:' .. owner, inc) == 1
   if redis.call('EXISTS', key(inc, 'about')) == 0 or redis.call('EXISTS', key(inc, 'ended'), key(inc, 'fault')) > 0 then
     retire(inc)

@@ -5,7 +5,7 @@ local count = redis.call('HGET', 'fleet:workers', dead)
 if count and count ~= ARGV[2] then return -1 end
 local moved = redis.call('SPOP', 'fleet:of:' .. dead, ARGV[3])
 for _, inc in ipairs(moved) do
-  if redis.call('HGET', key(inc, 'about'), 'owner') == dead then queue(inc) end
+  if field(inc, 'about', 'owner') == dead then queue(inc) end
 end
 local left = redis.call('SCARD', 'fleet:of:' .. dead)
 if left == 0 then

@@ -6,22 +6,33 @@ local function moment()
   return tonumber(time[1]) * 1000 + math.floor(tonumber(time[2]) / 1000)
 end
 
--- Puts a session among those that want a worker.
-local function queue(inc)
-  local owner = redis.call('HGET', key(inc, 'about'), 'owner')
+-- A field of a session's hash; nil if there is none, or if the key is no hash: nothing that is wrong with one session stops a
+-- script that is about many.
+local function field(inc, part, name)
+  local found = redis.pcall('HGET', key(inc, part), name)
+  if type(found) == 'string' then return found end
+  return nil
+end
+
+-- Takes a session from its worker.
+local function disown(inc)
+  local owner = field(inc, 'about', 'owner')
   if owner then
     redis.call('SREM', 'fleet:of:' .. owner, inc)
     redis.call('HDEL', key(inc, 'about'), 'owner')
   end
+end
+
+-- Puts a session among those that want a worker.
+local function queue(inc)
+  disown(inc)
   redis.call('ZADD', 'fleet:waiting', 'NX', moment(), inc)
   redis.call('PUBLISH', 'fleet:new', inc)
 end
 
 -- Takes a session from its worker, or from among those that wait.
 local function unclaim(inc)
-  local owner = redis.call('HGET', key(inc, 'about'), 'owner')
-  if owner then redis.call('SREM', 'fleet:of:' .. owner, inc) end
-  redis.call('HDEL', key(inc, 'about'), 'owner')
+  disown(inc)
   redis.call('ZREM', 'fleet:waiting', inc)
 end
 

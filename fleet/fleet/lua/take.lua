@@ -7,8 +7,10 @@ local taken, popped = {'ok'}, redis.call('ZPOPMIN', 'fleet:waiting', ARGV[2])
 for i = 1, #popped, 2 do
   local inc = popped[i]
   if redis.call('EXISTS', key(inc, 'about')) == 1 and redis.call('EXISTS', key(inc, 'ended'), key(inc, 'fault')) == 0 then
-    if redis.call('HINCRBY', key(inc, 'about'), 'tries', 1) > tonumber(ARGV[3]) then
-      redis.call('SET', key(inc, 'fault'), 'Poison: ' .. ARGV[3] .. ' workers took it, and none of them caught up')
+    local tries = redis.pcall('HINCRBY', key(inc, 'about'), 'tries', 1)
+    if type(tries) ~= 'number' or tries > tonumber(ARGV[3]) then
+      local why = type(tries) == 'number' and ARGV[3] .. ' workers took it, and none of them caught up' or tries.err
+      redis.call('SET', key(inc, 'fault'), 'Poison: ' .. why)
       retire(inc)
     else
       redis.call('HSET', key(inc, 'about'), 'owner', me)

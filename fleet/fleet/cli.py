@@ -13,6 +13,8 @@ import time
 
 from .config import Settings, Unclear
 
+DENIALS = "WRONGPASS", "NOPERM", "can't run this command", "can't access"
+LEAVING = 10.0  # seconds that a store is waited for when this process was told to end
 TAKEN, FAULT, NONE, REFUSED, UNFIT, DENIED, CONFIGURATION = 5, 4, 3, 6, 69, 77, 78
 
 
@@ -40,18 +42,23 @@ def do_worker(words, settings):
     for name in ("every", "lease", "keep", "most", "retain", "metrics"):
         if getattr(words, name) is not None:
             setattr(chosen, name, None if getattr(words, name) == "all" else getattr(words, name))
-    store = settings.connect()
+    store = settings.connect(waits=True)
     store.examine(settings.store.unsafe)
     worker = Worker(store, chosen)
     if chosen.metrics:
         from .metrics import serve
 
         serve(worker, chosen.metrics)
-    signal.signal(signal.SIGTERM, lambda *_: setattr(worker, "is_leaving", True))
-    signal.signal(signal.SIGINT, lambda *_: setattr(worker, "is_leaving", True))
+    on_end(lambda: (setattr(worker, "is_leaving", True), setattr(store, "patience", LEAVING)))
     while not worker.is_gone:
         worker.turn()
     return 0
+
+
+def on_end(call):
+    """Has a call made when this process is told to end."""
+    for ends in (signal.SIGHUP, signal.SIGTERM, signal.SIGINT):
+        signal.signal(ends, lambda *_: call())
 
 
 def do_host(words, settings):
@@ -61,7 +68,7 @@ def do_host(words, settings):
     if bool(words.replay) == bool(words.command):
         raise Unclear("host needs a command, or --replay FILE")
     hide()
-    store = settings.connect()
+    store = settings.connect(waits=True)
     store.examine(settings.store.unsafe)
     command = " ".join(words.command) or words.replay
     host = Host(store, words.name, settings.host.lease, words.input or settings.host.input, command)
@@ -70,8 +77,7 @@ def do_host(words, settings):
         status = replay(host, words.replay, words.rate)
     else:
         program = Program(host, words.command)
-        for ends in (signal.SIGHUP, signal.SIGTERM, signal.SIGINT):
-            signal.signal(ends, lambda *_: program.stop())
+        on_end(lambda: (program.stop(), setattr(store, "patience", LEAVING)))
         status = program.run()
     if host.fault:
         raise host.fault
@@ -105,6 +111,7 @@ def of_session(call):
 def do_view(store, incarnation, words):
     from .view import follow
 
+    store.patience = None
     return follow(store, incarnation, words.type)
 
 
@@ -197,7 +204,7 @@ def do_web(words, settings):
     for name in ("address", "port", "typing"):
         if getattr(words, name) is not None:
             setattr(settings.web, name, getattr(words, name))
-    return serve(settings.connect(), settings.web)
+    return serve(settings.connect(waits=True), settings.web)
 
 
 def add_hosts(add):
@@ -290,6 +297,8 @@ def status_of(error):
         (Taken, TAKEN), (keys.Fault, FAULT), (operate.NoSession, NONE), (operate.Refused, REFUSED), (store.Unfit, UNFIT),
         (Unclear, CONFIGURATION), ((AuthenticationError, NoPermissionError), DENIED), (RedisError, UNFIT), (ValueError, 2), (OSError, 1),
     ]
+    if isinstance(error, RedisError) and any(word in str(error) for word in DENIALS):
+        return DENIED
     return next((status for kind, status in known if isinstance(error, kind)), None)
 
 
@@ -308,5 +317,5 @@ def main(arguments=None):
         status = status_of(error)
         if status is None:
             raise
-        print(f"fleet: {type(error).__name__}: {error}", file=sys.stderr)
+        print(f"fleet: {type(error).__name__}: {str(error).strip()}", file=sys.stderr)
         return status

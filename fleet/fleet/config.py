@@ -22,6 +22,7 @@ class Store:
     password_file: str = ""
     unsafe: bool = False
     timeout: float = 5.0
+    give_up: float = 10.0
 
 
 @dataclass
@@ -95,10 +96,12 @@ class Settings:
                 raise Unclear(f"{path}: [{section}] has no {name}")
             setattr(getattr(self, section), name, value_of(kinds[name], text, f"{path}: [{section}] {name}"))
 
-    def connect(self):
-        """Returns the store. A password is read from its file, so that it is on no command line and in no environment."""
+    def connect(self, waits=False):
+        """Returns the store: one that is waited for, for ever, or until give-up seconds are over. A password is read from its file, so that it is on no command line and in no environment."""
         options = {"socket_timeout": self.store.timeout}
         if self.store.password_file:
             with open(self.store.password_file) as file:
                 options["password"] = file.read().strip()
-        return connect(self.store.url, **options)
+        store = connect(self.store.url, **options)
+        store.patience = None if waits else self.store.give_up
+        return store

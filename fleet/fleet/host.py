@@ -50,6 +50,7 @@ class Host:
         self.lock = threading.RLock()  # one call to the store that writes at a time
         self.last_answer, self.last_key = b"0-0", b"0-0"
         self.passed_on = 0
+        self.rebuilt = 0  # how often the store had to be sent something again
         self.renewed = 0.0
 
     def part(self, name):
@@ -105,6 +106,7 @@ class Host:
             log.warning("%s: the store has the bytes up to %d of %d", self.name, there, self.at)
             if there < self.held_from:
                 self.fail(WentBack(f"the store lost the bytes from {there} to {self.at}, and the host has those from {self.held_from}"))
+            self.rebuilt += 1
             self.register()
             for at, moment, data in list(self.held):
                 if at > there:

@@ -59,6 +59,7 @@ class Store(redis.Redis):
         self.outages = 0  # how often the store was away
         self.hashes = {}
         self.run_id, self.minds_runs = None, False
+        self.patience = None  # seconds that the store is waited for; None for ever
         self.connection_pool.connection_kwargs["redis_connect_func"] = self.greet
 
     def greet(self, connection):
@@ -90,6 +91,8 @@ class Store(redis.Redis):
                 if not (isinstance(error, OSError) or is_for_now(error)):
                     raise
                 self.is_away(error)
+                if self.patience is not None and time.monotonic() - self.away_since > self.patience:
+                    raise
             time.sleep(pause)
             pause = min(1.0, pause * 1.5)
         if self.away_since is not None:

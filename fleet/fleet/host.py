@@ -46,6 +46,7 @@ class Host:
         self.held_bytes = 0
         self.held_from = 0  # the position of the first byte that is held
         self.fault = None
+        self.is_ended = False
         self.said_fault = None
         self.lock = threading.RLock()  # one call to the store that writes at a time
         self.last_answer, self.last_key = b"0-0", b"0-0"
@@ -107,13 +108,24 @@ class Host:
             if there < self.held_from:
                 self.fail(WentBack(f"the store lost the bytes from {there} to {self.at}, and the host has those from {self.held_from}"))
             self.rebuilt += 1
-            self.register()
+            self.register_again()
             for at, moment, data in list(self.held):
                 if at > there:
                     answer = self.store.run("append", self.incarnation, max(there, at - len(data)), at, keys.version(), moment, data)
                     if answer[0] != "ok":
                         self.fail(WentBack(f"the store has the bytes up to {there} and takes none after them: {answer[0]}"))
             log.warning("%s: sent again from %d to %d", self.name, there, self.at)
+
+    def register_again(self):
+        """Takes the name once more. An older host may hold it in a store that went back: its lease is waited for."""
+        end = time.monotonic() + 2 * self.lease
+        while True:
+            try:
+                return self.register()
+            except Taken as fault:
+                if time.monotonic() > end:
+                    self.fail(fault)
+                time.sleep(0.1)
 
     def fail(self, fault):
         """Ends the session with a fault, which the store keeps if it can."""
@@ -132,6 +144,7 @@ class Host:
     def end(self, status):
         """Closes the session with the program's exit status."""
         with self.lock:
+            self.is_ended = True
             answer = self.store.run("finish", self.name, self.incarnation, self.at, status, keys.version())
             if answer[0] in ("lost", "back"):
                 self.rebuild(0 if answer[0] == "lost" else int(answer[1]))
@@ -146,6 +159,8 @@ class Host:
         if time.monotonic() - self.renewed < min(1.0, self.lease / 4):
             return
         with self.lock:
+            if self.is_ended:
+                return
             self.renewed = time.monotonic()
             answer = self.store.run("renew", self.name, self.incarnation, int(self.lease * 1000))
             if answer[0] == "taken":

@@ -27,7 +27,8 @@ class Claims:
         """Begins as a worker with a name that no other ever had."""
         self.me = f"{os.uname().nodename}-{os.getpid()}-{secrets.token_hex(4)}"
         self.others = {}  # worker -> (its count, since when, how often it was looked at since)
-        self.beaten, self.compared = 0.0, time.monotonic()
+        self.due = self.beaten = 0.0
+        self.compared = time.monotonic()
         self.outages, self.cursor = self.store.outages, b"0"
         self.is_anything_waiting = True
         self.store.run("enter", self.me)
@@ -36,10 +37,8 @@ class Claims:
         return {each.decode() for each in self.store.smembers(keys.of(self.me))}
 
     def beat(self, have):
-        """Raises this worker's count, if that is due, and buries those whose count stood still."""
+        """Raises this worker's count, and buries those whose count stood still. To be called when that is due."""
         now = time.monotonic()
-        if now - self.beaten < self.lease / 4:
-            return News()
         answer = self.store.run("beat", self.me)
         if answer[0] == "dead":
             return News(is_dead=True)
@@ -47,6 +46,7 @@ class Claims:
         if time.monotonic() - self.beaten > self.lease or self.store.outages != self.outages:
             self.others, self.outages = {}, self.store.outages
         self.beaten = time.monotonic()
+        self.due = self.beaten + self.lease / 4
         _, draining, count, waiting, workers = answer
         self.watch_over({w.decode(): int(c) for w, c in zip(workers[::2], workers[1::2])})
         self.audit()

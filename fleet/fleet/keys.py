@@ -25,6 +25,7 @@ the incarnation, so that a name can be used again without meeting anything of it
 
 Channels: fleet:new (a session waits), fleet:wake:WORKER (one of its sessions has bytes, or a viewer).
 """
+import functools
 import hashlib
 import secrets
 import time
@@ -103,6 +104,7 @@ def version():
     return f"{FORMAT}.{vt220.version()}"
 
 
+@functools.lru_cache(maxsize=64)
 def is_known(said):
     """Returns whether a version that an entry carries is of this format. Any library's version is."""
     first, _, library = said.decode("ascii", "replace").partition(".")

@@ -21,7 +21,7 @@ class Session:
         """Returns what of an entry wasn't played yet. Raises a fault if it isn't a host's, or if bytes before it are missing."""
         if not is_known(fields.get(b"v", b"")):
             raise Version(f"entry {entry_id.decode('ascii', 'replace')} is of another format")
-        at, number = (int(part) for part in entry_id.split(b"-"))
+        at, number = map(int, entry_id.split(b"-"))
         data = fields.get(b"bytes", b"")
         if not is_formed(at, number, fields):
             raise Wrong(f"entry {entry_id.decode()} is no host's: it has {', '.join(map(repr, sorted(fields)))}")

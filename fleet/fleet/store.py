@@ -123,6 +123,25 @@ class Store(redis.Redis):
 
         return self.patiently(once)
 
+    def read_streams(self, count, streams):
+        """Returns what came in streams, as [[stream, [[id, [field, value, ..]], ..]], ..]: XREAD, with {stream: the last id}. The
+        client's own call packs and unpacks each word by itself, which takes as long as playing what was read."""
+        words = [b"XREAD", b"COUNT", b"%d" % count, b"STREAMS", *streams.keys(), *streams.values()]
+        packed = b"*%d\r\n" % len(words) + b"".join([b"$%d\r\n%b\r\n" % (len(word), word) for word in words])
+
+        def once():
+            connection = self.connection_pool.get_connection("XREAD")
+            try:
+                connection.send_packed_command([packed])
+                return connection.read_response() or []
+            except (ConnectionError, TimeoutError, OSError):
+                connection.disconnect()
+                raise
+            finally:
+                self.connection_pool.release(connection)
+
+        return self.patiently(once)
+
     # Scripts.
 
     def load(self):

@@ -37,7 +37,8 @@ class Kept(Session):
         self.end = end  # where the bytes ended when it was taken
         self.seen = str(self.at) if self.at or not was_damaged else ""  # the checkpoint's position, as it was read
         self.was_damaged = was_damaged
-        self.last = f"{self.at}-0"  # the last entry that was read
+        self.stream = key(self.incarnation, "bytes").encode()
+        self.last = b"%d-0" % self.at  # the last entry that was read
         self.queue = []  # what was read and isn't played: (id, fields), the first one perhaps in part
         self.is_read_out = False  # this turn's read brought all that there was
         self.reports = []  # that the store hasn't
@@ -91,8 +92,10 @@ class Worker:
     # Whose the sessions are.
 
     def look_after_claims(self):
-        """Shows that this worker lives, and brings what it has in line with what the store says. Cheap, so it is called
-        between sessions, too."""
+        """Shows that this worker lives, and brings what it has in line with what the store says. Cheap while nothing is due, so
+        it is called between sessions, too."""
+        if time.monotonic() < self.claims.due:
+            return
         news = self.claims.beat(len(self.kept))
         if news.is_dead:
             self.begin_anew("it was taken for dead")
@@ -297,14 +300,13 @@ class Worker:
             self.look_after_claims()
 
     def read_some(self, sessions):
-        streams = {key(session.incarnation, "bytes").encode(): session for session in sessions}
+        streams = {session.stream: session for session in sessions}
         for session in sessions:
             session.is_read_out = True
-        words = ["XREAD", "COUNT", READ, "STREAMS", *streams, *(session.last for session in sessions)]
-        for stream, entries in self.store.execute_command(*words) or []:
+        for stream, entries in self.store.read_streams(READ, {session.stream: session.last for session in sessions}):
             session = streams[stream]
-            session.queue, session.is_read_out = list(entries), len(entries) < READ
-            session.last = entries[-1][0].decode()
+            session.queue = [(entry_id, dict(zip(fields[::2], fields[1::2]))) for entry_id, fields in entries]
+            session.is_read_out, session.last = len(entries) < READ, entries[-1][0]
 
     def play(self, session):
         """Plays a session's share of this turn. It stays due while there may be more."""

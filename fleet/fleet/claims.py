@@ -1,0 +1,96 @@
+"""Which sessions are a worker's, and which workers live. No clock but each worker's own decides: a worker is dead when its count
+in the store stood still for a lease."""
+import logging
+import os
+import secrets
+import time
+from collections import namedtuple
+
+from . import keys
+
+log = logging.getLogger("fleet.claims")
+
+HANDFUL = 16  # sessions that are taken at once
+TRIES = 10  # workers that may die of a session before it is given up
+LOOKS = 2  # at a worker's count, besides the lease, until it counts as dead
+COMPARE = 10.0  # seconds between comparisons of all sessions with the store
+
+News = namedtuple("News", "has_beaten is_dead is_draining is_to_be_compared", defaults=(False,) * 4)
+
+
+class Claims:
+    def __init__(self, store, lease):
+        self.store, self.lease = store, lease
+        self.enter()
+
+    def enter(self):
+        """Begins as a worker with a name that no other ever had."""
+        self.me = f"{os.uname().nodename}-{os.getpid()}-{secrets.token_hex(4)}"
+        self.others = {}  # worker -> (its count, since when, how often it was looked at since)
+        self.due = self.beaten = 0.0
+        self.compared = time.monotonic()
+        self.outages, self.cursor = self.store.outages, b"0"
+        self.is_anything_waiting = True
+        self.store.run("enter", self.me)
+
+    def mine(self):
+        return {each.decode() for each in self.store.smembers(keys.of(self.me))}
+
+    def beat(self, have):
+        """Raises this worker's count, and buries those whose count stood still. To be called when that is due."""
+        now = time.monotonic()
+        answer = self.store.run("beat", self.me)
+        if answer[0] == "dead":
+            return News(is_dead=True)
+        # While this worker was stopped or the store was away, others could not show that they live.
+        if time.monotonic() - self.beaten > self.lease or self.store.outages != self.outages:
+            self.others, self.outages = {}, self.store.outages
+        self.beaten = time.monotonic()
+        self.due = self.beaten + self.lease / 4
+        _, draining, count, waiting, workers = answer
+        self.watch_over({w.decode(): int(c) for w, c in zip(workers[::2], workers[1::2])})
+        self.audit()
+        self.is_anything_waiting = waiting > 0
+        is_to_be_compared = count != have or now - self.compared > COMPARE
+        self.compared = now if is_to_be_compared else self.compared
+        return News(True, False, bool(draining), is_to_be_compared)
+
+    def watch_over(self, counts):
+        """Buries the workers whose count stood still for a lease. All of their sessions wait then, however many these are."""
+        now = time.monotonic()
+        for worker, count in counts.items():
+            if worker == self.me:
+                continue
+            before, since, looks = self.others.get(worker, (None, now, 0))
+            self.others[worker] = (count, since, looks + 1) if count == before else (count, now, 0)
+            if count == before and now - since > self.lease and looks >= LOOKS:
+                self.bury(worker, count)
+        for gone in self.others.keys() - counts.keys():
+            del self.others[gone]
+
+    def bury(self, worker, count):
+        left = 1
+        while left > 0:
+            left = self.store.run("bury", worker, count, 500)
+        if left == 0:
+            log.warning("%s found %s dead", self.me, worker)
+
+    def audit(self):
+        """Looks whether living sessions have a worker, some at a time."""
+        self.cursor, found = self.store.run("audit", self.cursor, 100)
+        if found:
+            log.warning("%s found %d sessions that no worker had", self.me, found)
+
+    def take(self, room):
+        """Takes sessions that wait. Returns them, and None if this worker was buried."""
+        answer = self.store.run("take", self.me, min(room, HANDFUL), TRIES)
+        if answer[0] == "dead":
+            return None
+        self.is_anything_waiting = len(answer) - 1 >= min(room, HANDFUL)
+        return [each.decode() for each in answer[1:]]
+
+    def release(self, incarnations):
+        self.store.run("release", self.me, *incarnations)
+
+    def leave(self):
+        self.store.run("leave", self.me)

@@ -1,0 +1,321 @@
+"""The command `fleet`.
+
+Exit status: 0 done; 1 failed; 2 the command line is wrong; 3 no such session or worker; 4 the session has a fault; 5 the name is
+taken; 6 refused; 69 the store cannot be reached or cannot keep a fleet; 77 no right; 78 the configuration is wrong. `host` ends
+with its program's status.
+"""
+import argparse
+import logging
+import os
+import signal
+import sys
+import time
+
+from .config import Settings, Unclear
+
+DENIALS = "WRONGPASS", "NOPERM", "can't run this command", "can't access"
+LEAVING = 10.0  # seconds that a store is waited for when this process was told to end
+TAKEN, FAULT, NONE, REFUSED, UNFIT, DENIED, CONFIGURATION = 5, 4, 3, 6, 69, 77, 78
+
+
+def seconds(word):
+    """Reads a time: 30, 30s, 10m, 12h or 7d."""
+    units = {"s": 1, "m": 60, "h": 3600, "d": 86400}
+    return float(word[:-1]) * units[word[-1]] if word and word[-1] in units else float(word)
+
+
+def size(word):
+    """Reads a size: a number of bytes, or all."""
+    return None if word == "all" else int(word)
+
+
+def do_run(words, settings):
+    from .local import run
+
+    return run(words.workers, words.command)
+
+
+def do_worker(words, settings):
+    from .worker import Worker
+
+    chosen = settings.worker
+    for name in ("every", "lease", "keep", "most", "retain", "metrics"):
+        if getattr(words, name) is not None:
+            setattr(chosen, name, None if getattr(words, name) == "all" else getattr(words, name))
+    store = settings.connect(waits=True)
+    store.examine(settings.store.unsafe)
+    worker = Worker(store, chosen)
+    if chosen.metrics:
+        from .metrics import serve
+
+        serve(worker, chosen.metrics)
+    on_end(lambda: (setattr(worker, "is_leaving", True), setattr(store, "patience", LEAVING)))
+    while not worker.is_gone:
+        worker.turn()
+    return 0
+
+
+def on_end(call):
+    """Has a call made when this process is told to end."""
+    for ends in (signal.SIGHUP, signal.SIGTERM, signal.SIGINT):
+        signal.signal(ends, lambda *_: call())
+
+
+def do_host(words, settings):
+    from .host import Host
+    from .program import Program, hide
+
+    if bool(words.replay) == bool(words.command):
+        raise Unclear("host needs a command, or --replay FILE")
+    hide()
+    store = settings.connect(waits=True)
+    store.examine(settings.store.unsafe)
+    command = " ".join(words.command) or words.replay
+    host = Host(store, words.name, settings.host.lease, words.input or settings.host.input, command)
+    host.register()
+    if words.replay:
+        status = replay(host, words.replay, words.rate)
+    else:
+        program = Program(host, words.command)
+        on_end(lambda: (program.stop(), setattr(store, "patience", LEAVING)))
+        status = program.run()
+    if host.fault:
+        raise host.fault
+    host.end(status)
+    return status
+
+
+def replay(host, path, rate):
+    """Sends a file's bytes at a pace, twenty times a second."""
+    with open(path, "rb") as file:
+        while data := file.read(max(1, rate // 20)):
+            host.send(data)
+            host.renew_if_due()
+            time.sleep(len(data) / rate)
+    return 0
+
+
+def of_session(call):
+    """Returns a command that is about the session of a name."""
+
+    def do(words, settings):
+        from .operate import find
+
+        store = settings.connect()
+        return call(store, find(store, words.name), words) or 0
+
+    return do
+
+
+@of_session
+def do_view(store, incarnation, words):
+    from .view import follow
+
+    store.patience = None
+    return follow(store, incarnation, words.type)
+
+
+@of_session
+def do_text(store, incarnation, words):
+    from .session import as_it_is
+
+    sys.stdout.write(as_it_is(store, incarnation).terminal.text())
+
+
+@of_session
+def do_repaint(store, incarnation, words):
+    from .session import as_it_is
+
+    sys.stdout.buffer.write(as_it_is(store, incarnation).terminal.repaint())
+
+
+@of_session
+def do_picture(store, incarnation, words):
+    from .export import picture
+    from .session import as_it_is
+
+    sys.stdout.buffer.write(picture(as_it_is(store, incarnation).terminal.repaint()))
+
+
+@of_session
+def do_log(store, incarnation, words):
+    from .export import log
+
+    first = log(store, incarnation, sys.stdout.buffer)
+    if first:
+        print(f"fleet: the first {first} bytes are no longer in the store", file=sys.stderr)
+
+
+@of_session
+def do_export(store, incarnation, words):
+    from . import export
+
+    out = sys.stdout.buffer
+    export.ttyrec(store, incarnation, out) if words.ttyrec else export.asciicast(store, incarnation, words.name, out)
+
+
+@of_session
+def do_type(store, incarnation, words):
+    from .operate import Typist
+
+    data = words.text.encode() if words.text is not None else sys.stdin.buffer.read()
+    Typist(store, incarnation).type(data + (b"\r" if words.enter else b""))
+
+
+def do_list(words, settings):
+    from .operate import show_list
+
+    return show_list(settings.connect(), words.json, words.all)
+
+
+def do_workers(words, settings):
+    from .operate import workers
+
+    return workers(settings.connect(), words.json)
+
+
+def do_kill(words, settings):
+    from .operate import kill
+
+    return kill(settings.connect(), words.name, words.signal, words.patience)
+
+
+def do_end(words, settings):
+    from .operate import end
+
+    return end(settings.connect(), words.name, words.keep, words.force)
+
+
+def do_drain(words, settings):
+    from .operate import drain
+
+    return drain(settings.connect(), words.worker, words.patience)
+
+
+def do_check(words, settings):
+    settings.connect().examine()
+    print("the store is fit")
+    return 0
+
+
+def do_web(words, settings):
+    from .web import serve
+
+    for name in ("address", "port", "typing"):
+        if getattr(words, name) is not None:
+            setattr(settings.web, name, getattr(words, name))
+    return serve(settings.connect(waits=True), settings.web)
+
+
+def add_hosts(add):
+    each = add("run", do_run, "starts a store and workers on this machine, until Ctrl-C or as long as a command runs")
+    each.add_argument("--workers", type=int, default=4)
+    each.add_argument("command", nargs=argparse.REMAINDER)
+    each = add("worker", do_worker, "plays sessions, until it is told to end; then it hands them over")
+    each.add_argument("--every", type=int, help="a checkpoint after so many bytes (4096)")
+    each.add_argument("--lease", type=float, help="seconds of silence after which a worker counts as dead (5)")
+    each.add_argument("--keep", help="bytes before a checkpoint that stay in the store (all)")
+    each.add_argument("--most", type=int, help="sessions that it takes")
+    each.add_argument("--retain", type=seconds, help="how long the keys of an ended session stay (for ever)")
+    each.add_argument("--metrics", metavar="HOST:PORT", help="serves metrics for Prometheus")
+    each = add("host", do_host, "runs a command on a pseudo-terminal of 24 rows by 80 columns, as a session")
+    each.add_argument("--input", action="store_true", help="viewers may type")
+    each.add_argument("--replay", metavar="FILE", help="sends a file's bytes instead")
+    each.add_argument("--rate", type=int, default=9600, help="bytes a second of --replay (9600)")
+    each.add_argument("name")
+    each.add_argument("command", nargs=argparse.REMAINDER)
+
+
+def add_viewers(add):
+    each = add("view", do_view, "follows a session on this terminal")
+    each.add_argument("--type", action="store_true", help="keys go to the session; Ctrl-] leaves")
+    each.add_argument("name")
+    named = [
+        ("text", do_text, "prints the screen as it is now"), ("picture", do_picture, "writes the screen as SVG"),
+        ("repaint", do_repaint, "writes the bytes that leave a terminal in the session's state"),
+        ("log", do_log, "writes the bytes that the session wrote"),
+    ]
+    for name, do, words in named:
+        add(name, do, words).add_argument("name")
+    each = add("export", do_export, "writes a recording with its times, as asciicast 2 or ttyrec")
+    each.add_argument("--ttyrec", action="store_true")
+    each.add_argument("name")
+    each = add("type", do_type, "types into a session")
+    each.add_argument("--enter", action="store_true", help="a return after it")
+    each.add_argument("name")
+    each.add_argument("text", nargs="?", help="else standard input")
+    each = add("web", do_web, "serves a page with live pictures of all sessions")
+    each.add_argument("--address", help="where it listens (127.0.0.1)")
+    each.add_argument("--port", type=int)
+    each.add_argument("--typing", action="store_true", default=None, help="the page may type, if a session's host allows that")
+
+
+def add_operators(add):
+    each = add("list", do_list, "lists the sessions")
+    each.add_argument("--all", action="store_true", help="ended ones, too")
+    each.add_argument("--json", action="store_true")
+    each = add("workers", do_workers, "lists the workers")
+    each.add_argument("--json", action="store_true")
+    each = add("kill", do_kill, "sends a signal to a session's program, and waits for its end")
+    each.add_argument("--signal", choices=("HUP", "INT", "TERM", "KILL"), default="HUP")
+    each.add_argument("--patience", type=seconds, default=10)
+    each.add_argument("name")
+    each = add("end", do_end, "ends a session that has no host")
+    each.add_argument("--keep", type=seconds, help="how long its keys stay, such as 7d; 0 removes them at once (for ever)")
+    each.add_argument("--force", action="store_true", help="even if its host lives")
+    each.add_argument("name")
+    each = add("drain", do_drain, "has a worker hand its sessions over and end")
+    each.add_argument("--patience", type=seconds, default=10)
+    each.add_argument("worker", help="its name, or how that begins")
+    add("check-store", do_check, "says whether the store can keep a fleet")
+
+
+def parser():
+    made = argparse.ArgumentParser(prog="fleet", description="Sessions of a VT220 that outlive their machine.", epilog=__doc__.split("\n\n")[1])
+    made.add_argument("--config", help="the configuration file")
+    made.add_argument("--quiet", action="store_true", help="logs errors only")
+    commands = made.add_subparsers(dest="word", required=True, metavar="COMMAND")
+
+    def add(name, do, words):
+        each = commands.add_parser(name, help=words, description=words)
+        each.set_defaults(do=do)
+        return each
+
+    for adding in (add_hosts, add_viewers, add_operators):
+        adding(add)
+    return made
+
+
+def status_of(error):
+    """Returns the exit status for an error, and the words for it; None if it isn't one that is expected."""
+    from redis.exceptions import AuthenticationError, NoPermissionError, RedisError
+
+    from . import keys, operate, store
+    from .host import Taken
+
+    known = [
+        (Taken, TAKEN), (keys.Fault, FAULT), (operate.NoSession, NONE), (operate.Refused, REFUSED), (store.Unfit, UNFIT),
+        (Unclear, CONFIGURATION), ((AuthenticationError, NoPermissionError), DENIED), (RedisError, UNFIT), (ValueError, 2), (OSError, 1),
+    ]
+    if isinstance(error, RedisError) and any(word in str(error) for word in DENIALS):
+        return DENIED
+    return next((status for kind, status in known if isinstance(error, kind)), None)
+
+
+def main(arguments=None):
+    words = parser().parse_args(arguments)
+    level = logging.ERROR if words.quiet else logging.INFO
+    logging.basicConfig(stream=sys.stderr, level=level, format="%(asctime)s %(levelname)s %(message)s")
+    try:
+        return words.do(words, Settings(words.config))
+    except KeyboardInterrupt:
+        return 130
+    except BrokenPipeError:
+        os.dup2(os.open(os.devnull, os.O_WRONLY), 1)
+        return 1
+    except Exception as error:
+        status = status_of(error)
+        if status is None:
+            raise
+        print(f"fleet: {type(error).__name__}: {str(error).strip()}", file=sys.stderr)
+        return status

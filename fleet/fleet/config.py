@@ -1,0 +1,107 @@
+"""Settings: the configuration file, and what the command line says over it.
+
+The file is that of --config, else of FLEET_CONFIG, else ~/.config/vt220-fleet.conf, else /etc/vt220-fleet.conf.
+"""
+import configparser
+import os
+from dataclasses import dataclass, fields
+
+from .store import connect
+
+PATHS = ("~/.config/vt220-fleet.conf", "/etc/vt220-fleet.conf")
+DEFAULT_STORE = "redis://127.0.0.1:6379"
+
+
+class Unclear(Exception):
+    """The configuration has something that cannot be."""
+
+
+@dataclass
+class Store:
+    url: str = ""
+    password_file: str = ""
+    unsafe: bool = False
+    timeout: float = 5.0
+    give_up: float = 10.0
+
+
+@dataclass
+class Worker:
+    every: int = 4096
+    lease: float = 5.0
+    keep: int = None
+    most: int = 10**6
+    retain: float = None
+    metrics: str = ""
+
+
+@dataclass
+class Host:
+    lease: float = 10.0
+    input: bool = False
+
+
+@dataclass
+class Web:
+    address: str = "127.0.0.1"
+    port: int = 8220
+    token_file: str = ""
+    typing: bool = False
+
+
+SECTIONS = {"store": Store, "worker": Worker, "host": Host, "web": Web}
+YES = {"yes": True, "true": True, "on": True, "1": True, "no": False, "false": False, "off": False, "0": False}
+
+
+def value_of(kind, text, where):
+    try:
+        if kind is bool:
+            return YES[text.lower()]
+        if text.lower() in ("all", "never", "") and kind in (int, float):
+            return None
+        return kind(text)
+    except (KeyError, ValueError):
+        raise Unclear(f"{where} = {text}: not a {kind.__name__}") from None
+
+
+class Settings:
+    """All sections, each with its defaults where the file says nothing."""
+
+    def __init__(self, path=None):
+        for name, made in SECTIONS.items():
+            setattr(self, name, made())
+        named = path or os.environ.get("FLEET_CONFIG")
+        found = [named] if named else [p for p in map(os.path.expanduser, PATHS) if os.path.exists(p)][:1]
+        for each in found:
+            self.read(each)
+        self.store.url = os.environ.get("FLEET_REDIS") or self.store.url or DEFAULT_STORE
+
+    def read(self, path):
+        parser = configparser.ConfigParser(interpolation=None)
+        try:
+            with open(path) as file:
+                parser.read_file(file)
+        except (OSError, configparser.Error) as refused:
+            raise Unclear(f"{path}: {refused}") from None
+        for section in parser.sections():
+            if section not in SECTIONS:
+                raise Unclear(f"{path}: no section is named [{section}]")
+            self.fill(path, section, parser[section])
+
+    def fill(self, path, section, words):
+        kinds = {field.name: field.type for field in fields(SECTIONS[section])}
+        for name, text in words.items():
+            name = name.replace("-", "_")
+            if name not in kinds:
+                raise Unclear(f"{path}: [{section}] has no {name}")
+            setattr(getattr(self, section), name, value_of(kinds[name], text, f"{path}: [{section}] {name}"))
+
+    def connect(self, waits=False):
+        """Returns the store: one that is waited for, for ever, or until give-up seconds are over. A password is read from its file, so that it is on no command line and in no environment."""
+        options = {"socket_timeout": self.store.timeout}
+        if self.store.password_file:
+            with open(self.store.password_file) as file:
+                options["password"] = file.read().strip()
+        store = connect(self.store.url, **options)
+        store.patience = None if waits else self.store.give_up
+        return store

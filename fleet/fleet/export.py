@@ -1,0 +1,46 @@
+"""What a session wrote, for other programs: its bytes, or a recording with the moments, as asciicast 2 or ttyrec."""
+import json
+import os
+import struct
+import subprocess
+
+from .session import bytes_of
+
+PROGRAM = os.path.join(os.path.dirname(os.path.abspath(__file__)), "..", "..", "crates", "vt220", "out", "vt220")
+
+
+def program():
+    """Returns the path of the vt220 program: VT220_PROGRAM's, this repository's, else the one on the path."""
+    named = os.environ.get("VT220_PROGRAM")
+    return named or (PROGRAM if os.path.exists(PROGRAM) else "vt220")
+
+
+def log(store, incarnation, out):
+    """Writes the bytes that the store has. Returns the position of the first one."""
+    first = None
+    for at, _, data in bytes_of(store, incarnation):
+        first = at - len(data) if first is None else first
+        out.write(data)
+    return first or 0
+
+
+def asciicast(store, incarnation, title, out):
+    """Writes an asciicast, version 2. C1 controls and what is no UTF-8 are carried as the code points U+0080 to U+00FF."""
+    begin = None
+    for _, moment, data in bytes_of(store, incarnation):
+        if begin is None:
+            begin = moment
+            head = {"version": 2, "width": 80, "height": 24, "timestamp": begin // 1000, "title": title, "env": {"TERM": "vt220"}}
+            out.write(json.dumps(head).encode() + b"\n")
+        out.write(json.dumps([round(max(0, moment - begin) / 1000, 3), "o", data.decode("latin-1")]).encode() + b"\n")
+
+
+def ttyrec(store, incarnation, out):
+    """Writes a ttyrec: frames of seconds, microseconds, length and bytes."""
+    for _, moment, data in bytes_of(store, incarnation):
+        out.write(struct.pack("<III", moment // 1000, moment % 1000 * 1000, len(data)) + data)
+
+
+def picture(repaint):
+    """Returns a repaint as SVG, as the vt220 program draws it."""
+    return subprocess.run([program(), "picture"], input=repaint, stdout=subprocess.PIPE, check=True).stdout

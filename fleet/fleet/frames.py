@@ -1,0 +1,60 @@
+"""What viewers get: a repaint at first, and then updates, at most twenty a second, and only while somebody looks."""
+import time
+
+import vt220
+
+from .keys import key
+
+FRAME = 0.05  # seconds between updates to viewers
+STEPS = 100  # updates to viewers, then a repaint for those who come
+WATCHED = 4.0  # seconds that a viewer's question holds for; viewers ask each second
+FORGET = 60  # seconds after which the frames of a session are dropped
+
+
+class Frames:
+    def __init__(self, store):
+        self.store, self.watched, self.shown = store, {}, 0.0
+
+    def watch(self, session):
+        """Somebody looks at a session, from now on for some seconds."""
+        session.watched = time.monotonic() + WATCHED
+        if session.incarnation not in self.watched:
+            self.watched[session.incarnation] = session
+            session.shown = None
+
+    def is_due(self):
+        """Returns whether a watched session changed and hasn't been shown."""
+        return any(session.is_dirty or session.shown is None for session in self.watched.values())
+
+    def show(self, kept, worker):
+        """Sends the viewers of each watched session where it is now."""
+        now = time.monotonic()
+        if not self.watched or now - self.shown < FRAME:
+            return
+        self.shown = now
+        self.watched = {i: s for i, s in self.watched.items() if s.watched > now and kept.get(i) is s}
+        with self.store.pipeline(transaction=False) as together:
+            for session in self.watched.values():
+                if (session.is_dirty or session.shown is None) and session.terminal.is_between():
+                    self.add(together, session, worker)
+            if together.command_stack:
+                self.store.all_of(together)
+
+    def add(self, together, session, worker):
+        """A repaint, or an update on what was sent before it; `by` and `step` say on what."""
+        stream, session.is_dirty = key(session.incarnation, "view"), False
+        if session.shown is None or session.step == STEPS:
+            if session.shown is None:
+                # Not deleted: ids only grow in a stream that stays, whatever the clock does.
+                together.execute_command("XTRIM", stream, "MAXLEN", 0)
+            session.shown, session.step = vt220.Terminal(), 0
+            frame = {"repaint": session.terminal.repaint()}
+            session.shown.feed(frame["repaint"])
+        else:
+            frame = {"update": session.shown.update(session.terminal)}
+            if not frame["update"]:
+                return
+            session.step += 1
+        words = [word for pair in (frame | {"by": worker, "step": session.step, "at": session.at}).items() for word in pair]
+        together.execute_command("XADD", stream, "MAXLEN", 2 * STEPS, "*", *words)
+        together.execute_command("EXPIRE", stream, FORGET)

@@ -1,0 +1,151 @@
+"""How a session is laid out in the store.
+
+A session has a name, which people use, and an incarnation, which its host makes up when it starts. All keys of a session carry
+the incarnation, so that a name can be used again without meeting anything of its past.
+
+    fleet:names                  hash: name -> the latest incarnation
+    fleet:lease:NAME             the incarnation whose host holds the name; expires when that host is silent
+    fleet:all                    sorted set of all incarnations, by the moment that they started
+    fleet:live                   set of those that have neither ended nor failed
+    fleet:waiting                sorted set of those that want a worker
+    fleet:workers                hash: worker -> a count that it raises four times a lease
+    fleet:draining               set of the workers that are to hand their sessions over
+    fleet:of:WORKER              set of the incarnations that a worker owns
+
+    fleet:INCARNATION:about      hash: name, host, started, owner, end (of the bytes), played, answered, and how it ended
+    fleet:INCARNATION:bytes      stream of what the host sent. The id of an entry is POSITION-0, the position after its last byte.
+                                 The first entry is 0-1; the last one, POSITION-2, carries the exit status
+    fleet:INCARNATION:answers    stream of reports. The id of a report is the position just after the byte that asked for it
+    fleet:INCARNATION:checkpoint hash: a position and the repaint of the terminal there, with length, checksum and versions
+    fleet:INCARNATION:view       stream for viewers: a repaint, then updates
+    fleet:INCARNATION:keys       stream of what viewers typed, and of signals
+    fleet:INCARNATION:typed      hash: viewer -> the number of the last thing that it typed
+    fleet:INCARNATION:ended      hash: where and how it ended, and the screen's text
+    fleet:INCARNATION:fault      why no worker can go on with it
+
+Channels: fleet:new (a session waits), fleet:wake:WORKER (one of its sessions has bytes, or a viewer).
+"""
+import functools
+import hashlib
+import secrets
+import time
+import unicodedata
+
+import vt220
+
+FORMAT = 2
+ALL, LIVE, NAMES, WAITING, WORKERS, DRAINING = (
+    "fleet:all", "fleet:live", "fleet:names", "fleet:waiting", "fleet:workers", "fleet:draining",
+)
+NEW = "fleet:new"
+NAME_LIMIT = 200
+PARTS = ("about", "bytes", "answers", "checkpoint", "view", "keys", "typed", "ended", "fault")
+
+
+class Fault(Exception):
+    """A session cannot go on. The class's name is the fault's name, and stays in the store."""
+
+
+class Trimmed(Fault):
+    """Bytes that are still needed are no longer in a session's stream."""
+
+
+class Lost(Fault):
+    """The store no longer has a key of a session that it acknowledged."""
+
+
+class Wrong(Fault):
+    """An entry of a session is not of the form that hosts write."""
+
+
+class Version(Fault):
+    """An entry or a checkpoint is of a format that this program doesn't know."""
+
+
+class Forged(Fault):
+    """The store has a report that no byte asked for."""
+
+
+class Differs(Fault):
+    """The store has another entry at a position than this program would write there."""
+
+
+class Damaged(Exception):
+    """A checkpoint was cut short or changed."""
+
+
+def key(incarnation, part):
+    return f"fleet:{incarnation}:{part}"
+
+
+def of(worker):
+    return f"fleet:of:{worker}"
+
+
+def wake(worker):
+    return f"fleet:wake:{worker}"
+
+
+def lease(name):
+    return f"fleet:lease:{name}"
+
+
+def new_id():
+    return secrets.token_hex(8)
+
+
+def now():
+    """Returns the moment in milliseconds since 1970, as entries carry it."""
+    return int(time.time() * 1000)
+
+
+def version():
+    """Returns the version of the format and of the library, as entries carry it."""
+    return f"{FORMAT}.{vt220.version()}"
+
+
+@functools.lru_cache(maxsize=64)
+def is_known(said):
+    """Returns whether a version that an entry carries is of this format. Any library's version is."""
+    first, _, library = said.decode("ascii", "replace").partition(".")
+    return first == str(FORMAT) and library.isdigit()
+
+
+def checked_name(name):
+    """Returns a session's name; ValueError if it cannot be one: 1 to 200 bytes of UTF-8, without control characters."""
+    try:
+        is_fit = 0 < len(name.encode()) <= NAME_LIMIT
+    except UnicodeEncodeError:
+        is_fit = False
+    if not is_fit or any(unicodedata.category(c) in ("Cc", "Cf", "Cs", "Zl", "Zp") for c in name):
+        raise ValueError("a session's name is 1 to 200 bytes of UTF-8 without control characters")
+    return name
+
+
+def position(entry_id):
+    """Returns the position in an id, POSITION-NUMBER."""
+    return int(entry_id.split(b"-")[0])
+
+
+def checksum(at, repaint):
+    return hashlib.sha256(b"%d:%d:" % (at, len(repaint)) + repaint).hexdigest()
+
+
+def checkpoint(at, repaint):
+    """Returns the fields of a checkpoint."""
+    return {"at": at, "length": len(repaint), "sha256": checksum(at, repaint), "v": version(), "repaint": repaint}
+
+
+def read_checkpoint(fields):
+    """Returns the position and the repaint of a checkpoint. Raises Damaged if it isn't as it was stored, and Version if another
+    format's program stored it."""
+    if b"v" in fields and not is_known(fields[b"v"]):
+        raise Version(f"a checkpoint of version {fields[b'v'].decode('ascii', 'replace')}; this program writes {version()}")
+    try:
+        at, length, repaint = int(fields[b"at"]), int(fields[b"length"]), fields[b"repaint"]
+        is_sound = length == len(repaint) and fields[b"sha256"].decode() == checksum(at, repaint) and b"v" in fields
+    except (KeyError, ValueError):
+        is_sound = False
+    if not is_sound:
+        raise Damaged()
+    return at, repaint

@@ -1,0 +1,87 @@
+"""A store and workers on this machine, for `fleet run`, the tests and the measurements: a Redis that is reached through a Unix
+socket in a directory of mode 0700, so by this user alone, and that writes each change to disk before it answers."""
+import os
+import shutil
+import signal
+import subprocess
+import sys
+import tempfile
+import time
+
+from .store import connect
+
+HERE = os.path.dirname(os.path.abspath(__file__))
+COMMAND = os.path.join(HERE, "..", "fleet-cli")
+PYTHON = "/usr/bin/python3"  # the one that Debian's python3-redis is for
+
+
+class LocalStore:
+    def __init__(self, *options):
+        self.folder = tempfile.mkdtemp(prefix="fleet-")  # of mode 0700
+        self.socket = os.path.join(self.folder, "redis.sock")
+        self.url = f"unix://{self.socket}"
+        self.options = options
+        self.start()
+
+    def start(self, *more):
+        words = ["--port", "0", "--unixsocket", self.socket, "--unixsocketperm", "700", "--dir", self.folder, "--save", ""]
+        words += ["--appendonly", "yes", "--appendfsync", "always", *self.options, *more]
+        with open(os.path.join(self.folder, "log"), "ab") as log:
+            self.server = subprocess.Popen(["redis-server", *words], stdout=log, stderr=log)
+        connect(self.url).ping()
+
+    def kill(self):
+        self.server.kill()
+        self.server.wait()
+
+    def stop(self):
+        self.kill()
+        shutil.rmtree(self.folder, ignore_errors=True)
+
+
+class Workers:
+    """Workers side by side; what they log goes to a file."""
+
+    def __init__(self, count, folder, url, *words):
+        self.words, self.folder, self.url = words, folder, url
+        self.all = [self.another() for _ in range(count)]
+
+    def another(self, url=None):
+        with open(os.path.join(self.folder, "workers"), "ab") as said:
+            words = [PYTHON, COMMAND, "worker", *self.words]
+            return subprocess.Popen(words, stderr=said, env=os.environ | {"FLEET_REDIS": url or self.url})
+
+    def kill(self, number):
+        """Kills one with no warning, and starts another."""
+        self.all[number].send_signal(signal.SIGKILL)
+        self.all[number].wait()
+        self.all[number] = self.another()
+
+    def said(self):
+        with open(os.path.join(self.folder, "workers")) as said:
+            return said.read().splitlines()
+
+    def stop(self):
+        for worker in self.all:
+            worker.kill()
+            worker.wait()
+
+
+def run(count, command):
+    """Starts a store and workers, until Ctrl-C or as long as a command runs. A worker that ends is started again."""
+    for ends in (signal.SIGHUP, signal.SIGTERM):
+        signal.signal(ends, lambda *_: sys.exit(1))
+    store = LocalStore()
+    workers = Workers(count, store.folder, store.url)
+    print(f"export FLEET_REDIS={store.url}", file=sys.stderr, flush=True)
+    try:
+        if command:
+            return subprocess.call(command, env=os.environ | {"FLEET_REDIS": store.url})
+        while True:
+            time.sleep(1)
+            workers.all = [each if each.poll() is None else workers.another() for each in workers.all]
+    except KeyboardInterrupt:
+        return 0
+    finally:
+        workers.stop()
+        store.stop()

@@ -1,0 +1,3 @@
+-- A worker begins: WORKER
+redis.call('HSETNX', 'fleet:workers', ARGV[1], 0)
+return {'ok'}

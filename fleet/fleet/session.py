@@ -1,0 +1,114 @@
+"""A session's terminal, and how it is rebuilt from what the store has.
+
+A terminal's state is a function of the bytes. The repaint of a state, played on any terminal, leaves exactly that state. Bytes may
+be cut anywhere. So a checkpoint and the bytes after its position are the session, for any process that has both.
+"""
+import vt220
+
+from .keys import Damaged, Lost, Trimmed, Version, Wrong, is_known, key, position, read_checkpoint
+
+
+class Session:
+    """A session's terminal, played up to the position `at`."""
+
+    def __init__(self, incarnation, at=0, repaint=b""):
+        self.incarnation, self.at = incarnation, at
+        self.terminal = vt220.Terminal()
+        self.terminal.feed(repaint)
+        self.status = None
+
+    def data_of(self, entry_id, fields):
+        """Returns what of an entry wasn't played yet. Raises a fault if it isn't a host's, or if bytes before it are missing."""
+        if not is_known(fields.get(b"v", b"")):
+            raise Version(f"entry {entry_id.decode('ascii', 'replace')} is of another format")
+        at, number = map(int, entry_id.split(b"-"))
+        data = fields.get(b"bytes", b"")
+        if not is_formed(at, number, fields):
+            raise Wrong(f"entry {entry_id.decode()} is no host's: it has {', '.join(map(repr, sorted(fields)))}")
+        if at - len(data) > self.at:
+            raise Trimmed(f"the bytes from {self.at} to {at - len(data)} are gone")
+        if number == 2:
+            self.status = fields[b"status"].decode()
+        return data[self.at - (at - len(data)) :] if at > self.at else b""
+
+    def play(self, data, reports, most=None):
+        """Plays bytes, up to `most` reports. Appends the reports as (position, bytes), and returns how many bytes were played."""
+        begin = self.at
+        while self.at - begin < len(data) and (most is None or len(reports) < most):
+            played, report = self.terminal.feed_until_report(data[self.at - begin :])
+            self.at += played
+            if report:
+                reports.append((self.at, report))
+        return self.at - begin
+
+
+def is_formed(at, number, fields):
+    """Returns whether an entry is of one of the three forms that hosts write."""
+    if number == 0:
+        return 0 < len(fields.get(b"bytes", b"")) <= at and b"status" not in fields
+    if number == 2:
+        status = fields.get(b"status", b"")
+        return (status.isdigit() and len(status) <= 3 or status in (b"lost", b"ended")) and b"bytes" not in fields
+    return (at, number) == (0, 1) and b"begin" in fields and b"bytes" not in fields
+
+
+def restored(incarnation, fields):
+    """Returns a session as its checkpoint has it, and whether that was damaged: then the session is at its start."""
+    if not fields:
+        return Session(incarnation), False
+    try:
+        return Session(incarnation, *read_checkpoint(fields)), False
+    except Damaged:
+        return Session(incarnation), True
+
+
+def look_up(store, incarnation):
+    """Returns a session as its checkpoint has it, and the position where its bytes end. Raises Lost if the store has lost it."""
+    with store.pipeline(transaction=True) as together:
+        together.hgetall(key(incarnation, "checkpoint"))
+        together.hget(key(incarnation, "about"), "end")
+        together.exists(key(incarnation, "bytes"))
+        fields, end, is_there = store.all_of(together)
+    if end is None or not is_there:
+        raise Lost("the store no longer has this session")
+    return restored(incarnation, fields)[0], int(end)
+
+
+def play_on(store, session, end):
+    """Plays all that the store has of a session. Raises Trimmed if what comes next is no longer there."""
+    last = f"{session.at}-0"
+    while True:
+        entries = store.xrange(key(session.incarnation, "bytes"), min=f"({last}", count=64)
+        for entry_id, fields in entries:
+            session.play(session.data_of(entry_id, fields), [])
+            last = entry_id.decode()
+        if not entries:
+            break
+    if session.at < end:
+        raise Trimmed(f"the bytes from {session.at} to {end} are gone")
+
+
+def as_it_is(store, incarnation):
+    """Returns a session as it is in the store now, without a worker. A worker may store a checkpoint and trim in between, so
+    what seems trimmed is read again as long as the checkpoint moves."""
+    seen = -1
+    while True:
+        session, end = look_up(store, incarnation)
+        begin = session.at
+        try:
+            play_on(store, session, end)
+            return session
+        except Trimmed:
+            if begin <= seen:
+                raise
+            seen = begin
+
+
+def bytes_of(store, incarnation):
+    """Yields (moment in milliseconds, bytes) for all entries that the store still has."""
+    last = "-"
+    while entries := store.xrange(key(incarnation, "bytes"), min=last, count=64):
+        for entry_id, fields in entries:
+            if b"bytes" in fields:
+                yield position(entry_id), int(fields.get(b"t", b"0")), fields[b"bytes"]
+        last = "(" + entries[-1][0].decode()

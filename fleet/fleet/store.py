@@ -1,0 +1,197 @@
+"""The store: Redis, whose calls wait for as long as it is away, and whose scripts are ours."""
+import logging
+import os
+import time
+from urllib.parse import urlsplit
+
+import redis
+from redis.exceptions import (
+    AuthenticationError, BusyLoadingError, ConnectionError, NoPermissionError, NoScriptError, ReadOnlyError, ResponseError, TimeoutError,
+)
+
+log = logging.getLogger("fleet")
+
+GONE = (BusyLoadingError, ConnectionError, TimeoutError, ReadOnlyError)
+FOR_NOW = ("OOM", "MISCONF", "MASTERDOWN", "NOREPLICAS", "CLUSTERDOWN", "TRYAGAIN", "BUSY ", "UNBLOCKED")
+TIMEOUT = 5.0  # seconds until a connection that says nothing counts as dead
+LUA = os.path.join(os.path.dirname(os.path.abspath(__file__)), "lua")
+UNSAFE = "appendonly is off: what the store acknowledges is lost when it stops"
+
+
+class Unfit(Exception):
+    """This store cannot keep a fleet."""
+
+
+class AnotherRun(redis.RedisError):
+    """The store was started anew, or is another one, since it was last asked. It may have lost what it acknowledged."""
+
+
+def is_for_now(error):
+    """Returns whether an error is one that passes: the store is away, out of memory or disk, or starting."""
+    if isinstance(error, (AuthenticationError, NoPermissionError)):
+        return False
+    if isinstance(error, GONE):
+        return True
+    return isinstance(error, ResponseError) and any(word in str(error)[:60] for word in FOR_NOW)
+
+
+def scripts():
+    """Returns the text of each script by its name."""
+    read = {}
+    for file in os.listdir(LUA):
+        with open(os.path.join(LUA, file)) as text:
+            read[file.removesuffix(".lua")] = text.read()
+    common = read.pop("common")
+    made = {}
+    for name, text in read.items():
+        first, rest = text.split("\n", 1) if text.startswith("#!") else ("", text)
+        made[name] = (first + "\n" if first else "") + common + rest
+    return made
+
+
+class Store(redis.Redis):
+    """Redis. Whatever is called waits until the store answers, for any time. So all that is written must bear being written
+    twice."""
+
+    def __init__(self, *words, **options):
+        super().__init__(*words, **options)
+        self.away_since = None
+        self.outages = 0  # how often the store was away
+        self.hashes = {}
+        self.run_id, self.minds_runs = None, False
+        self.patience = None  # seconds that the store is waited for; None for ever
+        self.connection_pool.connection_kwargs["redis_connect_func"] = self.greet
+
+    def greet(self, connection):
+        """Begins a connection, and looks whether the store at its other end is the one of the connections before."""
+        connection.on_connect()
+        connection.send_command("INFO", "server")
+        said = connection.read_response()
+        run_id = next((line[7:].strip() for line in said.split(b"\n") if line.startswith(b"run_id:")), None)
+        if self.run_id not in (None, run_id):
+            log.warning("the store is another run than before")
+            if self.minds_runs:
+                raise AnotherRun()
+        self.run_id = run_id
+
+    def accept_run(self):
+        """Goes on with the store as it is now: whoever calls this reads anew what it depends on."""
+        self.run_id = None
+
+    def execute_command(self, *words, **options):
+        return self.patiently(lambda: super(Store, self).execute_command(*words, **options))
+
+    def patiently(self, call):
+        pause = 0.02
+        while True:
+            try:
+                answer = call()
+                break
+            except (redis.RedisError, OSError) as error:
+                if not (isinstance(error, OSError) or is_for_now(error)):
+                    raise
+                self.is_away(error)
+                if self.patience is not None and time.monotonic() - self.away_since > self.patience:
+                    raise
+            time.sleep(pause)
+            pause = min(1.0, pause * 1.5)
+        if self.away_since is not None:
+            log.warning("the store is back after %.1f s", time.monotonic() - self.away_since)
+            self.away_since = None
+        return answer
+
+    def is_away(self, error):
+        if self.away_since is None:
+            self.away_since = time.monotonic()
+            self.outages += 1
+            log.warning("the store is away: %s: %s", type(error).__name__, error)
+
+    def all_of(self, together):
+        """Runs a pipeline, as often as it takes. Returns the answers, errors among them."""
+        commands = list(together.command_stack)
+
+        def once():
+            together.command_stack = list(commands)
+            answers = together.execute(raise_on_error=False)
+            for answer in answers:
+                if isinstance(answer, NoScriptError):
+                    self.load()
+                    raise ConnectionError("the store forgot its scripts")
+                if isinstance(answer, Exception) and is_for_now(answer):
+                    raise answer
+            return answers
+
+        return self.patiently(once)
+
+    def read_streams(self, count, streams):
+        """Returns what came in streams, as [[stream, [[id, [field, value, ..]], ..]], ..]: XREAD, with {stream: the last id}. The
+        client's own call packs and unpacks each word by itself, which takes as long as playing what was read."""
+        words = [b"XREAD", b"COUNT", b"%d" % count, b"STREAMS", *streams.keys(), *streams.values()]
+        packed = b"*%d\r\n" % len(words) + b"".join([b"$%d\r\n%b\r\n" % (len(word), word) for word in words])
+
+        def once():
+            connection = self.connection_pool.get_connection("XREAD")
+            try:
+                connection.send_packed_command([packed])
+                return connection.read_response() or []
+            except (ConnectionError, TimeoutError, OSError):
+                connection.disconnect()
+                raise
+            finally:
+                self.connection_pool.release(connection)
+
+        return self.patiently(once)
+
+    # Scripts.
+
+    def load(self):
+        self.hashes = {name: self.execute_command("SCRIPT LOAD", text) for name, text in scripts().items()}
+
+    def call_of(self, name, *arguments):
+        """Returns the words of a script's call, for a pipeline."""
+        if not self.hashes:
+            self.load()
+        return ("EVALSHA", self.hashes[name], 0, *arguments)
+
+    def run(self, name, *arguments):
+        """Runs a script. Returns its answer, whose first word is text."""
+        while True:
+            try:
+                answer = self.execute_command(*self.call_of(name, *arguments))
+                break
+            except NoScriptError:
+                self.load()
+        if isinstance(answer, list) and isinstance(answer[0], bytes):
+            answer[0] = answer[0].decode()
+        return answer
+
+    # What the store is.
+
+    def facts(self):
+        return self.execute_command("INFO", "server", "stats", "persistence", "memory")
+
+    def generation(self):
+        """Returns what changes when the store may have lost something: its run, and how many keys it evicted."""
+        facts = self.facts()
+        return facts.get("run_id"), facts.get("evicted_keys")
+
+    def examine(self, is_any_allowed=False):
+        """Raises Unfit if the store forgets by design: a cluster, eviction, no append-only file."""
+        facts = self.facts()
+        if facts.get("redis_mode") == "cluster":
+            raise Unfit("this store is a Redis Cluster, which the fleet doesn't support: give each fleet a store of its own")
+        policy, is_kept = facts.get("maxmemory_policy", "noeviction"), facts.get("aof_enabled") == 1
+        found = [] if policy == "noeviction" else [f"maxmemory-policy is {policy}: the store drops keys when it is full"]
+        found += [] if is_kept else [UNSAFE]
+        if found and not is_any_allowed:
+            raise Unfit("; ".join(found) + ". Mend that, or set unsafe = yes in the configuration's [store]")
+        for each in found:
+            log.warning("unsafe store: %s", each)
+
+
+def connect(url, **options):
+    """Returns the store at an address: unix:///PATH, redis://HOST:PORT or rediss://HOST:PORT (TLS)."""
+    words = {"socket_timeout": TIMEOUT} | options
+    if urlsplit(url).scheme != "unix":
+        words = {"socket_keepalive": True, "socket_connect_timeout": TIMEOUT} | words
+    return Store.from_url(url, **words)

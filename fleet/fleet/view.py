@@ -1,0 +1,176 @@
+"""Looks at a session from any machine that reaches the store, and types into it if its host allows that."""
+import os
+import re
+import select
+import sys
+import termios
+import time
+import tty
+
+import vt220
+
+from .keys import key
+from .operate import Typist
+from .session import as_it_is
+
+FRAME = 0.05
+LEAVE = b"\x1d"  # Ctrl-], as telnet has it
+
+
+def rendition(cell, is_reversed):
+    words = ["0"]
+    words += ["1"] if cell.bold else []
+    words += ["4"] if cell.underline else []
+    words += ["5"] if cell.blink else []
+    words += ["7"] if cell.reverse != is_reversed else []
+    return f"\033[{';'.join(words)}m"
+
+
+class Drawing:
+    """Draws a terminal's rows on today's terminals: UTF-8, CUP and SGR. Only rows that changed are drawn."""
+
+    def __init__(self, out):
+        self.out, self.rows = out, [None] * vt220.ROWS
+
+    def draw(self, terminal):
+        modes, cursor, drawn = terminal.modes(), terminal.cursor(), []
+        for row in range(1, vt220.ROWS + 1):
+            line = self.line(terminal.row(row), modes.decscnm)
+            if line != self.rows[row - 1]:
+                self.rows[row - 1] = line
+                drawn.append(f"\033[{row};1H{line}\033[0m\033[K")
+        drawn.append(f"\033[{cursor.row};{cursor.col}H\033[?25{'h' if modes.dectcem else 'l'}")
+        self.say("".join(drawn))
+
+    def line(self, cells, is_reversed):
+        parts, now = [], None
+        for cell in cells:
+            wanted = rendition(cell, is_reversed)
+            parts.append(cell.glyph if wanted == now else wanted + cell.glyph)
+            now = wanted
+        return "".join(parts)
+
+    def note(self, line):
+        """Writes a line below the screen."""
+        self.say(f"\0337\033[{vt220.ROWS + 1};1H\033[0m\033[K{line[:80]}\0338")
+
+    def say(self, words):
+        self.out.write(words)
+        self.out.flush()
+
+
+class Viewer:
+    """A terminal of a viewer's own, which repaints and updates bring where the session's is."""
+
+    def __init__(self, store, incarnation):
+        self.store, self.incarnation = store, incarnation
+        self.terminal, self.last = vt220.Terminal(), "0-0"
+        self.by, self.step = None, 0
+        self.worker, self.fault, self.is_over, self.takes_input = "", "", False, False
+
+    def ask(self):
+        """Tells the worker that somebody looks, and learns how the session is. Call it each second."""
+        answer = self.store.run("watch", self.incarnation)
+        if answer[0] == "lost":
+            self.is_over, self.fault = True, self.fault or "Lost: the store no longer has this session"
+            return
+        self.worker, self.fault, self.is_over = answer[1].decode(), answer[2].decode("utf-8", "replace"), bool(answer[3])
+        self.takes_input = answer[5] == b"1"
+        if order(answer[4]) < order(self.last):  # the stream began anew
+            self.last = "0-0"
+
+    def follow(self, patience=FRAME):
+        """Plays what came, or waits a little. Returns whether something did."""
+        came = self.store.xread({key(self.incarnation, "view"): self.last}, block=max(1, int(patience * 1000)))
+        return any([self.take(entries) for _, entries in came])
+
+    def take(self, entries):
+        for self.last, fields in entries:
+            self.play(fields)
+        return bool(entries)
+
+    def play(self, fields):
+        """A repaint leads there from anywhere; an update only from where the one before it led."""
+        by, step = fields[b"by"], int(fields[b"step"])
+        if b"repaint" in fields:
+            self.terminal.feed(fields[b"repaint"])
+        elif (by, step) == (self.by, self.step + 1):
+            self.terminal.feed(fields[b"update"])
+        else:
+            return
+        self.by, self.step = by, step
+
+
+def order(entry_id):
+    """Returns an id as numbers, which can be compared."""
+    words = entry_id.decode() if isinstance(entry_id, bytes) else entry_id
+    return tuple(int(part) for part in words.split("-"))
+
+
+ARROWS = re.compile(rb"\x1b(?:\[|O)([ABCD])")
+
+
+def translated(data, modes):
+    """Returns keys as a VT220 sends them: arrows by the mode of the cursor keys."""
+    return ARROWS.sub(rb"\x1bO\1" if modes.decckm else rb"\x1b[\1", data)
+
+
+class Keyboard:
+    """This terminal's keys, raw while they go to the session. Ctrl-] ends it."""
+
+    def __init__(self, typist):
+        self.typist, self.saved = typist, termios.tcgetattr(0)
+        tty.setraw(0)
+
+    def pass_on(self, modes):
+        """Sends what was typed. Returns whether to go on."""
+        if not select.select([0], [], [], 0)[0]:
+            return True
+        data = os.read(0, 1024)
+        if data and LEAVE not in data:
+            self.typist.type(translated(data, modes))
+        return bool(data) and LEAVE not in data
+
+    def leave(self):
+        termios.tcsetattr(0, termios.TCSADRAIN, self.saved)
+
+
+def state_line(viewer):
+    if viewer.fault:
+        return f"fault: {viewer.fault}"
+    return "" if viewer.worker else "no worker has this session: waiting"
+
+
+def follow(store, incarnation, types=False):
+    """Shows a session on this terminal until it is over. Returns the exit status: 0, or 4 for a fault."""
+    viewer, drawing = Viewer(store, incarnation), Drawing(sys.stdout)
+    keyboard = Keyboard(Typist(store, incarnation)) if types else None
+    drawing.say("\033[?1049h\033[2J")
+    try:
+        look(viewer, drawing, keyboard)
+        if viewer.is_over and not viewer.fault:
+            drawing.draw(as_it_is(store, incarnation).terminal)
+    except KeyboardInterrupt:
+        pass
+    finally:
+        drawing.say("\033[?25h\033[?1049l")
+        if keyboard:
+            keyboard.leave()
+    if viewer.fault:
+        print(f"fleet: fault: {viewer.fault}", file=sys.stderr)
+    return 4 if viewer.fault else 0
+
+
+def look(viewer, drawing, keyboard):
+    asked = noted = None
+    while not viewer.is_over and not viewer.fault:
+        if asked is None or time.monotonic() - asked > 1:
+            asked = time.monotonic()
+            viewer.ask()
+            if state_line(viewer) != noted:
+                noted = state_line(viewer)
+                drawing.note(noted)
+        if viewer.follow(0.01 if keyboard else FRAME):
+            drawing.draw(viewer.terminal)
+        if keyboard and not keyboard.pass_on(viewer.terminal.modes()):
+            return

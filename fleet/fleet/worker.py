@@ -1,0 +1,396 @@
+"""Plays sessions: takes them from the store, feeds each one's terminal, sends the reports back, and keeps checkpoints.
+
+Any number of workers run side by side, and any may be killed. A worker raises a count in the store four times a lease. When the
+count of one stands still for a lease, by the clock of another, that one puts its sessions among those that wait. All that a
+worker writes goes through a script which first looks whether the session is still its own.
+"""
+import logging
+import time
+
+import vt220
+
+from . import keys
+from .claims import Claims
+from .frames import Frames
+from .inbox import Inbox
+from .keys import key
+from .session import Session, restored
+from .store import AnotherRun, ResponseError
+
+log = logging.getLogger("fleet.worker")
+
+GATHER = 0.010  # seconds between the starts of two turns: what comes meanwhile is read together
+READ = 16  # entries of a session that are read at once
+CHUNK = 400  # sessions that are read with one call
+BYTES = 65536  # of a session that are played in a turn
+REPORTS = 200  # of a session that are made in a turn
+UNREAD = 4096  # reports that may wait for a host; then its session is not played on
+NOTE = 5.0  # seconds until the store is told how far a session is, if nothing else tells it
+
+
+class Kept(Session):
+    """A session that this worker has, and what the store is still to be told."""
+
+    def __init__(self, session, end, was_damaged):
+        self.__dict__.update(session.__dict__)
+        self.name = ""
+        self.end = end  # where the bytes ended when it was taken
+        self.seen = str(self.at) if self.at or not was_damaged else ""  # the checkpoint's position, as it was read
+        self.was_damaged = was_damaged
+        self.stream = key(self.incarnation, "bytes").encode()
+        self.last = b"%d-0" % self.at  # the last entry that was read
+        self.queue = []  # what was read and isn't played: (id, fields), the first one perhaps in part
+        self.is_read_out = False  # this turn's read brought all that there was
+        self.reports = []  # that the store hasn't
+        self.checked = self.at  # the position of the last checkpoint
+        self.checkpoint = None  # one that the store hasn't
+        self.told = -1  # the position that the store knows to be played
+        self.shown, self.step = None, 0  # what viewers have
+        self.watched = 0.0  # until when somebody looks
+        self.is_dirty = True  # something was played since viewers were sent a frame
+
+    def play_some(self, every):
+        """Plays what was read, up to this turn's share, and makes a checkpoint if one is due."""
+        budget = BYTES
+        while self.queue and budget > 0 and len(self.reports) < REPORTS:
+            entry_id, fields = self.queue[0]
+            data = self.data_of(entry_id, fields)
+            played = self.play(data[:budget], self.reports, REPORTS)
+            budget -= played
+            self.is_dirty = self.is_dirty or played > 0
+            if played == len(data):
+                self.queue.pop(0)
+        is_due = self.at - self.checked >= (1 if self.is_over() else every)
+        if is_due and self.terminal.is_between():
+            self.checked, self.checkpoint = self.at, keys.checkpoint(self.at, self.terminal.repaint())
+
+    def is_over(self):
+        return self.status is not None and not self.queue
+
+    def has_news(self, every):
+        """Returns whether the store is to be told something now."""
+        return bool(self.reports or self.checkpoint or self.is_over() or self.at - max(0, self.told) >= every)
+
+
+class Worker:
+    """One worker. `turn` does what is due and waits for what comes."""
+
+    def __init__(self, store, settings):
+        self.store, self.settings = store, settings
+        self.kept = {}  # by incarnation
+        self.due = set()  # incarnations that have something to read or to play
+        self.choked = set()  # those whose hosts don't read their reports
+        self.begun = self.noted = self.swept = self.asked = 0.0
+        self.claims = Claims(store, settings.lease)
+        self.inbox = Inbox(store, self.claims.me)
+        self.frames = Frames(store)
+        self.counts = {"entries": 0, "bytes": 0, "reports": 0, "checkpoints": 0, "faults": 0, "taken": 0, "lost": 0}
+        self.is_leaving = self.is_gone = False
+        store.minds_runs = True
+        self.generation = store.generation()
+
+    # Whose the sessions are.
+
+    def look_after_claims(self):
+        """Shows that this worker lives, and brings what it has in line with what the store says. Cheap while nothing is due, so
+        it is called between sessions, too."""
+        if time.monotonic() < self.claims.due:
+            return
+        news = self.claims.beat(len(self.kept))
+        if news.is_dead:
+            self.begin_anew("it was taken for dead")
+        elif news.is_to_be_compared:
+            self.reconcile()
+        if news.is_draining:
+            self.is_leaving = True
+        if news.has_beaten:
+            self.look_at_store()
+
+    def begin_anew(self, why):
+        """Drops all sessions and goes on as another worker: what the old one had is others' now."""
+        log.warning("%s begins anew: %s", self.claims.me, why)
+        self.kept.clear()
+        self.due.clear()
+        self.claims.enter()
+        self.inbox.move(self.claims.me)
+
+    def look_at_store(self):
+        """Reads everything anew if the store was another one meanwhile, or dropped keys."""
+        generation = self.store.generation()
+        if generation != self.generation:
+            log.warning("the store may have lost something: it was %s and is %s", self.generation, generation)
+            self.generation = generation
+            self.read_anew()
+
+    def read_anew(self):
+        """Drops what was played, and plays from the checkpoints what the store has."""
+        self.kept.clear()
+        self.due.clear()
+        self.reconcile()
+
+    def reconcile(self):
+        """Drops what isn't this worker's any more, and adopts what is and isn't here: a call's answer was lost."""
+        mine = self.claims.mine()
+        for incarnation in [each for each in self.kept if each not in mine]:
+            self.drop(incarnation)
+        self.adopt([each for each in mine if each not in self.kept])
+
+    def drop(self, incarnation):
+        session = self.kept.pop(incarnation, None)
+        self.due.discard(incarnation)
+        if session:
+            self.counts["lost"] += 1
+            log.info("%s lost %s", self.claims.me, session.name)
+
+    def take(self):
+        """Takes sessions that wait, a handful at a time, so that workers share them."""
+        room = self.settings.most - len(self.kept)
+        if self.is_leaving or room <= 0:
+            return
+        taken = self.claims.take(room)
+        if taken is None:
+            self.begin_anew("it was taken for dead")
+        elif taken:
+            self.adopt(taken)
+
+    def adopt(self, incarnations):
+        for at in range(0, len(incarnations), 64):
+            self.adopt_some(incarnations[at : at + 64])
+            self.look_after_claims()
+
+    def adopt_some(self, incarnations):
+        with self.store.pipeline(transaction=True) as together:
+            for each in incarnations:
+                together.hgetall(key(each, "checkpoint"))
+                together.hmget(key(each, "about"), "end", "name", "answered")
+                together.exists(key(each, "bytes"))
+            answers = self.store.all_of(together)
+        for number, each in enumerate(incarnations):
+            if each not in self.kept:
+                self.guarded(each, self.adopt_one, each, *answers[3 * number : 3 * number + 3])
+
+    def adopt_one(self, incarnation, checkpoint, about, is_there):
+        for answer in (checkpoint, about, is_there):
+            if isinstance(answer, Exception):
+                raise answer
+        if about[0] is None or not is_there:
+            raise keys.Lost("the store no longer has this session's bytes")
+        session, was_damaged = restored(incarnation, checkpoint)
+        kept = self.kept[incarnation] = Kept(session, int(about[0]), was_damaged)
+        kept.seen = checkpoint.get(b"at", b"").decode("ascii", "replace")
+        kept.name = (about[1] or b"?").decode("utf-8", "replace")
+        self.due.add(incarnation)
+        self.counts["taken"] += 1
+        if was_damaged:
+            log.warning("%s: the checkpoint of %s is damaged; it is played from its start", self.claims.me, kept.name)
+        log.info("%s took %s at %d", self.claims.me, kept.name, kept.at)
+
+    # A guard for each session.
+
+    def guarded(self, incarnation, call, *arguments):
+        """Calls something for a session. Whatever it raises is that session's fault alone."""
+        try:
+            return call(*arguments)
+        except (MemoryError, vt220.Memory):
+            log.error("%s has no memory for %s", self.claims.me, incarnation)
+            self.claims.release([incarnation])
+            self.drop(incarnation)
+            time.sleep(0.1)
+        except Exception as fault:
+            if not isinstance(fault, keys.Fault):
+                log.exception("%s: session %s", self.claims.me, incarnation)
+            self.give_up(incarnation, f"{type(fault).__name__}: {fault}")
+
+    def give_up(self, incarnation, fault):
+        """Says in the store that no worker can go on with a session. If the store says that it is another's, it is let go;
+        if its checkpoint isn't the one that was read, it is read again."""
+        session = self.kept.pop(incarnation, None)
+        self.due.discard(incarnation)
+        seen = session.seen if session else self.seen_at(incarnation)
+        answer = self.store.run("give_up", self.claims.me, incarnation, seen, fault[:1000])[0]
+        if answer == "ok":
+            self.counts["faults"] += 1
+            log.error("%s gives up %s: %s", self.claims.me, session.name if session else incarnation, fault)
+        elif answer == "moved":
+            self.adopt_some([incarnation])
+        else:
+            log.info("%s lost %s, at which it had met %s", self.claims.me, incarnation, fault)
+
+    def seen_at(self, incarnation):
+        """Returns where a session's checkpoint is, as the store has it."""
+        try:
+            return (self.store.hget(key(incarnation, "checkpoint"), "at") or b"").decode("ascii", "replace")
+        except ResponseError:
+            return ""
+
+    # Playing.
+
+    def turn(self, patience=0.25):
+        """One turn. Nothing of it reaches a store that was started anew meanwhile: that is read first."""
+        try:
+            self.turn_once(patience)
+        except AnotherRun:
+            self.store.accept_run()
+            self.generation = self.store.generation()
+            self.read_anew()
+
+    def turn_once(self, patience):
+        """Waits for what comes, plays it, and tells the store what it led to."""
+        self.look_after_claims()
+        if self.claims.is_anything_waiting or self.inbox.has_new:
+            self.inbox.has_new = False
+            self.take()
+        self.listen(0.0 if self.due else patience)
+        self.begun = time.monotonic()
+        self.sweep()
+        self.unchoke()
+        self.due = (self.due & self.kept.keys()) - self.choked
+        due = [self.kept[each] for each in self.due]
+        self.read([session for session in due if not session.queue])
+        for session in due:
+            self.guarded(session.incarnation, self.play, session)
+            self.look_after_claims()
+        self.tell([session for session in due if session.has_news(self.settings.every)])
+        self.note()
+        self.frames.show(self.kept, self.claims.me)
+        if self.is_leaving:
+            self.leave()
+
+    def listen(self, patience):
+        """Collects which sessions have something, for at most so long, and for what is left of a turn's least time."""
+        patience = min(patience, self.settings.lease / 16)  # the next beat isn't late
+        self.inbox.wait(patience if not self.frames.is_due() else min(patience, 0.02))
+        rest = self.begun + GATHER - time.monotonic()
+        if rest > 0:
+            time.sleep(rest)
+        if not self.inbox.collect():
+            self.due.update(self.kept)  # messages may have been missed
+        self.due |= self.inbox.due & self.kept.keys()
+        for incarnation in self.inbox.watched & self.kept.keys():
+            self.frames.watch(self.kept[incarnation])
+        self.inbox.due, self.inbox.watched = set(), set()
+
+    def sweep(self):
+        """Looks at all sessions now and then, whether or not a message came."""
+        if self.begun - self.swept > 10:
+            self.swept = self.begun
+            self.due.update(self.kept)
+
+    def unchoke(self):
+        """Looks whether hosts read their reports again."""
+        if not self.choked or self.begun - self.asked < 0.1:
+            return
+        self.asked, choked = self.begun, list(self.choked & self.kept.keys())
+        with self.store.pipeline(transaction=False) as together:
+            for incarnation in choked:
+                together.xlen(key(incarnation, "answers"))
+            unread = self.store.all_of(together) if choked else []
+        self.choked = {i for i, count in zip(choked, unread) if isinstance(count, int) and count > UNREAD}
+        self.due |= set(choked) - self.choked
+
+    def read(self, sessions):
+        """Reads what came for sessions, for many with one call. If that is refused, each is read by itself."""
+        for at in range(0, len(sessions), CHUNK):
+            some = sessions[at : at + CHUNK]
+            try:
+                self.read_some(some)
+            except ResponseError:
+                for session in some:
+                    self.guarded(session.incarnation, self.read_some, [session])
+            self.look_after_claims()
+
+    def read_some(self, sessions):
+        streams = {session.stream: session for session in sessions}
+        for session in sessions:
+            session.is_read_out = True
+        for stream, entries in self.store.read_streams(READ, {session.stream: session.last for session in sessions}):
+            session = streams[stream]
+            session.queue = [(entry_id, dict(zip(fields[::2], fields[1::2]))) for entry_id, fields in entries]
+            session.is_read_out, session.last = len(entries) < READ, entries[-1][0]
+
+    def play(self, session):
+        """Plays a session's share of this turn. It stays due while there may be more."""
+        if not session.queue:
+            self.due.discard(session.incarnation)
+            if session.at < session.end:
+                raise keys.Trimmed(f"the bytes from {session.at} to {session.end} are gone")
+            return
+        begin, entries = session.at, len(session.queue)
+        session.play_some(self.settings.every)
+        self.counts["bytes"] += session.at - begin
+        self.counts["entries"] += entries - len(session.queue)
+        if not session.queue and session.is_read_out:
+            self.due.discard(session.incarnation)
+        session.is_read_out = False
+
+    # Telling.
+
+    def tell(self, sessions):
+        """Tells the store what playing led to, for all sessions at once."""
+        for at in range(0, len(sessions), 64):
+            some = [session for session in sessions[at : at + 64] if self.kept.get(session.incarnation) is session]
+            with self.store.pipeline(transaction=False) as together:
+                for session in some:
+                    together.execute_command(*self.words_of(session))
+                answers = self.store.all_of(together)
+            for session, answer in zip(some, answers):
+                self.guarded(session.incarnation, self.hear, session, answer)
+            self.look_after_claims()
+
+    def words_of(self, session):
+        made, settings = session.checkpoint, self.settings
+        words = [self.claims.me, session.incarnation, session.at, keys.version()]
+        words += [-1 if settings.keep is None else settings.keep, -1 if settings.retain is None else int(settings.retain * 1000)]
+        if made:
+            words += ["always" if session.was_damaged else "newer", made["at"], made["length"], made["sha256"], made["repaint"]]
+        else:
+            words += ["none", 0, 0, "", ""]
+        words += [session.status, session.terminal.text()] if session.is_over() else ["none", ""]
+        for position, report in session.reports:
+            words += [position, report]
+        return self.store.call_of("tell", *words)
+
+    def hear(self, session, answer):
+        """Takes in what the store said to what it was told."""
+        if isinstance(answer, Exception):
+            raise answer
+        said = answer[0].decode()
+        if said == "lost":
+            self.drop(session.incarnation)
+        elif said == "forged":
+            raise keys.Forged(f"a report at {answer[1].decode()}, which nothing asked for; the session is at {session.at}")
+        elif said == "differs":
+            raise keys.Differs(f"the report at {answer[1].decode()} is another one than this library makes")
+        else:
+            self.was_told(session, answer[1])
+
+    def was_told(self, session, unread):
+        self.counts["reports"] += len(session.reports)
+        session.reports, session.told = [], session.at
+        if session.checkpoint:
+            self.counts["checkpoints"] += 1
+            session.seen, session.was_damaged, session.checkpoint = str(session.checkpoint["at"]), False, None
+        if unread > UNREAD:
+            self.choked.add(session.incarnation)
+        if session.is_over():
+            self.kept.pop(session.incarnation, None)
+            self.due.discard(session.incarnation)
+            log.info("%s ended %s at %d with %s", self.claims.me, session.name, session.at, session.status)
+
+    def note(self):
+        """Tells the store now and then how far all sessions are."""
+        if self.begun - self.noted < NOTE:
+            return
+        self.noted = self.begun
+        self.tell([session for session in self.kept.values() if session.told != session.at and not session.queue])
+
+    # Leaving.
+
+    def leave(self):
+        """Hands all sessions over, each as far as it was played, and begins no others."""
+        self.tell([session for session in self.kept.values() if session.told != session.at or session.reports or session.checkpoint])
+        self.claims.leave()
+        self.is_gone = True
+        log.info("%s hands %d sessions over", self.claims.me, len(self.kept))
+        self.kept.clear()
+        self.due.clear()

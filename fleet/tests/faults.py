@@ -1,0 +1,303 @@
+"""Faults of workers and hosts: killed, stopped, names used again, poison, hostile sessions."""
+import signal
+import time
+
+from harness import (
+    Processes, Proxy, Source, check, compare, key, keys, played, raises, session, settings, stores, until, wait_for, with_machine, worker,
+)
+from fleet.host import Host, Taken
+from fleet.worker import Worker
+
+
+def owners(store, sources):
+    return {source.name: store.hget(source.part("about"), "owner") for source in sources}
+
+
+@with_machine
+def four_hundred_idle_sessions_outlive_their_worker(machine, _):
+    name, url = "400 idle", machine.url
+    sources = [Source(url, f"idle-{number}").send(b"Session %d\033[6n" % number) for number in range(400)]
+    store, workers = sources[0].store, Processes(machine, 1, "--lease", "1")
+    check(wait_for(lambda: store.scard(keys.of(store.hkeys(keys.WORKERS)[0].decode())) == 400 if store.hlen(keys.WORKERS) else False), name, "one has all")
+    workers.all[0].send_signal(signal.SIGKILL)
+    workers.all[0].wait()
+    dead = store.hkeys(keys.WORKERS)[0]
+    begin = time.monotonic()
+    workers.all += [workers.another() for _ in range(3)]
+
+    def are_moved():
+        have = owners(store, sources)
+        return all(owner and owner != dead for owner in have.values())
+
+    check(wait_for(are_moved, 15), name, "all are another's")
+    took = time.monotonic() - begin
+    check(took < 5, name, f"within 5 s at a lease of 1 s: it took {took:.1f} s")
+    for source in sources:
+        source.send(b"!\033[6n").end(0)
+    check(wait_for(lambda: all(source.is_ended() for source in sources), 15), name, "they go on")
+    for source in sources:
+        source.receive(0)
+    check(all(source.reports() == played(source.sent)[1] for source in sources), name, "each report once")
+    workers.stop()
+
+
+def a_slow_worker_harms_no_session(url, data):
+    """It reads on from where it was, behind what the owner has trimmed."""
+    name, slow, other = "slow", worker(url, keep=200), worker(url, keep=200)
+    data = data * 3
+    source = Source(url, name).send(data[:3000])
+    until(lambda: any(s.at == 3000 for s in slow.kept.values()), slow)
+    until(lambda: other.kept, other)
+    source.send(data[3000:])
+    until(lambda: any(s.at == len(data) for s in other.kept.values()), other)
+    first = source.store.xrange(source.part("bytes"), count=1)[0][0]
+    check(keys.position(first) > 4000, name, "the owner has trimmed past the slow one")
+    # The slow one wakes in the midst of a turn, where it doesn't look whose the session is.
+    kept = slow.kept[source.incarnation]
+    slow.read([kept])
+    slow.guarded(source.incarnation, slow.play, kept)
+    check(source.fault() == "" and source.incarnation in other.kept, name, "the session lives, at its owner")
+    check(source.incarnation not in slow.kept, name, "the slow one lets go")
+    source.send(b"\033[c").end(0)
+    check(until(source.is_ended, slow, other), name, "it ends")
+    source.receive()
+    compare(source, name)
+
+
+@with_machine
+def stopped_workers_harm_no_session(machine, data):
+    name = "stopped"
+    sources = [Source(machine.url, f"stopped-{number}").listen() for number in range(12)]
+    workers = Processes(machine, 3, "--lease", "0.5", "--every", "512", "--keep", "0")
+    rounds = 8
+    for number in range(rounds):
+        victim = workers.all[number % 3]
+        for begin in range(4):
+            for source in sources:
+                source.send(data[number * 300 + begin * 70 :][:70] + b"\033[6n")
+            if begin == 0:
+                victim.send_signal(signal.SIGSTOP)
+            time.sleep(0.3)
+        victim.send_signal(signal.SIGCONT)
+    for source in sources:
+        source.send(b"\030").end(0)
+    check(wait_for(lambda: all(source.is_ended() for source in sources), 20), name, "all end")
+    time.sleep(0.5)
+    for source in sources:
+        source.stop()
+        check(source.fault() == "", source.name, source.fault())
+        check(source.reports() == played(source.sent)[1], source.name, "each report once")
+        ended = source.store.hget(source.part("ended"), "text")
+        check(ended == played(source.sent)[0].text().encode(), source.name, "text")
+    workers.stop()
+
+
+@with_machine
+def a_worker_behind_a_dead_link_harms_no_session(machine, data):
+    """It waits inside a read while others take its sessions and trim their bytes; then its link works again."""
+    name, proxy = "dead link", Proxy(machine)
+    cut = Processes(machine, 1, "--lease", "0.5", "--every", "512", "--keep", "0", url=proxy.url)
+    sources = [Source(machine.url, f"link-{number}").send(data[:1000]).listen() for number in range(4)]
+    store = sources[0].store
+    wait_for(lambda: all(int(store.hget(s.part("about"), "played")) == 1000 for s in sources))
+    proxy.signal(signal.SIGUSR2)
+    other = Processes(machine, 1, "--lease", "0.5", "--every", "512", "--keep", "0")
+    time.sleep(1.5)
+    for source in sources:
+        source.send(data[1000:] * 4 + b"\033[c")
+    check(wait_for(lambda: all(source.reports() == played(source.sent)[1] for source in sources)), name, "another answers")
+    proxy.signal(signal.SIGUSR2)
+    time.sleep(1)
+    for source in sources:
+        source.send(b"\033[6n").end(0)
+    check(wait_for(lambda: all(source.is_ended() for source in sources)), name, "all end")
+    time.sleep(0.3)
+    for source in sources:
+        source.stop()
+        check(source.fault() == "", name, source.fault())
+        compare(source, name)
+    for each in (cut, other, proxy):
+        each.stop()
+
+
+def a_name_is_used_again_after_an_end(url, data):
+    name, one = "again", worker(url)
+    first = Source(url, name).send(data + b"\033[c").end(0)
+    until(first.is_ended, one)
+    second = Source(url, name).send(b"new\033[6n")
+    check(until(lambda: second.receive(0.01).got, one), name, "the second host's question is answered")
+    check(second.got == [("report", b"\033[1;4R")], name, f"by that alone, and by nothing of the past: {second.got}")
+    check(not second.is_ended(), name, "the second session runs")
+    second.send(b"\033[c").end(5)
+    until(second.is_ended, one)
+    first.receive()
+    second.receive()
+    compare(first, name)
+    compare(second, name, status=b"5")
+
+
+def a_name_whose_host_died_is_used_again(url, data):
+    name, one = "died", worker(url)
+    first = Source(url, name, lease=0.5).send(data + b"\033[c")
+    until(lambda: one.kept and not one.due, one)
+    check(raises(Taken, Source, url, name), name, "not while the lease lasts")
+    check(until(lambda: not first.store.exists(keys.lease(name)), one), name, "the lease ends")
+    second = Source(url, name).send(b"x\033[6n")
+    check(until(first.is_ended, one), name, "the first session is closed")
+    check(first.store.hget(first.part("ended"), "status") == b"lost", name, "as lost")
+    check(raises(Taken, first.host.send, b"late"), name, "its host, if it lives after all, is refused")
+    check(until(lambda: second.receive(0.01).got, one), name, "the second one is played")
+    check(second.got == [("report", b"\033[1;2R")], name, f"from its own start: {second.got}")
+
+
+def two_hosts_never_mix(url, _):
+    name, one = "two hosts", worker(url)
+    first = Source(url, name, lease=30)
+    try:
+        Source(url, name)
+        check(False, name, "the second is refused")
+    except Taken as refused:
+        check(first.host.about[1] in str(refused) and name in str(refused), name, f"with a clear error: {refused}")
+    first.send(b"aaaaa").send(b"cdefghijklmnop").end(0)
+    until(first.is_ended, one)
+    compare(first, name)
+
+
+def what_an_old_worker_writes_meets_no_new_session(url, data):
+    """Keys of an ended session are removed, its name is used again, and a worker wakes that had the old one."""
+    name, old, new = "stale", worker(url), worker(url)
+    first = Source(url, name, lease=0.3).send(b"x" * 700 + b"\033[6n")
+    until(lambda: old.kept, old)
+    kept = old.kept[first.incarnation]
+    old.due.clear()
+    first.store.run("end", first.incarnation, 1, keys.version(), 0)
+    second = Source(url, name).send(b"\033[6n")
+    until(lambda: second.incarnation in new.kept and not new.due, new)
+    kept.reports, kept.at = [(753, b"\033[9;9R")], 753
+    old.tell([kept])
+    second.send(b"abc\033[6n")
+    check(until(lambda: len(second.receive(0.01).got) == 2, new), name, "the new session's reports all come")
+    check(second.reports() == b"\033[1;1R\033[1;4R", name, second.reports())
+    check(not second.store.exists(first.part("answers")), name, "and nothing of the old one is there")
+
+
+def register_sent_twice_makes_one_session(url, _):
+    name, one, other = "registered twice", worker(url), worker(url)
+    source = Source(url, name)
+    for _ in range(3):
+        source.host.register()
+    source.send(b"\033[c")
+    until(lambda: one.kept or other.kept, one, other)
+    check(len(one.kept) + len(other.kept) == 1, name, "one worker has it")
+    check(source.store.zcard(keys.ALL) == 1 and source.store.zcard(keys.WAITING) == 0, name, "it is there once")
+
+
+def poison_harms_its_session_alone(url, data):
+    store = stores.connect(url)
+    one, good = worker(url), Source(url, "innocent").send(b"\033[c")
+    bad = {
+        "without bytes": lambda s: store.xadd(s.part("bytes"), {"v": keys.version(), "text": "x"}, id="9-0"),
+        "a status that is none": lambda s: store.xadd(s.part("bytes"), {"v": keys.version(), "status": "x"}, id="0-2"),
+        "no version": lambda s: store.xadd(s.part("bytes"), {"bytes": "abc"}, id="3-0"),
+        "longer than its position": lambda s: store.xadd(s.part("bytes"), {"v": keys.version(), "bytes": "abcdef"}, id="3-0"),
+        "another number": lambda s: store.xadd(s.part("bytes"), {"v": keys.version(), "bytes": "abc"}, id="3-7"),
+        "bytes of another type": lambda s: (store.delete(s.part("bytes")), store.set(s.part("bytes"), "x")),
+        "a checkpoint of another type": lambda s: store.set(s.part("checkpoint"), "x"),
+        "answers of another type": lambda s: (store.set(s.part("answers"), "x"), s.host.send(b"\033[c")),
+        "no end": lambda s: store.hset(s.part("about"), "end", "many"),
+    }
+    poisoned = []
+    for what, harm in bad.items():
+        source = Source(url, what)
+        harm(source)
+        poisoned.append(source)
+    store.zadd(keys.WAITING, {b"\xff\xfe": 1, "nobody": 1})
+    ok = until(lambda: all(source.fault() for source in poisoned), one)
+    check(ok, "poison", f"each has a fault: {[source.name for source in poisoned if not source.fault()]}")
+    good.send(b"\033[6n").end(0)
+    check(until(good.is_ended, one), "poison", "the innocent session lives")
+    good.receive()
+    compare(good, "poison")
+    check(store.zcard(keys.WAITING) == 0, "poison", "nothing is left that a worker could die of")
+
+
+def a_session_that_workers_die_of_is_given_up(url, _):
+    name, source = "deadly", Source(url, "deadly").send(b"x")
+    idle = Source(url, "idle").send(b"y")
+    store = source.store
+    calm = worker(url, most=1)
+    store.zrem(keys.WAITING, source.incarnation)
+    until(lambda: idle.incarnation in calm.kept and not calm.due, calm)
+    for _ in range(11):
+        store.zadd(keys.WAITING, {source.incarnation: 0})
+        doomed = worker(url)
+        doomed.claims.take(10)  # and it dies
+        store.hdel(keys.WORKERS, doomed.claims.me)
+        store.delete(keys.of(doomed.claims.me))
+    check(source.fault().startswith("Poison"), name, "after ten workers")
+    for _ in range(12):  # an idle session may see any number of workers die
+        store.zadd(keys.WAITING, {idle.incarnation: 0})
+        each = worker(url)
+        until(lambda: idle.incarnation in each.kept and not each.due, each)
+    check(idle.fault() == "" , name, "an idle session isn't taken for one")
+
+
+@with_machine
+def a_hostile_session_delays_no_other(machine, _):
+    name = "hostile"
+    workers = Processes(machine, 2, "--lease", "1")
+    flood = Source(machine.url, "flood").listen()
+    calm = [Source(machine.url, f"calm-{number}").listen() for number in range(4)]
+    wait_for(lambda: all(owners(flood.store, calm + [flood]).values()))
+    before = owners(flood.store, calm + [flood])
+    begin, late = time.monotonic(), []
+    while time.monotonic() < begin + 6:
+        flood.send(b"\033[c" * 4000, piece=4096)
+        for source in calm:
+            asked, had = time.monotonic(), len(source.got)
+            source.send(b"\033[6n")
+            wait_for(lambda: len(source.got) > had, 10, 0.002)
+            late.append(time.monotonic() - asked)
+    late.sort()
+    check(late[-1] < 1.0, name, f"a neighbour's report comes within a second: median {late[len(late) // 2]:.3f} s, worst {late[-1]:.3f} s")
+    check(owners(flood.store, calm + [flood]) == before, name, "no session changes its worker")
+    wait_for(lambda: len(flood.got) * 3 >= len(flood.sent), 30)
+    check(flood.reports() == b"\033[?62;1;6c" * (len(flood.sent) // 3), name, "the hostile one has all its reports, once")
+    check(flood.store.xlen(flood.part("answers")) < 6000, name, "and they don't stay in the store")
+    for source in calm + [flood]:
+        source.stop()
+    workers.stop()
+
+
+def a_host_that_reads_no_reports_is_waited_for(url, _):
+    name, one = "unread", worker(url)
+    source = Source(url, name).send(b"\033[c" * 20000, piece=4096)
+    end = time.monotonic() + 2
+    while time.monotonic() < end:
+        one.turn(0.01)
+    check(source.store.xlen(source.part("answers")) < 6000, name, "no more than a bound of reports waits")
+    source.listen()
+    check(until(lambda: len(source.got) == 20000, one, seconds=20), name, f"all come when they are read: {len(source.got)}")
+    source.stop()
+
+
+def a_worker_hands_over_and_leaves_nothing(url, data):
+    name, one, other = "hand over", worker(url), worker(url)
+    sources = [Source(url, f"hand-{number}").send(data[:500] + b"\030") for number in range(40)]
+    until(lambda: len(one.kept) == 40, one)
+    one.is_leaving = True
+    begin = time.monotonic()
+    one.turn(0.01)
+    until(lambda: len(other.kept) == 40, other)
+    check(time.monotonic() - begin < 1, name, "within a second")
+    check(one.is_gone and sources[0].store.hlen(keys.WORKERS) == 1, name, "and no trace of it is left")
+    check(all(s.at == 501 for s in other.kept.values()) or until(lambda: all(s.at == 501 for s in other.kept.values()), other), name, "where they were")
+
+
+CASES = [
+    four_hundred_idle_sessions_outlive_their_worker, a_slow_worker_harms_no_session, stopped_workers_harm_no_session,
+    a_worker_behind_a_dead_link_harms_no_session, a_name_is_used_again_after_an_end, a_name_whose_host_died_is_used_again,
+    two_hosts_never_mix, what_an_old_worker_writes_meets_no_new_session, register_sent_twice_makes_one_session,
+    poison_harms_its_session_alone, a_session_that_workers_die_of_is_given_up, a_hostile_session_delays_no_other,
+    a_host_that_reads_no_reports_is_waited_for, a_worker_hands_over_and_leaves_nothing,
+]

@@ -1,0 +1,224 @@
+"""What the tests share: a count of what passed, a store, workers in this process, and hosts whose program is the test."""
+import glob
+import os
+import random
+import subprocess
+import sys
+import threading
+import time
+
+sys.dont_write_bytecode = True
+HERE = os.path.dirname(os.path.abspath(__file__))
+sys.path.insert(0, os.path.join(HERE, ".."))
+
+from fleet import config, keys, local, session, store as stores
+from fleet.host import Host
+from fleet.keys import key
+from fleet.worker import Worker
+import vt220
+
+ROOT = os.path.join(HERE, "..", "..")
+PROGRAM = os.path.join(ROOT, "crates", "vt220", "out", "vt220")
+QUERIES = [b"\033[c", b"\033[5n", b"\033[6n", b"\033[>c", b"\033[?15n", b"\033[?26n"]
+
+counts = {"passed": 0, "failed": 0}
+
+
+def check(is_so, name, what):
+    counts["passed" if is_so else "failed"] += 1
+    if not is_so:
+        print(f"failed: {name}: {what}", file=sys.stderr, flush=True)
+    return bool(is_so)
+
+
+def recordings():
+    found = sorted(glob.glob(os.path.join(ROOT, "bench", "recordings", "*.raw")))
+    return [open(path, "rb").read() for path in found]
+
+
+def played(data):
+    terminal = vt220.Terminal()
+    return terminal, terminal.feed(data)
+
+
+def raises(fault, call, *arguments):
+    try:
+        call(*arguments)
+    except fault:
+        return True
+    return False
+
+
+def wait_for(is_so, seconds=10.0, pause=0.02):
+    """Waits until something is so, for at most so long. Returns whether it is."""
+    end = time.monotonic() + seconds
+    while not is_so():
+        if time.monotonic() > end:
+            return bool(is_so())
+        time.sleep(pause)
+    return True
+
+
+def until(is_so, *workers, seconds=10.0):
+    """Turns of workers in this process until something is so. Returns whether it is."""
+    end = time.monotonic() + seconds
+    while not is_so():
+        if time.monotonic() > end:
+            return False
+        for each in workers:
+            each.turn(patience=0.01)
+    return True
+
+
+def settings(**chosen):
+    made = config.Worker()
+    for name, value in ({"every": 1000, "lease": 0.4} | chosen).items():
+        setattr(made, name, value)
+    return made
+
+
+def worker(url, **chosen):
+    return Worker(stores.connect(url), settings(**chosen))
+
+
+class Source:
+    """A host whose program is a test: it sends what it is told, and keeps what comes for the program."""
+
+    def __init__(self, url, name, **options):
+        self.store = stores.connect(url, **options.pop("connection", {}))
+        self.host = Host(self.store, name, **options)
+        self.host.register()
+        self.incarnation, self.name = self.host.incarnation, name
+        self.got = []
+        self.sent = b""
+        self.thread = None
+
+    def send(self, data, piece=700):
+        self.sent += data
+        for at in range(0, len(data), piece):
+            self.host.send(data[at : at + piece])
+        return self
+
+    def end(self, status=0):
+        self.host.end(status)
+        return self
+
+    def listen(self):
+        """Receives in a thread of its own until stop()."""
+        self.is_over = threading.Event()
+        self.thread = threading.Thread(target=self.receive_on, daemon=True)
+        self.thread.start()
+        return self
+
+    def receive_on(self):
+        while not self.is_over.is_set():
+            try:
+                self.got += self.host.receive(0.2)
+                self.host.renew_if_due()
+            except keys.Fault:
+                return
+
+    def receive(self, patience=0):
+        while more := self.host.receive(patience):
+            self.got += more
+        return self
+
+    def stop(self):
+        if self.thread:
+            self.is_over.set()
+            self.thread.join(10)
+
+    def reports(self):
+        return b"".join(what for kind, what in self.got if kind == "report")
+
+    def part(self, name):
+        return key(self.incarnation, name)
+
+    def is_ended(self):
+        return bool(self.store.exists(self.part("ended")))
+
+    def fault(self):
+        return (self.store.get(self.part("fault")) or b"").decode()
+
+
+def made_up(chance, pieces):
+    """Some recordings cut at random, with questions between."""
+    parts = []
+    for _ in range(chance.randint(2, 5)):
+        whole = chance.choice(pieces)
+        begin, end = sorted(chance.randrange(len(whole) + 1) for _ in range(2))
+        parts += [whole[begin:end], chance.choice(QUERIES), b"\030" * chance.randint(0, 1)]
+    return b"".join(parts)
+
+
+def wanted(word, data):
+    """Returns the program's exit status for bytes, and what it writes."""
+    done = subprocess.run([PROGRAM, word], input=data, stdout=subprocess.PIPE, stderr=subprocess.DEVNULL)
+    return done.returncode, done.stdout
+
+
+def compare(source, name, data=None, status=b"0"):
+    """Holds an ended session against the program: its text, the reports that reached its program, and its repaint."""
+    data = source.sent if data is None else data
+    text = wanted("text", data)[1]
+    ended = source.store.hgetall(source.part("ended"))
+    check(ended.get(b"text") == text, name, "text at the end")
+    check((ended.get(b"at"), ended.get(b"status")) == (b"%d" % len(data), status), name, f"place and status: {ended.get(b'at')}")
+    check(source.reports() == wanted("reports", data)[1], name, "reports at the program")
+    now = session.as_it_is(source.store, source.incarnation)
+    check(now.at == len(data), name, "bytes")
+    check(now.terminal.text().encode() == text, name, "text from the checkpoint")
+    code, repaint = wanted("repaint", data)
+    if code == 3:
+        check(raises(vt220.Partial, now.terminal.repaint), name, "the repaint is refused")
+    else:
+        check(now.terminal.repaint() == repaint, name, "repaint")
+
+
+class Processes:
+    """Worker processes on a store, which may be reached through a proxy."""
+
+    def __init__(self, machine, count, *words, url=None):
+        self.machine = machine
+        self.group = local.Workers(0, machine.folder, url or machine.url, *words)
+        self.group.all = [self.group.another() for _ in range(count)]
+
+    def __getattr__(self, name):
+        return getattr(self.group, name)
+
+
+def report():
+    print(f"{counts['passed']} passed, {counts['failed']} failed", flush=True)
+    return 1 if counts["failed"] else 0
+
+
+def flush(machine):
+    stores.connect(machine.url).flushall()
+
+
+def chance(seed):
+    return random.Random(seed)
+
+
+class Proxy:
+    """A link to a machine's store that a test can harm."""
+
+    def __init__(self, machine, share=0.0):
+        self.socket = os.path.join(machine.folder, f"proxy-{random.randrange(10**9)}.sock")
+        self.url = f"unix://{self.socket}"
+        words = ["/usr/bin/python3", os.path.join(HERE, "proxy.py"), self.socket, machine.socket, str(share)]
+        self.process = subprocess.Popen(words)
+        wait_for(lambda: os.path.exists(self.socket))
+
+    def signal(self, number):
+        self.process.send_signal(number)
+
+    def stop(self):
+        self.process.kill()
+        self.process.wait()
+
+
+def with_machine(case):
+    """Marks a case that gets the machine, not only its store's address."""
+    case.wants_machine = True
+    return case

@@ -1,0 +1,86 @@
+"""Loads a worker with many sessions, for `measure`: what an entry, an idle session and a report cost."""
+import os
+import statistics
+import time
+
+from harness import Processes, key, keys, stores, wait_for
+
+TICKS = os.sysconf("SC_CLK_TCK")
+
+
+def processor(pid):
+    """Returns the seconds of processor that a process took."""
+    with open(f"/proc/{pid}/stat") as stat:
+        fields = stat.read().rsplit(")", 1)[1].split()
+    return (int(fields[11]) + int(fields[12])) / TICKS
+
+
+class Sessions:
+    """Many sessions of one connection, whose hosts are played here: all that is due is sent with one pipeline."""
+
+    def __init__(self, url, count, word="load"):
+        self.store = stores.connect(url)
+        self.incarnations = [keys.new_id() for _ in range(count)]
+        self.at = dict.fromkeys(self.incarnations, 0)
+        for at in range(0, count, 500):
+            self.call([
+                ("register", f"{word}-{number + at}", each, 10**9, keys.version(), "host", "load", "input", 0)
+                for number, each in enumerate(self.incarnations[at : at + 500])
+            ])
+
+    def call(self, calls):
+        with self.store.pipeline(transaction=False) as together:
+            for words in calls:
+                together.execute_command(*self.store.call_of(*words))
+            answers = self.store.all_of(together)
+        assert all(answer[0] == b"ok" for answer in answers), answers[:3]
+
+    def send(self, incarnations, data):
+        calls = []
+        for each in incarnations:
+            before = self.at[each]
+            self.at[each] = before + len(data)
+            calls.append(("append", each, before, self.at[each], keys.version(), keys.now(), data))
+        self.call(calls)
+
+    def end(self):
+        for number in range(0, len(self.incarnations), 500):
+            self.call([("finish", "x", each, self.at[each], 0, keys.version()) for each in self.incarnations[number : number + 500]])
+
+    def are_taken(self):
+        some = self.incarnations
+        return sum(self.store.scard(keys.of(worker.decode())) for worker in self.store.hkeys(keys.WORKERS)) == len(some)
+
+
+def run(sessions, entries, size, seconds, pids, every=0.05):
+    """Sends entries of `size` bytes to random sessions, so many a second of each. Returns the processor seconds of each process."""
+    data = b"\033[7mThe quick brown fox jumps over the lazy dog.\033[m\r\n" * (size // 40 + 1)
+    per_step = entries * len(sessions.incarnations) * every
+    before, begin, sent = [processor(pid) for pid in pids], time.monotonic(), 0
+    position = 0
+    while (now := time.monotonic() - begin) < seconds:
+        due = int(min(now / every, seconds / every) * per_step) - sent
+        some = [sessions.incarnations[(position + n) % len(sessions.incarnations)] for n in range(due)]
+        position += due
+        for at in range(0, due, 200):
+            sessions.send(some[at : at + 200], data[:size])
+        sent += due
+        time.sleep(max(0.0, begin + now + every - time.monotonic()))
+    wait_for(lambda: int(sessions.store.hget(key(sessions.incarnations[(position - 1) % len(sessions.incarnations)], "about"), "played") or 0) > 0)
+    return [after - b for after, b in zip([processor(pid) for pid in pids], before)], sent
+
+
+def latency(sessions, count, pause):
+    """Asks for a report again and again in one session. Returns the times, sorted."""
+    one, times, last = sessions.incarnations[0], [], "0-0"
+    found = sessions.store.xrevrange(key(one, "answers"), count=1)
+    last = found[0][0] if found else last
+    for _ in range(count):
+        begin = time.monotonic()
+        sessions.send([one], b"\033[6n")
+        while not (came := sessions.store.xread({key(one, "answers"): last}, block=1000)):
+            pass
+        last = came[0][1][-1][0]
+        times.append(time.monotonic() - begin)
+        time.sleep(pause)
+    return sorted(times)

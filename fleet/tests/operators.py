@@ -1,0 +1,240 @@
+"""What an operator does: list, kill, end, drain, type, look, export; exit statuses, configuration, metrics, logs."""
+import json
+import os
+import re
+import signal
+import struct
+import subprocess
+import time
+import urllib.request
+
+from harness import HERE, PROGRAM, Processes, Source, check, key, keys, local, played, stores, until, wait_for, wanted, with_machine, worker
+from safety import conf, fleet, free_port
+from stores_faults import program
+
+SHELL = ["sh", "-c", "while read x; do echo got $x; done; exit 9"]
+
+
+def state(store, name):
+    from fleet.operate import everything
+
+    return next((each for each in everything(store) if each["name"] == name), None)
+
+
+@with_machine
+def list_tells_how_sessions_are(machine, data):
+    name, url = "list", machine.url
+    store = stores.connect(url)
+    waiting = Source(url, "waits").send(b"abc")
+    check(state(store, "waits")["state"] == "waiting", name, "one that no worker has")
+    workers = Processes(machine, 1, "--lease", "1")
+    check(wait_for(lambda: state(store, "waits")["state"] == "running"), name, "one that runs")
+    check(state(store, "waits")["size"] == 3, name, "its size")
+    check(wait_for(lambda: state(store, "waits")["lag"] == 0), name, "its lag")
+    gone = Source(url, "gone", lease=0.3).send(b"x")
+    check(wait_for(lambda: state(store, "gone")["state"] == "no host"), name, "one whose host is silent")
+    Source(url, "over").end(3)
+    check(wait_for(lambda: state(store, "over")["state"] == "ended 3"), name, "one that ended")
+    bad = Source(url, "bad\u00e4 <b>&")
+    store.xadd(bad.part("bytes"), {"v": "9.9"}, id="5-0")
+    wait_for(lambda: store.hget(bad.part("about"), "owner"))
+    store.publish(keys.wake(store.hget(bad.part("about"), "owner").decode()), bad.incarnation)
+    check(wait_for(lambda: state(store, "bad\u00e4 <b>&")["state"] == "fault", 15), name, "one with a fault")
+    status, out, said = fleet(url, "list", "--all")
+    lines = out.splitlines()
+    check(status == 0 and lines[0].split() == "NAME STATE HOST WORKER LAG SIZE LAST OUTPUT".split(), name, "a table")
+    check(len(lines) == 5 and "Version: " in said, name, f"a line for each, and the fault: {len(lines)} {said}")
+    check("over" not in fleet(url, "list")[1], name, "ended ones only with --all")
+    listed = [json.loads(line) for line in fleet(url, "list", "--all", "--json")[1].splitlines()]
+    check({each["name"] for each in listed} == {"waits", "gone", "over", "bad\u00e4 <b>&"}, name, "JSON")
+    check(fleet(url, "workers")[1].split()[1:3] == ["2", "sessions"], name, fleet(url, "workers")[1])
+    workers.stop()
+
+
+@with_machine
+def kill_end_and_their_statuses(machine, data):
+    name, url = "kill and end", machine.url
+    store = stores.connect(url)
+    workers = Processes(machine, 1, "--lease", "1")
+    host = program(machine, "runs", SHELL)
+    wait_for(lambda: state(store, "runs"))
+    check(fleet(url, "host", "runs", "true")[0] == 5, name, "a second host of the name: 5")
+    check(fleet(url, "end", "runs")[0] == 6, name, "a session whose host lives isn't ended: 6")
+    check(fleet(url, "kill", "runs")[0] == 0 and host.wait(10) == 129, name, f"kill hangs up: 128 + 1, {host.returncode}")
+    check(wait_for(lambda: state(store, "runs")["state"] == "ended 129"), name, "the session has the program's status")
+    host = program(machine, "stubborn", ["sh", "-c", "trap '' HUP TERM; while :; do sleep 0.1; done"])
+    wait_for(lambda: state(store, "stubborn"))
+    time.sleep(0.5)
+    check(fleet(url, "kill", "--signal", "TERM", "--patience", "1", "stubborn")[0] == 6, name, "one that minds no signal: 6")
+    check(fleet(url, "kill", "--signal", "KILL", "stubborn")[0] == 0 and host.wait(10) == 137, name, "but KILL")
+    lost = program(machine, "lost", ["sleep", "100"])
+    wait_for(lambda: state(store, "lost"))
+    lost.kill()
+    lost.wait()
+    check(wait_for(lambda: state(store, "lost")["state"] == "no host", 20, 0.2), name, "a host that was killed")
+    check(fleet(url, "kill", "lost")[0] == 6, name, "nobody is there to pass a signal on: 6")
+    incarnation = state(store, "lost")["incarnation"]
+    check(fleet(url, "end", "--keep", "2h", "lost")[0] == 0, name, "it is ended")
+    check(wait_for(lambda: (state(store, "lost") or {}).get("state") == "ended ended"), name, "as ended by an operator")
+    check(all(0 < store.ttl(key(incarnation, part)) <= 7200 for part in ("about", "bytes", "ended")), name, "its keys stay two hours")
+    check(fleet(url, "end", "--keep", "0", "lost")[0] == 0 and not store.keys(f"fleet:{incarnation}:*"), name, "or go at once")
+    check(fleet(url, "text", "lost")[0] == 3 and fleet(url, "view", "nosuch")[0] == 3, name, "no such session: 3")
+    bad = Source(url, "bad")
+    store.set(bad.part("fault"), "Trimmed: so")
+    check(fleet(url, "view", "bad")[0] == 4, name, "a viewer of a session with a fault: 4")
+    store.xtrim(Source(url, "cut").send(b"a").send(b"b").part("bytes"), maxlen=0)
+    check(fleet(url, "text", "cut")[0] == 4, name, "text of one that has lost its bytes: 4")
+    workers.stop()
+
+
+@with_machine
+def drain_hands_over_within_a_second(machine, data):
+    name, url = "drain", machine.url
+    sources = [Source(url, f"drain-{number}").send(b"abc") for number in range(100)]
+    store = sources[0].store
+    workers = Processes(machine, 1)
+    wait_for(lambda: all(store.hget(s.part("about"), "owner") for s in sources[::9] + sources[-1:]))
+    [first] = store.hkeys(keys.WORKERS)
+    workers.all.append(workers.another())
+    wait_for(lambda: store.hlen(keys.WORKERS) == 2)
+    begin = time.monotonic()
+    check(fleet(url, "drain", first.decode()[:-2])[0] == 0, name, "it is done")
+    check(wait_for(lambda: all(store.hget(s.part("about"), "owner") not in (None, first) for s in sources)), name, "another has all")
+    check(time.monotonic() - begin < 2.0, name, f"soon, the command's start included: {time.monotonic() - begin:.2f} s")
+    check(workers.all[0].wait(5) == 0, name, "the worker has ended with 0")
+    begin, [second] = time.monotonic(), store.hkeys(keys.WORKERS)
+    workers.all.append(workers.another())
+    wait_for(lambda: store.hlen(keys.WORKERS) == 2)
+    workers.all[1].terminate()
+    begin = time.monotonic()
+    check(workers.all[1].wait(5) == 0, name, "SIGTERM does the same")
+    wait_for(lambda: all(store.hget(s.part("about"), "owner") not in (None, second) for s in sources))
+    check(time.monotonic() - begin < 1.5, name, f"within a second: {time.monotonic() - begin:.2f} s")
+    check(fleet(url, "drain", "nosuch")[0] == 3, name, "no such worker: 3")
+    workers.stop()
+
+
+@with_machine
+def viewers_type_in_order_and_once(machine, _):
+    """Through a link that swallows answers: what is typed is there once, in order."""
+    from harness import Proxy
+    from fleet.operate import Refused, Typist
+
+    name, proxy = "type", Proxy(machine, 0.05)
+    workers = Processes(machine, 1)
+    host = program(machine, name, ["sh", "-c", "stty -echo; while read x; do echo \"$x\"; done"], "--input")
+    store = stores.connect(machine.url)
+    wait_for(lambda: store.hexists(keys.NAMES, name))
+    incarnation = store.hget(keys.NAMES, name).decode()
+    time.sleep(0.3)
+    typists = [Typist(stores.connect(proxy.url), incarnation) for _ in range(2)]
+    for number in range(60):
+        typists[number % 2].type(b"line %d\r" % number)
+    wanted_lines = [b"line %d" % number for number in range(60)]
+
+    def lines():
+        log = b"".join(f.get(b"bytes", b"") for _, f in store.xrange(key(incarnation, "bytes")))
+        return log.replace(b"\r", b"").split(b"\n")[:-1]
+
+    check(wait_for(lambda: len(lines()) >= 60), name, f"all arrives: {len(lines())}")
+    check(lines() == wanted_lines, name, "once, and in order")
+    check(store.xlen(key(incarnation, "keys")) == 0, name, "and doesn't stay in the store")
+    check(fleet(machine.url, "type", "--enter", name, "\u00e4 by the command")[0] == 0, name, "the command types")
+    check(wait_for(lambda: "ä by the command".encode() in lines()), name, "in UTF-8, as it was given")
+    other = program(machine, "read-only", ["cat"])
+    wait_for(lambda: store.hexists(keys.NAMES, "read-only"))
+    check(fleet(machine.url, "type", "read-only", "x")[0] == 6, name, "a host without --input takes none: 6")
+    for each in (host, other):
+        each.kill()
+        each.wait()
+    workers.stop()
+    proxy.stop()
+
+
+@with_machine
+def sessions_are_looked_at_and_exported(machine, data):
+    name, url = "export", machine.url
+    one = worker(url)
+    source = Source(url, name)
+    for part in (data[:2000], b"\x84\x9b7mC1\xe4", data[2000:]):
+        source.send(part)
+        time.sleep(0.15)
+    for when in ("live", "ended"):
+        if when == "ended":
+            source.end(0)
+            until(source.is_ended, one)
+        sent = source.sent
+        check(fleet(url, "text", name)[1].encode() == wanted("text", sent)[1], name, f"text, {when}")
+        picture = subprocess.run([PROGRAM, "picture"], input=wanted("repaint", sent)[1], stdout=subprocess.PIPE).stdout
+        check(fleet(url, "picture", name)[1].encode() == picture, name, f"picture, {when}")
+        raw = subprocess.run([local.COMMAND, "log", name], env=os.environ | {"FLEET_REDIS": url}, stdout=subprocess.PIPE).stdout
+        check(raw == sent, name, f"log, {when}")
+    check_asciicast(name, fleet(url, "export", name)[1], source.sent)
+    ttyrec = subprocess.run([local.COMMAND, "export", "--ttyrec", name], env=os.environ | {"FLEET_REDIS": url}, stdout=subprocess.PIPE).stdout
+    check_ttyrec(name, ttyrec, source.sent)
+
+
+def check_asciicast(name, text, sent):
+    head, *events = map(json.loads, text.splitlines())
+    check(head["version"] == 2 and (head["width"], head["height"]) == (80, 24), name, "an asciicast's head")
+    check(abs(head["timestamp"] - time.time()) < 60, name, "with its moment")
+    check("".join(event[2] for event in events).encode("latin-1") == sent, name, "all bytes")
+    times = [event[0] for event in events]
+    check(times == sorted(times) and 0.28 < times[-1] < 5, name, f"at their pace: {times[-1]}")
+
+
+def check_ttyrec(name, data, sent):
+    at, bytes_, moments = 0, b"", []
+    while at < len(data):
+        seconds, micros, length = struct.unpack_from("<III", data, at)
+        bytes_ += data[at + 12 : at + 12 + length]
+        moments.append(seconds + micros / 1e6)
+        at += 12 + length
+    check(bytes_ == sent and abs(moments[0] - time.time()) < 60, name, "a ttyrec")
+    check(0.28 < moments[-1] - moments[0] < 5, name, "at its pace")
+
+
+@with_machine
+def metrics_and_logs(machine, data):
+    name, port = "metrics", free_port()
+    workers = Processes(machine, 1, "--metrics", f"127.0.0.1:{port}")
+    source = Source(machine.url, name).send(data)
+    wait_for(lambda: int(source.store.hget(source.part("about"), "played") or 0) > 4000)
+
+    def metrics():
+        text = urllib.request.urlopen(f"http://127.0.0.1:{port}/metrics", timeout=5).read().decode()
+        return dict(line.rsplit(" ", 1) for line in text.splitlines() if not line.startswith("#"))
+
+    check(wait_for(lambda: metrics()["fleet_bytes_total"] == f"{float(len(data))}"), name, f"bytes: {metrics()}")
+    found = metrics()
+    reports, entries = wanted("reports", data)[1].count(b"\033["), 1 + -(-len(data) // 700)
+    check(float(found["fleet_reports_total"]) == reports and float(found["fleet_entries_total"]) == entries, name, str(found))
+    check(found["fleet_sessions"] == "1.0" and found["fleet_faults_total"] == "0.0", name, str(found))
+    check(all(re.match(r"\d{4}-\d\d-\d\d \d\d:\d\d:\d\d,\d{3} (INFO|WARNING|ERROR) ", line) for line in workers.said()), name, "logs have times")
+    workers.stop()
+
+
+@with_machine
+def the_configuration_is_read_and_checked(machine, _):
+    name, example = "configuration", os.path.join(HERE, "..", "fleet.conf.example")
+    url = machine.url
+    check(fleet(url, "list", config=example)[0] == 0, name, "the example is read")
+    wrong = {"[stroe]\n": "section", "[store]\nurn = x\n": "urn", "[worker]\nlease = soon\n": "lease", "x\n": "", "[host]\ninput = maybe\n": "input"}
+    for number, (text, word) in enumerate(wrong.items()):
+        status, _, said = fleet(url, "list", config=conf(machine, f"wrong-{number}", text))
+        check(status == 78 and word in said, name, f"{text!r}: {status} {said}")
+    check(fleet(url, "list", config="/nonexistent")[0] == 78, name, "a file that isn't there")
+    check(fleet(f"unix://{machine.folder}/none", "list", config=conf(machine, "quick", "[store]", "give-up = 1"))[0] == 69, name, "no store: 69")
+    check(fleet(url, "nosuch")[0] == 2 and fleet(url, "host", "x")[0] == 78, name, "a wrong command line")
+    for bad in ("", "a\nb", "x" * 201, "a\x1b[31m"):
+        check(fleet(url, "host", bad, "true")[0] == 2, name, f"a name that cannot be: {bad!r}")
+    units = os.path.join(HERE, "..", "systemd")
+    for unit in os.listdir(units):
+        text = open(os.path.join(units, unit)).read()
+        check("ExecStart=" in text and "[Service]" in text, name, unit)
+
+
+CASES = [
+    list_tells_how_sessions_are, kill_end_and_their_statuses, drain_hands_over_within_a_second, viewers_type_in_order_and_once,
+    sessions_are_looked_at_and_exported, metrics_and_logs, the_configuration_is_read_and_checked,
+]

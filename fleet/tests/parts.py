@@ -1,0 +1,191 @@
+"""Each part of the fleet by itself."""
+import os
+import subprocess
+import threading
+import time
+
+from harness import Source, check, key, keys, played, raises, session, stores, until, wanted, worker, compare
+import vt220
+from fleet.host import Host
+from fleet.program import Program
+from fleet.view import Viewer
+
+
+def a_worker_ends_a_session(url, data):
+    name, one = "ends", worker(url)
+    source = Source(url, name).send(data).end(7)
+    check(until(source.is_ended, one), name, "it ends")
+    source.receive()
+    compare(source, name, status=b"7")
+    check(not one.kept and not source.store.smembers(keys.LIVE), name, "nobody has it any more")
+
+
+def reports_are_at_what_they_answer(url, _):
+    name, one = "positions", worker(url)
+    source = Source(url, name).send(b"ab\033[ccd\033[6n", piece=3).end(0)
+    until(source.is_ended, one)
+    told = [(entry_id, fields[b"report"]) for entry_id, fields in source.store.xrange(source.part("answers"))]
+    check(told == [(b"5-0", b"\033[?62;1;6c"), (b"11-0", b"\033[1;5R")], name, "positions")
+
+
+def another_worker_goes_on(url, data):
+    name, one, other = "goes on", worker(url), worker(url)
+    half = len(data) // 2
+    source = Source(url, name).send(data[:half], piece=64)
+    one.turn()
+    check(until(lambda: any(s.at == half for s in one.kept.values()), one), name, "the one has it")
+    at = int(source.store.hget(source.part("checkpoint"), "at"))
+    check(half - 2000 <= at <= half, name, "there is a checkpoint")
+    check(until(lambda: other.kept, other), name, "another takes it when the one is silent")
+    source.send(data[half:]).end(0)
+    # The one wasn't dead, only slow. It learns that the session isn't its own, and harms nothing.
+    check(until(source.is_ended, one, other), name, "it ends")
+    check(until(lambda: not one.kept, one), name, "the one lets go")
+    source.receive()
+    compare(source, name)
+
+
+def bytes_sent_twice_are_there_once(url, _):
+    name = "twice"
+    source = Source(url, name).send(b"abc")
+    source.host.append(3, 1, b"abc")
+    source.send(b"def")
+    now = session.as_it_is(source.store, source.incarnation)
+    check(now.at == 6 and now.terminal.text().startswith("abcdef\n"), name, "bytes")
+    check(raises(keys.Differs, source.host.append, 6, 1, b"deX"), name, "other bytes at the same place are a fault")
+    check(source.fault().startswith("Differs"), name, "which the store keeps")
+
+
+def damaged_checkpoints_are_noticed(url, data):
+    name, one = "damaged", worker(url)
+    source = Source(url, name).send(data)
+    until(lambda: any(s.at == len(data) for s in one.kept.values()), one)
+    whole = source.store.hgetall(source.part("checkpoint"))
+    kept, damaged = session.restored("x", whole)
+    check(kept.at > 0 and not damaged, name, "a whole one is taken")
+    repaint, at = whole[b"repaint"], int(whole[b"at"])
+    harms = {
+        "cut short": {b"repaint": repaint[:-1]},
+        "empty": {b"repaint": b""},
+        "a byte changed": {b"repaint": repaint[:40] + bytes([repaint[40] ^ 1]) + repaint[41:]},
+        "another position": {b"at": b"%d" % (at - 1)},
+        "a position that is none": {b"at": b"x"},
+        "no checksum": {b"sha256": b""},
+    }
+    for what, harm in harms.items():
+        source.store.delete(source.part("checkpoint"))
+        source.store.hset(source.part("checkpoint"), mapping=whole | harm)
+        _, damaged = session.restored("x", source.store.hgetall(source.part("checkpoint")))
+        check(damaged, name, what)
+        now = session.as_it_is(source.store, source.incarnation)
+        check(now.terminal.same_state(played(data)[0]), name, what + ": played from the start")
+    other = worker(url)
+    one.claims.leave()
+    check(until(lambda: other.kept, other), name, "another takes it with the damaged checkpoint")
+    source.send(b"x" * 2000).end(0)
+    check(until(source.is_ended, other), name, "and ends it")
+    source.receive()
+    compare(source, name)
+
+
+def other_formats_are_named(url, data):
+    for part, name in (("checkpoint", "a checkpoint of another format"), ("bytes", "an entry of another format")):
+        one = worker(url)
+        source = Source(url, name)
+        if part == "checkpoint":
+            source.store.hset(source.part(part), mapping=keys.checkpoint(0, b"") | {"v": "9.200"})
+        else:
+            source.store.xadd(source.part(part), {"v": "9.200", "bytes": "abc"}, id="3-0")
+        check(until(source.fault, one), name, "is a fault")
+        check(source.fault().startswith("Version"), name, source.fault())
+    source = Source(url, "versions").send(b"\033[c")
+    one = worker(url, every=1)
+    until(lambda: source.store.exists(source.part("checkpoint")), one)
+    check(source.store.hget(source.part("checkpoint"), "v") == keys.version().encode(), "versions", "a checkpoint has them")
+    for part in ("bytes", "answers"):
+        check(all(f[b"v"] == keys.version().encode() for _, f in source.store.xrange(source.part(part))), "versions", part)
+
+
+def trimmed_streams_are_named(url, data):
+    name, one = "trimmed", worker(url)
+    source = Source(url, name).send(data)
+    until(lambda: any(s.at == len(data) for s in one.kept.values()), one)
+    at = int(source.store.hget(source.part("checkpoint"), "at"))
+    source.store.xtrim(source.part("bytes"), minid=f"{at}-0", approximate=False)
+    check(session.as_it_is(source.store, source.incarnation).at == len(data), name, "up to the checkpoint nothing is missing")
+    source.store.delete(source.part("checkpoint"))
+    check(raises(keys.Trimmed, session.as_it_is, source.store, source.incarnation), name, "without it the beginning is")
+    one.claims.leave()
+    one = worker(url)
+    check(until(source.fault, one), name, "a worker says so")
+    check(source.fault().startswith("Trimmed: ") and not one.kept, name, source.fault())
+    check(not source.store.smembers(keys.LIVE), name, "and lets it go")
+    one = worker(url, keep=500)
+    source = Source(url, "kept short").send(data).end(0)
+    check(until(source.is_ended, one), "kept short", "it ends")
+    check(0 < source.store.xlen(source.part("bytes")) <= 4, "kept short", "old bytes are dropped")
+
+
+def viewers_join_late(url, data):
+    name, one = "viewed", worker(url)
+    third = len(data) // 3
+    source = Source(url, name).send(data[: third - 1] + b"\030")  # which ends between sequences
+    until(lambda: any(s.at == third for s in one.kept.values()), one)
+    viewer, slow = Viewer(source.store, source.incarnation), Viewer(source.store, source.incarnation)
+
+    def is_there(each):
+        each.ask()
+        each.follow(0.001)
+        kept = one.kept.get(source.incarnation)
+        return kept and kept.at == source.host.at and each.terminal.same_state(kept.terminal)
+
+    check(until(lambda: is_there(viewer), one), name, "a repaint")
+    is_there(slow)
+    for at in range(third, len(data), 50):
+        source.send(data[at : at + 50])
+        one.frames.shown = 0.0
+        one.turn(0.01)
+        viewer.follow(0.001)
+    source.send(b"\030")
+    check(until(lambda: is_there(viewer), one), name, "updates")
+    check(viewer.step > 0, name, "updates, not repaints")
+    source.store.xtrim(source.part("view"), maxlen=1, approximate=False)
+    source.send(b"x")
+    until(lambda: is_there(viewer), one)
+    slow.follow(0.001)
+    check(not slow.terminal.same_state(viewer.terminal), name, "who missed an update plays none on the wrong state")
+    one.kept[source.incarnation].shown = None
+    check(until(lambda: is_there(slow), one), name, "and goes on at the next repaint")
+    now = session.as_it_is(source.store, source.incarnation)
+    check(now.terminal.same_state(viewer.terminal), name, "without a worker")
+
+
+def a_program_gets_its_answers(url, _):
+    """Through a pseudo-terminal: a shell asks where the cursor is, and prints what it was told."""
+    name = "program"
+    asks = r"""stty -echo raw; printf 'ab\033[6n'; a=$(dd bs=1 count=6 2>/dev/null); stty sane; printf %s "$a" | od -An -c; exit 3"""
+    host = Host(stores.connect(url), name)
+    host.register()
+    one = worker(url)
+    runs = threading.Thread(target=lambda: host.end(Program(host, ["sh", "-c", asks]).run()))
+    runs.start()
+    store = stores.connect(url)
+    check(until(lambda: store.exists(key(host.incarnation, "ended")), one), name, "it ends")
+    runs.join()
+    ended = store.hgetall(key(host.incarnation, "ended"))
+    check(ended[b"status"] == b"3", name, "its status")
+    check(" ".join(ended[b"text"].decode().split()) == "ab 033 [ 1 ; 3 R", name, "the answer")
+
+
+def a_killed_program_has_a_shell_s_status(url, _):
+    host = Host(stores.connect(url), "killed")
+    host.register()
+    check(Program(host, ["sh", "-c", "kill -9 $$"]).run() == 137, "killed", "137, as a shell has it")
+    host.end(137)
+
+
+CASES = [
+    a_worker_ends_a_session, reports_are_at_what_they_answer, another_worker_goes_on, bytes_sent_twice_are_there_once,
+    damaged_checkpoints_are_noticed, other_formats_are_named, trimmed_streams_are_named, viewers_join_late,
+    a_program_gets_its_answers, a_killed_program_has_a_shell_s_status,
+]

@@ -1,0 +1,171 @@
+"""Who may do what: the socket, passwords, TLS, users, the program's environment, and reports that are none."""
+import os
+import re
+import shutil
+import socket
+import stat
+import subprocess
+import time
+
+from harness import HERE, Processes, Source, check, key, keys, local, played, raises, stores, until, wait_for, with_machine, worker
+from fleet.host import REPORT, REPORT_LIMIT
+
+
+def fleet(url, *words, config=None, data=None):
+    """Runs the command. Returns its exit status, and what it wrote."""
+    where = {"FLEET_REDIS": url} | ({"FLEET_CONFIG": config} if config else {})
+    done = subprocess.run([local.PYTHON, local.COMMAND, *words], env=os.environ | where, input=data, capture_output=True, timeout=60)
+    return done.returncode, done.stdout.decode(), done.stderr.decode()
+
+
+@with_machine
+def the_store_of_run_is_this_users_alone(machine, _):
+    name = "socket"
+    check(stat.S_IMODE(os.stat(machine.folder).st_mode) == 0o700, name, "its directory is this user's alone")
+    check(stat.S_IMODE(os.stat(machine.socket).st_mode) == 0o700, name, "and so is the socket")
+    check(stores.connect(machine.url).config_get("port")["port"] == "0", name, "no port is open")
+
+
+@with_machine
+def the_program_learns_no_address(machine, _):
+    name = "environment"
+    workers = Processes(machine, 1)
+    config = os.path.join(machine.folder, "conf")
+    open(config, "w").close()
+    program = "env; tr '\\0' '\\n' </proc/$PPID/cmdline; ls -ln /proc/$PPID/environ"
+    status, _, _ = fleet(machine.url, "host", name, "sh", "-c", program, config=config)
+    store = stores.connect(machine.url)
+    incarnation = store.hget(keys.NAMES, name).decode()
+    wait_for(lambda: store.exists(key(incarnation, "ended")))
+    said = b"".join(f[b"bytes"] for _, f in store.xrange(key(incarnation, "bytes")) if b"bytes" in f).decode()
+    check(status == 0 and "TERM=vt220" in said, name, "the program ran")
+    check("FLEET" not in said and "redis" not in said.lower(), name, "no variable and no argument has the address")
+    check(re.search(r"^-r-+ +\d+ +0 +0 ", said, re.MULTILINE), name, "and the host's environment isn't this user's to read")
+    workers.stop()
+
+
+def only_reports_reach_the_program(url, _):
+    name, one = "reports", worker(url)
+    true = [b"\033[?62;1;6c", b"\033[>1;10;0c", b"\033[0n", b"\033[24;132R", b"\033[?13n", b"\033[?27;1n", b"\x9b?62;1;6c", b"\x9b1;1R"]
+    check(all(REPORT.fullmatch(each) and len(each) <= REPORT_LIMIT for each in true), name, "all reports of the profile have the form")
+    false = [b"id -u > file\n", b"\033[1;1R\n", b"\033[1;1Rx", b"", b"\033[A", b"\033[11111;1R", b"\033[?62;1;6c\033[0n", b"\n\033[0n"]
+    source = Source(url, name).send(b"abc")
+    for number, report in enumerate(false):
+        source.store.xadd(source.part("answers"), {"v": keys.version(), "report": report}, id=f"0-{number + 1}")
+    source.store.xadd(source.part("answers"), {"v": keys.version(), "report": b"\033[9;9R"}, id="2-5")
+    source.store.xadd(source.part("answers"), {"v": keys.version(), "report": b"\033[9;9R"}, id="99999999-0")
+    source.receive()
+    check(source.got == [], name, f"nothing else is passed on: {source.got}")
+    source.send(b"\033[6n")
+    check(until(source.fault, one), name, "the worker finds a report that nothing asked for")
+    check(source.fault().startswith("Forged: a report at 99999999-0"), name, source.fault())
+
+
+def every_report_of_the_terminal_has_the_form(_, __):
+    import random
+    import vt220
+
+    terminal, chance, made = vt220.Terminal(), random.Random(3), set()
+    asks = [b"\033[c", b"\033Z", b"\033[>c", b"\033[5n", b"\033[6n", b"\033[?15n", b"\033[?26n", b"\x9a", b"\033 G", b"\033 F", b"\033[?6h", b"\033[?3h", b"\033[?5n", b"\033[?25n", b"\033[0c"]
+    for _ in range(20000):
+        data = b"\033[%d;%dH" % (chance.randrange(30), chance.randrange(140)) + chance.choice(asks) + chance.choice(asks)
+        while data:
+            count, report = terminal.feed_until_report(data)
+            made |= {report} - {b""}
+            data = data[count:]
+    wrong = [each for each in made if not REPORT.fullmatch(each) or len(each) > REPORT_LIMIT]
+    check(len(made) > 1000 and not wrong, "form", f"{len(made)} reports: {wrong[:5]}")
+
+
+def free_port():
+    with socket.socket() as free:
+        free.bind(("127.0.0.1", 0))
+        return free.getsockname()[1]
+
+
+def conf(machine, name, *lines):
+    path = os.path.join(machine.folder, name)
+    with open(path, "w") as file:
+        file.write("\n".join(lines) + "\n")
+    os.chmod(path, 0o600)
+    return path
+
+
+@with_machine
+def a_password_is_needed_and_read_from_a_file(machine, _):
+    name, password = "password", conf(machine, "password", "secret")
+    stores.connect(machine.url).config_set("requirepass", "secret")
+    config = conf(machine, "conf", "[store]", f"password-file = {password}")
+    status, _, said = fleet(machine.url, "list")
+    check(status == 77 and "Authentication" in said, name, f"without it: {status} {said}")
+    check(fleet(machine.url, "list", config=config)[0] == 0, name, "with it")
+    status, _, said = fleet(machine.url, "list", config=conf(machine, "wrong", "[store]", f"password-file = {config}"))
+    check(status == 77, name, f"with another: {status} {said}")
+
+
+@with_machine
+def users_have_the_rights_that_they_need(machine, _):
+    """users.acl, as it is: host, worker, viewer, typist and operator do their work, and no other's."""
+    acl = conf(machine, "users.acl", open(os.path.join(HERE, "..", "users.acl")).read())
+    machine.kill()
+    ping, machine.url = machine.url, f"unix://operator:OPERATOR-PASSWORD@{machine.socket}"
+    machine.start("--aclfile", acl)
+    urls = {user: f"unix://{user}:{user.upper()}-PASSWORD@{machine.socket}" for user in ("host", "worker", "viewer", "typist", "operator")}
+    store = stores.connect(urls["operator"])
+    workers = Processes(machine, 1, "--lease", "1", "--retain", "1h", url=urls["worker"])
+    program = "stty -echo raw; printf 'a\\033[6n'; dd bs=1 count=6 2>/dev/null >/dev/null; stty sane; while read x; do echo got $x; done"
+    host = subprocess.Popen([local.PYTHON, local.COMMAND, "host", "--input", "roles", "sh", "-c", program], env=os.environ | {"FLEET_REDIS": urls["host"]}, stderr=subprocess.PIPE)
+    check(wait_for(lambda: fleet(urls["viewer"], "text", "roles")[1].startswith("a")), "users", "host, worker and viewer")
+    check(fleet(urls["viewer"], "type", "--enter", "roles", "hello")[0] == 77, "users", "a viewer cannot type")
+    check(fleet(urls["typist"], "type", "--enter", "roles", "hello")[0] == 0, "users", "a typist can")
+    check(wait_for(lambda: "got hello" in fleet(urls["viewer"], "text", "roles")[1]), "users", "and the program reads it")
+    check(fleet(urls["viewer"], "end", "--force", "roles")[0] == 77, "users", "a viewer ends nothing")
+    check(fleet(urls["viewer"], "host", "other", "true")[0] == 77, "users", "and is no host")
+    denied = stores.NoPermissionError
+    for user, words in (("host", ("FLUSHALL",)), ("worker", ("CONFIG", "GET", "*")), ("viewer", ("SET", "fleet:x:fault", "x")), ("typist", ("XADD", "fleet:x:answers", "*", "a", "b")), ("host", ("SET", "other", "x"))):
+        check(raises(denied, stores.connect(urls[user]).execute_command, *words), "users", f"{user}: no {words[0]}")
+    watching = stores.connect(urls["viewer"])
+    incarnation = store.hget(keys.NAMES, "roles").decode()
+    from fleet.view import Viewer
+    viewer = Viewer(watching, incarnation)
+
+    def has_frame():
+        viewer.ask()
+        viewer.follow(0)
+        return "got hello" in viewer.terminal.text()
+
+    check(wait_for(has_frame), "users", "a viewer follows")
+    check(fleet(urls["operator"], "kill", "roles")[0] == 0, "users", "an operator kills")
+    check(host.wait(10) == 129, "users", f"and the host ends with it: {host.returncode}")
+    check(wait_for(lambda: store.exists(key(incarnation, "ended"))), "users", "with an end")
+    check(0 < store.ttl(key(incarnation, "bytes")) <= 3600, "users", "whose keys stay for an hour")
+    workers.stop()
+    machine.url = ping
+
+
+@with_machine
+def tls_is_spoken(machine, data):
+    name, port = "TLS", free_port()
+    if not check(shutil.which("openssl"), name, "openssl is here"):
+        return
+    at = machine.folder
+    subprocess.run(["openssl", "req", "-x509", "-newkey", "rsa:2048", "-nodes", "-days", "2", "-subj", "/CN=127.0.0.1", "-addext", "subjectAltName=IP:127.0.0.1", "-keyout", f"{at}/key", "-out", f"{at}/cert"], check=True, capture_output=True)
+    machine.kill()
+    machine.start("--tls-port", str(port), "--bind", "127.0.0.1", "--tls-cert-file", f"{at}/cert", "--tls-key-file", f"{at}/key", "--tls-ca-cert-file", f"{at}/cert", "--tls-auth-clients", "no")
+    stores.connect(machine.url).config_set("requirepass", "pw")
+    url = f"rediss://:pw@127.0.0.1:{port}?ssl_ca_certs={at}/cert"
+    one = worker(url)
+    source = Source(url, name).send(data).end(0)
+    check(until(source.is_ended, one), name, "host and worker")
+    source.receive()
+    check(source.reports() == played(source.sent)[1], name, "reports")
+    check(fleet(url, "text", name)[1] == played(source.sent)[0].text(), name, "the command")
+    status, _, said = fleet(f"rediss://:pw@127.0.0.1:{port}?ssl_ca_certs=/etc/ssl/certs/ca-certificates.crt", "check-store", config=conf(machine, "quick", "[store]", "give-up = 1"))
+    check(status == 69 and "certificate" in said.lower(), name, f"a certificate that nobody vouches for is refused: {status} {said[:200]}")
+
+
+CASES = [
+    the_store_of_run_is_this_users_alone, the_program_learns_no_address, only_reports_reach_the_program,
+    every_report_of_the_terminal_has_the_form, a_password_is_needed_and_read_from_a_file, users_have_the_rights_that_they_need,
+    tls_is_spoken,
+]

@@ -1,0 +1,323 @@
+"""Faults of the store: away, silent, gone back, full, with another clock."""
+import os
+import re
+import signal
+import subprocess
+import threading
+import time
+
+from harness import (
+    HERE, Processes, Proxy, Source, check, compare, key, keys, local, played, raises, session, stores, until, wait_for, with_machine, worker,
+)
+from fleet.host import WAITING, WentBack
+from fleet.view import Viewer
+
+
+def program(machine, name, command, *words):
+    """Starts a host with a program, as a process of its own."""
+    words = [local.PYTHON, local.COMMAND, "host", *words, name, *command]
+    return subprocess.Popen(words, env=os.environ | {"FLEET_REDIS": machine.url}, stderr=subprocess.PIPE)
+
+
+ASK = r"""stty -echo raw; sleep 1; printf 'ab\033[6n'; a=$(dd bs=1 count=6 2>/dev/null); stty sane; printf %s "$a" | od -An -c; sleep 1; exit 3"""
+
+
+@with_machine
+def an_outage_of_ninety_seconds_is_waited_for(machine, data):
+    """Workers, a host with a program that waits for an answer, a host that sends, and a viewer."""
+    name = "outage"
+    workers = Processes(machine, 2)
+    source = Source(machine.url, "sends").send(data).listen()
+    host = program(machine, "asks", ["sh", "-c", ASK])
+    store = stores.connect(machine.url)
+    wait_for(lambda: store.hexists(keys.NAMES, "asks"))
+    viewer = Viewer(stores.connect(machine.url), source.incarnation)
+    time.sleep(0.5)
+    machine.kill()
+    sends = threading.Thread(target=lambda: source.send(data + b"\033[6n").end(0), daemon=True)
+    sends.start()
+    looks = threading.Thread(target=lambda: until_over(viewer), daemon=True)
+    looks.start()
+    time.sleep(90)
+    check(host.poll() is None and all(each.poll() is None for each in workers.all), name, "host and workers wait")
+    machine.start()
+    check(host.wait(30) == 3, name, "the program got its answer, and its host has its status")
+    incarnation = store.hget(keys.NAMES, "asks").decode()
+    check(wait_for(lambda: store.exists(key(incarnation, "ended"))), name, "it ends")
+    text = (store.hget(key(incarnation, "ended"), "text") or b"").decode()
+    check(" ".join(text.split()) == "ab 033 [ 1 ; 3 R", name, f"the answer: {text.split()}")
+    sends.join(30)
+    check(wait_for(source.is_ended), name, "the other host went on")
+    looks.join(10)
+    check(not looks.is_alive() and viewer.is_over, name, "and so did the viewer")
+    source.stop()
+    compare(source, name)
+    workers.stop()
+
+
+def until_over(viewer):
+    while not viewer.is_over:
+        viewer.ask()
+        viewer.follow()
+
+
+@with_machine
+def half_open_connections_are_left(machine, data):
+    """All connections say nothing any more, in either direction, and stay open. New ones work."""
+    name, proxy = "half open", Proxy(machine)
+    stores.TIMEOUT, before = 2.0, stores.TIMEOUT
+    config = os.path.join(machine.folder, "conf")
+    with open(config, "w") as file:
+        file.write("[store]\ntimeout = 2\n")
+    os.environ["FLEET_CONFIG"] = config
+    workers = Processes(machine, 1, "--lease", "1", url=proxy.url)
+    del os.environ["FLEET_CONFIG"]
+    source = Source(proxy.url, name, connection={"socket_timeout": 2.0}).send(data).listen()
+    check(wait_for(lambda: source.reports() == played(source.sent)[1]), name, "it runs")
+    for _ in range(2):
+        proxy.signal(signal.SIGUSR1)
+        begin = time.monotonic()
+        source.send(b"abc\033[6n")
+        check(wait_for(lambda: source.reports() == played(source.sent)[1], 20), name, "it goes on")
+        check(time.monotonic() - begin < 12, name, f"soon: {time.monotonic() - begin:.1f} s")
+    source.send(b"x").end(0)
+    check(wait_for(source.is_ended), name, "it ends")
+    source.stop()
+    compare(source, name)
+    stores.TIMEOUT = before
+    workers.stop()
+    proxy.stop()
+
+
+def cut_back(machine, is_enough):
+    """Kills the store, drops changes at the end of its file until something is no longer there, and starts it again."""
+    machine.kill()
+    [path] = [os.path.join(f, n) for f, _, names in os.walk(machine.folder) for n in names if n.endswith(".incr.aof")]
+    whole = open(path, "rb").read()
+    commands = [m.start() for m in re.finditer(rb"\*1\r\n\$5\r\nMULTI\r\n", whole)]
+    for at in reversed(commands):
+        if is_enough(whole[at:]):
+            break
+    with open(path, "wb") as file:
+        file.write(whole[:at])
+    machine.start()
+
+
+@with_machine
+def a_store_that_went_back_is_noticed(machine, data):
+    """The end of its file is gone: bytes, reports and checkpoints that it had acknowledged."""
+    name = "went back"
+    workers = Processes(machine, 2, "--every", "300", "--keep", "600")
+    sources = [Source(machine.url, f"back-{number}").send(data[:2000], piece=100).listen() for number in range(6)]
+    wait_for(lambda: all(source.reports() == played(source.sent)[1] for source in sources))
+    for _ in range(3):
+        before = sum(source.host.rebuilt for source in sources)
+        for source in sources:
+            source.send(b"\033[6n" + data[2000:3000] + b"\033[c", piece=100)
+        wait_for(lambda: all(source.reports() == played(source.sent)[1] for source in sources))
+        ends = b"bytes\r\n"
+        cut_back(machine, lambda gone: gone.count(ends) > 40)
+        for source in sources:
+            source.send(b"abc\033[6n")
+        check(wait_for(lambda: all(source.reports() == played(source.sent)[1] for source in sources)), name, "all reports, once")
+        check(sum(source.host.rebuilt for source in sources) > before, name, "bytes were gone, and were sent again")
+    for source in sources:
+        source.send(b"\030").end(0)
+    check(wait_for(lambda: all(source.is_ended() for source in sources)), name, "all end")
+    time.sleep(0.3)
+    for source in sources:
+        source.stop()
+        check(source.fault() == "", name, source.fault())
+        ended = source.store.hget(source.part("ended"), "text")
+        check(ended == played(source.sent)[0].text().encode(), name, "text")
+        check(source.reports() == played(source.sent)[1], name, "reports")
+    workers.stop()
+
+
+@with_machine
+def what_cannot_be_rebuilt_is_a_named_fault(machine, data):
+    """The store lost more than the host can send again."""
+    name = "lost"
+    one = worker(machine.url, keep=1000)
+    source = Source(machine.url, name).send(data)
+    until(lambda: one.kept and not one.due, one)
+    source.host.held.clear()
+    source.host.held_from = source.host.at
+    source.store.flushall()
+    check(raises(WentBack, source.send, b"x"), name, "the host says so")
+    check(source.fault().startswith("WentBack: the store lost the bytes from 0"), name, f"and the store: {source.fault()}")
+    until(lambda: not one.kept, one)
+    check(not one.kept, name, "no worker shows it")
+
+
+@with_machine
+def a_store_without_persistence_is_refused_and_rebuilt(machine, data):
+    """It is started anew, and empty. Whoever allows that gets what hosts can send again."""
+    name = "no persistence"
+    machine.kill()
+    machine.start("--appendonly", "no")
+    check(raises(stores.Unfit, stores.connect(machine.url).examine), name, "it is refused")
+    stores.connect(machine.url).examine(True)
+    one = worker(machine.url)
+    source = Source(machine.url, name).send(data)
+    until(lambda: one.kept and not one.due, one)
+    source.receive()
+    machine.kill()
+    machine.start("--appendonly", "no")
+    source.host.renewed = 0.0
+    source.host.renew_if_due()
+    source.send(b"abc\033[6n").end(0)
+    check(until(source.is_ended, one), name, "it goes on, with what the host sent again")
+    source.receive()
+    compare(source, name)
+
+
+@with_machine
+def a_full_store_is_waited_for(machine, data):
+    """maxmemory, and no eviction: a flood beside a quiet session."""
+    name = "full"
+    machine.kill()
+    machine.start("--maxmemory", "12mb", "--maxmemory-policy", "noeviction")
+    workers = Processes(machine, 2, "--lease", "1")
+    quiet = Source(machine.url, "quiet").send(data).listen()
+    host = program(machine, "flood", ["sh", "-c", "yes 0123456789012345678901234567890123456789 | head -c 20000000; exit 5"])
+    store = stores.connect(machine.url)
+    check(wait_for(lambda: store.info("memory")["used_memory"] > 12 << 20, 30), name, "it is full")
+    time.sleep(3)
+    check(host.poll() is None and all(each.poll() is None for each in workers.all), name, "host and workers wait")
+    sends = threading.Thread(target=lambda: quiet.send(b"abc\033[6n"), daemon=True)
+    sends.start()
+    store.config_set("maxmemory", "200mb")
+    check(host.wait(60) == 5, name, "the flood goes on to its end")
+    sends.join(10)
+    check(wait_for(lambda: quiet.reports() == played(quiet.sent)[1]), name, "the quiet session goes on")
+    quiet.end(0)
+    check(wait_for(quiet.is_ended), name, "and ends")
+    quiet.stop()
+    compare(quiet, name)
+    workers.stop()
+
+
+@with_machine
+def evicted_keys_are_named_or_sent_again(machine, data):
+    name = "evicted"
+    one = worker(machine.url)
+    machine_store = stores.connect(machine.url)
+    machine_store.config_set("maxmemory-policy", "allkeys-lru")
+    check(raises(stores.Unfit, machine_store.examine), name, "such a store is refused")
+    machine_store.config_set("maxmemory-policy", "noeviction")
+    for part in ("bytes", "about", "checkpoint", "answers"):
+        source = Source(machine.url, f"evicted {part}").send(data)
+        until(lambda: source.incarnation in one.kept and not one.due, one)
+        source.receive()
+        machine_store.delete(source.part(part))
+        one.read_anew()
+        source.host.renewed = 0.0
+        try:
+            source.host.renew_if_due()
+            source.send(b"abc\033[6n").end(0)
+            until(source.is_ended, one)
+        except keys.Fault:
+            pass
+        if source.is_ended():
+            source.receive()
+            compare(source, name + " " + part)
+        else:
+            check(source.fault().startswith(("Lost", "Trimmed", "Forged", "WentBack")), name, f"{part}: a named fault: {source.fault()}")
+    for part in (keys.WAITING, keys.WORKERS, keys.LIVE, keys.NAMES, keys.ALL):
+        source = Source(machine.url, f"evicted {part}").send(data)
+        until(lambda: source.incarnation in one.kept and not one.due, one)
+        machine_store.delete(part)
+        source.host.renewed = 0.0
+        source.host.renew_if_due()
+        source.send(b"\033[6n").end(0)
+        check(until(source.is_ended, one), name, f"without {part} it goes on")
+        source.receive()
+        compare(source, name + " " + part)
+
+
+@with_machine
+def without_a_worker_bytes_wait_within_a_bound(machine, _):
+    name = "backpressure"
+    host = program(machine, name, ["yes"])
+    store = stores.connect(machine.url)
+    wait_for(lambda: store.hexists(keys.NAMES, name))
+    incarnation = store.hget(keys.NAMES, name).decode()
+    time.sleep(3)
+    there = int(store.hget(key(incarnation, "about"), "end"))
+    check(WAITING <= there <= WAITING + 65536, name, f"a mebibyte waits, and no more: {there}")
+    workers = Processes(machine, 1)
+    check(wait_for(lambda: int(store.hget(key(incarnation, "about"), "end")) > 2 * WAITING), name, "with a worker it goes on")
+    host.terminate()
+    check(host.wait(10) == 128 + signal.SIGHUP, name, f"and its host ends it: {host.returncode}")
+    check(wait_for(lambda: store.exists(key(incarnation, "ended")), 20), name, "with an end")
+    workers.stop()
+
+
+def shimmed(machine):
+    """Starts the machine's store with a clock that a file moves."""
+    library, file = os.path.join(machine.folder, "clock.so"), os.path.join(machine.folder, "clock")
+    subprocess.run(["gcc", "-O2", "-shared", "-fPIC", "-o", library, os.path.join(HERE, "clock.c"), "-ldl"], check=True)
+    machine.kill()
+    os.environ.update(LD_PRELOAD=library, CLOCK_FILE=file)
+    try:
+        machine.start()
+    finally:
+        del os.environ["LD_PRELOAD"], os.environ["CLOCK_FILE"]
+
+    def move(seconds):
+        with open(file + ".new", "w") as moved:
+            moved.write(str(seconds))
+        os.replace(file + ".new", file)
+
+    return move
+
+
+@with_machine
+def the_clock_may_jump(machine, data):
+    """Back an hour and forward two: workers die, viewers look, hosts hold their names."""
+    name, move = "clock", shimmed(machine)
+    store = stores.connect(machine.url)
+    workers = Processes(machine, 1, "--lease", "0.5")
+    source = Source(machine.url, name).send(data).listen()
+    viewer = Viewer(stores.connect(machine.url), source.incarnation)
+    before = store.time()[0]
+    for seconds in (-3600, 3600, -3600, 7200):
+        move(seconds)
+        wait_for(lambda: abs(store.time()[0] - before - seconds) < 60)
+        check(abs(store.time()[0] - before - seconds) < 60, name, "the clock jumped")
+        workers.kill(0)
+        source.send(b"abc\033[6n")
+        check(wait_for(lambda: source.reports() == played(source.sent)[1]), name, f"{seconds}: another worker goes on")
+
+        def is_there():
+            viewer.ask()
+            viewer.follow(0)
+            return viewer.terminal.text() == played(source.sent)[0].text()
+
+        check(wait_for(is_there), name, f"{seconds}: a viewer sees it")
+    source.host.renewed = 0.0
+    source.host.renew_if_due()
+    source.send(b"\030").end(0)
+    check(wait_for(source.is_ended), name, "it ends")
+    source.stop()
+    compare(source, name)
+    workers.stop()
+
+
+@with_machine
+def a_cluster_is_refused(machine, _):
+    machine.kill()
+    for path, _, names in os.walk(machine.folder):
+        for each in names:
+            if each.endswith((".aof", ".rdb", ".manifest")):
+                os.remove(os.path.join(path, each))
+    machine.start("--cluster-enabled", "yes")
+    check(raises(stores.Unfit, stores.connect(machine.url).examine), "cluster", "with a clear error")
+
+
+CASES = [
+    half_open_connections_are_left, a_store_that_went_back_is_noticed, what_cannot_be_rebuilt_is_a_named_fault,
+    a_store_without_persistence_is_refused_and_rebuilt, a_full_store_is_waited_for, evicted_keys_are_named_or_sent_again,
+    without_a_worker_bytes_wait_within_a_bound, the_clock_may_jump, a_cluster_is_refused,
+]

@@ -5,8 +5,8 @@ use Rattle.std.proofs.Math.ListN.{get_or-append}
 use Rattle.std.proofs.Common.{[], ◌∷◌, suc, refl, sym, subst, inl, inr}
 use Rattle.std.proofs.lemmas.Bool.{cases_lt}
 use Rattle.std.proofs.lemmas.Grind.{same_number_lists}
-use Rattle.std.proofs.lemmas.List.{length-append, take-append-drop}
-use Rattle.std.proofs.lemmas.List.Sorted.{IsPermutation-sym, IsPermutation-to_front, IsPermutation-append_comm}
+use Rattle.std.proofs.lemmas.List.{length-append}
+use Rattle.std.proofs.lemmas.List.Sorted.{IsPermutation-sym, IsPermutation-to_front}
 use Rattle.std.specs.List.Sorted.{IsPermutation}
 use borrow.Rule.Slice.PartMut.{put_mid, mid_of, post_of}
 
@@ -67,29 +67,3 @@ first-behind (x ∷ rest) ys some long moved last =
     ]) in
     subst (λ zs. IsPermutation (x ∷ rest) zs) (sym behind)
     (IsPermutation-sym (rest ++ x ∷ []) (x ∷ rest) (IsPermutation-to_front rest x))
-
--- the first n numbers went behind the others
-pub turned : (xs ys : List ℕ) (n : ℕ) → n ≤ length xs → length ys ≡ length xs
-    → ((k : ℕ) → k + n < length xs → get_or ys k 0 ≡ get_or xs (k + n) 0)
-    → ((k : ℕ) → k < n → get_or ys (length xs - n + k) 0 ≡ get_or xs k 0)
-    → IsPermutation xs ys
-turned xs ys n few long moved behind =
-    let front : length (take n xs) ≡ n = rw length-take (omega arith) in
-    let rest : length (drop n xs) ≡ length xs - n = length-drop n xs in
-    let parts : ys ≡ drop n xs ++ take n xs = same_number_lists ys (drop n xs ++ take n xs)
-    (long ∙ omega (arith, length-append (drop n xs) (take n xs), front, rest))
-    (λ k h. elim (cases_lt k (length xs - n)) [
-      | inl low ↦
-          let place : k + n ≡ n + k = omega arith in
-          moved k (omega arith) ∙ ap (λ m. get_or xs m 0) place ∙ sym (get_or-drop n xs k 0)
-          ∙ sym (get_or-append (drop n xs) (take n xs) 0 k (omega (arith, rest)))
-      | inr high ↦
-          let place : k ≡ length xs - n + (k - (length xs - n)) = omega arith in
-          let last : k - (length xs - n) < n = omega (arith, long) in
-          ap (λ m. get_or ys m 0) place ∙ behind (k - (length xs - n)) last
-          ∙ sym (get_or-take n xs (k - (length xs - n)) 0 last)
-          ∙ sym (get_or-append_right (drop n xs) (take n xs) (length xs - n) k 0 rest high)
-    ]) in
-    subst (λ zs. IsPermutation xs zs) (sym parts)
-    (subst (λ zs. IsPermutation zs (drop n xs ++ take n xs)) (take-append-drop n xs)
-    (IsPermutation-append_comm (take n xs) (drop n xs)))

@@ -1,18 +1,13 @@
 -- The table of row starts: each once.
-use Rattle.std.proofs.Common.{◌≡◌, ◌≢◌, ◌⊎◌, inl, inr, ℕ, ◌+◌, ◌-◌, ◌*◌, ◌≤◌, ◌<◌, eqb, List, length, get_or, arith, ap}
-use Rattle.std.proofs.Common.{sym, ◌∙◌}
-use Rattle.std.specs.List.{IsDistinct}
-use Rattle.std.specs.List.Sorted.{IsPermutation}
+use Rattle.std.proofs.Common.{◌≡◌, ◌≢◌, ◌⊎◌, inl, inr, ℕ, ◌+◌, ◌-◌, ◌*◌, ◌≤◌, ◌<◌, eqb, List, length, get_or, arith, sym}
+use Rattle.std.specs.List.{range_with_len, IsDistinct}
 use Rattle.std.proofs.lemmas.List.FromFn.{get_or-map-range_with_len}
-use Rattle.std.proofs.lemmas.List.Sorted.{length_permutation, All-permutation, IsPermutation-trans}
-use Rattle.std.proofs.lemmas.List.Sorted.{IsPermutation-put_mid}
+use Rattle.std.proofs.lemmas.List.Sorted.{length_permutation, All-permutation}
 use Rattle.std.proofs.lemmas.Map.Keys.{IsDistinct-IsPermutation, apart_from_distinct, IsDistinct-from_apart}
 use Rattle.std.proofs.lemmas.List.Elements.{All-get_or}
 use Rattle.std.proofs.lemmas.Bool.Decides.{nat_tests}
 use Rattle.std.proofs.lemmas.Bool.{ne_eqb, eqb-false, cases_lt}
 use Rattle.vt_screen.specs.Grid.{last_row}
-use borrow.Rule.Slice.PartMut.{put_mid, mid_of}
-use Rattle.vt_screen.proofs.Lists.{before-put_mid, within-put_mid, after-put_mid, get_or-mid_of}
 use Rattle.vt_screen.specs.Order.{IsOrder, starts, start_of, stride, room}
 
 -- the start of some row's cells
@@ -66,34 +61,3 @@ start-apart o h r s r1 r24 s1 s24 ne =
       | inl lt ↦ inl (omega (arith, first.is, second.is))
       | inr ge ↦ inr (omega (arith, first.is, second.is))
     ]
-
--- ---- the starts of the rows from top to bottom, changed by themselves
-
--- so changed, the table still has each start once
-pub part-order : (o ys : List ℕ) (top bottom : ℕ) → IsOrder o
-    → IsPermutation (mid_of (top - 1) (bottom - (top - 1)) o) ys
-    → IsOrder (put_mid (top - 1) (bottom - (top - 1)) o ys)
-part-order o ys top bottom order moved =
-    IsPermutation-trans starts o _ order (IsPermutation-put_mid (top - 1) (bottom - (top - 1)) o ys moved)
-
-pub outside-part : (o ys : List ℕ) (top bottom r : ℕ) → length o ≡ last_row → 1 ≤ top → top ≤ bottom
-    → bottom ≤ last_row → length ys ≡ bottom - (top - 1) → 1 ≤ r → (r < top) ⊎ (bottom < r)
-    → start_of (put_mid (top - 1) (bottom - (top - 1)) o ys) r ≡ start_of o r
-outside-part o ys top bottom r long top1 order last len r1 h = elim h [
-  | inl l ↦ before-put_mid (top - 1) (bottom - (top - 1)) o ys (r - 1) 0 (omega arith) (omega arith)
-  | inr l ↦ after-put_mid (top - 1) (bottom - (top - 1)) o ys (r - 1) 0 (omega arith) len (omega arith)
-]
-
-pub inside-part : (o ys : List ℕ) (top bottom r : ℕ) → length o ≡ last_row → 1 ≤ top → top ≤ r → r ≤ bottom
-    → bottom ≤ last_row → length ys ≡ bottom - (top - 1)
-    → start_of (put_mid (top - 1) (bottom - (top - 1)) o ys) r ≡ get_or ys (r - top) 0
-inside-part o ys top bottom r long top1 low high last len =
-    let place : r - 1 - (top - 1) ≡ r - top = omega arith in
-    within-put_mid (top - 1) (bottom - (top - 1)) o ys (r - 1) 0 (omega arith) len (omega arith) (omega arith)
-    ∙ ap (λ k. get_or ys k 0) place
-
-pub of-part : (o : List ℕ) (top bottom k : ℕ) → 1 ≤ top → k < bottom - (top - 1)
-    → get_or (mid_of (top - 1) (bottom - (top - 1)) o) k 0 ≡ start_of o (top + k)
-of-part o top bottom k top1 low =
-    let place : top - 1 + k ≡ top + k - 1 = omega arith in
-    get_or-mid_of (top - 1) (bottom - (top - 1)) o k 0 low ∙ ap (λ at. get_or o at 0) place

@@ -59,7 +59,9 @@ impl RowOrder {
         ensures moved { (r : ℕ) → top ≤ r → r + n ≤ bottom → start_of self.new r ≡ start_of self.old (r + n) }
         ensures outside { (r : ℕ) → 1 ≤ r → (r < top) ⊎ (bottom < r) → start_of self.new r ≡ start_of self.old r }
     {
-        move_front_behind(&mut self.rows[top - 1..bottom], n);
+        for _ in 0..n {
+            self.move_up_once(top, bottom);
+        }
     }
 
     /// Moves the rows `top` to `bottom` up by 1; the first of them becomes the last.
@@ -79,7 +81,9 @@ impl RowOrder {
         ensures moved { (r : ℕ) → top + n ≤ r → r ≤ bottom → start_of self.new r ≡ start_of self.old (r - n) }
         ensures outside { (r : ℕ) → 1 ≤ r → (r < top) ⊎ (bottom < r) → start_of self.new r ≡ start_of self.old r }
     {
-        move_front_behind(&mut self.rows[top - 1..bottom], bottom + 1 - top - n);
+        for _ in 0..n {
+            self.move_down_once(top, bottom);
+        }
     }
 
     /// Moves the rows `top` to `bottom` down by 1; the last of them becomes the first.
@@ -90,34 +94,6 @@ impl RowOrder {
     {
         move_last_before(&mut self.rows[top - 1..bottom]);
     }
-}
-
-/// Moves the first `n` starts behind the others, in one move.
-fn move_front_behind(rows: &mut [u16], n: usize)
-    requires few { length rows.old ≤ last_row }
-    requires count { n ≤ length rows.old }
-    ensures moved { (k : ℕ) → k + n < length rows.old → slice_index rows.new k ≡ slice_index rows.old (k + n) }
-    ensures behind { (k : ℕ) → k < n
-        → slice_index rows.new (length rows.old - n + k) ≡ slice_index rows.old k }
-    ensures permutation { IsPermutation rows.old rows.new }
-{
-    turn(rows, n);
-}
-
-/// Does so: each start has its new place.
-#[inline(always)]
-fn turn(rows: &mut [u16], n: usize)
-    requires few { length rows.old ≤ last_row }
-    requires count { n ≤ length rows.old }
-    ensures moved { (k : ℕ) → k + n < length rows.old → slice_index rows.new k ≡ slice_index rows.old (k + n) }
-    ensures behind { (k : ℕ) → k < n
-        → slice_index rows.new (length rows.old - n + k) ≡ slice_index rows.old k }
-{
-    let mut front = [0; ROWS];
-    front[..n].copy_from_slice(&rows[..n]);
-    let rest = rows.len() - n;
-    rows.copy_within(n.., 0);
-    rows[rest..].copy_from_slice(&front[..n]);
 }
 
 /// Moves the first start behind the others.

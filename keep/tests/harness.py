@@ -17,6 +17,7 @@ import time
 
 PATIENCE = 15
 passed = failed = 0
+faults = []
 ROOM = pathlib.Path(tempfile.mkdtemp(prefix="keep-"))
 KEEP = str(ROOM / "keep")
 PROGRAM = os.path.abspath(sys.argv[2])
@@ -33,6 +34,7 @@ def check(is_so, what):
         passed += 1
     else:
         failed += 1
+        faults.append(what)
         print(f"failed: {what}", file=sys.stderr)
     return is_so
 
@@ -286,6 +288,8 @@ def sweep():
 
 
 def report(title):
-    """The last line, and the exit status."""
+    """What failed, once more at the end, the last line, and the exit status."""
+    for what in faults:
+        print(f"failed: {what}", file=sys.stderr)
     print(f"{title}: {passed} passed, {failed} failed")
     sys.exit(failed != 0)

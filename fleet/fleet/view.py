@@ -70,8 +70,11 @@ class Viewer:
 
     def ask(self):
         """Tells the worker that somebody looks, and learns how the session is. Call it each second."""
-        answer = self.store.run("watch", self.incarnation)
-        if answer[0] == "lost":
+        self.hear(self.store.run("watch", self.incarnation))
+
+    def hear(self, answer):
+        """Takes in what the store said to `watch`."""
+        if answer[0] in ("lost", b"lost"):
             self.is_over, self.fault = True, self.fault or "Lost: the store no longer has this session"
             return
         self.worker, self.fault, self.is_over = answer[1].decode(), answer[2].decode("utf-8", "replace"), bool(answer[3])
@@ -112,7 +115,7 @@ ARROWS = re.compile(rb"\x1b(?:\[|O)([ABCD])")
 
 def translated(data, modes):
     """Returns keys as a VT220 sends them: arrows by the mode of the cursor keys."""
-    return ARROWS.sub(rb"\x1bO\1" if modes.decckm else rb"\x1b[\1", data)
+    return ARROWS.sub((b"\x1bO" if modes.decckm else b"\x1b[") + rb"\1", data)
 
 
 class Keyboard:

@@ -216,7 +216,7 @@ def evicted_keys_are_named_or_sent_again(machine, data):
         try:
             source.host.renew_if_due()
             source.send(b"abc\033[6n").end(0)
-            until(source.is_ended, one)
+            until(lambda: source.is_ended() or source.fault(), one)
         except keys.Fault:
             pass
         if source.is_ended():

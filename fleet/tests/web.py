@@ -1,0 +1,227 @@
+"""The page in a headless Chromium, with real sessions; by keyboard, for screen readers, and attacked."""
+import asyncio
+import json
+import os
+import subprocess
+import time
+
+import aiohttp
+
+from browser import Browser
+from harness import Processes, Source, check, key, keys, local, stores, wait_for, wanted, with_machine
+from safety import free_port
+from stores_faults import program
+
+HOSTILE = "<b>bold</b><script>alert(1)</script>&amp;\"'"
+PICTURES = os.environ.get("FLEET_PICTURES")  # a directory for screenshots, to be looked at
+
+
+class Served:
+    """fleet web, on a port of its own."""
+
+    def __init__(self, machine, *words):
+        self.port = free_port()
+        words = [local.PYTHON, local.COMMAND, "web", "--port", str(self.port), *words]
+        self.process = subprocess.Popen(words, env=os.environ | {"FLEET_REDIS": machine.url}, stderr=subprocess.PIPE, text=True)
+        self.url = self.process.stderr.readline().strip()
+
+    def stop(self):
+        self.process.kill()
+        self.process.wait()
+
+
+def shot(browser, name):
+    if PICTURES:
+        browser.picture(os.path.join(PICTURES, name + ".png"))
+
+
+def lines(browser):
+    return browser.run("[...document.querySelectorAll('#screen > div')].map(e => e.textContent)")
+
+
+def choose(browser, name):
+    browser.run(f"[...document.querySelectorAll('li button')].find(e => e.querySelector('.name').textContent === {json.dumps(name)}).click()")
+
+
+def text_of(store, name):
+    from fleet.session import as_it_is
+
+    return as_it_is(store, store.hget(keys.NAMES, name).decode()).terminal.text().splitlines()
+
+
+@with_machine
+def real_sessions_in_the_browser(machine, _):
+    name, store = "page", stores.connect(machine.url)
+    workers, served = Processes(machine, 2), Served(machine, "--typing")
+    hosts = [
+        program(machine, "editor", ["vim", "-u", "NONE", "-i", "NONE", "-n"], "--input"), program(machine, "top", ["top", "-d", "1"]),
+        program(machine, "flood", ["sh", "-c", "while :; do seq 1 100000; done"]),
+        program(machine, HOSTILE, ["sh", "-c", "printf '<img src=x onerror=alert(1)>\\033[1mBold \\033[7mreverse\\033[0m &lt; \\033[4munder'; sleep 100"]),
+    ]
+    browser = Browser(served.url)
+    try:
+        check(wait_for(lambda: browser.run("document.querySelectorAll('li').length") == 4), name, "all sessions are there")
+        names = browser.run("[...document.querySelectorAll('.name')].map(e => e.textContent)")
+        check(names == sorted(["editor", "top", "flood", HOSTILE]), name, f"by name: {names}")
+        markup_is_text(browser, name)
+        the_editor_is_typed_into(browser, store, name)
+        by_keyboard_alone(browser, name)
+        changes_arrive(browser, store, name)
+        check(browser.said == [], name, f"the browser complains of nothing: {browser.said[:2]}")
+    finally:
+        browser.stop()
+        for host in hosts:
+            host.kill()
+            host.wait()
+        served.stop()
+        workers.stop()
+
+
+def markup_is_text(browser, name):
+    choose(browser, HOSTILE)
+    check(wait_for(lambda: lines(browser)[0].rstrip() == "<img src=x onerror=alert(1)>Bold reverse &lt; under"), name, f"markup in a screen is text: {lines(browser)[0]}")
+    found = browser.run("document.querySelectorAll('img, li b, main script, iframe').length")
+    check(found == 0, name, "and never markup, in a name, a title or a screen")
+    check(browser.run("document.getElementById('title').textContent") == HOSTILE, name, "the title")
+    looks = browser.run("[...document.querySelectorAll('#screen span')].map(e => [e.textContent, e.className])")
+    check([["Bold ", "b"], ["reverse", "b r"], ["under", "u"]] == [look for look in looks if look[1] and "cursor" not in look[1]], name, f"attributes: {looks}")
+    browser.run("getSelection().selectAllChildren(document.querySelector('#screen > div'))")
+    check(browser.run("getSelection().toString()").startswith("<img src=x"), name, "its text can be selected")
+    shot(browser, "hostile")
+
+
+def the_editor_is_typed_into(browser, store, name):
+    choose(browser, "top")
+    check(browser.run("document.getElementById('type').hidden"), name, "no typing at a host that takes no input")
+    choose(browser, "editor")
+    check(wait_for(lambda: not browser.run("document.getElementById('type').hidden")), name, "typing at one that does")
+    browser.type("x")
+    browser.run("document.getElementById('type').click()")
+    browser.type("iHello <b>page</b>")
+    browser.press("Enter", "\r", 13)
+    browser.type("two")
+    for key_name, code in (("ArrowLeft", 37), ("ArrowLeft", 37), ("ArrowUp", 38)):
+        browser.press(key_name, code=code)
+    browser.type("!")
+    browser.press("Escape", code=27)
+    wanted_lines = ["H!ello <b>page</b>", "two"]
+    check(wait_for(lambda: [line.rstrip() for line in lines(browser)[:2]] == wanted_lines), name, f"keys arrive in order, once: {lines(browser)[:3]}")
+    check(text_of(store, "editor")[:2] == wanted_lines, name, "at the program")
+    shot(browser, "editor")
+    browser.press("]", code=221, modifiers=2)
+    check(browser.run("document.activeElement.id") == "type", name, "Ctrl+] leaves the screen")
+
+
+def by_keyboard_alone(browser, name):
+    browser.run("document.body.focus(); document.activeElement.blur()")
+    seen = []
+    for _ in range(12):
+        browser.press("Tab", code=9)
+        seen.append(browser.run("document.activeElement.id || (document.activeElement.querySelector('.name') || {}).textContent || document.activeElement.className"))
+    for each in ("skip", "filter", "editor", "top", "flood", HOSTILE, "type", "announce", "screen"):
+        check(each in seen, name, f"Tab reaches {each}: {seen}")
+    browser.run("[...document.querySelectorAll('li button')].find(e => e.textContent.startsWith('top')).focus()")
+    browser.press("Enter", "\r", 13)
+    check(browser.run("document.getElementById('title').textContent") == "top", name, "Enter chooses a session")
+    tree = browser.tree()
+    for each in (("button", "editor, running"), ("searchbox", "Filter"), ("heading", "top"), ("navigation", "Sessions"), ("checkbox", "Announce changes")):
+        check(each in tree, name, f"a screen reader finds {each}")
+    check(any(role in ("group", "region") and said == "Screen of top" for role, said in tree), name, "and the screen by its name")
+    browser.run("document.getElementById('announce').click()")
+    check(wait_for(lambda: len(browser.run("document.getElementById('said').textContent")) > 20), name, "changes are announced")
+    browser.run("document.getElementById('announce').click()")
+
+
+def changes_arrive(browser, store, name):
+    """Only what changed is sent; the flood doesn't hold up the rest."""
+    browser.run("window.got = []; socket.addEventListener('message', e => got.push(e.data))")
+    time.sleep(2)
+    got = [json.loads(each) for each in browser.run("got")]
+    top = [each for message in got for each in message.get("news", []) if each["session"] == store.hget(keys.NAMES, "top").decode()]
+    still = [each for message in got for each in message.get("news", []) if each["session"] == store.hget(keys.NAMES, HOSTILE).decode()]
+    check(1 <= len(top) <= 30 and all(len(each.get("rows", {})) <= 24 for each in top), name, f"top's rows: {len(top)}")
+    check(not any(each.get("rows") for each in still), name, "nothing of a session that stands still")
+    check(len(got) < 80, name, f"at most some messages a second: {len(got)} in 2 s")
+    choose(browser, "flood")
+    before = lines(browser)
+    check(wait_for(lambda: lines(browser) != before), name, "the flood moves")
+    shot(browser, "flood")
+
+
+@with_machine
+def ended_and_faulty_sessions_are_shown(machine, data):
+    name, workers, served = "states", Processes(machine, 1, "--lease", "1"), Served(machine)
+    done, bad = Source(machine.url, "done").send(data).end(7), Source(machine.url, "bad").send(b"ab")
+    bad.store.xadd(bad.part("bytes"), {"v": "9.9", "bytes": "c"}, id="3-0")
+    Source(machine.url, "gone", lease=0.3).send(b"gone")
+    many = [Source(machine.url, f"many-{number:03}").send(b"Session %d" % number) for number in range(60)]
+    wait_for(lambda: done.is_ended() and all(source.store.hget(source.part("about"), "owner") for source in many))
+    owner = (bad.store.hget(bad.part("about"), "owner") or b"nobody").decode()
+    bad.store.publish(keys.wake(owner), bad.incarnation)
+    browser = Browser(served.url, 900, 1000)
+    try:
+        check(wait_for(lambda: browser.run("document.querySelectorAll('li').length") == 63, 15), name, "all are there")
+        said = lambda: dict(browser.run("[...document.querySelectorAll('li')].map(e => [e.querySelector('.name').textContent, e.querySelector('.how').textContent])"))
+        check(wait_for(lambda: said()["bad"].startswith("fault: Version"), 15), name, f"a fault is named: {said()['bad']}")
+        check(wait_for(lambda: said()["done"] == "ended 7" and said()["gone"] == "no host"), name, f"{said()['done']}, {said()['gone']}")
+        choose(browser, "done")
+        check(wait_for(lambda: [line.rstrip() for line in lines(browser)] == wanted("text", data)[1].decode().splitlines()), name, "the screen of one that ended")
+        choose(browser, "many-042")
+        check(wait_for(lambda: lines(browser)[0].rstrip() == "Session 42"), name, "and of one of many")
+        check(browser.run("document.documentElement.scrollWidth <= innerWidth"), name, "nothing is wider than the window")
+        shot(browser, "many")
+        browser.run("const f = document.getElementById('filter'); f.value = '-04'; f.dispatchEvent(new Event('input'))")
+        check(browser.run("document.querySelectorAll('li').length") == 10, name, "a filter")
+    finally:
+        browser.stop()
+        served.stop()
+        workers.stop()
+
+
+@with_machine
+def only_the_token_opens_the_page(machine, _):
+    name, served = "token", Served(machine)
+    Source(machine.url, "session", takes_input=True).send(b"x")
+    base, token = served.url.split("/?")[0], served.url.split("token=")[1]
+    check(served.url.startswith("http://127.0.0.1:") and len(token) >= 32, name, "on 127.0.0.1 alone, with a long token")
+
+    async def ask():
+        async with aiohttp.ClientSession() as client:
+            for path in ("/", "/?token=", "/?token=x", "/live", "/live?token=x", f"/?token={token}x", "/?token=%C3%A4"):
+                async with client.get(base + path) as answer:
+                    check(answer.status == 403, name, f"{path}: {answer.status}")
+            for path in ("/page.js", "/../cli.py", "/%2e%2e/cli.py"):
+                async with client.get(f"{base}{path}?token={token}") as answer:
+                    check(answer.status == 404, name, f"{path}: {answer.status}")
+            async with client.get(served.url) as answer:
+                policy = answer.headers["Content-Security-Policy"]
+                check(answer.status == 200 and "default-src 'none'" in policy and "unsafe" not in policy, name, "a strict policy")
+                check(answer.headers["Referrer-Policy"] == "no-referrer", name, "the token leaks to no other page")
+            try:
+                await client.ws_connect(f"{base}/live?token={token}", origin="http://evil.example")
+                check(False, name, "another page's script is refused")
+            except aiohttp.WSServerHandshakeError as refused:
+                check(refused.status == 403, name, "another page's script is refused")
+            await type_without_right(client, base, token)
+
+    async def type_without_right(client, base, token):
+        async with client.ws_connect(f"{base}/live?token={token}") as socket:
+            session = None
+            while session is None:
+                said = json.loads((await socket.receive(10)).data)
+                session = next((each["session"] for each in said.get("news", [])), None)
+            for bad in ({"session": session, "text": "id\r"}, {"session": "x", "text": "y"}, {"session": session}, [], "x", {"session": session, "key": "nosuch"}):
+                await socket.send_str(json.dumps(bad))
+            await socket.send_str("no JSON")
+            errors = 0
+            while errors < 7:
+                errors += "error" in json.loads((await socket.receive(10)).data)
+            check(errors == 7, name, "what may not be typed is refused, and the connection lives")
+
+    asyncio.run(ask())
+    store = stores.connect(machine.url)
+    check(not store.exists(key(store.hget(keys.NAMES, "session").decode(), "keys")), name, "nothing was typed")
+    served.stop()
+
+
+CASES = [real_sessions_in_the_browser, ended_and_faulty_sessions_are_shown, only_the_token_opens_the_page]

@@ -1,4 +1,4 @@
-"""The benchmark's inputs: five workloads and three screens, the same bytes on every machine."""
+"""The benchmark's inputs: six workloads and three screens, the same bytes on every machine."""
 
 LETTERS = b"      eeeeettttaaaaooooiiinnnssshhrrddllccuummwwffggyyppbbvkxjqz.,0123456789"
 
@@ -52,8 +52,22 @@ def random_bytes(source):
     return bytes(source.below(256) for _ in range(64))
 
 
+def scrolling(source):
+    """A scroll region with the cursor in it: lines of text, scrolls at its margins, and lines inserted and deleted there."""
+    top = 1 + source.below(18)
+    bottom = top + 2 + source.below(23 - top)
+    out = b"\x1b[%d;%dr" % (top, bottom)
+    for _ in range(2):
+        row = top + source.below(bottom - top + 1)
+        out += b"\x1b[%d;%dH" % (row, 1 + source.below(40)) + source.text(8 + source.below(8))
+        out += source.text(8 + source.below(8)).join((b"\x1b[%d%s" % (1 + source.below(4), source.among((b"L", b"M"))), b""))
+        edge = source.among((b"\x1bD", b"\x1bM"))
+        out += b"\x1b[%dH" % (bottom if edge == b"\x1bD" else top) + edge + source.among((edge, b"\r\n"))
+    return out
+
+
 WORKLOADS = {"plain lines": plain, "addressing, SGR": addressing, "region, IL, DL": region,
-             "supplemental": supplemental, "random bytes": random_bytes}
+             "supplemental": supplemental, "random bytes": random_bytes, "scroll region": scrolling}
 
 
 def make(name, size):

@@ -21,10 +21,10 @@ use vt_syntax::{
     plain_run,
 };
 
-/// From how many plain bytes on they are written by themselves, also where bytes of the right half follow.
+/// How many plain bytes are written by themselves at least, even if bytes of the right half follow.
 const LONG_RUN: usize = 8;
 
-/// Whether there is a byte at a place, and it is of the right half.
+/// Returns whether there is a byte at a place, and it is of the right half.
 #[inline(always)]
 fn right_half_at(piece: &[u8], at: usize) -> bool {
     at < piece.len() && piece[at] >= 0xA0
@@ -33,8 +33,8 @@ fn right_half_at(piece: &[u8], at: usize) -> bool {
 impl Terminal {
     /// Plays a piece of the host's bytes, and appends the reports to `out`.
     ///
-    /// Ten bytes of room for each byte of the piece are reserved first. `Err` where that is refused, or is more than
-    /// any vector may hold: then the terminal and the contents of `out` are unchanged.
+    /// Reserves ten bytes of capacity for each byte of the piece first. Returns `Err` if that fails, or is more than
+    /// any vector may hold. Then the terminal and the contents of `out` are unchanged.
     pub fn feed(&mut self, piece: &[u8], out: &mut Vec<u8>) -> Result<(), AllocError>
         ensures state { OnOk result (self.new ≡ (play self.old piece.now).state) }
         ensures reports { OnOk result (out.new.items ≡ out.old.items ++ (play self.old piece.now).reports) }
@@ -52,8 +52,8 @@ impl Terminal {
         Ok(())
     }
 
-    /// Plays a piece of the host's bytes, and appends the reports to `out`, which has the room: ten bytes for each
-    /// byte of the piece. It never fails and takes no memory.
+    /// Plays a piece of the host's bytes, and appends the reports to `out`, which has enough capacity: ten bytes for each
+    /// byte of the piece. It never fails, and it allocates nothing.
     pub fn feed_reserved(&mut self, piece: &[u8], out: &mut Vec<u8>)
         requires { vec_len out.old + 10 * length piece.now ≤ vec_capacity out.old }
         ensures state { self.new ≡ (play self.old piece.now).state }
@@ -70,8 +70,8 @@ impl Terminal {
         }
     }
 
-    /// Plays the front of a piece that isn't empty, and answers how many bytes that is: between sequences as far as the
-    /// first that doesn't stand whole in it, else as far as the first event.
+    /// Plays the front of a piece that isn't empty, and returns how many bytes it played: between sequences up to the
+    /// first sequence that isn't whole in the piece, otherwise up to the first event.
     #[inline(always)]
     fn feed_next(&mut self, piece: &[u8], values: &mut Values, out: &mut Vec<u8>) -> usize
         requires some { 1 ≤ length piece.now }
@@ -90,8 +90,8 @@ impl Terminal {
         }
     }
 
-    /// Plays the front of a piece that isn't empty, between sequences, as far as the first byte that goes through the
-    /// parser, and the first event from there on. Answers how many bytes that is.
+    /// Plays the front of a piece that isn't empty, between sequences, up to the first byte that goes through the parser, and
+    /// the first event from there on. Returns how many bytes it played.
     #[inline(always)]
     fn feed_between(&mut self, piece: &[u8], values: &mut Values, out: &mut Vec<u8>) -> usize
         requires some { 1 ≤ length piece.now }
@@ -117,9 +117,8 @@ impl Terminal {
         piece.len()
     }
 
-    /// Plays what stands at the front of a piece that isn't empty, between sequences: a run of graphic bytes that are
-    /// written at once, CR, and LF after it, a control or a sequence; all else goes through the parser. Answers how
-    /// many bytes that is, and whether it is known that nothing is held then.
+    /// Plays what is at the front of a piece that isn't empty, between sequences, by its kind. Returns how many bytes it
+    /// played, and whether it is known that nothing is held then.
     #[inline(always)]
     fn feed_front(&mut self, piece: &[u8], values: &mut Values, out: &mut Vec<u8>) -> (usize, bool)
         requires some { 1 ≤ length piece.now }
@@ -136,7 +135,7 @@ impl Terminal {
         match Front::of(piece) {
             Front::Escape => self.feed_escape(piece, values, out),
             Front::Plain => (self.feed_ascii(piece), true),
-            Front::CarriageReturn => (self.feed_carriage_return(piece), true),
+            Front::CarriageReturn => (self.carriage_return_first(piece), true),
             Front::Right => (self.feed_graphics(piece), true),
             Front::Control(control) => {
                 self.carry_out_front(EventKind::Control(control), &[], out);
@@ -151,8 +150,8 @@ impl Terminal {
         }
     }
 
-    /// Plays the front of a piece that begins with ESC, between sequences, as far as the first event. Answers how many
-    /// bytes that is, and whether it is known that nothing is held then.
+    /// Plays the front of a piece that begins with ESC, between sequences, up to the first event. Returns how many bytes it
+    /// played, and whether it is known that nothing is held then.
     #[inline(always)]
     fn feed_escape(&mut self, piece: &[u8], values: &mut Values, out: &mut Vec<u8>) -> (usize, bool)
         requires some { 1 ≤ length piece.now }
@@ -205,8 +204,8 @@ impl Terminal {
         (self.feed_by_parser(piece, values, out), false)
     }
 
-    /// An event that stands whole at the front of a piece, between sequences. It is compiled in the place of each call,
-    /// so that what is known of its kind costs no dispatch.
+    /// Carries out an event that is whole at the front of a piece, between sequences. Speed: it is compiled into each
+    /// caller, so that what is known of its kind costs no dispatch.
     #[inline(always)]
     fn carry_out_front(&mut self, kind: EventKind, values: &[u16], out: &mut Vec<u8>)
         requires event { IsEvent (event_of kind values.now) }
@@ -223,8 +222,10 @@ impl Terminal {
         self.display.carry_out(kind, values, out);
     }
 
-    /// Plays the graphic bytes at the front of a piece that begins with a plain one, between sequences: a run of plain
-    /// bytes where GL is ASCII and they may be written at once. Answers how many bytes that is.
+    /// Plays the graphic bytes at the front of a piece that begins with a plain one, between sequences. Returns how many
+    /// bytes it played.
+    ///
+    /// Speed: if GL is ASCII, plain bytes are their own glyphs, and need no chart. Without this, `feed_graphics` does the same.
     #[inline(always)]
     fn feed_ascii(&mut self, piece: &[u8]) -> usize
         requires some { 1 ≤ length piece.now }
@@ -246,8 +247,8 @@ impl Terminal {
         self.feed_graphics(piece)
     }
 
-    /// Plays the graphic bytes at the front of a piece, between sequences: a run of them where they may be written at
-    /// once, else the first. Answers how many bytes that is.
+    /// Plays the graphic bytes at the front of a piece, between sequences: a run of them if they may be written at once,
+    /// otherwise the first. Returns how many bytes it played.
     #[inline(always)]
     fn feed_graphics(&mut self, piece: &[u8]) -> usize
         requires some { 1 ≤ length piece.now }
@@ -268,7 +269,7 @@ impl Terminal {
         run
     }
 
-    /// A graphic byte, between sequences.
+    /// Carries out a graphic byte, between sequences.
     fn print_between(&mut self, byte: u8)
         requires graphic { IsGraphic byte }
         requires between { self.old.held ≡ Nothing }
@@ -281,9 +282,9 @@ impl Terminal {
         self.display.print(byte);
     }
 
-    /// Plays CR at the front of a piece, and LF where it follows. Answers how many bytes that is.
+    /// Plays CR at the front of a piece, and LF if it follows. Returns how many bytes it played. Speed: most lines end so.
     #[inline(always)]
-    fn feed_carriage_return(&mut self, piece: &[u8]) -> usize
+    fn carriage_return_first(&mut self, piece: &[u8]) -> usize
         requires some { 1 ≤ length piece.now }
         requires carriage_return { slice_index piece.now 0 ≡ 0x0D }
         requires between { self.old.held ≡ Nothing }
@@ -302,7 +303,7 @@ impl Terminal {
         2
     }
 
-    /// A C0 control that changes the display, between sequences.
+    /// Carries out a C0 control that changes the display, between sequences.
     #[inline(always)]
     fn control_between(&mut self, byte: u8)
         requires control { (0x08 ≤ byte) × (byte ≤ 0x0D) }
@@ -316,7 +317,7 @@ impl Terminal {
         self.display.control(byte);
     }
 
-    /// Plays the front of a piece that isn't empty as far as the first event, and answers how many bytes that is.
+    /// Plays the front of a piece that isn't empty up to the first event, by the parser. Returns how many bytes it played.
     #[inline(never)]
     fn feed_by_parser(&mut self, piece: &[u8], values: &mut Values, out: &mut Vec<u8>) -> usize
         requires some { 1 ≤ length piece.now }
@@ -335,7 +336,7 @@ impl Terminal {
         bytes
     }
 
-    /// A run of plain bytes.
+    /// Writes a run of plain bytes.
     fn write_ascii(&mut self, run: &[u8])
         requires plain { All IsPlain run.now }
         requires some { 1 ≤ length run.now }
@@ -350,7 +351,7 @@ impl Terminal {
         self.display.write_run(run);
     }
 
-    /// A run of graphic bytes, where the sets in GL and GR are read.
+    /// Writes a run of graphic bytes through the sets in GL and GR.
     fn write_in_use(&mut self, run: &[u8])
         requires graphic { All HasGlyph run.now }
         requires some { 1 ≤ length run.now }

@@ -91,7 +91,22 @@ static void places(void) {
     vt220_close(&t);
 }
 
+/* Ten bytes of room for each byte take a whole piece: each byte here (DECID) is answered by ten. */
+static void whole_pieces(void) {
+    static uint8_t piece[3000], reports[VT220_REPORT_LIMIT * sizeof piece];
+    memset(piece, 0x9A, sizeof piece);
+    vt220 t = VT220_INIT;
+    size_t written = 0;
+    CHECK(vt220_open(&t) == VT220_OK);
+    for (size_t len = 0; len <= sizeof piece; len += 500) {
+        CHECK(vt220_feed(&t, piece, len, reports, VT220_REPORT_LIMIT * len, &written) == len);
+        CHECK(written == VT220_REPORT_LIMIT * len);
+    }
+    vt220_close(&t);
+}
+
 int main(void) {
+    whole_pieces();
     one_mode_at_a_time();
     one_attribute_at_a_time();
     places();

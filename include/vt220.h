@@ -128,7 +128,7 @@ size_t vt220_feed(vt220 *t, const uint8_t *bytes, size_t len, uint8_t *reports, 
  * the terminal or the scratch room is closed: *written is 0. VT220_TEXT_LIMIT bytes are always enough. */
 uint32_t vt220_text(vt220 *t, vt220_scratch *s, uint8_t *out, size_t room, size_t *written);
 
-/* Writes the repaint: the bytes that, played on any terminal in any state, leave it in exactly this one's state, hidden parts
+/* Writes the repaint: the bytes that, played on any vt220 in any state, leave it in exactly this one's state, hidden parts
  * included, and report nothing. *written tells its length.
  * As vt220_text; and VT220_PARTIAL where the terminal is inside a sequence: *written is 0. VT220_PAINT_LIMIT bytes are always
  * enough. */

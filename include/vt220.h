@@ -1,7 +1,8 @@
 /* vt220.h: the screen side of a DEC VT220, without keyboard and glass, for C11 and C++.
  *
  * A host's bytes go in, in any pieces. Out come the reports to the host, the screen as text or as cells, and bytes that
- * rebuild the whole state, hidden parts included, on any terminal. Every call is proved to do exactly what it says here.
+ * rebuild the whole state, hidden parts included, on any terminal of this library. What each call leaves and writes is proved;
+ * docs/PROMISES.md says what is only tested: memory, time, threads, and the C ABI.
  *
  * Handles. A vt220 and a vt220_scratch are structs of the caller's. Each is all zero while it is closed. An open one owns
  * memory until it is closed. Only the two open calls take memory; no other call can fail for want of it. Every call may be
@@ -127,15 +128,17 @@ size_t vt220_feed(vt220 *t, const uint8_t *bytes, size_t len, uint8_t *reports, 
  * the terminal or the scratch room is closed: *written is 0. VT220_TEXT_LIMIT bytes are always enough. */
 uint32_t vt220_text(vt220 *t, vt220_scratch *s, uint8_t *out, size_t room, size_t *written);
 
-/* Writes the repaint: the bytes that, played on any terminal in any state, leave it in exactly this one's state, hidden parts
+/* Writes the repaint: the bytes that, played on any vt220 in any state, leave it in exactly this one's state, hidden parts
  * included, and report nothing. *written tells its length.
  * As vt220_text; and VT220_PARTIAL where the terminal is inside a sequence: *written is 0. VT220_PAINT_LIMIT bytes are always
  * enough. */
 uint32_t vt220_repaint(vt220 *t, vt220_scratch *s, uint8_t *out, size_t room, size_t *written);
 
 /* Writes an update: bytes that, played on a terminal in the state of `shown`, in any pieces, leave it in exactly the state of
- * `to`, and report nothing; few where little differs, and none exactly where nothing does. *written tells their length, and
- * `shown` is then in the state of `to`.
+ * `to`, and report nothing; none exactly if nothing differs. If width and tab stops are equal, at most 28 * n + 230 bytes for n
+ * cells that differ. The bytes are ASCII: graphic characters, and CUP, CUF, CUB, BS, CR, LF, ED, EL, IL, DL, SGR, DECSCA, DECSTBM, HTS,
+ * TBC, SCS, locking and single shifts, DECSC, SM, RM, DECKPAM, DECKPNM, S7C1T, S8C1T, DECSTR and RIS, and nothing else. *written tells
+ * their length, and `shown` is then in the state of `to`.
  * VT220_OK; VT220_CLOSED where one of the three is closed, and VT220_PARTIAL where one of the two terminals is inside a
  * sequence: *written is 0; VT220_ROOM where the room is less than VT220_UPDATE_LIMIT bytes, which *written tells. On each of
  * these nothing is written, and `shown` is as it was. Bytes of `out` behind *written are not touched. */

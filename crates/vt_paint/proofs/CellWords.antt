@@ -11,7 +11,7 @@ use Rattle.vt_screen.specs.declared.cell.Cell.{Cell}
 use Rattle.vt_screen.specs.Cells.{blank, brush_of}
 use Rattle.vt_paint.specs.Same.{same_bool, same_brush, is_blank}
 use Rattle.vt_paint.specs.Changes.{same_cell}
-use Rattle.vt_paint.specs.HeaderParts.{bit, brush_number, cell_word}
+use Rattle.vt_paint.specs.Private.HeaderParts.{bit, brush_number, cell_word}
 
 same_parts : (m n p q : ℕ) → m < 0x100 → p < 0x100
     → eqb (m + 0x1000000 * n) (p + 0x1000000 * q) ≡ (eqb m p && eqb n q)

@@ -17,7 +17,7 @@ use Rattle.vt_paint.specs.Controls.{private_mode, decom, cursor_position, brush_
 use Rattle.vt_paint.specs.Controls.{spelling_sets_events}
 use Rattle.vt_paint.specs.Items.{margins_item, origin_item, position_item, wrap_item, shift_item}
 use Rattle.vt_paint.specs.Changes.{AreChanges}
-use Rattle.vt_paint.specs.ChangeEvents.{changed_cells, start_item, saved_cursor, record_item, every_mode, change_events}
+use Rattle.vt_paint.specs.Private.ChangeEvents.{changed_cells, start_item, saved_cursor, record_item, every_mode, change_events}
 use Rattle.vt_paint.proofs.LowerLaws.{GridLaws, GlyphLaws}
 use Rattle.vt_paint.proofs.AfterEvents.{display_after, display_after-then}
 use Rattle.vt_paint.proofs.Brushes.{brush_leaves, with_sets, sets_leaves, spelling_sets, spelling_sets_leaves}

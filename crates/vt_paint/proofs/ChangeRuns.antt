@@ -15,8 +15,8 @@ use Rattle.vt_paint.specs.Same.{same_brush}
 use Rattle.vt_paint.specs.Controls.{cursor_position, protection_to, rendition_to, brush_events}
 use Rattle.vt_paint.specs.Pieces.{glyph_events}
 use Rattle.vt_paint.specs.Changes.{same_cell, differs_at, is_marked, AreMarked}
-use Rattle.vt_paint.specs.ChangeEvents.{has_all, all_attributes, short_brush_events, change_of, change, changes_from}
-use Rattle.vt_paint.specs.ChangeEvents.{changed_row, changed_rows, changed_cells}
+use Rattle.vt_paint.specs.Private.ChangeEvents.{has_all, all_attributes, short_brush_events, change_of, change, changes_from}
+use Rattle.vt_paint.specs.Private.ChangeEvents.{changed_row, changed_rows, changed_cells}
 use Rattle.vt_paint.proofs.LowerLaws.{GridLaws, GlyphLaws}
 use Rattle.vt_paint.proofs.AfterEvents.{display_after, display_after-append}
 use Rattle.vt_paint.proofs.Equality.{and_true, not_false, same_brush-is}

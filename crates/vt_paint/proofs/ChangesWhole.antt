@@ -21,9 +21,9 @@ use Rattle.vt_term.specs.Play.{Played, after_events, reports_of, play}
 use Rattle.vt_paint.specs.Controls.{private_mode, ansi_mode, decom, cursor_position, brush_events, sets_events}
 use Rattle.vt_paint.specs.Items.{margins_item, origin_item, position_item, wrap_item}
 use Rattle.vt_paint.specs.Changes.{differs_at, differing_from, differing_rows, differing, is_marked, AreChanges}
-use Rattle.vt_paint.specs.ChangeEvents.{keypad_event, soft_reset, change_of, change, changes_from, changed_row}
-use Rattle.vt_paint.specs.ChangeEvents.{changed_rows, changed_cells, start_item, saved_cursor, record_item, every_mode}
-use Rattle.vt_paint.specs.ChangeEvents.{change_events}
+use Rattle.vt_paint.specs.Private.ChangeEvents.{keypad_event, soft_reset, change_of, change, changes_from, changed_row}
+use Rattle.vt_paint.specs.Private.ChangeEvents.{changed_rows, changed_cells, start_item, saved_cursor, record_item, every_mode}
+use Rattle.vt_paint.specs.Private.ChangeEvents.{change_events}
 use Rattle.vt_paint.proofs.LowerLaws.{GridLaws, GlyphLaws}
 use Rattle.vt_paint.proofs.AfterEvents.{display_after-after_events}
 use Rattle.vt_paint.proofs.Painting.{AreGlyphs}

@@ -13,7 +13,7 @@ use Rattle.vt_screen.specs.declared.cell.Brush.{Brush}
 use Rattle.vt_paint.specs.declared.tables.TheConstants.{ROWS, COLUMNS, BRUSHES, BRUSH_LENGTHS}
 use Rattle.std.specs.Fmt.{digits}
 use Rattle.vt_paint.specs.Controls.{brush_events}
-use Rattle.vt_paint.specs.HeaderParts.{row_part, column_part, brush_part, brush_index}
+use Rattle.vt_paint.specs.Private.HeaderParts.{row_part, column_part, brush_part, brush_index}
 
 -- ---- brushes
 

@@ -4,7 +4,7 @@ use Rattle.vt_syntax.specs.declared.event.Event.{Event}
 use Rattle.vt_term.specs.declared.state.Modes.{Modes}
 use Rattle.vt_term.specs.State.{Display}
 use Rattle.vt_term.specs.Functions.{effect, plain_escape, escape_with}
-use Rattle.vt_paint.specs.ChangeEvents.{keypad_event, report_form_event, every_mode}
+use Rattle.vt_paint.specs.Private.ChangeEvents.{keypad_event, report_form_event, every_mode}
 use Rattle.vt_paint.proofs.AfterEvents.{display_after}
 use Rattle.vt_paint.proofs.ModeItems.{ansi_mode_sets, private_mode_sets, decawm_sets}
 

@@ -163,19 +163,55 @@ sequences_are =
     let modes = λ (text : List ℕ) (h : is_among mode_numbers text ≡ true). among_ascii mode_numbers text refl h in (
       refl,
       numbers,
-      (refl, numbers, (refl, numbers, (refl, numbers, (refl, numbers, (refl, numbers, (
+      (
         refl,
-        attributes_ascii,
-        (refl, none, (refl, none, (
+        numbers,
+        (
           refl,
-          λ text h. among_ascii (codes "3" ∷ []) text refl h,
-          (refl, modes, (refl, modes, (
+          numbers,
+          (
             refl,
-            λ text h. among_ascii ([] ∷ codes "0" ∷ codes "1" ∷ []) text refl h,
-            (refl, λ text h. among_ascii (codes "0" ∷ []) text refl h, tt),
-          ))),
-        ))),
-      )))))),
+            numbers,
+            (
+              refl,
+              numbers,
+              (
+                refl,
+                numbers,
+                (
+                  refl,
+                  attributes_ascii,
+                  (
+                    refl,
+                    none,
+                    (
+                      refl,
+                      none,
+                      (
+                        refl,
+                        λ text h. among_ascii (codes "3" ∷ []) text refl h,
+                        (
+                          refl,
+                          modes,
+                          (
+                            refl,
+                            modes,
+                            (
+                              refl,
+                              λ text h. among_ascii ([] ∷ codes "0" ∷ codes "1" ∷ []) text refl h,
+                              (refl, λ text h. among_ascii (codes "0" ∷ []) text refl h, tt),
+                            ),
+                          ),
+                        ),
+                      ),
+                    ),
+                  ),
+                ),
+              ),
+            ),
+          ),
+        ),
+      ),
     )
 
 element_ascii : (element : Element) → is_spoken element ≡ true → IsAscii (element_bytes element)
@@ -240,6 +276,7 @@ numbers_spoken text last h k = go (eqb 0x43 last) (eqb 0x44 last) (eqb 0x48 last
     at b this e =
         let same : b ≡ last = grind (arith, nat_tests, e) in
         subst (λ b. is_spoken (Sequence text (b ∷ [])) ≡ true) same this
+
     go : (c d h l m r : Bool) → eqb 0x43 last ≡ c → eqb 0x44 last ≡ d → eqb 0x48 last ≡ h → eqb 0x4C last ≡ l
         → eqb 0x4D last ≡ m → eqb 0x72 last ≡ r → (c || (d || (h || (l || (m || (r || false)))))) ≡ true
         → is_spoken (Sequence text (last ∷ [])) ≡ true
@@ -272,13 +309,14 @@ character_speaks b h k = speaks-one (Character b) (grind (arith, nat_tests, h, k
 
 pub designation_speaks : (inter : ℕ) (set : Set) → is_one_of (codes "()*+") inter ≡ true
     → Speaks (0x1B ∷ inter ∷ final_of set ∷ [])
-designation_speaks inter set h = 
+designation_speaks inter set h =
     speaks-one (Escape (inter ∷ final_of set ∷ []))
     (either (is_among spoken_escapes (inter ∷ final_of set ∷ [])) (go set))
   where
     either : (a : Bool) {b : Bool} → b ≡ true → (a || b) ≡ true
     either true e = refl
     either false e = e
+
     go : (set : Set) → is_designation (inter ∷ final_of set ∷ []) ≡ true
     go Ascii = rw h refl
     go British = rw h refl

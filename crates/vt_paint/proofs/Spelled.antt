@@ -6,7 +6,7 @@ use Rattle.std.specs.Fmt.{digits}
 use Rattle.vt_syntax.specs.Spelling.{spell_events}
 use Rattle.vt_screen.specs.declared.cell.Brush.{Brush}
 use Rattle.vt_paint.specs.Controls.{rendition_to, cursor_position, protection_to, brush_events, clear_all_tabs, set_tab}
-use Rattle.vt_paint.specs.ChangeEvents.{has_all, all_attributes, short_brush_events, start_item}
+use Rattle.vt_paint.specs.Private.ChangeEvents.{has_all, all_attributes, short_brush_events, start_item}
 
 pub clear_spelled : spell_events (clear_all_tabs ∷ []) ≡ (0x1B ∷ 0x5B ∷ 0x33 ∷ 0x67 ∷ [])
 unfolding digits

@@ -37,8 +37,8 @@ use Rattle.vt_paint.proofs.Speech.{speaks-none, speaks-append, speaks-one, two_n
 use Rattle.vt_paint.proofs.Speech.{numbers_spoken, attributes_spoken, sequence_speaks, character_speaks}
 use Rattle.vt_paint.proofs.Speech.{designation_speaks, rendition_speaks, all_attributes_speak, is_ansi_mode}
 use Rattle.vt_paint.proofs.Speech.{is_private_mode, ansi_mode_spoken, private_mode_spoken}
-use Rattle.vt_paint.specs.ChangeEvents.{soft_reset, keypad_event, report_form_event, has_all, all_attributes}
-use Rattle.vt_paint.specs.ChangeEvents.{short_rendition, short_brush_events}
+use Rattle.vt_paint.specs.Private.ChangeEvents.{soft_reset, keypad_event, report_form_event, has_all, all_attributes}
+use Rattle.vt_paint.specs.Private.ChangeEvents.{short_rendition, short_brush_events}
 use Rattle.vt_paint.specs.Controls.{where_true, ansi_mode, private_mode, cursor_position, margins_to, clear_all_tabs}
 use Rattle.vt_paint.specs.Controls.{rendition_to, protection_to, brush_events, set_tab, shift_to_2, shift_to_3}
 use Rattle.vt_paint.specs.Controls.{reset_to_initial_state, save_cursor, application_keypad, reports_8bit, left_event}

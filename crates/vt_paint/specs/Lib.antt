@@ -4,7 +4,5 @@ pub mod Pieces
 pub mod Items
 pub mod Repaint
 pub mod Spoken
-pub mod Room
-pub mod HeaderParts
 pub mod Changes
-pub mod ChangeEvents
+pub mod Private

@@ -9,8 +9,8 @@ ghost use Rattle.vt_paint.specs.Same.{is_blank as is_blank_cell, same_brush};
 ghost use Rattle.vt_paint.specs.Controls.{where_true, spelling_sets_events};
 ghost use Rattle.vt_paint.specs.Pieces.{row_pieces};
 ghost use Rattle.vt_paint.specs.Items.{cells_item};
-ghost use Rattle.vt_paint.specs.Room.{head_room};
-ghost use Rattle.vt_paint.specs.HeaderParts.{brush_number};
+ghost use Rattle.vt_paint.specs.Private.Room.{head_room};
+ghost use Rattle.vt_paint.specs.Private.HeaderParts.{brush_number};
 
 use crate::line::{LINE, put_glyph, put_header};
 use crate::room::{push_bytes, push_where};

@@ -9,8 +9,8 @@ ghost use Rattle.vt_term.specs.Sound.{IsSound};
 ghost use Rattle.vt_term.specs.Play.{play};
 ghost use Rattle.vt_paint.specs.Changes.{differing, AreChanges, Changes};
 ghost use Rattle.vt_paint.specs.Spoken.{Speaks};
-ghost use Rattle.vt_paint.specs.ChangeEvents.{keypad_event, report_form_event, has_all, short_brush_events, change_of};
-ghost use Rattle.vt_paint.specs.ChangeEvents.{changed_row, changed_cells, record_item, every_mode, change_events};
+ghost use Rattle.vt_paint.specs.Private.ChangeEvents.{keypad_event, report_form_event, has_all, short_brush_events, change_of};
+ghost use Rattle.vt_paint.specs.Private.ChangeEvents.{changed_row, changed_cells, record_item, every_mode, change_events};
 
 use crate::PAINT_LIMIT;
 use crate::cells::SPELLING_SETS;
@@ -39,7 +39,7 @@ fn has_all(attributes: Rendition) -> bool
 }
 
 /// SGR and DECSCA, in at most 15 bytes: without the 0 of SGR where every attribute is set.
-#[tactic(auto, unfolding(crate::specs::ChangeEvents::short_brush_events))]
+#[tactic(auto, unfolding(crate::specs::Private::ChangeEvents::short_brush_events))]
 fn push_short_brush(brush: Brush, out: &mut Vec<u8>)
     requires { vec_len out.old + 17 ≤ vec_capacity out.old }
     ensures items { out.new.items ≡ out.old.items ++ spell_events (short_brush_events brush) }
@@ -56,7 +56,7 @@ fn push_short_brush(brush: Brush, out: &mut Vec<u8>)
 }
 
 /// A cell where it is marked: its place, its brush and its glyph.
-#[tactic(auto, unfolding(crate::specs::ChangeEvents::change_of))]
+#[tactic(auto, unfolding(crate::specs::Private::ChangeEvents::change_of))]
 fn push_change(row: usize, col: usize, marked: bool, cell: &Cell, out: &mut Vec<u8>)
     requires row { row ≤ 24 }
     requires col { col ≤ 132 }
@@ -104,7 +104,7 @@ fn push_changed_cells(marks: &[[bool; STOPS]; ROWS], t: &Terminal, out: &mut Vec
 // ---- the saved record and the modes
 
 /// The saved record: all that is saved is made, and saved.
-#[tactic(auto, unfolding(crate::specs::ChangeEvents::record_item))]
+#[tactic(auto, unfolding(crate::specs::Private::ChangeEvents::record_item))]
 fn push_record(t: &Terminal, saved: &Saved, out: &mut Vec<u8>)
     requires row { (1 ≤ saved.now.row) × (saved.now.row ≤ last_row) }
     requires col { (1 ≤ saved.now.col) × (saved.now.col ≤ t.now.display.grid.width) }
@@ -148,7 +148,7 @@ fn push_report_form(eight: bool, out: &mut Vec<u8>)
 }
 
 /// Every mode but DECOM.
-#[tactic(auto, unfolding(crate::specs::ChangeEvents::every_mode))]
+#[tactic(auto, unfolding(crate::specs::Private::ChangeEvents::every_mode))]
 fn push_every_mode(m: Modes, out: &mut Vec<u8>)
     requires { vec_len out.old + 61 ≤ vec_capacity out.old }
     ensures items { out.new.items ≡ out.old.items ++ spell_events (every_mode m) }

@@ -3,7 +3,7 @@
 ghost use Rattle.std.specs.Prelude.{◌≡◌, ◌≤◌, ◌<◌, take, length};
 ghost use Rattle.vt_glyph.specs.Encoding.{encoded_glyph, encoding_of};
 ghost use Rattle.vt_screen.specs.Cells.{brush_of};
-ghost use Rattle.vt_paint.specs.HeaderParts.{row_part, column_part, brush_part, brush_number, brush_index, cell_word};
+ghost use Rattle.vt_paint.specs.Private.HeaderParts.{row_part, column_part, brush_part, brush_number, brush_index, cell_word};
 
 use vt_screen::{Brush, Cell, Rendition};
 

@@ -1,2 +1,3 @@
 mod Pieces
 mod Early
+pub mod Ends

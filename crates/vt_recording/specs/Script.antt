@@ -1,5 +1,5 @@
 -- A recording by script(1): what stands between its first and its last line. (script(1) of util-linux)
-use Rattle.std.specs.Prelude.{◌≡◌, ℕ, ◌+◌, ◌<◌, ◌⊎◌, List, [], ◌∷◌, length, take, drop, codes, Bool, true, false, cond}
+use Rattle.std.specs.Prelude.{◌≡◌, ℕ, ◌+◌, ◌≤◌, ◌<◌, ◌&&◌, ◌||◌, List, [], ◌∷◌, length, take, drop, codes, Bool, true, false, cond}
 use Rattle.std.specs.Prelude.{Option, Some, None, nat_eq}
 use Rattle.std.specs.List.{starts_with, position}
 
@@ -19,24 +19,44 @@ begins_with words bytes = starts_with nat_eq bytes words
 abbrev pub first_line : List ℕ → Option ℕ
 first_line bytes = cond (begins_with first_words bytes) (position (λ b. nat_eq b 0x0A) bytes) None
 
--- from this place to the end is the last line, with the LF before it: none begins later
-pub record IsLastLine (body : List ℕ) (at : ℕ) : Type 0 where
-  pub within : at < length body
-  pub words : begins_with last_words (drop at body) ≡ true
-  pub last : (k : ℕ) → at < k → k < length body → begins_with last_words (drop k body) ≡ false
+-- the place of the first LF is the last one: one line and no more
+abbrev pub is_last_place : Option ℕ → ℕ → Bool
+is_last_place (Some at) length = nat_eq (at + 1) length
+is_last_place None length = false
 
--- there is no last line, as in a session that was killed
-abbrev pub HasNoLastLine : List ℕ → Type 0
-HasNoLastLine body = (k : ℕ) → k < length body → begins_with last_words (drop k body) ≡ false
+-- what follows the line
+abbrev pub behind_line : Option ℕ → List ℕ → List ℕ
+behind_line (Some at) bytes = drop (at + 1) bytes
+behind_line None bytes = []
 
--- what follows the first line is content up to this place
-abbrev pub EndsAt : List ℕ → ℕ → Type 0
-EndsAt body end = IsLastLine body end ⊎ ((end ≡ length body) × HasNoLastLine body)
+abbrev pub line_feed : List ℕ → Option ℕ
+line_feed bytes = position (λ b. nat_eq b 0x0A) bytes
 
--- what was taken: the content, and the byte at which the format is broken; without a first line there is no content
+-- an LF and the last line, which is one line to the end of the file
+abbrev pub is_last_line : List ℕ → Bool
+is_last_line bytes = begins_with last_words bytes && is_last_place (line_feed (drop 1 bytes)) (length (drop 1 bytes))
+
+-- an LF and a last line, and at once a first line behind it: here script -a appended a session
+abbrev pub is_joint : List ℕ → Bool
+is_joint bytes =
+    begins_with last_words bytes && begins_with first_words (behind_line (line_feed (drop 1 bytes)) (drop 1 bytes))
+
+abbrev pub is_end : List ℕ → Bool
+is_end bytes = is_last_line bytes || is_joint bytes
+
+-- what follows the first line is content up to the first such place; without one, as in a session that was killed, to
+-- its end
+pub record EndsAt (body : List ℕ) (end : ℕ) : Type 0 where
+  pub within : end ≤ length body
+  pub before : (k : ℕ) → k < end → is_end (drop k body) ≡ false
+  pub place : end < length body → is_end (drop end body) ≡ true
+
+-- what was taken: the content, and the byte at which the format is broken: where a session was appended. Without a first
+-- line there is no content
 abbrev pub IsAfter : Option ℕ → (bytes content : List ℕ) → (broken : Option ℕ) → Type 0
 IsAfter (Some line) bytes content broken =
-    (end : ℕ) × EndsAt (drop (line + 1) bytes) end × (content ≡ take end (drop (line + 1) bytes)) × (broken ≡ None)
+    (end : ℕ) × EndsAt (drop (line + 1) bytes) end × (content ≡ take end (drop (line + 1) bytes))
+    × (broken ≡ cond (is_joint (drop end (drop (line + 1) bytes))) (Some (line + 1 + end)) None)
 IsAfter None bytes content broken = (content ≡ []) × (broken ≡ Some 0)
 
 abbrev pub IsOfScript : (bytes content : List ℕ) → (broken : Option ℕ) → Type 0

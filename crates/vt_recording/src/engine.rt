@@ -14,6 +14,8 @@ use vt_device::{Watched, write_whole};
 /// The most bytes of a recording that the program takes.
 pub const INPUT_LIMIT: usize = 268_435_456;
 
+const _: () = prove!(INPUT_LIMIT == 268435456);
+
 /// The most bytes of one read.
 const PIECE: usize = 65536;
 

@@ -1,7 +1,7 @@
 //! A recording by script(1).
-ghost use Rattle.std.specs.Prelude.{◌≡◌, ◌≤◌, length, nat_eq};
-ghost use Rattle.std.specs.List.{position};
-ghost use Rattle.vt_recording.specs.Script.{first_words, last_words, first_line, EndsAt};
+ghost use Rattle.std.specs.Prelude.{◌≡◌, length};
+ghost use Rattle.vt_recording.specs.Script.{begins_with, first_words, first_line, line_feed, is_last_place, behind_line};
+ghost use Rattle.vt_recording.specs.Script.{is_joint, is_end, EndsAt};
 
 /// What a first line begins with.
 const FIRST_WORDS: &[u8] = b"Script started on ";
@@ -11,7 +11,7 @@ const LAST_WORDS: &[u8] = b"\nScript done on ";
 
 /// The place of the first LF.
 fn line_feed(bytes: &[u8]) -> Option<usize>
-    ensures { result ≡ position (λ b. nat_eq b 0x0A) bytes.now }
+    ensures { result ≡ line_feed bytes.now }
 {
     bytes.iter().position(|b| *b == b'\n')
 }
@@ -27,15 +27,50 @@ pub(crate) fn first_line(bytes: &[u8]) -> Option<usize>
     }
 }
 
+/// Whether there is one line and no more.
+fn is_line(bytes: &[u8]) -> bool
+    ensures { result ≡ is_last_place (line_feed bytes.now) (length bytes.now) }
+{
+    match line_feed(bytes) {
+        Some(at) => at + 1 == bytes.len(),
+        None => false,
+    }
+}
+
+/// Whether a first line begins behind the first line of these bytes.
+fn goes_on(bytes: &[u8]) -> bool
+    ensures { result ≡ begins_with first_words (behind_line (line_feed bytes.now) bytes.now) }
+{
+    match line_feed(bytes) {
+        Some(at) => bytes[at + 1..].starts_with(FIRST_WORDS),
+        None => false,
+    }
+}
+
+/// Whether a session was appended here, by `script -a`: an LF and a last line, and at once a first line behind it.
+pub(crate) fn is_joint(bytes: &[u8]) -> bool
+    ensures { result ≡ is_joint bytes.now }
+{
+    bytes.starts_with(LAST_WORDS) && goes_on(&bytes[1..])
+}
+
+/// Whether the content ends here: with the last line, or where a session was appended.
+fn is_end(bytes: &[u8]) -> bool
+    ensures { result ≡ is_end bytes.now }
+{
+    bytes.starts_with(LAST_WORDS) && (is_line(&bytes[1..]) || goes_on(&bytes[1..]))
+}
+
 /// Where the content ends in what follows the first line.
 pub(crate) fn end_of(body: &[u8]) -> usize
-    ensures place { EndsAt body.now result }
-    ensures within { result ≤ length body.now }
+    ensures { EndsAt body.now result }
 {
-    for at in (0..body.len()).rev() {
-        if body[at..].starts_with(LAST_WORDS) {
+    let mut at = 0;
+    while at < body.len() {
+        if is_end(&body[at..]) {
             return at;
         }
+        at += 1;
     }
-    body.len()
+    at
 }

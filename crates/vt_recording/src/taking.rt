@@ -5,12 +5,12 @@ ghost use Rattle.vt_recording.specs.Ttyrec.{IsOfTtyrec};
 ghost use Rattle.vt_recording.specs.Taken.{IsTaken};
 
 use crate::format::{Format, Taken};
-use crate::script::{end_of, first_line};
+use crate::script::{end_of, first_line, is_joint};
 use crate::ttyrec::{HEADER, header_of, is_due, time_of};
 use std::alloc::{AllocError, Global};
 
 /// The content of a recording, and the byte at which it breaks its format, if it does: without a first line at byte 0,
-/// else at the first piece that is cut short. What came before that is content. `Err` where memory was refused.
+/// where `script -a` appended a session at the LF before the line between, and at the first piece that is cut short. What came before that is content. `Err` where memory was refused.
 pub fn take_apart(alloc: Global, bytes: &[u8], format: Format) -> Result<Taken, AllocError>
     ensures { IfOk result (λ t. IsTaken format bytes.now t.content.items t.broken) }
 {
@@ -27,9 +27,15 @@ fn script_content(alloc: Global, bytes: &[u8]) -> Result<Taken, AllocError>
     match first_line(bytes) {
         Some(line) => {
             let body = &bytes[line + 1..];
+            let end = end_of(body);
+            let broken = if is_joint(&body[end..]) {
+                Some(line + 1 + end)
+            } else {
+                None
+            };
             Ok(Taken {
-                content: Vec::from_slice(alloc, &body[..end_of(body)])?,
-                broken: None,
+                content: Vec::from_slice(alloc, &body[..end])?,
+                broken,
             })
         }
         None => Ok(Taken {

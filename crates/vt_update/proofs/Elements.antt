@@ -5,7 +5,7 @@ use Rattle.std.proofs.lemmas.List.{take_more_set}
 use Rattle.std.proofs.Math.Seq.{drop-append_seam}
 use Rattle.vt_paint.specs.Spoken.{are_attributes, Speaks}
 use Rattle.vt_paint.proofs.Speech.{speaks-append, character_speaks}
-use Rattle.vt_update.specs.Attributes.{attributes}
+use Rattle.vt_update.specs.Private.Attributes.{attributes}
 
 -- what spoke, and an element in three parts behind it
 pub put_speaks : (before front middle back first second all : List ℕ) → Speaks before

@@ -1,2 +1,2 @@
 pub mod Leads
-pub mod Attributes
+pub mod Private

@@ -72,7 +72,10 @@ impl Chosen {
     fn put(&mut self, front: &[u8], middle: &[u8], back: &[u8])
         requires { Speaks (front.now ++ (middle.now ++ back.now)) }
     {
-        let count = front.len().saturating_add(middle.len()).saturating_add(back.len());
+        let count = front
+            .len()
+            .saturating_add(middle.len())
+            .saturating_add(back.len());
         if count <= CHOICE_LIMIT - self.len {
             let at = put_part(front, self.len, &mut self.bytes);
             let at = put_part(middle, at, &mut self.bytes);

@@ -4,7 +4,7 @@
 ghost use Rattle.std.specs.Prelude.{◌≡◌, ◌+◌, ◌≤◌, ◌<◌, ◌++◌, true, length, take};
 ghost use Rattle.vt_screen.specs.Grid.{last_row};
 ghost use Rattle.vt_paint.specs.Spoken.{is_among, mode_numbers};
-ghost use Rattle.vt_update.specs.Attributes.{attribute, attributes};
+ghost use Rattle.vt_update.specs.Private.Attributes.{attribute, attributes};
 
 use crate::chosen::Chosen;
 use crate::rows::{BLANK, word_of};

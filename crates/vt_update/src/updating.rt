@@ -15,10 +15,10 @@ ghost use Rattle.vt_update.specs.Leads.{Leads, Updates, HasOtherColumns};
 use crate::choice::push_choice;
 use crate::laws::leading;
 use thiserror::Error;
+use vt_paint::laws::spoken;
 use vt_paint::{
     PAINT_LIMIT, changed_places, differing_cells, repaint_changes_reserved, repaint_reserved,
 };
-use vt_paint::laws::spoken;
 use vt_term::laws::cuts;
 use vt_term::{ROWS, STOPS, Terminal};
 

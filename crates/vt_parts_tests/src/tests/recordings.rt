@@ -21,7 +21,7 @@ fn until(micros: u64) -> Format {
     }
 }
 
-fn scripts() -> [Row; 8] {
+fn scripts() -> [Row; 11] {
     let script = Format::Script;
     [
         (
@@ -44,7 +44,29 @@ $ ls\r\na\r\n\nScript done on 2026-11-22 10:00:01+00:00 [COMMAND_EXIT_CODE=\"0\"
             None,
         ),
         (b"Script started on x\n", script, b"", None),
-        (b"Script started on x\n\nScript done on ", script, b"", None),
+        // No line to the end of the file: the session was killed.
+        (
+            b"Script started on x\n\nScript done on ",
+            script,
+            b"\nScript done on ",
+            None,
+        ),
+        // It showed the end of another recording, and was killed.
+        (
+            b"Script started on x\na\nScript done on y\n$ b",
+            script,
+            b"a\nScript done on y\n$ b",
+            None,
+        ),
+        // `script -a` appended a session.
+        (
+            b"Script started on x\na\nScript done on y\nScript started on z\nb\nScript done on z\n",
+            script,
+            b"a",
+            Some(21),
+        ),
+        // Lines in another language.
+        (b"Skript gestartet auf x\na\n", script, b"", Some(0)),
         (b"Script started on x", script, b"", Some(0)),
         (b"script started on x\nabc", script, b"", Some(0)),
         (b"", script, b"", Some(0)),

@@ -110,7 +110,7 @@ fn words_ask_for_settings(rt: HostRuntime) -> Result<(), Fail> {
 }
 
 /// A line that asks for nothing, the status, and how the text begins.
-const REFUSED: [(&str, u8, &str); 18] = [
+const REFUSED: [(&str, u8, &str); 23] = [
     (
         "vt220 text --piece 0",
         2,
@@ -155,7 +155,24 @@ const REFUSED: [(&str, u8, &str); 18] = [
         0,
         "Plays what a host sent to a VT220 terminal",
     ),
-    ("vt220 text --piece 9 --help", 0, "The screen"),
+    (
+        "vt220 text --piece 9 --help",
+        0,
+        "The screen: 24 lines of UTF-8",
+    ),
+    ("vt220 reports --help", 0, "What the terminal answers"),
+    ("vt220 repaint --help", 0, "The bytes that rebuild"),
+    ("vt220 status --help", 0, "The cursor, the wrap flag"),
+    (
+        "vt220 show --help",
+        0,
+        "The screen with its attributes, for a terminal of today",
+    ),
+    (
+        "vt220 picture --help",
+        0,
+        "The screen as a picture (SVG)",
+    ),
     ("vt220 --version", 0, "vt220 0.2.0\n"),
 ];
 

@@ -12,7 +12,7 @@ const LINE: &[u8] =
 /// A name, what the client shows, what is asked for, and what is sent.
 type Example = (&'static str, &'static [u8], &'static [u8], &'static [u8]);
 
-const EXAMPLES: [Example; 22] = [
+const EXAMPLES: [Example; 25] = [
     ("nothing at power-up", b"", b"", b""),
     ("nothing", b"\x1b[1mA\x1b7", b"\x1b[1mA\x1b7", b""),
     ("one letter", b"", b"A", b"A"),
@@ -31,7 +31,16 @@ const EXAMPLES: [Example; 22] = [
     ),
     ("protected", b"", b"\x1b[1\"qA", b"\x1b[1\"qA"),
     ("line drawing", b"", b"\x1b(0q", b"\x1b(0q"),
-    ("a letter of the right half", b"", b"\xe9", b"\xe9"),
+    // Always in 7 bits: alone behind a single shift, and several under LS2 and LS0.
+    ("a letter of the right half", b"", b"\xe9", b"\x1bNi"),
+    ("one among others", b"", b"caf\xe9s", b"caf\x1bNis"),
+    ("three side by side", b"", b"\xe9\xe8\xe0", b"\x1bnih`\x0f"),
+    (
+        "two side by side, in G1",
+        b"\x1b)<",
+        b"\x1b)<\xe9\xe8A",
+        b"\x0eih\x0fA",
+    ),
     (
         "the rest of a line goes",
         b"hello world",

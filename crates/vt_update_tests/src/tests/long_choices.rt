@@ -1,7 +1,8 @@
 //! A choice that passes its room.
-use super::common::{holds, updated};
+use super::common::{holds, terminal, updated};
 use std::alloc::Global;
 use std::test::Fail;
+use vt_update::update;
 
 /// Two cells that share neither brush nor set, so that each is written behind all of these.
 const TWO_CELLS: &[u8] = b"\x1b[0;4;5;7m\x1b[0\"q\x1b(<i\x1b[0;1;4;5m\x1b[1\"q\x1b(0q";
@@ -31,5 +32,24 @@ fn sends_the_marked_cells(alloc: Global) -> Result<bool, Fail> {
 #[test]
 fn sends_the_marked_cells_where_the_choice_passes_its_room(rt: HostRuntime) -> Result<(), Fail> {
     holds(&rt, "many cells", sends_the_marked_cells(rt.alloc())?);
+    Ok(())
+}
+
+/// Whether an update sends the same behind many bytes that the output holds: a letter, and no more.
+fn sends_the_same_behind_others(alloc: Global) -> Result<bool, Fail> {
+    let asked_for = terminal(alloc, b"A")?;
+    let mut shown = terminal(alloc, b"")?;
+    let mut sent = vec![in alloc; b'x'; 20000]?;
+    update(&mut shown, &asked_for, &mut sent)?;
+    Ok(sent.len() == 20001 && sent.ends_with(b"xA"))
+}
+
+#[test]
+fn sends_the_same_whatever_the_output_holds(rt: HostRuntime) -> Result<(), Fail> {
+    holds(
+        &rt,
+        "behind others",
+        sends_the_same_behind_others(rt.alloc())?,
+    );
     Ok(())
 }

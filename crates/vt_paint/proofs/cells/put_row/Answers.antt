@@ -4,7 +4,7 @@ use Rattle.vt_screen.specs.declared.cell.Cell.{Cell}
 use Rattle.vt_screen.specs.Cells.{brush_of}
 use Rattle.vt_screen.specs.Grid.{Grid, row_of, cell_at}
 use Rattle.vt_paint.specs.Same.{is_blank}
-use Rattle.vt_paint.specs.HeaderParts.{brush_number}
+use Rattle.vt_paint.specs.Private.HeaderParts.{brush_number}
 use Rattle.vt_paint.specs.Pieces.{glyph_events}
 use Rattle.vt_paint.proofs.Pushing.{cell-is}
 use Rattle.vt_paint.proofs.RowRuns.{goes_on, first_fresh, blank_fresh, run_fresh, none_written, first_written}

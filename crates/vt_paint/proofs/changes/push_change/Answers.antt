@@ -3,7 +3,7 @@ use Rattle.vt_syntax.specs.Spelling.{spell_events}
 use Rattle.vt_screen.specs.Cells.{brush_of}
 use Rattle.vt_paint.specs.Controls.{where_true, cursor_position}
 use Rattle.vt_paint.specs.Pieces.{glyph_events}
-use Rattle.vt_paint.specs.ChangeEvents.{short_brush_events, change_of}
+use Rattle.vt_paint.specs.Private.ChangeEvents.{short_brush_events, change_of}
 use Rattle.vt_paint.proofs.Pushing.{then_events, events, event, events_as}
 use Rattle.vt_paint.proofs.changes.push_change.Goals as goal
 

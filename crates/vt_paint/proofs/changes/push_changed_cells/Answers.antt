@@ -1,7 +1,7 @@
 use Rattle.std.proofs.Common.{◌≡◌, ◌+◌, ◌-◌, ◌++◌, [], refl, ap, ◌∙◌, arith}
 use Rattle.std.proofs.lemmas.List.{get_or_default}
 use Rattle.vt_syntax.specs.Spelling.{spell_events}
-use Rattle.vt_paint.specs.ChangeEvents.{changed_row, changed_rows, changed_cells}
+use Rattle.vt_paint.specs.Private.ChangeEvents.{changed_row, changed_rows, changed_cells}
 use Rattle.vt_paint.proofs.Pushing.{appended-more}
 use Rattle.vt_paint.proofs.changes.push_changed_cells.Goals as goal
 

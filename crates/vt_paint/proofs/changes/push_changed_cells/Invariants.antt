@@ -1,6 +1,6 @@
 use Rattle.std.proofs.Common.{◌≡◌, ◌+◌, ◌-◌, ◌*◌, ◌≤◌, ◌++◌, vec_len, vec_capacity}
 use Rattle.vt_syntax.specs.Spelling.{spell_events}
-use Rattle.vt_paint.specs.ChangeEvents.{changed_rows}
+use Rattle.vt_paint.specs.Private.ChangeEvents.{changed_rows}
 use Rattle.vt_paint.proofs.changes.push_changed_cells.Given as goal
 
 abbrev pub invariant-loop-row : goal.invariant-loop-row

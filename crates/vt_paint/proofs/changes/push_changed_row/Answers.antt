@@ -1,6 +1,6 @@
 use Rattle.std.proofs.Common.{◌≡◌, ◌+◌, ◌-◌, List, [], Bool, false, get_or, ap, ◌∙◌, arith}
 use Rattle.vt_screen.specs.declared.cell.Cell.{Cell}
-use Rattle.vt_paint.specs.ChangeEvents.{change_of, change}
+use Rattle.vt_paint.specs.Private.ChangeEvents.{change_of, change}
 use Rattle.vt_paint.proofs.Pushing.{appended-more, cell-is}
 use Rattle.vt_paint.proofs.changes.push_changed_row.Goals as goal
 

@@ -1,7 +1,7 @@
 use Rattle.std.proofs.Common.{◌≡◌, ◌+◌, ◌-◌, ◌*◌, ◌≤◌, ◌++◌, List, [], Bool, slice_index_or, vec_len, vec_capacity}
 use Rattle.vt_syntax.specs.Spelling.{spell_events}
 use Rattle.vt_screen.specs.Grid.{Grid, row_of}
-use Rattle.vt_paint.specs.ChangeEvents.{changes_from}
+use Rattle.vt_paint.specs.Private.ChangeEvents.{changes_from}
 use Rattle.vt_paint.proofs.changes.push_changed_row.Given as goal
 
 abbrev pub invariant-loop-i : goal.invariant-loop-i

@@ -1,7 +1,7 @@
 use Rattle.std.proofs.Common.{◌∷◌, [], refl, ap, ◌∙◌}
 use Rattle.vt_paint.specs.Controls.{private_mode, decom, brush_events, spelling_sets_events}
 use Rattle.vt_paint.specs.Items.{margins_item, position_item, wrap_item, shift_item}
-use Rattle.vt_paint.specs.ChangeEvents.{start_item, changed_cells, record_item, every_mode, change_events}
+use Rattle.vt_paint.specs.Private.ChangeEvents.{start_item, changed_cells, record_item, every_mode, change_events}
 use Rattle.vt_paint.proofs.Pushing.{then_events, then_both, events, event, events_as, bytes_of, sets_events-same}
 use Rattle.vt_paint.proofs.Spelled.{start_spelled}
 use Rattle.vt_paint.proofs.changes.push_changes.Goals as goal

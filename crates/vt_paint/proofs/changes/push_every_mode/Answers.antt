@@ -1,5 +1,5 @@
 use Rattle.vt_paint.specs.Controls.{ansi_mode, private_mode}
-use Rattle.vt_paint.specs.ChangeEvents.{keypad_event, report_form_event, every_mode}
+use Rattle.vt_paint.specs.Private.ChangeEvents.{keypad_event, report_form_event, every_mode}
 use Rattle.vt_paint.proofs.Pushing.{then_events, event}
 use Rattle.vt_paint.proofs.changes.push_every_mode.Goals as goal
 

@@ -2,7 +2,7 @@ use Rattle.std.proofs.Common.{◌∷◌, [], ◌++◌, true, false, sym, ap, ◌
 use Rattle.vt_syntax.specs.declared.event.Event.{Event}
 use Rattle.vt_syntax.specs.Spelling.{spell_events}
 use Rattle.vt_paint.specs.Controls.{protection_to}
-use Rattle.vt_paint.specs.ChangeEvents.{all_attributes}
+use Rattle.vt_paint.specs.Private.ChangeEvents.{all_attributes}
 use Rattle.vt_paint.proofs.Spelled.{all_protected_spelled, all_unprotected_spelled, short_with_0, short_without_0}
 use Rattle.vt_paint.proofs.Pushing.{events_as, bytes_of}
 use Rattle.vt_paint.proofs.changes.push_short_brush.Goals as goal

@@ -1,5 +1,5 @@
 use Rattle.std.proofs.Common.{append_assoc, append-nil}
-use Rattle.vt_paint.specs.HeaderParts.{row_part, column_part}
+use Rattle.vt_paint.specs.Private.HeaderParts.{row_part, column_part}
 use Rattle.vt_paint.proofs.line.put_cursor_to.Goals as goal
 
 pub returns-clause-items : goal.returns-clause-items

@@ -16,7 +16,7 @@ from fleet.view import Viewer
 def program(machine, name, command, *words):
     """Starts a host with a program, as a process of its own."""
     words = [local.PYTHON, local.COMMAND, "host", *words, name, *command]
-    return subprocess.Popen(words, env=os.environ | {"FLEET_REDIS": machine.url}, stderr=subprocess.PIPE)
+    return subprocess.Popen(words, env=os.environ | {"FLEET_REDIS": machine.url}, stdout=subprocess.DEVNULL, stderr=subprocess.DEVNULL)
 
 
 ASK = r"""stty -echo raw; sleep 1; printf 'ab\033[6n'; a=$(dd bs=1 count=6 2>/dev/null); stty sane; printf %s "$a" | od -An -c; sleep 1; exit 3"""

@@ -11,22 +11,16 @@ import signal
 import sys
 import time
 
-from .config import Settings, Unclear
+from .config import Settings, Unclear, seconds
 
 DENIALS = "WRONGPASS", "NOPERM", "can't run this command", "can't access"
 LEAVING = 10.0  # seconds that a store is waited for when this process was told to end
 TAKEN, FAULT, NONE, REFUSED, UNFIT, DENIED, CONFIGURATION = 5, 4, 3, 6, 69, 77, 78
 
 
-def seconds(word):
-    """Reads a time: 30, 30s, 10m, 12h or 7d."""
-    units = {"s": 1, "m": 60, "h": 3600, "d": 86400}
-    return float(word[:-1]) * units[word[-1]] if word and word[-1] in units else float(word)
-
-
 def size(word):
     """Reads a size: a number of bytes, or all."""
-    return None if word == "all" else int(word)
+    return word if word == "all" else int(word)
 
 
 def do_run(words, settings):
@@ -214,7 +208,7 @@ def add_hosts(add):
     each = add("worker", do_worker, "plays sessions, until it is told to end; then it hands them over")
     each.add_argument("--every", type=int, help="a checkpoint after so many bytes (4096)")
     each.add_argument("--lease", type=float, help="seconds of silence after which a worker counts as dead (5)")
-    each.add_argument("--keep", help="bytes before a checkpoint that stay in the store (all)")
+    each.add_argument("--keep", type=size, help="bytes before a checkpoint that stay in the store (all)")
     each.add_argument("--most", type=int, help="sessions that it takes")
     each.add_argument("--retain", type=seconds, help="how long the keys of an ended session stay (for ever)")
     each.add_argument("--metrics", metavar="HOST:PORT", help="serves metrics for Prometheus")

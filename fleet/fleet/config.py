@@ -53,13 +53,19 @@ SECTIONS = {"store": Store, "worker": Worker, "host": Host, "web": Web}
 YES = {"yes": True, "true": True, "on": True, "1": True, "no": False, "false": False, "off": False, "0": False}
 
 
+def seconds(word):
+    """Reads a time: 30, 30s, 10m, 12h or 7d."""
+    units = {"s": 1, "m": 60, "h": 3600, "d": 86400}
+    return float(word[:-1]) * units[word[-1]] if word and word[-1] in units else float(word)
+
+
 def value_of(kind, text, where):
     try:
         if kind is bool:
             return YES[text.lower()]
         if text.lower() in ("all", "never", "") and kind in (int, float):
             return None
-        return kind(text)
+        return seconds(text) if kind is float else kind(text)
     except (KeyError, ValueError):
         raise Unclear(f"{where} = {text}: not a {kind.__name__}") from None
 

@@ -225,7 +225,8 @@ def add_viewers(add):
     each.add_argument("--type", action="store_true", help="keys go to the session; Ctrl-] leaves")
     each.add_argument("name")
     named = [
-        ("text", do_text, "prints the screen as it is now"), ("picture", do_picture, "writes the screen as SVG"),
+        ("text", do_text, "prints the screen as it is now"),
+        ("picture", do_picture, "writes the screen as SVG"),
         ("repaint", do_repaint, "writes the bytes that leave a terminal in the session's state"),
         ("log", do_log, "writes the bytes that the session wrote"),
     ]
@@ -265,7 +266,9 @@ def add_operators(add):
 
 
 def parser():
-    made = argparse.ArgumentParser(prog="fleet", description="Sessions of a VT220 that outlive their machine.", epilog=__doc__.split("\n\n")[1])
+    made = argparse.ArgumentParser(
+        prog="fleet", description="Sessions of a VT220 that outlive their machine.", epilog=__doc__.split("\n\n")[1]
+    )
     made.add_argument("--config", help="the configuration file")
     made.add_argument("--quiet", action="store_true", help="logs errors only")
     commands = made.add_subparsers(dest="word", required=True, metavar="COMMAND")
@@ -288,8 +291,16 @@ def status_of(error):
     from .host import Taken
 
     known = [
-        (Taken, TAKEN), (keys.Fault, FAULT), (operate.NoSession, NONE), (operate.Refused, REFUSED), (store.Unfit, UNFIT),
-        (Unclear, CONFIGURATION), ((AuthenticationError, NoPermissionError), DENIED), (RedisError, UNFIT), (ValueError, 2), (OSError, 1),
+        (Taken, TAKEN),
+        (keys.Fault, FAULT),
+        (operate.NoSession, NONE),
+        (operate.Refused, REFUSED),
+        (store.Unfit, UNFIT),
+        (Unclear, CONFIGURATION),
+        ((AuthenticationError, NoPermissionError), DENIED),
+        (RedisError, UNFIT),
+        (ValueError, 2),
+        (OSError, 1),
     ]
     if isinstance(error, RedisError) and any(word in str(error) for word in DENIALS):
         return DENIED

@@ -50,7 +50,7 @@ class Web:
 
 
 SECTIONS = {"store": Store, "worker": Worker, "host": Host, "web": Web}
-YES = {"yes": True, "true": True, "on": True, "1": True, "no": False, "false": False, "off": False, "0": False}
+YES = dict.fromkeys(("yes", "true", "on", "1"), True) | dict.fromkeys(("no", "false", "off", "0"), False)
 
 
 def seconds(word):
@@ -103,7 +103,8 @@ class Settings:
             setattr(getattr(self, section), name, value_of(kinds[name], text, f"{path}: [{section}] {name}"))
 
     def connect(self, waits=False):
-        """Returns the store: one that is waited for, for ever, or until give-up seconds are over. A password is read from its file, so that it is on no command line and in no environment."""
+        """Returns the store: one that is waited for, for ever, or until give-up seconds are over. A password is read from its
+        file, so that it is on no command line and in no environment."""
         options = {"socket_timeout": self.store.timeout}
         if self.store.password_file:
             with open(self.store.password_file) as file:

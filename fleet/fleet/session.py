@@ -1,7 +1,7 @@
 """A session's terminal, and how it is rebuilt from what the store has.
 
-A terminal's state is a function of the bytes. The repaint of a state, played on any terminal, leaves exactly that state. Bytes may
-be cut anywhere. So a checkpoint and the bytes after its position are the session, for any process that has both.
+A terminal's state is a function of the bytes. The repaint of a state, played on any terminal, leaves exactly that state. Bytes
+may be cut anywhere. So a checkpoint and the bytes after its position are the session, for any process that has both.
 """
 import vt220
 

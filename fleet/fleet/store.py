@@ -6,7 +6,14 @@ from urllib.parse import urlsplit
 
 import redis
 from redis.exceptions import (
-    AuthenticationError, BusyLoadingError, ConnectionError, NoPermissionError, NoScriptError, ReadOnlyError, ResponseError, TimeoutError,
+    AuthenticationError,
+    BusyLoadingError,
+    ConnectionError,
+    NoPermissionError,
+    NoScriptError,
+    ReadOnlyError,
+    ResponseError,
+    TimeoutError,
 )
 
 log = logging.getLogger("fleet")

@@ -13,7 +13,6 @@ import time
 
 from .config import Settings, Unclear, seconds
 
-DENIALS = "WRONGPASS", "NOPERM", "can't run this command", "can't access"
 LEAVING = 10.0  # seconds that a store is waited for when this process was told to end
 TAKEN, FAULT, NONE, REFUSED, UNFIT, DENIED, CONFIGURATION = 5, 4, 3, 6, 69, 77, 78
 
@@ -302,7 +301,7 @@ def status_of(error):
         (ValueError, 2),
         (OSError, 1),
     ]
-    if isinstance(error, RedisError) and any(word in str(error) for word in DENIALS):
+    if isinstance(error, RedisError) and store.is_denial(error):
         return DENIED
     return next((status for kind, status in known if isinstance(error, kind)), None)
 

@@ -15,7 +15,7 @@ from .frames import Frames
 from .inbox import Inbox
 from .keys import key
 from .session import Session, restored
-from .store import AnotherRun, ResponseError
+from .store import GONE, AnotherRun, AuthenticationError, NoPermissionError, ResponseError
 
 log = logging.getLogger("fleet.worker")
 
@@ -86,7 +86,7 @@ class Worker:
         self.inbox = Inbox(store, self.claims.me)
         self.frames = Frames(store)
         self.counts = {"entries": 0, "bytes": 0, "reports": 0, "checkpoints": 0, "faults": 0, "taken": 0, "lost": 0}
-        self.is_leaving = self.is_gone = self.is_behind = False
+        self.is_leaving = self.is_gone = self.is_behind = self.is_stale = False
         store.minds_runs = True
         self.generation = store.generation()
 
@@ -189,7 +189,7 @@ class Worker:
     # A guard for each session.
 
     def guarded(self, incarnation, call, *arguments):
-        """Calls something for a session. Whatever it raises is that session's fault alone."""
+        """Calls something for a session. Whatever it raises is that session's fault alone, unless it is the store's."""
         try:
             return call(*arguments)
         except (MemoryError, vt220.Memory):
@@ -197,6 +197,8 @@ class Worker:
             self.claims.release([incarnation])
             self.drop(incarnation)
             time.sleep(0.1)
+        except (AnotherRun, AuthenticationError, NoPermissionError, *GONE):
+            raise
         except Exception as fault:
             if not isinstance(fault, keys.Fault):
                 log.exception("%s: session %s", self.claims.me, incarnation)
@@ -229,11 +231,14 @@ class Worker:
     def turn(self, patience=0.25):
         """One turn. Nothing of it reaches a store that was started anew meanwhile: that is read first."""
         try:
+            if self.is_stale:
+                self.store.accept_run()
+                self.generation = self.store.generation()
+                self.read_anew()
+                self.is_stale = False
             self.turn_once(patience)
         except AnotherRun:
-            self.store.accept_run()
-            self.generation = self.store.generation()
-            self.read_anew()
+            self.is_stale = True
 
     def turn_once(self, patience):
         """Waits for what comes, plays it, and tells the store what it led to."""

@@ -10,7 +10,7 @@ from . import keys
 
 log = logging.getLogger("fleet.claims")
 
-HANDFUL = 16  # sessions that are taken at once
+HANDFUL = 16  # sessions that are taken at once, at least
 TRIES = 10  # workers that may die of a session before it is given up
 LOOKS = 2  # at a worker's count, besides the lease, until it counts as dead
 COMPARE = 10.0  # seconds between comparisons of all sessions with the store
@@ -30,7 +30,7 @@ class Claims:
         self.due = self.beaten = 0.0
         self.compared = time.monotonic()
         self.outages, self.cursor = self.store.outages, b"0"
-        self.is_anything_waiting = True
+        self.is_anything_waiting, self.handful = True, HANDFUL
         self.store.run("enter", self.me)
 
     def mine(self):
@@ -50,7 +50,7 @@ class Claims:
         _, draining, count, waiting, workers = answer
         self.watch_over({w.decode(): int(c) for w, c in zip(workers[::2], workers[1::2])})
         self.audit()
-        self.is_anything_waiting = waiting > 0
+        self.expect(waiting, len(self.others) + 1)
         is_to_be_compared = count != have or now - self.compared > COMPARE
         self.compared = now if is_to_be_compared else self.compared
         return News(True, False, bool(draining), is_to_be_compared)
@@ -83,11 +83,16 @@ class Claims:
 
     def take(self, room):
         """Takes sessions that wait. Returns them, and None if this worker was buried."""
-        answer = self.store.run("take", self.me, min(room, HANDFUL), TRIES)
+        answer = self.store.run("take", self.me, min(room, self.handful), TRIES)
         if answer[0] == "dead":
             return None
-        self.is_anything_waiting = len(answer) - 1 >= min(room, HANDFUL)
-        return [each.decode() for each in answer[1:]]
+        self.expect(answer[1], len(self.others) + 1)
+        return [each.decode() for each in answer[2:]]
+
+    def expect(self, waiting, workers):
+        """Notes how many sessions wait. If these are many, more are taken at once, but a part of each worker's share."""
+        self.is_anything_waiting = waiting > 0
+        self.handful = max(HANDFUL, waiting // (4 * workers))
 
     def release(self, incarnations):
         self.store.run("release", self.me, *incarnations)

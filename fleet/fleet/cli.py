@@ -11,22 +11,15 @@ import signal
 import sys
 import time
 
-from .config import Settings, Unclear
+from .config import Settings, Unclear, seconds
 
-DENIALS = "WRONGPASS", "NOPERM", "can't run this command", "can't access"
 LEAVING = 10.0  # seconds that a store is waited for when this process was told to end
 TAKEN, FAULT, NONE, REFUSED, UNFIT, DENIED, CONFIGURATION = 5, 4, 3, 6, 69, 77, 78
 
 
-def seconds(word):
-    """Reads a time: 30, 30s, 10m, 12h or 7d."""
-    units = {"s": 1, "m": 60, "h": 3600, "d": 86400}
-    return float(word[:-1]) * units[word[-1]] if word and word[-1] in units else float(word)
-
-
 def size(word):
     """Reads a size: a number of bytes, or all."""
-    return None if word == "all" else int(word)
+    return word if word == "all" else int(word)
 
 
 def do_run(words, settings):
@@ -214,7 +207,7 @@ def add_hosts(add):
     each = add("worker", do_worker, "plays sessions, until it is told to end; then it hands them over")
     each.add_argument("--every", type=int, help="a checkpoint after so many bytes (4096)")
     each.add_argument("--lease", type=float, help="seconds of silence after which a worker counts as dead (5)")
-    each.add_argument("--keep", help="bytes before a checkpoint that stay in the store (all)")
+    each.add_argument("--keep", type=size, help="bytes before a checkpoint that stay in the store (all)")
     each.add_argument("--most", type=int, help="sessions that it takes")
     each.add_argument("--retain", type=seconds, help="how long the keys of an ended session stay (for ever)")
     each.add_argument("--metrics", metavar="HOST:PORT", help="serves metrics for Prometheus")
@@ -231,7 +224,8 @@ def add_viewers(add):
     each.add_argument("--type", action="store_true", help="keys go to the session; Ctrl-] leaves")
     each.add_argument("name")
     named = [
-        ("text", do_text, "prints the screen as it is now"), ("picture", do_picture, "writes the screen as SVG"),
+        ("text", do_text, "prints the screen as it is now"),
+        ("picture", do_picture, "writes the screen as SVG"),
         ("repaint", do_repaint, "writes the bytes that leave a terminal in the session's state"),
         ("log", do_log, "writes the bytes that the session wrote"),
     ]
@@ -271,7 +265,9 @@ def add_operators(add):
 
 
 def parser():
-    made = argparse.ArgumentParser(prog="fleet", description="Sessions of a VT220 that outlive their machine.", epilog=__doc__.split("\n\n")[1])
+    made = argparse.ArgumentParser(
+        prog="fleet", description="Sessions of a VT220 that outlive their machine.", epilog=__doc__.split("\n\n")[1]
+    )
     made.add_argument("--config", help="the configuration file")
     made.add_argument("--quiet", action="store_true", help="logs errors only")
     commands = made.add_subparsers(dest="word", required=True, metavar="COMMAND")
@@ -294,10 +290,18 @@ def status_of(error):
     from .host import Taken
 
     known = [
-        (Taken, TAKEN), (keys.Fault, FAULT), (operate.NoSession, NONE), (operate.Refused, REFUSED), (store.Unfit, UNFIT),
-        (Unclear, CONFIGURATION), ((AuthenticationError, NoPermissionError), DENIED), (RedisError, UNFIT), (ValueError, 2), (OSError, 1),
+        (Taken, TAKEN),
+        (keys.Fault, FAULT),
+        (operate.NoSession, NONE),
+        (operate.Refused, REFUSED),
+        (store.Unfit, UNFIT),
+        (Unclear, CONFIGURATION),
+        ((AuthenticationError, NoPermissionError), DENIED),
+        (RedisError, UNFIT),
+        (ValueError, 2),
+        (OSError, 1),
     ]
-    if isinstance(error, RedisError) and any(word in str(error) for word in DENIALS):
+    if isinstance(error, RedisError) and store.is_denial(error):
         return DENIED
     return next((status for kind, status in known if isinstance(error, kind)), None)
 

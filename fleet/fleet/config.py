@@ -50,7 +50,13 @@ class Web:
 
 
 SECTIONS = {"store": Store, "worker": Worker, "host": Host, "web": Web}
-YES = {"yes": True, "true": True, "on": True, "1": True, "no": False, "false": False, "off": False, "0": False}
+YES = dict.fromkeys(("yes", "true", "on", "1"), True) | dict.fromkeys(("no", "false", "off", "0"), False)
+
+
+def seconds(word):
+    """Reads a time: 30, 30s, 10m, 12h or 7d."""
+    units = {"s": 1, "m": 60, "h": 3600, "d": 86400}
+    return float(word[:-1]) * units[word[-1]] if word and word[-1] in units else float(word)
 
 
 def value_of(kind, text, where):
@@ -59,7 +65,7 @@ def value_of(kind, text, where):
             return YES[text.lower()]
         if text.lower() in ("all", "never", "") and kind in (int, float):
             return None
-        return kind(text)
+        return seconds(text) if kind is float else kind(text)
     except (KeyError, ValueError):
         raise Unclear(f"{where} = {text}: not a {kind.__name__}") from None
 
@@ -97,7 +103,8 @@ class Settings:
             setattr(getattr(self, section), name, value_of(kinds[name], text, f"{path}: [{section}] {name}"))
 
     def connect(self, waits=False):
-        """Returns the store: one that is waited for, for ever, or until give-up seconds are over. A password is read from its file, so that it is on no command line and in no environment."""
+        """Returns the store: one that is waited for, for ever, or until give-up seconds are over. A password is read from its
+        file, so that it is on no command line and in no environment."""
         options = {"socket_timeout": self.store.timeout}
         if self.store.password_file:
             with open(self.store.password_file) as file:

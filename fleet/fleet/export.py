@@ -32,7 +32,7 @@ def asciicast(store, incarnation, title, out):
             begin = moment
             head = {"version": 2, "width": 80, "height": 24, "timestamp": begin // 1000, "title": title, "env": {"TERM": "vt220"}}
             out.write(json.dumps(head).encode() + b"\n")
-        out.write(json.dumps([round(max(0, moment - begin) / 1000, 3), "o", data.decode("latin-1")]).encode() + b"\n")
+        out.write(json.dumps([round((moment - begin) / 1000, 3), "o", data.decode("latin-1")]).encode() + b"\n")
 
 
 def ttyrec(store, incarnation, out):

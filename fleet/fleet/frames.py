@@ -18,7 +18,7 @@ class Frames:
     def watch(self, session):
         """Somebody looks at a session, from now on for some seconds."""
         session.watched = time.monotonic() + WATCHED
-        if session.incarnation not in self.watched:
+        if self.watched.get(session.incarnation) is not session:
             self.watched[session.incarnation] = session
             session.shown = None
 

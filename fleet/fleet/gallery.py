@@ -163,5 +163,3 @@ class Gallery:
             for gone in told.keys() - self.followed.keys():
                 del told[gone]
             return {"order": self.order, "news": news}
-
-

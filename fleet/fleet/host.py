@@ -106,12 +106,16 @@ class Host:
         with self.lock:
             log.warning("%s: the store has the bytes up to %d of %d", self.name, there, self.at)
             if there < self.held_from:
-                self.fail(WentBack(f"the store lost the bytes from {there} to {self.at}, and the host has those from {self.held_from}"))
+                self.fail(
+                    WentBack(f"the store lost the bytes from {there} to {self.at}, and the host has those from {self.held_from}")
+                )
             self.rebuilt += 1
             self.register_again()
             for at, moment, data in list(self.held):
                 if at > there:
-                    answer = self.store.run("append", self.incarnation, max(there, at - len(data)), at, keys.version(), moment, data)
+                    answer = self.store.run(
+                        "append", self.incarnation, max(there, at - len(data)), at, keys.version(), moment, data
+                    )
                     if answer[0] != "ok":
                         self.fail(WentBack(f"the store has the bytes up to {there} and takes none after them: {answer[0]}"))
             log.warning("%s: sent again from %d to %d", self.name, there, self.at)
@@ -164,7 +168,9 @@ class Host:
             self.renewed = time.monotonic()
             answer = self.store.run("renew", self.name, self.incarnation, int(self.lease * 1000))
             if answer[0] == "taken":
-                self.fail(Taken(f"the name {self.name!r} or the session was taken by another ({answer[1].decode('utf-8', 'replace')})"))
+                self.fail(
+                    Taken(f"the name {self.name!r} or the session was taken by another ({answer[1].decode('utf-8', 'replace')})")
+                )
             there = 0 if answer[0] == "lost" else int(answer[1])
             if answer[0] == "lost" or there < self.at:
                 self.rebuild(there)

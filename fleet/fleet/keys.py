@@ -35,7 +35,12 @@ import vt220
 
 FORMAT = 2
 ALL, LIVE, NAMES, WAITING, WORKERS, DRAINING = (
-    "fleet:all", "fleet:live", "fleet:names", "fleet:waiting", "fleet:workers", "fleet:draining",
+    "fleet:all",
+    "fleet:live",
+    "fleet:names",
+    "fleet:waiting",
+    "fleet:workers",
+    "fleet:draining",
 )
 NEW = "fleet:new"
 NAME_LIMIT = 200

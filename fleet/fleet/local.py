@@ -49,7 +49,9 @@ class Workers:
     def another(self, url=None):
         with open(os.path.join(self.folder, "workers"), "ab") as said:
             words = [PYTHON, COMMAND, "worker", *self.words]
-            return subprocess.Popen(words, stderr=said, env=os.environ | {"FLEET_REDIS": url or self.url})
+            return subprocess.Popen(
+                words, stdout=subprocess.DEVNULL, stderr=said, env=os.environ | {"FLEET_REDIS": url or self.url}
+            )
 
     def kill(self, number):
         """Kills one with no warning, and starts another."""

@@ -3,8 +3,12 @@ from prometheus_client import CollectorRegistry, start_http_server
 from prometheus_client.core import CounterMetricFamily, GaugeMetricFamily
 
 WORDS = {
-    "entries": "Entries of sessions' bytes that were played", "bytes": "Bytes that were played", "reports": "Reports that were sent",
-    "checkpoints": "Checkpoints that were stored", "faults": "Sessions that were given up", "taken": "Sessions that were taken",
+    "entries": "Entries of sessions' bytes that were played",
+    "bytes": "Bytes that were played",
+    "reports": "Reports that were sent",
+    "checkpoints": "Checkpoints that were stored",
+    "faults": "Sessions that were given up",
+    "taken": "Sessions that were taken",
     "lost": "Sessions that another worker took",
 }
 
@@ -19,7 +23,8 @@ class Metrics:
             yield CounterMetricFamily(f"fleet_{name}", WORDS[name], value=count)
         yield CounterMetricFamily("fleet_store_outages", "How often the store was away", value=worker.store.outages)
         gauges = {
-            "sessions": ("Sessions that this worker has", len(worker.kept)), "due": ("Sessions with something to play", len(worker.due)),
+            "sessions": ("Sessions that this worker has", len(worker.kept)),
+            "due": ("Sessions with something to play", len(worker.due)),
             "choked": ("Sessions whose hosts don't read their reports", len(worker.choked)),
             "watched": ("Sessions that somebody looks at", len(worker.frames.watched)),
             "store_is_away": ("1 while the store doesn't answer", int(worker.store.away_since is not None)),

@@ -105,7 +105,15 @@ def show_list(store, is_json, is_all):
         return 0
     rows = [COLUMNS]
     for each in listed:
-        row = [each["name"], each["state"], each["host"], each["worker"] or "-", str(each["lag"]), str(each["size"]), ago(each["seen"])]
+        row = [
+            each["name"],
+            each["state"],
+            each["host"],
+            each["worker"] or "-",
+            str(each["lag"]),
+            str(each["size"]),
+            ago(each["seen"]),
+        ]
         rows.append(row)
     widths = [max(len(row[column]) for row in rows) for column in range(len(COLUMNS))]
     for row in rows:

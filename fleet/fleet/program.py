@@ -33,7 +33,7 @@ def hide():
 
 class Program:
     def __init__(self, host, command):
-        self.host = host
+        self.host, self.is_reaped = host, False
         self.child, self.master = pty.fork()
         if self.child == 0:
             try:
@@ -60,6 +60,7 @@ class Program:
         if self.host.fault:
             self.stop()
         code = os.waitstatus_to_exitcode(os.waitpid(self.child, 0)[1])
+        self.is_reaped = True
         return code if code >= 0 else 128 - code
 
     def stop(self):
@@ -120,11 +121,19 @@ class Program:
                 return
 
     def signal(self, number):
-        try:
-            os.killpg(os.tcgetpgrp(self.master), number)
-        except OSError:
-            pass
-        try:
-            os.kill(self.child, number)
-        except OSError:
-            pass
+        """Sends a signal to the program, and to what runs in its foreground."""
+        for send in (self.signal_foreground, self.signal_child):
+            try:
+                send(number)
+            except OSError:
+                pass
+
+    def signal_foreground(self, number):
+        group = os.tcgetpgrp(self.master)
+        if group > 1:  # 0 is nobody's there, and would be this process's own
+            os.killpg(group, number)
+
+    def signal_child(self, number):
+        if self.is_reaped:
+            return
+        os.kill(self.child, number)

@@ -1,7 +1,7 @@
 """A session's terminal, and how it is rebuilt from what the store has.
 
-A terminal's state is a function of the bytes. The repaint of a state, played on any terminal, leaves exactly that state. Bytes may
-be cut anywhere. So a checkpoint and the bytes after its position are the session, for any process that has both.
+A terminal's state is a function of the bytes. The repaint of a state, played on any terminal, leaves exactly that state. Bytes
+may be cut anywhere. So a checkpoint and the bytes after its position are the session, for any process that has both.
 """
 import vt220
 
@@ -105,10 +105,12 @@ def as_it_is(store, incarnation):
 
 
 def bytes_of(store, incarnation):
-    """Yields (moment in milliseconds, bytes) for all entries that the store still has."""
-    last = "-"
+    """Yields (position, moment in milliseconds, bytes) for all entries that the store still has. If a host's clock went back, the
+    moments stand still meanwhile."""
+    last, latest = "-", 0
     while entries := store.xrange(key(incarnation, "bytes"), min=last, count=64):
         for entry_id, fields in entries:
             if b"bytes" in fields:
-                yield position(entry_id), int(fields.get(b"t", b"0")), fields[b"bytes"]
+                latest = max(latest, int(fields.get(b"t", b"0")))
+                yield position(entry_id), latest, fields[b"bytes"]
         last = "(" + entries[-1][0].decode()

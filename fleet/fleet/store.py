@@ -6,13 +6,21 @@ from urllib.parse import urlsplit
 
 import redis
 from redis.exceptions import (
-    AuthenticationError, BusyLoadingError, ConnectionError, NoPermissionError, NoScriptError, ReadOnlyError, ResponseError, TimeoutError,
+    AuthenticationError,
+    BusyLoadingError,
+    ConnectionError,
+    NoPermissionError,
+    NoScriptError,
+    ReadOnlyError,
+    ResponseError,
+    TimeoutError,
 )
 
 log = logging.getLogger("fleet")
 
 GONE = (BusyLoadingError, ConnectionError, TimeoutError, ReadOnlyError)
 FOR_NOW = ("OOM", "MISCONF", "MASTERDOWN", "NOREPLICAS", "CLUSTERDOWN", "TRYAGAIN", "BUSY ", "UNBLOCKED")
+DENIALS = ("WRONGPASS", "NOPERM", "can't run this command", "can't access")
 TIMEOUT = 5.0  # seconds until a connection that says nothing counts as dead
 LUA = os.path.join(os.path.dirname(os.path.abspath(__file__)), "lua")
 UNSAFE = "appendonly is off: what the store acknowledges is lost when it stops"
@@ -33,6 +41,11 @@ def is_for_now(error):
     if isinstance(error, GONE):
         return True
     return isinstance(error, ResponseError) and any(word in str(error)[:60] for word in FOR_NOW)
+
+
+def is_denial(error):
+    """Returns whether an error says that the store's user has no right to something."""
+    return isinstance(error, NoPermissionError) or any(word in str(error) for word in DENIALS)
 
 
 def scripts():
@@ -119,6 +132,8 @@ class Store(redis.Redis):
                     raise ConnectionError("the store forgot its scripts")
                 if isinstance(answer, Exception) and is_for_now(answer):
                     raise answer
+                if isinstance(answer, Exception) and is_denial(answer):
+                    raise NoPermissionError(str(answer))
             return answers
 
         return self.patiently(once)

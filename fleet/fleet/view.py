@@ -84,7 +84,7 @@ class Viewer:
 
     def follow(self, patience=FRAME):
         """Plays what came, or waits a little. Returns whether something did."""
-        came = self.store.xread({key(self.incarnation, "view"): self.last}, block=max(1, int(patience * 1000)))
+        came = self.store.xread({key(self.incarnation, "view"): self.last}, block=int(patience * 1000) or None)
         return any([self.take(entries) for _, entries in came])
 
     def take(self, entries):
@@ -127,7 +127,7 @@ class Keyboard:
 
     def pass_on(self, modes):
         """Sends what was typed. Returns whether to go on."""
-        if not select.select([0], [], [], 0)[0]:
+        if not select.select([0], [], [], 0.02)[0]:
             return True
         data = os.read(0, 1024)
         if data and LEAVE not in data:
@@ -173,7 +173,7 @@ def look(viewer, drawing, keyboard):
             if state_line(viewer) != noted:
                 noted = state_line(viewer)
                 drawing.note(noted)
-        if viewer.follow(0.01 if keyboard else FRAME):
+        if viewer.follow(0 if keyboard else FRAME):  # a store's shortest wait is longer than a key should take
             drawing.draw(viewer.terminal)
         if keyboard and not keyboard.pass_on(viewer.terminal.modes()):
             return

@@ -1,5 +1,5 @@
-"""A page in the browser with live pictures of all sessions. It listens on 127.0.0.1 unless told otherwise, and serves those alone who
-have the token that is in its address.
+"""A page in the browser with live pictures of all sessions. It listens on 127.0.0.1 unless told otherwise, and serves those
+alone who have the token that is in its address.
 
 All that sessions write reaches the page as JSON, and the page puts it into text nodes: no name and no screen is ever markup.
 """
@@ -24,8 +24,22 @@ log = logging.getLogger("fleet.web")
 
 HERE = os.path.join(os.path.dirname(os.path.abspath(__file__)), "page")
 PAUSE = 0.04  # seconds between two messages to a client
-KEYS = {"Up": b"\033[A", "Down": b"\033[B", "Right": b"\033[C", "Left": b"\033[D", "Find": b"\033[1~", "Insert": b"\033[2~", "Remove": b"\033[3~", "Select": b"\033[4~", "Prev": b"\033[5~", "Next": b"\033[6~"}
-POLICY = "default-src 'none'; script-src 'nonce-{0}'; style-src 'nonce-{0}'; connect-src 'self'; base-uri 'none'; form-action 'none'; frame-ancestors 'none'"
+KEYS = {
+    "Up": b"\033[A",
+    "Down": b"\033[B",
+    "Right": b"\033[C",
+    "Left": b"\033[D",
+    "Find": b"\033[1~",
+    "Insert": b"\033[2~",
+    "Remove": b"\033[3~",
+    "Select": b"\033[4~",
+    "Prev": b"\033[5~",
+    "Next": b"\033[6~",
+}
+POLICY = (
+    "default-src 'none'; script-src 'nonce-{0}'; style-src 'nonce-{0}'; connect-src 'self'; "
+    "base-uri 'none'; form-action 'none'; frame-ancestors 'none'"
+)
 
 
 def part(name):
@@ -64,10 +78,18 @@ class Page:
     async def index(self, request):
         self.demand(request)
         nonce = secrets.token_urlsafe(16)
-        text = part("page.html").replace("NONCE", nonce).replace("/*STYLE*/", part("page.css")).replace("/*SCRIPT*/", part("page.js"))
+        text = (
+            part("page.html")
+            .replace("NONCE", nonce)
+            .replace("/*STYLE*/", part("page.css"))
+            .replace("/*SCRIPT*/", part("page.js"))
+        )
         headers = {
-            "Content-Security-Policy": POLICY.format(nonce), "Referrer-Policy": "no-referrer", "Cache-Control": "no-store",
-            "X-Content-Type-Options": "nosniff", "X-Frame-Options": "DENY",
+            "Content-Security-Policy": POLICY.format(nonce),
+            "Referrer-Policy": "no-referrer",
+            "Cache-Control": "no-store",
+            "X-Content-Type-Options": "nosniff",
+            "X-Frame-Options": "DENY",
         }
         return web.Response(text=text, content_type="text/html", headers=headers)
 

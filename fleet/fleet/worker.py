@@ -15,14 +15,15 @@ from .frames import Frames
 from .inbox import Inbox
 from .keys import key
 from .session import Session, restored
-from .store import AnotherRun, ResponseError
+from .store import GONE, AnotherRun, AuthenticationError, NoPermissionError, ResponseError
 
 log = logging.getLogger("fleet.worker")
 
 GATHER = 0.010  # seconds between the starts of two turns: what comes meanwhile is read together
 READ = 16  # entries of a session that are read at once
 CHUNK = 400  # sessions that are read with one call
-BYTES = 65536  # of a session that are played in a turn
+BYTES = 524288  # that are played in a turn, shared by all sessions that have some
+SHARE = 16384  # of them that a session may always play
 REPORTS = 200  # of a session that are made in a turn
 UNREAD = 4096  # reports that may wait for a host; then its session is not played on
 NOTE = 5.0  # seconds until the store is told how far a session is, if nothing else tells it
@@ -49,9 +50,8 @@ class Kept(Session):
         self.watched = 0.0  # until when somebody looks
         self.is_dirty = True  # something was played since viewers were sent a frame
 
-    def play_some(self, every):
-        """Plays what was read, up to this turn's share, and makes a checkpoint if one is due."""
-        budget = BYTES
+    def play_some(self, every, budget):
+        """Plays what was read, up to so many bytes, and makes a checkpoint if one is due. Returns what is left of the bytes."""
         while self.queue and budget > 0 and len(self.reports) < REPORTS:
             entry_id, fields = self.queue[0]
             data = self.data_of(entry_id, fields)
@@ -63,6 +63,7 @@ class Kept(Session):
         is_due = self.at - self.checked >= (1 if self.is_over() else every)
         if is_due and self.terminal.is_between():
             self.checked, self.checkpoint = self.at, keys.checkpoint(self.at, self.terminal.repaint())
+        return budget
 
     def is_over(self):
         return self.status is not None and not self.queue
@@ -85,7 +86,7 @@ class Worker:
         self.inbox = Inbox(store, self.claims.me)
         self.frames = Frames(store)
         self.counts = {"entries": 0, "bytes": 0, "reports": 0, "checkpoints": 0, "faults": 0, "taken": 0, "lost": 0}
-        self.is_leaving = self.is_gone = False
+        self.is_leaving = self.is_gone = self.is_behind = self.is_stale = False
         store.minds_runs = True
         self.generation = store.generation()
 
@@ -188,7 +189,7 @@ class Worker:
     # A guard for each session.
 
     def guarded(self, incarnation, call, *arguments):
-        """Calls something for a session. Whatever it raises is that session's fault alone."""
+        """Calls something for a session. Whatever it raises is that session's fault alone, unless it is the store's."""
         try:
             return call(*arguments)
         except (MemoryError, vt220.Memory):
@@ -196,6 +197,8 @@ class Worker:
             self.claims.release([incarnation])
             self.drop(incarnation)
             time.sleep(0.1)
+        except (AnotherRun, AuthenticationError, NoPermissionError, *GONE):
+            raise
         except Exception as fault:
             if not isinstance(fault, keys.Fault):
                 log.exception("%s: session %s", self.claims.me, incarnation)
@@ -228,11 +231,14 @@ class Worker:
     def turn(self, patience=0.25):
         """One turn. Nothing of it reaches a store that was started anew meanwhile: that is read first."""
         try:
+            if self.is_stale:
+                self.store.accept_run()
+                self.generation = self.store.generation()
+                self.read_anew()
+                self.is_stale = False
             self.turn_once(patience)
         except AnotherRun:
-            self.store.accept_run()
-            self.generation = self.store.generation()
-            self.read_anew()
+            self.is_stale = True
 
     def turn_once(self, patience):
         """Waits for what comes, plays it, and tells the store what it led to."""
@@ -247,8 +253,9 @@ class Worker:
         self.due = (self.due & self.kept.keys()) - self.choked
         due = [self.kept[each] for each in self.due]
         self.read([session for session in due if not session.queue])
+        self.is_behind, budget = False, max(SHARE, BYTES // max(1, len(due)))
         for session in due:
-            self.guarded(session.incarnation, self.play, session)
+            self.guarded(session.incarnation, self.play, session, budget)
             self.look_after_claims()
         self.tell([session for session in due if session.has_news(self.settings.every)])
         self.note()
@@ -261,7 +268,7 @@ class Worker:
         patience = min(patience, self.settings.lease / 16)  # the next beat isn't late
         self.inbox.wait(patience if not self.frames.is_due() else min(patience, 0.02))
         rest = self.begun + GATHER - time.monotonic()
-        if rest > 0:
+        if rest > 0 and not self.is_behind:
             time.sleep(rest)
         if not self.inbox.collect():
             self.due.update(self.kept)  # messages may have been missed
@@ -308,7 +315,7 @@ class Worker:
             session.queue = [(entry_id, dict(zip(fields[::2], fields[1::2]))) for entry_id, fields in entries]
             session.is_read_out, session.last = len(entries) < READ, entries[-1][0]
 
-    def play(self, session):
+    def play(self, session, budget):
         """Plays a session's share of this turn. It stays due while there may be more."""
         if not session.queue:
             self.due.discard(session.incarnation)
@@ -316,7 +323,8 @@ class Worker:
                 raise keys.Trimmed(f"the bytes from {session.at} to {session.end} are gone")
             return
         begin, entries = session.at, len(session.queue)
-        session.play_some(self.settings.every)
+        if session.play_some(self.settings.every, budget) <= 0:
+            self.is_behind = True
         self.counts["bytes"] += session.at - begin
         self.counts["entries"] += entries - len(session.queue)
         if not session.queue and session.is_read_out:
@@ -388,7 +396,9 @@ class Worker:
 
     def leave(self):
         """Hands all sessions over, each as far as it was played, and begins no others."""
-        self.tell([session for session in self.kept.values() if session.told != session.at or session.reports or session.checkpoint])
+        self.tell(
+            [session for session in self.kept.values() if session.told != session.at or session.reports or session.checkpoint]
+        )
         self.claims.leave()
         self.is_gone = True
         log.info("%s hands %d sessions over", self.claims.me, len(self.kept))

@@ -15,9 +15,19 @@ class Browser:
     def __init__(self, url, width=1500, height=900):
         self.loop = asyncio.new_event_loop()
         self.folder = tempfile.mkdtemp(prefix="browser-")
-        words = ["chromium", "--headless=new", "--no-sandbox", "--disable-gpu", "--disable-dev-shm-usage", "--no-first-run", "--remote-debugging-port=0"]
+        words = [
+            "chromium",
+            "--headless=new",
+            "--no-sandbox",
+            "--disable-gpu",
+            "--disable-dev-shm-usage",
+            "--no-first-run",
+            "--remote-debugging-port=0",
+        ]
         words += [f"--user-data-dir={self.folder}", f"--window-size={width},{height}", "about:blank"]
-        self.process = subprocess.Popen(words, stdout=subprocess.DEVNULL, stderr=subprocess.PIPE, text=True, start_new_session=True)
+        self.process = subprocess.Popen(
+            words, stdout=subprocess.DEVNULL, stderr=subprocess.PIPE, text=True, start_new_session=True
+        )
         address = next(line.split()[-1] for line in self.process.stderr if line.startswith("DevTools listening on"))
         self.port = address.split(":")[2].split("/")[0]
         self.number, self.said = 0, []

@@ -3,7 +3,22 @@ import signal
 import time
 
 from harness import (
-    Processes, Proxy, Source, check, compare, key, keys, played, raises, session, settings, stores, until, wait_for, with_machine, worker,
+    Processes,
+    Proxy,
+    Source,
+    check,
+    compare,
+    key,
+    keys,
+    played,
+    raises,
+    session,
+    settings,
+    stores,
+    until,
+    wait_for,
+    with_machine,
+    worker,
 )
 from fleet.host import Host, Taken
 from fleet.worker import Worker
@@ -18,7 +33,13 @@ def four_hundred_idle_sessions_outlive_their_worker(machine, _):
     name, url = "400 idle", machine.url
     sources = [Source(url, f"idle-{number}").send(b"Session %d\033[6n" % number) for number in range(400)]
     store, workers = sources[0].store, Processes(machine, 1, "--lease", "1")
-    check(wait_for(lambda: store.scard(keys.of(store.hkeys(keys.WORKERS)[0].decode())) == 400 if store.hlen(keys.WORKERS) else False), name, "one has all")
+    check(
+        wait_for(
+            lambda: store.scard(keys.of(store.hkeys(keys.WORKERS)[0].decode())) == 400 if store.hlen(keys.WORKERS) else False
+        ),
+        name,
+        "one has all",
+    )
     workers.all[0].send_signal(signal.SIGKILL)
     workers.all[0].wait()
     dead = store.hkeys(keys.WORKERS)[0]
@@ -55,7 +76,7 @@ def a_slow_worker_harms_no_session(url, data):
     # The slow one wakes in the midst of a turn, where it doesn't look whose the session is.
     kept = slow.kept[source.incarnation]
     slow.read([kept])
-    slow.guarded(source.incarnation, slow.play, kept)
+    slow.guarded(source.incarnation, slow.play, kept, 65536)
     check(source.fault() == "" and source.incarnation in other.kept, name, "the session lives, at its owner")
     check(source.incarnation not in slow.kept, name, "the slow one lets go")
     source.send(b"\033[c").end(0)
@@ -239,7 +260,7 @@ def a_session_that_workers_die_of_is_given_up(url, _):
         store.zadd(keys.WAITING, {idle.incarnation: 0})
         each = worker(url)
         until(lambda: idle.incarnation in each.kept and not each.due, each)
-    check(idle.fault() == "" , name, "an idle session isn't taken for one")
+    check(idle.fault() == "", name, "an idle session isn't taken for one")
 
 
 @with_machine
@@ -259,7 +280,11 @@ def a_hostile_session_delays_no_other(machine, _):
             wait_for(lambda: len(source.got) > had, 10, 0.002)
             late.append(time.monotonic() - asked)
     late.sort()
-    check(late[-1] < 1.0, name, f"a neighbour's report comes within a second: median {late[len(late) // 2]:.3f} s, worst {late[-1]:.3f} s")
+    check(
+        late[-1] < 1.0,
+        name,
+        f"a neighbour's report comes within a second: median {late[len(late) // 2]:.3f} s, worst {late[-1]:.3f} s",
+    )
     check(owners(flood.store, calm + [flood]) == before, name, "no session changes its worker")
     wait_for(lambda: len(flood.got) * 3 >= len(flood.sent), 30)
     check(flood.reports() == b"\033[?62;1;6c" * (len(flood.sent) // 3), name, "the hostile one has all its reports, once")
@@ -291,13 +316,26 @@ def a_worker_hands_over_and_leaves_nothing(url, data):
     until(lambda: len(other.kept) == 40, other)
     check(time.monotonic() - begin < 1, name, "within a second")
     check(one.is_gone and sources[0].store.hlen(keys.WORKERS) == 1, name, "and no trace of it is left")
-    check(all(s.at == 501 for s in other.kept.values()) or until(lambda: all(s.at == 501 for s in other.kept.values()), other), name, "where they were")
+    check(
+        all(s.at == 501 for s in other.kept.values()) or until(lambda: all(s.at == 501 for s in other.kept.values()), other),
+        name,
+        "where they were",
+    )
 
 
 CASES = [
-    four_hundred_idle_sessions_outlive_their_worker, a_slow_worker_harms_no_session, stopped_workers_harm_no_session,
-    a_worker_behind_a_dead_link_harms_no_session, a_name_is_used_again_after_an_end, a_name_whose_host_died_is_used_again,
-    two_hosts_never_mix, what_an_old_worker_writes_meets_no_new_session, register_sent_twice_makes_one_session,
-    poison_harms_its_session_alone, a_session_that_workers_die_of_is_given_up, a_hostile_session_delays_no_other,
-    a_host_that_reads_no_reports_is_waited_for, a_worker_hands_over_and_leaves_nothing,
+    four_hundred_idle_sessions_outlive_their_worker,
+    a_slow_worker_harms_no_session,
+    stopped_workers_harm_no_session,
+    a_worker_behind_a_dead_link_harms_no_session,
+    a_name_is_used_again_after_an_end,
+    a_name_whose_host_died_is_used_again,
+    two_hosts_never_mix,
+    what_an_old_worker_writes_meets_no_new_session,
+    register_sent_twice_makes_one_session,
+    poison_harms_its_session_alone,
+    a_session_that_workers_die_of_is_given_up,
+    a_hostile_session_delays_no_other,
+    a_host_that_reads_no_reports_is_waited_for,
+    a_worker_hands_over_and_leaves_nothing,
 ]

@@ -23,10 +23,12 @@ class Sessions:
         self.incarnations = [keys.new_id() for _ in range(count)]
         self.at = dict.fromkeys(self.incarnations, 0)
         for at in range(0, count, 500):
-            self.call([
-                ("register", f"{word}-{number + at}", each, 10**9, keys.version(), "host", "load", "input", 0)
-                for number, each in enumerate(self.incarnations[at : at + 500])
-            ])
+            self.call(
+                [
+                    ("register", f"{word}-{number + at}", each, 10**9, keys.version(), "host", "load", "input", 0)
+                    for number, each in enumerate(self.incarnations[at : at + 500])
+                ]
+            )
 
     def call(self, calls):
         with self.store.pipeline(transaction=False) as together:
@@ -45,7 +47,9 @@ class Sessions:
 
     def end(self):
         for number in range(0, len(self.incarnations), 500):
-            self.call([("finish", "x", each, self.at[each], 0, keys.version()) for each in self.incarnations[number : number + 500]])
+            self.call(
+                [("finish", "x", each, self.at[each], 0, keys.version()) for each in self.incarnations[number : number + 500]]
+            )
 
     def are_taken(self):
         some = self.incarnations
@@ -53,7 +57,8 @@ class Sessions:
 
 
 def run(sessions, entries, size, seconds, pids, every=0.05):
-    """Sends entries of `size` bytes to random sessions, so many a second of each. Returns the processor seconds of each process."""
+    """Sends entries of `size` bytes to the sessions in turn, so many a second of each. Returns each process's seconds of
+    processor, and how many were sent."""
     data = b"\033[7mThe quick brown fox jumps over the lazy dog.\033[m\r\n" * (size // 40 + 1)
     per_step = entries * len(sessions.incarnations) * every
     before, begin, sent = [processor(pid) for pid in pids], time.monotonic(), 0
@@ -66,7 +71,12 @@ def run(sessions, entries, size, seconds, pids, every=0.05):
             sessions.send(some[at : at + 200], data[:size])
         sent += due
         time.sleep(max(0.0, begin + now + every - time.monotonic()))
-    wait_for(lambda: int(sessions.store.hget(key(sessions.incarnations[(position - 1) % len(sessions.incarnations)], "about"), "played") or 0) > 0)
+    wait_for(
+        lambda: int(
+            sessions.store.hget(key(sessions.incarnations[(position - 1) % len(sessions.incarnations)], "about"), "played") or 0
+        )
+        > 0
+    )
     return [after - b for after, b in zip([processor(pid) for pid in pids], before)], sent
 
 

@@ -8,7 +8,23 @@ import subprocess
 import time
 import urllib.request
 
-from harness import HERE, PROGRAM, Processes, Source, check, key, keys, local, played, stores, until, wait_for, wanted, with_machine, worker
+from harness import (
+    HERE,
+    PROGRAM,
+    Processes,
+    Source,
+    check,
+    key,
+    keys,
+    local,
+    played,
+    stores,
+    until,
+    wait_for,
+    wanted,
+    with_machine,
+    worker,
+)
 from safety import conf, fleet, free_port
 from stores_faults import program
 
@@ -77,7 +93,11 @@ def kill_end_and_their_statuses(machine, data):
     incarnation = state(store, "lost")["incarnation"]
     check(fleet(url, "end", "--keep", "2h", "lost")[0] == 0, name, "it is ended")
     check(wait_for(lambda: (state(store, "lost") or {}).get("state") == "ended ended"), name, "as ended by an operator")
-    check(all(0 < store.ttl(key(incarnation, part)) <= 7200 for part in ("about", "bytes", "ended")), name, "its keys stay two hours")
+    check(
+        all(0 < store.ttl(key(incarnation, part)) <= 7200 for part in ("about", "bytes", "ended")),
+        name,
+        "its keys stay two hours",
+    )
     check(fleet(url, "end", "--keep", "0", "lost")[0] == 0 and not store.keys(f"fleet:{incarnation}:*"), name, "or go at once")
     check(fleet(url, "text", "lost")[0] == 3 and fleet(url, "view", "nosuch")[0] == 3, name, "no such session: 3")
     bad = Source(url, "bad")
@@ -100,7 +120,9 @@ def drain_hands_over_within_a_second(machine, data):
     wait_for(lambda: store.hlen(keys.WORKERS) == 2)
     begin = time.monotonic()
     check(fleet(url, "drain", first.decode()[:-2])[0] == 0, name, "it is done")
-    check(wait_for(lambda: all(store.hget(s.part("about"), "owner") not in (None, first) for s in sources)), name, "another has all")
+    check(
+        wait_for(lambda: all(store.hget(s.part("about"), "owner") not in (None, first) for s in sources)), name, "another has all"
+    )
     check(time.monotonic() - begin < 2.0, name, f"soon, the command's start included: {time.monotonic() - begin:.2f} s")
     check(workers.all[0].wait(5) == 0, name, "the worker has ended with 0")
     begin, [second] = time.monotonic(), store.hkeys(keys.WORKERS)
@@ -123,7 +145,7 @@ def viewers_type_in_order_and_once(machine, _):
 
     name, proxy = "type", Proxy(machine, 0.05)
     workers = Processes(machine, 1)
-    host = program(machine, name, ["sh", "-c", "stty -echo; while read x; do echo \"$x\"; done"], "--input")
+    host = program(machine, name, ["sh", "-c", 'stty -echo; while read x; do echo "$x"; done'], "--input")
     store = stores.connect(machine.url)
     wait_for(lambda: store.hexists(keys.NAMES, name))
     incarnation = store.hget(keys.NAMES, name).decode()
@@ -171,7 +193,9 @@ def sessions_are_looked_at_and_exported(machine, data):
         raw = subprocess.run([local.COMMAND, "log", name], env=os.environ | {"FLEET_REDIS": url}, stdout=subprocess.PIPE).stdout
         check(raw == sent, name, f"log, {when}")
     check_asciicast(name, fleet(url, "export", name)[1], source.sent)
-    ttyrec = subprocess.run([local.COMMAND, "export", "--ttyrec", name], env=os.environ | {"FLEET_REDIS": url}, stdout=subprocess.PIPE).stdout
+    ttyrec = subprocess.run(
+        [local.COMMAND, "export", "--ttyrec", name], env=os.environ | {"FLEET_REDIS": url}, stdout=subprocess.PIPE
+    ).stdout
     check_ttyrec(name, ttyrec, source.sent)
 
 
@@ -211,7 +235,11 @@ def metrics_and_logs(machine, data):
     reports, entries = wanted("reports", data)[1].count(b"\033["), 1 + -(-len(data) // 700)
     check(float(found["fleet_reports_total"]) == reports and float(found["fleet_entries_total"]) == entries, name, str(found))
     check(found["fleet_sessions"] == "1.0" and found["fleet_faults_total"] == "0.0", name, str(found))
-    check(all(re.match(r"\d{4}-\d\d-\d\d \d\d:\d\d:\d\d,\d{3} (INFO|WARNING|ERROR) ", line) for line in workers.said()), name, "logs have times")
+    check(
+        all(re.match(r"\d{4}-\d\d-\d\d \d\d:\d\d:\d\d,\d{3} (INFO|WARNING|ERROR) ", line) for line in workers.said()),
+        name,
+        "logs have times",
+    )
     workers.stop()
 
 
@@ -220,12 +248,22 @@ def the_configuration_is_read_and_checked(machine, _):
     name, example = "configuration", os.path.join(HERE, "..", "fleet.conf.example")
     url = machine.url
     check(fleet(url, "list", config=example)[0] == 0, name, "the example is read")
-    wrong = {"[stroe]\n": "section", "[store]\nurn = x\n": "urn", "[worker]\nlease = soon\n": "lease", "x\n": "", "[host]\ninput = maybe\n": "input"}
+    wrong = {
+        "[stroe]\n": "section",
+        "[store]\nurn = x\n": "urn",
+        "[worker]\nlease = soon\n": "lease",
+        "x\n": "",
+        "[host]\ninput = maybe\n": "input",
+    }
     for number, (text, word) in enumerate(wrong.items()):
         status, _, said = fleet(url, "list", config=conf(machine, f"wrong-{number}", text))
         check(status == 78 and word in said, name, f"{text!r}: {status} {said}")
     check(fleet(url, "list", config="/nonexistent")[0] == 78, name, "a file that isn't there")
-    check(fleet(f"unix://{machine.folder}/none", "list", config=conf(machine, "quick", "[store]", "give-up = 1"))[0] == 69, name, "no store: 69")
+    check(
+        fleet(f"unix://{machine.folder}/none", "list", config=conf(machine, "quick", "[store]", "give-up = 1"))[0] == 69,
+        name,
+        "no store: 69",
+    )
     check(fleet(url, "nosuch")[0] == 2 and fleet(url, "host", "x")[0] == 78, name, "a wrong command line")
     for bad in ("", "a\nb", "x" * 201, "a\x1b[31m"):
         check(fleet(url, "host", bad, "true")[0] == 2, name, f"a name that cannot be: {bad!r}")
@@ -236,6 +274,11 @@ def the_configuration_is_read_and_checked(machine, _):
 
 
 CASES = [
-    list_tells_how_sessions_are, kill_end_and_their_statuses, drain_hands_over_within_a_second, viewers_type_in_order_and_once,
-    sessions_are_looked_at_and_exported, metrics_and_logs, the_configuration_is_read_and_checked,
+    list_tells_how_sessions_are,
+    kill_end_and_their_statuses,
+    drain_hands_over_within_a_second,
+    viewers_type_in_order_and_once,
+    sessions_are_looked_at_and_exported,
+    metrics_and_logs,
+    the_configuration_is_read_and_checked,
 ]

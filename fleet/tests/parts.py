@@ -163,7 +163,9 @@ def viewers_join_late(url, data):
 def a_program_gets_its_answers(url, _):
     """Through a pseudo-terminal: a shell asks where the cursor is, and prints what it was told."""
     name = "program"
-    asks = r"""stty -echo raw; printf 'ab\033[6n'; a=$(dd bs=1 count=6 2>/dev/null); stty sane; printf %s "$a" | od -An -c; exit 3"""
+    asks = (
+        r"""stty -echo raw; printf 'ab\033[6n'; a=$(dd bs=1 count=6 2>/dev/null); stty sane; printf %s "$a" | od -An -c; exit 3"""
+    )
     host = Host(stores.connect(url), name)
     host.register()
     one = worker(url)
@@ -185,7 +187,14 @@ def a_killed_program_has_a_shell_s_status(url, _):
 
 
 CASES = [
-    a_worker_ends_a_session, reports_are_at_what_they_answer, another_worker_goes_on, bytes_sent_twice_are_there_once,
-    damaged_checkpoints_are_noticed, other_formats_are_named, trimmed_streams_are_named, viewers_join_late,
-    a_program_gets_its_answers, a_killed_program_has_a_shell_s_status,
+    a_worker_ends_a_session,
+    reports_are_at_what_they_answer,
+    another_worker_goes_on,
+    bytes_sent_twice_are_there_once,
+    damaged_checkpoints_are_noticed,
+    other_formats_are_named,
+    trimmed_streams_are_named,
+    viewers_join_late,
+    a_program_gets_its_answers,
+    a_killed_program_has_a_shell_s_status,
 ]

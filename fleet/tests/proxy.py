@@ -33,7 +33,10 @@ class Link:
             return
         me = object()
         self.all.add(me)
-        ways = [asyncio.ensure_future(self.pipe(me, reader, back, 0)), asyncio.ensure_future(self.pipe(me, there, writer, self.share))]
+        ways = [
+            asyncio.ensure_future(self.pipe(me, reader, back, 0)),
+            asyncio.ensure_future(self.pipe(me, there, writer, self.share)),
+        ]
         await asyncio.wait(ways, return_when=asyncio.FIRST_COMPLETED)
         for way in ways:
             way.cancel()

@@ -1,20 +1,37 @@
 """Who may do what: the socket, passwords, TLS, users, the program's environment, and reports that are none."""
 import os
 import re
-import shutil
 import socket
 import stat
 import subprocess
 import time
 
-from harness import HERE, Processes, Source, check, key, keys, local, played, raises, stores, until, wait_for, with_machine, worker
+from harness import (
+    HERE,
+    Processes,
+    Source,
+    check,
+    key,
+    keys,
+    local,
+    played,
+    raises,
+    stores,
+    until,
+    wait_for,
+    with_machine,
+    worker,
+)
 from fleet.host import REPORT, REPORT_LIMIT
+from fleet.view import Viewer
 
 
 def fleet(url, *words, config=None, data=None):
     """Runs the command. Returns its exit status, and what it wrote."""
     where = {"FLEET_REDIS": url} | ({"FLEET_CONFIG": config} if config else {})
-    done = subprocess.run([local.PYTHON, local.COMMAND, *words], env=os.environ | where, input=data, capture_output=True, timeout=60)
+    done = subprocess.run(
+        [local.PYTHON, local.COMMAND, *words], env=os.environ | where, input=data, capture_output=True, timeout=60
+    )
     return done.returncode, done.stdout.decode(), done.stderr.decode()
 
 
@@ -46,9 +63,31 @@ def the_program_learns_no_address(machine, _):
 
 def only_reports_reach_the_program(url, _):
     name, one = "reports", worker(url)
-    true = [b"\033[?62;1;6c", b"\033[>1;10;0c", b"\033[0n", b"\033[24;132R", b"\033[?13n", b"\033[?27;1n", b"\x9b?62;1;6c", b"\x9b1;1R"]
-    check(all(REPORT.fullmatch(each) and len(each) <= REPORT_LIMIT for each in true), name, "all reports of the profile have the form")
-    false = [b"id -u > file\n", b"\033[1;1R\n", b"\033[1;1Rx", b"", b"\033[A", b"\033[11111;1R", b"\033[?62;1;6c\033[0n", b"\n\033[0n"]
+    true = [
+        b"\033[?62;1;6c",
+        b"\033[>1;10;0c",
+        b"\033[0n",
+        b"\033[24;132R",
+        b"\033[?13n",
+        b"\033[?27;1n",
+        b"\x9b?62;1;6c",
+        b"\x9b1;1R",
+    ]
+    check(
+        all(REPORT.fullmatch(each) and len(each) <= REPORT_LIMIT for each in true),
+        name,
+        "all reports of the profile have the form",
+    )
+    false = [
+        b"id -u > file\n",
+        b"\033[1;1R\n",
+        b"\033[1;1Rx",
+        b"",
+        b"\033[A",
+        b"\033[11111;1R",
+        b"\033[?62;1;6c\033[0n",
+        b"\n\033[0n",
+    ]
     source = Source(url, name).send(b"abc")
     for number, report in enumerate(false):
         source.store.xadd(source.part("answers"), {"v": keys.version(), "report": report}, id=f"0-{number + 1}")
@@ -66,7 +105,23 @@ def every_report_of_the_terminal_has_the_form(_, __):
     import vt220
 
     terminal, chance, made = vt220.Terminal(), random.Random(3), set()
-    asks = [b"\033[c", b"\033Z", b"\033[>c", b"\033[5n", b"\033[6n", b"\033[?15n", b"\033[?26n", b"\x9a", b"\033 G", b"\033 F", b"\033[?6h", b"\033[?3h", b"\033[?5n", b"\033[?25n", b"\033[0c"]
+    asks = [
+        b"\033[c",
+        b"\033Z",
+        b"\033[>c",
+        b"\033[5n",
+        b"\033[6n",
+        b"\033[?15n",
+        b"\033[?26n",
+        b"\x9a",
+        b"\033 G",
+        b"\033 F",
+        b"\033[?6h",
+        b"\033[?3h",
+        b"\033[?5n",
+        b"\033[?25n",
+        b"\033[0c",
+    ]
     for _ in range(20000):
         data = b"\033[%d;%dH" % (chance.randrange(30), chance.randrange(140)) + chance.choice(asks) + chance.choice(asks)
         while data:
@@ -103,55 +158,77 @@ def a_password_is_needed_and_read_from_a_file(machine, _):
     check(status == 77, name, f"with another: {status} {said}")
 
 
+USERS = ("host", "worker", "viewer", "typist", "operator")
+PROGRAM_THAT_ASKS = r"""stty -echo raw; printf 'a\033[6n'; dd bs=1 count=6 2>/dev/null >/dev/null; stty sane
+while read x; do echo got $x; done"""
+
+
 @with_machine
 def users_have_the_rights_that_they_need(machine, _):
     """users.acl, as it is: host, worker, viewer, typist and operator do their work, and no other's."""
     acl = conf(machine, "users.acl", open(os.path.join(HERE, "..", "users.acl")).read())
     machine.kill()
-    ping, machine.url = machine.url, f"unix://operator:OPERATOR-PASSWORD@{machine.socket}"
+    urls = {user: f"unix://{user}:{user.upper()}-PASSWORD@{machine.socket}" for user in USERS}
+    machine.url = urls["operator"]
     machine.start("--aclfile", acl)
-    urls = {user: f"unix://{user}:{user.upper()}-PASSWORD@{machine.socket}" for user in ("host", "worker", "viewer", "typist", "operator")}
-    store = stores.connect(urls["operator"])
     workers = Processes(machine, 1, "--lease", "1", "--retain", "1h", url=urls["worker"])
-    program = "stty -echo raw; printf 'a\\033[6n'; dd bs=1 count=6 2>/dev/null >/dev/null; stty sane; while read x; do echo got $x; done"
-    host = subprocess.Popen([local.PYTHON, local.COMMAND, "host", "--input", "roles", "sh", "-c", program], env=os.environ | {"FLEET_REDIS": urls["host"]}, stderr=subprocess.PIPE)
+    words = [local.PYTHON, local.COMMAND, "host", "--input", "roles", "sh", "-c", PROGRAM_THAT_ASKS]
+    host = subprocess.Popen(words, env=os.environ | {"FLEET_REDIS": urls["host"]}, stderr=subprocess.DEVNULL)
     check(wait_for(lambda: fleet(urls["viewer"], "text", "roles")[1].startswith("a")), "users", "host, worker and viewer")
-    check(fleet(urls["viewer"], "type", "--enter", "roles", "hello")[0] == 77, "users", "a viewer cannot type")
-    check(fleet(urls["typist"], "type", "--enter", "roles", "hello")[0] == 0, "users", "a typist can")
-    check(wait_for(lambda: "got hello" in fleet(urls["viewer"], "text", "roles")[1]), "users", "and the program reads it")
-    check(fleet(urls["viewer"], "end", "--force", "roles")[0] == 77, "users", "a viewer ends nothing")
-    check(fleet(urls["viewer"], "host", "other", "true")[0] == 77, "users", "and is no host")
-    denied = stores.NoPermissionError
-    for user, words in (("host", ("FLUSHALL",)), ("worker", ("CONFIG", "GET", "*")), ("viewer", ("SET", "fleet:x:fault", "x")), ("typist", ("XADD", "fleet:x:answers", "*", "a", "b")), ("host", ("SET", "other", "x"))):
-        check(raises(denied, stores.connect(urls[user]).execute_command, *words), "users", f"{user}: no {words[0]}")
-    watching = stores.connect(urls["viewer"])
+    rights_of_commands(urls)
+    rights_of_calls(urls)
+    store = stores.connect(urls["operator"])
     incarnation = store.hget(keys.NAMES, "roles").decode()
-    from fleet.view import Viewer
-    viewer = Viewer(watching, incarnation)
-
-    def has_frame():
-        viewer.ask()
-        viewer.follow(0)
-        return "got hello" in viewer.terminal.text()
-
-    check(wait_for(has_frame), "users", "a viewer follows")
+    viewer = Viewer(stores.connect(urls["viewer"]), incarnation)
+    check(wait_for(lambda: "got hello" in seen(viewer)), "users", "a viewer follows")
     check(fleet(urls["operator"], "kill", "roles")[0] == 0, "users", "an operator kills")
     check(host.wait(10) == 129, "users", f"and the host ends with it: {host.returncode}")
     check(wait_for(lambda: store.exists(key(incarnation, "ended"))), "users", "with an end")
     check(0 < store.ttl(key(incarnation, "bytes")) <= 3600, "users", "whose keys stay for an hour")
     workers.stop()
-    machine.url = ping
+
+
+def seen(viewer):
+    viewer.ask()
+    viewer.follow(0)
+    return viewer.terminal.text()
+
+
+def rights_of_commands(urls):
+    check(fleet(urls["viewer"], "type", "--enter", "roles", "hello")[0] == 77, "users", "a viewer cannot type")
+    check(fleet(urls["typist"], "type", "--enter", "roles", "hello")[0] == 0, "users", "a typist can")
+    check(wait_for(lambda: "got hello" in fleet(urls["viewer"], "text", "roles")[1]), "users", "and the program reads it")
+    check(fleet(urls["viewer"], "end", "--force", "roles")[0] == 77, "users", "a viewer ends nothing")
+    check(fleet(urls["viewer"], "host", "other", "true")[0] == 77, "users", "and is no host")
+
+
+def rights_of_calls(urls):
+    denied = {
+        "host": [("FLUSHALL",), ("SET", "other", "x")],
+        "worker": [("CONFIG", "GET", "*"), ("SET", "other", "x")],
+        "viewer": [("SET", "fleet:x:fault", "x"), ("XADD", "fleet:x:keys", "*", "a", "b")],
+        "typist": [("XADD", "fleet:x:answers", "*", "a", "b"), ("SET", "fleet:x:fault", "x")],
+        "operator": [("FLUSHALL",), ("CONFIG", "GET", "*")],
+    }
+    for user, calls in denied.items():
+        for words in calls:
+            call = stores.connect(urls[user]).execute_command
+            check(raises(stores.NoPermissionError, call, *words), "users", f"{user}: no {words[0]}")
+
+
+def certify(at):
+    """Makes a key, and a certificate that nobody else vouches for."""
+    words = "openssl req -x509 -newkey rsa:2048 -nodes -days 2 -subj /CN=127.0.0.1 -addext subjectAltName=IP:127.0.0.1"
+    subprocess.run([*words.split(), "-keyout", f"{at}/key", "-out", f"{at}/cert"], check=True, capture_output=True)
 
 
 @with_machine
 def tls_is_spoken(machine, data):
-    name, port = "TLS", free_port()
-    if not check(shutil.which("openssl"), name, "openssl is here"):
-        return
-    at = machine.folder
-    subprocess.run(["openssl", "req", "-x509", "-newkey", "rsa:2048", "-nodes", "-days", "2", "-subj", "/CN=127.0.0.1", "-addext", "subjectAltName=IP:127.0.0.1", "-keyout", f"{at}/key", "-out", f"{at}/cert"], check=True, capture_output=True)
+    name, port, at = "TLS", free_port(), machine.folder
+    certify(at)
     machine.kill()
-    machine.start("--tls-port", str(port), "--bind", "127.0.0.1", "--tls-cert-file", f"{at}/cert", "--tls-key-file", f"{at}/key", "--tls-ca-cert-file", f"{at}/cert", "--tls-auth-clients", "no")
+    words = f"--tls-port {port} --bind 127.0.0.1 --tls-cert-file {at}/cert --tls-key-file {at}/key --tls-ca-cert-file {at}/cert"
+    machine.start(*words.split(), "--tls-auth-clients", "no")
     stores.connect(machine.url).config_set("requirepass", "pw")
     url = f"rediss://:pw@127.0.0.1:{port}?ssl_ca_certs={at}/cert"
     one = worker(url)
@@ -160,12 +237,17 @@ def tls_is_spoken(machine, data):
     source.receive()
     check(source.reports() == played(source.sent)[1], name, "reports")
     check(fleet(url, "text", name)[1] == played(source.sent)[0].text(), name, "the command")
-    status, _, said = fleet(f"rediss://:pw@127.0.0.1:{port}?ssl_ca_certs=/etc/ssl/certs/ca-certificates.crt", "check-store", config=conf(machine, "quick", "[store]", "give-up = 1"))
-    check(status == 69 and "certificate" in said.lower(), name, f"a certificate that nobody vouches for is refused: {status} {said[:200]}")
+    quick = conf(machine, "quick", "[store]", "give-up = 1")
+    status, _, said = fleet(f"rediss://:pw@127.0.0.1:{port}", "check-store", config=quick)
+    check(status == 69 and "certificate" in said.lower(), name, f"a certificate that nobody vouches for is refused: {said[:200]}")
 
 
 CASES = [
-    the_store_of_run_is_this_users_alone, the_program_learns_no_address, only_reports_reach_the_program,
-    every_report_of_the_terminal_has_the_form, a_password_is_needed_and_read_from_a_file, users_have_the_rights_that_they_need,
+    the_store_of_run_is_this_users_alone,
+    the_program_learns_no_address,
+    only_reports_reach_the_program,
+    every_report_of_the_terminal_has_the_form,
+    a_password_is_needed_and_read_from_a_file,
+    users_have_the_rights_that_they_need,
     tls_is_spoken,
 ]

@@ -7,7 +7,23 @@ import threading
 import time
 
 from harness import (
-    HERE, Processes, Proxy, Source, check, compare, key, keys, local, played, raises, session, stores, until, wait_for, with_machine, worker,
+    HERE,
+    Processes,
+    Proxy,
+    Source,
+    check,
+    compare,
+    key,
+    keys,
+    local,
+    played,
+    raises,
+    session,
+    stores,
+    until,
+    wait_for,
+    with_machine,
+    worker,
 )
 from fleet.host import WAITING, WentBack
 from fleet.view import Viewer
@@ -16,10 +32,13 @@ from fleet.view import Viewer
 def program(machine, name, command, *words):
     """Starts a host with a program, as a process of its own."""
     words = [local.PYTHON, local.COMMAND, "host", *words, name, *command]
-    return subprocess.Popen(words, env=os.environ | {"FLEET_REDIS": machine.url}, stderr=subprocess.PIPE)
+    return subprocess.Popen(
+        words, env=os.environ | {"FLEET_REDIS": machine.url}, stdout=subprocess.DEVNULL, stderr=subprocess.DEVNULL
+    )
 
 
-ASK = r"""stty -echo raw; sleep 1; printf 'ab\033[6n'; a=$(dd bs=1 count=6 2>/dev/null); stty sane; printf %s "$a" | od -An -c; sleep 1; exit 3"""
+ASK = r"""stty -echo raw; sleep 1; printf 'ab\033[6n'; a=$(dd bs=1 count=6 2>/dev/null)
+stty sane; printf %s "$a" | od -An -c; sleep 1; exit 3"""
 
 
 @with_machine
@@ -223,7 +242,11 @@ def evicted_keys_are_named_or_sent_again(machine, data):
             source.receive()
             compare(source, name + " " + part)
         else:
-            check(source.fault().startswith(("Lost", "Trimmed", "Forged", "WentBack")), name, f"{part}: a named fault: {source.fault()}")
+            check(
+                source.fault().startswith(("Lost", "Trimmed", "Forged", "WentBack")),
+                name,
+                f"{part}: a named fault: {source.fault()}",
+            )
     for part in (keys.WAITING, keys.WORKERS, keys.LIVE, keys.NAMES, keys.ALL):
         source = Source(machine.url, f"evicted {part}").send(data)
         until(lambda: source.incarnation in one.kept and not one.due, one)
@@ -317,7 +340,13 @@ def a_cluster_is_refused(machine, _):
 
 
 CASES = [
-    half_open_connections_are_left, a_store_that_went_back_is_noticed, what_cannot_be_rebuilt_is_a_named_fault,
-    a_store_without_persistence_is_refused_and_rebuilt, a_full_store_is_waited_for, evicted_keys_are_named_or_sent_again,
-    without_a_worker_bytes_wait_within_a_bound, the_clock_may_jump, a_cluster_is_refused,
+    half_open_connections_are_left,
+    a_store_that_went_back_is_noticed,
+    what_cannot_be_rebuilt_is_a_named_fault,
+    a_store_without_persistence_is_refused_and_rebuilt,
+    a_full_store_is_waited_for,
+    evicted_keys_are_named_or_sent_again,
+    without_a_worker_bytes_wait_within_a_bound,
+    the_clock_may_jump,
+    a_cluster_is_refused,
 ]

@@ -1,5 +1,5 @@
-"""All faults at once: sessions, workers and a store through a bad link, while workers are stopped and killed, the store is killed,
-goes back, is full, is silent and has another clock, and names are used again."""
+"""All faults at once: sessions, workers and a store through a bad link, while workers are stopped and killed, the store is
+killed, goes back, is full, is silent and has another clock, and names are used again."""
 import os
 import random
 import signal
@@ -8,7 +8,22 @@ import threading
 import time
 
 from harness import (
-    QUERIES, Processes, Proxy, Source, check, key, keys, made_up, played, raises, recordings, session, stores, wait_for, wanted, with_machine,
+    QUERIES,
+    Processes,
+    Proxy,
+    Source,
+    check,
+    key,
+    keys,
+    made_up,
+    played,
+    raises,
+    recordings,
+    session,
+    stores,
+    wait_for,
+    wanted,
+    with_machine,
 )
 from stores_faults import cut_back, shimmed
 from fleet.host import Taken
@@ -31,7 +46,11 @@ def endless(chance, pieces):
 
 
 def cut_sequences(chance, pieces):
-    parts = [chance.choice([b"\033", b"\033[", b"\033[1;", b"\033[?", b"\033(", b"\x9b", b"\033P1"]) + chance.choice([b"", b"\030", b"x"]) for _ in range(1500)]
+    parts = [
+        chance.choice([b"\033", b"\033[", b"\033[1;", b"\033[?", b"\033(", b"\x9b", b"\033P1"])
+        + chance.choice([b"", b"\030", b"x"])
+        for _ in range(1500)
+    ]
     return b"".join(parts) + b"\030" + b"".join(QUERIES)
 
 
@@ -151,7 +170,10 @@ def a_storm(machine, _):
     workers = Processes(machine, 4, "--every", "512", "--lease", "1", "--keep", "512", url=proxy.url)
     slots = [Slot(proxy.url, number, random.Random(seed * 1000 + number), pieces) for number in range(SESSIONS)]
     begin, length, errors = time.monotonic(), rounds * 4.0, []
-    threads = [threading.Thread(target=send_all, args=(slots[part::SENDERS], lambda: (time.monotonic() - begin) / length, errors)) for part in range(SENDERS)]
+    threads = [
+        threading.Thread(target=send_all, args=(slots[part::SENDERS], lambda: (time.monotonic() - begin) / length, errors))
+        for part in range(SENDERS)
+    ]
     for thread in threads:
         thread.start()
     weather = Weather(machine, proxy, workers, move, random.Random(seed + 5))
@@ -207,13 +229,21 @@ def hold(source):
 
 def report(workers, slots):
     said = workers.said()
-    check(not any("Traceback" in line or "gives up" in line for line in said), "storm", "no worker has a fault: " + "; ".join(line for line in said if "gives up" in line)[:500])
+    check(
+        not any("Traceback" in line or "gives up" in line for line in said),
+        "storm",
+        "no worker has a fault: " + "; ".join(line for line in said if "gives up" in line)[:500],
+    )
     everything = [source for slot in slots for source in slot.all]
     lost = sum(source.store.hget(source.part("ended"), "status") == b"lost" for source in everything)
     counted = {
-        "sessions": len(everything), "bytes": sum(len(s.sent) for s in everything), "reports": sum(len(s.got) for s in everything),
-        "takings": sum(" took " in line for line in said), "rebuilt by hosts": sum(s.host.rebuilt for s in everything),
-        "outages that hosts saw": sum(s.host.store.outages for s in everything), "ends that the store lost": lost,
+        "sessions": len(everything),
+        "bytes": sum(len(s.sent) for s in everything),
+        "reports": sum(len(s.got) for s in everything),
+        "takings": sum(" took " in line for line in said),
+        "rebuilt by hosts": sum(s.host.rebuilt for s in everything),
+        "outages that hosts saw": sum(s.host.store.outages for s in everything),
+        "ends that the store lost": lost,
     }
     print(", ".join(f"{count} {what}" for what, count in counted.items()), file=sys.stderr)
 

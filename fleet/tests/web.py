@@ -22,7 +22,9 @@ class Served:
     def __init__(self, machine, *words):
         self.port = free_port()
         words = [local.PYTHON, local.COMMAND, "web", "--port", str(self.port), *words]
-        self.process = subprocess.Popen(words, env=os.environ | {"FLEET_REDIS": machine.url}, stderr=subprocess.PIPE, text=True)
+        self.process = subprocess.Popen(
+            words, env=os.environ | {"FLEET_REDIS": machine.url}, stdout=subprocess.DEVNULL, stderr=subprocess.PIPE, text=True
+        )
         self.url = self.process.stderr.readline().strip()
 
     def stop(self):
@@ -40,7 +42,10 @@ def lines(browser):
 
 
 def choose(browser, name):
-    browser.run(f"[...document.querySelectorAll('li button')].find(e => e.querySelector('.name').textContent === {json.dumps(name)}).click()")
+    browser.run(
+        "[...document.querySelectorAll('li button')]"
+        f".find(e => e.querySelector('.name').textContent === {json.dumps(name)}).click()"
+    )
 
 
 def text_of(store, name):
@@ -54,9 +59,18 @@ def real_sessions_in_the_browser(machine, _):
     name, store = "page", stores.connect(machine.url)
     workers, served = Processes(machine, 2), Served(machine, "--typing")
     hosts = [
-        program(machine, "editor", ["vim", "-u", "NONE", "-i", "NONE", "-n"], "--input"), program(machine, "top", ["top", "-d", "1"]),
+        program(machine, "editor", ["vim", "-u", "NONE", "-i", "NONE", "-n"], "--input"),
+        program(machine, "top", ["top", "-d", "1"]),
         program(machine, "flood", ["sh", "-c", "while :; do seq 1 100000; done"]),
-        program(machine, HOSTILE, ["sh", "-c", "printf '<img src=x onerror=alert(1)>\\033[1mBold \\033[7mreverse\\033[0m &lt; \\033[4munder'; sleep 100"]),
+        program(
+            machine,
+            HOSTILE,
+            [
+                "sh",
+                "-c",
+                "printf '<img src=x onerror=alert(1)>\\033[1mBold \\033[7mreverse\\033[0m &lt; \\033[4munder'; sleep 100",
+            ],
+        ),
     ]
     browser = Browser(served.url)
     try:
@@ -79,12 +93,20 @@ def real_sessions_in_the_browser(machine, _):
 
 def markup_is_text(browser, name):
     choose(browser, HOSTILE)
-    check(wait_for(lambda: lines(browser)[0].rstrip() == "<img src=x onerror=alert(1)>Bold reverse &lt; under"), name, f"markup in a screen is text: {lines(browser)[0]}")
+    check(
+        wait_for(lambda: lines(browser)[0].rstrip() == "<img src=x onerror=alert(1)>Bold reverse &lt; under"),
+        name,
+        f"markup in a screen is text: {lines(browser)[0]}",
+    )
     found = browser.run("document.querySelectorAll('img, li b, main script, iframe').length")
     check(found == 0, name, "and never markup, in a name, a title or a screen")
     check(browser.run("document.getElementById('title').textContent") == HOSTILE, name, "the title")
     looks = browser.run("[...document.querySelectorAll('#screen span')].map(e => [e.textContent, e.className])")
-    check([["Bold ", "b"], ["reverse", "b r"], ["under", "u"]] == [look for look in looks if look[1] and "cursor" not in look[1]], name, f"attributes: {looks}")
+    check(
+        [["Bold ", "b"], ["reverse", "b r"], ["under", "u"]] == [look for look in looks if look[1] and "cursor" not in look[1]],
+        name,
+        f"attributes: {looks}",
+    )
     browser.run("getSelection().selectAllChildren(document.querySelector('#screen > div'))")
     check(browser.run("getSelection().toString()").startswith("<img src=x"), name, "its text can be selected")
     shot(browser, "hostile")
@@ -100,12 +122,18 @@ def the_editor_is_typed_into(browser, store, name):
     browser.type("iHello <b>page</b>")
     browser.press("Enter", "\r", 13)
     browser.type("two")
-    for key_name, code in (("ArrowLeft", 37), ("ArrowLeft", 37), ("ArrowUp", 38)):
+    browser.press("Escape", code=27)
+    time.sleep(0.5)
+    for key_name, code in (("ArrowLeft", 37), ("ArrowUp", 38)):
         browser.press(key_name, code=code)
-    browser.type("!")
+    browser.type("i!")
     browser.press("Escape", code=27)
     wanted_lines = ["H!ello <b>page</b>", "two"]
-    check(wait_for(lambda: [line.rstrip() for line in lines(browser)[:2]] == wanted_lines), name, f"keys arrive in order, once: {lines(browser)[:3]}")
+    check(
+        wait_for(lambda: [line.rstrip() for line in lines(browser)[:2]] == wanted_lines),
+        name,
+        f"keys arrive in order, once: {lines(browser)[:3]}",
+    )
     check(text_of(store, "editor")[:2] == wanted_lines, name, "at the program")
     shot(browser, "editor")
     browser.press("]", code=221, modifiers=2)
@@ -117,14 +145,24 @@ def by_keyboard_alone(browser, name):
     seen = []
     for _ in range(12):
         browser.press("Tab", code=9)
-        seen.append(browser.run("document.activeElement.id || (document.activeElement.querySelector('.name') || {}).textContent || document.activeElement.className"))
+        seen.append(
+            browser.run(
+                "(e => e.id || (e.querySelector('.name') || {}).textContent || e.className)(document.activeElement)"
+            )
+        )
     for each in ("skip", "filter", "editor", "top", "flood", HOSTILE, "type", "announce", "screen"):
         check(each in seen, name, f"Tab reaches {each}: {seen}")
     browser.run("[...document.querySelectorAll('li button')].find(e => e.textContent.startsWith('top')).focus()")
     browser.press("Enter", "\r", 13)
     check(browser.run("document.getElementById('title').textContent") == "top", name, "Enter chooses a session")
     tree = browser.tree()
-    for each in (("button", "editor, running"), ("searchbox", "Filter"), ("heading", "top"), ("navigation", "Sessions"), ("checkbox", "Announce changes")):
+    for each in (
+        ("button", "editor, running"),
+        ("searchbox", "Filter"),
+        ("heading", "top"),
+        ("navigation", "Sessions"),
+        ("checkbox", "Announce changes"),
+    ):
         check(each in tree, name, f"a screen reader finds {each}")
     check(any(role in ("group", "region") and said == "Screen of top" for role, said in tree), name, "and the screen by its name")
     browser.run("document.getElementById('announce').click()")
@@ -137,8 +175,12 @@ def changes_arrive(browser, store, name):
     browser.run("window.got = []; socket.addEventListener('message', e => got.push(e.data))")
     time.sleep(2)
     got = [json.loads(each) for each in browser.run("got")]
-    top = [each for message in got for each in message.get("news", []) if each["session"] == store.hget(keys.NAMES, "top").decode()]
-    still = [each for message in got for each in message.get("news", []) if each["session"] == store.hget(keys.NAMES, HOSTILE).decode()]
+    top = [
+        each for message in got for each in message.get("news", []) if each["session"] == store.hget(keys.NAMES, "top").decode()
+    ]
+    still = [
+        each for message in got for each in message.get("news", []) if each["session"] == store.hget(keys.NAMES, HOSTILE).decode()
+    ]
     check(1 <= len(top) <= 30 and all(len(each.get("rows", {})) <= 24 for each in top), name, f"top's rows: {len(top)}")
     check(not any(each.get("rows") for each in still), name, "nothing of a session that stands still")
     check(len(got) < 80, name, f"at most some messages a second: {len(got)} in 2 s")
@@ -161,11 +203,24 @@ def ended_and_faulty_sessions_are_shown(machine, data):
     browser = Browser(served.url, 900, 1000)
     try:
         check(wait_for(lambda: browser.run("document.querySelectorAll('li').length") == 63, 15), name, "all are there")
-        said = lambda: dict(browser.run("[...document.querySelectorAll('li')].map(e => [e.querySelector('.name').textContent, e.querySelector('.how').textContent])"))
+        said = lambda: dict(
+            browser.run(
+                "[...document.querySelectorAll('li')]"
+                ".map(e => [e.querySelector('.name').textContent, e.querySelector('.how').textContent])"
+            )
+        )
         check(wait_for(lambda: said()["bad"].startswith("fault: Version"), 15), name, f"a fault is named: {said()['bad']}")
-        check(wait_for(lambda: said()["done"] == "ended 7" and said()["gone"] == "no host"), name, f"{said()['done']}, {said()['gone']}")
+        check(
+            wait_for(lambda: said()["done"] == "ended 7" and said()["gone"] == "no host"),
+            name,
+            f"{said()['done']}, {said()['gone']}",
+        )
         choose(browser, "done")
-        check(wait_for(lambda: [line.rstrip() for line in lines(browser)] == wanted("text", data)[1].decode().splitlines()), name, "the screen of one that ended")
+        check(
+            wait_for(lambda: [line.rstrip() for line in lines(browser)] == wanted("text", data)[1].decode().splitlines()),
+            name,
+            "the screen of one that ended",
+        )
         choose(browser, "many-042")
         check(wait_for(lambda: lines(browser)[0].rstrip() == "Session 42"), name, "and of one of many")
         check(browser.run("document.documentElement.scrollWidth <= innerWidth"), name, "nothing is wider than the window")
@@ -176,6 +231,47 @@ def ended_and_faulty_sessions_are_shown(machine, data):
         browser.stop()
         served.stop()
         workers.stop()
+
+
+async def raw(base, path):
+    """Returns the status of a request whose path no client puts in order."""
+    host, port = base.removeprefix("http://").split(":")
+    reader, writer = await asyncio.open_connection(host, int(port))
+    writer.write(f"GET {path} HTTP/1.1\r\nHost: {host}:{port}\r\nConnection: close\r\n\r\n".encode())
+    line = await reader.readline()
+    writer.close()
+    return int(line.split()[1])
+
+
+async def connect_from_elsewhere(client, base, token, name):
+    try:
+        await client.ws_connect(f"{base}/live?token={token}", origin="http://evil.example")
+        status = 101
+    except aiohttp.WSServerHandshakeError as refused:
+        status = refused.status
+    check(status == 403, name, "another page's script is refused")
+
+
+async def type_without_right(client, base, token, name):
+    async with client.ws_connect(f"{base}/live?token={token}") as socket:
+        session = None
+        while session is None:
+            said = json.loads((await socket.receive(10)).data)
+            session = next((each["session"] for each in said.get("news", [])), None)
+        for bad in (
+            {"session": session, "text": "id\r"},
+            {"session": "x", "text": "y"},
+            {"session": session},
+            [],
+            "x",
+            {"session": session, "key": "nosuch"},
+        ):
+            await socket.send_str(json.dumps(bad))
+        await socket.send_str("no JSON")
+        errors = 0
+        while errors < 7:
+            errors += "error" in json.loads((await socket.receive(10)).data)
+        check(errors == 7, name, "what may not be typed is refused, and the connection lives")
 
 
 @with_machine
@@ -190,38 +286,22 @@ def only_the_token_opens_the_page(machine, _):
             for path in ("/", "/?token=", "/?token=x", "/live", "/live?token=x", f"/?token={token}x", "/?token=%C3%A4"):
                 async with client.get(base + path) as answer:
                     check(answer.status == 403, name, f"{path}: {answer.status}")
-            for path in ("/page.js", "/../cli.py", "/%2e%2e/cli.py"):
-                async with client.get(f"{base}{path}?token={token}") as answer:
-                    check(answer.status == 404, name, f"{path}: {answer.status}")
+            for path in ("/page.js", "/../cli.py", "/%2e%2e/cli.py", "//etc/passwd"):
+                status = await raw(base, f"{path}?token={token}")
+                check(status in (403, 404), name, f"{path}: {status}")
             async with client.get(served.url) as answer:
                 policy = answer.headers["Content-Security-Policy"]
                 check(answer.status == 200 and "default-src 'none'" in policy and "unsafe" not in policy, name, "a strict policy")
                 check(answer.headers["Referrer-Policy"] == "no-referrer", name, "the token leaks to no other page")
-            try:
-                await client.ws_connect(f"{base}/live?token={token}", origin="http://evil.example")
-                check(False, name, "another page's script is refused")
-            except aiohttp.WSServerHandshakeError as refused:
-                check(refused.status == 403, name, "another page's script is refused")
-            await type_without_right(client, base, token)
+            await connect_from_elsewhere(client, base, token, name)
+            await type_without_right(client, base, token, name)
 
-    async def type_without_right(client, base, token):
-        async with client.ws_connect(f"{base}/live?token={token}") as socket:
-            session = None
-            while session is None:
-                said = json.loads((await socket.receive(10)).data)
-                session = next((each["session"] for each in said.get("news", [])), None)
-            for bad in ({"session": session, "text": "id\r"}, {"session": "x", "text": "y"}, {"session": session}, [], "x", {"session": session, "key": "nosuch"}):
-                await socket.send_str(json.dumps(bad))
-            await socket.send_str("no JSON")
-            errors = 0
-            while errors < 7:
-                errors += "error" in json.loads((await socket.receive(10)).data)
-            check(errors == 7, name, "what may not be typed is refused, and the connection lives")
-
-    asyncio.run(ask())
+    try:
+        asyncio.run(ask())
+    finally:
+        served.stop()
     store = stores.connect(machine.url)
     check(not store.exists(key(store.hget(keys.NAMES, "session").decode(), "keys")), name, "nothing was typed")
-    served.stop()
 
 
 CASES = [real_sessions_in_the_browser, ended_and_faulty_sessions_are_shown, only_the_token_opens_the_page]

@@ -1,9 +1,10 @@
 -- A worker takes sessions that wait: WORKER COUNT TRIES
--- ok, and them. One that this many workers took and died of, without ever catching up, is given up.
+-- ok, how many still wait, and them. One that this many workers took and died of, without ever catching up, is given up.
 local me = ARGV[1]
 if redis.call('HEXISTS', 'fleet:workers', me) == 0 then return {'dead'} end
-if redis.call('SISMEMBER', 'fleet:draining', me) == 1 then return {'ok'} end
-local taken, popped = {'ok'}, redis.call('ZPOPMIN', 'fleet:waiting', ARGV[2])
+if redis.call('SISMEMBER', 'fleet:draining', me) == 1 then return {'ok', 0} end
+local popped = redis.call('ZPOPMIN', 'fleet:waiting', ARGV[2])
+local taken = {'ok', redis.call('ZCARD', 'fleet:waiting')}
 for i = 1, #popped, 2 do
   local inc = popped[i]
   if redis.call('EXISTS', key(inc, 'about')) == 1 and redis.call('EXISTS', key(inc, 'ended'), key(inc, 'fault')) == 0 then

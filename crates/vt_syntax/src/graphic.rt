@@ -33,9 +33,9 @@ impl ByteClass for Graphic {
     }
 }
 
-/// Whether a byte is of one of the two graphic areas of the code table, or the space: 20..7E or A1..FE.
+/// Returns whether a byte is of one of the two graphic areas of the code table, or the space: 20..7E or A1..FE.
 #[inline(always)]
-pub fn is_in_areas(byte: u8) -> bool
+fn is_in_areas(byte: u8) -> bool
     ensures tells { result ≡ is_in_areas byte }
     ensures graphic { OnTrue result (IsInAreas byte) }
 {

@@ -4,8 +4,8 @@ use arrayvec::ArrayVec;
 use std::alloc::Global;
 use std::test::Fail;
 use vt_syntax::{
-    Event, EventKind, Held, Inters, Parser, Phase, Taken, Values, Front, front_values, graphic_run, is_final,
-    plain_run,
+    Event, EventKind, Front, Held, Inters, Parser, Phase, Taken, Values, front_values, graphic_run,
+    is_final, plain_run,
 };
 
 /// A new parser after these bytes, and the event that the last of them completed.
@@ -364,9 +364,7 @@ fn fronts(rt: HostRuntime) {
 /// Whether the values at the front of a piece are so many, these two first, and this byte is after them.
 fn has_values(piece: &[u8], count: usize, first: u16, second: u16, last: u8) -> bool {
     match front_values(piece) {
-        Some(f) => {
-            f.count == count && f.first == first && f.second == second && f.last == last
-        }
+        Some(f) => { f.count == count && f.first == first && f.second == second && f.last == last }
         None => false,
     }
 }

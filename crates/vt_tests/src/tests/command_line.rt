@@ -168,11 +168,7 @@ const REFUSED: [(&str, u8, &str); 23] = [
         0,
         "The screen with its attributes, for a terminal of today",
     ),
-    (
-        "vt220 picture --help",
-        0,
-        "The screen as a picture (SVG)",
-    ),
+    ("vt220 picture --help", 0, "The screen as a picture (SVG)"),
     ("vt220 --version", 0, "vt220 0.2.0\n"),
 ];
 

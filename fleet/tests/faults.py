@@ -273,7 +273,7 @@ def a_session_that_workers_die_of_is_given_up(url, _):
 FLOOD = """
 import os, sys, threading, tty
 tty.setraw(0)
-count, got = 60000, b""
+count, got = 200000, bytearray()
 threading.Thread(target=lambda: [os.write(1, b"\\033[c" * 1000) for _ in range(count // 1000)]).start()
 while len(got) < 10 * count:
     got += os.read(0, 65536)
@@ -283,7 +283,7 @@ sys.exit(0 if got == b"\\033[?62;1;6c" * count else 1)
 
 @with_machine
 def a_hostile_session_delays_no_other(machine, _):
-    """A program asks 60,000 questions as fast as it can, and counts the answers."""
+    """A program asks 200,000 questions as fast as it can, and counts the answers."""
     name = "hostile"
     workers = Processes(machine, 1, "--lease", "1")
     calm = [Source(machine.url, f"calm-{number}").listen() for number in range(4)]

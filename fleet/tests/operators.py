@@ -1,7 +1,9 @@
 """What an operator does: list, kill, end, drain, type, look, export; exit statuses, configuration, metrics, logs."""
 import json
 import os
+import pty
 import re
+import select
 import signal
 import struct
 import subprocess
@@ -174,6 +176,49 @@ def viewers_type_in_order_and_once(machine, _):
     proxy.stop()
 
 
+class OnTerminal:
+    """The command on a terminal of its own, and what it drew there."""
+
+    def __init__(self, url, *words):
+        self.child, self.master = pty.fork()
+        if self.child == 0:
+            os.execve(local.COMMAND, [local.COMMAND, *words], os.environ | {"FLEET_REDIS": url, "TERM": "xterm"})
+        self.drawn = b""
+
+    def has(self, wanted):
+        while select.select([self.master], [], [], 0.02)[0]:
+            try:
+                self.drawn += os.read(self.master, 65536)
+            except OSError:
+                break
+        return wanted in self.drawn
+
+    def status(self):
+        wait_for(lambda: self.has(b"\033[?1049l"))
+        return os.waitstatus_to_exitcode(os.waitpid(self.child, 0)[1])
+
+
+@with_machine
+def a_viewer_follows_and_types_on_a_terminal(machine, _):
+    name, workers = "view", Processes(machine, 1, "--lease", "1")
+    host = program(machine, name, ["sh", "-c", "printf '\\033[1mhello\\033[m'; while read x; do echo \"got $x\"; done; exit 3"], "--input")
+    store = stores.connect(machine.url)
+    wait_for(lambda: store.hexists(keys.NAMES, name))
+    types, looks = OnTerminal(machine.url, "view", "--type", name), OnTerminal(machine.url, "view", name)
+    check(wait_for(lambda: types.has(b"\033[0;1mhello")), name, "it draws the session")
+    os.write(types.master, b"by \xc3\xa4 viewer\r")
+    check(wait_for(lambda: looks.has(b"got by ")), name, "what one viewer types, the other sees")
+    workers.kill(0)
+    os.write(types.master, b"after a kill\r")
+    check(wait_for(lambda: looks.has(b"got after a kill"), 15), name, "over the death of a worker, too")
+    os.write(types.master, b"\x1d")
+    check(types.status() == 0, name, "Ctrl-] leaves")
+    typed = fleet(machine.url, "type", name, "\x04")
+    check(typed[0] == 0 and host.wait(10) == 3, name, "an end of file ends the program")
+    check(looks.status() == 0, name, "and the viewer, at the session's end")
+    workers.stop()
+
+
 @with_machine
 def sessions_are_looked_at_and_exported(machine, data):
     name, url = "export", machine.url
@@ -278,6 +323,7 @@ CASES = [
     kill_end_and_their_statuses,
     drain_hands_over_within_a_second,
     viewers_type_in_order_and_once,
+    a_viewer_follows_and_types_on_a_terminal,
     sessions_are_looked_at_and_exported,
     metrics_and_logs,
     the_configuration_is_read_and_checked,

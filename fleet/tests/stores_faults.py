@@ -154,6 +154,23 @@ def a_store_that_went_back_is_noticed(machine, data):
 
 
 @with_machine
+def reports_that_the_store_lost_are_made_again(machine, _):
+    """The store went back past a report that the host hadn't read. The worker that had sent it lives, and is ahead of the store."""
+    name, one = "lost report", worker(machine.url)
+    source = Source(machine.url, name).send(b"ab")
+    until(lambda: one.kept and not one.due, one)
+    source.send(b"\033[6n")
+    until(lambda: source.store.xlen(source.part("answers")) == 1, one)
+    cut_back(machine, lambda gone: gone.count(b"bytes\r\n") > 1)
+    check(source.store.xlen(source.part("answers")) == 0, name, "it is gone")
+    source.send(b"cd\033[6n").end(0)
+    check(until(source.is_ended, one), name, "the session ends")
+    source.receive()
+    check(source.host.rebuilt == 1 and source.reports() == b"\033[1;3R\033[1;5R", name, f"both reports come: {source.got}")
+    compare(source, name)
+
+
+@with_machine
 def what_cannot_be_rebuilt_is_a_named_fault(machine, data):
     """The store lost more than the host can send again."""
     name = "lost"
@@ -342,6 +359,7 @@ def a_cluster_is_refused(machine, _):
 CASES = [
     half_open_connections_are_left,
     a_store_that_went_back_is_noticed,
+    reports_that_the_store_lost_are_made_again,
     what_cannot_be_rebuilt_is_a_named_fault,
     a_store_without_persistence_is_refused_and_rebuilt,
     a_full_store_is_waited_for,

@@ -1,0 +1,215 @@
+"""Tests the binding: threads, arguments, the version, and how the library is found. test_vt220.py plays the vectors."""
+import ctypes
+import gc
+import os
+import pathlib
+import shutil
+import subprocess
+import sys
+import threading
+import time
+
+import pytest
+
+import vt220
+
+PACKAGE = pathlib.Path(vt220.__file__).parent
+
+
+def memory():
+    """Returns the resident memory in KB."""
+    with open("/proc/self/statm") as file:
+        return int(file.read().split()[1]) * os.sysconf("SC_PAGESIZE") // 1024
+
+
+def in_threads(count, call):
+    """Runs `call` in `count` threads at once, and returns what they raised."""
+    raised = []
+
+    def run():
+        try:
+            call()
+        except BaseException as fault:
+            raised.append(fault)
+
+    threads = [threading.Thread(target=run) for _ in range(count)]
+    for thread in threads:
+        thread.start()
+    for thread in threads:
+        thread.join()
+    return raised
+
+
+def python(code, **environment):
+    return subprocess.run([sys.executable, "-B", "-c", code], capture_output=True, text=True, timeout=60,
+                          env={**os.environ, "PYTHONPATH": str(PACKAGE.parent), **environment})
+
+
+def test_ended_threads_leave_no_memory():
+    terminal = vt220.Terminal()
+    for _ in range(50):
+        in_threads(1, terminal.repaint)
+    before = memory()
+    for _ in range(1000):
+        assert not in_threads(1, terminal.repaint)
+    # A scratch buffer that stays has 92 KB, so that a thousand of them have 92 MB.
+    assert memory() - before < 8000
+
+
+def test_dropped_terminals_leave_no_memory():
+    for _ in range(100):
+        vt220.Terminal()
+    gc.collect()
+    before = memory()
+    terminal = vt220.Terminal()
+    for _ in range(2000):
+        vt220.Terminal().text()
+        terminal.__init__()
+    assert memory() - before < 8000
+
+
+# A crash ends its process, so each of these runs in one of its own.
+HAMMER = """
+import threading, vt220
+terminal, other = vt220.Terminal(), vt220.Terminal()
+stop = threading.Event()
+def hammer(call):
+    while not stop.is_set():
+        try:
+            call()
+        except vt220.Error:
+            pass
+data = b"\\033[?3habc\\033[6n\\033[4h\\033(0lqk\\033[2J" * 300
+calls = {calls}
+threads = [threading.Thread(target=hammer, args=[call]) for call in calls for _ in range(2)]
+for thread in threads: thread.start()
+stop.wait(3)
+stop.set()
+for thread in threads: thread.join()
+print("alive")
+"""
+
+
+@pytest.mark.parametrize("calls", [
+    "[lambda: terminal.feed(data)]",
+    "[lambda: terminal.feed(data), terminal.repaint, lambda: terminal.row(5), lambda: other.update(terminal), terminal.modes]",
+    "[lambda: terminal.feed(data), lambda: terminal.close(), lambda: terminal.__init__(), terminal.text]",
+    "[lambda: other.update(terminal), lambda: terminal.update(other), lambda: other.same_state(terminal), lambda: other.feed(data)]",
+])
+def test_threads_cannot_crash_python(calls):
+    done = python(HAMMER.format(calls=calls))
+    assert (done.returncode, done.stdout) == (0, "alive\n"), done.stderr
+
+
+def test_threads_get_their_own_reports():
+    terminal = vt220.Terminal()
+    question = b"\033[5n" * 2000
+
+    def ask():
+        for _ in range(20):
+            assert terminal.feed(question) == b"\033[0n" * 2000
+
+    assert not in_threads(8, ask)
+
+
+def test_a_closed_terminal_never_keeps_a_thread():
+    terminal = vt220.Terminal()
+    data = b"x" * 1000
+
+    def play():
+        while True:
+            terminal.feed(data)
+
+    timer = threading.Timer(0.2, terminal.close)
+    timer.start()
+    raised = in_threads(3, play)
+    assert [type(fault) for fault in raised] == [vt220.Closed] * 3
+
+
+@pytest.mark.parametrize("wrong", [5, 5.0, "text", None, [65], object()])
+def test_feed_refuses_what_is_not_bytes(wrong):
+    terminal = vt220.Terminal()
+    for call in (terminal.feed, terminal.feed_until_report):
+        with pytest.raises(TypeError):
+            call(wrong)
+    assert terminal.text() == "\n" * 24
+
+
+@pytest.mark.parametrize("kind", [bytes, bytearray, memoryview])
+def test_feed_takes_what_is_bytes(kind):
+    terminal = vt220.Terminal()
+    assert terminal.feed(kind(b"ab\033[6n")) == b"\033[1;3R"
+    assert terminal.feed(kind(b"")) == b""
+
+
+def test_exceptions_have_words():
+    for fault in (vt220.Error, vt220.Memory, vt220.InUse, vt220.Closed, vt220.Partial, vt220.Room):
+        assert len(str(fault()).split()) >= 3 and issubclass(fault, vt220.Error)
+    terminal = vt220.Terminal()
+    terminal.feed(b"\033[")
+    with pytest.raises(vt220.Partial, match="inside a sequence"):
+        terminal.repaint()
+    terminal.close()
+    with pytest.raises(vt220.Closed, match="closed"):
+        terminal.text()
+
+
+def test_docstrings_begin_with_a_verb():
+    import vt220.rig
+    for owner in (vt220, vt220.Terminal, vt220.rig, vt220.rig.Rig, vt220.rig.Screen):
+        for name, thing in vars(owner).items():
+            if not name.startswith("_") and callable(thing) and getattr(thing, "__module__", "").startswith("vt220"):
+                first = (thing.__doc__ or "").split(" ")[0]
+                assert first.rstrip(",").endswith("s") and first[0].isupper(), f"{owner.__name__}.{name}: {thing.__doc__}"
+
+
+def test_a_library_of_another_version_is_refused(tmp_path):
+    if not shutil.which("gcc"):
+        pytest.skip("gcc isn't here")
+    (tmp_path / "other.c").write_text("unsigned vt220_version(void) { return 9900; }\n")
+    library = tmp_path / "libvt220.so"
+    subprocess.run(["gcc", "-shared", "-fPIC", "-o", str(library), str(tmp_path / "other.c")], check=True)
+    done = python("import vt220", VT220_LIBRARY=str(library))
+    assert done.returncode == 1 and "ImportError: libvt220.so is of version 0.99.0, and this module is for 0." in done.stderr
+
+
+def test_the_library_next_to_the_package_comes_first(tmp_path):
+    here = tmp_path / "a" / "b" / "c"
+    shutil.copytree(PACKAGE, here / "vt220", ignore=shutil.ignore_patterns("__pycache__"))
+    # Another program's directory of the name out is never searched.
+    (here.parent.parent / "out").mkdir()
+    (here.parent.parent / "out" / "libvt220.so").write_text("not a library")
+    shutil.copy(vt220._library._name, here / "vt220" / "libvt220.so")
+    environment = {name: value for name, value in os.environ.items() if name != "VT220_LIBRARY"}
+    done = subprocess.run([sys.executable, "-B", "-c", "import vt220; print(vt220._library._name)"], capture_output=True, text=True,
+                          env={**environment, "PYTHONPATH": str(here)}, cwd=tmp_path)
+    assert done.stdout.strip() == str(here / "vt220" / "libvt220.so"), done.stderr
+    (here / "vt220" / "libvt220.so").unlink()
+    done = subprocess.run([sys.executable, "-B", "-c", "import vt220"], capture_output=True, text=True,
+                          env={**environment, "PYTHONPATH": str(here)}, cwd=tmp_path)
+    assert str(here.parent.parent) + "/out" not in done.stdout + done.stderr.split("ImportError")[-1]
+
+
+def test_a_screen_is_read_in_300_microseconds():
+    terminal = vt220.Terminal()
+    terminal.feed(b"".join(b"\033[%dmabc" % (at % 8) for at in range(640)))
+    best = 1.0
+    # The processor's own time is measured, and the best of many turns, since other work may run next to this test.
+    for _ in range(200):
+        vt220._rows.clear()
+        start = time.thread_time()
+        for row in range(1, vt220.ROWS + 1):
+            terminal.row(row)
+        best = min(best, time.thread_time() - start)
+    assert best < 300e-6
+
+
+def test_rows_read_twice_are_the_reader_s_own():
+    terminal = vt220.Terminal()
+    terminal.feed(b"ab")
+    terminal.row(1).clear()
+    assert [cell.glyph for cell in terminal.row(1)[:3]] == ["a", "b", " "]
+
+
+def test_the_cell_is_laid_out_as_in_the_header():
+    assert ctypes.sizeof(vt220._Cell) == 12

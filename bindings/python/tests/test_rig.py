@@ -1,0 +1,440 @@
+"""Tests the rig with programs written for it."""
+import os
+import pathlib
+import re
+import signal
+import subprocess
+import sys
+import threading
+import time
+import xml.etree.ElementTree
+
+import pytest
+
+import vt220
+from vt220.picture import svg
+from vt220.process import MARK
+from vt220.rig import ENTER, F6, UP, Failure, Key, KeyboardLocked, Reports, Rig, Screen, run
+from vt220.screen import MASK, Stored, difference, differing
+
+VECTORS = pathlib.Path(__file__).resolve().parents[3] / "crates" / "vectors" / "stdout"
+# Shows the bytes that it gets, after it has written its first argument.
+SHOWS = "stty raw -echo; printf \"$1\"; while :; do dd bs=100 count=1 2>/dev/null | od -An -tx1 -v; printf '\\r'; done"
+
+
+@pytest.fixture(autouse=True)
+def in_a_directory(tmp_path, monkeypatch):
+    monkeypatch.chdir(tmp_path)
+
+
+def shell(script, *arguments, **options):
+    return run("/bin/sh", "-c", script, "sh", *arguments, **options)
+
+
+def marked(text):
+    """Returns the processes with a text in their environment."""
+    found = []
+    for name in filter(str.isdigit, os.listdir("/proc")):
+        try:
+            with open(f"/proc/{name}/environ", "rb") as file:
+                if text in file.read():
+                    found.append(int(name))
+        except OSError:
+            pass
+    return found
+
+
+def is_alive(pid):
+    """Returns whether a process is there, and not only its exit status, which nobody may have asked for."""
+    try:
+        with open(f"/proc/{pid}/stat", "rb") as file:
+            return file.read().rpartition(b")")[2].split()[0] != b"Z"
+    except OSError:
+        return False
+
+
+def until(met, seconds=20):
+    """Waits for something that no program shows."""
+    end = time.monotonic() + seconds
+    while not met():
+        assert time.monotonic() < end
+        time.sleep(0.01)
+
+
+# What a program gets.
+
+def test_a_program_has_the_line_of_a_vt220():
+    with shell("stty size; tty; echo $TERM $LC_ALL $LINES$COLUMNS; ps -o pid= -o sid= -o tpgid= -p $$") as rig:
+        rows = rig.ended().rows
+    assert rows[0] == "24 80" and rows[1].startswith("/dev/pts/") and rows[2] == "vt220 C"
+    assert len(set(rows[3].split())) == 1  # it leads its session, and its group is in the foreground
+
+
+def test_132_columns_directory_and_environment(tmp_path):
+    with shell("stty size; pwd; echo $GIVEN; printf %0132d 7", columns=132, cwd=tmp_path, env={"GIVEN": "by the test"}) as rig:
+        screen = rig.ended()
+    assert screen.rows[:3] == ("24 132", str(tmp_path), "by the test") and screen.width == 132 and len(screen.rows[3]) == 132
+    assert "width: 132" in screen.stored()
+    # The recording shows the same when it is played.
+    terminal = vt220.Terminal()
+    terminal.feed(rig.recording)
+    assert terminal.text() == screen.text
+
+
+def test_a_command_that_is_not_there():
+    before = len(os.listdir("/proc/self/fd"))
+    for name in ("no-such-command", "./no-such-command"):
+        with pytest.raises(FileNotFoundError, match="no-such-command"):
+            run(name)
+    assert len(os.listdir("/proc/self/fd")) == before
+
+
+def test_signals_are_as_at_first():
+    """Python ignores SIGPIPE; a program doesn't inherit that."""
+    with shell("grep SigIgn /proc/self/status; grep SigBlk /proc/self/status") as rig:
+        ignored, blocked = (int(line.split()[1], 16) for line in rig.ended().rows[:2])
+    # Signals 32 and 33 are the C library's own.
+    assert (ignored & ~(3 << 31), blocked) == (0, 0)
+
+
+@pytest.mark.parametrize("modes, key, shown", [
+    ("", UP, "1b 5b 41"), ("\\033[?1h", UP, "1b 4f 41"), ("\\033[?1h\\033 G", UP, "8f 41"), ("\\033 G", F6, "9b 31 37 7e"),
+    ("", Key.KP_5, "35"), ("\\033=", Key.KP_5, "1b 4f 75"), ("", ENTER, "0d"), ("\\033[20h", ENTER, "0d 0a"), ("", "a\u00e4", "61 e4"),
+])
+def test_keys_go_as_the_modes_ask(modes, key, shown):
+    with shell(SHOWS, modes + "ready") as rig:
+        rig.wait("ready")
+        rig.keys(key)
+        rig.wait(text=shown)
+
+
+def test_a_locked_keyboard_is_a_failure_and_send_is_not():
+    with shell(SHOWS, "\\033[2hready") as rig:
+        rig.wait("ready")
+        with pytest.raises(KeyboardLocked, match="KAM"):
+            rig.keys("x")
+        rig.send(b"\x00\xff")
+        rig.wait(text="00 ff")
+        with pytest.raises(TypeError):
+            rig.send(5)
+
+
+def test_paste_sends_returns():
+    with shell(SHOWS, "ready") as rig:
+        rig.wait("ready")
+        rig.paste("ab\r\nc\nd")
+        rig.wait(text="61 62 0d 63 0d 64")
+
+
+def test_a_long_text_reaches_a_program_that_reads_late():
+    with shell("stty raw -echo; printf ready; sleep 0.3; head -c 300000 | wc -c") as rig:
+        rig.wait("ready")
+        rig.send(b"x" * 300000)
+        rig.wait("300000")
+
+
+# Reports.
+
+def test_each_report_is_of_the_place_where_it_was_asked_for():
+    script = "stty raw -echo; printf '\\033[6nab\\033[6n\\r\\n\\033[6n\\033[c'; head -c 28 | od -An -c -w40 | tr -d ' '"
+    with shell(script) as rig:
+        rig.wait(text="033[1;1R033[1;3R033[2;1R033[?62;1;6c")
+
+
+def test_an_answer_is_sent_while_the_rest_of_a_flood_waits():
+    flood = "stty raw -echo; printf '\\033[5n'; head -c 4 >/dev/null; printf 'answered '; head -c 2000000 /dev/zero | tr '\\0' x; printf '\\033[5nend'; head -c 4 | od -An -c"
+    with shell(flood) as rig:
+        rig.wait("end", timeout=60)
+        rig.wait(r"\[   0   n")
+
+
+# Waiting.
+
+def test_wait_for_each_kind_of_condition():
+    with shell("printf '\\033[5;10Hone.two\\033[7m three\\033[m\\033[20;3H'; sleep 100") as rig:
+        assert rig.wait("o.e", row=5, col=10).at("three").reverse
+        rig.wait(text="one.two")
+        rig.wait(re.compile("THREE", re.I))
+        rig.wait(cursor=(20, 3))
+        rig.wait("one", cursor=(20, 3))
+        rig.wait(lambda screen: screen.at("one").col == 10 and not screen.at("one").reverse and not screen.at("four").reverse)
+        for options in ({"what": "one", "row": 6}, {"what": "one", "col": 9}, {"text": "o.e"}, {"cursor": (1, 1)}, {"what": lambda screen: False}):
+            with pytest.raises(Failure):
+                rig.wait(timeout=0.1, **options)
+        with pytest.raises(TypeError):
+            rig.wait()
+
+
+def test_no_state_is_looked_at_inside_a_sequence():
+    seen = []
+
+    def look(screen):
+        assert rig.terminal.is_between()
+        seen.append(screen.text)
+        return screen.at("end")
+
+    pieces = "; ".join(f"printf '{piece}'; sleep 0.02" for piece in ("a\\033", "[2", ";5", "Hb\\033P1$", "q\\033", "\\\\c\\233", "10;1", "Hend"))
+    with shell(pieces + "; sleep 100") as rig:
+        rig.wait(look)
+    # Each piece ends inside a sequence, so there is no state between the first and the last.
+    assert set(seen[:-1]) <= {"\n" * 24} and seen[-1] == "a\n    bc" + "\n" * 8 + "end" + "\n" * 15
+
+
+def test_screen_waits_for_the_end_of_a_sequence():
+    with shell("printf 'x\\033['; read line; printf '3;3Hy'; read line") as rig:
+        rig.wait("")
+        while not rig.recording.endswith(b"["):
+            rig._read(1)
+        rig.send(b"\n")
+        assert rig.screen.at("y", row=3)
+
+
+def test_a_time_out_says_what_was_waited_for_and_what_there_was(tmp_path):
+    with shell("printf 'Name? '; read name", reports=Reports(tmp_path / "r", "stable-1")) as rig:
+        rig.wait("Name")
+        rig.keys("Eve")
+        with pytest.raises(Failure) as caught:
+            rig.wait("Hello", row=3, timeout=0.2)
+    words = str(caught.value)
+    assert "/Hello/ in row 3 didn't come in 0.2 s" in words and " 1|Name? Eve" in words and "test    Eve" in words
+    assert "python3 -m vt220" in words and sorted(path.name for path in (tmp_path / "r").iterdir()) == ["stable-1.bytes", "stable-1.svg"]
+    played = subprocess.run([sys.executable, "-m", "vt220", str(tmp_path / "r" / "stable-1.bytes")], capture_output=True, text=True,
+                            env={**os.environ, "PYTHONPATH": str(pathlib.Path(vt220.__file__).parents[1])})
+    assert played.stdout.startswith("Name? Eve\n")
+
+
+def test_a_program_that_ends_is_not_waited_for():
+    start = time.monotonic()
+    with shell("echo bye; exit 3", timeout=60) as rig:
+        with pytest.raises(Failure, match="ended with status 3, and /never/"):
+            rig.wait("never")
+        rig.ended(3)
+        with pytest.raises(Failure, match="status 3, not 0"):
+            rig.ended()
+    assert time.monotonic() - start < 30
+
+
+def test_ended_knows_signals_and_plays_the_last_bytes():
+    with shell("head -c 100000 /dev/zero | tr '\\0' x; echo; echo last; kill -TERM $$") as rig:
+        assert rig.ended(-signal.SIGTERM).at("last")
+    with shell("sleep 100") as rig:
+        with pytest.raises(Failure, match="didn't end"):
+            rig.ended(timeout=0.1)
+
+
+def test_ended_waits_for_the_program_and_not_for_what_it_left():
+    with shell("sleep 100 & echo started") as rig:
+        assert rig.ended(timeout=20).at("started")
+
+
+def test_still_waits_for_a_pause():
+    with shell("for i in 1 2 3 4 5; do printf $i; sleep 0.05; done; sleep 100") as rig:
+        assert rig.still(2000).rows[0] == "12345"
+    with shell("while :; do printf x; done") as rig:
+        with pytest.raises(Failure, match="without a pause"):
+            rig.still(500, timeout=0.5)
+
+
+# Screens.
+
+def vectors():
+    with open(VECTORS) as file:
+        next(file)
+        for line in file:
+            name, *fields = line.rstrip("\n").split("\t")
+            yield [name] + [None if field == "-" else bytes.fromhex(field) for field in fields]
+
+
+def test_stored_screens_are_equal_exactly_where_repaints_are():
+    by_file, by_repaint = {}, {}
+    extra = [b"", b"\033H", b"\033[1m", b"\0337\033[4;4H\0337", b"\033N", b"\033)0", b"\033[5;9r", b"\033[?1h", b"\033[1\"q", b"\033[1\"qx"]
+    for name, data, text, _, repaint in vectors():
+        for more in extra if repaint is not None else []:
+            terminal = vt220.Terminal()
+            terminal.feed(data + more)
+            screen = Screen(terminal.repaint())
+            if not more:
+                assert screen.text.encode() == text and screen.repaint == repaint, name
+            stored = screen.stored()
+            assert by_file.setdefault(stored, screen.repaint) == screen.repaint, name
+            assert by_repaint.setdefault(screen.repaint, stored) == stored, name
+    assert len(by_file) > 500
+
+
+def test_the_file_of_a_screen_can_be_read():
+    terminal = vt220.Terminal()
+    terminal.feed(b"plain \033[1;7mbold\033[m\r\n\033[4mx\033[m\033(0q\033(B\033[2;20r\033[?1h\033[?7l\033[3;7H")
+    lines = Screen(terminal.repaint()).stored().split("\n")
+    assert lines[:3] == ["plain bold", "x\u2500", ""] and len(lines[:24]) == 24
+    assert lines[24:] == ["cursor: 3 7", "margins: 2 20", "modes: +DECCKM -DECAWM", "1: 7-10 bold reverse", "2: 1 underline", ""]
+
+
+def test_masks():
+    first, second = (screen_of(b"12:34:56 load\r\npid \033[7m%d\033[m end\r\n" % pid) for pid in (1234, 9876))
+    assert first.stored() != second.stored()
+    masks = [r"\d\d:\d\d:\d\d", (2, 5, 4)]
+    assert first.stored(masks) == second.stored(masks)
+    assert first.stored(masks).startswith(f"{MASK * 8} load\npid {MASK * 4} end\n")
+
+
+def screen_of(data):
+    terminal = vt220.Terminal()
+    terminal.feed(data)
+    return Screen(terminal.repaint())
+
+
+def test_the_difference_names_rows_cells_and_attributes():
+    one, other = Stored(screen_of(b"abc\r\nsame\r\n\033[7mr\033[m").stored()), Stored(screen_of(b"axc\r\nsame\r\nr").stored())
+    assert differing(one, other) == [(1, 2), (3, 1)]
+    text = difference(one, other)
+    assert "row 1, columns 2:\n  - abc\n  + axc\n     ^" in text and "- 3: 1 reverse" in text and "same" not in text
+    assert "\033[31m- abc" in difference(one, other, colour=True)
+    assert differing(one, one) == [] and difference(one, one) == ""
+
+
+def test_the_picture_is_xml_and_marks_cells():
+    screen = screen_of(b"<&>\033[7mrev\033[0;1;4;5mx\033[m\r\n\033(0lqk\033[?5h")
+    root = xml.etree.ElementTree.fromstring(svg(screen, [(1, 2), (3, 80)]))
+    marks = [(box.get("x"), box.get("y")) for box in root.iter("{http://www.w3.org/2000/svg}rect") if box.get("class") == "m"]
+    assert marks == [("10", "0"), ("790", "36")]
+    assert "".join(text.text for text in root.iter("{http://www.w3.org/2000/svg}text")).startswith("<&>rev")
+
+
+def test_matches_writes_compares_and_marks(tmp_path):
+    script = "printf 'A menu \\033[7m%s\\033[m' \"$1\"; sleep 100"
+    with shell(script, "Open", update=True) as rig:
+        rig.wait("Open")
+        rig.matches("menu")
+    assert (tmp_path / "screens" / "menu.txt").read_text().startswith("A menu Open\n")
+    with shell(script, "Open") as rig:
+        rig.matches("menu")
+        with pytest.raises(Failure, match="--update-screens makes it"):
+            rig.matches("other")
+    with shell(script, "Oxen", reports=Reports(tmp_path / "r", "menu-1")) as rig:
+        with pytest.raises(Failure) as caught:
+            rig.matches("menu", timeout=0.3)
+    assert "menu.txt" in str(caught.value) and "  - A menu Open\n  + A menu Oxen\n            ^\n" in str(caught.value)
+    root = xml.etree.ElementTree.parse(tmp_path / "r" / "menu-1.svg").getroot()
+    marks = [(box.get("x"), box.get("y")) for box in root.iter("{http://www.w3.org/2000/svg}rect") if box.get("class") == "m"]
+    assert marks == [("80", "0")]
+
+
+# What is left, and how quick it is.
+
+STUBBORN = "trap '' HUP TERM INT; (trap '' HUP TERM INT; setsid sleep 1000) & setsid sh -c 'trap \"\" HUP; sleep 1001 & sleep 1002' & printf ready; while :; do sleep 1; done"
+
+
+def test_nothing_is_left():
+    rig = shell(STUBBORN)
+    rig.wait("ready")
+    mark = f"{MARK}={rig.process.mark}".encode() + b"\0"
+    until(lambda: len(marked(mark)) >= 5)
+    descriptors = len(os.listdir("/proc/self/fd"))
+    rig.close()
+    assert marked(mark) == []
+    assert len(os.listdir("/proc/self/fd")) == descriptors - 2
+    rig.close()
+
+
+def test_nothing_is_left_by_a_program_that_clears_its_environment():
+    with shell("trap '' HUP; env -i /bin/sleep 1003 & printf ready; wait; sleep 100") as rig:
+        rig.wait("ready")
+        until(lambda: len(rig.process.members()) == 2)
+        members = rig.process.members()
+    assert not any(is_alive(pid) for pid in members)
+
+
+@pytest.mark.parametrize("number", [signal.SIGKILL, signal.SIGTERM, signal.SIGINT, signal.SIGHUP])
+def test_nothing_is_left_when_pytest_is_interrupted(tmp_path, number):
+    token = os.urandom(8).hex()
+    (tmp_path / "test_it.py").write_text(
+        f"def test_it(vt):\n    rig = vt.run('sh', '-c', {STUBBORN!r}, env={{'TOKEN': '{token}'}})\n    rig.wait('ready')\n    rig.wait('never', timeout=100)\n")
+    pytest_process = subprocess.Popen(inner(tmp_path), cwd=tmp_path, env=inner_environment(), stdout=subprocess.DEVNULL, start_new_session=True)
+    until(lambda: len(marked(token.encode())) >= 5, 60)
+    pytest_process.send_signal(number)
+    pytest_process.wait(60)
+    until(lambda: not marked(token.encode()), 60)
+
+
+def inner(directory, *options):
+    return [sys.executable, "-B", "-m", "pytest", "-p", "vt220.pytest_plugin", "-p", "no:cacheprovider", "-q", *options, str(directory)]
+
+
+def inner_environment():
+    kept = {name: value for name, value in os.environ.items() if not name.startswith("PYTEST")}
+    return {**kept, "PYTHONPATH": str(pathlib.Path(vt220.__file__).parents[1])}
+
+
+def test_the_plugin_stores_compares_and_names_stale_screens(tmp_path):
+    (tmp_path / "test_it.py").write_text(
+        "def test_it(vt):\n    vt.run('echo', 'hello').matches('hello')\n\ndef test_two(vt):\n    vt.run('echo', 'two').matches('two')\n")
+
+    def go(*options):
+        return subprocess.run(inner(tmp_path, *options), cwd=tmp_path, env=inner_environment(), capture_output=True, text=True)
+
+    assert "isn't there; --update-screens makes it" in go().stdout
+    assert go("--update-screens").returncode == 0
+    assert (tmp_path / "screens" / "hello.txt").read_text().startswith("hello\n")
+    (tmp_path / "screens" / "old.txt").write_text("old\n")
+    for options in ([], ["-n", "2"]):
+        done = go(*options)
+        assert done.returncode == 0 and f"no test asked for the stored screen {tmp_path}/screens/old.txt" in done.stdout, done.stdout
+    assert "old.txt" not in go("-k", "two").stdout
+    (tmp_path / "screens" / "two.txt").write_text("three\n")
+    done = go("--vt-timeout", "1", "--color", "yes")
+    assert done.returncode == 1 and "\033[31m- three" in done.stdout
+    assert sorted(path.name for path in (tmp_path / "vt220-failures").iterdir()) == ["test_it.py-test_two-1.bytes", "test_it.py-test_two-1.svg"]
+    go("--update-screens")
+    assert go().returncode == 0 and not list((tmp_path / "vt220-failures").iterdir())
+
+
+def test_many_rigs_in_many_threads():
+    faults = []
+
+    def work(number):
+        try:
+            for turn in range(5):
+                with shell("stty -echo; read a; printf '\\033[6n'; read b; echo got $a; exit 7") as rig:
+                    rig.keys(f"{number}-{turn}", ENTER)
+                    rig.keys(ENTER)
+                    rig.wait(f"got {number}-{turn}", timeout=60)
+                    rig.ended(7, timeout=60)
+        except BaseException as fault:
+            faults.append(fault)
+
+    threads = [threading.Thread(target=work, args=[number]) for number in range(8)]
+    for thread in threads:
+        thread.start()
+    for thread in threads:
+        thread.join()
+    assert not faults
+
+
+def test_a_thousand_screens_are_compared_in_a_second():
+    terminal = vt220.Terminal()
+    terminal.feed(b"".join(b"\033[%d;%dH\033[%dmfile%d" % (at % 24 + 1, at // 24 * 9 + 1, at % 8, at) for at in range(200)))
+    stored = screen_of(terminal.repaint()).stored()
+    best = 9.0
+    for _ in range(5):
+        start = time.thread_time()
+        for number in range(100):
+            terminal.feed(b"\033[%d;70H\033[7m%d" % (number % 24 + 1, number))
+            assert Screen(terminal.repaint()).stored() != stored
+        best = min(best, time.thread_time() - start)
+    assert best < 0.1
+
+
+def test_a_rig_starts_as_quickly_as_a_process():
+    run("true").close()  # the watchdog starts with the first one
+
+    def quickest(start):
+        times = []
+        for _ in range(40):
+            begun = time.perf_counter()
+            started = start()
+            times.append(time.perf_counter() - begun)
+            started.close() if isinstance(started, Rig) else started.wait()
+        return min(times)
+
+    rig, process = quickest(lambda: run("true")), quickest(lambda: subprocess.Popen(["true"]))
+    assert rig < 2 * process + 0.001

@@ -1,0 +1,397 @@
+"""Plays what a host sends to a DEC VT220 terminal, and reads the screen. The terminal is proved; this module calls it by ctypes.
+
+    terminal = Terminal()
+    reports = terminal.feed(b"Hello\\r\\n\\033[6n")   # the host's bytes go in, the reports to the host come out
+    print(terminal.text())
+
+The shared library is the file that VT220_LIBRARY names, else libvt220.so next to this module, else out/libvt220.so of the
+repository that this module is in, else the system's. Rows and columns count from 1.
+
+Any thread may use any terminal at any time. A call is never interrupted by another thread's call, because the interpreter's lock
+is held during each call of the library.
+"""
+import ctypes
+import ctypes.util
+import os
+import pathlib
+import struct
+import sys
+import threading
+from typing import Any, Callable, Dict, List, NamedTuple, Tuple, Type, Union
+
+__all__ = [
+    "ROWS", "COLUMNS", "REPORT_LIMIT", "TEXT_LIMIT", "PAINT_LIMIT", "UPDATE_LIMIT", "VERSION", "HELD", "Error", "Memory", "InUse",
+    "Closed", "Partial", "Room", "Cell", "Cursor", "Margins", "Modes", "Terminal", "version",
+]
+
+ROWS = 24
+COLUMNS = 132
+REPORT_LIMIT = 10
+TEXT_LIMIT = 9528
+PAINT_LIMIT = 93512
+UPDATE_LIMIT = 94152
+VERSION = 200
+HELD = ("nothing", "escape", "control", "string")
+
+Bytes = Union[bytes, bytearray, memoryview]
+
+
+class Error(Exception):
+    """Reports a call that changed nothing."""
+
+    words = "the call did nothing"
+
+    def __init__(self, words: str = "") -> None:
+        super().__init__(words or self.words)
+
+
+class Memory(Error):
+    """Reports that an allocation failed."""
+
+    words = "memory for the terminal could not be allocated"
+
+
+class InUse(Error):
+    """Reports that a handle is open already."""
+
+    words = "the handle is open already"
+
+
+class Closed(Error):
+    """Reports a call of a closed terminal."""
+
+    words = "the terminal is closed"
+
+
+class Partial(Error):
+    """Reports that a terminal is inside a sequence, so that it has no repaint and no update."""
+
+    words = "the terminal is inside a sequence; feed it the rest of the sequence first"
+
+
+class Room(Error):
+    """Reports that a buffer is too small."""
+
+    words = "the buffer is too small"
+
+
+_STATUSES: Dict[int, Type[Error]] = {1: Memory, 2: InUse, 3: Closed, 4: Partial, 5: Room}
+
+
+class Cell(NamedTuple):
+    """Holds one cell of the screen."""
+
+    glyph: str
+    bold: bool
+    underline: bool
+    blink: bool
+    reverse: bool
+    is_protected: bool
+
+
+class Cursor(NamedTuple):
+    """Holds the cursor's position, and whether the next glyph begins a new line."""
+
+    row: int
+    col: int
+    wrap: bool
+
+
+class Margins(NamedTuple):
+    """Holds the first and the last row of the scroll region."""
+
+    top: int
+    bottom: int
+
+
+class Modes(NamedTuple):
+    """Holds which modes are set."""
+
+    kam: bool
+    irm: bool
+    srm: bool
+    lnm: bool
+    decckm: bool
+    decsclm: bool
+    decscnm: bool
+    decom: bool
+    decawm: bool
+    decarm: bool
+    dectcem: bool
+    keypad_application: bool
+    reports_8bit: bool
+
+
+class _Handle(ctypes.Structure):
+    _fields_ = [("inside", ctypes.c_void_p), ("is_open", ctypes.c_bool)]
+
+
+class _Cell(ctypes.Structure):
+    _fields_ = [("glyph", ctypes.c_uint32)] + [(name, ctypes.c_bool) for name in Cell._fields[1:]]
+
+
+class _Cursor(ctypes.Structure):
+    _fields_ = [("row", ctypes.c_size_t), ("col", ctypes.c_size_t), ("wrap", ctypes.c_bool)]
+
+
+class _Margins(ctypes.Structure):
+    _fields_ = [("top", ctypes.c_size_t), ("bottom", ctypes.c_size_t)]
+
+
+class _Modes(ctypes.Structure):
+    _fields_ = [(name, ctypes.c_bool) for name in Modes._fields]
+
+
+def _find() -> str:
+    """Returns the path of the shared library."""
+    named = os.environ.get("VT220_LIBRARY")
+    if named:
+        return named
+    package = pathlib.Path(__file__).resolve().parent
+    repository = package.parents[2] if len(package.parents) > 2 else package
+    places = [package / "libvt220.so"]
+    # The repository's own library is meant only if this module is in the repository, not in a directory three below any other.
+    if (repository / "include" / "vt220.h").exists():
+        places.append(repository / "out" / "libvt220.so")
+    for place in places:
+        if place.exists():
+            return str(place)
+    found = ctypes.util.find_library("vt220")
+    if not found:
+        raise ImportError("libvt220.so isn't found: name it in VT220_LIBRARY, copy it into the package, or build it with ./build-c")
+    return found
+
+
+def _declare(library: ctypes.PyDLL) -> None:
+    """Sets the result and the arguments of each call."""
+    handle, size, status = ctypes.POINTER(_Handle), ctypes.c_size_t, ctypes.c_uint32
+    buffer, told, boolean = ctypes.c_void_p, ctypes.POINTER(ctypes.c_size_t), ctypes.c_bool
+    calls: List[Tuple[str, Any, List[Any]]] = [
+        ("open", status, [handle]),
+        ("close", None, [handle]),
+        ("is_open", boolean, [handle]),
+        ("scratch_open", status, [handle]),
+        ("scratch_close", None, [handle]),
+        ("scratch_is_open", boolean, [handle]),
+        ("feed", size, [handle, buffer, size, buffer, size, told]),
+        ("text", status, [handle, handle, buffer, size, told]),
+        ("repaint", status, [handle, handle, buffer, size, told]),
+        ("update", status, [handle, handle, handle, buffer, size, told]),
+        ("row", size, [handle, size, buffer, size]),
+        ("cursor", boolean, [handle, ctypes.POINTER(_Cursor)]),
+        ("width", size, [handle]),
+        ("margins", boolean, [handle, ctypes.POINTER(_Margins)]),
+        ("modes", boolean, [handle, ctypes.POINTER(_Modes)]),
+        ("is_between", boolean, [handle]),
+        ("held_kind", status, [handle]),
+        ("same_state", boolean, [handle, handle]),
+    ]
+    for name, result, arguments in calls:
+        function = getattr(library, "vt220_" + name)
+        function.restype, function.argtypes = result, arguments
+
+
+def _load() -> ctypes.PyDLL:
+    """Loads the library, and refuses one of another version: before 1.0 each minor version may change the interface."""
+    # PyDLL holds the interpreter's lock during a call, so that two threads are never inside the library at once.
+    library = ctypes.PyDLL(_find())
+    library.vt220_version.restype, library.vt220_version.argtypes = ctypes.c_uint32, []
+    found = library.vt220_version()
+    if found // 100 != VERSION // 100:
+        raise ImportError(f"libvt220.so is of version {_spelled(found)}, and this module is for {_spelled(VERSION)}")
+    _declare(library)
+    return library
+
+
+def _spelled(number: int) -> str:
+    return f"{number // 10000}.{number // 100 % 100}.{number % 100}"
+
+
+_library = _load()
+
+
+def version() -> int:
+    """Returns the library's version: 10000 * major + 100 * minor + patch."""
+    return int(_library.vt220_version())
+
+
+def _expect(status: int) -> None:
+    if status != 0:
+        raise _STATUSES.get(status, Error)()
+
+
+class _Owned:
+    """Owns an open handle, and closes it when nothing refers to it any more."""
+
+    def __init__(self, opens: Callable[..., int], closes: Callable[..., None]) -> None:
+        self.closes = closes
+        self.handle = _Handle()
+        _expect(opens(self.handle))
+
+    def __del__(self) -> None:
+        if hasattr(self, "handle"):
+            self.closes(self.handle)
+
+
+class _Work(threading.local):
+    """Holds the buffers of one thread. They are freed when the thread ends, since each of them owns its memory itself."""
+
+    def __init__(self) -> None:
+        self.scratch = _Owned(_library.vt220_scratch_open, _library.vt220_scratch_close)
+        self.out = ctypes.create_string_buffer(UPDATE_LIMIT)
+        self.reports = ctypes.create_string_buffer(4096)
+        self.cells = ctypes.create_string_buffer(12 * COLUMNS)  # the padding of each cell stays zero
+
+
+_work = _Work()
+
+
+class _Cells(Dict[bytes, Cell]):
+    """Keeps the cells that were read before, by their bytes: there are at most some thousands of different ones."""
+
+    def __missing__(self, raw: bytes) -> Cell:
+        cell = self[raw] = Cell(chr(int.from_bytes(raw[:4], sys.byteorder)), *(byte != 0 for byte in raw[4:9]))
+        return cell
+
+
+class _Rows(Dict[bytes, Tuple[Cell, ...]]):
+    """Keeps rows that were read before, by their bytes: most rows of a screen are those of the screen before."""
+
+    def __missing__(self, raw: bytes) -> Tuple[Cell, ...]:
+        row = tuple(map(_cells.__getitem__, _CUTS[len(raw)](raw)))
+        if len(self) >= 4096:
+            self.clear()
+        self[raw] = row
+        return row
+
+
+assert ctypes.sizeof(_Cell) == 12
+_CUTS = {12 * width: struct.Struct("12s" * width).unpack for width in (80, 132)}
+_cells, _rows = _Cells(), _Rows()
+
+
+class Terminal:
+    """Opens a terminal in its state at power-up.
+
+    It is closed by close(), by the end of a with statement, or when nothing refers to it any more. Raises Memory if an allocation
+    fails. Each call of a closed terminal, close() aside, raises Closed.
+    """
+
+    def __init__(self) -> None:
+        self._owned = _Owned(_library.vt220_open, _library.vt220_close)
+        self._handle = self._owned.handle
+
+    def close(self) -> None:
+        """Frees the terminal's memory. A closed terminal stays closed."""
+        _library.vt220_close(self._handle)
+
+    def __enter__(self) -> "Terminal":
+        return self
+
+    def __exit__(self, *_: object) -> None:
+        self.close()
+
+    def _opened(self) -> _Handle:
+        if not _library.vt220_is_open(self._handle):
+            raise Closed()
+        return self._handle
+
+    def feed(self, data: Bytes) -> bytes:
+        """Plays all bytes of the host, and returns the reports to it. Raises TypeError if `data` isn't bytes-like."""
+        handle, data, room = self._opened(), bytes(memoryview(data)), _work.reports
+        start = ctypes.cast(ctypes.c_char_p(data), ctypes.c_void_p).value or 0
+        reports, written, at = [], ctypes.c_size_t(), 0
+        while at < len(data):
+            played = _library.vt220_feed(handle, start + at, len(data) - at, room, len(room), written)
+            if not played:  # another thread has closed the terminal
+                raise Closed()
+            at += played
+            if written.value:
+                reports.append(ctypes.string_at(room, written.value))
+        return b"".join(reports)
+
+    def feed_until_report(self, data: Bytes) -> Tuple[int, bytes]:
+        """Plays bytes of the host up to the first one that asks for a report.
+
+        Returns the number of bytes played, and the report. Without a report all bytes are played, and the report is empty.
+        """
+        handle, data, written = self._opened(), bytes(memoryview(data)), ctypes.c_size_t()
+        # With capacity for one report alone the call ends after the byte that asked for it.
+        played = _library.vt220_feed(handle, data, len(data), _work.reports, REPORT_LIMIT, written)
+        return played, ctypes.string_at(_work.reports, written.value)
+
+    def _written(self, function: Callable[..., int], *handles: _Handle) -> bytes:
+        written = ctypes.c_size_t()
+        work = _work
+        _expect(function(*handles, work.scratch.handle, work.out, UPDATE_LIMIT, written))
+        return ctypes.string_at(work.out, written.value)
+
+    def text(self) -> str:
+        """Returns the screen's text: 24 lines, each without the spaces at its end and with a line feed."""
+        return self._written(_library.vt220_text, self._opened()).decode()
+
+    def repaint(self) -> bytes:
+        """Returns bytes that leave any terminal in this one's state. Raises Partial inside a sequence."""
+        return self._written(_library.vt220_repaint, self._opened())
+
+    def update(self, to: "Terminal") -> bytes:
+        """Brings this terminal to the state of `to`, and returns bytes that do the same to any terminal in this one's old state.
+
+        Raises Partial if one of the two is inside a sequence. The update to itself is empty.
+        """
+        if self._handle is to._handle:
+            if not self.is_between():
+                raise Partial()
+            return b""
+        return self._written(_library.vt220_update, self._opened(), to._opened())
+
+    def _raw(self, row: int) -> bytes:
+        """Returns a row's cells as the library writes them: 12 bytes a cell, the glyph's number and five booleans."""
+        if not 1 <= row <= ROWS:
+            raise IndexError("rows count from 1 to 24")
+        cells = _work.cells
+        count = _library.vt220_row(self._handle, row, cells, COLUMNS)
+        if not count:
+            raise Closed()
+        return cells.raw[: 12 * count]
+
+    def row(self, row: int) -> List[Cell]:
+        """Returns the cells of a row, 1 to 24. Raises IndexError if there is no such row."""
+        return list(_rows[self._raw(row)])
+
+    def _told(self, function: Callable[..., bool], kind: Any, result: Any) -> Any:
+        told = kind()
+        if not function(self._handle, told):
+            raise Closed()
+        return result(*(getattr(told, name) for name in result._fields))
+
+    def cursor(self) -> Cursor:
+        """Returns the cursor's position, and whether the next glyph begins a new line."""
+        return self._told(_library.vt220_cursor, _Cursor, Cursor)  # type: ignore[no-any-return]
+
+    def margins(self) -> Margins:
+        """Returns the first and the last row of the scroll region."""
+        return self._told(_library.vt220_margins, _Margins, Margins)  # type: ignore[no-any-return]
+
+    def modes(self) -> Modes:
+        """Returns which modes are set."""
+        return self._told(_library.vt220_modes, _Modes, Modes)  # type: ignore[no-any-return]
+
+    def width(self) -> int:
+        """Returns the number of columns: 80 or 132."""
+        return int(_library.vt220_width(self._opened()))
+
+    def is_between(self) -> bool:
+        """Returns whether the terminal is between sequences."""
+        return bool(_library.vt220_is_between(self._opened()))
+
+    def held(self) -> str:
+        """Returns the kind of sequence that is unfinished, one of HELD."""
+        return HELD[_library.vt220_held_kind(self._opened())]
+
+    def same_state(self, other: "Terminal") -> bool:
+        """Returns whether two terminals are in the same state, hidden parts included."""
+        if self._handle is other._handle:
+            self._opened()
+            return True
+        return bool(_library.vt220_same_state(self._opened(), other._opened()))

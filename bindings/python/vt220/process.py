@@ -1,0 +1,184 @@
+"""Starts a command on a pseudo-terminal of its own, and ends it with all that it started.
+
+posix_spawn starts the command, so that other threads are no danger to it and the cost is that of fork and exec. The command leads
+a session of its own. Each process below it carries VT220_RIG in its environment, by which it is found when the command ends. A
+watchdog, one for each Python process, does the same when that Python process is killed.
+"""
+import ctypes
+import errno
+import fcntl
+import os
+import select
+import shutil
+import signal
+import struct
+import subprocess
+import termios
+import threading
+import time
+import uuid
+from typing import Dict, List, Optional, Sequence, Set, Union
+
+MARK = "VT220_RIG"
+# What a command gets of this process's environment; everything else comes from the test, so that a test runs alike everywhere.
+KEPT = ("PATH", "HOME", "USER", "LOGNAME", "TMPDIR")
+_SETSIGDEF, _SETSIGMASK, _SETSID = 4, 8, 0x80
+_libc = ctypes.CDLL(None, use_errno=True)
+_WATCH = r"""
+trap '' HUP INT TERM QUIT
+read -r _
+while :; do
+  n=0
+  for p in /proc/[0-9]*; do
+    if tr '\0' '\n' <"$p/environ" 2>/dev/null | grep -q "^VT220_RIG=$1\."; then kill -KILL "${p#/proc/}" && n=1; fi
+  done 2>/dev/null
+  [ $n = 1 ] || exit 0
+done
+"""
+
+
+class _Watchdog:
+    """Ends what is left of this process's commands when this process is gone, however it went."""
+
+    def __init__(self) -> None:
+        self.lock = threading.Lock()
+        self.pid, self.token, self.count = 0, "", 0
+        self.process: Optional["subprocess.Popen[bytes]"] = None
+
+    def mark(self) -> str:
+        """Returns the mark of a new command. Starts the watchdog if this process has none."""
+        with self.lock:
+            if self.pid != os.getpid():
+                self.pid, self.token = os.getpid(), uuid.uuid4().hex
+                # It waits for the end of its input, which only this process holds open.
+                self.process = subprocess.Popen(["/bin/sh", "-c", _WATCH, "vt220-watchdog", self.token], stdin=subprocess.PIPE,
+                                                stdout=subprocess.DEVNULL, stderr=subprocess.DEVNULL, start_new_session=True, cwd="/",
+                                                env={"PATH": os.environ.get("PATH", os.defpath)})
+                # Python would wait for it at its end, but it ends after Python.
+                self.process.returncode = 0
+            self.count += 1
+            return f"{self.token}.{self.count}"
+
+
+_watchdog = _Watchdog()
+
+
+def environment(term: str, given: Optional[Dict[str, str]]) -> Dict[str, str]:
+    """Returns the environment of a command: PATH and the home of this process, TERM, LC_ALL=C, and what the test gives."""
+    kept = {name: os.environ[name] for name in KEPT if name in os.environ}
+    return {**kept, "TERM": term, "LC_ALL": "C", **(given or {})}
+
+
+def _pointers(words: Sequence[str]) -> "ctypes.Array[ctypes.c_char_p]":
+    return (ctypes.c_char_p * (len(words) + 1))(*[os.fsencode(word) for word in words], None)
+
+
+def _spawn(path: str, argv: Sequence[str], env: Dict[str, str], cwd: Optional[str], terminal: str) -> int:
+    """Starts a program in a session of its own, whose controlling terminal is `terminal`. Returns its process id."""
+    actions, attributes, signals = (ctypes.create_string_buffer(1024) for _ in range(3))
+    _libc.posix_spawn_file_actions_init(actions)
+    _libc.posix_spawnattr_init(attributes)
+    try:
+        if cwd is not None:
+            _libc.posix_spawn_file_actions_addchdir_np(actions, os.fsencode(cwd))
+        # The first terminal that the leader of a session opens becomes its controlling terminal.
+        _libc.posix_spawn_file_actions_addopen(actions, 0, os.fsencode(terminal), os.O_RDWR, 0)
+        _libc.posix_spawn_file_actions_adddup2(actions, 0, 1)
+        _libc.posix_spawn_file_actions_adddup2(actions, 0, 2)
+        # Python ignores SIGPIPE, and nohup SIGHUP; a command starts with neither ignored and nothing blocked.
+        _libc.sigemptyset(signals)
+        _libc.posix_spawnattr_setsigmask(attributes, signals)
+        _libc.sigfillset(signals)
+        _libc.posix_spawnattr_setsigdefault(attributes, signals)
+        _libc.posix_spawnattr_setflags(attributes, ctypes.c_short(_SETSIGDEF | _SETSIGMASK | _SETSID))
+        pid = ctypes.c_int()
+        words = _pointers([f"{name}={value}" for name, value in env.items()])
+        fault = _libc.posix_spawn(ctypes.byref(pid), os.fsencode(path), actions, attributes, _pointers(argv), words)
+    finally:
+        _libc.posix_spawn_file_actions_destroy(actions)
+        _libc.posix_spawnattr_destroy(attributes)
+    if fault:
+        raise OSError(fault, os.strerror(fault), argv[0])
+    return pid.value
+
+
+class Process:
+    """Starts a command on a pseudo-terminal of 24 rows. `line` is the descriptor of the pseudo-terminal's other side."""
+
+    def __init__(self, argv: Sequence[str], env: Dict[str, str], cwd: Optional[Union[str, "os.PathLike[str]"]], columns: int) -> None:
+        path = argv[0] if "/" in argv[0] else shutil.which(argv[0], path=env.get("PATH", os.defpath))
+        if path is None:
+            raise FileNotFoundError(errno.ENOENT, "the command isn't found", argv[0])
+        self.mark = _watchdog.mark()
+        self.status: Optional[int] = None
+        self.line, self.pid, self.ending = -1, -1, -1
+        line, slave = os.openpty()
+        try:
+            fcntl.ioctl(line, termios.TIOCSWINSZ, struct.pack("4H", 24, columns, 0, 0))
+            os.set_blocking(line, False)
+            self.pid = _spawn(path, argv, {**env, MARK: self.mark}, None if cwd is None else os.fspath(cwd), os.ttyname(slave))
+        except BaseException:
+            os.close(line)
+            raise
+        finally:
+            os.close(slave)
+        self.line, self.ending = line, os.pidfd_open(self.pid)
+
+    def ended(self) -> Optional[int]:
+        """Returns the command's exit status, the negative number of the signal that ended it, or None while it runs."""
+        if self.status is None:
+            # The command stays a zombie until close(), so that its number can't be another process's.
+            seen = os.waitid(os.P_PID, self.pid, os.WEXITED | os.WNOHANG | os.WNOWAIT)
+            if seen is not None:
+                self.status = seen.si_status if seen.si_code == os.CLD_EXITED else -seen.si_status
+        return self.status
+
+    def members(self) -> List[int]:
+        """Returns the processes that the command left or has: those of its session, with its mark, or started by these."""
+        parents: Dict[int, int] = {}
+        found: Set[int] = set()
+        mark = f"{MARK}={self.mark}".encode()
+        for name in filter(str.isdigit, os.listdir("/proc")):
+            try:
+                with open(f"/proc/{name}/stat", "rb") as file:
+                    state, parent, _, session = file.read().rpartition(b")")[2].split()[:4]
+                if state in (b"Z", b"X"):
+                    continue
+                parents[int(name)] = int(parent)
+                with open(f"/proc/{name}/environ", "rb") as file:
+                    marked = mark in file.read().split(b"\0")
+            except OSError:
+                marked = False
+                if int(name) not in parents:
+                    continue
+            if marked or int(session) == self.pid:
+                found.add(int(name))
+        while True:
+            more = {pid for pid, parent in parents.items() if parent in found and pid not in found}
+            if not more:
+                return sorted(found)
+            found |= more
+
+    def close(self) -> None:
+        """Hangs up, gives the command a moment to end by itself, and then kills it and everything that it started."""
+        if self.line < 0:
+            return
+        line, self.line = self.line, -1
+        os.close(line)  # the system sends SIGHUP to the session
+        try:
+            if self.ended() is None:
+                select.select([self.ending], [], [], 0.3)
+            for turn in range(100):
+                left = self.members()
+                if not left:
+                    break
+                for pid in left:
+                    try:
+                        os.kill(pid, signal.SIGKILL)
+                    except ProcessLookupError:
+                        pass
+                time.sleep(0.001 * turn)  # until the killed ones are gone
+            self.ended()
+        finally:
+            os.close(self.ending)
+            os.waitpid(self.pid, 0)

@@ -1,0 +1,356 @@
+"""Tests terminal programs: runs one on a VT220, sends it keys, waits for what it shows, and compares its screen with a stored one.
+
+    from vt220.rig import ENTER, run
+
+    with run("less", "notes.txt") as less:
+        less.wait("notes.txt", row=24)
+        less.keys("/", "terminal", ENTER)
+        less.wait(lambda screen: screen.at("terminal").reverse)
+
+With pytest the fixture `vt` does the same, and ends each program with its test.
+"""
+import errno
+import os
+import pathlib
+import re
+import select
+import time
+from typing import Callable, Dict, List, NamedTuple, Optional, Pattern, Sequence, Tuple, Union
+
+from . import Bytes, Terminal
+from .keyboard import Key, ctrl, spelled
+from .picture import svg
+from .process import Process, environment
+from .screen import MASK, Mask, Place, Screen, Stored, difference, differing
+
+TIMEOUT = 10.0
+# How long a program must be silent before --update-screens stores its screen.
+SETTLED_MS = 500
+
+Directory = Union[str, "os.PathLike[str]"]
+Condition = Union[str, Pattern[str], Callable[[Screen], object]]
+globals().update({name: key for name, key in Key.__members__.items()})
+UP, DOWN, LEFT, RIGHT, ENTER, TAB, ESCAPE, DELETE, BACKSPACE = (
+    Key.UP, Key.DOWN, Key.LEFT, Key.RIGHT, Key.ENTER, Key.TAB, Key.ESCAPE, Key.DELETE, Key.BACKSPACE,
+)
+__all__ = ["Failure", "KeyboardLocked", "Place", "Reports", "Rig", "Screen", "Key", "MASK", "ctrl", "run", "spelled", *Key.__members__]
+
+
+class Failure(AssertionError):
+    """Reports that a program didn't do what its test waits for."""
+
+
+class KeyboardLocked(Failure):
+    """Reports keys for a terminal whose keyboard the program has locked (KAM)."""
+
+
+class Event(NamedTuple):
+    """Holds something that went over the line: its moment in seconds, who sent it, and the bytes."""
+
+    at: float
+    who: str
+    data: bytes
+
+
+class Reports(NamedTuple):
+    """Holds where the files of a failure go, and the beginning of their names."""
+
+    directory: pathlib.Path = pathlib.Path("vt220-failures")
+    name: str = ""
+    colour: bool = False
+
+    def write(self, name: str, rig: "Rig", marks: Sequence[Tuple[int, int]]) -> str:
+        """Writes the picture and the recording, and returns the lines that name them."""
+        self.directory.mkdir(parents=True, exist_ok=True)
+        stem = self.directory / (self.name or name)
+        picture, recording = f"{stem}.svg", f"{stem}.bytes"
+        pathlib.Path(recording).write_bytes(rig.recording)
+        pathlib.Path(picture).write_text(svg(rig.last, marks, " ".join(rig.argv)), encoding="utf-8")
+        return f"picture:   {picture}\nrecording: {recording}\nplay it:   python3 -m vt220 {recording}   (or: vt220 show {recording})"
+
+
+class Rig:
+    """Runs a command on a VT220. One thread uses it at a time; any number of them may run side by side."""
+
+    def __init__(self, argv: Sequence[str], *, columns: int = 80, cwd: Optional[Directory] = None, env: Optional[Dict[str, str]] = None,
+                 timeout: float = TIMEOUT, term: str = "vt220", screens: Optional[Directory] = None, update: bool = False,
+                 reports: Optional[Reports] = None, used: Optional[Callable[[pathlib.Path], None]] = None) -> None:
+        if columns not in (80, 132):
+            raise ValueError("a VT220 has 80 or 132 columns")
+        self.argv, self.timeout = [os.fspath(word) for word in argv], timeout
+        self.screens, self.update = pathlib.Path(screens if screens is not None else "screens"), update
+        self.reports, self._used = reports or Reports(), used
+        self.terminal, self.recording, self.events = Terminal(), bytearray(), []  # type: ignore[var-annotated]
+        self._output, self._is_open, self._started = bytearray(), True, time.monotonic()
+        self.process = Process(self.argv, environment(term, env), cwd, columns)
+        if columns == 132:
+            # The recording begins with it, so that it shows the same when it is played.
+            self._play(b"\033[?3h")
+        self.last = Screen(self.terminal.repaint())
+        self._poll = select.poll()
+        self._poll.register(self.process.ending, select.POLLIN)
+        self._poll.register(self.process.line, select.POLLIN)
+
+    def __enter__(self) -> "Rig":
+        return self
+
+    def __exit__(self, *_: object) -> None:
+        self.close()
+
+    def close(self) -> None:
+        """Ends the command, and everything that it started."""
+        self._is_open = False
+        self.process.close()
+
+    # The line: reading what the program wrote, and writing what is meant for it.
+
+    def _note(self, who: str, data: bytes) -> None:
+        self.events.append(Event(time.monotonic() - self._started, who, data))
+
+    def _play(self, data: bytes) -> None:
+        """Plays what the program wrote. Each report is sent before the byte after its question is played."""
+        self.recording += data
+        self._note("program", data)
+        at = 0
+        while at < len(data):
+            played, report = self.terminal.feed_until_report(data[at:] if at else data)
+            at += played
+            if report:
+                self._note("report", report)
+                self._output += report
+                self._flush()
+        if self.terminal.is_between():
+            self.last = Screen(self.terminal.repaint())
+
+    def _flush(self) -> None:
+        """Writes as much of what waits for the program as the line takes now."""
+        while self._output and self._is_open:
+            try:
+                sent = os.write(self.process.line, self._output)
+            except BlockingIOError:
+                return
+            except OSError as fault:
+                if fault.errno != errno.EIO:
+                    raise
+                self._output.clear()
+                return
+            del self._output[:sent]
+
+    def _read(self, seconds: float) -> bool:
+        """Waits for bytes of the program and plays one read of them. Returns whether there were any."""
+        if self._is_open:
+            self._poll.modify(self.process.line, select.POLLIN | (select.POLLOUT if self._output else 0))
+        for descriptor, event in self._poll.poll(max(0, seconds) * 1000):
+            if descriptor == self.process.line:
+                if event & select.POLLOUT:
+                    self._flush()
+                if event & ~select.POLLOUT:
+                    return self._take()
+        # The program may have written, and ended, between the two looks of one poll.
+        return self.process.ended() is not None and self._take()
+
+    def _take(self) -> bool:
+        if not self._is_open:
+            return False
+        try:
+            data = os.read(self.process.line, 65536)
+        except BlockingIOError:
+            return False
+        except OSError as fault:
+            if fault.errno != errno.EIO:
+                raise
+            data = b""
+        if not data:
+            # All of the program's descriptors of the line are closed.
+            self._is_open = False
+            self._poll.unregister(self.process.line)
+            return False
+        self._play(data)
+        return True
+
+    def _until(self, met: Callable[[], object], wanted: str, timeout: Optional[float]) -> None:
+        """Reads until `met` holds. It is looked at after each read that doesn't end inside a sequence."""
+        __tracebackhide__ = True
+        limit = self.timeout if timeout is None else timeout
+        deadline = time.monotonic() + limit
+        if self.terminal.is_between() and met():
+            return
+        while True:
+            left = deadline - time.monotonic()
+            if self._read(left):
+                if self.terminal.is_between() and met():
+                    return
+            elif self.process.ended() is not None and not self._take():
+                self._fail(f"the program ended with status {self.process.ended()}, and {wanted} never came")
+            if left <= 0:
+                self._fail(f"{wanted} didn't come in {limit:g} s")
+
+    # What a test does.
+
+    def send(self, data: Bytes) -> None:
+        """Sends bytes to the program as they are."""
+        data = bytes(memoryview(data))
+        self._note("test", data)
+        self._output += data
+        self._flush()
+
+    def keys(self, *keys: Union[str, Key]) -> None:
+        """Presses keys: each character of a text, or a Key, as the terminal's modes ask for it now.
+
+        What the program has written by now is played first, since it may change the modes.
+        """
+        __tracebackhide__ = True
+        while self._read(0):
+            pass
+        modes = self.terminal.modes()
+        if modes.kam:
+            self._fail("keys were pressed, and the program has locked the keyboard (KAM)", kind=KeyboardLocked)
+        self.send(b"".join(spelled(key, modes) for key in keys))
+
+    def paste(self, text: str) -> None:
+        """Sends a text as it would be typed quickly: each line feed as the Return key. A VT220 has no bracketed paste."""
+        modes = self.terminal.modes()
+        lines = text.replace("\r\n", "\n").split("\n")
+        self.send(spelled(Key.ENTER, modes).join(spelled(line, modes) for line in lines))
+
+    def wait(self, what: Optional[Condition] = None, *, text: Optional[str] = None, row: Optional[int] = None, col: Optional[int] = None,
+             cursor: Optional[Tuple[int, int]] = None, timeout: Optional[float] = None) -> Screen:
+        """Waits until the screen meets every condition given, and returns it.
+
+        `what` is a regular expression that is searched in each row, or a function of the Screen; `text` is a text as it is. `row`
+        and `col` say the row, and the column of the first character. `cursor` is the cursor's row and column.
+        """
+        __tracebackhide__ = True
+        conditions: List[Callable[[Screen], object]] = []
+        if callable(what):
+            conditions.append(what)
+        elif what is not None or text is not None:
+            expressions = ([re.compile(what)] if what is not None else []) + ([re.compile(re.escape(text))] if text is not None else [])
+            conditions += [_search(expression, row, col) for expression in expressions]
+        if cursor is not None:
+            conditions.append(lambda screen: screen.cursor[:2] == cursor)
+        if not conditions:
+            raise TypeError("wait() needs a text, an expression, a function or a cursor")
+        self._until(lambda: all(condition(self.last) for condition in conditions), _wanted(what, text, row, col, cursor), timeout)
+        return self.last
+
+    def still(self, ms: float = 200, timeout: Optional[float] = None) -> Screen:
+        """Waits until the program has written nothing for `ms` milliseconds, and returns the screen. Prefer wait()."""
+        __tracebackhide__ = True
+        limit = self.timeout if timeout is None else timeout
+        deadline = time.monotonic() + limit
+        while self._read(ms / 1000) or not self.terminal.is_between():
+            if time.monotonic() > deadline:
+                self._fail(f"the program wrote for {limit:g} s without a pause of {ms:g} ms")
+            if self.process.ended() is not None and not self._is_open:
+                break
+        return self.last
+
+    def ended(self, status: int = 0, timeout: Optional[float] = None) -> Screen:
+        """Waits until the program ends, plays all that it wrote, and compares its exit status (a signal's number is negative)."""
+        __tracebackhide__ = True
+        limit = self.timeout if timeout is None else timeout
+        deadline = time.monotonic() + limit
+        while self.process.ended() is None:
+            if time.monotonic() > deadline:
+                self._fail(f"the program didn't end in {limit:g} s")
+            if not self._read(deadline - time.monotonic()) and not self._is_open:
+                select.select([self.process.ending], [], [], max(0.0, deadline - time.monotonic()))
+        while self._take():
+            pass
+        if self.process.ended() != status:
+            self._fail(f"the program ended with status {self.process.ended()}, not {status}")
+        return self.last
+
+    @property
+    def screen(self) -> Screen:
+        """The screen after all that the program has written by now. If that ends inside a sequence, it waits for its end."""
+        __tracebackhide__ = True
+        while self._read(0):
+            pass
+        if not self.terminal.is_between() and self._is_open:
+            self._until(lambda: True, "the end of a sequence", None)
+        return self.last
+
+    def matches(self, name: str, *, masks: Sequence[Mask] = (), timeout: Optional[float] = None) -> None:
+        """Waits until the screen is the one that is stored as `name`.txt. Fails with the difference if it never is.
+
+        `masks` are parts that aren't compared: regular expressions, or (row, column, length).
+        """
+        __tracebackhide__ = True
+        path = self.screens / f"{name}.txt"
+        if self._used is not None:
+            self._used(path)
+        if self.update:
+            self.still(SETTLED_MS)
+            path.parent.mkdir(parents=True, exist_ok=True)
+            path.write_text(self.last.stored(masks), encoding="utf-8")
+            return
+        if not path.exists():
+            self._fail(f"{path} isn't there; --update-screens makes it")
+        stored = path.read_text(encoding="utf-8")
+        try:
+            self._until(lambda: self.last.stored(masks) == stored, f"the screen {name}", timeout)
+        except Failure as fault:
+            self._differs(path, str(fault).split("\n")[0], Stored(stored), Stored(self.last.stored(masks)))
+
+    # What is said when it fails.
+
+    def _differs(self, path: pathlib.Path, why: str, expected: Stored, found: Stored) -> None:
+        __tracebackhide__ = True
+        text = difference(expected, found, self.reports.colour)
+        why = f"{why}\n{path} (-) and the screen (+) differ; if the file is stale, --update-screens writes it anew\n{text}"
+        raise self._failure(why, Failure, differing(expected, found)) from None
+
+    def _fail(self, why: str, kind: "type[Failure]" = Failure) -> None:
+        __tracebackhide__ = True
+        raise self._failure(why, kind, ())
+
+    def _failure(self, why: str, kind: "type[Failure]", marks: Sequence[Tuple[int, int]]) -> Failure:
+        lines = [why, "", f"the command: {' '.join(self.argv)}", "the screen, the cursor at row %d, column %d:" % self.last.cursor[:2]]
+        lines += [f"{row:2}|{line}" for row, line in enumerate(self.last.rows, 1) if line or row == self.last.cursor.row]
+        lines.append("the last events:")
+        lines += [f"  {event.at:8.3f} s  {event.who:8}{_short(event.data)}" for event in self.events[-8:]]
+        lines.append(self.reports.write(re.sub(r"\W+", "-", pathlib.Path(self.argv[0]).name), self, marks))
+        return kind("\n".join(lines))
+
+
+def _short(data: bytes) -> str:
+    """Returns the last bytes of an event as text."""
+    shown = ascii(data[-100:].decode("latin-1"))[1:-1].replace("\\x1b", "\\e")
+    return shown if len(data) <= 100 else f"({len(data)} bytes) ..{shown}"
+
+
+def _search(expression: "Pattern[str]", row: Optional[int], col: Optional[int]) -> Callable[[Screen], object]:
+    """Returns a function that searches an expression in one row or in all, from a column or from any."""
+    def search(screen: Screen) -> bool:
+        rows = screen.rows if row is None else screen.rows[row - 1 : row]
+        if col is None:
+            return any(expression.search(line) for line in rows)
+        return any(expression.match(line, col - 1) for line in rows)
+
+    return search
+
+
+def _wanted(what: Optional[Condition], text: Optional[str], row: Optional[int], col: Optional[int], cursor: Optional[Tuple[int, int]]) -> str:
+    """Returns the words for what a test waits for."""
+    parts = []
+    if callable(what):
+        code = getattr(what, "__code__", None)
+        parts.append("what %s asks for" % (f"line {code.co_firstlineno} of {pathlib.Path(code.co_filename).name}" if code else what))
+    elif what is not None:
+        parts.append(f"/{what if isinstance(what, str) else what.pattern}/")
+    if text is not None:
+        parts.append(f"'{text}'")
+    if row is not None:
+        parts.append(f"in row {row}")
+    if col is not None:
+        parts.append(f"in column {col}")
+    if cursor is not None:
+        parts.append(f"the cursor at row {cursor[0]}, column {cursor[1]}")
+    return " ".join(parts)
+
+
+def run(*argv: str, **options: object) -> Rig:
+    """Runs a command on a VT220, and returns its Rig, which a with statement closes. The options are those of Rig."""
+    return Rig(argv, **options)  # type: ignore[arg-type]

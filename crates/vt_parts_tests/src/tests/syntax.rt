@@ -346,7 +346,7 @@ fn graphic_runs(rt: HostRuntime) {
 
 /// Whether a piece begins so.
 fn begins(piece: &[u8], front: Front) -> bool {
-    Front::of(piece) == front
+    !piece.is_empty() && Front::of(piece) == front
 }
 
 #[test]

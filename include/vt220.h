@@ -1,27 +1,39 @@
-/* vt220.h: the screen side of a DEC VT220, without keyboard and glass, for C11 and C++.
+/* vt220.h: a DEC VT220 terminal emulator core, for C11 and C++.
  *
- * A host's bytes go in, in any pieces. Out come the reports to the host, the screen as text or as cells, and bytes that
- * rebuild the whole state, hidden parts included, on any terminal of this library. What each call leaves and writes is proved;
- * docs/PROMISES.md says what is only tested: memory, time, threads, and the C ABI.
+ * You feed it the bytes that a host sends, in chunks of any size. You get the replies for the host, the screen as text,
+ * cells or a picture, and bytes that rebuild the whole state on another terminal of this library.
  *
- * Handles. A vt220 and a vt220_scratch are structs of the caller's. Each is all zero while it is closed. An open one owns
- * memory until it is closed. Only the two open calls take memory; no other call can fail for want of it. Every call may be
- * made on a closed handle, and then says so.
+ * Input. The input isn't UTF-8. Bytes 00 to 7F are ASCII and the C0 controls. Bytes 80 to 9F are the C1 controls, and A0 to FF
+ * are characters of the DEC supplemental set. BEL changes nothing but vt220_bells. LEDs, printing, double-size lines and
+ * sequences of later terminals have no effect. There is no keyboard: translate keys yourself, with vt220_modes.
  *
- * A terminal takes 30 KB. The calls that write a whole screen (vt220_text, vt220_repaint, vt220_update) work in a scratch
- * room of 94 KB, of which one is enough for any number of terminals; nothing is kept in it from call to call.
+ * Handles. You allocate a vt220 or a vt220_scratch as a struct. All zero means closed. An open handle owns memory until you
+ * close it. Only vt220_open and vt220_scratch_open allocate. Any call on a closed handle is safe, and reports it.
+ * A vt220 takes 30 KB. A vt220_scratch is a work buffer of 690 KB of address space. Its memory becomes resident only as far as
+ * it is used: 125 KB without pictures. One serves any number of terminals, one call at a time. It keeps nothing between calls.
  *
- * What the caller owes, and nothing checks:
- *  - a handle is all zero, or as these calls left it; it may be moved (memcpy), and only one copy of it is used after that;
- *  - no pointer is null, not even one with the length 0; an array has the length that is passed;
- *  - no two arguments of a call overlap, so vt220_same_state(t, t) and vt220_update(t, t, ..) are not allowed;
- *  - what is written as a struct (vt220_cursor_place, vt220_margin_rows, vt220_mode_set, vt220_cell) has bools that are 0 or
- *    1 before the call: set it to zero once;
- *  - a handle is used by one call at a time. Different handles may be used by different threads at once;
- *  - malloc, realloc and free are one allocator's, as the C library's are. No call is made from a signal handler, nor in the
- *    forked child of a program with threads.
+ * Output structs. The library writes each field of a struct that you pass, and needs nothing in it before. It sets `reserved` to
+ * zero. A later version may give these bytes a meaning.
  *
- * Rows, columns and margins count from 1. Lengths and rooms are bytes; those of vt220_row are cells.
+ * Threads. A call that takes a `const vt220 *` doesn't write to the terminal, so several threads may make such calls on one
+ * terminal at once. Any other call needs the handle for itself. Each thread needs a scratch buffer of its own.
+ *
+ * Not checked. The caller must see to these:
+ *  - A handle is all zero, or as the library left it. You may move it with memcpy if you don't use the original again.
+ *  - An array has the length that you pass. A pointer may be null if its length is 0. All other pointers aren't null.
+ *  - The arguments of a call don't overlap. The same terminal may be passed twice to a call that takes two.
+ *  - malloc, realloc and free belong to one allocator. No call is made from a signal handler, nor in the forked child of a
+ *    program with threads.
+ *
+ * Stack. vt220_update uses up to 32 KB of stack, and any other call at most 8 KB.
+ *
+ * Processor. The library needs x86-64-v2 (SSE4.2, of 2009). On an older one the two open calls return VT220_UNSUPPORTED.
+ *
+ * Versions. A program and a library go together if the major version is the same, which the SONAME has, and the library isn't older
+ * than the header. Version 0.3.0 is the first of which this holds.
+ *
+ * Rows, columns and margins count from 1. Sizes and lengths are in bytes; those of vt220_row are in cells.
+ * What each call writes and returns is proved. docs/PROMISES.md says what is only tested.
  */
 #ifndef VT220_H
 #define VT220_H
@@ -35,15 +47,17 @@ extern "C" {
 #endif
 
 /* The version of this header: 10000 * major + 100 * minor + patch. */
-#define VT220_VERSION 200
+#define VT220_VERSION 300
 
-/* What calls answer. */
-#define VT220_OK 0      /* it was done */
-#define VT220_MEMORY 1  /* memory was refused; nothing changed */
-#define VT220_IN_USE 2  /* the handle is open already; nothing changed */
-#define VT220_CLOSED 3  /* a terminal or the scratch room is closed; nothing changed */
-#define VT220_PARTIAL 4 /* a terminal is inside a sequence; nothing changed */
-#define VT220_ROOM 5    /* the caller's room is too little; nothing changed, and the length that is needed was told */
+/* What a call returns if its type is uint32_t. On an error nothing has changed. */
+#define VT220_OK 0          /* success */
+#define VT220_MEMORY 1      /* the allocation failed */
+#define VT220_IN_USE 2      /* the handle is already open */
+#define VT220_CLOSED 3      /* a terminal or the scratch buffer is closed */
+#define VT220_PARTIAL 4     /* a terminal is inside a sequence: feed the rest of it, or CAN (0x18), which only ends it */
+#define VT220_ROOM 5        /* the output buffer is too small; *written is the size that is needed */
+#define VT220_UNSUPPORTED 6 /* the processor is older than x86-64-v2 */
+#define VT220_NO_ROW 7      /* there is no such row */
 
 /* What kind of sequence is unfinished. */
 #define VT220_HELD_NOTHING 0 /* none: the terminal is between sequences */
@@ -51,123 +65,231 @@ extern "C" {
 #define VT220_HELD_CONTROL 2 /* a control sequence */
 #define VT220_HELD_STRING 3  /* a control string */
 
-#define VT220_ROWS 24            /* rows of the screen, always */
-#define VT220_COLUMNS 132        /* the most columns of the screen */
-#define VT220_REPORT_LIMIT 10    /* the most report bytes for one byte that is played */
-#define VT220_TEXT_LIMIT 9528    /* the most bytes of a text */
-#define VT220_PAINT_LIMIT 93512  /* the most bytes of a repaint */
-#define VT220_UPDATE_LIMIT 94152 /* the room that an update needs, and the most bytes that it has */
+#define VT220_ROWS 24              /* the rows of the screen, always */
+#define VT220_COLUMNS 132          /* the most columns of the screen */
+#define VT220_REPORT_LIMIT 10      /* the most bytes of replies for one byte of input */
+#define VT220_TEXT_LIMIT 9528      /* the most bytes of a text */
+#define VT220_ROW_TEXT_LIMIT 397   /* the most bytes of the text of a row */
+#define VT220_SHOW_LIMIT 51000     /* the most bytes of a text with attributes */
+#define VT220_PICTURE_LIMIT 659968 /* the most bytes of a picture */
+#define VT220_PAINT_LIMIT 93512    /* the most bytes of a repaint */
+#define VT220_UPDATE_LIMIT 94152   /* the most bytes of an update */
 
-/* A terminal. Its fields are the library's. */
+/* A terminal. The fields are private. */
 typedef struct vt220 {
     void *terminal;
     bool is_open;
+    uint64_t bells;
 } vt220;
 
-/* A scratch room. Its fields are the library's. */
+/* A scratch buffer. The fields are private. */
 typedef struct vt220_scratch {
     void *room;
     bool is_open;
 } vt220_scratch;
 
-/* A closed handle, of either type: vt220 t = VT220_INIT; */
-#define VT220_INIT {0, 0}
+/* A closed handle of either type: vt220 t = VT220_INIT; */
+#ifdef __cplusplus
+#define VT220_INIT {}
+#else
+#define VT220_INIT {0}
+#endif
 
+/* The cursor. */
 typedef struct vt220_cursor_place {
     size_t row; /* 1 to 24 */
     size_t col; /* 1 to the width */
-    bool wrap;  /* a glyph stands in the last column, and the next one begins a new line */
+    bool wrap;  /* the last column was written, and the next character begins a new line */
+    uint8_t reserved[15];
 } vt220_cursor_place;
 
+/* The scroll region. */
 typedef struct vt220_margin_rows {
-    size_t top;    /* the first row of the scroll region, 1 to 23 */
+    size_t top;    /* its first row, 1 to 23 */
     size_t bottom; /* its last row, 2 to 24 */
+    uint8_t reserved[16];
 } vt220_margin_rows;
 
-/* The modes; true where set. */
+/* The modes; true if set. */
 typedef struct vt220_mode_set {
     bool kam, irm, srm, lnm;
     bool decckm, decsclm, decscnm, decom, decawm, decarm, dectcem;
     bool keypad_application; /* DECKPAM */
     bool reports_8bit;       /* S8C1T */
+    uint8_t reserved[19];
 } vt220_mode_set;
 
+/* A cell. `reverse` is the attribute of the cell alone: DECSCNM, which reverses the screen, is a mode. */
 typedef struct vt220_cell {
-    uint32_t glyph; /* its Unicode number */
+    uint32_t glyph; /* its Unicode number; 0x20 if erased; never a control character */
     bool bold, underline, blink, reverse;
-    bool is_protected; /* a selective erase passes it over */
+    bool is_protected; /* a selective erase leaves it */
+    uint8_t reserved[3];
 } vt220_cell;
 
-/* The version of the library, as VT220_VERSION. */
+/* The attributes with which the next character is written. */
+typedef struct vt220_brush_look {
+    bool bold, underline, blink, reverse;
+    bool is_protected;
+    uint8_t reserved[11];
+} vt220_brush_look;
+
+/* The graphic sets. */
+typedef struct vt220_graphic_sets {
+    uint8_t g0, g1, g2, g3; /* the final byte of the set in G0 to G3: 'B', 'A', 'K', '0' or '<' */
+    uint8_t gl;             /* which of these is in GL, 0 to 3 */
+    uint8_t gr;             /* which of these is in GR, 1 to 3 */
+    uint8_t single_shift;   /* 2 or 3 if a single shift to G2 or G3 is pending, otherwise 0 */
+    uint8_t reserved[9];
+} vt220_graphic_sets;
+
+/* The tab stops of the columns 1 to 132, whatever the width. */
+typedef struct vt220_tab_stops {
+    bool stop[VT220_COLUMNS]; /* stop[c - 1] for column c */
+    uint8_t reserved[12];
+} vt220_tab_stops;
+
+/* What DECRC restores. */
+typedef struct vt220_saved_record {
+    size_t row;  /* 1 to 24 */
+    size_t col;  /* 1 to the width */
+    bool wrap;   /* as in vt220_cursor_place */
+    bool origin; /* DECOM */
+    bool bold, underline, blink, reverse;
+    bool is_protected;
+    uint8_t g0, g1, g2, g3; /* as in vt220_graphic_sets */
+    uint8_t gl, gr;
+    uint8_t reserved[19];
+} vt220_saved_record;
+
+/* The cells in which a row of one terminal differs from that of another. */
+typedef struct vt220_row_marks {
+    size_t width;                /* how many cells the row has */
+    bool changed[VT220_COLUMNS]; /* changed[c - 1] for column c; false after the width */
+    uint8_t reserved[12];
+} vt220_row_marks;
+
+/* Returns the version of the library, in the form of VT220_VERSION. */
 uint32_t vt220_version(void);
 
-/* Opens a closed terminal, as it is at power-up: 24 rows of 80 columns.
- * VT220_OK; VT220_IN_USE where it is open already, and VT220_MEMORY where memory was refused: then it is as it was. */
+/* Returns a short English text for a status. It is never null. */
+const char *vt220_status_text(uint32_t status);
+
+/* Opens a terminal in its power-up state: 24 rows of 80 columns, all blank.
+ * Returns VT220_OK, VT220_IN_USE, VT220_MEMORY or VT220_UNSUPPORTED. */
 uint32_t vt220_open(vt220 *t);
 
-/* Closes a terminal, and gives its memory back. A closed one stays closed. */
+/* Closes a terminal and frees its memory. Does nothing if it is closed. */
 void vt220_close(vt220 *t);
 
-/* Whether a terminal is open. */
+/* Returns whether a terminal is open. */
 bool vt220_is_open(const vt220 *t);
 
-/* Opens and closes a scratch room, and tells whether it is open; as the three calls above. */
+/* Opens a scratch buffer.
+ * Returns VT220_OK, VT220_IN_USE, VT220_MEMORY or VT220_UNSUPPORTED. */
 uint32_t vt220_scratch_open(vt220_scratch *s);
+
+/* Closes a scratch buffer and frees its memory. Does nothing if it is closed. */
 void vt220_scratch_close(vt220_scratch *s);
+
+/* Returns whether a scratch buffer is open. */
 bool vt220_scratch_is_open(const vt220_scratch *s);
 
-/* Plays `len` bytes of the host, as far as the room for reports allows, and answers how many were played. The reports to the
- * host are written to the front of `reports`, and *written tells their length; nothing behind them is touched.
- * All bytes are played, or less than VT220_REPORT_LIMIT bytes of the room are left: then send the reports, and call again
- * with the rest. A room of VT220_REPORT_LIMIT * len always takes the whole piece; one of VT220_REPORT_LIMIT or more always
- * takes a byte; one of 1 KB or more costs no speed. On a closed terminal none is played, and *written is 0. */
-size_t vt220_feed(vt220 *t, const uint8_t *bytes, size_t len, uint8_t *reports, size_t room, size_t *written);
+/* Processes input from the host. Writes the replies to the front of `reports`, and their length to *written. Doesn't modify the
+ * bytes of `reports` after them.
+ *   bytes, len      the input
+ *   reports, size   the buffer for replies
+ * Returns how many bytes were processed. If these are fewer than len, fewer than VT220_REPORT_LIMIT bytes of `reports` are free:
+ * send the replies and call again with the remainder. A buffer of VT220_REPORT_LIMIT bytes always takes at least one byte,
+ * one of VT220_REPORT_LIMIT * len all of them, and one of 5 KB costs no speed.
+ * Returns 0 on a closed terminal: a loop that ends when all is processed must also end on 0. */
+size_t vt220_feed(vt220 *t, const uint8_t *bytes, size_t len, uint8_t *reports, size_t size, size_t *written);
 
-/* Writes the screen as text: 24 lines of UTF-8, each without the spaces at its end and with LF. *written tells its length.
- * VT220_OK; VT220_ROOM where the room is too little: *written tells what is needed, and nothing is written; VT220_CLOSED where
- * the terminal or the scratch room is closed: *written is 0. VT220_TEXT_LIMIT bytes are always enough. */
-uint32_t vt220_text(vt220 *t, vt220_scratch *s, uint8_t *out, size_t room, size_t *written);
+/* Returns how often BEL was carried out since vt220_open. A BEL inside a control string isn't. Copies and resets don't change the
+ * count. Returns 0 on a closed terminal. */
+uint64_t vt220_bells(const vt220 *t);
 
-/* Writes the repaint: the bytes that, played on any vt220 in any state, leave it in exactly this one's state, hidden parts
- * included, and report nothing. *written tells its length.
- * As vt220_text; and VT220_PARTIAL where the terminal is inside a sequence: *written is 0. VT220_PAINT_LIMIT bytes are always
- * enough. */
-uint32_t vt220_repaint(vt220 *t, vt220_scratch *s, uint8_t *out, size_t room, size_t *written);
+/* Resets a terminal to its power-up state, as RIS does, also inside a sequence.
+ * Returns VT220_OK or VT220_CLOSED. */
+uint32_t vt220_reset(vt220 *t);
 
-/* Writes an update: bytes that, played on a terminal in the state of `shown`, in any pieces, leave it in exactly the state of
- * `to`, and report nothing; none exactly if nothing differs. If width and tab stops are equal, at most 28 * n + 230 bytes for n
- * cells that differ. The bytes are ASCII: graphic characters, and CUP, CUF, CUB, BS, CR, LF, ED, EL, IL, DL, SGR, DECSCA, DECSTBM, HTS,
- * TBC, SCS, locking and single shifts, DECSC, SM, RM, DECKPAM, DECKPNM, S7C1T, S8C1T, DECSTR and RIS, and nothing else. *written tells
- * their length, and `shown` is then in the state of `to`.
- * VT220_OK; VT220_CLOSED where one of the three is closed, and VT220_PARTIAL where one of the two terminals is inside a
- * sequence: *written is 0; VT220_ROOM where the room is less than VT220_UPDATE_LIMIT bytes, which *written tells. On each of
- * these nothing is written, and `shown` is as it was. Bytes of `out` behind *written are not touched. */
-uint32_t vt220_update(vt220 *shown, vt220 *to, vt220_scratch *s, uint8_t *out, size_t room, size_t *written);
+/* Brings `to` into the state of `from`, also if `from` is inside a sequence. Both are open before.
+ * Returns VT220_OK or VT220_CLOSED. */
+uint32_t vt220_copy(vt220 *to, const vt220 *from);
 
-/* Writes the cells of a row, 1 to 24, to the front of `cells`, and answers how many these are: the width. 0 where the terminal
- * is closed, there is no such row, or `room` is less than the width: then nothing is written. VT220_COLUMNS are always enough. */
-size_t vt220_row(vt220 *t, size_t row, vt220_cell *cells, size_t room);
+/* Writes the screen as text: 24 lines of UTF-8, each without the spaces at its end, and LF.
+ *   out, size   the output buffer; VT220_TEXT_LIMIT bytes are always enough
+ *   written     receives the length; 0 if a handle is closed
+ * Returns VT220_OK, VT220_ROOM or VT220_CLOSED. */
+uint32_t vt220_text(const vt220 *t, vt220_scratch *s, uint8_t *out, size_t size, size_t *written);
 
-/* Tells where the cursor is. False where the terminal is closed: then *cursor is as it was. */
-bool vt220_cursor(vt220 *t, vt220_cursor_place *cursor);
+/* Writes one line of vt220_text, that of a row from 1 to 24, with its LF.
+ *   out, size   the output buffer; VT220_ROW_TEXT_LIMIT bytes are always enough
+ *   written     receives the length; 0 if a handle is closed or there is no such row
+ * Returns VT220_OK, VT220_ROOM, VT220_CLOSED or VT220_NO_ROW. */
+uint32_t vt220_row_text(const vt220 *t, vt220_scratch *s, size_t row, uint8_t *out, size_t size, size_t *written);
 
-/* How many columns the screen has: 80 or 132; 0 where the terminal is closed. */
-size_t vt220_width(vt220 *t);
+/* Writes the screen as text with SGR sequences for the attributes, for the terminals of today. Each line ends without attributes.
+ *   out, size   the output buffer; VT220_SHOW_LIMIT bytes are always enough
+ *   written     receives the length; 0 if a handle is closed
+ * Returns VT220_OK, VT220_ROOM or VT220_CLOSED. */
+uint32_t vt220_show(const vt220 *t, vt220_scratch *s, uint8_t *out, size_t size, size_t *written);
 
-/* Tells the margins. False where the terminal is closed: then *margins is as it was. */
-bool vt220_margins(vt220 *t, vt220_margin_rows *margins);
+/* Writes the screen as a picture: an SVG document.
+ *   out, size   the output buffer; VT220_PICTURE_LIMIT bytes are always enough
+ *   written     receives the length; 0 if a handle is closed
+ * Returns VT220_OK, VT220_ROOM or VT220_CLOSED. */
+uint32_t vt220_picture(const vt220 *t, vt220_scratch *s, uint8_t *out, size_t size, size_t *written);
 
-/* Tells which modes are set. False where the terminal is closed: then *modes is as it was. */
-bool vt220_modes(vt220 *t, vt220_mode_set *modes);
+/* Writes the repaint: bytes that, fed to any terminal of this library in any state, leave it in exactly the state of `t`. They
+ * cause no replies. Other terminals lack some of these functions.
+ *   out, size   the output buffer; VT220_PAINT_LIMIT bytes are always enough
+ *   written     receives the length; 0 if a handle is closed or the terminal is inside a sequence
+ * Returns VT220_OK, VT220_ROOM, VT220_CLOSED or VT220_PARTIAL. */
+uint32_t vt220_repaint(const vt220 *t, vt220_scratch *s, uint8_t *out, size_t size, size_t *written);
 
-/* Whether the terminal is between sequences; false where it is closed. */
-bool vt220_is_between(vt220 *t);
+/* Writes an update: bytes that, fed to a terminal in the state of `shown`, leave it in exactly the state of `to`. They cause no
+ * replies. Brings `shown` into the state of `to` as well, and doesn't modify `to`.
+ *   out, size   the output buffer; VT220_UPDATE_LIMIT bytes are always enough
+ *   written     receives the length, which is 0 if and only if the states are equal;
+ *               0 also if a handle is closed or a terminal is inside a sequence
+ * If width and tab stops are equal, an update has at most 28 * n + 230 bytes for n cells that differ. It is ASCII: graphic
+ * characters, and CUP, CUF, CUB, BS, CR, LF, ED, EL, IL, DL, SGR, DECSCA, DECSTBM, HTS, TBC, SCS, locking and single shifts,
+ * DECSC, SM, RM, DECKPAM, DECKPNM, S7C1T, S8C1T, DECSTR and RIS. Doesn't modify the bytes of `out` after it.
+ * Returns VT220_OK, VT220_ROOM, VT220_CLOSED or VT220_PARTIAL. */
+uint32_t vt220_update(vt220 *shown, const vt220 *to, vt220_scratch *s, uint8_t *out, size_t size, size_t *written);
 
-/* What kind of sequence is unfinished, one of VT220_HELD_..; VT220_HELD_NOTHING where the terminal is closed. */
-uint32_t vt220_held_kind(vt220 *t);
+/* Finds the cells of a row of `to`, 1 to 24, for which `shown` has another cell or none. Call it before vt220_update, and redraw
+ * these cells alone. The cursor and DECSCNM aren't part of the cells.
+ * Returns VT220_OK, VT220_CLOSED or VT220_NO_ROW. On an error *marks isn't modified. */
+uint32_t vt220_row_changes(const vt220 *shown, const vt220 *to, size_t row, vt220_row_marks *marks);
 
-/* Whether two terminals are in the same state, hidden parts included; false where one is closed. */
-bool vt220_same_state(vt220 *a, vt220 *b);
+/* Writes the cells of a row, 1 to 24, to the front of `cells`.
+ *   cells, size   the output array and how many cells it has; VT220_COLUMNS are always enough
+ * Returns how many cells were written, which is the width. Returns 0, and writes nothing, if the terminal is closed, there is no
+ * such row, or the array is smaller than the width. */
+size_t vt220_row(const vt220 *t, size_t row, vt220_cell *cells, size_t size);
+
+/* Returns how many columns the screen has: 80 or 132; 0 on a closed terminal. */
+size_t vt220_width(const vt220 *t);
+
+/* Write a part of the state. Each returns false on a closed terminal, and then writes nothing. */
+bool vt220_cursor(const vt220 *t, vt220_cursor_place *cursor);
+bool vt220_margins(const vt220 *t, vt220_margin_rows *margins);
+bool vt220_modes(const vt220 *t, vt220_mode_set *modes);
+bool vt220_brush(const vt220 *t, vt220_brush_look *brush);
+bool vt220_sets(const vt220 *t, vt220_graphic_sets *sets);
+bool vt220_stops(const vt220 *t, vt220_tab_stops *stops);
+bool vt220_saved(const vt220 *t, vt220_saved_record *saved);
+
+/* Returns whether the terminal is between sequences; false on a closed terminal. */
+bool vt220_is_between(const vt220 *t);
+
+/* Returns what kind of sequence is unfinished: one of VT220_HELD_..; VT220_HELD_NOTHING on a closed terminal. */
+uint32_t vt220_held_kind(const vt220 *t);
+
+/* Returns whether two terminals are in the same state, hidden parts included; false if one is closed. */
+bool vt220_same_state(const vt220 *a, const vt220 *b);
 
 #ifdef __cplusplus
 }

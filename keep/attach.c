@@ -284,18 +284,18 @@ static void confirm_end(void) {
 static int say(const char *name) {
     switch (it.why) {
     case 'k':
-    case FRAME_DETACHED: printf("keep: detached from %s\n", name); return 0;
+    case FRAME_DETACHED: printf("vt220-keep: detached from %s\n", name); return 0;
     case 's': return 0;
-    case 'm': fprintf(stderr, "keep: out of memory\n"); return 1;
-    case FRAME_FULL: fprintf(stderr, "keep: %s takes no more clients\n", name); return 1;
+    case 'm': fprintf(stderr, "vt220-keep: out of memory\n"); return 1;
+    case FRAME_FULL: fprintf(stderr, "vt220-keep: %s takes no more clients\n", name); return 1;
     case FRAME_ENDED:
         if (WIFSIGNALED(it.ending.status)) {
-            printf("keep: %s was ended by signal %d (%s)\n", name, WTERMSIG(it.ending.status), strsignal(WTERMSIG(it.ending.status)));
+            printf("vt220-keep: %s was ended by signal %d (%s)\n", name, WTERMSIG(it.ending.status), strsignal(WTERMSIG(it.ending.status)));
         } else {
-            printf("keep: %s ended with status %d\n", name, WEXITSTATUS(it.ending.status));
+            printf("vt220-keep: %s ended with status %d\n", name, WEXITSTATUS(it.ending.status));
         }
         return shell_status(it.ending.status);
-    default: fprintf(stderr, "keep: %s is gone: its keeper has ended\n", name); return 1;
+    default: fprintf(stderr, "vt220-keep: %s is gone: its keeper has ended\n", name); return 1;
     }
 }
 
@@ -315,7 +315,7 @@ static int show_last(const char *name) {
         time_t when = (time_t)it.ending.time;
         struct tm parts;
         bool has_day = localtime_r(&when, &parts) != NULL && strftime(day, sizeof day, "%Y-%m-%d %H:%M:%S", &parts) > 0;
-        if (has_day) printf("keep: ended on %s\n", day);
+        if (has_day) printf("vt220-keep: ended on %s\n", day);
     }
     int status = say(name);
     if (fflush(stdout) == 0 && it.why == FRAME_ENDED) confirm_end();

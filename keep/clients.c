@@ -172,7 +172,7 @@ static void answer(struct client *c) {
     } else if (c->ask == ASK_REPAINT) {
         vt220_repaint(&the.settled, &the.scratch, room, FRAME_LIMIT, &len);
     } else {
-        refuse(c, "this keep doesn't know what is asked");
+        refuse(c, "this vt220-keep doesn't know what is asked");
         return;
     }
     put_frame(c, FRAME_ANSWER, len);

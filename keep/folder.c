@@ -179,7 +179,7 @@ int open_listener(int folder, const char *name, struct identity *made, char *why
     struct sockaddr_un address = address_of(folder, name);
     struct stat it;
     if (!lock_folder(folder)) {
-        refuse(why, "another keep holds the lock of the directory");
+        refuse(why, "another vt220-keep holds the lock of the directory");
         return -1;
     }
     int listener = is_free(folder, name, why) ? new_socket() : -2;

@@ -1,5 +1,5 @@
-/* keep: keeps programs running on terminals of their own.
- *   ./build-c && gcc -O2 -Iinclude -o out/keep keep/[a-z]*.c out/libvt220.a */
+/* vt220-keep: keeps programs running on terminals of their own.
+ *   ./build-c && gcc -O2 -Iinclude -o out/vt220-keep keep/[a-z]*.c out/libvt220.a */
 #include "keep.h"
 #include <errno.h>
 #include <fcntl.h>
@@ -13,28 +13,28 @@
 #include <unistd.h>
 
 static const char usage[] =
-    "usage: keep new [-A] [--locale=LOCALE] NAME COMMAND [ARGUMENT ...]\n"
-    "                                 run a command on a VT220 of its own, 24 by 80, in the background;\n"
-    "                                 -A attaches to it, and to the session NAME if there is one already\n"
-    "       keep attach [-r] NAME     show a session on this terminal, and send it the keys; -r only shows it\n"
-    "       keep detach NAME          detach all clients\n"
-    "       keep list [--tsv]         list sessions; --tsv: one line each with tabs, for scripts\n"
-    "       keep text NAME            print the screen as text\n"
-    "       keep repaint NAME         print the bytes that rebuild the whole terminal\n"
-    "       keep send [-l] NAME [KEY ...]\n"
-    "                                 send keys, by name (Enter, Up, PF1, ^C ..) or as text, or standard input;\n"
-    "                                 -l: each KEY is text\n"
-    "       keep kill NAME            end the command\n"
-    "       keep rename NAME NEW      give a session another name\n"
-    "       keep help | --help        print this\n"
-    "       keep version | --version  print the version\n"
+    "usage: vt220-keep new [-A] [--locale=LOCALE] NAME COMMAND [ARGUMENT ...]\n"
+    "                                       run a command on a VT220 of its own, 24 by 80, in the background;\n"
+    "                                       -A attaches to it, and to the session NAME if there is one already\n"
+    "       vt220-keep attach [-r] NAME     show a session on this terminal, and send it the keys; -r only shows it\n"
+    "       vt220-keep detach NAME          detach all clients\n"
+    "       vt220-keep list [--tsv]         list sessions; --tsv: one line each with tabs, for scripts\n"
+    "       vt220-keep text NAME            print the screen as text\n"
+    "       vt220-keep repaint NAME         print the bytes that rebuild the whole terminal\n"
+    "       vt220-keep send [-l] NAME [KEY ...]\n"
+    "                                       send keys, by name (Enter, Up, PF1, ^C ..) or as text, or standard input;\n"
+    "                                       -l: each KEY is text\n"
+    "       vt220-keep kill NAME            end the command\n"
+    "       vt220-keep rename NAME NEW      give a session another name\n"
+    "       vt220-keep help | --help        print this\n"
+    "       vt220-keep version | --version  print the version\n"
     "Ctrl-\\ detaches; pressed twice, it is sent. KEEP_KEY=^A makes Ctrl-A that key.\n"
     "Sockets are in $KEEP_DIR (default /tmp/keep-UID).\n";
 
 noreturn void fail(int status, const char *why, ...) {
     va_list words;
     va_start(words, why);
-    fputs("keep: ", stderr);
+    fputs("vt220-keep: ", stderr);
     vfprintf(stderr, why, words);
     fputc('\n', stderr);
     va_end(words);
@@ -80,7 +80,7 @@ static int do_new(char **words, const struct options *options) {
     struct beginning beginning = {words[0], options->locale, words + 1};
     check_name(words[0]);
     if (strcmp(words[1], "--") == 0) beginning.command++;
-    if (*beginning.command == NULL) fail(2, "new: an argument is missing; keep --help shows which");
+    if (*beginning.command == NULL) fail(2, "new: an argument is missing; vt220-keep --help shows which");
     if (is_there(&folder, words[0], options->attaches)) {
         if (!options->attaches) fail(1, "session %s exists already", words[0]);
     } else {
@@ -149,7 +149,7 @@ static int do_help(char **words, const struct options *options) {
 
 static int do_version(char **words, const struct options *options) {
     (void)words, (void)options;
-    printf("keep %d.%d.%d\n", VT220_VERSION / 10000, VT220_VERSION / 100 % 100, VT220_VERSION % 100);
+    printf("vt220-keep %d.%d.%d\n", VT220_VERSION / 10000, VT220_VERSION / 100 % 100, VT220_VERSION % 100);
     return 0;
 }
 
@@ -167,7 +167,7 @@ static const struct command *command_of(const char *word) {
     for (size_t i = 0; i < sizeof commands / sizeof *commands; i++) {
         if (strcmp(word, commands[i].word) == 0) return &commands[i];
     }
-    fail(2, "unknown command '%s'; keep --help lists them", word);
+    fail(2, "unknown command '%s'; vt220-keep --help lists them", word);
 }
 
 /* Reads the options after the command; returns where the words begin. */
@@ -184,7 +184,7 @@ static int read_options(const struct command *command, int argc, char **argv, st
         case 'l': options->is_text = true; break;
         case 't': options->is_for_scripts = true; break;
         case 'L': options->locale = optarg; break;
-        default: fail(2, "%s: '%s' isn't an option of it; keep --help lists them", command->word, argv[optind < argc ? optind : argc - 1]);
+        default: fail(2, "%s: '%s' isn't an option of it; vt220-keep --help lists them", command->word, argv[optind < argc ? optind : argc - 1]);
         }
     }
     return optind + 1;
@@ -208,7 +208,7 @@ int main(int argc, char **argv) {
     }
     const struct command *command = command_of(argv[1]);
     int at = read_options(command, argc, argv, &options);
-    if (argc - at < command->least) fail(2, "%s: an argument is missing; keep --help shows which", command->word);
+    if (argc - at < command->least) fail(2, "%s: an argument is missing; vt220-keep --help shows which", command->word);
     if (argc - at > command->most) fail(2, "%s: '%s' is one argument too many", command->word, argv[at + command->most]);
     int status = command->run(argv + at, &options);
     if (fflush(stdout) != 0) fail(1, "standard output: %s", strerror(errno));

@@ -113,7 +113,7 @@ static void free_signals(void) {
     sigprocmask(SIG_SETMASK, &none, NULL);
 }
 
-/* The environment says what the command's terminal is, and nothing of the one that `keep new` ran on. The C locale is needed as
+/* The environment says what the command's terminal is, and nothing of the one that `vt220-keep new` ran on. The C locale is needed as
  * a VT220 reads no UTF-8: many of its bytes are control characters there, and one is enough to make the rest unseen. */
 static void set_environment(const char *locale) {
     static const char *const others[] = {

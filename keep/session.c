@@ -32,7 +32,7 @@ static void set_name(const char *name) {
     char title[NAME_LIMIT + 8];
     snprintf(the.name, sizeof the.name, "%s", name);
     snprintf(title, sizeof title, "keep:%s", name);
-    prctl(PR_SET_NAME, title); /* its first 15 characters; `keep list` knows keepers by it */
+    prctl(PR_SET_NAME, title); /* its first 15 characters; `vt220-keep list` knows keepers by it */
 }
 
 /* Makes the socket again if it was taken away. If another session has the name by now, this one gets a longer name. */
@@ -62,13 +62,13 @@ static void mend_socket(void) {
 
 bool rename_session(const char *name, char *why) {
     if (!lock_folder(the.folder.file)) {
-        snprintf(why, WHY_LIMIT, "another keep holds the lock of the directory");
+        snprintf(why, WHY_LIMIT, "another vt220-keep holds the lock of the directory");
         return false;
     }
     bool is_mine = is_own(the.folder.file, the.name, &the.socket);
     bool is_done = is_mine && is_free(the.folder.file, name, why) && renameat(the.folder.file, the.name, the.folder.file, name) == 0;
     unlock_folder(the.folder.file);
-    if (!is_mine) snprintf(why, WHY_LIMIT, "its socket was taken away; keep list has it made again");
+    if (!is_mine) snprintf(why, WHY_LIMIT, "its socket was taken away; vt220-keep list has it made again");
     if (is_done) set_name(name);
     return is_done;
 }
@@ -247,7 +247,7 @@ static noreturn void keep(const struct beginning *beginning, int told) {
     int null = open("/dev/null", O_RDWR | O_CLOEXEC);
     for (int i = 0; i < 3 && null >= 0; i++) dup2(null, i);
     if (null > 2) close(null);
-    if (fchdir(the.folder.file) != 0) is_told_to_end = 1; /* by its working directory `keep list` knows it */
+    if (fchdir(the.folder.file) != 0) is_told_to_end = 1; /* by its working directory `vt220-keep list` knows it */
     settle();
     while (!the.is_given_up || has_clients()) turn(&open_mask);
     exit(0);

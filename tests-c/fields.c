@@ -37,7 +37,7 @@ static void play_text(vt220 *t, const char *text) {
 
 /* After each turn that field alone differs from power-up. */
 static void one_mode_at_a_time(void) {
-    CHECK(sizeof(vt220_mode_set) == MODES * sizeof(bool));
+    CHECK(offsetof(vt220_mode_set, reserved) == MODES * sizeof(bool));
     for (size_t turned = 0; turned < MODES; turned++) {
         vt220 t = VT220_INIT;
         vt220_mode_set modes;
@@ -82,8 +82,8 @@ static void one_attribute_at_a_time(void) {
 /* Places whose numbers all differ. */
 static void places(void) {
     vt220 t = VT220_INIT;
-    vt220_cursor_place cursor = {0, 0, false};
-    vt220_margin_rows margins = {0, 0};
+    vt220_cursor_place cursor;
+    vt220_margin_rows margins;
     CHECK(vt220_open(&t) == VT220_OK);
     play_text(&t, "\033[3;17r\033[5;80HA");
     CHECK(vt220_cursor(&t, &cursor) && cursor.row == 5 && cursor.col == 80 && cursor.wrap);

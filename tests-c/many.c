@@ -34,7 +34,7 @@ int main(void) {
     }
     CHECK(fed);
     long each = (resident() - before) / COUNT;
-    printf("many: %d terminals, %ld bytes of resident memory each, a scratch room of %d bytes for all included\n", COUNT, each, VT220_UPDATE_LIMIT);
+    printf("many: %d terminals, %ld bytes of resident memory each, a scratch buffer for all included\n", COUNT, each);
     CHECK(each < 32 * 1024);
     for (int i = 0; i < COUNT; i++) vt220_close(&t[i]);
     vt220_scratch_close(&s);

@@ -9,8 +9,8 @@ static bool untouched(void) { return memcmp(out, before, sizeof out) == 0; }
 static void closed_handles(void) {
     vt220 t = VT220_INIT, other = VT220_INIT;
     vt220_scratch s = VT220_INIT;
-    vt220_cursor_place cursor = {7, 8, true};
-    vt220_margin_rows margins = {7, 8};
+    vt220_cursor_place cursor = {.row = 7, .col = 8, .wrap = true};
+    vt220_margin_rows margins = {.top = 7, .bottom = 8};
     vt220_mode_set modes;
     memset(&modes, 1, sizeof modes);
     size_t written = 9;
@@ -79,7 +79,7 @@ static void rooms(void) {
     CHECK(vt220_feed(&t, BYTES(""), out, 0, &written) == 0 && written == 0);
     CHECK(vt220_feed(&t, BYTES("\033[1;1Hone\r\n\033[4mtwo"), out, 10, &written) == 18 && written == 0 && untouched());
     for (int call = 0; call < 2; call++) {
-        uint32_t (*write)(vt220 *, vt220_scratch *, uint8_t *, size_t, size_t *) = call == 0 ? vt220_text : vt220_repaint;
+        uint32_t (*write)(const vt220 *, vt220_scratch *, uint8_t *, size_t, size_t *) = call == 0 ? vt220_text : vt220_repaint;
         CHECK(write(&t, &s, out, 0, &len) == VT220_ROOM && len > 1 && untouched());
         size_t few[] = {0, 1, len - 1};
         for (int i = 0; i < 3; i++) {
@@ -89,10 +89,11 @@ static void rooms(void) {
         CHECK(write(&t, &s, out, len, &written) == VT220_OK && written == len && out[len] == 0xA5);
         memset(out, 0xA5, sizeof out);
     }
-    size_t few[] = {0, 1, VT220_UPDATE_LIMIT - 1};
+    CHECK(vt220_update(&t, &to, &s, out, 0, &len) == VT220_ROOM && len > 1);
+    size_t few[] = {0, 1, len - 1};
     for (int i = 0; i < 3; i++)
-        CHECK(vt220_update(&t, &to, &s, out, few[i], &written) == VT220_ROOM && written == VT220_UPDATE_LIMIT && untouched() && !vt220_same_state(&t, &to));
-    CHECK(vt220_update(&t, &to, &s, out, VT220_UPDATE_LIMIT, &written) == VT220_OK && vt220_same_state(&t, &to));
+        CHECK(vt220_update(&t, &to, &s, out, few[i], &written) == VT220_ROOM && written == len && untouched() && !vt220_same_state(&t, &to));
+    CHECK(vt220_update(&t, &to, &s, out, len, &written) == VT220_OK && written == len && vt220_same_state(&t, &to));
     CHECK(written > 0 && written < 100 && memcmp(out + written, before, sizeof out - written) == 0);
     CHECK(vt220_feed(&t, BYTES("\033["), out, 20, &written) == 2 && vt220_held_kind(&t) == VT220_HELD_CONTROL);
     CHECK(vt220_update(&t, &to, &s, out, sizeof out, &written) == VT220_PARTIAL && vt220_update(&to, &t, &s, out, sizeof out, &written) == VT220_PARTIAL && written == 0);
@@ -118,11 +119,11 @@ static void rows(void) {
     CHECK(vt220_feed(&t, BYTES("\033[24;80H\033[1;4;5;7m\033[1\"qX"), out, 250, &written) == 24);
     CHECK(vt220_row(&t, 24, cells, 80) == 80 && cells[0].glyph == ' ' && !cells[0].bold && cells[79].glyph == 'X' && cells[80].glyph == 0);
     CHECK(cells[79].bold && cells[79].underline && cells[79].blink && cells[79].reverse && cells[79].is_protected);
-    vt220_cursor_place cursor = {0, 0, false};
+    vt220_cursor_place cursor;
     CHECK(vt220_cursor(&t, &cursor) && cursor.row == 24 && cursor.col == 80 && cursor.wrap);
     CHECK(vt220_feed(&t, BYTES("\033[?3h\033[5;9r\033[4h\033[?6h\033=\033 G"), out, 250, &written) == 25);
     CHECK(vt220_width(&t) == 132 && vt220_row(&t, 1, cells, 131) == 0 && vt220_row(&t, 1, cells, 132) == 132 && cells[132].glyph == 0);
-    vt220_margin_rows margins = {0, 0};
+    vt220_margin_rows margins;
     CHECK(vt220_margins(&t, &margins) && margins.top == 5 && margins.bottom == 9);
     vt220_mode_set modes;
     memset(&modes, 0, sizeof modes);

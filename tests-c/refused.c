@@ -59,12 +59,12 @@ static void each_refused(bool is_terminal) {
 
 /* No call but the two that open takes memory. */
 static void none_taken(void) {
-    static uint8_t out[VT220_UPDATE_LIMIT];
+    static uint8_t out[VT220_PICTURE_LIMIT];
     static vt220_cell cells[VT220_COLUMNS];
     vt220 t = VT220_INIT, to = VT220_INIT;
     vt220_scratch s = VT220_INIT;
-    vt220_cursor_place cursor = {0, 0, false};
-    vt220_margin_rows margins = {0, 0};
+    vt220_cursor_place cursor;
+    vt220_margin_rows margins;
     vt220_mode_set modes;
     memset(&modes, 0, sizeof modes);
     size_t written;
@@ -75,6 +75,16 @@ static void none_taken(void) {
     CHECK(vt220_update(&to, &t, &s, out, sizeof out, &written) == VT220_OK && vt220_same_state(&t, &to));
     CHECK(vt220_row(&t, 1, cells, VT220_COLUMNS) == 132 && vt220_cursor(&t, &cursor) && vt220_margins(&t, &margins) && vt220_modes(&t, &modes));
     CHECK(vt220_width(&t) == 132 && vt220_is_between(&t) && vt220_held_kind(&t) == VT220_HELD_NOTHING && vt220_version() > 0);
+    vt220_brush_look brush;
+    vt220_graphic_sets sets;
+    vt220_tab_stops stops;
+    vt220_saved_record saved;
+    vt220_row_marks marks;
+    CHECK(vt220_brush(&t, &brush) && vt220_sets(&t, &sets) && vt220_stops(&t, &stops) && vt220_saved(&t, &saved) && vt220_bells(&t) == 0);
+    CHECK(vt220_show(&t, &s, out, sizeof out, &written) == VT220_OK && vt220_picture(&t, &s, out, sizeof out, &written) == VT220_OK);
+    CHECK(vt220_row_text(&t, &s, 1, out, sizeof out, &written) == VT220_OK && vt220_row_changes(&t, &to, 1, &marks) == VT220_OK);
+    CHECK(vt220_feed(&t, BYTES("\033[1;2;3\a"), out, sizeof out, &written) == 8 && vt220_bells(&t) == 1);
+    CHECK(vt220_copy(&to, &t) == VT220_OK && vt220_same_state(&to, &t) && vt220_reset(&t) == VT220_OK && vt220_status_text(0) != NULL);
     CHECK(calls == 0);
     vt220_close(&t);
     vt220_close(&to);

@@ -1,3 +1,3 @@
-module vt220
+module magpietuffet.example/vt220
 
 go 1.19

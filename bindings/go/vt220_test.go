@@ -134,3 +134,46 @@ func TestClosed(t *testing.T) {
 		t.Error("closed scratch", err)
 	}
 }
+
+func TestParts(t *testing.T) {
+	a, _ := New()
+	b, _ := New()
+	s, _ := NewScratch()
+	a.Feed([]byte("\x1b[3;7H\x1b(A\x1b)0\x0e\x1b[1m\x1b7\x1b[m\x1b[4m\x1bO\a"))
+	if a.Bells() != 1 || !a.Brush().Underline || a.Brush().Bold {
+		t.Error("bells or brush")
+	}
+	if a.Sets() != (Sets{[4]byte{'A', '0', '<', '<'}, 1, 2, 3}) {
+		t.Error("sets", a.Sets())
+	}
+	if saved := a.Saved(); saved.Cursor != (Cursor{3, 7, false}) || !saved.Brush.Bold || saved.G[1] != '0' || saved.GL != 1 || saved.GR != 2 {
+		t.Error("saved", saved)
+	}
+	if stops := a.Stops(); !stops[8] || stops[9] || stops[0] {
+		t.Error("stops")
+	}
+	if b.CopyFrom(a) != nil || !b.SameState(a) {
+		t.Error("copy")
+	}
+	a.Feed([]byte("\x1b[3;9HB\x1b(B\x0fz"))
+	changed, err := b.RowChanges(a, 3)
+	if err != nil || len(changed) != 80 || !changed[8] || !changed[9] || changed[7] {
+		t.Error("changes", err)
+	}
+	if _, err := b.RowChanges(a, 25); err != ErrNoRow {
+		t.Error("no such row")
+	}
+	if _, err := b.RowText(0, s); err != ErrNoRow {
+		t.Error("no such row")
+	}
+	line, _ := a.RowText(3, s)
+	show, _ := a.Show(s)
+	picture, _ := a.Picture(s)
+	if len(line) == 0 || len(show) == 0 || picture[:5] != "<svg " {
+		t.Error("what is written")
+	}
+	fresh, _ := New()
+	if a.Reset() != nil || !a.SameState(fresh) {
+		t.Error("reset")
+	}
+}

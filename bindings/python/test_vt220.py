@@ -51,7 +51,7 @@ def readers():
         check(terminal.cursor() == (1, 1, False), "readers", "cursor")
         check(terminal.margins() == (5, 9), "readers", "margins")
         check(terminal.modes().irm and not terminal.modes().lnm, "readers", "modes")
-        check(all(raises(IndexError, terminal.row, row) for row in (-1, 0, 25)), "readers", "rows 0 and 25")
+        check(all(raises(vt220.NoRow, terminal.row, row) for row in (-1, 0, 25)), "readers", "rows 0 and 25")
         check(terminal.same_state(terminal) and terminal.update(terminal) == b"", "readers", "itself")
     with vt220.Terminal() as terminal:
         parts = [b"ab\033[c", b"\033[2;3H\033[6n", b"cd\033["]
@@ -62,10 +62,35 @@ def readers():
     check(vt220.version() == vt220.VERSION, "readers", "version")
     other = vt220.Terminal()
     for name, arguments in [("feed", [b"x"]), ("feed_until_report", [b"x"]), ("text", []), ("repaint", []), ("update", [other]), ("row", [1]), ("cursor", []),
-                            ("margins", []), ("modes", []), ("width", []), ("is_between", []), ("held", []), ("same_state", [other])]:
+                            ("row_text", [1]), ("show", []), ("picture", []), ("changed", [other, 1]), ("copy_from", [other]), ("reset", []),
+                            ("bells", []), ("brush", []), ("sets", []), ("stops", []), ("saved", []), ("margins", []), ("modes", []), ("width", []), ("is_between", []), ("held", []), ("same_state", [other])]:
         check(raises(vt220.Closed, getattr(terminal, name), *arguments), "closed", name)
     check(raises(vt220.Closed, other.update, terminal), "closed", "update to it")
     terminal.close()
+
+
+def parts():
+    with vt220.Terminal() as terminal, vt220.Terminal() as copy:
+        check(terminal.stops() == list(range(9, 133, 8)), "parts", "stops at power-up")
+        check(terminal.sets() == (ord("B"), ord("B"), ord("<"), ord("<"), 0, 2, 0), "parts", "sets at power-up")
+        terminal.feed(b"\033[3;7H\033(A\033)0\016\033[1m\0337\033[m\033[4m\033O\a")
+        check(terminal.brush() == (False, True, False, False, False), "parts", "brush")
+        check(terminal.sets() == (ord("A"), ord("0"), ord("<"), ord("<"), 1, 2, 3), "parts", "sets")
+        saved = vt220.Saved(3, 7, False, False, True, False, False, False, False, ord("A"), ord("0"), ord("<"), ord("<"), 1, 2)
+        check(terminal.saved() == saved, "parts", "saved")
+        check(terminal.bells() == 1 and copy.bells() == 0, "parts", "bells")
+        copy.copy_from(terminal)
+        check(copy.same_state(terminal), "parts", "copy")
+        terminal.feed(b"\033[3;9HB\033(B\017z")
+        check(copy.changed(terminal, 3) == [9, 10] and copy.changed(terminal, 4) == [], "parts", "changed cells")
+        check(terminal.row_text(3) == terminal.text().split("\n")[2] + "\n", "parts", "the text of a row")
+        check(terminal.show().count("\033[0;4m") == 1 and terminal.picture().startswith("<svg "), "parts", "show and picture")
+        check(all(raises(vt220.NoRow, terminal.row_text, row) for row in (-1, 0, 25)), "parts", "text of rows 0 and 25")
+        check(all(raises(vt220.NoRow, terminal.changed, copy, row) for row in (-1, 0, 25)), "parts", "changes of rows 0 and 25")
+        terminal.reset()
+        with vt220.Terminal() as fresh:
+            check(terminal.same_state(fresh), "parts", "reset")
+    check(vt220.status_text(4) == "a terminal is inside a sequence", "parts", "a status")
 
 
 with open(sys.argv[1]) as file:
@@ -74,5 +99,6 @@ with open(sys.argv[1]) as file:
         name, *fields = line.rstrip("\n").split("\t")
         vector(name, *(None if field == "-" else bytes.fromhex(field) for field in fields))
 readers()
+parts()
 print(f"python: {passed} passed, {failed} failed")
 sys.exit(failed != 0)

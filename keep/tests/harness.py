@@ -19,7 +19,7 @@ PATIENCE = 15
 passed = failed = 0
 faults = []
 ROOM = pathlib.Path(tempfile.mkdtemp(prefix="keep-"))
-KEEP = str(ROOM / "keep")
+KEEP = str(ROOM / "vt220-keep")
 PROGRAM = os.path.abspath(sys.argv[2])
 FOLDER = ROOM / "folder"
 BOOT = pathlib.Path("/proc/sys/kernel/random/boot_id").read_text().strip()

@@ -13,9 +13,9 @@ import pytest
 
 import vt220
 from vt220.picture import svg
-from vt220.process import MARK
-from vt220.rig import ENTER, F6, UP, Failure, Key, KeyboardLocked, Reports, Rig, Screen, run
+from vt220.rig import ENTER, F6, UP, Failure, Key, KeyboardLocked, Reports, Screen, ctrl, run
 from vt220.screen import MASK, Stored, difference, differing
+from vt220.watchdog import MARK
 
 VECTORS = pathlib.Path(__file__).resolve().parents[3] / "crates" / "vectors" / "stdout"
 # Shows the bytes that it gets, after it has written its first argument.
@@ -113,6 +113,8 @@ def test_a_locked_keyboard_is_a_failure_and_send_is_not():
         rig.wait("ready")
         with pytest.raises(KeyboardLocked, match="KAM"):
             rig.keys("x")
+        with pytest.raises(KeyboardLocked, match="KAM"):
+            rig.paste("x")
         rig.send(b"\x00\xff")
         rig.wait(text="00 ff")
         with pytest.raises(TypeError):
@@ -124,6 +126,10 @@ def test_paste_sends_returns():
         rig.wait("ready")
         rig.paste("ab\r\nc\nd")
         rig.wait(text="61 62 0d 63 0d 64")
+    with shell(SHOWS, "\\033[20hready") as rig:
+        rig.wait("ready")
+        rig.paste("a\nb")
+        rig.wait(text="61 0d 0a 62")
 
 
 def test_a_long_text_reaches_a_program_that_reads_late():
@@ -336,6 +342,17 @@ def test_nothing_is_left():
     rig.close()
 
 
+def test_nothing_is_left_when_the_line_was_closed_behind_the_rig():
+    rig = shell(STUBBORN)
+    rig.wait("ready")
+    mark = f"{MARK}={rig.process.mark}".encode() + b"\0"
+    until(lambda: len(marked(mark)) >= 5)
+    os.close(rig.process.line)
+    with pytest.raises(OSError):
+        rig.close()
+    assert marked(mark) == []
+
+
 def test_nothing_is_left_by_a_program_that_clears_its_environment():
     with shell("trap '' HUP; env -i /bin/sleep 1003 & printf ready; wait; sleep 100") as rig:
         rig.wait("ready")
@@ -344,16 +361,87 @@ def test_nothing_is_left_by_a_program_that_clears_its_environment():
     assert not any(is_alive(pid) for pid in members)
 
 
+INTERRUPTED = """
+def test_it(vt):
+    rig = vt.run("sh", "-c", {script!r}, env={{"TOKEN": {token!r}}})
+    rig.wait("ready")
+    rig.wait("never", timeout=100)
+"""
+
+
 @pytest.mark.parametrize("number", [signal.SIGKILL, signal.SIGTERM, signal.SIGINT, signal.SIGHUP])
-def test_nothing_is_left_when_pytest_is_interrupted(tmp_path, number):
+@pytest.mark.parametrize("options", [[], ["-n", "1"]], ids=["alone", "xdist"])
+def test_nothing_is_left_when_pytest_is_interrupted(tmp_path, number, options):
+    token = os.urandom(8).hex()
+    (tmp_path / "test_it.py").write_text(INTERRUPTED.format(script=STUBBORN, token=token))
+    # A shell starts what is in its background with SIGINT ignored, and this test may run there.
+    command = ["env", "--default-signal", *inner(tmp_path, *options)]
+    with subprocess.Popen(command, cwd=tmp_path, env=inner_environment(), stdout=subprocess.DEVNULL, start_new_session=True) as pytest_process:
+        until(lambda: len(marked(token.encode())) >= 5, 60)
+        pytest_process.send_signal(number)
+        pytest_process.wait(60)
+        until(lambda: not marked(token.encode()), 60)
+
+
+def test_nothing_is_left_when_the_terminal_interrupts_pytest(tmp_path):
+    """Ctrl-C on pytest's own terminal: its whole group gets SIGINT, and pytest ends as it does without the rig."""
+    token = os.urandom(8).hex()
+    (tmp_path / "test_it.py").write_text(INTERRUPTED.format(script=STUBBORN, token=token))
+    with run(*inner(tmp_path), cwd=tmp_path, env=inner_environment()) as rig:
+        until(lambda: rig.screen and len(marked(token.encode())) >= 5, 60)
+        rig.keys(ctrl("c"))
+        rig.ended(2, timeout=60)
+        until(lambda: not marked(token.encode()), 60)
+
+
+def test_nothing_is_left_of_the_session_when_pytest_is_killed(tmp_path):
+    """A process of the session that clears its environment and ignores SIGHUP has no mark."""
+    (tmp_path / "test_it.py").write_text(INTERRUPTED.format(script="trap '' HUP; env -i /bin/sleep 1004 & echo $! >pid; printf ready; wait", token=""))
+    with subprocess.Popen(inner(tmp_path), cwd=tmp_path, env=inner_environment(), stdout=subprocess.DEVNULL, start_new_session=True) as pytest_process:
+        pid = tmp_path / "pid"
+        until(lambda: pid.exists() and pid.read_text().endswith("\n") and not marked_one(int(pid.read_text())), 60)
+        pytest_process.kill()
+    until(lambda: not is_alive(int(pid.read_text())), 60)
+
+
+def marked_one(pid):
+    """Returns whether one process has anything in its environment."""
+    with open(f"/proc/{pid}/environ", "rb") as file:
+        return file.read() != b""
+
+
+ENDS = {
+    "an assertion": "assert False",
+    "an exception": "raise OSError('no')",
+    "a time-out": "rig.wait('never', timeout=0.1)",
+    "pytest.fail": "pytest.fail('no')",
+    "pytest.exit": "pytest.exit('no')",
+    "sys.exit": "sys.exit(3)",
+    "the end of Python": "os._exit(3)",
+    "a crash of Python": "os.abort()",
+    "a closed line": "os.close(rig.process.line)",
+}
+
+
+@pytest.mark.parametrize("end", ENDS)
+def test_nothing_is_left_however_a_test_ends(tmp_path, end):
     token = os.urandom(8).hex()
     (tmp_path / "test_it.py").write_text(
-        f"def test_it(vt):\n    rig = vt.run('sh', '-c', {STUBBORN!r}, env={{'TOKEN': '{token}'}})\n    rig.wait('ready')\n    rig.wait('never', timeout=100)\n")
-    pytest_process = subprocess.Popen(inner(tmp_path), cwd=tmp_path, env=inner_environment(), stdout=subprocess.DEVNULL, start_new_session=True)
-    until(lambda: len(marked(token.encode())) >= 5, 60)
-    pytest_process.send_signal(number)
-    pytest_process.wait(60)
+        f"import os, sys, pytest\n\ndef test_it(vt):\n    rig = vt.run('sh', '-c', {STUBBORN!r}, env={{'TOKEN': '{token}'}})\n"
+        f"    rig.wait('ready')\n    {ENDS[end]}\n")
+    done = subprocess.run(inner(tmp_path), cwd=tmp_path, env=inner_environment(), capture_output=True, start_new_session=True)
+    assert done.returncode != 0 or end == "a closed line"
     until(lambda: not marked(token.encode()), 60)
+
+
+def test_nothing_is_left_when_another_fixture_fails(tmp_path):
+    token = os.urandom(8).hex()
+    (tmp_path / "test_it.py").write_text(
+        "import pytest\n\n@pytest.fixture\ndef broken(vt):\n"
+        f"    vt.run('sh', '-c', {STUBBORN!r}, env={{'TOKEN': '{token}'}}).wait('ready')\n    vt.run('sh', '-c', {STUBBORN!r}).wait('ready')\n"
+        "    yield\n    raise OSError('no')\n\ndef test_it(broken):\n    raise OSError('no')\n")
+    assert subprocess.run(inner(tmp_path), cwd=tmp_path, env=inner_environment(), capture_output=True).returncode == 1
+    assert not marked(token.encode())
 
 
 def inner(directory, *options):
@@ -410,12 +498,29 @@ def test_many_rigs_in_many_threads():
     assert not faults
 
 
+def test_many_rigs_under_xdist(tmp_path):
+    (tmp_path / "test_it.py").write_text(
+        "import pytest\nfrom vt220.rig import ENTER\n\n@pytest.mark.parametrize('number', range(40))\ndef test_it(vt, number):\n"
+        "    rigs = [vt.run('sh', '-c', 'stty -echo; printf ready; read a; echo got $a') for _ in range(3)]\n"
+        "    for rig in rigs:\n        rig.wait('ready')\n        rig.keys(str(number), ENTER)\n"
+        "    for rig in rigs:\n        rig.ended()\n        assert rig.screen.at(f'got {number}')\n"
+        "    assert number != 17\n    rigs[1].matches('two')\n")
+    (tmp_path / "screens").mkdir()
+    (tmp_path / "screens" / "two.txt").write_text("other\n")
+    command = inner(tmp_path, "-n", "4", "--vt-timeout", "2", "-k", "5 or 17")
+    done = subprocess.run(command, cwd=tmp_path, env=inner_environment(), capture_output=True, text=True)
+    assert "5 failed" in done.stdout, done.stdout
+    reports = sorted(path.name for path in (tmp_path / "vt220-failures").iterdir())
+    # The second rig of each test fails; a plain assert has no picture.
+    assert reports == sorted(f"test_it.py-test_it-{number}-2.{kind}" for number in (5, 15, 25, 35) for kind in ("bytes", "svg"))
+
+
 def test_a_thousand_screens_are_compared_in_a_second():
     terminal = vt220.Terminal()
     terminal.feed(b"".join(b"\033[%d;%dH\033[%dmfile%d" % (at % 24 + 1, at // 24 * 9 + 1, at % 8, at) for at in range(200)))
     stored = screen_of(terminal.repaint()).stored()
     best = 9.0
-    for _ in range(5):
+    for _ in range(20):
         start = time.thread_time()
         for number in range(100):
             terminal.feed(b"\033[%d;70H\033[7m%d" % (number % 24 + 1, number))
@@ -425,16 +530,16 @@ def test_a_thousand_screens_are_compared_in_a_second():
 
 
 def test_a_rig_starts_as_quickly_as_a_process():
+    """Compares the quickest starts, since other processes of the machine only make a start slower."""
     run("true").close()  # the watchdog starts with the first one
-
-    def quickest(start):
-        times = []
-        for _ in range(40):
-            begun = time.perf_counter()
-            started = start()
-            times.append(time.perf_counter() - begun)
-            started.close() if isinstance(started, Rig) else started.wait()
-        return min(times)
-
-    rig, process = quickest(lambda: run("true")), quickest(lambda: subprocess.Popen(["true"]))
+    rig = process = 9.0
+    for _ in range(200):
+        begun = time.perf_counter()
+        started = run("true")
+        rig = min(rig, time.perf_counter() - begun)
+        started.close()
+        begun = time.perf_counter()
+        leader = subprocess.Popen(["true"], start_new_session=True)
+        process = min(process, time.perf_counter() - begun)
+        leader.wait()
     assert rig < 2 * process + 0.001

@@ -20,17 +20,21 @@ import threading
 from typing import Any, Callable, Dict, List, NamedTuple, Tuple, Type, Union
 
 __all__ = [
-    "ROWS", "COLUMNS", "REPORT_LIMIT", "TEXT_LIMIT", "PAINT_LIMIT", "UPDATE_LIMIT", "VERSION", "HELD", "Error", "Memory", "InUse",
-    "Closed", "Partial", "Room", "Cell", "Cursor", "Margins", "Modes", "Terminal", "version",
+    "ROWS", "COLUMNS", "REPORT_LIMIT", "TEXT_LIMIT", "ROW_TEXT_LIMIT", "SHOW_LIMIT", "PICTURE_LIMIT", "PAINT_LIMIT", "UPDATE_LIMIT",
+    "VERSION", "HELD", "Error", "Memory", "InUse", "Closed", "Partial", "Room", "Unsupported", "NoRow", "Brush", "Cell", "Cursor",
+    "Margins", "Modes", "Saved", "Sets", "Terminal", "status_text", "version",
 ]
 
 ROWS = 24
 COLUMNS = 132
 REPORT_LIMIT = 10
 TEXT_LIMIT = 9528
+ROW_TEXT_LIMIT = 397
+SHOW_LIMIT = 51000
+PICTURE_LIMIT = 659968
 PAINT_LIMIT = 93512
 UPDATE_LIMIT = 94152
-VERSION = 200
+VERSION = 300
 HELD = ("nothing", "escape", "control", "string")
 
 Bytes = Union[bytes, bytearray, memoryview]
@@ -75,7 +79,19 @@ class Room(Error):
     words = "the buffer is too small"
 
 
-_STATUSES: Dict[int, Type[Error]] = {1: Memory, 2: InUse, 3: Closed, 4: Partial, 5: Room}
+class Unsupported(Error):
+    """Reports that the processor is older than x86-64-v2."""
+
+    words = "the processor is older than x86-64-v2, which the library needs"
+
+
+class NoRow(Error, IndexError):
+    """Reports that there is no such row."""
+
+    words = "rows count from 1 to 24"
+
+
+_STATUSES: Dict[int, Type[Error]] = {1: Memory, 2: InUse, 3: Closed, 4: Partial, 5: Room, 6: Unsupported, 7: NoRow}
 
 
 class Cell(NamedTuple):
@@ -122,24 +138,71 @@ class Modes(NamedTuple):
     reports_8bit: bool
 
 
+class Brush(NamedTuple):
+    """Holds the attributes with which the next glyph is written."""
+
+    bold: bool
+    underline: bool
+    blink: bool
+    reverse: bool
+    is_protected: bool
+
+
+class Sets(NamedTuple):
+    """Holds the graphic sets: the final bytes of those in G0 to G3, which of these are in GL and GR, and a pending single shift, or 0."""
+
+    g0: int
+    g1: int
+    g2: int
+    g3: int
+    gl: int
+    gr: int
+    single_shift: int
+
+
+class Saved(NamedTuple):
+    """Holds what DECRC restores."""
+
+    row: int
+    col: int
+    wrap: bool
+    origin: bool
+    bold: bool
+    underline: bool
+    blink: bool
+    reverse: bool
+    is_protected: bool
+    g0: int
+    g1: int
+    g2: int
+    g3: int
+    gl: int
+    gr: int
+
+
 class _Handle(ctypes.Structure):
-    _fields_ = [("inside", ctypes.c_void_p), ("is_open", ctypes.c_bool)]
+    """Holds a terminal or a scratch buffer, whose handle is shorter."""
+
+    _fields_ = [("inside", ctypes.c_void_p), ("is_open", ctypes.c_bool), ("bells", ctypes.c_uint64)]
 
 
-class _Cell(ctypes.Structure):
-    _fields_ = [("glyph", ctypes.c_uint32)] + [(name, ctypes.c_bool) for name in Cell._fields[1:]]
+def _struct(names: Tuple[str, ...], kinds: Dict[str, Any], other: Any, reserved: int) -> Any:
+    """Makes a structure of the header: its fields and the bytes that are reserved."""
+    fields = [(name, kinds.get(name, other)) for name in names]
+    return type("_Struct", (ctypes.Structure,), {"_fields_": fields + [("reserved", ctypes.c_uint8 * reserved)]})
 
 
-class _Cursor(ctypes.Structure):
-    _fields_ = [("row", ctypes.c_size_t), ("col", ctypes.c_size_t), ("wrap", ctypes.c_bool)]
-
-
-class _Margins(ctypes.Structure):
-    _fields_ = [("top", ctypes.c_size_t), ("bottom", ctypes.c_size_t)]
-
-
-class _Modes(ctypes.Structure):
-    _fields_ = [(name, ctypes.c_bool) for name in Modes._fields]
+_SIZES = {"row": ctypes.c_size_t, "col": ctypes.c_size_t, "top": ctypes.c_size_t, "bottom": ctypes.c_size_t}
+_BYTES = {name: ctypes.c_uint8 for name in Sets._fields}
+_Cell = _struct(Cell._fields, {"glyph": ctypes.c_uint32}, ctypes.c_bool, 3)
+_Cursor = _struct(Cursor._fields, _SIZES, ctypes.c_bool, 15)
+_Margins = _struct(Margins._fields, _SIZES, ctypes.c_bool, 16)
+_Modes = _struct(Modes._fields, {}, ctypes.c_bool, 19)
+_Brush = _struct(Brush._fields, {}, ctypes.c_bool, 11)
+_Sets = _struct(Sets._fields, _BYTES, ctypes.c_uint8, 9)
+_Saved = _struct(Saved._fields, {**_SIZES, **_BYTES}, ctypes.c_bool, 19)
+_Stops = _struct(("stop",), {}, ctypes.c_bool * COLUMNS, 12)
+_Marks = _struct(("width", "changed"), {"width": ctypes.c_size_t}, ctypes.c_bool * COLUMNS, 12)
 
 
 def _find() -> str:
@@ -175,13 +238,25 @@ def _declare(library: ctypes.PyDLL) -> None:
         ("scratch_is_open", boolean, [handle]),
         ("feed", size, [handle, buffer, size, buffer, size, told]),
         ("text", status, [handle, handle, buffer, size, told]),
+        ("row_text", status, [handle, handle, size, buffer, size, told]),
+        ("show", status, [handle, handle, buffer, size, told]),
+        ("picture", status, [handle, handle, buffer, size, told]),
         ("repaint", status, [handle, handle, buffer, size, told]),
         ("update", status, [handle, handle, handle, buffer, size, told]),
+        ("row_changes", status, [handle, handle, size, ctypes.POINTER(_Marks)]),
+        ("copy", status, [handle, handle]),
+        ("reset", status, [handle]),
+        ("bells", ctypes.c_uint64, [handle]),
+        ("status_text", ctypes.c_char_p, [status]),
         ("row", size, [handle, size, buffer, size]),
         ("cursor", boolean, [handle, ctypes.POINTER(_Cursor)]),
         ("width", size, [handle]),
         ("margins", boolean, [handle, ctypes.POINTER(_Margins)]),
         ("modes", boolean, [handle, ctypes.POINTER(_Modes)]),
+        ("brush", boolean, [handle, ctypes.POINTER(_Brush)]),
+        ("sets", boolean, [handle, ctypes.POINTER(_Sets)]),
+        ("stops", boolean, [handle, ctypes.POINTER(_Stops)]),
+        ("saved", boolean, [handle, ctypes.POINTER(_Saved)]),
         ("is_between", boolean, [handle]),
         ("held_kind", status, [handle]),
         ("same_state", boolean, [handle, handle]),
@@ -215,6 +290,11 @@ def version() -> int:
     return int(_library.vt220_version())
 
 
+def status_text(status: int) -> str:
+    """Returns a short English text for a status of the library."""
+    return str(_library.vt220_status_text(status).decode())
+
+
 def _expect(status: int) -> None:
     if status != 0:
         raise _STATUSES.get(status, Error)()
@@ -238,9 +318,9 @@ class _Work(threading.local):
 
     def __init__(self) -> None:
         self.scratch = _Owned(_library.vt220_scratch_open, _library.vt220_scratch_close)
-        self.out = ctypes.create_string_buffer(UPDATE_LIMIT)
+        self.out = ctypes.create_string_buffer(PICTURE_LIMIT)
         self.reports = ctypes.create_string_buffer(4096)
-        self.cells = ctypes.create_string_buffer(12 * COLUMNS)  # the padding of each cell stays zero
+        self.cells = ctypes.create_string_buffer(12 * COLUMNS)
 
 
 _work = _Work()
@@ -323,12 +403,28 @@ class Terminal:
     def _written(self, function: Callable[..., int], *handles: _Handle) -> bytes:
         written = ctypes.c_size_t()
         work = _work
-        _expect(function(*handles, work.scratch.handle, work.out, UPDATE_LIMIT, written))
+        _expect(function(*handles, work.scratch.handle, work.out, PICTURE_LIMIT, written))
         return ctypes.string_at(work.out, written.value)
 
     def text(self) -> str:
         """Returns the screen's text: 24 lines, each without the spaces at its end and with a line feed."""
         return self._written(_library.vt220_text, self._opened()).decode()
+
+    def row_text(self, row: int) -> str:
+        """Returns one line of text(), that of a row from 1 to 24. Raises NoRow if there is no such row."""
+        written = ctypes.c_size_t()
+        if row < 0:
+            raise NoRow()
+        _expect(_library.vt220_row_text(self._opened(), _work.scratch.handle, row, _work.out, ROW_TEXT_LIMIT, written))
+        return ctypes.string_at(_work.out, written.value).decode()
+
+    def show(self) -> str:
+        """Returns the screen's text with SGR sequences for the attributes."""
+        return self._written(_library.vt220_show, self._opened()).decode()
+
+    def picture(self) -> str:
+        """Returns the screen as a picture: an SVG document."""
+        return self._written(_library.vt220_picture, self._opened()).decode()
 
     def repaint(self) -> bytes:
         """Returns bytes that leave any terminal in this one's state. Raises Partial inside a sequence."""
@@ -339,16 +435,32 @@ class Terminal:
 
         Raises Partial if one of the two is inside a sequence. The update to itself is empty.
         """
-        if self._handle is to._handle:
-            if not self.is_between():
-                raise Partial()
-            return b""
         return self._written(_library.vt220_update, self._opened(), to._opened())
+
+    def changed(self, to: "Terminal", row: int) -> List[int]:
+        """Returns the columns of a row of `to`, 1 to 24, in which this terminal has another cell or none. Raises NoRow."""
+        marks = _Marks()
+        if row < 0:
+            raise NoRow()
+        _expect(_library.vt220_row_changes(self._opened(), to._opened(), row, marks))
+        return [place + 1 for place, changed in enumerate(marks.changed) if changed]
+
+    def copy_from(self, other: "Terminal") -> None:
+        """Brings this terminal into the state of another one, also if that is inside a sequence."""
+        _expect(_library.vt220_copy(self._opened(), other._opened()))
+
+    def reset(self) -> None:
+        """Brings this terminal into its state at power-up, also inside a sequence."""
+        _expect(_library.vt220_reset(self._opened()))
+
+    def bells(self) -> int:
+        """Returns how often BEL was carried out."""
+        return int(_library.vt220_bells(self._opened()))
 
     def _raw(self, row: int) -> bytes:
         """Returns a row's cells as the library writes them: 12 bytes a cell, the glyph's number and five booleans."""
         if not 1 <= row <= ROWS:
-            raise IndexError("rows count from 1 to 24")
+            raise NoRow()
         cells = _work.cells
         count = _library.vt220_row(self._handle, row, cells, COLUMNS)
         if not count:
@@ -356,7 +468,7 @@ class Terminal:
         return cells.raw[: 12 * count]
 
     def row(self, row: int) -> List[Cell]:
-        """Returns the cells of a row, 1 to 24. Raises IndexError if there is no such row."""
+        """Returns the cells of a row, 1 to 24. Raises NoRow, which is an IndexError, if there is no such row."""
         return list(_rows[self._raw(row)])
 
     def _told(self, function: Callable[..., bool], kind: Any, result: Any) -> Any:
@@ -377,6 +489,25 @@ class Terminal:
         """Returns which modes are set."""
         return self._told(_library.vt220_modes, _Modes, Modes)  # type: ignore[no-any-return]
 
+    def brush(self) -> Brush:
+        """Returns the attributes with which the next glyph is written."""
+        return self._told(_library.vt220_brush, _Brush, Brush)  # type: ignore[no-any-return]
+
+    def sets(self) -> Sets:
+        """Returns the graphic sets."""
+        return self._told(_library.vt220_sets, _Sets, Sets)  # type: ignore[no-any-return]
+
+    def saved(self) -> Saved:
+        """Returns what DECRC restores."""
+        return self._told(_library.vt220_saved, _Saved, Saved)  # type: ignore[no-any-return]
+
+    def stops(self) -> List[int]:
+        """Returns the columns, 1 to 132, that have a tab stop."""
+        stops = _Stops()
+        if not _library.vt220_stops(self._handle, stops):
+            raise Closed()
+        return [place + 1 for place, stop in enumerate(stops.stop) if stop]
+
     def width(self) -> int:
         """Returns the number of columns: 80 or 132."""
         return int(_library.vt220_width(self._opened()))
@@ -391,7 +522,4 @@ class Terminal:
 
     def same_state(self, other: "Terminal") -> bool:
         """Returns whether two terminals are in the same state, hidden parts included."""
-        if self._handle is other._handle:
-            self._opened()
-            return True
         return bool(_library.vt220_same_state(self._opened(), other._opened()))

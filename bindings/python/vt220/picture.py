@@ -1,6 +1,6 @@
 """Writes a screen as a picture (SVG), with marks around cells."""
 from typing import Iterable, Iterator, Tuple
-from xml.sax.saxutils import escape
+from html import escape
 
 from . import Cell
 from .screen import Screen
@@ -36,7 +36,7 @@ def _row(row: int, cells: Iterable[Cell], is_light: bool) -> Iterator[str]:
             continue
         kinds = " ".join(letter for letter, is_set in zip("buk", (cell.bold, cell.underline, cell.blink)) if is_set)
         yield (f"<text class='{kinds}' x='{col * WIDE}' y='{row * HIGH + 13}' textLength='{len(text) * WIDE}' "
-               f"lengthAdjust='spacingAndGlyphs' fill='{DARK if is_reverse else LIGHT}'>{escape(text)}</text>")
+               f"lengthAdjust='spacingAndGlyphs' fill='{DARK if is_reverse else LIGHT}'>{escape(text, False)}</text>")
 
 
 def svg(screen: Screen, marks: Iterable[Tuple[int, int]] = (), title: str = "VT220 screen") -> str:
@@ -44,7 +44,7 @@ def svg(screen: Screen, marks: Iterable[Tuple[int, int]] = (), title: str = "VT2
     width, height, is_light = screen.width * WIDE, 24 * HIGH, screen.modes.decscnm
     parts = [f"<svg xmlns='http://www.w3.org/2000/svg' viewBox='0 0 {width} {height}' width='{width}' height='{height}' role='img' "
              "aria-labelledby='t d' xml:space='preserve'>",
-             f"<title id='t'>{escape(title)}</title>", f"<desc id='d'>{escape(screen.text)}</desc>", f"<style>{_STYLE}</style>",
+             f"<title id='t'>{escape(title, False)}</title>", f"<desc id='d'>{escape(screen.text, False)}</desc>", f"<style>{_STYLE}</style>",
              f"<rect width='100%' height='100%' fill='{LIGHT if is_light else DARK}'/>"]
     for row, cells in enumerate(screen.cells):
         parts += _row(row, cells, is_light)

@@ -10,31 +10,19 @@ import fcntl
 import os
 import select
 import shutil
-import signal
 import struct
 import subprocess
+import sys
 import termios
 import threading
-import time
-import uuid
-from typing import Dict, List, Optional, Sequence, Set, Union
+from typing import Dict, List, Optional, Sequence, Union
 
-MARK = "VT220_RIG"
+from . import watchdog
+
 # What a command gets of this process's environment; everything else comes from the test, so that a test runs alike everywhere.
 KEPT = ("PATH", "HOME", "USER", "LOGNAME", "TMPDIR")
 _SETSIGDEF, _SETSIGMASK, _SETSID = 4, 8, 0x80
 _libc = ctypes.CDLL(None, use_errno=True)
-_WATCH = r"""
-trap '' HUP INT TERM QUIT
-read -r _
-while :; do
-  n=0
-  for p in /proc/[0-9]*; do
-    if tr '\0' '\n' <"$p/environ" 2>/dev/null | grep -q "^VT220_RIG=$1\."; then kill -KILL "${p#/proc/}" && n=1; fi
-  done 2>/dev/null
-  [ $n = 1 ] || exit 0
-done
-"""
 
 
 class _Watchdog:
@@ -49,15 +37,23 @@ class _Watchdog:
         """Returns the mark of a new command. Starts the watchdog if this process has none."""
         with self.lock:
             if self.pid != os.getpid():
-                self.pid, self.token = os.getpid(), uuid.uuid4().hex
+                self.pid, self.token = os.getpid(), os.urandom(16).hex()
                 # It waits for the end of its input, which only this process holds open.
-                self.process = subprocess.Popen(["/bin/sh", "-c", _WATCH, "vt220-watchdog", self.token], stdin=subprocess.PIPE,
-                                                stdout=subprocess.DEVNULL, stderr=subprocess.DEVNULL, start_new_session=True, cwd="/",
-                                                env={"PATH": os.environ.get("PATH", os.defpath)})
+                words = [sys.executable, "-I", "-S", watchdog.__file__, f"{self.token}."]
+                self.process = subprocess.Popen(words, stdin=subprocess.PIPE, stdout=subprocess.DEVNULL, stderr=subprocess.DEVNULL,
+                                                start_new_session=True, cwd="/", env={"PATH": os.defpath})
                 # Python would wait for it at its end, but it ends after Python.
                 self.process.returncode = 0
             self.count += 1
-            return f"{self.token}.{self.count}"
+            return f"{self.token}.{self.count}."
+
+    def tell(self, session: int) -> None:
+        """Tells the watchdog of a session that has begun, or with a minus sign of one that has been ended."""
+        if self.process is not None and self.process.stdin is not None:
+            try:
+                os.write(self.process.stdin.fileno(), b"%d\n" % session)
+            except OSError:
+                pass  # somebody has killed it
 
 
 _watchdog = _Watchdog()
@@ -116,13 +112,14 @@ class Process:
         try:
             fcntl.ioctl(line, termios.TIOCSWINSZ, struct.pack("4H", 24, columns, 0, 0))
             os.set_blocking(line, False)
-            self.pid = _spawn(path, argv, {**env, MARK: self.mark}, None if cwd is None else os.fspath(cwd), os.ttyname(slave))
+            self.pid = _spawn(path, argv, {**env, watchdog.MARK: self.mark}, None if cwd is None else os.fspath(cwd), os.ttyname(slave))
         except BaseException:
             os.close(line)
             raise
         finally:
             os.close(slave)
         self.line, self.ending = line, os.pidfd_open(self.pid)
+        _watchdog.tell(self.pid)
 
     def ended(self) -> Optional[int]:
         """Returns the command's exit status, the negative number of the signal that ended it, or None while it runs."""
@@ -135,50 +132,26 @@ class Process:
 
     def members(self) -> List[int]:
         """Returns the processes that the command left or has: those of its session, with its mark, or started by these."""
-        parents: Dict[int, int] = {}
-        found: Set[int] = set()
-        mark = f"{MARK}={self.mark}".encode()
-        for name in filter(str.isdigit, os.listdir("/proc")):
-            try:
-                with open(f"/proc/{name}/stat", "rb") as file:
-                    state, parent, _, session = file.read().rpartition(b")")[2].split()[:4]
-                if state in (b"Z", b"X"):
-                    continue
-                parents[int(name)] = int(parent)
-                with open(f"/proc/{name}/environ", "rb") as file:
-                    marked = mark in file.read().split(b"\0")
-            except OSError:
-                marked = False
-                if int(name) not in parents:
-                    continue
-            if marked or int(session) == self.pid:
-                found.add(int(name))
-        while True:
-            more = {pid for pid, parent in parents.items() if parent in found and pid not in found}
-            if not more:
-                return sorted(found)
-            found |= more
+        return watchdog.left(self.mark, (self.pid,))
 
     def close(self) -> None:
         """Hangs up, gives the command a moment to end by itself, and then kills it and everything that it started."""
         if self.line < 0:
             return
         line, self.line = self.line, -1
-        os.close(line)  # the system sends SIGHUP to the session
+        try:
+            os.close(line)  # the system sends SIGHUP to the session
+        finally:
+            self._end()
+
+    def _end(self) -> None:
+        """Waits a moment for the command's end, and kills what is left of it."""
         try:
             if self.ended() is None:
                 select.select([self.ending], [], [], 0.3)
-            for turn in range(100):
-                left = self.members()
-                if not left:
-                    break
-                for pid in left:
-                    try:
-                        os.kill(pid, signal.SIGKILL)
-                    except ProcessLookupError:
-                        pass
-                time.sleep(0.001 * turn)  # until the killed ones are gone
+            watchdog.end(self.mark, (self.pid,))
             self.ended()
         finally:
+            _watchdog.tell(-self.pid)
             os.close(self.ending)
             os.waitpid(self.pid, 0)

@@ -1,4 +1,5 @@
 """Gives tests the fixture `vt`, which runs programs on a VT220 and ends them with the test."""
+import contextlib
 import pathlib
 import re
 from typing import Any, Dict, Iterator, List, Optional, Set
@@ -36,9 +37,10 @@ class Session:
         return rig
 
     def close(self) -> None:
-        """Ends all programs of the test."""
-        for rig in self.rigs:
-            rig.close()
+        """Ends all programs of the test, also if one of them can't be ended."""
+        with contextlib.ExitStack() as stack:
+            for rig in self.rigs:
+                stack.callback(rig.close)
 
 
 @pytest.fixture

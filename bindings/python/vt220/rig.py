@@ -17,7 +17,7 @@ import select
 import time
 from typing import Callable, Dict, List, NamedTuple, Optional, Pattern, Sequence, Tuple, Union
 
-from . import Bytes, Terminal
+from . import Bytes, Modes, Terminal
 from .keyboard import Key, ctrl, spelled
 from .picture import svg
 from .process import Process, environment
@@ -194,22 +194,29 @@ class Rig:
         self._output += data
         self._flush()
 
-    def keys(self, *keys: Union[str, Key]) -> None:
-        """Presses keys: each character of a text, or a Key, as the terminal's modes ask for it now.
-
-        What the program has written by now is played first, since it may change the modes.
-        """
+    def _typing(self) -> Modes:
+        """Returns the modes that a key is sent under, after all that the program has written by now. Fails if the keyboard is locked."""
         __tracebackhide__ = True
         while self._read(0):
             pass
         modes = self.terminal.modes()
         if modes.kam:
             self._fail("keys were pressed, and the program has locked the keyboard (KAM)", kind=KeyboardLocked)
+        return modes
+
+    def keys(self, *keys: Union[str, Key]) -> None:
+        """Presses keys: each character of a text, or a Key, as the terminal's modes ask for it now.
+
+        What the program has written by now is played first, since it may change the modes.
+        """
+        __tracebackhide__ = True
+        modes = self._typing()
         self.send(b"".join(spelled(key, modes) for key in keys))
 
     def paste(self, text: str) -> None:
         """Sends a text as it would be typed quickly: each line feed as the Return key. A VT220 has no bracketed paste."""
-        modes = self.terminal.modes()
+        __tracebackhide__ = True
+        modes = self._typing()
         lines = text.replace("\r\n", "\n").split("\n")
         self.send(spelled(Key.ENTER, modes).join(spelled(line, modes) for line in lines))
 

@@ -33,7 +33,7 @@ abbrev pub both : Val → Val → Val
 both first second = vstruct (vcons first (vcons second vnil))
 
 -- the words of a pointer and a handle, as their fields are read one after another
-abbrev pub read_as : List Val → List Val → List Val
+abbrev read_as : List Val → List Val → List Val
 read_as pointer handle = vstruct (of_list (pointer ++ (handle ++ []))) ∷ []
 
 pub two_words : {vs ps hs : List Val} {p q : Ptr} {h : Val} → vs ≡ read_as ps hs → ps ≡ ptr_val p ∷ [] → hs ≡ h ∷ []

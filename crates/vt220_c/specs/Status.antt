@@ -25,6 +25,10 @@ status_partial = 4
 abbrev pub status_room : ℕ
 status_room = 5
 
--- 0.2.0, as 10000 * major + 100 * minor + patch
+-- there is no such row
+abbrev pub status_no_row : ℕ
+status_no_row = 7
+
+-- 0.3.0, as 10000 * major + 100 * minor + patch
 abbrev pub version : ℕ
-version = 200
+version = 300

@@ -1,8 +1,11 @@
-//! Room that the calls which write a whole screen work in. Many terminals share one.
+//! The room in which the calls that write a whole screen work. Many terminals share one.
 ghost use Rattle.std.specs.Prelude.{◌≡◌, ◌↔◌, ◌+◌, ◌*◌, ◌≤◌, IsTrue, true, false, length, take};
+ghost use Rattle.vt_screen.specs.Grid.{row_of, last_row};
 ghost use Rattle.std.specs.Str.{IsAscii};
 ghost use Rattle.vt_syntax.specs.declared.held.Held.TheVariants.{Nothing};
-ghost use Rattle.vt_term.specs.Text.{text};
+ghost use Rattle.vt_term.specs.Text.{text, line_text};
+ghost use Rattle.vt_picture.specs.Show.{show};
+ghost use Rattle.vt_picture.specs.Picture.{picture};
 ghost use Rattle.vt_paint.specs.Repaint.{paint};
 ghost use Rattle.vt_paint.specs.Changes.{differing};
 ghost use Rattle.vt_paint.specs.Spoken.{Speaks};
@@ -13,13 +16,16 @@ use crate::inner::Inner;
 use std::alloc::{AllocError, Global};
 use std::marker::Model;
 use vt_paint::repaint_reserved;
+use vt_picture::{PICTURE_LIMIT, picture_reserved, show_reserved};
 use vt_term::Terminal;
-use vt_update::UPDATE_LIMIT;
+use vt_update::{UPDATE_LIMIT, update_reserved};
 
-/// Room for the longest update, and so for each repaint and text. All its memory is taken by `new`.
+/// Room for the longest of what is written, a picture, and a terminal on which an update is tried. All its memory is
+/// taken by `new`.
 #[derive(Drop)]
 pub(crate) struct Scratch {
     room: Vec<u8>,
+    spare: Terminal,
 }
 
 impl Model for Scratch {
@@ -29,18 +35,19 @@ impl Model for Scratch {
 
     ghost view = { λ s. tt };
 
-    ghost invariant = { λ s. 94152 ≤ vec_capacity s.room };
+    ghost invariant = { λ s. 659968 ≤ vec_capacity s.room };
 }
 
 impl Scratch {
-    /// The room. `Err` where memory was refused.
+    /// Allocates the scratch buffer. Returns `Err` if that fails.
     pub(crate) fn new(alloc: Global) -> Result<Scratch, AllocError> {
         Ok(Scratch {
-            room: Vec::with_capacity(alloc, UPDATE_LIMIT)?,
+            room: Vec::with_capacity(alloc, PICTURE_LIMIT)?,
+            spare: Terminal::new(alloc)?,
         })
     }
 
-    /// The text of the screen into the front of `out`, where it fits.
+    /// The text of the screen into the front of `out`, if it fits.
     pub(crate) fn text(&mut self, terminal: &Terminal, out: &mut [u8]) -> Copied
         ensures len { result.len ≡ length (text terminal.now) }
         ensures fits { IsTrue result.fits ↔ (length (text terminal.now) ≤ length out.old) }
@@ -52,7 +59,44 @@ impl Scratch {
         copy_out(self.room.as_slice(), out)
     }
 
-    /// The repaint into the front of `out`, where it fits.
+    /// The text of a row into the front of `out`, if it fits.
+    pub(crate) fn row_text(&mut self, terminal: &Terminal, row: usize, out: &mut [u8]) -> Copied
+        requires { (1 ≤ row) × (row ≤ last_row) }
+        ensures len { result.len ≡ length (line_text (row_of terminal.now.display.grid row)) }
+        ensures fits { IsTrue result.fits ↔ (length (line_text (row_of terminal.now.display.grid row)) ≤ length out.old) }
+        ensures out { result.fits ≡ true → out.new ≡ written_over (line_text (row_of terminal.now.display.grid row)) out.old }
+        ensures unchanged { result.fits ≡ false → out.new ≡ out.old }
+    {
+        self.room.clear();
+        terminal.row_text_reserved(row, &mut self.room);
+        copy_out(self.room.as_slice(), out)
+    }
+
+    /// The text of the screen with its attributes into the front of `out`, if it fits.
+    pub(crate) fn show(&mut self, terminal: &Terminal, out: &mut [u8]) -> Copied
+        ensures len { result.len ≡ length (show terminal.now) }
+        ensures fits { IsTrue result.fits ↔ (length (show terminal.now) ≤ length out.old) }
+        ensures out { result.fits ≡ true → out.new ≡ written_over (show terminal.now) out.old }
+        ensures unchanged { result.fits ≡ false → out.new ≡ out.old }
+    {
+        self.room.clear();
+        show_reserved(terminal, &mut self.room);
+        copy_out(self.room.as_slice(), out)
+    }
+
+    /// The picture into the front of `out`, if it fits.
+    pub(crate) fn picture(&mut self, terminal: &Terminal, out: &mut [u8]) -> Copied
+        ensures len { result.len ≡ length (picture terminal.now) }
+        ensures fits { IsTrue result.fits ↔ (length (picture terminal.now) ≤ length out.old) }
+        ensures out { result.fits ≡ true → out.new ≡ written_over (picture terminal.now) out.old }
+        ensures unchanged { result.fits ≡ false → out.new ≡ out.old }
+    {
+        self.room.clear();
+        picture_reserved(terminal, &mut self.room);
+        copy_out(self.room.as_slice(), out)
+    }
+
+    /// The repaint into the front of `out`, if it fits.
     pub(crate) fn repaint(&mut self, terminal: &Terminal, out: &mut [u8]) -> Copied
         requires { terminal.now.held ≡ Nothing }
         ensures len { result.len ≡ length (paint terminal.now) }
@@ -65,22 +109,29 @@ impl Scratch {
         copy_out(self.room.as_slice(), out)
     }
 
-    /// An update into the front of `out`, which has room for the longest one. Answers how many bytes it has.
-    pub(crate) fn update(&mut self, shown: &mut Inner, to: &Terminal, out: &mut [u8]) -> usize
+    /// An update into the front of `out`, if it fits: `shown` is then in the state of `to`, and else as it was.
+    pub(crate) fn update(&mut self, shown: &mut Inner, to: &Terminal, out: &mut [u8]) -> Copied
         requires shown { shown.old.held ≡ Nothing }
         requires to { to.now.held ≡ Nothing }
-        requires room { UPDATE_LIMIT ≤ length out.old }
-        ensures shown { shown.new ≡ to.now }
-        ensures out { UpdatedOver shown.old to.now out.old out.new result }
-        ensures nothing { (result ≡ 0) ↔ (shown.old ≡ to.now) }
+        ensures fits { IsTrue result.fits ↔ (result.len ≤ length out.old) }
+        ensures shown { result.fits ≡ true → shown.new ≡ to.now }
+        ensures out { result.fits ≡ true → UpdatedOver shown.old to.now out.old out.new result.len }
+        ensures unchanged { result.fits ≡ false → (shown.new ≡ shown.old) × (out.new ≡ out.old) }
+        ensures nothing { (result.len ≡ 0) ↔ (shown.old ≡ to.now) }
         ensures small { shown.old.display.grid.width ≡ to.now.display.grid.width
             → shown.old.display.stops ≡ to.now.display.stops
-            → result ≤ 28 * differing shown.old.display.grid to.now.display.grid + 230 }
-        ensures speaks { Speaks (take result out.new) }
-        ensures ascii { IsAscii (take result out.new) }
+            → result.len ≤ 28 * differing shown.old.display.grid to.now.display.grid + 230 }
+        ensures bounded { result.len ≤ UPDATE_LIMIT }
+        ensures speaks { result.fits ≡ true → Speaks (take result.len out.new) }
+        ensures ascii { result.fits ≡ true → IsAscii (take result.len out.new) }
     {
         self.room.clear();
-        shown.update(to, &mut self.room);
-        copy_out(self.room.as_slice(), out).len
+        self.spare.copy_from(shown.terminal());
+        update_reserved(&mut self.spare, to, &mut self.room);
+        let copied = copy_out(self.room.as_slice(), out);
+        if copied.fits {
+            shown.exchange(&mut self.spare);
+        }
+        copied
     }
 }

@@ -1,24 +1,28 @@
-//! The calls that write a whole screen. They work in a scratch room, and write into the caller's.
+//! The calls that write a whole screen or a row. They work in a scratch room, and write into the caller's.
 ghost use Rattle.std.specs.Prelude.{◌≡◌, ◌≢◌, ◌↔◌, ◌+◌, ◌*◌, ◌≤◌, ◌<◌, ◌⊎◌, length, take, IfSome};
 ghost use Rattle.std.specs.Str.{IsAscii};
 ghost use Rattle.std.specs.declared.option.Option.TheVariants.{None};
 ghost use Rattle.vt_syntax.specs.declared.held.Held.TheVariants.{Nothing};
-ghost use Rattle.vt_term.specs.Text.{text};
+ghost use Rattle.vt_screen.specs.Grid.{row_of};
+ghost use Rattle.vt_term.specs.Text.{text, line_text};
+ghost use Rattle.vt_picture.specs.Show.{show};
+ghost use Rattle.vt_picture.specs.Picture.{picture};
 ghost use Rattle.vt_paint.specs.Repaint.{paint};
 ghost use Rattle.vt_paint.specs.Changes.{differing};
 ghost use Rattle.vt_paint.specs.Spoken.{Speaks};
-ghost use Rattle.vt220_c.specs.Status.{status_ok, status_closed, status_partial, status_room};
+ghost use Rattle.vt220_c.specs.Status.{status_ok, status_closed, status_partial, status_room, status_no_row};
 ghost use Rattle.vt220_c.specs.Written.{written_over, UpdatedOver};
 
 use crate::handle::Vt220;
 use crate::scratch_handle::Vt220Scratch;
-use crate::status::{CLOSED, OK, PARTIAL, ROOM};
+use crate::status::{CLOSED, NO_ROW, OK, PARTIAL, ROOM};
 use std::alloc::Global;
+use vt_term::ROWS;
 use vt_update::UPDATE_LIMIT;
 
-/// Writes the text of the screen, where the room is there, and tells its length.
+/// Writes the text of the screen if it fits into `out`. Writes its length to `written`.
 #[unsafe(no_mangle)]
-pub extern "C" fn vt220_text(
+pub extern "C" fn core_text(
     t: &mut Vt220,
     s: &mut Vt220Scratch,
     out: &mut [u8],
@@ -51,9 +55,123 @@ pub extern "C" fn vt220_text(
     if copied.fits { OK } else { ROOM }
 }
 
-/// Writes the repaint, between sequences and where the room is there, and tells its length.
+/// Writes the text of the screen with its attributes if it fits into `out`. Writes its length to `written`.
 #[unsafe(no_mangle)]
-pub extern "C" fn vt220_repaint(
+pub extern "C" fn core_show(
+    t: &mut Vt220,
+    s: &mut Vt220Scratch,
+    out: &mut [u8],
+    written: &mut usize,
+    alloc: Global,
+) -> u32
+    ensures same { t.new.kept.inside ≡ t.old.kept.inside }
+    ensures scratch { s.new.kept.inside ≡ s.old.kept.inside }
+    ensures closed { (result ≡ status_closed) ↔ ((t.old.kept.inside ≡ None) ⊎ (s.old.kept.inside ≡ None)) }
+    ensures none { result ≡ status_closed → written.new ≡ 0 }
+    ensures len { result ≢ status_closed → IfSome t.old.kept.inside (λ u. written.new ≡ length (show u)) }
+    ensures ok { result ≢ status_closed → IfSome t.old.kept.inside (λ u. (result ≡ status_ok) ↔ (length (show u) ≤ length out.old)) }
+    ensures room { result ≢ status_closed
+        → IfSome t.old.kept.inside (λ u. (result ≡ status_room) ↔ (length out.old < length (show u))) }
+    ensures out { IfSome t.old.kept.inside (λ u. result ≡ status_ok → out.new ≡ written_over (show u) out.old) }
+    ensures unchanged { (0 < result) → out.new ≡ out.old }
+{
+    *written = 0;
+    let Some(inner) = t.take(alloc) else {
+        return CLOSED;
+    };
+    let Some(mut scratch) = s.take(alloc) else {
+        t.put(inner);
+        return CLOSED;
+    };
+    let copied = scratch.show(inner.terminal(), out);
+    t.put(inner);
+    s.put(scratch);
+    *written = copied.len;
+    if copied.fits { OK } else { ROOM }
+}
+
+/// Writes the picture if it fits into `out`. Writes its length to `written`.
+#[unsafe(no_mangle)]
+pub extern "C" fn core_picture(
+    t: &mut Vt220,
+    s: &mut Vt220Scratch,
+    out: &mut [u8],
+    written: &mut usize,
+    alloc: Global,
+) -> u32
+    ensures same { t.new.kept.inside ≡ t.old.kept.inside }
+    ensures scratch { s.new.kept.inside ≡ s.old.kept.inside }
+    ensures closed { (result ≡ status_closed) ↔ ((t.old.kept.inside ≡ None) ⊎ (s.old.kept.inside ≡ None)) }
+    ensures none { result ≡ status_closed → written.new ≡ 0 }
+    ensures len { result ≢ status_closed → IfSome t.old.kept.inside (λ u. written.new ≡ length (picture u)) }
+    ensures ok { result ≢ status_closed → IfSome t.old.kept.inside (λ u. (result ≡ status_ok) ↔ (length (picture u) ≤ length out.old)) }
+    ensures room { result ≢ status_closed
+        → IfSome t.old.kept.inside (λ u. (result ≡ status_room) ↔ (length out.old < length (picture u))) }
+    ensures out { IfSome t.old.kept.inside (λ u. result ≡ status_ok → out.new ≡ written_over (picture u) out.old) }
+    ensures unchanged { (0 < result) → out.new ≡ out.old }
+{
+    *written = 0;
+    let Some(inner) = t.take(alloc) else {
+        return CLOSED;
+    };
+    let Some(mut scratch) = s.take(alloc) else {
+        t.put(inner);
+        return CLOSED;
+    };
+    let copied = scratch.picture(inner.terminal(), out);
+    t.put(inner);
+    s.put(scratch);
+    *written = copied.len;
+    if copied.fits { OK } else { ROOM }
+}
+
+/// Writes the text of a row, 1 to 24, if it fits into `out`. Writes its length to `written`.
+#[unsafe(no_mangle)]
+pub extern "C" fn core_row_text(
+    t: &mut Vt220,
+    s: &mut Vt220Scratch,
+    row: usize,
+    out: &mut [u8],
+    written: &mut usize,
+    alloc: Global,
+) -> u32
+    ensures same { t.new.kept.inside ≡ t.old.kept.inside }
+    ensures scratch { s.new.kept.inside ≡ s.old.kept.inside }
+    ensures closed { (result ≡ status_closed) ↔ ((t.old.kept.inside ≡ None) ⊎ (s.old.kept.inside ≡ None)) }
+    ensures no_row { result ≢ status_closed → (result ≡ status_no_row) ↔ ((row ≡ 0) ⊎ (24 < row)) }
+    ensures none { (result ≡ status_closed) ⊎ (result ≡ status_no_row) → written.new ≡ 0 }
+    ensures ok { result ≡ status_ok
+        → IfSome t.old.kept.inside
+        (λ u. (out.new ≡ written_over (line_text (row_of u.display.grid row)) out.old)
+        × (written.new ≡ length (line_text (row_of u.display.grid row)))) }
+    ensures room { result ≡ status_room
+        → IfSome t.old.kept.inside
+        (λ u. (length out.old < written.new) × (written.new ≡ length (line_text (row_of u.display.grid row)))) }
+    ensures answers { (result ≡ status_ok) ⊎ (result ≡ status_closed) ⊎ (result ≡ status_room) ⊎ (result ≡ status_no_row) }
+    ensures unchanged { (0 < result) → out.new ≡ out.old }
+{
+    *written = 0;
+    let Some(inner) = t.take(alloc) else {
+        return CLOSED;
+    };
+    let Some(mut scratch) = s.take(alloc) else {
+        t.put(inner);
+        return CLOSED;
+    };
+    let mut status = NO_ROW;
+    if 0 < row && row <= ROWS {
+        let copied = scratch.row_text(inner.terminal(), row, out);
+        *written = copied.len;
+        status = if copied.fits { OK } else { ROOM };
+    }
+    t.put(inner);
+    s.put(scratch);
+    status
+}
+
+/// Writes the repaint of a terminal between sequences if it fits into `out`. Writes its length to `written`.
+#[unsafe(no_mangle)]
+pub extern "C" fn core_repaint(
     t: &mut Vt220,
     s: &mut Vt220Scratch,
     out: &mut [u8],
@@ -93,13 +211,13 @@ pub extern "C" fn vt220_repaint(
     if copied.fits { OK } else { ROOM }
 }
 
-/// Writes bytes that lead from the terminal that is shown to the one that is to be, and brings the first there. Both
-/// are between sequences, and `out` has room for the longest update. `shown` and `to` are two handles, and not one.
+/// Writes bytes that lead from `shown` to `to` if they fit into `out`, and brings `shown` there. Both are between
+/// sequences. `shown` and `to` are two handles, and not one.
 ///
-/// Where width and tab stops are equal, these are at most 28 * n + 230 bytes for n cells that differ. They are ASCII:
+/// If width and tab stops are equal, these are at most 28 * n + 230 bytes for n cells that differ. They are ASCII:
 /// graphic characters, and the control functions that `Spoken` names.
 #[unsafe(no_mangle)]
-pub extern "C" fn vt220_update(
+pub extern "C" fn core_update(
     shown: &mut Vt220,
     to: &mut Vt220,
     s: &mut Vt220Scratch,
@@ -114,17 +232,18 @@ pub extern "C" fn vt220_update(
     ensures partial { result ≢ status_closed
         → IfSome shown.old.kept.inside
         (λ a. IfSome to.old.kept.inside (λ b. (result ≡ status_partial) ↔ ((a.held ≢ Nothing) ⊎ (b.held ≢ Nothing)))) }
-    ensures room { result ≡ status_room → (length out.old < UPDATE_LIMIT) × (written.new ≡ UPDATE_LIMIT) }
-    ensures ok { result ≡ status_ok → (UPDATE_LIMIT ≤ length out.old) × (shown.new.kept.inside ≡ to.old.kept.inside) }
+    ensures room { result ≡ status_room → length out.old < written.new }
+    ensures ok { result ≡ status_ok → (written.new ≤ length out.old) × (shown.new.kept.inside ≡ to.old.kept.inside) }
     ensures leads { result ≡ status_ok
         → IfSome shown.old.kept.inside
         (λ a. IfSome to.old.kept.inside (λ b. UpdatedOver a b out.old out.new written.new)) }
-    ensures nothing { result ≡ status_ok → (written.new ≡ 0) ↔ (shown.old.kept.inside ≡ to.old.kept.inside) }
-    ensures small { result ≡ status_ok
-        → IfSome shown.old.kept.inside
+    ensures nothing { (result ≡ status_ok) ⊎ (result ≡ status_room)
+        → (written.new ≡ 0) ↔ (shown.old.kept.inside ≡ to.old.kept.inside) }
+    ensures small { IfSome shown.old.kept.inside
         (λ a. IfSome to.old.kept.inside
         (λ b. a.display.grid.width ≡ b.display.grid.width → a.display.stops ≡ b.display.stops
         → written.new ≤ 28 * differing a.display.grid b.display.grid + 230)) }
+    ensures bounded { written.new ≤ UPDATE_LIMIT }
     ensures speaks { result ≡ status_ok → Speaks (take written.new out.new) }
     ensures ascii { result ≡ status_ok → IsAscii (take written.new out.new) }
     ensures none { (result ≡ status_closed) ⊎ (result ≡ status_partial) → written.new ≡ 0 }
@@ -146,13 +265,9 @@ pub extern "C" fn vt220_update(
     };
     let mut status = PARTIAL;
     if first.terminal().is_between() && second.terminal().is_between() {
-        if out.len() < UPDATE_LIMIT {
-            *written = UPDATE_LIMIT;
-            status = ROOM;
-        } else {
-            *written = scratch.update(&mut first, second.terminal(), out);
-            status = OK;
-        }
+        let copied = scratch.update(&mut first, second.terminal(), out);
+        *written = copied.len;
+        status = if copied.fits { OK } else { ROOM };
     }
     shown.put(first);
     to.put(second);

@@ -17,3 +17,6 @@ pub(crate) const PARTIAL: u32 = 4;
 
 /// The caller's room is too little.
 pub(crate) const ROOM: u32 = 5;
+
+/// There is no such row. (6 is the header's alone: a processor that isn't supported.)
+pub(crate) const NO_ROW: u32 = 7;

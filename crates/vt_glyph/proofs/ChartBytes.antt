@@ -16,7 +16,7 @@ use Rattle.vt_glyph.proofs.Glyphs.{IsEncoding-table_entry, encoded_glyph-table_e
 use Rattle.vt_glyph.proofs.Glyphs.{encoded_glyph-ascii}
 
 -- a byte of a chart, that of a code from 20 to 7E
-abbrev pub chart_byte : Set → ℕ → ℕ
+abbrev chart_byte : Set → ℕ → ℕ
 chart_byte set code = slice_index (encodings set) code
 
 -- a byte in the chart of two sets

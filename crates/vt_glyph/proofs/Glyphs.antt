@@ -41,7 +41,7 @@ glyph_passes p n blank shown h =
     either Goal _ _ h3 (by German) (λ h4.
     either Goal _ _ h4 (by Special) (by Supplemental)))))
 
-pub spells_glyph : (n : ℕ) → IsGlyph n → spells_back n ≡ true
+spells_glyph : (n : ℕ) → IsGlyph n → spells_back n ≡ true
 spells_glyph n h = glyph_passes spells_back n charts.spells_space charts.spells h
 
 -- what the test of a glyph's spelling says
@@ -70,11 +70,11 @@ spells n h =
     }
 
 -- the byte of a glyph encodes it
-pub encoded_glyph-encoding_of : (n : ℕ) → IsGlyph n → encoded_glyph (encoding_of n) ≡ n
+encoded_glyph-encoding_of : (n : ℕ) → IsGlyph n → encoded_glyph (encoding_of n) ≡ n
 unfolding encoded_glyph
 encoded_glyph-encoding_of n h = ap spelled_glyph (spells n h).encoded ∙ (spells n h).writes
 
-pub IsEncoding-encoding_of : (n : ℕ) → IsGlyph n → IsEncoding (encoding_of n)
+IsEncoding-encoding_of : (n : ℕ) → IsGlyph n → IsEncoding (encoding_of n)
 IsEncoding-encoding_of n h = record {
   glyph = subst IsGlyph (sym (encoded_glyph-encoding_of n h)) h;
   spelling = ap spelling_of (encoded_glyph-encoding_of n h) ∙ sym (spells n h).encoded;
@@ -86,7 +86,7 @@ IsGlyph-glyph_of set code low high = all_in_range (λ k. is_glyph (glyph_of set 
     (omega arith)
 
 -- the table's byte encodes what the set shows
-pub table_entry : (set : Set) (code : ℕ) → 0x21 ≤ code → code ≤ 0x7E
+table_entry : (set : Set) (code : ℕ) → 0x21 ≤ code → code ≤ 0x7E
     → slice_index (encodings set) code ≡ encoding_of (glyph_of set code)
 table_entry set code low high =
     eqb-true _ _ (all_in_range (λ k. slice_index (encodings set) k == encoding_of (glyph_of set k)) 0x21 94 code

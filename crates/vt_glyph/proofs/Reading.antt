@@ -10,7 +10,7 @@ use Rattle.vt_glyph.specs.Tables.{glyph_of, space}
 use Rattle.vt_glyph.specs.Invocation.{set_at, has_no_glyph, glyph_read, after_read, in_use, glyph_in_use, HasGlyph}
 
 -- the slot that a byte of the left half is read through
-abbrev pub left_slot : GraphicSets → ℕ
+abbrev left_slot : GraphicSets → ℕ
 left_slot sets = unwrap_or sets.pending sets.left
 
 low_has_glyph : (b : ℕ) → 0x20 ≤ b → b ≤ 0x7E → has_no_glyph b ≡ false
@@ -32,7 +32,7 @@ glyph_read-low sets b low high =
     ∙ ap (λ t. read false false t (b % 0x80)) (lt-ltb b 0x80 (omega arith))
     ∙ ap (λ n. read false false true n) code
 
-pub glyph_read-space : (sets : GraphicSets) → glyph_read sets 0x20 ≡ Some space
+glyph_read-space : (sets : GraphicSets) → glyph_read sets 0x20 ≡ Some space
 unfolding glyph_read
 glyph_read-space sets = refl
 

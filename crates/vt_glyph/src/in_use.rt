@@ -1,4 +1,4 @@
-//! The sets in GL and GR, for runs of graphic bytes.
+//! Speed: the sets in GL and GR, for runs of graphic bytes. `Sets::read` reads the same glyphs, one at a time.
 use crate::glyph::Glyph;
 use crate::set::{Set, halves};
 use std::marker::Model;

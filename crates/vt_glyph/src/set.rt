@@ -117,85 +117,45 @@ const SUPPLEMENTAL: [u8; 128] = *b"\0\0\0\0\0\0\0\0\0\0\0\0\0\0\0\0\0\0\0\0\0\0\
     \xE0\xE1\xE2\xE3\xE4\xE5\xE6\xE7\xE8\xE9\xEA\xEB\xEC\xED\xEE\xEF\
     \xA4\xF1\xF2\xF3\xF4\xF5\xF6\xF7\xF8\xF9\xFA\xFB\xFC\xFD\xA4\0";
 
+/// The charts of a set in the left half, with each set in the right half. A new set adds a row here and one constant below.
+macro_rules! charts {
+    ($left:ident) => {
+        [
+            [$left, ASCII],
+            [$left, BRITISH],
+            [$left, GERMAN],
+            [$left, SPECIAL],
+            [$left, SUPPLEMENTAL],
+        ]
+    };
+}
+
+const WITH_ASCII: [[[u8; 128]; 2]; 5] = charts!(ASCII);
+
+const WITH_BRITISH: [[[u8; 128]; 2]; 5] = charts!(BRITISH);
+
+const WITH_GERMAN: [[[u8; 128]; 2]; 5] = charts!(GERMAN);
+
+const WITH_SPECIAL: [[[u8; 128]; 2]; 5] = charts!(SPECIAL);
+
+const WITH_SUPPLEMENTAL: [[[u8; 128]; 2]; 5] = charts!(SUPPLEMENTAL);
+
 /// The encodings of two sets, by the codes of the left half and of the right one: one chart of 256 for each pair.
 pub(crate) fn halves(left: Set, right: Set) -> &'static [[u8; 128]; 2]
     ensures { result.now ≡ encodings left ∷ encodings right ∷ [] }
 {
-    match (left, right) {
-        (Set::Ascii, Set::Ascii) => &ASCII_ASCII,
-        (Set::Ascii, Set::British) => &ASCII_BRITISH,
-        (Set::Ascii, Set::German) => &ASCII_GERMAN,
-        (Set::Ascii, Set::Special) => &ASCII_SPECIAL,
-        (Set::Ascii, Set::Supplemental) => &ASCII_SUPPLEMENTAL,
-        (Set::British, Set::Ascii) => &BRITISH_ASCII,
-        (Set::British, Set::British) => &BRITISH_BRITISH,
-        (Set::British, Set::German) => &BRITISH_GERMAN,
-        (Set::British, Set::Special) => &BRITISH_SPECIAL,
-        (Set::British, Set::Supplemental) => &BRITISH_SUPPLEMENTAL,
-        (Set::German, Set::Ascii) => &GERMAN_ASCII,
-        (Set::German, Set::British) => &GERMAN_BRITISH,
-        (Set::German, Set::German) => &GERMAN_GERMAN,
-        (Set::German, Set::Special) => &GERMAN_SPECIAL,
-        (Set::German, Set::Supplemental) => &GERMAN_SUPPLEMENTAL,
-        (Set::Special, Set::Ascii) => &SPECIAL_ASCII,
-        (Set::Special, Set::British) => &SPECIAL_BRITISH,
-        (Set::Special, Set::German) => &SPECIAL_GERMAN,
-        (Set::Special, Set::Special) => &SPECIAL_SPECIAL,
-        (Set::Special, Set::Supplemental) => &SPECIAL_SUPPLEMENTAL,
-        (Set::Supplemental, Set::Ascii) => &SUPPLEMENTAL_ASCII,
-        (Set::Supplemental, Set::British) => &SUPPLEMENTAL_BRITISH,
-        (Set::Supplemental, Set::German) => &SUPPLEMENTAL_GERMAN,
-        (Set::Supplemental, Set::Special) => &SUPPLEMENTAL_SPECIAL,
-        (Set::Supplemental, Set::Supplemental) => &SUPPLEMENTAL_SUPPLEMENTAL,
+    let charts = match left {
+        Set::Ascii => &WITH_ASCII,
+        Set::British => &WITH_BRITISH,
+        Set::German => &WITH_GERMAN,
+        Set::Special => &WITH_SPECIAL,
+        Set::Supplemental => &WITH_SUPPLEMENTAL,
+    };
+    match right {
+        Set::Ascii => &charts[0],
+        Set::British => &charts[1],
+        Set::German => &charts[2],
+        Set::Special => &charts[3],
+        Set::Supplemental => &charts[4],
     }
 }
-
-const ASCII_ASCII: [[u8; 128]; 2] = [ASCII, ASCII];
-
-const ASCII_BRITISH: [[u8; 128]; 2] = [ASCII, BRITISH];
-
-const ASCII_GERMAN: [[u8; 128]; 2] = [ASCII, GERMAN];
-
-const ASCII_SPECIAL: [[u8; 128]; 2] = [ASCII, SPECIAL];
-
-const ASCII_SUPPLEMENTAL: [[u8; 128]; 2] = [ASCII, SUPPLEMENTAL];
-
-const BRITISH_ASCII: [[u8; 128]; 2] = [BRITISH, ASCII];
-
-const BRITISH_BRITISH: [[u8; 128]; 2] = [BRITISH, BRITISH];
-
-const BRITISH_GERMAN: [[u8; 128]; 2] = [BRITISH, GERMAN];
-
-const BRITISH_SPECIAL: [[u8; 128]; 2] = [BRITISH, SPECIAL];
-
-const BRITISH_SUPPLEMENTAL: [[u8; 128]; 2] = [BRITISH, SUPPLEMENTAL];
-
-const GERMAN_ASCII: [[u8; 128]; 2] = [GERMAN, ASCII];
-
-const GERMAN_BRITISH: [[u8; 128]; 2] = [GERMAN, BRITISH];
-
-const GERMAN_GERMAN: [[u8; 128]; 2] = [GERMAN, GERMAN];
-
-const GERMAN_SPECIAL: [[u8; 128]; 2] = [GERMAN, SPECIAL];
-
-const GERMAN_SUPPLEMENTAL: [[u8; 128]; 2] = [GERMAN, SUPPLEMENTAL];
-
-const SPECIAL_ASCII: [[u8; 128]; 2] = [SPECIAL, ASCII];
-
-const SPECIAL_BRITISH: [[u8; 128]; 2] = [SPECIAL, BRITISH];
-
-const SPECIAL_GERMAN: [[u8; 128]; 2] = [SPECIAL, GERMAN];
-
-const SPECIAL_SPECIAL: [[u8; 128]; 2] = [SPECIAL, SPECIAL];
-
-const SPECIAL_SUPPLEMENTAL: [[u8; 128]; 2] = [SPECIAL, SUPPLEMENTAL];
-
-const SUPPLEMENTAL_ASCII: [[u8; 128]; 2] = [SUPPLEMENTAL, ASCII];
-
-const SUPPLEMENTAL_BRITISH: [[u8; 128]; 2] = [SUPPLEMENTAL, BRITISH];
-
-const SUPPLEMENTAL_GERMAN: [[u8; 128]; 2] = [SUPPLEMENTAL, GERMAN];
-
-const SUPPLEMENTAL_SPECIAL: [[u8; 128]; 2] = [SUPPLEMENTAL, SPECIAL];
-
-const SUPPLEMENTAL_SUPPLEMENTAL: [[u8; 128]; 2] = [SUPPLEMENTAL, SUPPLEMENTAL];

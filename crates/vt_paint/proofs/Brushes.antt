@@ -80,7 +80,7 @@ pub record AreFour (g : List Set) : Type 0 where
   pub d : Set
   pub is : g ≡ a ∷ b ∷ c ∷ d ∷ []
 
-pub four_of : (g : List Set) → length g ≡ 4 → AreFour g
+four_of : (g : List Set) → length g ≡ 4 → AreFour g
 four_of [] h = absurd (omega arith)
 four_of (a ∷ []) h = absurd (omega arith)
 four_of (a ∷ b ∷ []) h = absurd (omega arith)

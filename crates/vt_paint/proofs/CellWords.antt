@@ -9,7 +9,8 @@ use Rattle.vt_glyph.specs.Encoding.{encoding_of, encoded_glyph}
 use Rattle.vt_screen.specs.declared.cell.Brush.{Brush}
 use Rattle.vt_screen.specs.declared.cell.Cell.{Cell}
 use Rattle.vt_screen.specs.Cells.{blank, brush_of}
-use Rattle.vt_paint.specs.Same.{same_bool, same_brush, is_blank}
+use Rattle.vt_screen.specs.Same.{same_bool, same_brush}
+use Rattle.vt_paint.specs.Same.{is_blank}
 use Rattle.vt_paint.specs.Changes.{same_cell}
 use Rattle.vt_paint.specs.Private.HeaderParts.{bit, brush_number, cell_word}
 
@@ -71,7 +72,7 @@ same_numbers a b =
     ∙ regrouped (same_bool r.bold s.bold) (same_bool r.underline s.underline) (same_bool r.blink s.blink)
     (same_bool r.reverse s.reverse) (same_bool a.protected b.protected)
 
-pub same_words : (a b : Cell) → encoded_glyph (encoding_of a.glyph) ≡ a.glyph
+same_words : (a b : Cell) → encoded_glyph (encoding_of a.glyph) ≡ a.glyph
     → encoded_glyph (encoding_of b.glyph) ≡ b.glyph
     → encoding_of a.glyph < 0x100 → encoding_of b.glyph < 0x100
     → eqb (cell_word a) (cell_word b) ≡ same_cell a b

@@ -21,10 +21,10 @@ use Rattle.vt_term.specs.Modes.{with_mode}
 use Rattle.vt_term.specs.Functions.{sequence_in, sequences_of}
 use Rattle.vt_term.specs.Reports.{line_of_cursor}
 use Rattle.vt_paint.specs.Same.{is_blank}
-use Rattle.vt_paint.specs.Controls.{private_mode, decom, margins_to, brush_events, sets_events, spelling_sets_events}
+use Rattle.vt_paint.specs.Controls.{margins_to, brush_events, sets_events, spelling_sets_events}
 use Rattle.vt_paint.specs.Pieces.{glyph_events, pieces, is_blank_grid}
 use Rattle.vt_paint.specs.Items.{cells_item, margins_item, origin_item, position_item, wrap_item, modes_item}
-use Rattle.vt_paint.specs.Items.{shift_item}
+use Rattle.vt_paint.specs.Items.{shift_item, last_items}
 use Rattle.vt_paint.proofs.LowerLaws.{GridLaws, GlyphLaws}
 use Rattle.vt_paint.proofs.AfterEvents.{display_after, display_after-append, display_after-then}
 use Rattle.vt_paint.proofs.Equality.{and_true, not_true, is_blank-is}
@@ -32,9 +32,10 @@ use Rattle.vt_paint.proofs.Grids.{painted, all_blank, painted_none, put_same}
 use Rattle.vt_paint.proofs.Brushes.{brush_leaves, with_sets, sets_leaves, spelling_sets, spelling_sets_leaves}
 use Rattle.vt_paint.proofs.Brushes.{spelling_sets_are, spelling_sets_four, spelling_sets_none}
 use Rattle.vt_paint.proofs.Glyphs.{glyph_leaves}
-use Rattle.vt_paint.proofs.Painting.{IsReady, shown, behind, AreGlyphs, pieces_leaves, write_glyph_leaves}
+use Rattle.vt_paint.proofs.Walk.{shown}
+use Rattle.vt_paint.proofs.Painting.{IsReady, behind, AreGlyphs, pieces_leaves, write_glyph_leaves}
 use Rattle.vt_paint.proofs.SavedRecord.{with_saved}
-use Rattle.vt_paint.proofs.ModeItems.{modes_leaves, shift_leaves}
+use Rattle.vt_paint.proofs.ModeItems.{modes_leave, shift_leaves}
 
 -- s with these parts, and with some modes but for the origin
 abbrev pub part : Display → Modes → Cursor → Brush → GraphicSets → Margins → Bool → Display
@@ -147,7 +148,7 @@ pub record HasMargins (s : Display) (modes : Modes) (brush : Brush) (sets : Grap
   pub cursor : Cursor
   pub is : x ≡ part s modes cursor brush sets margins origin
 
-pub margins_leaves : (s : Display) (modes : Modes) (cursor : Cursor) (brush : Brush) (sets : GraphicSets) (m : Margins)
+margins_leaves : (s : Display) (modes : Modes) (cursor : Cursor) (brush : Brush) (sets : GraphicSets) (m : Margins)
     (origin : Bool) → AreSoundMargins m
     → HasMargins s modes brush sets m origin
     (display_after (part s modes cursor brush sets full_margins origin) (margins_item m))
@@ -182,21 +183,15 @@ margins_leaves s modes cursor brush sets m origin sound = go (eqb m.top 1 && eqb
               ∙ ap (λ l. done m.top m.bottom l) less;
         }
 
-pub origin_leaves : (s : Display) (modes : Modes) (cursor : Cursor) (brush : Brush) (sets : GraphicSets) (m : Margins)
-    (origin : Bool)
-    → HasMargins s modes brush sets m origin
-    (display_after (part s modes cursor brush sets m false) (origin_item origin))
+pub origin_leaves : (known : Bool) (s : Display) (modes : Modes) (cursor : Cursor) (brush : Brush) (sets : GraphicSets)
+    (m : Margins) (now on : Bool) → (known ≡ true → now ≡ false)
+    → HasMargins s modes brush sets m on (display_after (part s modes cursor brush sets m now) (origin_item known on))
 unfolding display_after origin_item sequence_in sequences_of with_mode
-origin_leaves s modes cursor brush sets m true = record { cursor = at_place m.top 1; is = refl }
-origin_leaves s modes cursor brush sets m false = record { cursor = cursor; is = refl }
-
-pub origin_set_leaves : (s : Display) (modes : Modes) (cursor : Cursor) (brush : Brush) (sets : GraphicSets)
-    (m : Margins) (was on : Bool)
-    → HasMargins s modes brush sets m on
-    (display_after (part s modes cursor brush sets m was) (private_mode decom on ∷ []))
-unfolding display_after sequence_in sequences_of with_mode
-origin_set_leaves s modes cursor brush sets m was true = record { cursor = at_place m.top 1; is = refl }
-origin_set_leaves s modes cursor brush sets m was false = record { cursor = at_place 1 1; is = refl }
+origin_leaves true s modes cursor brush sets m now true h = record { cursor = at_place m.top 1; is = refl }
+origin_leaves false s modes cursor brush sets m now true h = record { cursor = at_place m.top 1; is = refl }
+origin_leaves true s modes cursor brush sets m now false h =
+    record { cursor = cursor; is = ap (λ b. part s modes cursor brush sets m b) (h refl) }
+origin_leaves false s modes cursor brush sets m now false h = record { cursor = at_place 1 1; is = refl }
 
 -- ---- the cursor
 
@@ -280,20 +275,40 @@ module _ (grids : GridLaws) (glyphs : GlyphLaws) where
             none = none;
           }
 
--- ---- all that is left
+  -- ---- the last items
 
-pub end_leaves : (s : Display) (brush : Brush) (sets : GraphicSets) → IsSoundDisplay s → length sets.g ≡ 4
-    → sets.pending ≡ None
-    → display_after (part s modes_at_power_up s.cursor brush sets s.margins s.modes.decom)
-    (brush_events s.brush ++ (sets_events s.sets ++ (modes_item s.modes ++ shift_item s.sets.pending))) ≡ s
-end_leaves s brush sets i four none =
-    let x0 = part s modes_at_power_up s.cursor brush sets s.margins s.modes.decom in
-    let x1 = part s modes_at_power_up s.cursor s.brush sets s.margins s.modes.decom in
-    let x2 = with_sets x1 s.sets.g s.sets.left s.sets.right in
-    let x3 : Display = record x2 { modes = s.modes } in
-    let f3 = modes_item s.modes ++ shift_item s.sets.pending in
-    let f2 = sets_events s.sets ++ f3 in
-    display_after-then x0 x1 s (brush_events s.brush) f2 (brush_leaves x0 s.brush)
-    (display_after-then x1 x2 s (sets_events s.sets) f3 (sets_leaves x1 s.sets four i.sets)
-    (display_after-then x2 x3 s (modes_item s.modes) (shift_item s.sets.pending) (modes_leaves x2 s.modes i.wrap)
-    (shift_leaves x3 s.sets.pending i.sets.pending none)))
+  pub last_leaves : (known : Bool) (s : Display) (modes : Modes) (cursor : Cursor) (brush : Brush) (sets : GraphicSets)
+      (origin : Bool)
+      → (known ≡ true → modes ≡ modes_at_power_up) → (known ≡ true → origin ≡ false)
+      → modes.irm ≡ false → modes.decawm ≡ true → IsSoundDisplay s → AreGlyphs s.grid
+      → length sets.g ≡ 4 → sets.pending ≡ None → (s.cursor.wrap ≡ true → AreSpellingSets sets)
+      → display_after (part s modes cursor brush sets full_margins origin) (last_items known s) ≡ s
+  unfolding last_items
+  last_leaves known s modes cursor brush sets origin is_known was irm decawm i are four none spells =
+      let place = at_place s.cursor.row s.cursor.col in
+      let o7 = modes_item known s.modes ++ shift_item s.sets.pending in
+      let o6 = sets_events s.sets ++ o7 in
+      let o5 = brush_events s.brush ++ o6 in
+      let o4 = wrap_item s.grid s.cursor ++ o5 in
+      let o3 = position_item s ++ o4 in
+      let o2 = origin_item known s.modes.decom ++ o3 in
+      let w1 = margins_leaves s modes cursor brush sets s.margins origin i.margins in
+      let w2 = origin_leaves known s modes w1.cursor brush sets s.margins origin s.modes.decom was in
+      let w4 = wrap_leaves s modes brush sets irm decawm i are four none spells in
+      let x0 = part s modes cursor brush sets full_margins origin in
+      let x1 = part s modes w1.cursor brush sets s.margins origin in
+      let x2 = part s modes w2.cursor brush sets s.margins s.modes.decom in
+      let x3 = part s modes place brush sets s.margins s.modes.decom in
+      let x4 = part s modes s.cursor w4.brush w4.sets s.margins s.modes.decom in
+      let x5 = part s modes s.cursor s.brush w4.sets s.margins s.modes.decom in
+      let x6 = with_sets x5 s.sets.g s.sets.left s.sets.right in
+      let x7 : Display = record x6 { modes = s.modes } in
+      display_after-then x0 x1 s (margins_item s.margins) o2 w1.is
+      (display_after-then x1 x2 s (origin_item known s.modes.decom) o3 w2.is
+      (display_after-then x2 x3 s (position_item s) o4 (position_leaves s modes w2.cursor brush sets i)
+      (display_after-then x3 x4 s (wrap_item s.grid s.cursor) o5 w4.is
+      (display_after-then x4 x5 s (brush_events s.brush) o6 (brush_leaves x4 s.brush)
+      (display_after-then x5 x6 s (sets_events s.sets) o7 (sets_leaves x5 s.sets w4.four i.sets)
+      (display_after-then x6 x7 s (modes_item known s.modes) (shift_item s.sets.pending)
+      (modes_leave known x6 modes s.modes is_known i.wrap)
+      (shift_leaves x7 s.sets.pending i.sets.pending w4.none)))))))

@@ -13,20 +13,19 @@ use Rattle.vt_term.specs.Sound.{IsSoundDisplay}
 use Rattle.vt_term.specs.Modes.{with_mode}
 use Rattle.vt_term.specs.Functions.{plain_escape, sequence_in, sequences_of, effect}
 use Rattle.vt_term.specs.Reports.{line_of_cursor}
-use Rattle.vt_paint.specs.Controls.{private_mode, decom, cursor_position, brush_events, save_cursor, sets_events}
+use Rattle.vt_paint.specs.Controls.{cursor_position, brush_events, save_cursor, sets_events}
 use Rattle.vt_paint.specs.Controls.{spelling_sets_events}
-use Rattle.vt_paint.specs.Items.{margins_item, origin_item, position_item, wrap_item, shift_item}
+use Rattle.vt_paint.specs.Items.{origin_item, wrap_item, last_items}
 use Rattle.vt_paint.specs.Changes.{AreChanges}
-use Rattle.vt_paint.specs.Private.ChangeEvents.{changed_cells, start_item, saved_cursor, record_item, every_mode, change_events}
+use Rattle.vt_paint.specs.Private.ChangeEvents.{changed_cells, start_item, saved_cursor, record_item, change_events}
 use Rattle.vt_paint.proofs.LowerLaws.{GridLaws, GlyphLaws}
 use Rattle.vt_paint.proofs.AfterEvents.{display_after, display_after-then}
 use Rattle.vt_paint.proofs.Brushes.{brush_leaves, with_sets, sets_leaves, spelling_sets, spelling_sets_leaves}
 use Rattle.vt_paint.proofs.Brushes.{spelling_sets_are, spelling_sets_four, spelling_sets_none}
-use Rattle.vt_paint.proofs.Painting.{IsReady, shown, AreGlyphs}
-use Rattle.vt_paint.proofs.ModeItems.{shift_leaves}
-use Rattle.vt_paint.proofs.Chain.{part, margins_leaves, origin_leaves, origin_set_leaves, position_leaves, wrap_leaves}
+use Rattle.vt_paint.proofs.Walk.{shown}
+use Rattle.vt_paint.proofs.Painting.{IsReady, AreGlyphs}
+use Rattle.vt_paint.proofs.Chain.{part, origin_leaves, position_leaves, wrap_leaves, last_leaves}
 use Rattle.vt_paint.proofs.ChangeRuns.{changed_cells_leaves}
-use Rattle.vt_paint.proofs.EveryMode.{every_mode_leaves}
 
 -- the modes after the first item
 start_modes : Modes → Modes
@@ -141,7 +140,7 @@ module _ (grids : GridLaws) (glyphs : GlyphLaws) where
       let e3 = brush_events s.saved.brush ++ e4 in
       let e2 = wrap_item s.grid (saved_cursor s.saved) ++ e3 in
       let e1 = cursor_position s.saved.row s.saved.col ∷ e2 in
-      let w1 = origin_leaves d modes cursor brush sets full_margins origin in
+      let w1 = origin_leaves true d modes cursor brush sets full_margins false origin (λ e. refl) in
       let w3 = wrap_leaves grids glyphs d modes brush sets irm decawm sound are four none spells in
       let x0 = part d modes cursor brush sets full_margins false in
       let x1 = part d modes w1.cursor brush sets full_margins origin in
@@ -154,7 +153,7 @@ module _ (grids : GridLaws) (glyphs : GlyphLaws) where
       record {
         sets = made;
         is =
-            display_after-then x0 x1 end (origin_item origin) e1 w1.is
+            display_after-then x0 x1 end (origin_item true origin) e1 w1.is
             (display_after-then x1 x2 end (cursor_position s.saved.row s.saved.col ∷ []) e2
             (ap (λ n. display_after x1 (cursor_position n s.saved.col ∷ [])) (sym (recorded_line s modes i))
             ∙ position_leaves d modes w1.cursor brush sets sound)
@@ -175,7 +174,6 @@ module _ (grids : GridLaws) (glyphs : GlyphLaws) where
   unfolding change_events start_modes
   changes_leaves marks s t i j are changes =
       let modes = start_modes t.modes in
-      let place = at_place s.cursor.row s.cursor.col in
       let base : Display = record (started t) { sets = spelling_sets sets_at_power_up } in
       let ready : IsReady base = record {
         sets = spelling_sets_are sets_at_power_up refl refl;
@@ -184,14 +182,7 @@ module _ (grids : GridLaws) (glyphs : GlyphLaws) where
         decom = refl;
       } in
       let origin = s.saved.origin in
-      let o12 = every_mode s.modes ++ shift_item s.sets.pending in
-      let o11 = sets_events s.sets ++ o12 in
-      let o10 = brush_events s.brush ++ o11 in
-      let o9 = wrap_item s.grid s.cursor ++ o10 in
-      let o8 = position_item s ++ o9 in
-      let o7 = private_mode decom s.modes.decom ∷ o8 in
-      let o6 = margins_item s.margins ++ o7 in
-      let o5 = spelling_sets_events ++ o6 in
+      let o5 = spelling_sets_events ++ last_items false s in
       let o4 = record_item s.grid s.saved ++ o5 in
       let o3 = changed_cells marks s.grid ++ o4 in
       let o2 = spelling_sets_events ++ o3 in
@@ -200,36 +191,17 @@ module _ (grids : GridLaws) (glyphs : GlyphLaws) where
       let w4 = record_leaves s modes w3.cursor w3.brush base.sets i are refl refl
       (spelling_sets_four sets_at_power_up refl) (spelling_sets_none sets_at_power_up refl) (λ h. ready.sets) in
       let sets = spelling_sets w4.sets in
-      let four = spelling_sets_four w4.sets w4.four in
-      let none = spelling_sets_none w4.sets w4.none in
-      let spells = spelling_sets_are w4.sets w4.four w4.none in
-      let w6 = margins_leaves s modes (saved_cursor s.saved) s.saved.brush sets s.margins origin i.margins in
-      let w7 = origin_set_leaves s modes w6.cursor s.saved.brush sets s.margins origin s.modes.decom in
-      let w9 = wrap_leaves grids glyphs s modes s.saved.brush sets refl refl i are four none (λ h. spells) in
       let x1 = started t in
       let x3 = part (recorded s modes) modes w3.cursor w3.brush base.sets full_margins false in
       let x4 = part s modes (saved_cursor s.saved) s.saved.brush w4.sets full_margins origin in
       let x5 = part s modes (saved_cursor s.saved) s.saved.brush sets full_margins origin in
-      let x6 = part s modes w6.cursor s.saved.brush sets s.margins origin in
-      let x7 = part s modes w7.cursor s.saved.brush sets s.margins s.modes.decom in
-      let x8 = part s modes place s.saved.brush sets s.margins s.modes.decom in
-      let x9 = part s modes s.cursor w9.brush w9.sets s.margins s.modes.decom in
-      let x10 = part s modes s.cursor s.brush w9.sets s.margins s.modes.decom in
-      let x11 = with_sets x10 s.sets.g s.sets.left s.sets.right in
-      let x12 : Display = record x11 { modes = s.modes } in
       display_after-then t x1 s start_item o2 (start_leaves t)
       (display_after-then x1 base s spelling_sets_events o3 (spelling_sets_leaves x1)
       (display_after-then base x3 s (changed_cells marks s.grid) o4
       (with_stops (display_after base (changed_cells marks s.grid)) (shown base s.grid w3.cursor w3.brush) s.stops
       w3.is changes.stops)
       (display_after-then x3 x4 s (record_item s.grid s.saved) o5 w4.is
-      (display_after-then x4 x5 s spelling_sets_events o6 (spelling_sets_leaves x4)
-      (display_after-then x5 x6 s (margins_item s.margins) o7 w6.is
-      (display_after-then x6 x7 s (private_mode decom s.modes.decom ∷ []) o8 w7.is
-      (display_after-then x7 x8 s (position_item s) o9 (position_leaves s modes w7.cursor s.saved.brush sets i)
-      (display_after-then x8 x9 s (wrap_item s.grid s.cursor) o10 w9.is
-      (display_after-then x9 x10 s (brush_events s.brush) o11 (brush_leaves x9 s.brush)
-      (display_after-then x10 x11 s (sets_events s.sets) o12 (sets_leaves x10 s.sets w9.four i.sets)
-      (display_after-then x11 x12 s (every_mode s.modes) (shift_item s.sets.pending)
-      (every_mode_leaves x11 modes s.modes i.wrap)
-      (shift_leaves x12 s.sets.pending i.sets.pending w9.none))))))))))))
+      (display_after-then x4 x5 s spelling_sets_events (last_items false s) (spelling_sets_leaves x4)
+      (last_leaves grids glyphs false s modes (saved_cursor s.saved) s.saved.brush sets origin (λ e. absurd (cc e))
+      (λ e. absurd (cc e)) refl refl i are (spelling_sets_four w4.sets w4.four) (spelling_sets_none w4.sets w4.none)
+      (λ h. spelling_sets_are w4.sets w4.four w4.none))))))

@@ -1,6 +1,6 @@
 -- The marked cells are written over those underneath, one after another.
-use Rattle.std.proofs.Common.{◌≡◌, Bool, true, false, cond, eqb, ◌+◌, ◌≤◌, ℕ, zero, suc, [], ◌∷◌, ◌++◌, List, arith}
-use Rattle.std.proofs.Common.{refl, sym, ap, subst, ◌∙◌}
+use Rattle.std.proofs.Common.{◌≡◌, Bool, true, false, cond, eqb, ◌+◌, ◌≤◌, ℕ, [], ◌∷◌, ◌++◌, List}
+use Rattle.std.proofs.Common.{refl, sym, ap, ◌∙◌}
 use Rattle.std.proofs.lemmas.Bool.{eqb-true}
 use Rattle.vt_screen.specs.declared.cell.Rendition.{Rendition}
 use Rattle.vt_screen.specs.declared.cell.Brush.{Brush}
@@ -11,21 +11,22 @@ use Rattle.vt_term.specs.declared.state.Cursor.{Cursor}
 use Rattle.vt_term.specs.State.{Display, at_place}
 use Rattle.vt_term.specs.Rendition.{with_attribute}
 use Rattle.vt_term.specs.Functions.{sequence_in, sequences_of}
-use Rattle.vt_paint.specs.Same.{same_brush}
+use Rattle.vt_screen.specs.Same.{same_brush}
 use Rattle.vt_paint.specs.Controls.{cursor_position, protection_to, rendition_to, brush_events}
 use Rattle.vt_paint.specs.Pieces.{glyph_events}
 use Rattle.vt_paint.specs.Changes.{same_cell, differs_at, is_marked, AreMarked}
-use Rattle.vt_paint.specs.Private.ChangeEvents.{has_all, all_attributes, short_brush_events, change_of, change, changes_from}
-use Rattle.vt_paint.specs.Private.ChangeEvents.{changed_row, changed_rows, changed_cells}
+use Rattle.vt_paint.specs.Private.ChangeEvents.{has_all, all_attributes, short_brush_events, change_of, change}
+use Rattle.vt_paint.specs.Private.ChangeEvents.{changed_cells}
 use Rattle.vt_paint.proofs.LowerLaws.{GridLaws, GlyphLaws}
 use Rattle.vt_paint.proofs.AfterEvents.{display_after, display_after-append}
 use Rattle.vt_paint.proofs.Equality.{and_true, not_false, same_brush-is}
-use Rattle.vt_paint.proofs.Grids.{painted, painted_none, painted_row, painted_skip, painted_put, painted_all}
+use Rattle.vt_paint.proofs.Grids.{painted, painted_none, painted_skip, painted_put}
+use Rattle.vt_paint.proofs.Walk.{shown, Before, IsShown, IsWritten, grid_leaves}
 use Rattle.vt_paint.proofs.Brushes.{brush_leaves}
 use Rattle.vt_paint.proofs.Glyphs.{glyph_leaves}
-use Rattle.vt_paint.proofs.Painting.{IsReady, shown, behind, AreGlyphs, cursor_position_leaves, write_glyph_leaves}
+use Rattle.vt_paint.proofs.Painting.{IsReady, behind, AreGlyphs, cursor_position_leaves, write_glyph_leaves}
 
-pub same_cell-is : (a b : Cell) → same_cell a b ≡ true → a ≡ b
+same_cell-is : (a b : Cell) → same_cell a b ≡ true → a ≡ b
 same_cell-is a b h =
     let p = and_true (eqb a.glyph b.glyph) (same_brush (brush_of a) (brush_of b)) h in
     ap (λ n. cell_of n (brush_of a)) (eqb-true a.glyph b.glyph p.0)
@@ -49,7 +50,7 @@ unfolding display_after sequence_in sequences_of
 with_protection_leaves x r true = refl
 with_protection_leaves x r false = refl
 
-pub short_brush_leaves : (x : Display) (brush : Brush) → display_after x (short_brush_events brush)
+short_brush_leaves : (x : Display) (brush : Brush) → display_after x (short_brush_events brush)
     ≡ record x { brush = brush }
 unfolding display_after short_brush_events brush_events sequence_in sequences_of with_attribute
 short_brush_leaves x brush = go (has_all brush.rendition) refl
@@ -68,11 +69,9 @@ short_brush_leaves x brush = go (has_all brush.rendition) refl
 
 -- ---- the cells
 
--- the cells before a place are written
-pub record IsWritten (base : Display) (b g : Grid) (r c : ℕ) (x : Display) : Type 0 where
-  pub cursor : Cursor
-  pub brush : Brush
-  pub is : x ≡ shown base (painted (cell_at b) g r c) cursor brush
+-- cursor and brush may be any
+abbrev anywhere : Before
+anywhere r c cursor brush = Unit {0}
 
 module _ (grids : GridLaws) (glyphs : GlyphLaws) where
   -- one cell, with its place and its brush
@@ -98,7 +97,8 @@ module _ (grids : GridLaws) (glyphs : GlyphLaws) where
 
   change_leaves : (marks : List (List Bool)) (base : Display) (b g : Grid) (r c : ℕ) (x : Display) → IsReady base
       → AreGlyphs g → AreMarked marks b g → 1 ≤ r → r ≤ 24 → 1 ≤ c → c ≤ g.width
-      → IsWritten base b g r c x → IsWritten base b g r (c + 1) (display_after x (change marks g r c))
+      → IsWritten anywhere base (cell_at b) g r c x
+      → IsWritten anywhere base (cell_at b) g r (c + 1) (display_after x (change marks g r c))
   unfolding display_after change_of
   change_leaves marks base b g r c x ready are marked r1 r24 c1 cw w =
       go (is_marked marks r c) (marked r c r1 r24 c1 cw)
@@ -106,7 +106,7 @@ module _ (grids : GridLaws) (glyphs : GlyphLaws) where
       cell : Cell
       cell = cell_at g r c
 
-      go : (m : Bool) → m ≡ differs_at b g r c → IsWritten base b g r (c + 1)
+      go : (m : Bool) → m ≡ differs_at b g r c → IsWritten anywhere base (cell_at b) g r (c + 1)
           (display_after x (cond m (cursor_position r c ∷ (short_brush_events (brush_of cell) ++ glyph_events cell))
           []))
       go true e = record {
@@ -116,6 +116,7 @@ module _ (grids : GridLaws) (glyphs : GlyphLaws) where
             ap (λ y. display_after y (cursor_position r c ∷ (short_brush_events (brush_of cell) ++ glyph_events cell)))
             w.is
             ∙ one_leaves base b g r c w.cursor w.brush ready are r1 r24 c1 cw;
+        at = λ l. tt;
       }
       go false e = record {
         cursor = w.cursor;
@@ -125,76 +126,16 @@ module _ (grids : GridLaws) (glyphs : GlyphLaws) where
             ∙ ap (λ y. shown base y w.cursor w.brush)
             (painted_skip grids (cell_at b) g r c
             (sym (same_cell-is (cell_at b r c) cell (not_false (same_cell (cell_at b r c) cell) (sym e)))));
+        at = λ l. tt;
       }
-
-  changes_from_leaves : (marks : List (List Bool)) (base : Display) (b g : Grid) (r n c : ℕ) (x : Display)
-      → IsReady base
-      → AreGlyphs g → AreMarked marks b g → 1 ≤ r → r ≤ 24 → 1 ≤ c → c + n ≡ g.width + 1
-      → IsWritten base b g r c x → IsWritten base b g r (g.width + 1) (display_after x (changes_from marks g r c n))
-  unfolding display_after
-  changes_from_leaves marks base b g r zero c x ready are marked r1 r24 c1 e w =
-      let same : c ≡ g.width + 1 = omega arith in
-      record {
-        cursor = w.cursor;
-        brush = w.brush;
-        is = w.is ∙ ap (λ n. shown base (painted (cell_at b) g r n) w.cursor w.brush) same;
-      }
-  changes_from_leaves marks base b g r (suc n) c x ready are marked r1 r24 c1 e w =
-      subst (λ (y : Display). IsWritten base b g r (g.width + 1) y)
-      (sym (display_after-append x (change marks g r c) (changes_from marks g r (c + 1) n)))
-      (changes_from_leaves marks base b g r n (c + 1) (display_after x (change marks g r c)) ready are marked r1 r24
-      (omega arith)
-      (omega arith)
-      (change_leaves marks base b g r c x ready are marked r1 r24 c1 (omega arith) w))
-
-  changed_rows_leaves : (marks : List (List Bool)) (base : Display) (b g : Grid) (n r : ℕ) (x : Display) → IsReady base
-      → AreGlyphs g → AreMarked marks b g → 1 ≤ r → r + n ≡ 25
-      → IsWritten base b g r 1 x → IsWritten base b g 25 1 (display_after x (changed_rows marks g r n))
-  unfolding display_after
-  changed_rows_leaves marks base b g zero r x ready are marked r1 e w =
-      let same : r ≡ 25 = omega arith in
-      record {
-        cursor = w.cursor;
-        brush = w.brush;
-        is = w.is ∙ ap (λ n. shown base (painted (cell_at b) g n 1) w.cursor w.brush) same;
-      }
-  changed_rows_leaves marks base b g (suc n) r x ready are marked r1 e w =
-      let row = changes_from_leaves marks base b g r g.width 1 x ready are marked r1 (omega arith) (omega arith)
-      (omega arith) w in
-      let next : IsWritten base b g (r + 1) 1 (display_after x (changed_row marks g r)) = record {
-        cursor = row.cursor;
-        brush = row.brush;
-        is = row.is ∙ ap (λ y. shown base y row.cursor row.brush) (painted_row grids (cell_at b) g r);
-      } in
-      subst (λ (y : Display). IsWritten base b g 25 1 y)
-      (sym (display_after-append x (changed_row marks g r) (changed_rows marks g (r + 1) n)))
-      (changed_rows_leaves marks base b g n (r + 1) (display_after x (changed_row marks g r)) ready are marked
-      (omega arith)
-      (omega arith) next)
-
-  -- all cells are those asked for
-  pub record HasAllCells (base : Display) (g : Grid) (x : Display) : Type 0 where
-    pub cursor : Cursor
-    pub brush : Brush
-    pub is : x ≡ shown base g cursor brush
 
   pub changed_cells_leaves : (marks : List (List Bool)) (base : Display) (b g : Grid) (cursor : Cursor) (brush : Brush)
       → IsReady base → IsGrid b → IsGrid g → b.width ≡ g.width → AreGlyphs g → AreMarked marks b g
-      → HasAllCells base g (display_after (shown base b cursor brush) (changed_cells marks g))
+      → IsShown base g (display_after (shown base b cursor brush) (changed_cells marks g))
   unfolding changed_cells
   changed_cells_leaves marks base b g cursor brush ready is_b is_g same are marked =
-      let start : IsWritten base b g 1 1 (shown base b cursor brush) = record {
-        cursor = cursor;
-        brush = brush;
-        is = ap (λ y. shown base y cursor brush) (sym (grids.places.own_cells b is_b)
-            ∙ ap (λ n. grid_of n (cell_at b)) same
-            ∙ painted_none grids (cell_at b) g);
-      } in
-      let w = changed_rows_leaves marks base b g 24 1 (shown base b cursor brush) ready are marked (omega arith) refl
-      start in
-      record {
-        cursor = w.cursor;
-        brush = w.brush;
-        is = w.is
-            ∙ ap (λ y. shown base y w.cursor w.brush) (painted_all grids (cell_at b) g is_g);
-      }
+      grid_leaves grids anywhere base (cell_at b) g (λ r c. change marks g r c)
+      (λ r c x r1 r24 c1 cw w. change_leaves marks base b g r c x ready are marked r1 r24 c1 cw w)
+      (λ r cursor brush. tt) (shown base b cursor brush) cursor brush is_g
+      (ap (λ y. shown base y cursor brush) (sym (grids.places.own_cells b is_b)
+      ∙ ap (λ n. grid_of n (cell_at b)) same ∙ painted_none grids (cell_at b) g))

@@ -12,28 +12,22 @@ use Rattle.vt_syntax.specs.Laws.{SpellingLaw}
 use Rattle.vt_screen.specs.declared.cell.Cell.{Cell}
 use Rattle.vt_screen.specs.Cells.{brush_of}
 use Rattle.vt_screen.specs.Grid.{Grid, cell_at}
-use Rattle.vt_term.specs.declared.state.Modes.{Modes}
 use Rattle.vt_term.specs.declared.state.Saved.{Saved}
 use Rattle.vt_term.specs.State.{Display, State, saved_sets}
 use Rattle.vt_term.specs.Sound.{IsSoundDisplay, IsSound}
-use Rattle.vt_term.specs.Reports.{line_of_cursor}
 use Rattle.vt_term.specs.Play.{Played, after_events, reports_of, play}
-use Rattle.vt_paint.specs.Controls.{private_mode, ansi_mode, decom, cursor_position, brush_events, sets_events}
-use Rattle.vt_paint.specs.Items.{margins_item, origin_item, position_item, wrap_item}
+use Rattle.vt_paint.specs.Controls.{cursor_position}
 use Rattle.vt_paint.specs.Changes.{differs_at, differing_from, differing_rows, differing, is_marked, AreChanges}
-use Rattle.vt_paint.specs.Private.ChangeEvents.{keypad_event, soft_reset, change_of, change, changes_from, changed_row}
-use Rattle.vt_paint.specs.Private.ChangeEvents.{changed_rows, changed_cells, start_item, saved_cursor, record_item, every_mode}
+use Rattle.vt_paint.specs.Private.ChangeEvents.{soft_reset, change_of, change, changes_from, changed_row}
+use Rattle.vt_paint.specs.Private.ChangeEvents.{changed_rows, changed_cells, start_item, saved_cursor, record_item}
 use Rattle.vt_paint.specs.Private.ChangeEvents.{change_events}
 use Rattle.vt_paint.proofs.LowerLaws.{GridLaws, GlyphLaws}
 use Rattle.vt_paint.proofs.AfterEvents.{display_after-after_events}
 use Rattle.vt_paint.proofs.Painting.{AreGlyphs}
-use Rattle.vt_paint.proofs.Within.{AreSpelledWithin, within-append, within-upto, within-none, within-where}
-use Rattle.vt_paint.proofs.Within.{cursor_position_within, ansi_mode_within, private_mode_within}
-use Rattle.vt_paint.proofs.Within.{small_ansi_mode_within, small_private_mode_within, soft_reset_within, brush_within}
-use Rattle.vt_paint.proofs.Within.{short_brush_within, save_within, keypad_event_within, report_form_event_within}
-use Rattle.vt_paint.proofs.Within.{sets_within, spelling_sets_within}
-use Rattle.vt_paint.proofs.Whole.{glyph_within, wrap_item_within, margins_item_within, shift_item_within, line_small}
-use Rattle.vt_paint.proofs.Whole.{width_small, sound_glyphs}
+use Rattle.vt_paint.proofs.Within.{AreSpelledWithin, within-append, within-upto, within-none, cursor_position_within}
+use Rattle.vt_paint.proofs.Within.{small_private_mode_within, soft_reset_within, brush_within, short_brush_within}
+use Rattle.vt_paint.proofs.Within.{save_within, sets_within, spelling_sets_within}
+use Rattle.vt_paint.proofs.Whole.{glyph_within, wrap_item_within, origin_item_within, last_within, width_small, sound_glyphs}
 use Rattle.vt_paint.specs.Changes.{AreMarked}
 use Rattle.vt_paint.specs.Spoken.{Speaks}
 use Rattle.std.proofs.Common.{drop, subst}
@@ -46,34 +40,13 @@ start_within : AreSpelledWithin 10 start_item
 unfolding start_item
 start_within = within-append 5 5 (soft_reset ∷ []) _ soft_reset_within (small_private_mode_within 7 true (omega arith) refl)
 
-small_origin_within : (on : Bool) → AreSpelledWithin 5 (origin_item on)
-unfolding origin_item
-small_origin_within on = within-where 5 on _ (small_private_mode_within 6 true (omega arith) refl)
-
-every_mode_within : (m : Modes) → AreSpelledWithin 54 (every_mode m)
-unfolding every_mode
-every_mode_within m =
-    within-upto _ 54 _ (omega arith)
-    (within-append _ _ (ansi_mode 2 m.kam ∷ []) _ (small_ansi_mode_within 2 m.kam (omega arith) refl)
-    (within-append _ _ (ansi_mode 4 m.irm ∷ []) _ (small_ansi_mode_within 4 m.irm (omega arith) refl)
-    (within-append _ _ (ansi_mode 12 m.srm ∷ []) _ (ansi_mode_within 12 m.srm (omega arith) refl)
-    (within-append _ _ (ansi_mode 20 m.lnm ∷ []) _ (ansi_mode_within 20 m.lnm (omega arith) refl)
-    (within-append _ _ (private_mode 1 m.decckm ∷ []) _ (small_private_mode_within 1 m.decckm (omega arith) refl)
-    (within-append _ _ (private_mode 4 m.decsclm ∷ []) _ (small_private_mode_within 4 m.decsclm (omega arith) refl)
-    (within-append _ _ (private_mode 5 m.decscnm ∷ []) _ (small_private_mode_within 5 m.decscnm (omega arith) refl)
-    (within-append _ _ (private_mode 7 m.decawm ∷ []) _ (small_private_mode_within 7 m.decawm (omega arith) refl)
-    (within-append _ _ (private_mode 8 m.decarm ∷ []) _ (small_private_mode_within 8 m.decarm (omega arith) refl)
-    (within-append _ _ (private_mode 25 m.dectcem ∷ []) _ (private_mode_within 25 m.dectcem (omega arith) refl)
-    (within-append _ _ (keypad_event m.keypad_application ∷ []) _ (keypad_event_within m.keypad_application)
-    (report_form_event_within m.reports_8bit))))))))))))
-
 module _ (glyphs : GlyphLaws) where
   record_item_within : (g : Grid) (saved : Saved) → AreGlyphs g → saved.row ≤ 24 → saved.col ≤ 132
       → AreSpelledWithin 69 (record_item g saved)
   unfolding record_item
   record_item_within g saved are h k =
       within-upto _ 69 _ (omega arith)
-      (within-append _ _ _ _ (small_origin_within saved.origin)
+      (within-append _ _ _ _ (origin_item_within true saved.origin)
       (within-append _ _ (cursor_position saved.row saved.col ∷ []) _ (cursor_position_within saved.row saved.col h k)
       (within-append _ _ _ _ (wrap_item_within glyphs g (saved_cursor saved) are)
       (within-append _ _ _ _ (brush_within saved.brush)
@@ -127,7 +100,7 @@ module _ (glyphs : GlyphLaws) where
       changed_rows_within marks b g 24 1 are marked (omega arith) (omega arith) w
 
 module _ (grids : GridLaws) (glyphs : GlyphLaws) where
-  pub changes_within : (marks : List (List Bool)) (s t : Display) → IsSoundDisplay s → AreChanges marks t s
+  changes_within : (marks : List (List Bool)) (s t : Display) → IsSoundDisplay s → AreChanges marks t s
       → AreSpelledWithin (28 * differing t.grid s.grid + 230) (change_events marks s)
   unfolding change_events
   changes_within marks s t i changes =
@@ -135,8 +108,6 @@ module _ (grids : GridLaws) (glyphs : GlyphLaws) where
       let are = sound_glyphs grids glyphs s i in
       let n = 28 * differing t.grid s.grid in
       let saved_col : s.saved.col ≤ 132 = omega (arith, i.saved.col_last, w) in
-      let col : s.cursor.col ≤ 132 = omega (arith, i.cursor.col_last, w) in
-      let top : s.margins.top ≤ 24 = omega (arith, i.margins.two_rows, i.margins.to_last_row) in
       within-upto _ (n + 230) _ (omega arith)
       (within-append _ _ start_item _ start_within
       (within-append _ _ _ _ spelling_sets_within
@@ -144,17 +115,7 @@ module _ (grids : GridLaws) (glyphs : GlyphLaws) where
       (changed_cells_within glyphs marks t.grid s.grid are changes.marked w)
       (within-append _ _ (record_item s.grid s.saved) _
       (record_item_within glyphs s.grid s.saved are i.saved.row_24 saved_col)
-      (within-append _ _ _ _ spelling_sets_within
-      (within-append _ _ (margins_item s.margins) _ (margins_item_within s.margins top i.margins.to_last_row)
-      (within-append _ _ (private_mode decom s.modes.decom ∷ []) _
-      (small_private_mode_within 6 s.modes.decom (omega arith) refl)
-      (within-append _ _ (position_item s) _
-      (cursor_position_within (line_of_cursor s) s.cursor.col (line_small s i) col)
-      (within-append _ _ (wrap_item s.grid s.cursor) _ (wrap_item_within glyphs s.grid s.cursor are)
-      (within-append _ _ (brush_events s.brush) _ (brush_within s.brush)
-      (within-append _ _ (sets_events s.sets) _ (sets_within s.sets)
-      (within-append _ _ (every_mode s.modes) _ (every_mode_within s.modes)
-      (shift_item_within s.sets.pending)))))))))))))
+      (within-append _ _ _ _ spelling_sets_within (last_within grids glyphs false s i))))))
 
   pub few : (marks : List (List Bool)) (s t : Display) (before : List ℕ) → IsSoundDisplay s → AreChanges marks t s
       → length (before ++ spell_events (change_events marks s)) ≤ length before + 28 * differing t.grid s.grid + 230

@@ -10,7 +10,7 @@ use borrow.Rule.Slice.PartMut.{mid_of}
 use mir.Val.{bool_byte}
 use Rattle.vt_syntax.specs.Spelling.{spell_events}
 use Rattle.vt_screen.specs.declared.cell.Brush.{Brush}
-use Rattle.vt_paint.specs.declared.tables.TheConstants.{ROWS, COLUMNS, BRUSHES, BRUSH_LENGTHS}
+use Rattle.vt_paint.specs.declared.tables.TheConstants.{ROW_PARTS, COLUMN_PARTS, BRUSHES, BRUSH_LENGTHS}
 use Rattle.std.specs.Fmt.{digits}
 use Rattle.vt_paint.specs.Controls.{brush_events}
 use Rattle.vt_paint.specs.Private.HeaderParts.{row_part, column_part, brush_part, brush_index}
@@ -24,7 +24,7 @@ abbrev brush_with : Bool → Bool → Bool → Bool → Bool → Brush
 brush_with b u k r p = record { rendition = record { bold = b; underline = u; blink = k; reverse = r }; protected = p }
 
 -- the entry is that of the brush, which is spelled from `ESC [ 0` on
-abbrev pub IsEntry : Brush → Type 0
+abbrev IsEntry : Brush → Type 0
 IsEntry brush = (brush_entry (brush_index brush) ≡ brush_part brush)
     × (spell_events (brush_events brush) ≡ 0x1B ∷ 0x5B ∷ 0x30 ∷ brush_part brush)
 
@@ -74,17 +74,17 @@ brush_at brush =
 abbrev same_bytes : List ℕ → List ℕ → Bool
 same_bytes = pointwise (λ a b. a == b)
 
-abbrev pub row_entry : ℕ → List ℕ
-row_entry row = take (4 + bool_byte (nat_le 10 row)) (mid_of (8 * (row - 1)) (8 * (row - 1) + 8 - 8 * (row - 1)) ROWS)
+abbrev row_entry : ℕ → List ℕ
+row_entry row = take (4 + bool_byte (nat_le 10 row)) (mid_of (8 * (row - 1)) (8 * (row - 1) + 8 - 8 * (row - 1)) ROW_PARTS)
 
 rows_are : list_all (λ row. same_bytes (row_entry row) (row_part row)) (range_with_len 1 24) ≡ true
 unfolding digits row_part
 rows_are = refl
 
-abbrev pub column_entry : ℕ → List ℕ
+abbrev column_entry : ℕ → List ℕ
 column_entry col =
     take (2 + bool_byte (nat_le 10 col) + bool_byte (nat_le 100 col))
-    (mid_of (4 * (col - 1)) (4 * (col - 1) + 4 - 4 * (col - 1)) COLUMNS)
+    (mid_of (4 * (col - 1)) (4 * (col - 1) + 4 - 4 * (col - 1)) COLUMN_PARTS)
 
 columns_are : list_all (λ col. same_bytes (column_entry col) (column_part col)) (range_with_len 1 132) ≡ true
 unfolding digits column_part

@@ -9,7 +9,8 @@ use Rattle.vt_screen.specs.declared.cell.Brush.{Brush}
 use Rattle.vt_screen.specs.declared.cell.Cell.{Cell}
 use Rattle.vt_screen.specs.Cells.{blank, brush_of, cell_of}
 use Rattle.vt_term.specs.declared.state.Saved.{Saved}
-use Rattle.vt_paint.specs.Same.{same_bool, same_rendition, same_brush, is_blank, same_set, same_saved}
+use Rattle.vt_screen.specs.Same.{same_bool, same_rendition, same_brush}
+use Rattle.vt_paint.specs.Same.{is_blank, same_set, same_saved}
 
 pub and_true : (a b : Bool) → a && b ≡ true → (a ≡ true) × (b ≡ true)
 and_true true true h = (refl, refl)
@@ -37,7 +38,7 @@ same_bool-is a b = (same_bool-decides a b).0
 rendition_of : Bool → Bool → Bool → Bool → Rendition
 rendition_of b u k r = record { bold = b; underline = u; blink = k; reverse = r }
 
-pub same_rendition-is : (a b : Rendition) → same_rendition a b ≡ true → a ≡ b
+same_rendition-is : (a b : Rendition) → same_rendition a b ≡ true → a ≡ b
 unfolding rendition_of
 same_rendition-is a b h =
     let p1 = and_true (same_bool a.bold b.bold) _ h in

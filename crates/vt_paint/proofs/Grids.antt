@@ -8,7 +8,7 @@ use Rattle.vt_screen.specs.Grid.{Grid, IsGrid, grid_of, cell_at, put}
 use Rattle.vt_paint.proofs.LowerLaws.{GridLaws}
 
 -- the place comes before row r, column c
-abbrev pub is_before : ℕ → ℕ → ℕ → ℕ → Bool
+abbrev is_before : ℕ → ℕ → ℕ → ℕ → Bool
 is_before r c i j = ltb i r || (eqb i r && ltb j c)
 
 -- a grid's cells before row r, column c; the others are those underneath, as a formula

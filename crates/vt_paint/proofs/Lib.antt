@@ -4,6 +4,7 @@ pub mod Equality
 pub mod Grids
 pub mod Brushes
 pub mod Glyphs
+pub mod Walk
 pub mod Painting
 pub mod Stops
 pub mod ModeItems
@@ -18,7 +19,6 @@ pub mod Pushing
 pub mod Entries
 pub mod RowRuns
 pub mod ChangeRuns
-pub mod EveryMode
 pub mod ChangeChain
 pub mod ChangesWhole
 pub mod CellWords

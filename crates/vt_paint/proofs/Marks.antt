@@ -7,11 +7,11 @@ use Rattle.std.proofs.Math.ListN.{replicate}
 use Rattle.vt_screen.specs.declared.cell.Cell.{Cell}
 use Rattle.vt_screen.specs.Cells.{blank}
 use Rattle.vt_screen.specs.Grid.{Grid, cell_at, row_of}
-use Rattle.vt_paint.specs.Same.{same_bool}
+use Rattle.vt_screen.specs.Same.{same_bool}
 use Rattle.vt_paint.specs.Changes.{same_cell, differs_at, is_marked}
 
 -- two rows differ at an index
-abbrev pub differs_in : List Cell → List Cell → ℕ → Bool
+abbrev differs_in : List Cell → List Cell → ℕ → Bool
 differs_in a b i = not (same_cell (get_or a i blank) (get_or b i blank))
 
 pub mark_more : (a b : List Cell) (marks : List Bool) (k : ℕ) (x y : Cell) (v : Bool) → k < length a → k < length b

@@ -1,6 +1,6 @@
 -- The pieces paint the cells one after another.
-use Rattle.std.proofs.Common.{◌≡◌, Bool, true, false, not, cond, eqb, ltb, ◌||◌, ℕ, zero, suc, ◌+◌, ◌-◌, ◌≤◌, min, max}
-use Rattle.std.proofs.Common.{[], ◌∷◌, ◌++◌, arith, refl, sym, ap, subst, ◌∙◌}
+use Rattle.std.proofs.Common.{◌≡◌, Bool, true, false, not, cond, eqb, ltb, ◌||◌, ℕ, ◌+◌, ◌-◌, ◌≤◌, min, max}
+use Rattle.std.proofs.Common.{[], ◌∷◌, ◌++◌, arith, refl, sym, ap, ◌∙◌}
 use Rattle.std.proofs.lemmas.Bool.{lt-ltb, ne_eqb}
 use Rattle.vt_glyph.specs.Tables.{IsGlyph}
 use Rattle.vt_glyph.specs.Spell.{AreSpellingSets}
@@ -12,14 +12,16 @@ use Rattle.vt_term.specs.declared.state.Cursor.{Cursor}
 use Rattle.vt_term.specs.State.{Display, at_place}
 use Rattle.vt_term.specs.Writing.{write_glyph}
 use Rattle.vt_term.specs.Functions.{sequence_in, sequences_of, effect}
-use Rattle.vt_paint.specs.Same.{same_brush, is_blank}
+use Rattle.vt_screen.specs.Same.{same_brush}
+use Rattle.vt_paint.specs.Same.{is_blank}
 use Rattle.vt_paint.specs.Controls.{cursor_position, brush_events}
-use Rattle.vt_paint.specs.Pieces.{left_of, needs_header, header, glyph_events, piece_of, piece, pieces_from, row_pieces}
-use Rattle.vt_paint.specs.Pieces.{rows_from, pieces}
+use Rattle.vt_paint.specs.Pieces.{left_of, needs_header, header, glyph_events, piece_of, piece}
+use Rattle.vt_paint.specs.Pieces.{pieces}
 use Rattle.vt_paint.proofs.LowerLaws.{GridLaws, GlyphLaws}
 use Rattle.vt_paint.proofs.AfterEvents.{display_after, display_after-append}
 use Rattle.vt_paint.proofs.Equality.{or_false, not_false, same_brush-is, is_blank-is}
-use Rattle.vt_paint.proofs.Grids.{painted, all_blank, painted_row, painted_skip, painted_put, painted_all}
+use Rattle.vt_paint.proofs.Grids.{painted, all_blank, painted_skip, painted_put}
+use Rattle.vt_paint.proofs.Walk.{shown, IsShown, IsWritten, grid_leaves}
 use Rattle.vt_paint.proofs.Brushes.{brush_leaves}
 use Rattle.vt_paint.proofs.Glyphs.{glyph_leaves}
 
@@ -30,24 +32,18 @@ pub record IsReady (base : Display) : Type 0 where
   pub decawm : base.modes.decawm ≡ true
   pub decom : base.modes.decom ≡ false
 
-abbrev pub shown : Display → Grid → Cursor → Brush → Display
-shown base g cursor brush = record base { grid = g; cursor = cursor; brush = brush }
-
 -- where the cursor is behind a cell
 abbrev pub behind : ℕ → ℕ → ℕ → Cursor
 behind w r c = cond (ltb c w) (at_place r (c + 1)) (record { row = r; col = c; wrap = true })
 
 -- where a cell needs no header, the cursor and the brush have its place and look
-abbrev pub AreAt : Grid → ℕ → ℕ → Cursor → Brush → Type 0
+abbrev AreAt : Grid → ℕ → ℕ → Cursor → Brush → Type 0
 AreAt g r c cursor brush = needs_header (left_of g r c) (cell_at g r c) ≡ false → (cursor ≡ at_place r c)
     × (brush ≡ brush_of (cell_at g r c))
 
 -- the cells before a place are painted
-pub record IsPainted (base : Display) (g : Grid) (r c : ℕ) (x : Display) : Type 0 where
-  pub cursor : Cursor
-  pub brush : Brush
-  pub is : x ≡ shown base (painted all_blank g r c) cursor brush
-  pub at : c ≤ g.width → AreAt g r c cursor brush
+abbrev IsPainted : Display → Grid → ℕ → ℕ → Display → Type 0
+IsPainted base g r c x = IsWritten (AreAt g) base all_blank g r c x
 
 -- CUP, without origin mode
 pub cursor_position_leaves : (x : Display) (r c : ℕ) → x.modes.decom ≡ false → 1 ≤ r → r ≤ 24 → 1 ≤ c
@@ -165,61 +161,15 @@ module _ (grids : GridLaws) (glyphs : GlyphLaws) where
         at = λ l. after_cell g r c c1 l;
       }
 
-  pieces_from_leaves : (base : Display) (g : Grid) (r n c : ℕ) (x : Display) → IsReady base → AreGlyphs g → 1 ≤ r
-      → r ≤ 24 → 1 ≤ c → c + n ≡ g.width + 1 → IsPainted base g r c x
-      → IsPainted base g r (g.width + 1) (display_after x (pieces_from g r c n))
-  unfolding display_after
-  pieces_from_leaves base g r zero c x ready are r1 r24 c1 e w =
-      let same : c ≡ g.width + 1 = omega arith in
-      record {
-        cursor = w.cursor;
-        brush = w.brush;
-        is =
-            w.is ∙ ap (λ n. shown base (painted all_blank g r n) w.cursor w.brush) same;
-        at = λ l. absurd (omega arith);
-      }
-  pieces_from_leaves base g r (suc n) c x ready are r1 r24 c1 e w =
-      subst (λ (y : Display). IsPainted base g r (g.width + 1) y)
-      (sym (display_after-append x (piece g r c) (pieces_from g r (c + 1) n)))
-      (pieces_from_leaves base g r n (c + 1) (display_after x (piece g r c)) ready are r1 r24 (omega arith)
-      (omega arith) (piece_leaves base g r c x ready are r1 r24 c1 (omega arith) w))
-
   -- the first cell of a row needs a header
-  row_start : (base : Display) (g : Grid) (r : ℕ) (x : Display) (cursor : Cursor) (brush : Brush)
-      → x ≡ shown base (painted all_blank g r 1) cursor brush → IsPainted base g r 1 x
+  first_leaves : (g : Grid) (r : ℕ) (cursor : Cursor) (brush : Brush) → AreAt g r 1 cursor brush
   unfolding left_of
-  row_start base g r x cursor brush is = record { cursor = cursor; brush = brush; is = is; at = λ l n. absurd (cc (n)) }
-
-  rows_leaves : (base : Display) (g : Grid) (n r : ℕ) (x : Display) → IsReady base → AreGlyphs g → 1 ≤ r → r + n ≡ 25
-      → IsPainted base g r 1 x → IsPainted base g 25 1 (display_after x (rows_from g r n))
-  unfolding display_after
-  rows_leaves base g zero r x ready are r1 e w =
-      let same : r ≡ 25 = omega arith in
-      row_start base g 25 x w.cursor w.brush (w.is
-      ∙ ap (λ n. shown base (painted all_blank g n 1) w.cursor w.brush) same)
-  rows_leaves base g (suc n) r x ready are r1 e w =
-      let row = pieces_from_leaves base g r g.width 1 x ready are r1 (omega arith) (omega arith) (omega arith) w in
-      let next = row_start base g (r + 1) (display_after x (row_pieces g r)) row.cursor row.brush (row.is
-      ∙ ap (λ y. shown base y row.cursor row.brush) (painted_row grids all_blank g r)) in
-      subst (λ (y : Display). IsPainted base g 25 1 y)
-      (sym (display_after-append x (row_pieces g r) (rows_from g (r + 1) n)))
-      (rows_leaves base g n (r + 1) (display_after x (row_pieces g r)) ready are (omega arith) (omega arith) next)
-
-  -- all cells are shown
-  pub record IsShown (base : Display) (g : Grid) (x : Display) : Type 0 where
-    pub cursor : Cursor
-    pub brush : Brush
-    pub is : x ≡ shown base g cursor brush
+  first_leaves g r cursor brush n = absurd (cc n)
 
   pub pieces_leaves : (base : Display) (g : Grid) (x : Display) (cursor : Cursor) (brush : Brush) → IsReady base
       → IsGrid g → AreGlyphs g → x ≡ shown base (painted all_blank g 1 1) cursor brush
       → IsShown base g (display_after x (pieces g))
   unfolding pieces
   pieces_leaves base g x cursor brush ready is are start =
-      let w = rows_leaves base g 24 1 x ready are (omega arith) refl (row_start base g 1 x cursor brush start) in
-      record {
-        cursor = w.cursor;
-        brush = w.brush;
-        is =
-            w.is ∙ ap (λ y. shown base y w.cursor w.brush) (painted_all grids all_blank g is);
-      }
+      grid_leaves grids (AreAt g) base all_blank g (λ r c. piece g r c)
+      (λ r c x r1 r24 c1 cw w. piece_leaves base g r c x ready are r1 r24 c1 cw w) (first_leaves g) x cursor brush is start

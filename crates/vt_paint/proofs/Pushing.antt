@@ -12,7 +12,8 @@ use Rattle.vt_syntax.specs.Spelling.{spell_event, spell_events}
 use Rattle.vt_glyph.specs.declared.set.Set.{Set}
 use Rattle.vt_glyph.specs.GraphicSets.{GraphicSets}
 use Rattle.vt_paint.specs.Same.{is_blank}
-use Rattle.vt_paint.specs.Controls.{where_true, sets_events}
+use Rattle.vt_screen.specs.Same.{when}
+use Rattle.vt_paint.specs.Controls.{sets_events}
 use Rattle.vt_paint.specs.Pieces.{left_of, header, glyph_events, piece_of, pieces_from, row_pieces, rows_from}
 use Rattle.vt_screen.specs.declared.cell.Cell.{Cell}
 use Rattle.vt_screen.specs.Grid.{Grid, cell_at, row_of}
@@ -29,10 +30,10 @@ pub range-more : (a n : ℕ) → range_with_len a (n + 1) ≡ range_with_len a n
 range-more a n = let e : n + 1 ≡ suc n = omega arith in ap (λ m. range_with_len a m) e ∙ range-suc a n
 
 -- events of the numbers of a range, spelled
-abbrev pub spelled_from : (ℕ → List Event) → ℕ → ℕ → List ℕ
+abbrev spelled_from : (ℕ → List Event) → ℕ → ℕ → List ℕ
 spelled_from f a n = spell_events (flat_map f (range_with_len a n))
 
-pub spelled_from-more : (f : ℕ → List Event) (a n m : ℕ) → a + n ≡ m
+spelled_from-more : (f : ℕ → List Event) (a n m : ℕ) → a + n ≡ m
     → spelled_from f a (n + 1) ≡ spelled_from f a n ++ spell_events (f m)
 spelled_from-more f a n m e =
     ap (λ ms. spell_events (flat_map f ms)) (range-more a n ∙ ap (λ k. range_with_len a n ++ k ∷ []) e)
@@ -106,11 +107,11 @@ pub bytes_of : {old new : List ℕ} (es : List Event) (bytes : List ℕ) → spe
 bytes_of {old} {new} es bytes is h = record { is = h ∙ ap (λ (xs : List ℕ). old ++ xs) (sym is) }
 
 -- where a test passes
-pub bytes_where : {old new : List ℕ} (b : Bool) (es : List Event) → new ≡ old ++ where_true b (spell_events es)
-    → Appends old new (where_true b es)
+pub bytes_where : {old new : List ℕ} (b : Bool) (es : List Event) → new ≡ old ++ when b (spell_events es)
+    → Appends old new (when b es)
 bytes_where {old} {new} b es h = record { is = go b h }
   where
-    go : (b : Bool) → new ≡ old ++ where_true b (spell_events es) → new ≡ old ++ spell_events (where_true b es)
+    go : (b : Bool) → new ≡ old ++ when b (spell_events es) → new ≡ old ++ spell_events (when b es)
     go true h = h
     go false h = h
 
@@ -128,34 +129,34 @@ sets_events-same g left right t a b c = rw (a, b, c) refl
 
 row_shown : (before after is_row_blank : Bool) (old mid new : List ℕ) (sets rows row : List Event)
     → after ≡ (before || not is_row_blank) → (before ≡ false → rows ≡ [])
-    → mid ≡ old ++ spell_events (where_true before (sets ++ rows))
-    → new ≡ mid ++ spell_events (where_true after (where_true (not before) sets ++ row))
-    → new ≡ old ++ spell_events (where_true after (sets ++ (rows ++ row)))
+    → mid ≡ old ++ spell_events (when before (sets ++ rows))
+    → new ≡ mid ++ spell_events (when after (when (not before) sets ++ row))
+    → new ≡ old ++ spell_events (when after (sets ++ (rows ++ row)))
 row_shown true after is_row_blank old mid new sets rows row e none h k =
     k
-    ∙ ap (λ b. mid ++ spell_events (where_true b row)) e
+    ∙ ap (λ b. mid ++ spell_events (when b row)) e
     ∙ ap (λ (xs : List ℕ). xs ++ spell_events row) h
     ∙ append_assoc old (spell_events (sets ++ rows)) (spell_events row)
     ∙ ap (λ (xs : List ℕ). old ++ xs) (sym (flat_map-append spell_event (sets ++ rows) row)
     ∙ ap (λ (es : List Event). spell_events es) (append_assoc sets rows row))
-    ∙ ap (λ b. old ++ spell_events (where_true b (sets ++ (rows ++ row)))) (sym e)
+    ∙ ap (λ b. old ++ spell_events (when b (sets ++ (rows ++ row)))) (sym e)
 row_shown false after true old mid new sets rows row e none h k =
     k
-    ∙ ap (λ b. mid ++ spell_events (where_true b (sets ++ row))) e
+    ∙ ap (λ b. mid ++ spell_events (when b (sets ++ row))) e
     ∙ append-nil mid
     ∙ h
-    ∙ ap (λ b. old ++ spell_events (where_true b (sets ++ (rows ++ row)))) (sym e)
+    ∙ ap (λ b. old ++ spell_events (when b (sets ++ (rows ++ row)))) (sym e)
 row_shown false after false old mid new sets rows row e none h k =
     k
-    ∙ ap (λ b. mid ++ spell_events (where_true b (sets ++ row))) e
+    ∙ ap (λ b. mid ++ spell_events (when b (sets ++ row))) e
     ∙ ap (λ (xs : List ℕ). xs ++ spell_events (sets ++ row)) (h ∙ append-nil old)
     ∙ ap (λ (rs : List Event). old ++ spell_events (sets ++ (rs ++ row))) (sym (none refl))
-    ∙ ap (λ b. old ++ spell_events (where_true b (sets ++ (rows ++ row)))) (sym e)
+    ∙ ap (λ b. old ++ spell_events (when b (sets ++ (rows ++ row)))) (sym e)
 
 -- the pieces of blank cells are empty
 blank_piece : (r c : ℕ) (left cell : Cell) → is_blank cell ≡ true → piece_of r c left cell ≡ []
 unfolding piece_of
-blank_piece r c left cell h = ap (λ b. where_true (not b) (header r c left cell ++ glyph_events cell)) h
+blank_piece r c left cell h = ap (λ b. when (not b) (header r c left cell ++ glyph_events cell)) h
 
 blank_pieces : (g : Grid) (r n c : ℕ) → ((j : ℕ) → c ≤ j → j < c + n → is_blank (cell_at g r j) ≡ true)
     → pieces_from g r c n ≡ []
@@ -229,15 +230,15 @@ module _ (row_cell : (g : Grid) (r c : ℕ) (d : Cell) → 1 ≤ c → c ≤ g.w
 
   pub rows_shown : (g : Grid) (w before after : Bool) (n r : ℕ) (old mid new : List ℕ) (sets : List Event) → 1 + n ≡ r
       → before ≡ (w || not (are_blank g n)) → after ≡ (before || not (list_all is_blank (row_of g r)))
-      → mid ≡ old ++ spell_events (where_true before (sets ++ rows_from g 1 n))
-      → new ≡ mid ++ spell_events (where_true after (where_true (not before) sets ++ row_pieces g r))
-      → new ≡ old ++ spell_events (where_true after (sets ++ rows_from g 1 (n + 1)))
+      → mid ≡ old ++ spell_events (when before (sets ++ rows_from g 1 n))
+      → new ≡ mid ++ spell_events (when after (when (not before) sets ++ row_pieces g r))
+      → new ≡ old ++ spell_events (when after (sets ++ rows_from g 1 (n + 1)))
   rows_shown g w before after n r old mid new sets e h k before_is after_is =
       row_shown before after (list_all is_blank (row_of g r)) old mid new sets (rows_from g 1 n) (row_pieces g r) k
       (nothing_shown g w before n h) before_is after_is
-      ∙ ap (λ es. old ++ spell_events (where_true after (sets ++ es))) (rows-more g n r e)
+      ∙ ap (λ es. old ++ spell_events (when after (sets ++ es))) (rows-more g n r e)
 
-pub shown-unless : (w b : Bool) (es : List Event) → where_true (w || not b) es ≡ cond (b && not w) [] es
+pub shown-unless : (w b : Bool) (es : List Event) → when (w || not b) es ≡ cond (b && not w) [] es
 shown-unless true true es = refl
 shown-unless true false es = refl
 shown-unless false true es = refl

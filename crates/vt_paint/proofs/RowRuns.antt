@@ -7,8 +7,9 @@ use Rattle.vt_screen.specs.declared.cell.Brush.{Brush}
 use Rattle.vt_screen.specs.declared.cell.Cell.{Cell}
 use Rattle.vt_screen.specs.Cells.{blank, brush_of}
 use Rattle.vt_screen.specs.Grid.{Grid, cell_at}
-use Rattle.vt_paint.specs.Same.{same_brush, is_blank}
-use Rattle.vt_paint.specs.Controls.{where_true, cursor_position, brush_events}
+use Rattle.vt_screen.specs.Same.{same_brush, when}
+use Rattle.vt_paint.specs.Same.{is_blank}
+use Rattle.vt_paint.specs.Controls.{cursor_position, brush_events}
 use Rattle.vt_paint.specs.Pieces.{left_of, needs_header, header, glyph_events, piece_of, piece, pieces_from}
 use Rattle.vt_paint.proofs.Equality.{and_true, not_true, same_brush-is}
 use Rattle.vt_paint.proofs.Pushing.{appended-more, events, then_events}
@@ -23,7 +24,7 @@ first_fresh g r = ap (λ l. piece_of r 1 l (cell_at g r 1)) (left_of-first g r)
 
 with_header : ℕ → ℕ → Cell → Bool → List Event
 with_header r c cell needed =
-    where_true (not (is_blank cell)) (where_true needed (cursor_position r c ∷ brush_events (brush_of cell))
+    when (not (is_blank cell)) (when needed (cursor_position r c ∷ brush_events (brush_of cell))
     ++ glyph_events cell)
 
 behind_other : (r c : ℕ) (left cell : Cell) → needs_header left cell ≡ true
@@ -33,7 +34,7 @@ behind_other r c left cell h = ap (with_header r c cell) h
 
 blank_piece : (r c : ℕ) (left cell : Cell) → is_blank cell ≡ true → piece_of r c left cell ≡ []
 unfolding piece_of
-blank_piece r c left cell h = ap (λ b. where_true (not b) (header r c left cell ++ glyph_events cell)) h
+blank_piece r c left cell h = ap (λ b. when (not b) (header r c left cell ++ glyph_events cell)) h
 
 pub blank_fresh : (g : Grid) (r c : ℕ) → 1 ≤ c → is_blank (cell_at g r c) ≡ true → IsFresh g r (c + 1)
 blank_fresh g r c c1 h =
@@ -74,7 +75,7 @@ run_first : (g : Grid) (r c : ℕ) → IsFresh g r c → is_blank (cell_at g r c
 unfolding piece_of header
 run_first g r c fresh h =
     let cell = cell_at g r c in
-    fresh ∙ ap (λ b. where_true (not b) ((cursor_position r c ∷ brush_events (brush_of cell)) ++ glyph_events cell)) h
+    fresh ∙ ap (λ b. when (not b) ((cursor_position r c ∷ brush_events (brush_of cell)) ++ glyph_events cell)) h
 
 inside_leaves : (r c : ℕ) (left cell : Cell) → is_blank left ≡ false → goes_on left cell ≡ true
     → piece_of r c left cell ≡ glyph_events cell
@@ -83,7 +84,7 @@ inside_leaves r c left cell l h =
     let both = and_true (same_brush (brush_of left) (brush_of cell)) (not (is_blank cell)) h in
     ap (λ b. with_header r c cell (b || not (same_brush (brush_of left) (brush_of cell)))) l
     ∙ ap (λ b. with_header r c cell (not b)) both.0
-    ∙ ap (λ b. where_true b (glyph_events cell)) both.1
+    ∙ ap (λ b. when b (glyph_events cell)) both.1
 
 -- and the others have none
 run_more : (g : Grid) (r c : ℕ) → 1 ≤ c → is_blank (cell_at g r c) ≡ false

@@ -16,7 +16,8 @@ use Rattle.vt_term.specs.Sound.{IsPlace}
 use Rattle.vt_term.specs.Modes.{with_mode}
 use Rattle.vt_term.specs.Functions.{plain_escape, sequence_in, sequences_of, effect}
 use Rattle.vt_paint.specs.Same.{same_saved}
-use Rattle.vt_paint.specs.Controls.{where_true, private_mode, decom, cursor_position, brush_events, sets_events}
+use Rattle.vt_screen.specs.Same.{when}
+use Rattle.vt_paint.specs.Controls.{private_mode, cursor_position, brush_events, sets_events}
 use Rattle.vt_paint.specs.Controls.{save_cursor}
 use Rattle.vt_paint.specs.Items.{saved_events, saved_item}
 use Rattle.vt_paint.proofs.LowerLaws.{GridLaws}
@@ -48,7 +49,7 @@ on_way wide stops origin cursor =
     record (with_stops wide stops cursor) { modes = record modes_at_power_up { decom = origin } }
 
 origin_on : (wide : Bool) (stops : List Bool) (cursor : Cursor) (origin : Bool)
-    → display_after (with_stops wide stops cursor) (where_true origin (private_mode decom true ∷ []))
+    → display_after (with_stops wide stops cursor) (when origin (private_mode 6 true ∷ []))
     ≡ on_way wide stops origin (cond origin (at_place 1 1) cursor)
 unfolding display_after sequence_in sequences_of with_mode
 origin_on wide stops cursor true = refl
@@ -72,7 +73,7 @@ origin_off : (wide : Bool) (stops : List Bool) (saved : Saved) (cursor : Cursor)
     → HasSaved wide stops saved
     (display_after
     (record (with_saved wide stops saved cursor) { modes = record modes_at_power_up { decom = origin } })
-    (where_true origin (private_mode decom false ∷ [])))
+    (when origin (private_mode 6 false ∷ [])))
 unfolding display_after sequence_in sequences_of with_mode
 origin_off wide stops saved cursor true = record { cursor = at_place 1 1; is = refl }
 origin_off wide stops saved cursor false = record { cursor = cursor; is = refl }
@@ -97,7 +98,7 @@ module _ (grids : GridLaws) where
   -- a space in the last column leaves a blank cell, and the wrap flag
   space_on : (wide : Bool) (stops : List Bool) (saved : Saved) → IsPlace (columns wide) saved.row saved.col saved.wrap
       → display_after (on_way wide stops saved.origin (at_place saved.row saved.col))
-      (where_true saved.wrap (Print space ∷ [])) ≡ on_way wide stops saved.origin (saved_cursor saved)
+      (when saved.wrap (Print space ∷ [])) ≡ on_way wide stops saved.origin (saved_cursor saved)
   unfolding display_after glyph_read after_read saved_cursor
   space_on wide stops saved place = go saved.wrap refl
     where
@@ -108,7 +109,7 @@ module _ (grids : GridLaws) where
       shape g cursor = record (on_way wide stops saved.origin cursor) { grid = g }
 
       go : (b : Bool) → saved.wrap ≡ b
-          → display_after (on_way wide stops origin (at_place saved.row saved.col)) (where_true b (Print space ∷ []))
+          → display_after (on_way wide stops origin (at_place saved.row saved.col)) (when b (Print space ∷ []))
           ≡ on_way wide stops origin (saved_cursor saved)
       go false e = ap (λ w. shape (blank_grid wide) (record { row = saved.row; col = saved.col; wrap = w })) (sym e)
       go true e =
@@ -130,9 +131,9 @@ module _ (grids : GridLaws) where
       → HasSaved wide stops saved (display_after (with_stops wide stops cursor) (saved_events saved))
   unfolding display_after saved_events
   saved_events_leaves wide stops saved cursor place sets =
-      let off = where_true saved.origin (private_mode decom false ∷ []) in
-      let lead = where_true saved.origin (private_mode decom true ∷ []) in
-      let spaces = where_true saved.wrap (Print space ∷ []) in
+      let off = when saved.origin (private_mode 6 false ∷ []) in
+      let lead = when saved.origin (private_mode 6 true ∷ []) in
+      let spaces = when saved.wrap (Print space ∷ []) in
       let after3 = sets_events (saved_sets saved) ++ save_cursor ∷ off in
       let after2 = brush_events saved.brush ++ after3 in
       let after1 = spaces ++ after2 in
@@ -169,7 +170,7 @@ module _ (grids : GridLaws) where
     where
       go : (b : Bool) → same_saved saved saved_at_power_up ≡ b
           → HasSaved wide stops saved
-          (display_after (with_stops wide stops cursor) (where_true (not b) (saved_events saved)))
+          (display_after (with_stops wide stops cursor) (when (not b) (saved_events saved)))
       go true e =
           record {
             cursor = cursor;

@@ -1,5 +1,5 @@
 -- Elements one after another, and that their bytes are ASCII.
-use Rattle.std.proofs.Common.{◌≡◌, Bool, true, false, cond, eqb, leb, ◌^◌, ◌&&◌, ◌||◌, ℕ, zero, suc, ◌≤◌, ◌<◌, List, [], ◌∷◌}
+use Rattle.std.proofs.Common.{◌≡◌, Bool, true, false, cond, eqb, leb, ◌^◌, ◌&&◌, ◌||◌, ℕ, ◌≤◌, ◌<◌, List, [], ◌∷◌}
 use Rattle.std.proofs.Common.{◌++◌, refl, sym, ap, subst, ◌∙◌, arith, decimal, codes, bytes_eq, nat_lt, append-nil}
 use Rattle.std.specs.List.{flat_map, list_all, list_any}
 use Rattle.std.specs.Str.{IsAscii}

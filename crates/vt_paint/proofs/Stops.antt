@@ -14,9 +14,9 @@ use Rattle.vt_term.specs.State.{Display, at_place, stops_at_power_up, display_at
 use Rattle.vt_term.specs.Tabs.{no_stops}
 use Rattle.vt_term.specs.Modes.{with_mode}
 use Rattle.vt_term.specs.Functions.{control, plain_escape, sequence_in, sequences_of}
-use Rattle.vt_paint.specs.Same.{same_bool}
-use Rattle.vt_paint.specs.Controls.{where_true, private_mode, deccolm, cursor_position, clear_all_tabs, set_tab}
-use Rattle.vt_paint.specs.Items.{reset_item, stop_events, stops_from, is_wide, made_stops, stops_item}
+use Rattle.vt_screen.specs.Same.{same_bool, when}
+use Rattle.vt_paint.specs.Controls.{private_mode, reset_to_initial_state, cursor_position, clear_all_tabs, set_tab}
+use Rattle.vt_paint.specs.Items.{stop_events, stops_from, is_wide, made_stops, stops_item}
 use Rattle.vt_paint.proofs.AfterEvents.{display_after, display_after-append}
 use Rattle.vt_paint.proofs.Equality.{same_bool-decides}
 
@@ -127,7 +127,7 @@ stops_from_leaves stops (suc n) k x e w =
 narrow_leaves : (wide : Bool) (stops : List Bool) (cursor : Cursor)
     → HasStops wide stops
     (display_after (with_stops true stops cursor)
-    (where_true (not (is_wide (columns wide))) (private_mode deccolm false ∷ [])))
+    (when (not (is_wide (columns wide))) (private_mode 3 false ∷ [])))
 unfolding display_after sequence_in sequences_of with_mode
 narrow_leaves true stops cursor = record { cursor = cursor; is = refl }
 narrow_leaves false stops cursor = record { cursor = at_place 1 1; is = refl }
@@ -135,17 +135,17 @@ narrow_leaves false stops cursor = record { cursor = at_place 1 1; is = refl }
 -- the width is set at power-up
 wide_leaves : (wide : Bool)
     → HasStops wide stops_at_power_up
-    (display_after display_at_power_up (where_true (is_wide (columns wide)) (private_mode deccolm true ∷ [])))
+    (display_after display_at_power_up (when (is_wide (columns wide)) (private_mode 3 true ∷ [])))
 unfolding display_after sequence_in sequences_of with_mode
 wide_leaves true = record { cursor = at_place 1 1; is = refl }
 wide_leaves false = record { cursor = at_place 1 1; is = refl }
 
-pub reset_leaves : (t : Display) → display_after t reset_item ≡ display_at_power_up
+pub reset_leaves : (t : Display) → display_after t (reset_to_initial_state ∷ []) ≡ display_at_power_up
 unfolding display_after plain_escape
 reset_leaves t = refl
 
 start : (stops : List Bool)
-    → IsMade stops 0 (display_after display_at_power_up (private_mode deccolm true ∷ clear_all_tabs ∷ []))
+    → IsMade stops 0 (display_after display_at_power_up (private_mode 3 true ∷ clear_all_tabs ∷ []))
 unfolding display_after sequence_in sequences_of with_mode
 start stops = record { made = no_stops; cursor = at_place 1 1; is = refl; are = none_made stops }
 
@@ -155,23 +155,23 @@ unfolding stops_item made_stops
 stops_leaves wide stops long = go (pointwise same_bool stops stops_at_power_up) refl
   where
     narrow : List Event
-    narrow = where_true (not (is_wide (columns wide))) (private_mode deccolm false ∷ [])
+    narrow = when (not (is_wide (columns wide))) (private_mode 3 false ∷ [])
 
     go : (b : Bool) → pointwise same_bool stops stops_at_power_up ≡ b
         → HasStops wide stops
         (display_after display_at_power_up
-        (cond b (where_true (is_wide (columns wide)) (private_mode deccolm true ∷ []))
-        (private_mode deccolm true ∷ clear_all_tabs ∷ (stops_from stops 1 132 ++ narrow))))
+        (cond b (when (is_wide (columns wide)) (private_mode 3 true ∷ []))
+        (private_mode 3 true ∷ clear_all_tabs ∷ (stops_from stops 1 132 ++ narrow))))
     go true e =
         let is = (pointwise_decides same_bool-decides stops stops_at_power_up).0 e in
         subst (λ (s : List Bool). HasStops wide s
-        (display_after display_at_power_up (where_true (is_wide (columns wide)) (private_mode deccolm true ∷ []))))
+        (display_after display_at_power_up (when (is_wide (columns wide)) (private_mode 3 true ∷ []))))
         (sym is) (wide_leaves wide)
     go false e =
-        let x0 = display_after display_at_power_up (private_mode deccolm true ∷ clear_all_tabs ∷ []) in
+        let x0 = display_after display_at_power_up (private_mode 3 true ∷ clear_all_tabs ∷ []) in
         let w = stops_from_leaves stops 132 0 x0 refl (start stops) in
         subst (λ (y : Display). HasStops wide stops y)
-        (sym (display_after-append display_at_power_up (private_mode deccolm true ∷ clear_all_tabs ∷ [])
+        (sym (display_after-append display_at_power_up (private_mode 3 true ∷ clear_all_tabs ∷ [])
         (stops_from stops 1 132 ++ narrow)
         ∙ display_after-append x0 (stops_from stops 1 132) narrow
         ∙ ap (λ y. display_after y narrow) (w.is

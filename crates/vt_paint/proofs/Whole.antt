@@ -18,42 +18,43 @@ use Rattle.vt_term.specs.declared.state.Cursor.{Cursor}
 use Rattle.vt_term.specs.declared.state.Margins.{Margins}
 use Rattle.vt_term.specs.declared.state.Modes.{Modes}
 use Rattle.vt_term.specs.declared.state.Saved.{Saved}
-use Rattle.vt_term.specs.State.{Display, State, last_column, at_place, full_margins, saved_sets, saved_at_power_up}
+use Rattle.vt_term.specs.State.{Display, State, last_column, full_margins, saved_sets, saved_at_power_up}
 use Rattle.vt_term.specs.State.{stops_at_power_up, modes_at_power_up, display_at_power_up, has_stop_at}
 use Rattle.vt_term.specs.Sound.{IsPlace, IsSoundDisplay, IsSound}
 use Rattle.vt_term.specs.Reports.{line_of_cursor}
 use Rattle.vt_term.specs.Play.{Played, after_events, reports_of, play}
-use Rattle.vt_paint.specs.Same.{same_bool, same_saved, is_blank}
-use Rattle.vt_paint.specs.Controls.{where_true, private_mode, deccolm, cursor_position, clear_all_tabs, set_tab}
+use Rattle.vt_screen.specs.Same.{same_bool, when}
+use Rattle.vt_paint.specs.Same.{same_saved, is_blank}
+use Rattle.vt_paint.specs.Controls.{ansi_mode, private_mode, keypad, report_form, reset_to_initial_state, cursor_position}
+use Rattle.vt_paint.specs.Controls.{clear_all_tabs, set_tab}
 use Rattle.vt_paint.specs.Controls.{save_cursor, shift_to_2, shift_to_3, brush_events, sets_events}
 use Rattle.vt_paint.specs.Controls.{spelling_sets_events}
 use Rattle.vt_paint.specs.Pieces.{left_of, needs_header, header, glyph_events, piece_of, piece, pieces_from, row_pieces}
 use Rattle.vt_paint.specs.Pieces.{rows_from, pieces, is_blank_grid}
-use Rattle.vt_paint.specs.Items.{reset_item, stop_events, stops_from, is_wide, made_stops, stops_item, saved_events}
+use Rattle.vt_paint.specs.Items.{stop_events, stops_from, is_wide, made_stops, stops_item, saved_events}
 use Rattle.vt_paint.specs.Items.{saved_item, cells_item, margins_item, origin_item, position_item, wrap_item}
-use Rattle.vt_paint.specs.Items.{ansi_mode_item, private_mode_item, modes_item, shift_item}
+use Rattle.vt_paint.specs.Items.{mode_item, modes_item, shift_item, last_items}
 use Rattle.vt_paint.specs.Repaint.{repaint_events, paint}
 use Rattle.vt_paint.specs.Spoken.{Speaks}
 use Rattle.vt_paint.proofs.Speech.{speaks-ascii, is_ansi_mode, is_private_mode}
 use Rattle.vt_paint.proofs.LowerLaws.{GridLaws, GlyphLaws}
 use Rattle.vt_paint.proofs.AfterEvents.{display_after, display_after-then, display_after-after_events}
-use Rattle.vt_paint.proofs.Within.{AreSpelledWithin, within-append, within-upto, within-none, within-where}
+use Rattle.vt_paint.proofs.Within.{AreSpelledWithin, within-append, within-upto, within-none, within-when}
 use Rattle.vt_paint.proofs.Within.{within-unless, within-if, cursor_position_within, margins_to_within, clear_within}
 use Rattle.vt_paint.proofs.Within.{column_within, ansi_mode_within, private_mode_within, brush_within, set_tab_within}
-use Rattle.vt_paint.proofs.Within.{shift_to_2_within, shift_to_3_within, reset_within, save_within, keypad_within}
-use Rattle.vt_paint.proofs.Within.{reports_within, print_within, sets_within, spelling_sets_within, spelling_within}
+use Rattle.vt_paint.proofs.Within.{shift_to_2_within, shift_to_3_within, reset_within, save_within, keypad_within, small_ansi_mode_within}
+use Rattle.vt_paint.proofs.Within.{report_form_within, small_private_mode_within, print_within, sets_within, spelling_sets_within, spelling_within}
 use Rattle.vt_paint.proofs.Painting.{AreGlyphs}
 use Rattle.vt_paint.proofs.Stops.{with_stops, reset_leaves, stops_leaves}
 use Rattle.vt_paint.proofs.SavedRecord.{with_saved, saved_leaves}
-use Rattle.vt_paint.proofs.Chain.{part, cells_leaves, margins_leaves, origin_leaves, position_leaves, wrap_leaves}
-use Rattle.vt_paint.proofs.Chain.{end_leaves}
+use Rattle.vt_paint.proofs.Chain.{part, cells_leaves, last_leaves}
 
 -- ---- the items are fine
 
 stop_within : (stops : List Bool) (c : ℕ) → c ≤ 132 → AreSpelledWithin 10 (stop_events stops c)
 unfolding stop_events
 stop_within stops c h =
-    within-where 10 (has_stop_at stops c) (cursor_position 1 c ∷ set_tab ∷ [])
+    within-when 10 (has_stop_at stops c) (cursor_position 1 c ∷ set_tab ∷ [])
     (within-append 8 2 _ _ (column_within c h) set_tab_within)
 
 stops_from_within : (stops : List Bool) (n c : ℕ) → c + n ≤ 133 → AreSpelledWithin (10 * n) (stops_from stops c n)
@@ -69,30 +70,30 @@ stops_item_within width stops = go (pointwise same_bool stops stops_at_power_up)
   where
     go : (b : Bool)
         → AreSpelledWithin 1336
-        (cond b (where_true (is_wide width) (private_mode deccolm true ∷ []))
-        (private_mode deccolm true ∷ clear_all_tabs
-        ∷ (stops_from stops 1 132 ++ where_true (not (is_wide width)) (private_mode deccolm false ∷ []))))
-    go true = within-where 1336 (is_wide width) _
+        (cond b (when (is_wide width) (private_mode 3 true ∷ []))
+        (private_mode 3 true ∷ clear_all_tabs
+        ∷ (stops_from stops 1 132 ++ when (not (is_wide width)) (private_mode 3 false ∷ []))))
+    go true = within-when 1336 (is_wide width) _
         (within-upto 6 1336 _ (omega arith) (private_mode_within 3 true (omega arith) refl))
     go false =
         within-upto _ 1336 _ (omega arith)
-        (within-append _ _ (private_mode deccolm true ∷ []) _ (private_mode_within 3 true (omega arith) refl)
+        (within-append _ _ (private_mode 3 true ∷ []) _ (private_mode_within 3 true (omega arith) refl)
         (within-append _ _ (clear_all_tabs ∷ []) _ clear_within
         (within-append _ _ (stops_from stops 1 132) _ (stops_from_within stops 132 1 (omega arith))
-        (within-where 6 (not (is_wide width)) _ (private_mode_within 3 false (omega arith) refl)))))
+        (within-when 6 (not (is_wide width)) _ (private_mode_within 3 false (omega arith) refl)))))
 
 saved_item_within : (saved : Saved) → saved.row ≤ 24 → saved.col ≤ 132 → AreSpelledWithin 57 (saved_item saved)
 unfolding saved_item saved_events
 saved_item_within saved h k =
-    within-where 57 (not (same_saved saved saved_at_power_up)) (saved_events saved)
+    within-when 57 (not (same_saved saved saved_at_power_up)) (saved_events saved)
     (within-upto _ 57 _ (omega arith)
-    (within-append _ _ _ _ (within-where 6 saved.origin _ (private_mode_within 6 true (omega arith) refl))
+    (within-append _ _ _ _ (within-when 6 saved.origin _ (private_mode_within 6 true (omega arith) refl))
     (within-append _ _ (cursor_position saved.row saved.col ∷ []) _ (cursor_position_within saved.row saved.col h k)
-    (within-append _ _ _ _ (within-where 1 saved.wrap _ (print_within 0x20 (omega arith) (omega arith)))
+    (within-append _ _ _ _ (within-when 1 saved.wrap _ (print_within 0x20 (omega arith) (omega arith)))
     (within-append _ _ _ _ (brush_within saved.brush)
     (within-append _ _ _ _ (sets_within (saved_sets saved))
     (within-append _ _ (save_cursor ∷ []) _ save_within
-    (within-where 6 saved.origin _ (private_mode_within 6 false (omega arith) refl)))))))))
+    (within-when 6 saved.origin _ (private_mode_within 6 false (omega arith) refl)))))))))
 
 module _ (glyphs : GlyphLaws) where
   pub glyph_within : (cell : Cell) → IsGlyph cell.glyph → AreSpelledWithin 3 (glyph_events cell)
@@ -102,10 +103,10 @@ module _ (glyphs : GlyphLaws) where
   piece_within : (g : Grid) (r c : ℕ) → AreGlyphs g → r ≤ 24 → c ≤ 132 → AreSpelledWithin 29 (piece g r c)
   unfolding piece_of header
   piece_within g r c are h k =
-      within-where 29 (not (is_blank (cell_at g r c)))
+      within-when 29 (not (is_blank (cell_at g r c)))
       (header r c (left_of g r c) (cell_at g r c) ++ glyph_events (cell_at g r c))
       (within-append 26 3 _ _
-      (within-where 26 (needs_header (left_of g r c) (cell_at g r c)) _
+      (within-when 26 (needs_header (left_of g r c) (cell_at g r c)) _
       (within-append 9 17 (cursor_position r c ∷ []) _ (cursor_position_within r c h k)
       (brush_within (brush_of (cell_at g r c)))))
       (glyph_within (cell_at g r c) (are r c)))
@@ -139,51 +140,55 @@ module _ (glyphs : GlyphLaws) where
   pub wrap_item_within : (g : Grid) (cursor : Cursor) → AreGlyphs g → AreSpelledWithin 20 (wrap_item g cursor)
   unfolding wrap_item
   wrap_item_within g cursor are =
-      within-where 20 cursor.wrap _
+      within-when 20 cursor.wrap _
       (within-append 17 3 _ _ (brush_within (brush_of (cell_at g cursor.row cursor.col)))
       (glyph_within (cell_at g cursor.row cursor.col) (are cursor.row cursor.col)))
 
-pub margins_item_within : (m : Margins) → m.top ≤ 24 → m.bottom ≤ 24 → AreSpelledWithin 8 (margins_item m)
+margins_item_within : (m : Margins) → m.top ≤ 24 → m.bottom ≤ 24 → AreSpelledWithin 8 (margins_item m)
 unfolding margins_item
 margins_item_within m h k = within-unless 8 (eqb m.top 1 && eqb m.bottom 24) _ (margins_to_within m.top m.bottom h k)
 
-origin_item_within : (on : Bool) → AreSpelledWithin 6 (origin_item on)
-unfolding origin_item
-origin_item_within on = within-where 6 on _ (private_mode_within 6 true (omega arith) refl)
-
-pub line_small : (s : Display) → IsSoundDisplay s → line_of_cursor s ≤ 24
+line_small : (s : Display) → IsSoundDisplay s → line_of_cursor s ≤ 24
 line_small s i = go s.modes.decom
   where
     go : (b : Bool) → cond b (s.cursor.row - s.margins.top + 1) s.cursor.row ≤ 24
     go true = omega (arith, i.cursor.row_24, i.margins.from_row_1)
     go false = i.cursor.row_24
 
-ansi_within : (n : ℕ) (at_power_up on : Bool) → n < 100 → is_ansi_mode n ≡ true
-    → AreSpelledWithin 5 (ansi_mode_item n at_power_up on)
-ansi_within n at_power_up on h is = within-unless 5 (same_bool at_power_up on) _ (ansi_mode_within n on h is)
+mode_within : (n : ℕ) (known at_power_up on : Bool) (event : Bool → Event) → AreSpelledWithin n (event on ∷ [])
+    → AreSpelledWithin n (mode_item known at_power_up event on)
+mode_within n known at_power_up on event h = within-unless n (known && same_bool at_power_up on) _ h
 
-private_within : (n : ℕ) (at_power_up on : Bool) → n < 100 → is_private_mode n ≡ true
-    → AreSpelledWithin 6 (private_mode_item n at_power_up on)
-private_within n at_power_up on h is = within-unless 6 (same_bool at_power_up on) _ (private_mode_within n on h is)
+pub origin_item_within : (known on : Bool) → AreSpelledWithin 5 (origin_item known on)
+unfolding origin_item
+origin_item_within known on =
+    mode_within 5 known false on (private_mode 6) (small_private_mode_within 6 on (omega arith) refl)
 
-modes_item_within : (m : Modes) → AreSpelledWithin 61 (modes_item m)
+modes_item_within : (known : Bool) (m : Modes) → AreSpelledWithin 54 (modes_item known m)
 unfolding modes_item
-modes_item_within m =
-    within-upto _ 61 _ (omega arith)
-    (within-append _ _ _ _ (ansi_within 2 false m.kam (omega arith) refl)
-    (within-append _ _ _ _ (ansi_within 4 false m.irm (omega arith) refl)
-    (within-append _ _ _ _ (ansi_within 12 true m.srm (omega arith) refl)
-    (within-append _ _ _ _ (ansi_within 20 false m.lnm (omega arith) refl)
-    (within-append _ _ _ _ (private_within 1 false m.decckm (omega arith) refl)
-    (within-append _ _ _ _ (private_within 4 false m.decsclm (omega arith) refl)
-    (within-append _ _ _ _ (private_within 5 false m.decscnm (omega arith) refl)
-    (within-append _ _ _ _ (private_within 7 true m.decawm (omega arith) refl)
-    (within-append _ _ _ _ (private_within 8 true m.decarm (omega arith) refl)
-    (within-append _ _ _ _ (private_within 25 true m.dectcem (omega arith) refl)
-    (within-append _ _ _ _ (within-where 2 m.keypad_application _ keypad_within)
-    (within-where 3 m.reports_8bit _ reports_within))))))))))))
+modes_item_within known m =
+    let ansi : (n : ℕ) (was on : Bool) → n < 10 → is_ansi_mode n ≡ true → AreSpelledWithin 4 (mode_item known was (ansi_mode n) on) =
+    λ n was on h is. mode_within 4 known was on (ansi_mode n) (small_ansi_mode_within n on h is) in
+    let ansi_2 : (n : ℕ) (was on : Bool) → n < 100 → is_ansi_mode n ≡ true → AreSpelledWithin 5 (mode_item known was (ansi_mode n) on) =
+    λ n was on h is. mode_within 5 known was on (ansi_mode n) (ansi_mode_within n on h is) in
+    let private : (n : ℕ) (was on : Bool) → n < 10 → is_private_mode n ≡ true → AreSpelledWithin 5 (mode_item known was (private_mode n) on) =
+    λ n was on h is. mode_within 5 known was on (private_mode n) (small_private_mode_within n on h is) in
+    within-upto _ 54 _ (omega arith)
+    (within-append _ _ _ _ (ansi 2 false m.kam (omega arith) refl)
+    (within-append _ _ _ _ (ansi 4 false m.irm (omega arith) refl)
+    (within-append _ _ _ _ (ansi_2 12 true m.srm (omega arith) refl)
+    (within-append _ _ _ _ (ansi_2 20 false m.lnm (omega arith) refl)
+    (within-append _ _ _ _ (private 1 false m.decckm (omega arith) refl)
+    (within-append _ _ _ _ (private 4 false m.decsclm (omega arith) refl)
+    (within-append _ _ _ _ (private 5 false m.decscnm (omega arith) refl)
+    (within-append _ _ _ _ (private 7 true m.decawm (omega arith) refl)
+    (within-append _ _ _ _ (private 8 true m.decarm (omega arith) refl)
+    (within-append _ _ _ _ (mode_within 6 known true m.dectcem (private_mode 25)
+    (private_mode_within 25 m.dectcem (omega arith) refl))
+    (within-append _ _ _ _ (mode_within 2 known false m.keypad_application keypad (keypad_within m.keypad_application))
+    (mode_within 3 known false m.reports_8bit report_form (report_form_within m.reports_8bit)))))))))))))
 
-pub shift_item_within : (pending : Option ℕ) → AreSpelledWithin 2 (shift_item pending)
+shift_item_within : (pending : Option ℕ) → AreSpelledWithin 2 (shift_item pending)
 unfolding shift_item
 shift_item_within None = within-upto 0 2 _ (omega arith) within-none
 shift_item_within (Some slot) = within-if 2 (eqb slot 2) shift_to_2 shift_to_3 shift_to_2_within shift_to_3_within
@@ -203,40 +208,43 @@ width_small s i = go i.grid.shape.width.0 i.grid.shape.width.1
     go false e = omega arith
 
 module _ (grids : GridLaws) (glyphs : GlyphLaws) where
-  pub repaint_within : (s : Display) → IsSoundDisplay s → AreSpelledWithin 93512 (repaint_events s)
+  pub last_within : (known : Bool) (s : Display) → IsSoundDisplay s → AreSpelledWithin 131 (last_items known s)
+  unfolding last_items
+  last_within known s i =
+      let w = width_small s i in
+      let are = sound_glyphs grids glyphs s i in
+      let col : s.cursor.col ≤ 132 = omega (arith, i.cursor.col_last, w) in
+      let top : s.margins.top ≤ 24 = omega (arith, i.margins.two_rows, i.margins.to_last_row) in
+      within-append 8 123 (margins_item s.margins) _ (margins_item_within s.margins top i.margins.to_last_row)
+      (within-append 5 118 _ _ (origin_item_within known s.modes.decom)
+      (within-append 9 109 (position_item s) _
+      (cursor_position_within (line_of_cursor s) s.cursor.col (line_small s i) col)
+      (within-append 20 89 (wrap_item s.grid s.cursor) _ (wrap_item_within glyphs s.grid s.cursor are)
+      (within-append 17 72 (brush_events s.brush) _ (brush_within s.brush)
+      (within-append 16 56 (sets_events s.sets) _ (sets_within s.sets)
+      (within-append 54 2 (modes_item known s.modes) _ (modes_item_within known s.modes)
+      (shift_item_within s.sets.pending)))))))
+
+  repaint_within : (s : Display) → IsSoundDisplay s → AreSpelledWithin 93512 (repaint_events s)
   unfolding repaint_events
   repaint_within s i =
       let w = width_small s i in
       let are = sound_glyphs grids glyphs s i in
       let saved_col : s.saved.col ≤ 132 = omega (arith, i.saved.col_last, w) in
-      let col : s.cursor.col ≤ 132 = omega (arith, i.cursor.col_last, w) in
-      let top : s.margins.top ≤ 24 = omega (arith, i.margins.two_rows, i.margins.to_last_row) in
       within-upto _ 93512 _ (omega arith)
-      (within-append _ _ reset_item _ reset_within
+      (within-append _ _ (reset_to_initial_state ∷ []) _ reset_within
       (within-append _ _ (stops_item (last_column s) s.stops) _ (stops_item_within (last_column s) s.stops)
       (within-append _ _ (saved_item s.saved) _ (saved_item_within s.saved i.saved.row_24 saved_col)
       (within-append _ _ (cells_item s.grid s.cursor.wrap) _ (cells_item_within glyphs s.grid s.cursor.wrap are w)
-      (within-append _ _ (margins_item s.margins) _ (margins_item_within s.margins top i.margins.to_last_row)
-      (within-append _ _ (origin_item s.modes.decom) _ (origin_item_within s.modes.decom)
-      (within-append _ _ (position_item s) _
-      (cursor_position_within (line_of_cursor s) s.cursor.col (line_small s i) col)
-      (within-append _ _ (wrap_item s.grid s.cursor) _ (wrap_item_within glyphs s.grid s.cursor are)
-      (within-append _ _ (brush_events s.brush) _ (brush_within s.brush)
-      (within-append _ _ (sets_events s.sets) _ (sets_within s.sets)
-      (within-append _ _ (modes_item s.modes) _ (modes_item_within s.modes)
-      (shift_item_within s.sets.pending))))))))))))
+      (last_within true s i)))))
 
-  pub repaint_leaves : (s t : Display) → IsSoundDisplay s → display_after t (repaint_events s) ≡ s
+  repaint_leaves : (s t : Display) → IsSoundDisplay s → display_after t (repaint_events s) ≡ s
   unfolding repaint_events
   repaint_leaves s t i =
       let wide = i.grid.shape.width.0 in
       let is_width = i.grid.shape.width.1 in
       let are = sound_glyphs grids glyphs s i in
-      let o8 = brush_events s.brush ++ (sets_events s.sets ++ (modes_item s.modes ++ shift_item s.sets.pending)) in
-      let o7 = wrap_item s.grid s.cursor ++ o8 in
-      let o6 = position_item s ++ o7 in
-      let o5 = origin_item s.modes.decom ++ o6 in
-      let o4 = margins_item s.margins ++ o5 in
+      let o4 = last_items true s in
       let o3 = cells_item s.grid s.cursor.wrap ++ o4 in
       let o2 = saved_item s.saved ++ o3 in
       let o1 = stops_item (columns wide) s.stops ++ o2 in
@@ -244,28 +252,16 @@ module _ (grids : GridLaws) (glyphs : GlyphLaws) where
       let w1 = stops_leaves wide s.stops i.stops in
       let w2 = saved_leaves grids wide s.stops s.saved w1.cursor place i.saved_sets in
       let w3 = cells_leaves grids glyphs wide s w2.cursor is_width i.grid.shape are i.saved_sets in
-      let w4 = margins_leaves s modes_at_power_up w3.cursor w3.brush w3.sets s.margins false i.margins in
-      let w5 = origin_leaves s modes_at_power_up w4.cursor w3.brush w3.sets s.margins s.modes.decom in
-      let w7 = wrap_leaves grids glyphs s modes_at_power_up w3.brush w3.sets refl refl i are w3.four w3.none w3.spells
-      in
       let x1 = with_stops wide s.stops w1.cursor in
       let x2 = with_saved wide s.stops s.saved w2.cursor in
       let x3 = part s modes_at_power_up w3.cursor w3.brush w3.sets full_margins false in
-      let x4 = part s modes_at_power_up w4.cursor w3.brush w3.sets s.margins false in
-      let x5 = part s modes_at_power_up w5.cursor w3.brush w3.sets s.margins s.modes.decom in
-      let x6 = part s modes_at_power_up (at_place s.cursor.row s.cursor.col) w3.brush w3.sets s.margins s.modes.decom in
-      let x7 = part s modes_at_power_up s.cursor w7.brush w7.sets s.margins s.modes.decom in
-      ap (λ n. display_after t (reset_item ++ (stops_item n s.stops ++ o2))) is_width
-      ∙ display_after-then t display_at_power_up s reset_item o1 (reset_leaves t)
+      ap (λ n. display_after t ((reset_to_initial_state ∷ []) ++ (stops_item n s.stops ++ o2))) is_width
+      ∙ display_after-then t display_at_power_up s (reset_to_initial_state ∷ []) o1 (reset_leaves t)
       (display_after-then display_at_power_up x1 s (stops_item (columns wide) s.stops) o2 w1.is
       (display_after-then x1 x2 s (saved_item s.saved) o3 w2.is
       (display_after-then x2 x3 s (cells_item s.grid s.cursor.wrap) o4 w3.is
-      (display_after-then x3 x4 s (margins_item s.margins) o5 w4.is
-      (display_after-then x4 x5 s (origin_item s.modes.decom) o6 w5.is
-      (display_after-then x5 x6 s (position_item s) o7
-      (position_leaves s modes_at_power_up w5.cursor w3.brush w3.sets i)
-      (display_after-then x6 x7 s (wrap_item s.grid s.cursor) o8 w7.is
-      (end_leaves s w7.brush w7.sets i w7.four w7.none))))))))
+      (last_leaves grids glyphs true s modes_at_power_up w3.cursor w3.brush w3.sets false (λ e. refl) (λ e. refl) refl refl i
+      are w3.four w3.none w3.spells))))
 
   pub short : (s : State) → IsSound s → length (paint s) ≤ 93512
   unfolding paint

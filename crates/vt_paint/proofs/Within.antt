@@ -1,7 +1,7 @@
 -- What a repaint asks for are events, none of which is answered, and their spelling is short.
-use Rattle.std.proofs.Common.{◌≡◌, inl, inr, Bool, true, false, cond, eqb, ltb, ℕ, suc, ◌+◌, ◌*◌, ◌≤◌, ◌<◌, List, []}
+use Rattle.std.proofs.Common.{◌≡◌, inl, inr, Bool, true, false, cond, eqb, ℕ, suc, ◌+◌, ◌*◌, ◌≤◌, ◌<◌, List, []}
 use Rattle.std.proofs.Common.{◌∷◌, ◌++◌, length, length-append, append_assoc, Some, None, refl, sym, ap, ◌∙◌, arith}
-use Rattle.std.proofs.Common.{map, zero, Option, ◌-◌}
+use Rattle.std.proofs.Common.{map, Option}
 use Rattle.std.specs.Prelude.{All, decimal}
 use Rattle.std.specs.List.{join_with_byte}
 use Rattle.std.proofs.lemmas.List.Elements.{All-nil, All-cons, All-append}
@@ -13,7 +13,7 @@ use Rattle.vt_syntax.specs.Held.{spell_values}
 use Rattle.vt_syntax.specs.declared.event.Event.{Event}
 use Rattle.vt_syntax.specs.declared.event.Event.TheVariants.{Print, Control, Escape, Sequence}
 use Rattle.vt_syntax.specs.Class.{opens_string}
-use Rattle.vt_syntax.specs.Spelling.{IsEvent, IsIntermediate, IsMarker, IsEscapeFinal, AreValues, spell_event}
+use Rattle.vt_syntax.specs.Spelling.{IsEvent, IsIntermediate, IsMarker, AreValues, spell_event}
 use Rattle.vt_syntax.specs.Spelling.{spell_events}
 use Rattle.vt_glyph.specs.declared.set.Set.{Set}
 use Rattle.vt_glyph.specs.declared.set.Set.TheVariants.{Ascii, British, German, Special, Supplemental}
@@ -37,11 +37,12 @@ use Rattle.vt_paint.proofs.Speech.{speaks-none, speaks-append, speaks-one, two_n
 use Rattle.vt_paint.proofs.Speech.{numbers_spoken, attributes_spoken, sequence_speaks, character_speaks}
 use Rattle.vt_paint.proofs.Speech.{designation_speaks, rendition_speaks, all_attributes_speak, is_ansi_mode}
 use Rattle.vt_paint.proofs.Speech.{is_private_mode, ansi_mode_spoken, private_mode_spoken}
-use Rattle.vt_paint.specs.Private.ChangeEvents.{soft_reset, keypad_event, report_form_event, has_all, all_attributes}
+use Rattle.vt_paint.specs.Private.ChangeEvents.{soft_reset, has_all, all_attributes}
 use Rattle.vt_paint.specs.Private.ChangeEvents.{short_rendition, short_brush_events}
-use Rattle.vt_paint.specs.Controls.{where_true, ansi_mode, private_mode, cursor_position, margins_to, clear_all_tabs}
+use Rattle.vt_screen.specs.Same.{when}
+use Rattle.vt_paint.specs.Controls.{ansi_mode, private_mode, cursor_position, margins_to, clear_all_tabs}
 use Rattle.vt_paint.specs.Controls.{rendition_to, protection_to, brush_events, set_tab, shift_to_2, shift_to_3}
-use Rattle.vt_paint.specs.Controls.{reset_to_initial_state, save_cursor, application_keypad, reports_8bit, left_event}
+use Rattle.vt_paint.specs.Controls.{reset_to_initial_state, save_cursor, keypad, report_form, left_event}
 use Rattle.vt_paint.specs.Controls.{right_event, sets_events, spelling_sets_events, spelling_events}
 
 -- these are events, which report nothing, and their spelling is spoken and has at most n bytes
@@ -91,9 +92,9 @@ within-one n e is silent short spoken = record {
   speaks = speaks-append (spell_event e) [] spoken speaks-none;
 }
 
-pub within-where : (n : ℕ) (b : Bool) (es : List Event) → AreSpelledWithin n es → AreSpelledWithin n (where_true b es)
-within-where n true es h = h
-within-where n false es h = within-upto 0 n [] (omega arith) within-none
+pub within-when : (n : ℕ) (b : Bool) (es : List Event) → AreSpelledWithin n es → AreSpelledWithin n (when b es)
+within-when n true es h = h
+within-when n false es h = within-upto 0 n [] (omega arith) within-none
 
 pub within-unless : (n : ℕ) (b : Bool) (es : List Event) → AreSpelledWithin n es → AreSpelledWithin n (cond b [] es)
 within-unless n true es h = within-upto 0 n [] (omega arith) within-none
@@ -304,12 +305,12 @@ record AreDigits (n : ℕ) (values : List ℕ) : Type 0 where
   small : All (λ v. v < 10) values
 
 digits_where : (n v : ℕ) (b : Bool) (values : List ℕ) → v < 10 → AreDigits n values
-    → AreDigits (n + 1) (where_true b (v ∷ []) ++ values)
+    → AreDigits (n + 1) (when b (v ∷ []) ++ values)
 digits_where n v true values h k =
     record { count = omega (arith, k.count); small = All-cons (λ v. v < 10) v values h k.small }
 digits_where n v false values h k = record { count = omega (arith, k.count); small = k.small }
 
-digits_last : (v : ℕ) (b : Bool) → v < 10 → AreDigits 1 (where_true b (v ∷ []))
+digits_last : (v : ℕ) (b : Bool) → v < 10 → AreDigits 1 (when b (v ∷ []))
 digits_last v true h = record { count = omega arith; small = All-cons (λ v. v < 10) v [] h (All-nil (λ v. v < 10)) }
 digits_last v false h = record { count = omega arith; small = All-nil (λ v. v < 10) }
 
@@ -340,8 +341,8 @@ values_within n v values low few h speaks =
 rendition_within : (r : Rendition) → AreSpelledWithin 12 (rendition_to r ∷ [])
 rendition_within r =
     values_within 4 0
-    (where_true r.bold (1 ∷ [])
-    ++ (where_true r.underline (4 ∷ []) ++ (where_true r.blink (5 ∷ []) ++ where_true r.reverse (7 ∷ []))))
+    (when r.bold (1 ∷ [])
+    ++ (when r.underline (4 ∷ []) ++ (when r.blink (5 ∷ []) ++ when r.reverse (7 ∷ []))))
     (omega arith) (omega arith)
     (digits_where 3 1 r.bold _ (omega arith)
     (digits_where 2 4 r.underline _ (omega arith)
@@ -349,7 +350,7 @@ rendition_within r =
 
 -- where not every attribute is set, at most three are
 three_set : (b u k r : Bool) → has_all (record { bold = b; underline = u; blink = k; reverse = r }) ≡ false
-    → AreDigits 3 (where_true b (1 ∷ []) ++ (where_true u (4 ∷ []) ++ (where_true k (5 ∷ []) ++ where_true r (7 ∷ []))))
+    → AreDigits 3 (when b (1 ∷ []) ++ (when u (4 ∷ []) ++ (when k (5 ∷ []) ++ when r (7 ∷ []))))
 three_set false u k r h =
     digits_where 2 4 u _ (omega arith) (digits_where 1 5 k _ (omega arith) (digits_last 7 r (omega arith)))
 three_set true false k r h =
@@ -411,26 +412,19 @@ pub save_within : AreSpelledWithin 2 (save_cursor ∷ [])
 save_within = within-one 2 save_cursor (tt, inl (omega arith, omega arith)) (λ s. refl) (omega arith)
     (speaks-one (spoken.Escape (0x37 ∷ [])) refl)
 
-pub keypad_within : AreSpelledWithin 2 (application_keypad ∷ [])
-keypad_within = within-one 2 application_keypad (tt, inl (omega arith, omega arith)) (λ s. refl) (omega arith)
+pub keypad_within : (application : Bool) → AreSpelledWithin 2 (keypad application ∷ [])
+keypad_within true = within-one 2 (keypad true) (tt, inl (omega arith, omega arith)) (λ s. refl) (omega arith)
     (speaks-one (spoken.Escape (0x3D ∷ [])) refl)
+keypad_within false = within-one 2 (keypad false) (tt, inl (omega arith, omega arith)) (λ s. refl) (omega arith)
+    (speaks-one (spoken.Escape (0x3E ∷ [])) refl)
 
-pub reports_within : AreSpelledWithin 3 (reports_8bit ∷ [])
-reports_within =
-    within-one 3 reports_8bit ((omega arith, omega arith), (omega arith, omega arith)) (λ s. refl) (omega arith)
+pub report_form_within : (eight : Bool) → AreSpelledWithin 3 (report_form eight ∷ [])
+report_form_within true =
+    within-one 3 (report_form true) ((omega arith, omega arith), (omega arith, omega arith)) (λ s. refl) (omega arith)
     (speaks-one (spoken.Escape (0x20 ∷ 0x47 ∷ [])) refl)
-
-pub keypad_event_within : (application : Bool) → AreSpelledWithin 2 (keypad_event application ∷ [])
-keypad_event_within application =
-    within-if 2 application _ _ keypad_within
-    (within-one 2 (Escape None 0x3E) (tt, inl (omega arith, omega arith)) (λ s. refl) (omega arith)
-    (speaks-one (spoken.Escape (0x3E ∷ [])) refl))
-
-pub report_form_event_within : (eight : Bool) → AreSpelledWithin 3 (report_form_event eight ∷ [])
-report_form_event_within eight =
-    within-if 3 eight _ _ reports_within
-    (within-one 3 (Escape (Some 0x20) 0x46) ((omega arith, omega arith), (omega arith, omega arith)) (λ s. refl)
-    (omega arith) (speaks-one (spoken.Escape (0x20 ∷ 0x46 ∷ [])) refl))
+report_form_within false =
+    within-one 3 (report_form false) ((omega arith, omega arith), (omega arith, omega arith)) (λ s. refl) (omega arith)
+    (speaks-one (spoken.Escape (0x20 ∷ 0x46 ∷ [])) refl)
 
 pub print_within : (b : ℕ) → 0x20 ≤ b → b ≤ 0x7E → AreSpelledWithin 1 (Print b ∷ [])
 print_within b h k = within-one 1 (Print b) (inl (h, k)) (λ s. refl) (omega arith) (character_speaks b h k)

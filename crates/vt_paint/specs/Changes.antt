@@ -7,7 +7,7 @@ use Rattle.vt_screen.specs.Cells.{brush_of}
 use Rattle.vt_screen.specs.Grid.{Grid, cell_at, last_row}
 use Rattle.vt_term.specs.State.{Display, State, last_column}
 use Rattle.vt_term.specs.Play.{play}
-use Rattle.vt_paint.specs.Same.{same_brush}
+use Rattle.vt_screen.specs.Same.{same_brush}
 
 -- the same glyph, attributes and protection
 abbrev pub same_cell : Cell → Cell → Bool

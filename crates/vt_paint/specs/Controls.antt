@@ -11,11 +11,8 @@ use Rattle.vt_glyph.specs.Designation.{final_of}
 use Rattle.vt_glyph.specs.Invocation.{set_at}
 use Rattle.vt_screen.specs.declared.cell.Rendition.{Rendition}
 use Rattle.vt_screen.specs.declared.cell.Brush.{Brush}
+use Rattle.vt_screen.specs.Same.{when}
 use Rattle.vt_term.specs.Functions.{byte}
-
--- some only where a test passes
-abbrev pub where_true : {A : Type 0} → Bool → List A → List A
-where_true test xs = if test then xs else []
 
 -- ---- control sequences
 
@@ -27,17 +24,11 @@ sequence_of values last = Sequence None (record { items = values }) None last
 abbrev pub ansi_mode : ℕ → Bool → Event
 ansi_mode number on = sequence_of (number ∷ []) (if on then byte (codes "h") else byte (codes "l"))
 
--- SM and RM of a private mode
+-- SM and RM of a private mode: 3 is DECCOLM, 6 DECOM and 7 DECAWM
 abbrev pub private_mode : ℕ → Bool → Event
 private_mode number on =
     Sequence (Some (byte (codes "?"))) (record { items = number ∷ [] }) None
     (if on then byte (codes "h") else byte (codes "l"))
-
-abbrev pub deccolm : ℕ
-deccolm = 3
-
-abbrev pub decom : ℕ
-decom = 6
 
 -- CUP, always with both numbers
 abbrev pub cursor_position : ℕ → ℕ → Event
@@ -54,8 +45,8 @@ clear_all_tabs = sequence_of (3 ∷ []) (byte (codes "g"))
 -- SGR: 0, and then the attributes that are set
 abbrev pub rendition_values : Rendition → List ℕ
 rendition_values r =
-    0 ∷ (where_true r.bold (1 ∷ [])
-    ++ (where_true r.underline (4 ∷ []) ++ (where_true r.blink (5 ∷ []) ++ where_true r.reverse (7 ∷ []))))
+    0 ∷ (when r.bold (1 ∷ [])
+    ++ (when r.underline (4 ∷ []) ++ (when r.blink (5 ∷ []) ++ when r.reverse (7 ∷ []))))
 
 abbrev pub rendition_to : Rendition → Event
 rendition_to r = sequence_of (rendition_values r) (byte (codes "m"))
@@ -89,13 +80,13 @@ reset_to_initial_state = Escape None (byte (codes "c"))
 abbrev pub save_cursor : Event
 save_cursor = Escape None (byte (codes "7"))
 
--- DECKPAM
-abbrev pub application_keypad : Event
-application_keypad = Escape None (byte (codes "="))
+-- DECKPAM and DECKPNM
+abbrev pub keypad : Bool → Event
+keypad application = Escape None (if application then byte (codes "=") else byte (codes ">"))
 
--- S8C1T
-abbrev pub reports_8bit : Event
-reports_8bit = Escape (Some (byte (codes " "))) (byte (codes "G"))
+-- S8C1T and S7C1T
+abbrev pub report_form : Bool → Event
+report_form eight = Escape (Some (byte (codes " "))) (if eight then byte (codes "G") else byte (codes "F"))
 
 -- ---- sets
 

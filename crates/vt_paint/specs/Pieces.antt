@@ -6,8 +6,9 @@ use Rattle.vt_glyph.specs.Spell.{spelling_of}
 use Rattle.vt_screen.specs.declared.cell.Cell.{Cell}
 use Rattle.vt_screen.specs.Cells.{blank, brush_of}
 use Rattle.vt_screen.specs.Grid.{Grid, cell_at, row_of, last_row}
-use Rattle.vt_paint.specs.Same.{same_brush, is_blank}
-use Rattle.vt_paint.specs.Controls.{where_true, cursor_position, brush_events, spelling_events}
+use Rattle.vt_screen.specs.Same.{same_brush, when}
+use Rattle.vt_paint.specs.Same.{is_blank}
+use Rattle.vt_paint.specs.Controls.{cursor_position, brush_events, spelling_events}
 
 -- the cell to the left of a place; left of column 1 counts as blank
 unfoldable pub left_of : Grid → ℕ → ℕ → Cell
@@ -19,7 +20,7 @@ needs_header left cell = is_blank left || not (same_brush (brush_of left) (brush
 
 -- the place and the brush of a cell
 unfoldable pub header : ℕ → ℕ → Cell → Cell → List Event
-header r c left cell = where_true (needs_header left cell) (cursor_position r c ∷ brush_events (brush_of cell))
+header r c left cell = when (needs_header left cell) (cursor_position r c ∷ brush_events (brush_of cell))
 
 -- the glyph of a cell
 unfoldable pub glyph_events : Cell → List Event
@@ -27,7 +28,7 @@ glyph_events cell = spelling_events (spelling_of cell.glyph)
 
 -- a blank cell has an empty piece; another has a header where it needs one, and its glyph
 unfoldable pub piece_of : ℕ → ℕ → Cell → Cell → List Event
-piece_of r c left cell = where_true (not (is_blank cell)) (header r c left cell ++ glyph_events cell)
+piece_of r c left cell = when (not (is_blank cell)) (header r c left cell ++ glyph_events cell)
 
 abbrev pub piece : Grid → ℕ → ℕ → List Event
 piece g r c = piece_of r c (left_of g r c) (cell_at g r c)

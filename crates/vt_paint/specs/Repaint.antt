@@ -1,29 +1,21 @@
 -- The repaint: one byte string for each state, which rebuilds it on any terminal. (this profile)
-use Rattle.std.specs.Prelude.{◌≡◌, ◌≤◌, ℕ, List, [], ◌++◌, All}
+use Rattle.std.specs.Prelude.{◌≡◌, ◌≤◌, true, ℕ, List, [], ◌∷◌, ◌++◌, All}
 use Rattle.vt_syntax.specs.declared.event.Event.{Event}
 use Rattle.vt_syntax.specs.Spelling.{spell_events}
 use Rattle.vt_term.specs.State.{Display, State, last_column}
 use Rattle.vt_term.specs.Sound.{IsSound}
 use Rattle.vt_term.specs.Play.{play}
-use Rattle.vt_paint.specs.Controls.{brush_events, sets_events}
-use Rattle.vt_paint.specs.Items.{reset_item, stops_item, saved_item, cells_item, margins_item, origin_item}
-use Rattle.vt_paint.specs.Items.{position_item, wrap_item, modes_item, shift_item}
+use Rattle.vt_paint.specs.Controls.{reset_to_initial_state}
+use Rattle.vt_paint.specs.Items.{stops_item, saved_item, cells_item, last_items}
 
--- what a repaint asks for: its items in order
+-- what a repaint asks for: its items in order, behind RIS
 unfoldable pub repaint_events : Display → List Event
 repaint_events s =
-    reset_item
-    ++ (stops_item (last_column s) s.stops
+    reset_to_initial_state
+    ∷ (stops_item (last_column s) s.stops
     ++ (saved_item s.saved
     ++ (cells_item s.grid s.cursor.wrap
-    ++ (margins_item s.margins
-    ++ (origin_item s.modes.decom
-    ++ (position_item s
-    ++ (wrap_item s.grid s.cursor
-    ++ (brush_events s.brush
-    ++ (sets_events s.sets
-    ++ (modes_item s.modes
-    ++ shift_item s.sets.pending))))))))))
+    ++ last_items true s)))
 
 -- in 7-bit form
 unfoldable pub paint : State → List ℕ

@@ -1,25 +1,12 @@
 -- Whether two parts of a state are equal, as tests.
-use Rattle.std.specs.Prelude.{Bool, not, ◌==◌, ◌&&◌, if◌then◌else◌}
+use Rattle.std.specs.Prelude.{Bool, ◌==◌, ◌&&◌}
 use Rattle.std.specs.Cmp.Lexicographic.{pointwise}
 use Rattle.vt_glyph.specs.declared.set.Set.{Set}
 use Rattle.vt_glyph.specs.Designation.{final_of}
-use Rattle.vt_screen.specs.declared.cell.Rendition.{Rendition}
-use Rattle.vt_screen.specs.declared.cell.Brush.{Brush}
 use Rattle.vt_screen.specs.declared.cell.Cell.{Cell}
 use Rattle.vt_screen.specs.Cells.{blank, brush_of}
+use Rattle.vt_screen.specs.Same.{same_bool, same_brush}
 use Rattle.vt_term.specs.declared.state.Saved.{Saved}
-
-abbrev pub same_bool : Bool → Bool → Bool
-same_bool a b = if a then b else not b
-
-abbrev pub same_rendition : Rendition → Rendition → Bool
-same_rendition a b =
-    same_bool a.bold b.bold
-    && (same_bool a.underline b.underline && (same_bool a.blink b.blink && same_bool a.reverse b.reverse))
-
--- the same attributes and protection
-abbrev pub same_brush : Brush → Brush → Bool
-same_brush a b = same_rendition a.rendition b.rendition && same_bool a.protected b.protected
 
 abbrev pub is_blank : Cell → Bool
 is_blank cell = cell.glyph == blank.glyph && same_brush (brush_of cell) (brush_of blank)

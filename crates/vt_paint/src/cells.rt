@@ -5,18 +5,19 @@ ghost use Rattle.vt_syntax.specs.Spelling.{spell_events};
 ghost use Rattle.vt_screen.specs.declared.cell.Brush.{Brush};
 ghost use Rattle.vt_screen.specs.Cells.{brush_of};
 ghost use Rattle.vt_screen.specs.Grid.{Grid, cell_at, row_of, last_row};
-ghost use Rattle.vt_paint.specs.Same.{is_blank as is_blank_cell, same_brush};
-ghost use Rattle.vt_paint.specs.Controls.{where_true, spelling_sets_events};
+ghost use Rattle.vt_screen.specs.Same.{same_brush, when};
+ghost use Rattle.vt_paint.specs.Same.{is_blank as is_blank_cell};
+ghost use Rattle.vt_paint.specs.Controls.{spelling_sets_events};
 ghost use Rattle.vt_paint.specs.Pieces.{row_pieces};
 ghost use Rattle.vt_paint.specs.Items.{cells_item};
 ghost use Rattle.vt_paint.specs.Private.Room.{head_room};
 ghost use Rattle.vt_paint.specs.Private.HeaderParts.{brush_number};
 
 use crate::line::{LINE, put_glyph, put_header};
-use crate::room::{push_bytes, push_where};
+use crate::room::{push_bytes, push_when};
 use crate::tables::{cell_brush_number, cell_word};
-use vt_screen::Cell;
 use vt_screen::laws::rows;
+use vt_screen::{COLUMNS, Cell};
 use vt_term::{ROWS, Terminal};
 
 /// The sets that the spellings of glyphs are for: G0 ASCII, G2 Supplemental, G3 Special Graphics, and G0 in GL.
@@ -56,9 +57,9 @@ fn goes_on(number: u64, cell: &Cell) -> bool
 /// The pieces of a row by runs: blank cells are passed over, and the cells of one brush are written behind one header.
 fn put_row(row: usize, cells: &[Cell], line: &mut [u8; LINE]) -> usize
     requires row { (1 ≤ row) × (row ≤ last_row) }
-    requires len { length cells.now ≤ 132 }
+    requires len { length cells.now ≤ COLUMNS }
     ensures items { (g : Grid) → cells.now ≡ row_of g row → take result line.new ≡ spell_events (row_pieces g row) }
-    ensures bounded { result ≤ 3828 }
+    ensures bounded { result ≤ LINE }
 {
     rows();
     let mut at = 0;
@@ -82,11 +83,11 @@ fn put_row(row: usize, cells: &[Cell], line: &mut [u8; LINE]) -> usize
 /// The pieces of a row, gathered in the line.
 fn push_row(row: usize, cells: &[Cell], line: &mut [u8; LINE], out: &mut Vec<u8>)
     requires row { (1 ≤ row) × (row ≤ last_row) }
-    requires len { length cells.now ≤ 132 }
-    requires room { vec_len out.old + 29 * 132 ≤ vec_capacity out.old }
+    requires len { length cells.now ≤ COLUMNS }
+    requires room { vec_len out.old + LINE ≤ vec_capacity out.old }
     ensures items { (g : Grid) → cells.now ≡ row_of g row
         → out.new.items ≡ out.old.items ++ spell_events (row_pieces g row) }
-    ensures bounded { vec_len out.new ≤ vec_len out.old + 29 * 132 }
+    ensures bounded { vec_len out.new ≤ vec_len out.old + LINE }
     ensures capacity { vec_capacity out.old ≤ vec_capacity out.new }
 {
     let end = put_row(row, cells, line);
@@ -108,14 +109,14 @@ fn push_shown_row(
     out: &mut Vec<u8>,
 ) -> bool
     requires row { (1 ≤ row) × (row ≤ last_row) }
-    requires len { length cells.now ≤ 132 }
-    requires room { vec_len out.old + 29 * 132 + head_room shown ≤ vec_capacity out.old }
+    requires len { length cells.now ≤ COLUMNS }
+    requires room { vec_len out.old + LINE + head_room shown ≤ vec_capacity out.old }
     ensures shown { result ≡ (shown || not (list_all is_blank_cell cells.now)) }
     ensures items { (g : Grid) → cells.now ≡ row_of g row
         → out.new.items
         ≡ out.old.items
-        ++ spell_events (where_true result (where_true (not shown) spelling_sets_events ++ row_pieces g row)) }
-    ensures bounded { vec_len out.new + head_room result ≤ vec_len out.old + 29 * 132 + head_room shown }
+        ++ spell_events (when result (when (not shown) spelling_sets_events ++ row_pieces g row)) }
+    ensures bounded { vec_len out.new + head_room result ≤ vec_len out.old + LINE + head_room shown }
     ensures capacity { vec_capacity out.old ≤ vec_capacity out.new }
 {
     if shown {
@@ -132,15 +133,15 @@ fn push_shown_row(
 
 /// The sets of the spellings and the pieces of the cells, where something is to be shown.
 pub(crate) fn push_cells(t: &Terminal, wrap: bool, out: &mut Vec<u8>)
-    requires { vec_len out.old + 29 * 24 * 132 + 11 ≤ vec_capacity out.old }
+    requires { vec_len out.old + 29 * ROWS * COLUMNS + 11 ≤ vec_capacity out.old }
     ensures items { out.new.items ≡ out.old.items ++ spell_events (cells_item t.now.display.grid wrap) }
-    ensures bounded { vec_len out.new ≤ vec_len out.old + 29 * 24 * 132 + 11 }
+    ensures bounded { vec_len out.new ≤ vec_len out.old + 29 * ROWS * COLUMNS + 11 }
     ensures capacity { vec_capacity out.old ≤ vec_capacity out.new }
 {
     rows();
     let mut shown = wrap;
     let mut line = [0; LINE];
-    push_where(wrap, SPELLING_SETS, out);
+    push_when(wrap, SPELLING_SETS, out);
     for row in 1..ROWS + 1 {
         shown = push_shown_row(row, t.row(row), shown, &mut line, out);
     }

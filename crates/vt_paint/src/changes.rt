@@ -2,29 +2,28 @@
 ghost use Rattle.std.specs.Prelude.{◌≡◌, ◌+◌, ◌-◌, ◌*◌, ◌≤◌, ◌<◌, ◌++◌, ◌∷◌, [], ℕ, List, Bool, length, slice_index_or};
 ghost use Rattle.std.specs.Prelude.{drop, vec_len, vec_capacity};
 ghost use Rattle.vt_syntax.specs.declared.held.Held.TheVariants.{Nothing};
-ghost use Rattle.vt_syntax.specs.Spelling.{spell_event, spell_events};
+ghost use Rattle.vt_syntax.specs.Spelling.{spell_events};
 ghost use Rattle.vt_screen.specs.Grid.{Grid, row_of, last_row};
 ghost use Rattle.vt_term.specs.State.{State};
 ghost use Rattle.vt_term.specs.Sound.{IsSound};
 ghost use Rattle.vt_term.specs.Play.{play};
 ghost use Rattle.vt_paint.specs.Changes.{differing, AreChanges, Changes};
 ghost use Rattle.vt_paint.specs.Spoken.{Speaks};
-ghost use Rattle.vt_paint.specs.Private.ChangeEvents.{keypad_event, report_form_event, has_all, short_brush_events, change_of};
-ghost use Rattle.vt_paint.specs.Private.ChangeEvents.{changed_row, changed_cells, record_item, every_mode, change_events};
+ghost use Rattle.vt_paint.specs.Private.ChangeEvents.{has_all, short_brush_events, change_of};
+ghost use Rattle.vt_paint.specs.Private.ChangeEvents.{changed_row, changed_cells, record_item, change_events};
 
 use crate::PAINT_LIMIT;
 use crate::cells::SPELLING_SETS;
-use crate::controls::{
-    push_ansi_mode, push_brush, push_cursor_to, push_glyph, push_private_mode, push_sets,
-};
-use crate::items::{DECOM, push_margins, push_private_mode_where, push_shift};
-use crate::paint::{push_cursor, push_wrap};
+use crate::controls::{push_brush, push_cursor_to, push_glyph, push_sets};
+use crate::items::{DECOM, push_private_mode_item};
+use crate::line::LINE;
+use crate::paint::{push_last, push_wrap};
 use crate::room::push_bytes;
 use vt_glyph::laws::{glyphs, spelling};
 use vt_screen::laws::{places, rows, tests};
-use vt_screen::{Brush, Cell, Rendition};
+use vt_screen::{Brush, COLUMNS, Cell, Rendition};
 use vt_syntax::laws::spelled;
-use vt_term::{Cursor, Modes, ROWS, STOPS, Saved, Terminal};
+use vt_term::{Cursor, ROWS, STOPS, Saved, Terminal};
 
 /// DECSTR, and DECAWM set.
 const START: &[u8] = b"\x1B[0!p\x1B[?7h";
@@ -58,8 +57,8 @@ fn push_short_brush(brush: Brush, out: &mut Vec<u8>)
 /// A cell where it is marked: its place, its brush and its glyph.
 #[tactic(auto, unfolding(crate::specs::Private::ChangeEvents::change_of))]
 fn push_change(row: usize, col: usize, marked: bool, cell: &Cell, out: &mut Vec<u8>)
-    requires row { row ≤ 24 }
-    requires col { col ≤ 132 }
+    requires row { row ≤ ROWS }
+    requires col { col ≤ COLUMNS }
     requires room { vec_len out.old + 29 ≤ vec_capacity out.old }
     ensures items { out.new.items ≡ out.old.items ++ spell_events (change_of row col marked cell.now) }
     ensures bounded { vec_len out.new ≤ vec_len out.old + 29 }
@@ -75,12 +74,12 @@ fn push_change(row: usize, col: usize, marked: bool, cell: &Cell, out: &mut Vec<
 /// The marked cells of a row.
 fn push_changed_row(row: usize, cells: &[Cell], marks: &[bool; STOPS], out: &mut Vec<u8>)
     requires row { (1 ≤ row) × (row ≤ last_row) }
-    requires len { length cells.now ≤ 132 }
-    requires room { vec_len out.old + 29 * 132 ≤ vec_capacity out.old }
+    requires len { length cells.now ≤ COLUMNS }
+    requires room { vec_len out.old + LINE ≤ vec_capacity out.old }
     ensures items { (g : Grid) (all : List (List Bool)) → cells.now ≡ row_of g row
         → marks.now ≡ slice_index_or all (row - 1) []
         → out.new.items ≡ out.old.items ++ spell_events (changed_row all g row) }
-    ensures bounded { vec_len out.new ≤ vec_len out.old + 29 * 132 }
+    ensures bounded { vec_len out.new ≤ vec_len out.old + LINE }
     ensures capacity { vec_capacity out.old ≤ vec_capacity out.new }
 {
     rows();
@@ -91,9 +90,9 @@ fn push_changed_row(row: usize, cells: &[Cell], marks: &[bool; STOPS], out: &mut
 
 /// The marked cells.
 fn push_changed_cells(marks: &[[bool; STOPS]; ROWS], t: &Terminal, out: &mut Vec<u8>)
-    requires { vec_len out.old + 29 * 24 * 132 ≤ vec_capacity out.old }
+    requires { vec_len out.old + 29 * ROWS * COLUMNS ≤ vec_capacity out.old }
     ensures items { out.new.items ≡ out.old.items ++ spell_events (changed_cells marks.now t.now.display.grid) }
-    ensures bounded { vec_len out.new ≤ vec_len out.old + 29 * 24 * 132 }
+    ensures bounded { vec_len out.new ≤ vec_len out.old + 29 * ROWS * COLUMNS }
     ensures capacity { vec_capacity out.old ≤ vec_capacity out.new }
 {
     for row in 1..ROWS + 1 {
@@ -108,13 +107,13 @@ fn push_changed_cells(marks: &[[bool; STOPS]; ROWS], t: &Terminal, out: &mut Vec
 fn push_record(t: &Terminal, saved: &Saved, out: &mut Vec<u8>)
     requires row { (1 ≤ saved.now.row) × (saved.now.row ≤ last_row) }
     requires col { (1 ≤ saved.now.col) × (saved.now.col ≤ t.now.display.grid.width) }
-    requires narrow { t.now.display.grid.width ≤ 132 }
+    requires narrow { t.now.display.grid.width ≤ COLUMNS }
     requires room { vec_len out.old + 70 ≤ vec_capacity out.old }
     ensures items { out.new.items ≡ out.old.items ++ spell_events (record_item t.now.display.grid saved.now) }
     ensures bounded { vec_len out.new ≤ vec_len out.old + 70 }
     ensures capacity { vec_capacity out.old ≤ vec_capacity out.new }
 {
-    push_private_mode_where(saved.origin, DECOM, true, out);
+    push_private_mode_item(DECOM, true, false, saved.origin, out);
     push_cursor_to(saved.row, saved.col, out);
     let cursor = Cursor {
         row: saved.row,
@@ -125,48 +124,6 @@ fn push_record(t: &Terminal, saved: &Saved, out: &mut Vec<u8>)
     push_brush(saved.brush, out);
     push_sets(&saved.g, saved.gl, saved.gr, out);
     push_bytes(b"\x1B7", out);
-}
-
-/// DECKPAM or DECKPNM.
-fn push_keypad(application: bool, out: &mut Vec<u8>)
-    requires { vec_len out.old + 2 ≤ vec_capacity out.old }
-    ensures items { out.new.items ≡ out.old.items ++ spell_event (keypad_event application) }
-    ensures bounded { vec_len out.new ≤ vec_len out.old + 2 }
-    ensures capacity { vec_capacity out.old ≤ vec_capacity out.new }
-{
-    push_bytes(if application { b"\x1B=" } else { b"\x1B>" }, out);
-}
-
-/// S8C1T or S7C1T.
-fn push_report_form(eight: bool, out: &mut Vec<u8>)
-    requires { vec_len out.old + 3 ≤ vec_capacity out.old }
-    ensures items { out.new.items ≡ out.old.items ++ spell_event (report_form_event eight) }
-    ensures bounded { vec_len out.new ≤ vec_len out.old + 3 }
-    ensures capacity { vec_capacity out.old ≤ vec_capacity out.new }
-{
-    push_bytes(if eight { b"\x1B G" } else { b"\x1B F" }, out);
-}
-
-/// Every mode but DECOM.
-#[tactic(auto, unfolding(crate::specs::Private::ChangeEvents::every_mode))]
-fn push_every_mode(m: Modes, out: &mut Vec<u8>)
-    requires { vec_len out.old + 61 ≤ vec_capacity out.old }
-    ensures items { out.new.items ≡ out.old.items ++ spell_events (every_mode m) }
-    ensures bounded { vec_len out.new ≤ vec_len out.old + 61 }
-    ensures capacity { vec_capacity out.old ≤ vec_capacity out.new }
-{
-    push_ansi_mode(2, m.kam, out);
-    push_ansi_mode(4, m.irm, out);
-    push_ansi_mode(12, m.srm, out);
-    push_ansi_mode(20, m.lnm, out);
-    push_private_mode(1, m.decckm, out);
-    push_private_mode(4, m.decsclm, out);
-    push_private_mode(5, m.decscnm, out);
-    push_private_mode(7, m.decawm, out);
-    push_private_mode(8, m.decarm, out);
-    push_private_mode(25, m.dectcem, out);
-    push_keypad(m.keypad_application, out);
-    push_report_form(m.reports_8bit, out);
 }
 
 // ---- the whole
@@ -200,20 +157,13 @@ fn push_changes(marks: &[[bool; STOPS]; ROWS], t: &Terminal, out: &mut Vec<u8>)
     ensures bounded { vec_len out.new ≤ vec_len out.old + PAINT_LIMIT }
     ensures capacity { vec_capacity out.old ≤ vec_capacity out.new }
 {
-    let sets = t.sets();
     let _ = t.width();
     push_bytes(START, out);
     push_bytes(SPELLING_SETS, out);
     push_changed_cells(marks, t, out);
     push_record(t, &t.saved(), out);
     push_bytes(SPELLING_SETS, out);
-    push_margins(t.margins(), out);
-    push_private_mode(DECOM, t.modes().decom, out);
-    push_cursor(t, out);
-    push_brush(t.brush(), out);
-    push_sets(&sets.designations(), sets.left(), sets.right(), out);
-    push_every_mode(t.modes(), out);
-    push_shift(sets.pending(), out);
+    push_last(t, false, out);
 }
 
 /// Appends bytes to `out` that lead a terminal to `t`, where the two have the same width and the same tab stops, and

@@ -6,7 +6,7 @@ ghost use Rattle.vt_paint.specs.Changes.{same_cell, differing_from, differing, A
 
 use crate::tables::cell_word;
 use vt_screen::laws::rows;
-use vt_screen::{Cell, same_cells};
+use vt_screen::{COLUMNS, Cell, same_cells};
 use vt_term::{ROWS, STOPS, Terminal};
 
 /// Whether two cells differ, compared as words.
@@ -20,10 +20,10 @@ fn differ(a: &Cell, b: &Cell) -> bool
 /// At how many places two rows of the same length have different cells.
 fn differing_in_row(a: &[Cell], b: &[Cell]) -> usize
     requires len { length a.now ≡ length b.now }
-    requires short { length b.now ≤ 132 }
+    requires short { length b.now ≤ COLUMNS }
     ensures count { (g h : Grid) (r : ℕ) → a.now ≡ row_of g r → b.now ≡ row_of h r
         → result ≡ differing_from g h r 1 (length b.now) }
-    ensures bounded { result ≤ 132 }
+    ensures bounded { result ≤ COLUMNS }
 {
     rows();
     let mut count = 0;
@@ -37,7 +37,7 @@ fn differing_in_row(a: &[Cell], b: &[Cell]) -> usize
 pub fn differing_cells(a: &Terminal, b: &Terminal) -> usize
     requires { a.now.display.grid.width ≡ b.now.display.grid.width }
     ensures count { result ≡ differing a.now.display.grid b.now.display.grid }
-    ensures bounded { result ≤ 24 * 132 }
+    ensures bounded { result ≤ ROWS * COLUMNS }
 {
     let mut count = 0;
     for row in 1..ROWS + 1 {
@@ -50,7 +50,7 @@ pub fn differing_cells(a: &Terminal, b: &Terminal) -> usize
 /// once.)
 fn changed_in_row(a: &[Cell], b: &[Cell]) -> [bool; STOPS]
     requires len { length a.now ≡ length b.now }
-    requires short { length b.now ≤ 132 }
+    requires short { length b.now ≤ COLUMNS }
     ensures { (i : ℕ) → i < length b.now
         → slice_index_or result i false ≡ not (same_cell (slice_index_or a.now i blank) (slice_index_or b.now i blank)) }
 {

@@ -7,15 +7,15 @@ ghost use Rattle.vt_glyph.specs.Spell.{spelling_of};
 ghost use Rattle.vt_paint.specs.Controls.{cursor_position, margins_to, ansi_mode, private_mode, brush_events};
 ghost use Rattle.vt_paint.specs.Controls.{left_event, right_event, sets_events, spelling_events};
 
-use crate::room::{push_bytes, push_number, push_where};
+use crate::room::{push_bytes, push_number, push_when};
 use crate::tables::brush_part;
 use vt_glyph::{Glyph, Set, Spelling};
-use vt_screen::Brush;
+use vt_screen::{Brush, COLUMNS, ROWS};
 
 /// CUP.
 pub(crate) fn push_cursor_to(line: usize, col: usize, out: &mut Vec<u8>)
-    requires line { line ≤ 24 }
-    requires col { col ≤ 132 }
+    requires line { line ≤ ROWS }
+    requires col { col ≤ COLUMNS }
     requires room { vec_len out.old + 9 ≤ vec_capacity out.old }
     ensures items { out.new.items ≡ out.old.items ++ spell_event (cursor_position line col) }
     ensures bounded { vec_len out.new ≤ vec_len out.old + 9 }
@@ -30,8 +30,8 @@ pub(crate) fn push_cursor_to(line: usize, col: usize, out: &mut Vec<u8>)
 
 /// DECSTBM.
 pub(crate) fn push_margins_to(top: usize, bottom: usize, out: &mut Vec<u8>)
-    requires top { top ≤ 24 }
-    requires bottom { bottom ≤ 24 }
+    requires top { top ≤ ROWS }
+    requires bottom { bottom ≤ ROWS }
     requires room { vec_len out.old + 8 ≤ vec_capacity out.old }
     ensures items { out.new.items ≡ out.old.items ++ spell_event (margins_to top bottom) }
     ensures bounded { vec_len out.new ≤ vec_len out.old + 8 }

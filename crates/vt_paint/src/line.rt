@@ -1,4 +1,4 @@
-//! The bytes of a row, written one behind another into a line that is appended at once. Each call takes the place where
+//! Speed: the bytes of a row, written one behind another into a line that is appended at once. Each call takes the place where
 //! it writes, and answers the place behind what it wrote.
 ghost use Rattle.std.specs.Prelude.{◌≡◌, ◌+◌, ◌≤◌, ◌<◌, ◌++◌, ◌∷◌, [], take, length};
 ghost use Rattle.vt_syntax.specs.Spelling.{spell_event, spell_events};
@@ -7,14 +7,14 @@ ghost use Rattle.vt_paint.specs.Controls.{cursor_position, brush_events, spellin
 
 use crate::tables::{brush_part, column_part, row_part};
 use vt_glyph::Glyph;
-use vt_screen::Brush;
+use vt_screen::{Brush, COLUMNS, ROWS};
 
 /// The most bytes of a row: 29 for each of 132 cells.
-pub(crate) const LINE: usize = 29 * 132;
+pub(crate) const LINE: usize = 29 * COLUMNS;
 
 #[inline(always)]
 fn put(byte: u8, at: usize, line: &mut [u8; LINE]) -> usize
-    requires { at < 3828 }
+    requires { at < LINE }
     ensures items { take result line.new ≡ take at line.old ++ byte ∷ [] }
     ensures next { result ≡ at + 1 }
 {
@@ -26,7 +26,7 @@ fn put(byte: u8, at: usize, line: &mut [u8; LINE]) -> usize
 #[inline(always)]
 fn put_front(part: &[u8], len: usize, at: usize, line: &mut [u8; LINE]) -> usize
     requires len { len ≤ length part.now }
-    requires room { at + length part.now ≤ 3828 }
+    requires room { at + length part.now ≤ LINE }
     ensures items { take result line.new ≡ take at line.old ++ take len part.now }
     ensures next { result ≡ at + len }
 {
@@ -39,9 +39,9 @@ fn put_front(part: &[u8], len: usize, at: usize, line: &mut [u8; LINE]) -> usize
 /// CUP.
 #[inline(always)]
 fn put_cursor_to(row: usize, col: usize, at: usize, line: &mut [u8; LINE]) -> usize
-    requires row { (1 ≤ row) × (row ≤ 24) }
-    requires col { (1 ≤ col) × (col ≤ 132) }
-    requires room { at + 9 ≤ 3828 }
+    requires row { (1 ≤ row) × (row ≤ ROWS) }
+    requires col { (1 ≤ col) × (col ≤ COLUMNS) }
+    requires room { at + 9 ≤ LINE }
     ensures items { take result line.new ≡ take at line.old ++ spell_event (cursor_position row col) }
     ensures bounded { result ≤ at + 9 }
 {
@@ -54,7 +54,7 @@ fn put_cursor_to(row: usize, col: usize, at: usize, line: &mut [u8; LINE]) -> us
 /// SGR and DECSCA.
 #[inline(always)]
 fn put_brush(brush: Brush, at: usize, line: &mut [u8; LINE]) -> usize
-    requires { at + 19 ≤ 3828 }
+    requires { at + 19 ≤ LINE }
     ensures items { take result line.new ≡ take at line.old ++ spell_events (brush_events brush) }
     ensures bounded { result ≤ at + 17 }
 {
@@ -74,9 +74,9 @@ pub(crate) fn put_header(
     at: usize,
     line: &mut [u8; LINE],
 ) -> usize
-    requires row { (1 ≤ row) × (row ≤ 24) }
-    requires col { (1 ≤ col) × (col ≤ 132) }
-    requires room { at + 29 ≤ 3828 }
+    requires row { (1 ≤ row) × (row ≤ ROWS) }
+    requires col { (1 ≤ col) × (col ≤ COLUMNS) }
+    requires room { at + 29 ≤ LINE }
     ensures items { take result line.new ≡ take at line.old ++ spell_events (cursor_position row col ∷ brush_events brush) }
     ensures bounded { result ≤ at + 26 }
 {
@@ -87,7 +87,7 @@ pub(crate) fn put_header(
 /// A code behind a single shift.
 #[inline(always)]
 fn put_shifted(shift: u8, code: u8, at: usize, line: &mut [u8; LINE]) -> usize
-    requires { at + 3 ≤ 3828 }
+    requires { at + 3 ≤ LINE }
     ensures items { take result line.new ≡ take at line.old ++ 0x1B ∷ shift ∷ code ∷ [] }
     ensures next { result ≡ at + 3 }
 {
@@ -99,7 +99,7 @@ fn put_shifted(shift: u8, code: u8, at: usize, line: &mut [u8; LINE]) -> usize
 /// A glyph, where the sets are those of its spelling.
 #[inline(always)]
 pub(crate) fn put_glyph(glyph: Glyph, at: usize, line: &mut [u8; LINE]) -> usize
-    requires { at + 3 ≤ 3828 }
+    requires { at + 3 ≤ LINE }
     ensures items { take result line.new ≡ take at line.old ++ spell_events (spelling_events (spelling_of glyph)) }
     ensures bounded { result ≤ at + 3 }
 {

@@ -3,22 +3,23 @@ ghost use Rattle.std.specs.Prelude.{◌≡◌, ◌↔◌, ◌+◌, ◌≤◌, �
 ghost use Rattle.vt_syntax.specs.declared.held.Held.TheVariants.{Nothing};
 ghost use Rattle.vt_syntax.specs.Spelling.{spell_events};
 ghost use Rattle.vt_screen.specs.Grid.{last_row};
-ghost use Rattle.vt_paint.specs.Items.{position_item, wrap_item};
+ghost use Rattle.vt_paint.specs.Items.{position_item, wrap_item, last_items};
 ghost use Rattle.vt_paint.specs.Repaint.{paint, IsRebuilt};
 
 use crate::cells::{push_cells, row_cell};
 use crate::controls::{push_brush, push_cursor_to, push_sets};
 use crate::items::{
-    DECOM, push_cell, push_margins, push_modes, push_private_mode_where, push_saved, push_shift,
+    DECOM, push_cell, push_margins, push_modes, push_private_mode_item, push_saved, push_shift,
     push_stops,
 };
 use crate::laws::rebuilds;
 use crate::room::push_bytes;
 use thiserror::Error;
+use vt_screen::{COLUMNS, ROWS};
 use vt_term::{Cursor, Terminal};
 
 /// The most bytes of a repaint: 29 for each of 24 rows of 132 cells, 10 for each tab stop, and 320 for the rest.
-pub const PAINT_LIMIT: usize = 29 * 24 * 132 + 10 * 132 + 320;
+pub const PAINT_LIMIT: usize = 29 * ROWS * COLUMNS + 10 * COLUMNS + 320;
 
 const _: () = prove!(PAINT_LIMIT == 93512);
 
@@ -67,6 +68,27 @@ pub(crate) fn push_cursor(t: &Terminal, out: &mut Vec<u8>)
     push_wrap(t, cursor, out);
 }
 
+/// What both a repaint and changes end in: all but the cells, the width, the stops and the saved record. When the modes
+/// are known to be as at power-up, those that are to stay so are left out.
+#[tactic(auto, unfolding(crate::specs::Items::last_items))]
+pub(crate) fn push_last(t: &Terminal, known: bool, out: &mut Vec<u8>)
+    requires { vec_len out.old + 139 ≤ vec_capacity out.old }
+    ensures items { out.new.items ≡ out.old.items ++ spell_events (last_items known t.now.display) }
+    ensures bounded { vec_len out.new ≤ vec_len out.old + 139 }
+    ensures capacity { vec_capacity out.old ≤ vec_capacity out.new }
+{
+    // The width comes with the soundness of the state, and so with the bounds of the margins.
+    let _ = t.width();
+    let sets = t.sets();
+    push_margins(t.margins(), out);
+    push_private_mode_item(DECOM, known, false, t.modes().decom, out);
+    push_cursor(t, out);
+    push_brush(t.brush(), out);
+    push_sets(&sets.designations(), sets.left(), sets.right(), out);
+    push_modes(known, t.modes(), out);
+    push_shift(sets.pending(), out);
+}
+
 /// Appends the repaint to `out`: the bytes that rebuild the terminal's state on any terminal.
 ///
 /// `PAINT_LIMIT` bytes of room are reserved first. On an error the contents of `out` are unchanged.
@@ -102,16 +124,9 @@ pub fn repaint_reserved(t: &Terminal, out: &mut Vec<u8>)
     ensures capacity { vec_capacity out.old ≤ vec_capacity out.new }
 {
     rebuilds();
-    let sets = t.sets();
     push_bytes(b"\x1Bc", out);
     push_stops(t.width(), t.stops(), out);
     push_saved(&t.saved(), out);
     push_cells(t, t.cursor().wrap, out);
-    push_margins(t.margins(), out);
-    push_private_mode_where(t.modes().decom, DECOM, true, out);
-    push_cursor(t, out);
-    push_brush(t.brush(), out);
-    push_sets(&sets.designations(), sets.left(), sets.right(), out);
-    push_modes(t.modes(), out);
-    push_shift(sets.pending(), out);
+    push_last(t, true, out);
 }

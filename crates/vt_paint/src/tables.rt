@@ -1,11 +1,11 @@
-//! The parts of a header, spelled: the place of a row, a column, and a brush. Each entry of a table is filled up with
+//! Speed: the parts of a header, spelled: the place of a row, a column, and a brush. Each entry of a table is filled up with
 //! spaces, so that it is copied whole.
 ghost use Rattle.std.specs.Prelude.{◌≡◌, ◌≤◌, ◌<◌, take, length};
 ghost use Rattle.vt_glyph.specs.Encoding.{encoded_glyph, encoding_of};
 ghost use Rattle.vt_screen.specs.Cells.{brush_of};
 ghost use Rattle.vt_paint.specs.Private.HeaderParts.{row_part, column_part, brush_part, brush_number, brush_index, cell_word};
 
-use vt_screen::{Brush, Cell, Rendition};
+use vt_screen::{Brush, COLUMNS, Cell, ROWS, Rendition};
 
 /// The bytes of an entry of each table.
 const ROW_LEN: usize = 8;
@@ -15,13 +15,13 @@ const COLUMN_LEN: usize = 4;
 const BRUSH_LEN: usize = 16;
 
 /// CUP up to the column, for each row.
-const ROWS: [u8; 192] =
+const ROW_PARTS: [u8; 192] =
     *b"\x1B[1;    \x1B[2;    \x1B[3;    \x1B[4;    \x1B[5;    \x1B[6;    \x1B[7;    \x1B[8;    \
     \x1B[9;    \x1B[10;   \x1B[11;   \x1B[12;   \x1B[13;   \x1B[14;   \x1B[15;   \x1B[16;   \
     \x1B[17;   \x1B[18;   \x1B[19;   \x1B[20;   \x1B[21;   \x1B[22;   \x1B[23;   \x1B[24;   ";
 
 /// The column of CUP and its final byte, for each column.
-const COLUMNS: [u8; 528] =
+const COLUMN_PARTS: [u8; 528] =
     *b"1H  2H  3H  4H  5H  6H  7H  8H  9H  10H 11H 12H 13H 14H 15H 16H 17H 18H 19H 20H 21H 22H 23H 24H \
     25H 26H 27H 28H 29H 30H 31H 32H 33H 34H 35H 36H 37H 38H 39H 40H 41H 42H 43H 44H 45H 46H 47H 48H \
     49H 50H 51H 52H 53H 54H 55H 56H 57H 58H 59H 60H 61H 62H 63H 64H 65H 66H 67H 68H 69H 70H 71H 72H \
@@ -49,26 +49,26 @@ const BRUSH_LENGTHS: [u8; 32] = [
 /// CUP up to the column, and its length.
 #[inline(always)]
 pub(crate) fn row_part(row: usize) -> (&'static [u8], usize)
-    requires { (1 ≤ row) × (row ≤ 24) }
+    requires { (1 ≤ row) × (row ≤ ROWS) }
     ensures value { take result.1 result.0.now ≡ row_part row }
     ensures filled { length result.0.now ≡ 8 }
     ensures short { result.1 ≤ 5 }
 {
     let from = ROW_LEN * (row - 1);
-    (&ROWS[from..from + ROW_LEN], 4 + (row >= 10) as usize)
+    (&ROW_PARTS[from..from + ROW_LEN], 4 + (row >= 10) as usize)
 }
 
 /// The column of CUP and its final byte, and their length.
 #[inline(always)]
 pub(crate) fn column_part(col: usize) -> (&'static [u8], usize)
-    requires { (1 ≤ col) × (col ≤ 132) }
+    requires { (1 ≤ col) × (col ≤ COLUMNS) }
     ensures value { take result.1 result.0.now ≡ column_part col }
     ensures filled { length result.0.now ≡ 4 }
     ensures short { result.1 ≤ 4 }
 {
     let from = COLUMN_LEN * (col - 1);
     let len = 2 + (col >= 10) as usize + (col >= 100) as usize;
-    (&COLUMNS[from..from + COLUMN_LEN], len)
+    (&COLUMN_PARTS[from..from + COLUMN_LEN], len)
 }
 
 /// The attributes and the protection as a number, in a byte each. The compiler reads them at once, where they are those

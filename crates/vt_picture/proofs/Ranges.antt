@@ -25,7 +25,7 @@ rows-more f n m e =
     ∙ ap (λ (t : List ℕ). flat_map f (range_with_len 1 n) ++ t) (append-nil (f m))
 
 -- what is written of the first rows of a grid, each by its number and its cells
-abbrev pub of_rows : (ℕ → List Cell → List ℕ) → ℕ → Grid → List ℕ
+abbrev of_rows : (ℕ → List Cell → List ℕ) → ℕ → Grid → List ℕ
 of_rows f count g = flat_map (λ r. f r (row_of g r)) (range_with_len 1 count)
 
 -- behind those before a row, what is written of that row

@@ -1,22 +1,10 @@
 -- How cells look. (this profile)
-use Rattle.std.specs.Prelude.{ℕ, List, [], ◌∷◌, Bool, not, ◌==◌, ◌&&◌, if◌then◌else◌}
+use Rattle.std.specs.Prelude.{List, [], ◌∷◌, Bool, ◌==◌, ◌&&◌, if◌then◌else◌}
 use Rattle.vt_glyph.specs.Tables.{space}
 use Rattle.vt_screen.specs.declared.cell.Rendition.{Rendition}
 use Rattle.vt_screen.specs.declared.cell.Cell.{Cell}
 use Rattle.vt_screen.specs.Cells.{plain}
-
--- bytes only where a test passes
-abbrev pub where_true : Bool → List ℕ → List ℕ
-where_true test bytes = if test then bytes else []
-
-abbrev pub same_bool : Bool → Bool → Bool
-same_bool a b = if a then b else not b
-
--- the same attributes
-abbrev pub same_rendition : Rendition → Rendition → Bool
-same_rendition a b =
-    same_bool a.bold b.bold
-    && (same_bool a.underline b.underline && (same_bool a.blink b.blink && same_bool a.reverse b.reverse))
+use Rattle.vt_screen.specs.Same.{same_rendition}
 
 -- a space without attributes, protected or not
 abbrev pub is_blank : Cell → Bool

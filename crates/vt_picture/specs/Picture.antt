@@ -8,7 +8,8 @@ use Rattle.vt_screen.specs.declared.cell.Cell.{Cell}
 use Rattle.vt_screen.specs.Cells.{blank}
 use Rattle.vt_screen.specs.Grid.{Grid, row_of, last_row}
 use Rattle.vt_term.specs.State.{Display, State}
-use Rattle.vt_picture.specs.Looks.{where_true, same_rendition, is_blank, trimmed}
+use Rattle.vt_screen.specs.Same.{when, same_rendition}
+use Rattle.vt_picture.specs.Looks.{is_blank, trimmed}
 
 abbrev pub line_feed : List ℕ
 line_feed = 0x0A ∷ []
@@ -65,13 +66,13 @@ is_followed look (cell ∷ cells) = goes_on look cell
 abbrev pub classes : Rendition → List ℕ
 classes look =
     (if look.reverse then codes "p" else codes "i")
-    ++ where_true look.bold (codes " b") ++ where_true look.underline (codes " u") ++ where_true look.blink (codes " k")
+    ++ when look.bold (codes " b") ++ when look.underline (codes " u") ++ when look.blink (codes " k")
 
 -- what stands before the characters of a run of so many cells: where it is reversed, the ink under them; and their
 -- element
 unfoldable pub run_start : Rendition → ℕ → ℕ → ℕ → List ℕ
 run_start look row col count =
-    where_true look.reverse (rectangle (codes "i") row col count)
+    when look.reverse (rectangle (codes "i") row col count)
     ++ codes "<text class='" ++ classes look
     ++ codes "' x='" ++ decimal (left_of col)
     ++ codes "' y='" ++ decimal (baseline_of row)
@@ -85,14 +86,14 @@ run_end = codes "</text>" ++ line_feed
 -- where the cell to its right doesn't
 unfoldable pub shown_cell : ℕ → ℕ → Cell → Cell → List Cell → List ℕ
 shown_cell row col left cell rest =
-    where_true (not (goes_on cell.rendition left))
+    when (not (goes_on cell.rendition left))
     (run_start cell.rendition row col (run_length cell.rendition rest + 1))
     ++ escaped cell.glyph
-    ++ where_true (not (is_followed cell.rendition rest)) run_end
+    ++ when (not (is_followed cell.rendition rest)) run_end
 
 -- a blank cell is left out
 abbrev pub cell_picture : ℕ → ℕ → Cell → Cell → List Cell → List ℕ
-cell_picture row col left cell rest = where_true (not (is_blank cell)) (shown_cell row col left cell rest)
+cell_picture row col left cell rest = when (not (is_blank cell)) (shown_cell row col left cell rest)
 
 -- the cells of a row from a column on, behind a cell to their left
 abbrev pub cells_picture : ℕ → ℕ → Cell → List Cell → List ℕ
@@ -148,7 +149,7 @@ paper = codes "<rect class='p' width='100%' height='100%'/>" ++ line_feed
 
 -- the cursor's outline, where DECTCEM is set
 abbrev pub cursor_picture : Display → List ℕ
-cursor_picture s = where_true s.modes.dectcem (rectangle (codes "c") s.cursor.row s.cursor.col 1)
+cursor_picture s = when s.modes.dectcem (rectangle (codes "c") s.cursor.row s.cursor.col 1)
 
 unfoldable pub picture_of : Display → List ℕ
 picture_of s =

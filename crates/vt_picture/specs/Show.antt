@@ -6,17 +6,18 @@ use Rattle.vt_screen.specs.declared.cell.Cell.{Cell}
 use Rattle.vt_screen.specs.Cells.{plain}
 use Rattle.vt_screen.specs.Grid.{Grid, row_of, last_row}
 use Rattle.vt_term.specs.State.{State}
-use Rattle.vt_picture.specs.Looks.{where_true, same_rendition, trimmed}
+use Rattle.vt_screen.specs.Same.{when, same_rendition}
+use Rattle.vt_picture.specs.Looks.{trimmed}
 
 -- SGR: 0, and then the attributes that are set
 abbrev pub rendition_sequence : Rendition → List ℕ
 rendition_sequence r =
-    (0x1B ∷ codes "[0") ++ where_true r.bold (codes ";1") ++ where_true r.underline (codes ";4")
-    ++ where_true r.blink (codes ";5") ++ where_true r.reverse (codes ";7") ++ codes "m"
+    (0x1B ∷ codes "[0") ++ when r.bold (codes ";1") ++ when r.underline (codes ";4")
+    ++ when r.blink (codes ";5") ++ when r.reverse (codes ";7") ++ codes "m"
 
 -- SGR where the attributes aren't those before
 abbrev pub change : Rendition → Rendition → List ℕ
-change before after = where_true (not (same_rendition before after)) (rendition_sequence after)
+change before after = when (not (same_rendition before after)) (rendition_sequence after)
 
 -- cells behind some attributes, each by its attributes where they change and its character; plain again at the end
 abbrev pub shown_behind : Rendition → List Cell → List ℕ

@@ -1,6 +1,6 @@
 //! Bytes, numbers and characters into an output that has the room.
 ghost use Rattle.std.specs.Prelude.{◌≡◌, ◌+◌, ◌≤◌, ◌++◌, length, decimal, vec_len, vec_capacity, encode_utf8};
-ghost use Rattle.vt_picture.specs.Looks.{where_true};
+ghost use Rattle.vt_screen.specs.Same.{when};
 ghost use Rattle.vt_picture.specs.Picture.{escaped as escaped_glyph};
 
 use itoa::Buffer;
@@ -17,9 +17,9 @@ pub(crate) fn push_bytes(bytes: &[u8], out: &mut Vec<u8>)
 }
 
 /// Appends bytes where a test passes. The room is there.
-pub(crate) fn push_where(test: bool, bytes: &[u8], out: &mut Vec<u8>)
+pub(crate) fn push_when(test: bool, bytes: &[u8], out: &mut Vec<u8>)
     requires { vec_len out.old + length bytes.now ≤ vec_capacity out.old }
-    ensures items { out.new.items ≡ out.old.items ++ where_true test bytes.now }
+    ensures items { out.new.items ≡ out.old.items ++ when test bytes.now }
     ensures bounded { vec_len out.new ≤ vec_len out.old + length bytes.now }
     ensures capacity { vec_capacity out.old ≤ vec_capacity out.new }
 {

@@ -19,7 +19,7 @@ const _: () = prove!(PICTURE_LIMIT == 659968);
 /// The document's start, up to the text alternative.
 #[tactic(auto, unfolding(crate::specs::Picture::document_start))]
 fn push_start(columns: usize, out: &mut Vec<u8>)
-    requires columns { columns ≤ 132 }
+    requires columns { columns ≤ STOPS }
     requires room { vec_len out.old + 230 ≤ vec_capacity out.old }
     ensures items { out.new.items ≡ out.old.items ++ document_start columns }
     ensures bounded { vec_len out.new ≤ vec_len out.old + 230 }
@@ -55,9 +55,9 @@ fn push_alternative_line(cells: &[Cell], out: &mut Vec<u8>)
 
 /// The text alternative.
 fn push_alternative(t: &Terminal, out: &mut Vec<u8>)
-    requires { vec_len out.old + 24 * (5 * 132 + 1) ≤ vec_capacity out.old }
-    ensures items { out.new.items ≡ out.old.items ++ alternative 24 t.now.display.grid }
-    ensures bounded { vec_len out.new ≤ vec_len out.old + 24 * (5 * 132 + 1) }
+    requires { vec_len out.old + ROWS * (5 * STOPS + 1) ≤ vec_capacity out.old }
+    ensures items { out.new.items ≡ out.old.items ++ alternative ROWS t.now.display.grid }
+    ensures bounded { vec_len out.new ≤ vec_len out.old + ROWS * (5 * STOPS + 1) }
     ensures capacity { vec_capacity out.old ≤ vec_capacity out.new }
 {
     for row in 1..ROWS + 1 {
@@ -115,9 +115,9 @@ fn push_paper(out: &mut Vec<u8>)
 
 /// The rows.
 fn push_rows(t: &Terminal, out: &mut Vec<u8>)
-    requires { vec_len out.old + 24 * (203 * 132) ≤ vec_capacity out.old }
-    ensures items { out.new.items ≡ out.old.items ++ rows_picture 24 t.now.display.grid }
-    ensures bounded { vec_len out.new ≤ vec_len out.old + 24 * (203 * 132) }
+    requires { vec_len out.old + ROWS * (203 * STOPS) ≤ vec_capacity out.old }
+    ensures items { out.new.items ≡ out.old.items ++ rows_picture ROWS t.now.display.grid }
+    ensures bounded { vec_len out.new ≤ vec_len out.old + ROWS * (203 * STOPS) }
     ensures capacity { vec_capacity out.old ≤ vec_capacity out.new }
 {
     for row in 1..ROWS + 1 {

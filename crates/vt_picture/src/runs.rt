@@ -1,18 +1,18 @@
 //! The cells of a picture by runs: cells beside each other that aren't blank and have the same attributes.
 ghost use Rattle.std.specs.Prelude.{◌≡◌, ◌+◌, ◌*◌, ◌≤◌, ◌<◌, ◌++◌, codes, length, vec_len, vec_capacity};
 ghost use Rattle.vt_screen.specs.Grid.{last_row};
-ghost use Rattle.vt_picture.specs.Looks.{where_true};
+ghost use Rattle.vt_screen.specs.Same.{when};
 ghost use Rattle.vt_picture.specs.Picture.{left_of, width_of, top_of, baseline_of, rectangle, goes_on as goes_on_with};
 ghost use Rattle.vt_picture.specs.Picture.{run_length as run_length_of, is_followed as is_followed_by, classes};
 ghost use Rattle.vt_picture.specs.Picture.{run_start, shown_cell, cells_picture, row_picture};
 
-use crate::bytes::{push_bytes, push_escaped, push_number, push_where};
+use crate::bytes::{push_bytes, push_escaped, push_number, push_when};
 use crate::looks::is_blank;
-use vt_screen::{Cell, Rendition};
+use vt_screen::{COLUMNS, Cell, Rendition};
 
 /// Where a column begins.
 fn left_of(col: usize) -> u16
-    requires { (1 ≤ col) × (col ≤ 132) }
+    requires { (1 ≤ col) × (col ≤ COLUMNS) }
     ensures { result ≡ left_of col }
 {
     10 * (col as u16 - 1)
@@ -20,7 +20,7 @@ fn left_of(col: usize) -> u16
 
 /// How wide so many columns are.
 pub(crate) fn width_of(columns: usize) -> u16
-    requires { columns ≤ 132 }
+    requires { columns ≤ COLUMNS }
     ensures { result ≡ width_of columns }
 {
     10 * columns as u16
@@ -47,8 +47,8 @@ fn baseline_of(row: usize) -> u16
 pub(crate) fn push_rectangle(class: &[u8], row: usize, col: usize, count: usize, out: &mut Vec<u8>)
     requires class { length class.now ≤ 1 }
     requires row { (1 ≤ row) × (row ≤ last_row) }
-    requires col { (1 ≤ col) × (col ≤ 132) }
-    requires count { count ≤ 132 }
+    requires col { (1 ≤ col) × (col ≤ COLUMNS) }
+    requires count { count ≤ COLUMNS }
     requires room { vec_len out.old + 80 ≤ vec_capacity out.old }
     ensures items { out.new.items ≡ out.old.items ++ rectangle class.now row col count }
     ensures bounded { vec_len out.new ≤ vec_len out.old + 80 }
@@ -102,18 +102,18 @@ fn push_classes(look: Rendition, out: &mut Vec<u8>)
     ensures capacity { vec_capacity out.old ≤ vec_capacity out.new }
 {
     push_bytes(if look.reverse { b"p" } else { b"i" }, out);
-    push_where(look.bold, b" b", out);
-    push_where(look.underline, b" u", out);
-    push_where(look.blink, b" k", out);
+    push_when(look.bold, b" b", out);
+    push_when(look.underline, b" u", out);
+    push_when(look.blink, b" k", out);
 }
 
 /// The ink under a run that is reversed.
 fn push_ground(reverse: bool, row: usize, col: usize, count: usize, out: &mut Vec<u8>)
     requires row { (1 ≤ row) × (row ≤ last_row) }
-    requires col { (1 ≤ col) × (col ≤ 132) }
-    requires count { count ≤ 132 }
+    requires col { (1 ≤ col) × (col ≤ COLUMNS) }
+    requires count { count ≤ COLUMNS }
     requires room { vec_len out.old + 80 ≤ vec_capacity out.old }
-    ensures items { out.new.items ≡ out.old.items ++ where_true reverse (rectangle (codes "i") row col count) }
+    ensures items { out.new.items ≡ out.old.items ++ when reverse (rectangle (codes "i") row col count) }
     ensures bounded { vec_len out.new ≤ vec_len out.old + 80 }
     ensures capacity { vec_capacity out.old ≤ vec_capacity out.new }
 {
@@ -126,8 +126,8 @@ fn push_ground(reverse: bool, row: usize, col: usize, count: usize, out: &mut Ve
 #[tactic(auto, unfolding(crate::specs::Picture::run_start))]
 fn push_run_start(look: Rendition, row: usize, col: usize, count: usize, out: &mut Vec<u8>)
     requires row { (1 ≤ row) × (row ≤ last_row) }
-    requires col { (1 ≤ col) × (col ≤ 132) }
-    requires count { count ≤ 132 }
+    requires col { (1 ≤ col) × (col ≤ COLUMNS) }
+    requires count { count ≤ COLUMNS }
     requires room { vec_len out.old + 190 ≤ vec_capacity out.old }
     ensures items { out.new.items ≡ out.old.items ++ run_start look row col count }
     ensures bounded { vec_len out.new ≤ vec_len out.old + 190 }
@@ -157,7 +157,7 @@ fn push_shown_cell(
 )
     requires row { (1 ≤ row) × (row ≤ last_row) }
     requires col { 1 ≤ col }
-    requires rest { col + length rest.now ≤ 132 }
+    requires rest { col + length rest.now ≤ COLUMNS }
     requires room { vec_len out.old + 203 ≤ vec_capacity out.old }
     ensures items { out.new.items ≡ out.old.items ++ shown_cell row col left.now cell.now rest.now }
     ensures bounded { vec_len out.new ≤ vec_len out.old + 203 }
@@ -176,7 +176,7 @@ fn push_shown_cell(
 /// The cells of a row.
 pub(crate) fn push_row(row: usize, cells: &[Cell], out: &mut Vec<u8>)
     requires row { (1 ≤ row) × (row ≤ last_row) }
-    requires len { length cells.now ≤ 132 }
+    requires len { length cells.now ≤ COLUMNS }
     requires room { vec_len out.old + 203 * length cells.now ≤ vec_capacity out.old }
     ensures items { out.new.items ≡ out.old.items ++ row_picture row cells.now }
     ensures bounded { vec_len out.new ≤ vec_len out.old + 203 * length cells.now }

@@ -2,7 +2,7 @@
 ghost use Rattle.std.specs.Prelude.{◌≡◌, ◌+◌, ◌*◌, ◌≤◌, ◌++◌, length, vec_len, vec_capacity, OnOk, OnErr, IsOk};
 ghost use Rattle.vt_picture.specs.Show.{change, rendition_sequence, shown_line, show};
 
-use crate::bytes::{push_bytes, push_glyph, push_where};
+use crate::bytes::{push_bytes, push_glyph, push_when};
 use crate::looks::without_blank_end;
 use std::alloc::AllocError;
 use vt_screen::{Cell, Rendition};
@@ -22,10 +22,10 @@ fn push_rendition(look: Rendition, out: &mut Vec<u8>)
     ensures capacity { vec_capacity out.old ≤ vec_capacity out.new }
 {
     push_bytes(b"\x1B[0", out);
-    push_where(look.bold, b";1", out);
-    push_where(look.underline, b";4", out);
-    push_where(look.blink, b";5", out);
-    push_where(look.reverse, b";7", out);
+    push_when(look.bold, b";1", out);
+    push_when(look.underline, b";4", out);
+    push_when(look.blink, b";5", out);
+    push_when(look.reverse, b";7", out);
     push_bytes(b"m", out);
 }
 

@@ -15,9 +15,6 @@ pub record Front (until : Option ℕ) (bytes : List ℕ) (at : ℕ) (content : L
   pub whole : All (λ p. IsWhole p) pieces
   pub wanted : content ≡ due until (time_of bytes) pieces
 
-pub no_piece : (until : Option ℕ) (bytes : List ℕ) → Front until bytes 0 []
-no_piece until bytes = record { pieces = []; taken = refl; whole = All-nil _; wanted = refl }
-
 -- a number within the front of some bytes
 number_in_front : (at n : ℕ) (xs : List ℕ) → at + 3 < n → number_at at (take n xs) ≡ number_at at xs
 number_in_front at n xs within =
@@ -47,7 +44,7 @@ due_more until start pieces p true is =
 due_more until start pieces p false is = rw (filter-append, flat_map-append, is) refl
 
 -- the piece that begins at a place
-abbrev pub piece_at : (bytes : List ℕ) (at size : ℕ) → Piece
+abbrev piece_at : (bytes : List ℕ) (at size : ℕ) → Piece
 piece_at bytes at size = record { header = take 12 (drop at bytes); bytes = take size (drop (at + 12) bytes) }
 
 module _ (bytes : List ℕ) (at size : ℕ) (fits : 12 + size ≤ length (drop at bytes)) where

@@ -46,13 +46,13 @@ abbrev pub Cuts : Type 0
 Cuts = (s : State) (a b : List ℕ) → play s (a ++ b) ≡ both (play s a) (play (play s a).state b)
 
 -- the reports of one more piece
-pub reports-more : Cuts → (t : State) (b chunk : List ℕ) → t ≡ (play power_up b).state
+reports-more : Cuts → (t : State) (b chunk : List ℕ) → t ≡ (play power_up b).state
     → (play power_up (b ++ chunk)).reports ≡ (play power_up b).reports ++ (play t chunk).reports
 reports-more cuts t b chunk is =
     ap (λ (p : Played). p.reports) (cuts power_up b chunk)
     ∙ ap (λ (s : State). (play power_up b).reports ++ (play s chunk).reports) (sym is)
 
-pub sent-more : (what : What) (first second : List ℕ)
+sent-more : (what : What) (first second : List ℕ)
     → sent what (first ++ second) ≡ sent what first ++ sent what second
 sent-more Text first second = refl
 sent-more Reports first second = refl
@@ -107,7 +107,7 @@ earlier-reports piece b chunk w written short sent =
     }
 
 -- nothing has no proper beginning
-pub nothing-missing : (w : List ℕ) → IsProperBeginning w [] → ⊥
+nothing-missing : (w : List ℕ) → IsProperBeginning w [] → ⊥
 nothing-missing w p = let long = ap length p.whole in let sum = length-append w p.more in
     omega (arith, long, sum, p.missing)
 
@@ -127,12 +127,7 @@ sent-failed Picture w out p = absurd (nothing-missing w p)
 pub due-is : (what : What) (t : State) (reported : ℕ) (b w written : List ℕ) → IsPlayed what t reported b w
     → written ≡ due_at_end what t reported
     → w ++ written ≡ due what b
-due-is Text t reported b w written played is = rw (played.sent, is, played.state) refl
-due-is Reports t reported b w written played is = rw (played.sent, is) (append-nil (play power_up b).reports)
-due-is Repaint t reported b w written played is = rw (played.sent, is, played.state) refl
-due-is Status t reported b w written played is = rw (played.sent, is, played.counted, played.state) refl
-due-is Show t reported b w written played is = rw (played.sent, is, played.state) refl
-due-is Picture t reported b w written played is = rw (played.sent, is, played.state) refl
+due-is what t reported b w written played is = rw (played.sent, is, played.counted, played.state) refl
 
 -- a proper beginning of what is due at the end
 pub due-cut : (what : What) (t : State) (reported : ℕ) (b w written : List ℕ) → IsPlayed what t reported b w

@@ -1,8 +1,8 @@
 -- What a replay of bytes has to write. (this profile)
-use Rattle.std.specs.Prelude.{◌≡◌, ℕ, List, [], length}
+use Rattle.std.specs.Prelude.{◌≡◌, ℕ, List, [], ◌++◌, length}
 use Rattle.vt_syntax.specs.declared.held.Held.TheVariants.{Nothing}
 use Rattle.vt_term.specs.State.{State, power_up}
-use Rattle.vt_term.specs.Play.{Played, play}
+use Rattle.vt_term.specs.Play.{play}
 use Rattle.vt_term.specs.Text.{text}
 use Rattle.vt_term.specs.declared.terminal.TheConstants.{TEXT_LIMIT}
 use Rattle.vt_paint.specs.Repaint.{paint}
@@ -15,18 +15,6 @@ use Rattle.vt_cli.specs.declared.what.What.{What}
 use Rattle.vt_cli.specs.declared.what.What.TheVariants.{Text, Reports, Repaint, Status, Show, Picture}
 use Rattle.vt_replay.specs.Status.{status}
 use Rattle.vt_replay.specs.declared.status.TheConstants.{STATUS_LIMIT}
-
--- after a play from power-up
-abbrev pub due_after : What → Played → List ℕ
-due_after Text played = text played.state
-due_after Reports played = played.reports
-due_after Repaint played = paint played.state
-due_after Status played = status played.state (length played.reports)
-due_after Show played = show played.state
-due_after Picture played = picture played.state
-
-abbrev pub due : What → List ℕ → List ℕ
-due what bytes = due_after what (play power_up bytes)
 
 -- what of reports goes out while the input is read
 abbrev pub sent : What → List ℕ → List ℕ
@@ -49,6 +37,12 @@ due_at_end Repaint s reported = paint s
 due_at_end Status s reported = status s reported
 due_at_end Show s reported = show s
 due_at_end Picture s reported = picture s
+
+-- what is due for these bytes: what goes out while they are read, and then what is due at their end
+abbrev pub due : What → List ℕ → List ℕ
+due what bytes =
+    let played = play power_up bytes in
+    sent what played.reports ++ due_at_end what played.state (length played.reports)
 
 -- the most bytes of it; private contracts alone speak of this
 abbrev pub room_for : What → ℕ

@@ -1,6 +1,6 @@
 -- The table of row starts: each once.
 use Rattle.std.proofs.Common.{◌≡◌, ◌≢◌, ◌⊎◌, inl, inr, ℕ, ◌+◌, ◌-◌, ◌*◌, ◌≤◌, ◌<◌, eqb, List, length, get_or, arith, sym}
-use Rattle.std.specs.List.{range_with_len, IsDistinct}
+use Rattle.std.specs.List.{IsDistinct}
 use Rattle.std.proofs.lemmas.List.FromFn.{get_or-map-range_with_len}
 use Rattle.std.proofs.lemmas.List.Sorted.{length_permutation, All-permutation}
 use Rattle.std.proofs.lemmas.Map.Keys.{IsDistinct-IsPermutation, apart_from_distinct, IsDistinct-from_apart}
@@ -20,7 +20,7 @@ start-is : (k : ℕ) (d : ℕ) → k < last_row → get_or starts k d ≡ k * st
 start-is k d low = get_or-map-range_with_len (λ number. number * stride) 0 last_row k k d low (omega arith)
 
 -- as many as rows
-pub length-order : (o : List ℕ) → IsOrder o → length o ≡ last_row
+length-order : (o : List ℕ) → IsOrder o → length o ≡ last_row
 length-order o h = length_permutation starts o h
 
 order-start : (o : List ℕ) → IsOrder o → (i : ℕ) → i < last_row → IsStart (get_or o i 0)

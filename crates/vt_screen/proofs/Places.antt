@@ -34,7 +34,7 @@ cell_at-grid_of w f r c r1 r24 c1 cw =
     ∙ ap (λ x. f x (k % w + 1)) row ∙ ap (λ x. f r x) col
 
 -- cells that are equal at every place are the cells of a formula
-pub cells-same : (w : ℕ) (f : ℕ → ℕ → Cell) (xs : List Cell) → length xs ≡ last_row * w
+cells-same : (w : ℕ) (f : ℕ → ℕ → Cell) (xs : List Cell) → length xs ≡ last_row * w
     → ((r c : ℕ) → 1 ≤ r → r ≤ last_row → 1 ≤ c → c ≤ w → get_or xs ((r - 1) * w + (c - 1)) blank ≡ f r c)
     → xs ≡ cells_of w f
 unfolding cells_of

@@ -10,7 +10,7 @@ use Rattle.vt_screen.specs.declared.cell.Cell.{Cell}
 use Rattle.vt_screen.specs.Order.{room}
 use Rattle.vt_screen.specs.Cells.{blank, erased, cell_like}
 use Rattle.vt_screen.specs.Grid.{Grid, IsSoundGrid, grid_of, cell_at, with_row, blank_grid, columns, put, put_inserting}
-use Rattle.vt_screen.specs.Grid.{put_run, insert_cells, delete_cells, erase, columns_of, scroll_up, scroll_down, fill}
+use Rattle.vt_screen.specs.Grid.{put_run, insert_cells, delete_cells, erase_area, scroll_up, scroll_down, fill}
 use Rattle.vt_screen.specs.Grid.{is_within}
 use Rattle.vt_screen.proofs.Places.{IsGrid-grid_of}
 use Rattle.vt_screen.proofs.Maps.{among-before}
@@ -87,10 +87,10 @@ pub delete_cells-sound : (g : Grid) (row col n : ℕ) → IsSoundGrid g → IsSo
 delete_cells-sound g row col n sound = row-sound g row _ sound (λ c. chosen (leb col c) _ _
     (chosen (leb (c + n) g.width) _ _ (at g row (c + n) sound) blank-shown) (at g row c sound))
 
-pub erase-sound : (g : Grid) (row from to : ℕ) (selective : Bool) → IsSoundGrid g
-    → IsSoundGrid (erase g row from to selective)
-erase-sound g row from to selective sound = made g _ sound (λ r c.
-    chosen (columns_of row from to r c) _ _ (erased-shown selective _ (at g r c sound)) (at g r c sound))
+pub erase_area-sound : (g : Grid) (area : ℕ → ℕ → Bool) (selective : Bool) → IsSoundGrid g
+    → IsSoundGrid (erase_area g area selective)
+erase_area-sound g area selective sound = made g _ sound (λ r c.
+    chosen (area r c) _ _ (erased-shown selective _ (at g r c sound)) (at g r c sound))
 
 pub scroll_up-sound : (g : Grid) (top bottom n : ℕ) → IsSoundGrid g → IsSoundGrid (scroll_up g top bottom n)
 scroll_up-sound g top bottom n sound = made g _ sound (λ r c. chosen (is_within top bottom r) _ _
@@ -103,9 +103,9 @@ scroll_down-sound g top bottom n sound = made g _ sound (λ r c. chosen (is_with
 pub fill-sound : (g : Grid) (cell : Cell) → IsSoundGrid g → IsGlyph cell.glyph → IsSoundGrid (fill g cell)
 fill-sound g cell sound glyph = made g _ sound (λ r c. by_glyph cell glyph)
 
-pub blank-sound : (wide : Bool) → IsSoundGrid (blank_grid wide)
+pub blank_grid-sound : (wide : Bool) → IsSoundGrid (blank_grid wide)
 unfolding is_glyph
-blank-sound wide = record {
+blank_grid-sound wide = record {
   shape = IsGrid-grid_of (columns wide) (λ r c. blank) (wide, refl);
   glyphs = test-formula (λ cell. is_glyph cell.glyph) (columns wide) (λ r c. blank) (λ r c r1 r24 c1 cw. refl);
 }

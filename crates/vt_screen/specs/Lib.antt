@@ -1,4 +1,5 @@
 pub mod Cells
+pub mod Same
 pub mod Grid
 pub mod Order
 pub mod Words

@@ -26,6 +26,7 @@ pub fn fill_cells(cells: &mut [Cell], cell: &Cell)
 }
 
 /// Writes one cell all over a line of at least 80 cells: a part of a fixed size, and then the rest.
+/// Speed: the first part is filled by a loop of a fixed length.
 #[inline(always)]
 pub fn fill_line(line: &mut [Cell], cell: &Cell)
     requires { 80 ≤ length line.old }
@@ -137,6 +138,7 @@ fn write(place: &mut Cell, cell: &Cell)
 }
 
 /// Writes ASCII codes, each with the attributes and the protection of `like`.
+/// Speed: this and the functions below write blocks; `write` a cell at a time does the same.
 #[inline(always)]
 pub fn write_codes(cells: &mut [Cell], codes: &[u8], like: Cell)
     requires codes { All (λ code. (0x20 ≤ code) × (code ≤ 0x7E)) codes.now }
@@ -283,7 +285,7 @@ fn write_two(cells: &mut [Cell], codes: &[u8], at: usize, like: &Cell)
 }
 
 /// Writes the glyphs of graphic bytes, each with the attributes and the protection of `like`: eight at a time, since a
-/// turn of the loop costs as much as a cell, and then the rest.
+/// turn of the loop costs as much as a cell, and then the rest. Speed: in blocks of four.
 #[inline(always)]
 pub fn write_graphics(cells: &mut [Cell], bytes: &[u8], table: &InUse, like: Cell)
     requires bytes { All HasGlyph bytes.now }
@@ -344,7 +346,7 @@ fn same_cell(a: &Cell, b: &Cell) -> bool
     word_of(a) == word_of(b)
 }
 
-/// Whether the four cells from a place on are the same in both rows.
+/// Whether the four cells from a place on are the same in both rows. Speed: one comparison of four cells.
 #[inline(always)]
 fn same_four(a: &[Cell], b: &[Cell], at: usize) -> bool
     requires a { at + 4 ≤ length a.now }

@@ -42,6 +42,13 @@ impl RowOrder {
         }
     }
 
+    /// Another table with the same starts.
+    pub fn copied(&self) -> RowOrder
+        ensures { result ≡ self.now }
+    {
+        RowOrder { rows: self.rows }
+    }
+
     /// Where the cells of a row begin.
     pub fn start(&self, row: usize) -> usize
         requires { (1 ≤ row) × (row ≤ last_row) }
@@ -65,6 +72,7 @@ impl RowOrder {
     }
 
     /// Moves the rows `top` to `bottom` up by 1; the first of them becomes the last.
+    /// Speed: most scrolls are by one row.
     #[inline(always)]
     pub fn move_up_once(&mut self, top: usize, bottom: usize)
         requires rows { (1 ≤ top) × (top ≤ bottom) × (bottom ≤ last_row) }
@@ -87,6 +95,7 @@ impl RowOrder {
     }
 
     /// Moves the rows `top` to `bottom` down by 1; the last of them becomes the first.
+    /// Speed: most scrolls are by one row.
     pub fn move_down_once(&mut self, top: usize, bottom: usize)
         requires rows { (1 ≤ top) × (top ≤ bottom) × (bottom ≤ last_row) }
         ensures moved { (r : ℕ) → top + 1 ≤ r → r ≤ bottom → start_of self.new r ≡ start_of self.old (r - 1) }

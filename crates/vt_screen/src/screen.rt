@@ -79,6 +79,15 @@ impl Screen {
         })
     }
 
+    /// Makes the screen equal to another one.
+    pub fn copy_from(&mut self, other: &Screen)
+        ensures { self.new ≡ other.now }
+    {
+        self.cells.copy_from_slice(&other.cells);
+        self.order = other.order.copied();
+        self.width = other.width;
+    }
+
     /// How many columns the screen has: 80, or 132.
     pub fn width(&self) -> usize
         ensures width { result ≡ self.now.width }
@@ -299,7 +308,7 @@ impl Screen {
         );
     }
 
-    /// Moves the rows `top` to `bottom` up by 1, without a loop.
+    /// Moves the rows `top` to `bottom` up by 1, without a loop. Speed: most scrolls are by one row.
     #[inline(always)]
     fn scroll_up_once(&mut self, top: usize, bottom: usize)
         requires { (1 ≤ top) × (top ≤ bottom) × (bottom ≤ last_row) }
@@ -317,7 +326,7 @@ impl Screen {
         );
     }
 
-    /// Moves the rows `top` to `bottom` down by 1, without a loop.
+    /// Moves the rows `top` to `bottom` down by 1, without a loop. Speed: most scrolls are by one row.
     #[inline(always)]
     fn scroll_down_once(&mut self, top: usize, bottom: usize)
         requires { (1 ≤ top) × (top ≤ bottom) × (bottom ≤ last_row) }

@@ -1,5 +1,5 @@
 -- The classes by their ranges.
-use Rattle.std.proofs.Common.{◌≡◌, ◌≢◌, ℕ, ◌+◌, ◌<◌, ◌≤◌, Bool, true, false, eqb, ◌||◌, refl, arith, inl, inr, ◌⊎◌}
+use Rattle.std.proofs.Common.{◌≡◌, ◌≢◌, ℕ, ◌+◌, ◌<◌, ◌≤◌, Bool, true, false, eqb, ◌||◌, refl, arith, ◌⊎◌}
 use Rattle.std.proofs.lemmas.Bool.Decides.{nat_tests}
 use Rattle.vt_syntax.specs.declared.class.Class.{Class}
 use Rattle.vt_syntax.specs.declared.class.Class.TheVariants.{Quiet, Cancel, Esc, Intermediate, Parameter, Final, High}
@@ -75,18 +75,8 @@ opens_high b h = grind (arith, nat_tests)
 
 -- what goes on after ESC stands for nothing that opens
 pub opens_inside : (b : ℕ) → continues_escape (class_of b) ≡ true → opens (b + 64) ≡ false
-opens_inside b h = go (class_of b) refl h
-  where
-    go : (k : Class) → class_of b ≡ k → continues_escape k ≡ true → opens (b + 64) ≡ false
-    go Quiet e h = quiet (range_of b Quiet e)
-      where
-        quiet : InClass Quiet b → opens (b + 64) ≡ false
-        quiet (inl (inl low)) = opens_low b (omega arith)
-        quiet (inl (inr is)) = opens_low b (omega arith)
-        quiet (inr (inl low)) = opens_low b (omega arith)
-        quiet (inr (inr is)) = opens_high b (omega arith)
-    go Intermediate e h = opens_low b (let r = range_of b Intermediate e in omega arith)
-    go _ e h = absurd cc
+unfolding class_of opens_string
+opens_inside b h = grind (arith, nat_tests)
 
 -- a letter that opens is `[` or opens a string
 pub opens_other : (b : ℕ) → opens (b + 64) ≡ true → eqb b 91 ≡ false → opens_string (b + 64) ≡ true

@@ -41,7 +41,7 @@ or_false false = refl
 list_any-push : (p : ℕ → Bool) (xs : List ℕ) (b : ℕ) → list_any p (xs ++ b ∷ []) ≡ (list_any p xs || p b)
 list_any-push p xs b = list_any-append p xs (b ∷ []) ∙ ap (λ (t : Bool). list_any p xs || t) (or_false (p b))
 
-pub inters-push : (is : List ℕ) (b : ℕ) → inters (is ++ b ∷ []) ≡ one_more (inters is) b
+inters-push : (is : List ℕ) (b : ℕ) → inters (is ++ b ∷ []) ≡ one_more (inters is) b
 inters-push [] b = refl
 inters-push (i ∷ []) b = refl
 inters-push (i ∷ j ∷ more) b = refl
@@ -413,9 +413,6 @@ plain_more xs b s k z m c =
 
 spoilt_by : (xs : List ℕ) (b : ℕ) → is_spoilt (xs ++ b ∷ []) ≡ true → held_control (xs ++ b ∷ []) ≡ Spoilt
 spoilt_by xs b e = rw e refl
-
-or_colon : (x y z : Bool) → (((true || x) || y) || z) ≡ true
-or_colon x y z = refl
 
 or_late : (w y z : Bool) → (((w || true) || y) || z) ≡ true
 or_late true y z = refl

@@ -192,7 +192,7 @@ sequence_reads_as marker params (Some i) last h =
 
 -- ---- any event
 
-pub event_reads_as : (event : Event) → IsEvent event → ReadsAs (spell_event event) event
+event_reads_as : (event : Event) → IsEvent event → ReadsAs (spell_event event) event
 event_reads_as (Print b) h = let a = graphic_alone b h in single_reads_as b (Print b) a.0 a.1
 event_reads_as (Control b) (inl h) =
     let a = c0_alone b h in

@@ -62,11 +62,11 @@ Each-append : (p : ℕ → Bool) (xs ys : List ℕ) → Each p xs → Each p ys 
 Each-append p [] ys h k = k
 Each-append p (x ∷ xs) ys h k = (h.0, Each-append p xs ys h.1 k)
 
-pub Each-weaker : (p q : ℕ → Bool) → ((b : ℕ) → p b ≡ true → q b ≡ true) → (xs : List ℕ) → Each p xs → Each q xs
+Each-weaker : (p q : ℕ → Bool) → ((b : ℕ) → p b ≡ true → q b ≡ true) → (xs : List ℕ) → Each p xs → Each q xs
 Each-weaker p q f [] h = tt
 Each-weaker p q f (x ∷ xs) h = (f x h.0, Each-weaker p q f xs h.1)
 
-pub Each-filter : (p : ℕ → Bool) (xs : List ℕ) → Each p (filter p xs)
+Each-filter : (p : ℕ → Bool) (xs : List ℕ) → Each p (filter p xs)
 Each-filter p [] = tt
 Each-filter p (x ∷ xs) = go (p x) refl (Each-filter p xs)
   where
@@ -74,11 +74,11 @@ Each-filter p (x ∷ xs) = go (p x) refl (Each-filter p xs)
     go true e h = (e, h)
     go false e h = h
 
-pub filter_all : (p : ℕ → Bool) (xs : List ℕ) → Each p xs → filter p xs ≡ xs
+filter_all : (p : ℕ → Bool) (xs : List ℕ) → Each p xs → filter p xs ≡ xs
 filter_all p [] h = refl
 filter_all p (x ∷ xs) h = let e : p x ≡ true = h.0 in rw e (ap (λ (t : List ℕ). x ∷ t) (filter_all p xs h.1))
 
-pub filter_none : (p : ℕ → Bool) (xs : List ℕ) → Each (λ b. not (p b)) xs → filter p xs ≡ []
+filter_none : (p : ℕ → Bool) (xs : List ℕ) → Each (λ b. not (p b)) xs → filter p xs ≡ []
 filter_none p [] h = refl
 filter_none p (x ∷ xs) h = go (p x) h.0 (filter_none p xs h.1)
   where
@@ -220,34 +220,17 @@ split_joined v (w ∷ vs) h =
 
 -- ---- parameter bytes alone
 
-pub parameter_shown : (b : ℕ) → is_parameter b ≡ true → not (is_quiet b) ≡ true
-parameter_shown b e = go (class_of b) refl e
-  where
-    go : (k : Class) → class_of b ≡ k → is_parameter b ≡ true → not (is_quiet b) ≡ true
-    go Parameter k p = rw k refl
-    go Quiet k p = absurd (let q = rw k at p in cc)
-    go Intermediate k p = rw k refl
-    go Cancel k p = rw k refl
-    go Esc k p = rw k refl
-    go Final k p = rw k refl
-    go High k p = rw k refl
+parameter_shown : (b : ℕ) → is_parameter b ≡ true → not (is_quiet b) ≡ true
+unfolding class_of
+parameter_shown b e = grind (arith, nat_tests)
 
-pub parameter_no_inter : (b : ℕ) → is_parameter b ≡ true → not (is_intermediate b) ≡ true
-parameter_no_inter b e = go (class_of b) refl e
-  where
-    go : (k : Class) → class_of b ≡ k → is_parameter b ≡ true → not (is_intermediate b) ≡ true
-    go Intermediate k p = absurd (let q = rw k at p in cc)
-    go Parameter k p = rw k refl
-    go _ k p = rw k refl
+parameter_no_inter : (b : ℕ) → is_parameter b ≡ true → not (is_intermediate b) ≡ true
+unfolding class_of
+parameter_no_inter b e = grind (arith, nat_tests)
 
-pub parameter_goes_on : (b : ℕ) → is_parameter b ≡ true → continues_control (class_of b) ≡ true
-parameter_goes_on b e = go (class_of b) refl e
-  where
-    go : (k : Class) → class_of b ≡ k → is_parameter b ≡ true → continues_control k ≡ true
-    go Parameter k p = refl
-    go Quiet k p = refl
-    go Intermediate k p = refl
-    go _ k p = absurd (let q = rw k at p in cc)
+parameter_goes_on : (b : ℕ) → is_parameter b ≡ true → continues_control (class_of b) ≡ true
+unfolding class_of
+parameter_goes_on b e = grind (arith, nat_tests)
 
 no_late : (xs : List ℕ) → Each is_parameter xs → has_late_parameter xs ≡ false
 no_late [] h = refl
@@ -258,7 +241,7 @@ no_late (x ∷ xs) h = go (is_intermediate x) (parameter_no_inter x h.0) (no_lat
     go true e f = absurd cc
     go false e f = f
 
-pub shown_controls : (xs : List ℕ) → Each (λ b. not (is_quiet b)) xs → controls xs ≡ []
+shown_controls : (xs : List ℕ) → Each (λ b. not (is_quiet b)) xs → controls xs ≡ []
 shown_controls [] h = refl
 shown_controls (x ∷ xs) h = go (is_quiet x) h.0 (shown_controls xs h.1)
   where
@@ -272,10 +255,10 @@ shown_controls (x ∷ xs) h = go (is_quiet x) h.0 (shown_controls xs h.1)
 -- what is read of a marker, digits and `;`
 pub record IsReadBack (marker : Option ℕ) (plain xs : List ℕ) : Type 0 where
   pub each : Each is_parameter xs
-  pub marker_is : marker_of xs ≡ marker
-  pub values_are : after_marker xs ≡ plain
+  marker_is : marker_of xs ≡ marker
+  values_are : after_marker xs ≡ plain
   pub sound : is_spoilt xs ≡ false
-  pub phase_is : phase_of xs ≡ Values
+  phase_is : phase_of xs ≡ Values
 
 unfoldable pub PassesMarker : Option ℕ → Type 0
 PassesMarker None = Unit {0}
@@ -354,7 +337,7 @@ read_back_front marker plain m c h =
 abbrev pub semi : Bool → List ℕ
 semi full = cond full (59 ∷ []) []
 
-pub read_back_values : (marker : Option ℕ) (v : ℕ) (vs : List ℕ) (full : Bool) → PassesMarker marker
+read_back_values : (marker : Option ℕ) (v : ℕ) (vs : List ℕ) (full : Bool) → PassesMarker marker
     → AreSmall (v ∷ vs) → IsReadBack marker (joined (v ∷ vs) ++ semi full) (spell_values marker (v ∷ vs) full)
 unfolding IsCons
 read_back_values marker v vs full m h =
@@ -395,7 +378,7 @@ first_values vs true few all =
 first_values vs false few all =
     rw (append-nil vs) (take_all 16 vs few, le-ltb 16 (length vs) few)
 
-pub held_read_back : (marker : Option ℕ) (v : ℕ) (vs : List ℕ) (full : Bool) → PassesMarker marker → AreSmall (v ∷ vs)
+held_read_back : (marker : Option ℕ) (v : ℕ) (vs : List ℕ) (full : Bool) → PassesMarker marker → AreSmall (v ∷ vs)
     → length (v ∷ vs) ≤ 16 → (full ≡ true → length (v ∷ vs) ≡ 16) → let xs = spell_values marker (v ∷ vs) full in
     (params_of xs ≡ record { items = v ∷ vs }) × (ltb 16 (length (values_of xs)) ≡ full)
 held_read_back marker v vs full m h few all =

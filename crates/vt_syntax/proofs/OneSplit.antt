@@ -18,7 +18,7 @@ use Rattle.vt_syntax.proofs.Classes.{opens_inside, not_opener, ends_string_escap
 use Rattle.vt_syntax.proofs.Splits.{filter_quiets}
 
 -- one byte of many
-pub split_after_step : (rest : Option Beginning) (b : ℕ) (bytes : List ℕ) (parts : Parts) → split_one rest b ≡ parts
+split_after_step : (rest : Option Beginning) (b : ℕ) (bytes : List ℕ) (parts : Parts) → split_one rest b ≡ parts
     → split_after rest (b ∷ bytes) ≡ items_before parts.items (split_after parts.rest bytes)
 unfolding split_after
 split_after_step rest b bytes parts e = ap (λ (now : Parts). items_before now.items (split_after now.rest bytes)) e
@@ -155,7 +155,7 @@ string_opens (SevenBit quiets) code more h o =
     go false = refl
 
 -- the bytes of a beginning leave just that
-pub beginning_reads : (beginning : Beginning) (more : List ℕ) → IsBeginning beginning
+beginning_reads : (beginning : Beginning) (more : List ℕ) → IsBeginning beginning
     → split_after None (beginning_bytes beginning ++ more) ≡ split_after (Some beginning) more
 beginning_reads (OfEscape inside) more h =
     split_after_step None 27 (inside ++ more) (rest_alone (OfEscape [])) refl ∙ escape_reads inside [] more h

@@ -40,7 +40,7 @@ steps_introducer piece long first second =
     (rw second step_bracket)
 
 -- more bytes
-pub steps_add : (held now after : Held) (piece : List ℕ) (at n : ℕ) → steps held (take at piece) ≡ step_to now []
+steps_add : (held now after : Held) (piece : List ℕ) (at n : ℕ) → steps held (take at piece) ≡ step_to now []
     → steps now (take n (drop at piece)) ≡ step_to after [] → steps held (take (at + n) piece) ≡ step_to after []
 steps_add held now after piece at n so_far more =
     ap (λ (bytes : List ℕ). steps held bytes) (take-add at n piece)

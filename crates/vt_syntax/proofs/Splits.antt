@@ -28,7 +28,7 @@ inters_more i [] e = cc
 inters_more i (j ∷ more) e = cc
 
 -- with no intermediate all the bytes are quiet
-pub quiets_inside : (inside : List ℕ) → Each (λ b. continues_escape (class_of b)) inside → inters_of inside ≡ Zero
+quiets_inside : (inside : List ℕ) → Each (λ b. continues_escape (class_of b)) inside → inters_of inside ≡ Zero
     → Each is_quiet inside
 quiets_inside [] h e = tt
 quiets_inside (b ∷ inside) h e =
@@ -53,7 +53,7 @@ filter_quiets (b ∷ quiets) h = go (class_of b) h.0 (filter_quiets quiets h.1)
 
 -- ---- the cases of one byte
 
-pub begin_cases : (b : ℕ) (P : Parts → Type 0) → (b ≡ 27 → P (rest_alone (OfEscape [])))
+begin_cases : (b : ℕ) (P : Parts → Type 0) → (b ≡ 27 → P (rest_alone (OfEscape [])))
     → (b ≡ 155 → P (rest_alone (OfControl EightBit [])))
     → (opens_string b ≡ true → P (rest_alone (OfString EightBit b [])))
     → (is_opener b ≡ false → P (items_alone (Single b ∷ []))) → P (begin b)
@@ -68,7 +68,7 @@ begin_cases b P escape_function control string alone = go (eqb b 27) (eqb b 155)
     go false false true e f g = string g
     go false false false e f g = alone (rw (e, f, g) refl)
 
-pub split_one_cases : (beginning : Beginning) (b : ℕ) (P : Parts → Type 0)
+split_one_cases : (beginning : Beginning) (b : ℕ) (P : Parts → Type 0)
     → (ends beginning b ≡ true → P (items_alone (Ended beginning b ∷ [])))
     → (ends beginning b ≡ false → cuts beginning b ≡ true → P (items_before (Cut beginning ∷ []) (begin b)))
     → (ends beginning b ≡ false → cuts beginning b ≡ false → P (rest_alone (extended beginning b)))
@@ -87,7 +87,7 @@ split_one_cases beginning b P end cut longer' = go (ends beginning b) (cuts begi
 -- a byte after a rest gives these parts
 pub record Grows (rest : Option Beginning) (b : ℕ) (parts : Parts) : Type 0 where
   pub is_rest : IsRest parts.rest
-  pub splits : (bytes : List ℕ) (items : List Item) (final : Option Beginning)
+  splits : (bytes : List ℕ) (items : List Item) (final : Option Beginning)
       → Split (rest_bytes parts.rest ++ bytes) items final
       → Split (rest_bytes rest ++ b ∷ bytes) (parts.items ++ items) final
 
@@ -179,12 +179,12 @@ split_one_grows beginning b h =
           ∙ append_assoc (beginning_bytes beginning) (b ∷ []) bytes) s;
     })
 
-pub byte_grows : (rest : Option Beginning) (b : ℕ) → IsRest rest → Grows rest b (split_one rest b)
+byte_grows : (rest : Option Beginning) (b : ℕ) → IsRest rest → Grows rest b (split_one rest b)
 byte_grows None b h = begin_grows b
 byte_grows (Some beginning) b h = split_one_grows beginning b h
 
 -- the parts after a rest and bytes are a split of both
-pub split_after_splits : (bytes : List ℕ) (rest : Option Beginning) → IsRest rest
+split_after_splits : (bytes : List ℕ) (rest : Option Beginning) → IsRest rest
     → Split (rest_bytes rest ++ bytes) (split_after rest bytes).items (split_after rest bytes).rest
 unfolding split_after
 split_after_splits [] rest h = record { joined = append-nil (rest_bytes rest); each = h }

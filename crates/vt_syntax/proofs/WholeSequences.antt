@@ -25,7 +25,7 @@ use Rattle.vt_syntax.proofs.Steps.{step_final}
 use Rattle.vt_syntax.proofs.SilentBytes.{steps_nil, steps_more, digit_step, separator_step}
 
 -- one more byte, with its events
-pub run_step : (held now after : Held) (piece : List ℕ) (at : ℕ) (events : List Event) → at < length piece
+run_step : (held now after : Held) (piece : List ℕ) (at : ℕ) (events : List Event) → at < length piece
     → steps held (take at piece) ≡ step_to now []
     → step_of now (get_or piece at 0) ≡ step_to after events
     → steps held (take (at + 1) piece) ≡ step_to after events
@@ -44,7 +44,7 @@ steps_event held now after piece at event inside so_far step =
     run_step held now after piece at (event ∷ []) inside so_far step
 
 -- one more byte, which ends a sequence
-pub steps_last : (held now : Held) (piece : List ℕ) (at : ℕ) → at < length piece
+steps_last : (held now : Held) (piece : List ℕ) (at : ℕ) → at < length piece
     → steps held (take at piece) ≡ step_to now []
     → IsEnding now (get_or piece at 0)
     → steps held (take (at + 1) piece) ≡ step_to Nothing (ended_by now (get_or piece at 0) ∷ [])
@@ -53,13 +53,13 @@ steps_last held now piece at inside so_far ends =
     (step_final now (get_or piece at 0) ends)
 
 -- the bytes before the last one gave no event
-pub silent_before : (held : Held) (piece : List ℕ) (at : ℕ) → steps Nothing (take at piece) ≡ step_to held []
+silent_before : (held : Held) (piece : List ℕ) (at : ℕ) → steps Nothing (take at piece) ≡ step_to held []
     → (steps Nothing (take (at + 1 - 1) piece)).events ≡ []
 silent_before held piece at so_far =
     let e : at + 1 - 1 ≡ at = omega arith in rw e (ap (λ (t : Step). t.events) so_far)
 
 -- ESC at the front of a piece
-pub steps_escape : (piece : List ℕ) → 1 ≤ length piece → get_or piece 0 0 ≡ 0x1B
+steps_escape : (piece : List ℕ) → 1 ≤ length piece → get_or piece 0 0 ≡ 0x1B
     → steps Nothing (take 1 piece) ≡ step_to (Escape Zero) []
 unfolding step_of
 steps_escape piece long first = steps_more Nothing Nothing (Escape Zero) piece 0 (omega arith) (steps_nil Nothing)

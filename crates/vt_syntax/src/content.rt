@@ -1,4 +1,4 @@
-//! Content of strings, found by lanes.
+//! Speed: content of strings, found by lanes.
 ghost use Rattle.std.specs.Prelude.{◌≡◌, ◌≤◌, Bool, [], length, take};
 ghost use Rattle.vt_syntax.specs.declared.held.Held.TheVariants.{Text};
 ghost use Rattle.vt_syntax.specs.Content.{goes_on};

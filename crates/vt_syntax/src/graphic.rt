@@ -1,4 +1,4 @@
-//! Runs of bytes of the graphic areas, found by lanes.
+//! Speed: runs of bytes of the graphic areas, found by lanes.
 ghost use Rattle.std.specs.Prelude.{◌≡◌, ◌<◌, ◌≤◌, length, take, slice_index, All};
 ghost use Rattle.std.specs.Bool.{OnTrue};
 ghost use Rattle.vt_syntax.specs.Class.{is_in_areas, IsInAreas};

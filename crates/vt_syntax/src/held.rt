@@ -32,6 +32,35 @@ pub enum Held {
     },
 }
 
+impl Held {
+    /// Returns the same held part. It never fails and takes no memory.
+    pub(crate) fn copied(&self) -> Held
+        ensures { result ≡ self.now }
+    {
+        match self {
+            Held::Nothing => Held::Nothing,
+            Held::Escape(inters) => Held::Escape(*inters),
+            Held::Control {
+                marker,
+                params,
+                full,
+                phase,
+            } => {
+                let mut values = ArrayVec::new();
+                let _ = values.try_extend_from_slice(params.as_slice());
+                Held::Control {
+                    marker: *marker,
+                    params: values,
+                    full: *full,
+                    phase: *phase,
+                }
+            }
+            Held::Spoilt => Held::Spoilt,
+            Held::Text { osc } => Held::Text { osc: *osc },
+        }
+    }
+}
+
 /// The intermediates of an escape sequence: of two or more, which have no function, it doesn't matter which.
 #[derive(Clone, Copy, Debug, PartialEq, Eq)]
 pub enum Inters {

@@ -1,4 +1,4 @@
-//! Where a run of bytes of one class ends, looked for by lanes.
+//! Speed: where a run of bytes of one class ends, looked for by lanes. Going byte by byte finds the same end.
 ghost use Rattle.std.specs.Prelude.{◌≡◌, ◌+◌, ◌≤◌, ℕ, Bool, length, map, not, drop};
 ghost use Rattle.std.specs.List.{prefix_len};
 ghost use Rattle.std.specs.Simd.Lanes.{mask_l};

@@ -73,6 +73,15 @@ impl Parser {
         next_event(&mut self.held, piece, values)
     }
 
+    /// Another parser that holds the same.
+    pub fn copied(&self) -> Parser
+        ensures { result ≡ self.now }
+    {
+        Parser {
+            held: self.held.copied(),
+        }
+    }
+
     /// The held part: as much of an unfinished sequence as decides how it goes on.
     pub fn held(&self) -> &Held
         ensures value { result.now ≡ self.now }

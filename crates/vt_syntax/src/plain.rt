@@ -1,4 +1,4 @@
-//! Runs of plain bytes, found by lanes.
+//! Speed: runs of plain bytes, found by lanes.
 ghost use Rattle.std.specs.Prelude.{◌≡◌, ◌<◌, ◌≤◌, length, take, slice_index, All};
 ghost use Rattle.vt_syntax.specs.Class.{is_plain, IsPlain};
 

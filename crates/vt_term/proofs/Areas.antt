@@ -16,30 +16,14 @@ pub one-more-row : (first row width r c : ℕ) → first ≤ row → 1 ≤ c →
     → rows_between first row r c || columns_of row 1 width r c ≡ rows_between first (row + 1) r c
 one-more-row first row width r c low c1 cw = grind (arith, nat_tests)
 
--- the columns that EL erases are its area
-pub line-area-0 : (cursor : Cursor) (width r c : ℕ) → c ≤ width → columns_of cursor.row cursor.col width r c
-    ≡ line_area 0 cursor r c
-line-area-0 cursor width r c cw = grind (arith, nat_tests)
-
-pub line-area-1 : (cursor : Cursor) (r c : ℕ) → 1 ≤ c → columns_of cursor.row 1 cursor.col r c ≡ line_area 1 cursor r c
-line-area-1 cursor r c c1 = grind (arith, nat_tests)
-
-pub line-area-2 : (cursor : Cursor) (width r c : ℕ) → 1 ≤ c → c ≤ width → columns_of cursor.row 1 width r c
-    ≡ line_area 2 cursor r c
-line-area-2 cursor width r c c1 cw = grind (arith, nat_tests)
-
 -- the part of the line, and the rows below it or above it
-pub display-area-0 : (cursor : Cursor) (r c : ℕ) → r ≤ 24 → line_area 0 cursor r c
+display-area-0 : (cursor : Cursor) (r c : ℕ) → r ≤ 24 → line_area 0 cursor r c
     || rows_between (cursor.row + 1) 25 r c ≡ display_area 0 cursor r c
 display-area-0 cursor r c r24 = grind (arith, nat_tests)
 
-pub display-area-1 : (cursor : Cursor) (r c : ℕ) → 1 ≤ r → line_area 1 cursor r c || rows_between 1 cursor.row r c
+display-area-1 : (cursor : Cursor) (r c : ℕ) → 1 ≤ r → line_area 1 cursor r c || rows_between 1 cursor.row r c
     ≡ display_area 1 cursor r c
 display-area-1 cursor r c r1 = grind (arith, nat_tests)
-
--- all rows
-pub display-area-2 : (cursor : Cursor) (r c : ℕ) → 1 ≤ r → r ≤ 24 → rows_between 1 25 r c ≡ display_area 2 cursor r c
-display-area-2 cursor r c r1 r24 = grind (arith, nat_tests)
 
 -- ED from the cursor on: the part of the line, and then the rows below
 pub erase_in_display-0 : AreaLaws → (selective : Bool) (s : Display)

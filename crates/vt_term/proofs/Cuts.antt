@@ -11,11 +11,11 @@ use Rattle.vt_term.specs.Reports.{report}
 use Rattle.vt_term.specs.Play.{Played, after_events, reports_of, play, both, play_all, joined}
 
 -- the laws of the syntax that this rests on
-abbrev pub EventsAppend : Type 0
+abbrev EventsAppend : Type 0
 EventsAppend = (held : Held) (first second : List ℕ) → events_from held (first ++ second) ≡ events_from held first
     ++ events_from (held_from held first) second
 
-abbrev pub HeldAppend : Type 0
+abbrev HeldAppend : Type 0
 HeldAppend = (held : Held) (first second : List ℕ)
     → held_from held (first ++ second) ≡ held_from (held_from held first) second
 
@@ -23,7 +23,7 @@ pub after_events-append : (xs ys : List Event) (s : Display)
     → after_events (xs ++ ys) s ≡ after_events ys (after_events xs s)
 after_events-append xs ys s = fold-append (λ t event. effect event t) s xs ys
 
-pub reports_of-append : (xs ys : List Event) (s : Display)
+reports_of-append : (xs ys : List Event) (s : Display)
     → reports_of (xs ++ ys) s ≡ reports_of xs s ++ reports_of ys (after_events xs s)
 reports_of-append [] ys s = refl
 reports_of-append (x ∷ xs) ys s =

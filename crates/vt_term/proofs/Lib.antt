@@ -1,4 +1,3 @@
-mod SoundGrids
 mod Stops
 mod Areas
 mod PowerUp

@@ -4,10 +4,10 @@ use Rattle.vt_glyph.specs.GraphicSets.{AreSoundSets}
 use Rattle.vt_glyph.specs.Invocation.{sets_at_power_up}
 use Rattle.vt_term.specs.State.{display_at_power_up, stops_at_power_up, is_stop_at_power_up}
 use Rattle.vt_term.specs.Sound.{IsSoundDisplay}
-use Rattle.vt_term.proofs.SoundGrids.{blank_grid-sound}
+use Rattle.vt_screen.proofs.SoundGrids.{blank_grid-sound}
 use Rattle.vt_term.proofs.Stops.{length-stops_where}
 
-pub length-stops_at_power_up : length stops_at_power_up ≡ 132
+length-stops_at_power_up : length stops_at_power_up ≡ 132
 unfolding stops_at_power_up
 length-stops_at_power_up = length-stops_where is_stop_at_power_up
 

@@ -23,12 +23,12 @@ use Rattle.vt_term.specs.Play.{after_events}
 -- below, bytes of one kind are written, each as its glyph
 
 -- a byte writes its glyph
-pub print-over : (Kind : ℕ → Type 0) (glyph : ℕ → ℕ) (s : Display) (b : ℕ) → WritesOver Kind glyph s → Kind b
+print-over : (Kind : ℕ → Type 0) (glyph : ℕ → ℕ) (s : Display) (b : ℕ) → WritesOver Kind glyph s → Kind b
     → print b s ≡ write_glyph (glyph b) s
 print-over Kind glyph s b writes is = rw (writes.glyph b is, writes.sets b is) refl
 
 -- where no wrap is pending, over the cell at the cursor
-pub print-step : (Kind : ℕ → Type 0) (glyph : ℕ → ℕ) (s : Display) (b : ℕ) → WritesOver Kind glyph s → Kind b
+print-step : (Kind : ℕ → Type 0) (glyph : ℕ → ℕ) (s : Display) (b : ℕ) → WritesOver Kind glyph s → Kind b
     → s.cursor.wrap ≡ false
     → print b s ≡ record s {
       grid = put s.grid s.cursor.row s.cursor.col (cell_of (glyph b) s.brush);
@@ -113,7 +113,7 @@ prints-run runs Kind glyph (b ∷ next ∷ rest) s writes all off some room =
     }) column
 
 -- the display behind a wrap
-pub after_wrap-off : (s : Display) → (after_wrap s).cursor.wrap ≡ false
+after_wrap-off : (s : Display) → (after_wrap s).cursor.wrap ≡ false
 after_wrap-off s = go s.cursor.wrap refl
   where
     go : (b : Bool) → s.cursor.wrap ≡ b → (cond b (next_line s) s).cursor.wrap ≡ false
@@ -137,7 +137,7 @@ print-after_wrap Kind glyph s b writes is =
     ∙ ap (λ (t : Display). put_glyph (glyph b) t) off ∙ sym (print-over Kind glyph s b writes is)
 
 -- a run that ends in its row, and that isn't empty, is written as its bytes are
-pub prints-line : RunLaws → (Kind : ℕ → Type 0) (glyph : ℕ → ℕ) (bytes : List ℕ) (s : Display)
+prints-line : RunLaws → (Kind : ℕ → Type 0) (glyph : ℕ → ℕ) (bytes : List ℕ) (s : Display)
     → WritesOver Kind glyph s → All Kind bytes
     → 1 ≤ length bytes → (after_wrap s).cursor.col + length bytes ≤ last_column (after_wrap s) + 1
     → with_run (map glyph bytes) (after_wrap s) ≡ after_events (map Print bytes) s

@@ -18,8 +18,8 @@ use Rattle.vt_term.specs.Rendition.{select_graphic_rendition, select_character_a
 use Rattle.vt_term.specs.Modes.{origin_mode, autowrap_mode, column_mode, keypad_mode, report_form}
 use Rattle.vt_term.specs.Saving.{save_cursor, restore_cursor}
 use Rattle.vt_term.specs.Resets.{screen_alignment, reset_to_initial_state, soft_reset, set_conformance_level}
-use Rattle.vt_term.proofs.SoundGrids.{scroll_up-sound, scroll_down-sound, insert_cells-sound, delete_cells-sound}
-use Rattle.vt_term.proofs.SoundGrids.{erase_area-sound, blank_grid-sound, fill-sound, put-sound, put_inserting-sound}
+use Rattle.vt_screen.proofs.SoundGrids.{scroll_up-sound, scroll_down-sound, insert_cells-sound, delete_cells-sound}
+use Rattle.vt_screen.proofs.SoundGrids.{erase_area-sound, blank_grid-sound, fill-sound, put-sound, put_inserting-sound}
 use Rattle.vt_term.proofs.PowerUp.{display_at_power_up-sound}
 
 letter_e : IsGlyph 0x45
@@ -104,10 +104,10 @@ set_tab-keeps s i = search rules
 pub clear_tabs-keeps : (p : ℕ) → Keeps (clear_tabs p)
 clear_tabs-keeps p s i = search (rules, length-no_stops)
 
-pub put_glyph-keeps : (g : ℕ) → IsGlyph g → Keeps (put_glyph g)
+put_glyph-keeps : (g : ℕ) → IsGlyph g → Keeps (put_glyph g)
 put_glyph-keeps g shown s i = search (rules, put-sound, put_inserting-sound)
 
-pub after_wrap-keeps : Keeps after_wrap
+after_wrap-keeps : Keeps after_wrap
 after_wrap-keeps s i = go s.cursor.wrap
   where
     go : (b : Bool) → IsSoundDisplay (cond b (next_line s) s)

@@ -16,9 +16,10 @@ use Rattle.vt_term.specs.Sound.{IsSoundDisplay, IsSound}
 use Rattle.vt_term.specs.Writing.{print, write_if_read, write_glyph}
 use Rattle.vt_term.specs.Modes.{with_mode, change_modes, ansi_modes, private_modes}
 use Rattle.vt_term.specs.Functions.{unchanged, control_functions, control, plain_escapes, plain_escape, space_escapes}
-use Rattle.vt_term.specs.Functions.{number_escapes, escape_tables, escape_with, designate, designate_to, lock_left}
+use Rattle.vt_term.specs.Functions.{escape_tables, escape_with, designate, designate_to, lock_left}
 use Rattle.vt_term.specs.Functions.{lock_right, shift_once, plain_sequences, private_sequences, quote_sequences}
 use Rattle.vt_term.specs.Functions.{exclamation_sequences, sequence_in, sequences_of, SequenceTable, effect, byte}
+use Rattle.vt_term.specs.Resets.{screen_alignment}
 use Rattle.vt_term.specs.Play.{play, after_events}
 use Rattle.vt_term.proofs.SoundEffects.{Keeps, backspace-keeps, horizontal_tab-keeps, line_feed-keeps}
 use Rattle.vt_term.proofs.SoundEffects.{carriage_return-keeps, write_glyph-keeps, index-keeps, next_line-keeps}
@@ -185,7 +186,7 @@ escape_with-keeps : SetsLaws → (inter last : ℕ) → Keeps (escape_with inter
 unfolding escape_with AllKeep
 escape_with-keeps sets inter last =
     let space = looked_up-keeps Keeps space_escapes last unchanged unchanged-keeps (search keeping) in
-    let number = looked_up-keeps Keeps number_escapes last unchanged unchanged-keeps (search keeping) in
+    let number = looked_up-keeps Keeps ((byte (codes "8"), screen_alignment) ∷ []) last unchanged unchanged-keeps (search keeping) in
     looked_up-keeps (λ f. Keeps (f last)) escape_tables inter (λ last. unchanged) unchanged-keeps (
       space,
       (

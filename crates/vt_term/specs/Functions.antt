@@ -90,10 +90,6 @@ plain_escapes =
 abbrev pub space_escapes : List (ℕ × (Display → Display))
 space_escapes = (byte (codes "F"), report_form false) ∷ (byte (codes "G"), report_form true) ∷ []
 
--- DECALN
-abbrev pub number_escapes : List (ℕ × (Display → Display))
-number_escapes = (byte (codes "8"), screen_alignment) ∷ []
-
 abbrev pub designate_to : ℕ → Option Set → Display → Display
 designate_to slot None s = s
 designate_to slot (Some set) s = record s { sets = designated slot set s.sets }
@@ -102,11 +98,11 @@ designate_to slot (Some set) s = record s { sets = designated slot set s.sets }
 abbrev pub designate : ℕ → ℕ → Display → Display
 designate slot last = designate_to slot (set_of_final last)
 
--- by the intermediate
+-- by the intermediate; ESC # 8 is DECALN
 abbrev pub escape_tables : List (ℕ × (ℕ → Display → Display))
 escape_tables =
     (byte (codes " "), function_in space_escapes)
-    ∷ (byte (codes "#"), function_in number_escapes)
+    ∷ (byte (codes "#"), function_in ((byte (codes "8"), screen_alignment) ∷ []))
     ∷ (byte (codes "("), designate 0)
     ∷ (byte (codes ")"), designate 1)
     ∷ (byte (codes "*"), designate 2)
@@ -125,7 +121,7 @@ escape (Some inter) last = escape_with inter last
 
 -- ---- control sequences
 
--- ICH, CUU, CUD, CUF, CUB, CUP, ED, EL, IL, DL, DCH, ECH, HVP, TBC, SM, RM, SGR and DECSTBM
+-- by the final byte
 abbrev pub plain_sequences : List (ℕ × (List ℕ → Display → Display))
 plain_sequences =
     (byte (codes "@"), λ params. insert_character (count params))

@@ -42,18 +42,16 @@ plain_answers =
     ∷ (byte (codes "n"), (5, answer (codes "0n")) ∷ (6, cursor_report) ∷ [])
     ∷ []
 
--- after `>`: secondary DA
-abbrev pub greater_answers : Answers
-greater_answers = (byte (codes "c"), (0, secondary_attributes) ∷ []) ∷ []
-
 -- after `?`: DSR for the printer and the keyboard's language
 abbrev pub private_answers : Answers
 private_answers = (byte (codes "n"), (15, answer (codes "?13n")) ∷ (26, answer (codes "?27;1n")) ∷ []) ∷ []
 
+-- after `>`: secondary DA
 abbrev pub answers_of : Option ℕ → Option ℕ → Answers
 answers_of None None = plain_answers
 answers_of (Some marker) None =
-    unwrap_or (look_up ((byte (codes "?"), private_answers) ∷ (byte (codes ">"), greater_answers) ∷ []) marker) []
+    unwrap_or (look_up ((byte (codes "?"), private_answers)
+    ∷ (byte (codes ">"), (byte (codes "c"), (0, secondary_attributes) ∷ []) ∷ []) ∷ []) marker) []
 answers_of marker (Some inter) = []
 
 abbrev pub silent : Display → List ℕ

@@ -123,8 +123,8 @@ impl Display {
         }
     }
 
-    /// The scroll region moves up by one. (The whole screen has a call of its own: its rows are moved by a copy of a
-    /// fixed size.)
+    /// Moves the scroll region up by one row. Speed: for the whole screen there is a separate call, which moves its rows by
+    /// a copy of a fixed size.
     #[inline(always)]
     fn scroll_up_once(&mut self)
         ensures { self.new ≡ record self.old {

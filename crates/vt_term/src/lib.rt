@@ -1,6 +1,7 @@
 //! The terminal: a host's bytes in; a screen, a cursor and report bytes out.
 #![tactic(auto)]
 
+mod copying;
 mod cursor;
 mod display;
 mod editing;
@@ -22,7 +23,7 @@ mod writing;
 
 pub use display::{ROWS, STOPS, stops_at_power_up};
 pub use state::{Cursor, Margins, Modes, Saved};
-pub use terminal::{REPORT_LIMIT, TEXT_LIMIT, Terminal};
+pub use terminal::{REPORT_LIMIT, ROW_TEXT_LIMIT, TEXT_LIMIT, Terminal};
 pub use vt_glyph::{Glyph, Set, Sets};
 pub use vt_screen::{Brush, Cell, Rendition};
 pub use vt_syntax::{Held, Inters, Phase};

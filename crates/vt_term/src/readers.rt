@@ -1,8 +1,8 @@
 //! What a terminal is asked for: each part of its state.
-ghost use Rattle.std.specs.Prelude.{◌≡◌, ◌↔◌, ◌≤◌, ◌⊎◌, IsTrue, length};
+ghost use Rattle.std.specs.Prelude.{◌≡◌, ◌↔◌, ◌≤◌, ◌⊎◌, IsTrue, true, false, length};
 ghost use Rattle.vt_syntax.specs.Held.{IsHeldPart};
 ghost use Rattle.vt_syntax.specs.declared.held.Held.TheVariants.{Nothing};
-ghost use Rattle.vt_screen.specs.Grid.{row_of, last_row};
+ghost use Rattle.vt_screen.specs.Grid.{columns, row_of, last_row};
 ghost use Rattle.vt_term.specs.Sound.{IsSound};
 
 use crate::display::STOPS;
@@ -18,7 +18,7 @@ impl Terminal {
         requires { (1 ≤ row) × (row ≤ last_row) }
         ensures cells { result.now ≡ row_of self.now.display.grid row }
         ensures len { length result.now ≡ self.now.display.grid.width }
-        ensures width { (length result.now ≡ 80) ⊎ (length result.now ≡ 132) }
+        ensures width { (length result.now ≡ columns false) ⊎ (length result.now ≡ columns true) }
     {
         self.display.screen.row(row)
     }

@@ -3,7 +3,7 @@ ghost use Rattle.std.specs.Prelude.{◌≡◌};
 ghost use Rattle.vt_term.specs.State.{at_place, full_margins, modes_at_power_up, saved_at_power_up};
 
 use vt_glyph::{Set, Sets};
-use vt_screen::Brush;
+use vt_screen::{Brush, ROWS};
 
 /// The place of the next glyph. Rows count from 1 to 24, columns from 1 to the width.
 #[derive(Clone, Copy, Debug, PartialEq, Eq)]
@@ -43,7 +43,10 @@ impl Margins {
     pub(crate) fn full() -> Margins
         ensures { result ≡ full_margins }
     {
-        Margins { top: 1, bottom: 24 }
+        Margins {
+            top: 1,
+            bottom: ROWS,
+        }
     }
 }
 

@@ -36,7 +36,7 @@ impl Display {
 
 /// The next stop right of a column, or else the last column.
 fn next_stop(stops: &[bool; STOPS], col: usize, last: usize) -> usize
-    requires { (1 ≤ col) × (col ≤ last) × (last ≤ 132) }
+    requires { (1 ≤ col) × (col ≤ last) × (last ≤ STOPS) }
     ensures stop { result ≡ next_stop_of stops.now col last }
     ensures in_row { (1 ≤ result) × (result ≤ last) }
 {

@@ -11,8 +11,13 @@ use vt_glyph::Sets;
 use vt_screen::{Brush, Cell};
 use vt_syntax::Parser;
 
-/// The most bytes of a text: for each row three for each of 132 cells, and LF.
-pub const TEXT_LIMIT: usize = ROWS * (3 * STOPS + 1);
+/// The most bytes of the text of a row: three for each of 132 cells, and LF.
+pub const ROW_TEXT_LIMIT: usize = 3 * STOPS + 1;
+
+const _: () = prove!(ROW_TEXT_LIMIT == 397);
+
+/// The most bytes of a text: that of each row.
+pub const TEXT_LIMIT: usize = ROWS * ROW_TEXT_LIMIT;
 
 const _: () = prove!(TEXT_LIMIT == 9528);
 

@@ -2,10 +2,11 @@
 ghost use Rattle.vt_glyph.specs.Tables.{space};
 ghost use Rattle.std.specs.Prelude.{◌≡◌, ◌↔◌, IsTrue, ◌+◌, ◌*◌, ◌≤◌, ◌++◌, length, vec_len, vec_capacity, map};
 ghost use Rattle.std.specs.Prelude.{encode_utf8, OnOk, OnErr, IsOk};
+ghost use Rattle.vt_screen.specs.Grid.{row_of, last_row};
 ghost use Rattle.vt_term.specs.Text.{text, glyphs_of, line_text, trimmed};
 
 use crate::display::ROWS;
-use crate::terminal::{TEXT_LIMIT, Terminal};
+use crate::terminal::{ROW_TEXT_LIMIT, TEXT_LIMIT, Terminal};
 use std::alloc::AllocError;
 use vt_glyph::Glyph;
 use vt_screen::Cell;
@@ -38,6 +39,19 @@ impl Terminal {
         for row in 1..ROWS + 1 {
             push_line(self.row(row), out);
         }
+    }
+
+    /// Appends the text of one row, 1 to 24, to `out`, which has capacity for `ROW_TEXT_LIMIT` more bytes. It never fails
+    /// and allocates nothing.
+    pub fn row_text_reserved(&self, row: usize, out: &mut Vec<u8>)
+        requires row { (1 ≤ row) × (row ≤ last_row) }
+        requires room { vec_len out.old + ROW_TEXT_LIMIT ≤ vec_capacity out.old }
+        ensures items { out.new.items ≡ out.old.items ++ line_text (row_of self.now.display.grid row) }
+        ensures bounded { vec_len out.new ≤ vec_len out.old + ROW_TEXT_LIMIT }
+        ensures capacity { vec_capacity out.old ≤ vec_capacity out.new }
+    {
+        let cells = self.row(row);
+        push_line(cells, out);
     }
 }
 

@@ -11,8 +11,8 @@ ghost use Rattle.vt_term.specs.Runs.{WritesAscii, WritesInUse, with_run, advance
 use crate::display::Display;
 use crate::state::Cursor;
 use vt_glyph::{Glyph, InUse};
-use vt_screen::Cell;
 use vt_screen::laws::runs;
+use vt_screen::{COLUMNS, Cell};
 
 impl Display {
     /// A graphic byte, 20..7E or A0..FF: it is read through the sets.
@@ -73,6 +73,7 @@ impl Display {
     }
 
     /// Writes a run of plain bytes where GL is ASCII. Most runs end in the cursor's row.
+    /// Speed: a run that ends in the row of the cursor is written at once.
     #[inline(always)]
     pub(crate) fn write_run(&mut self, run: &[u8])
         requires plain { All IsPlain run.now }
@@ -106,6 +107,7 @@ impl Display {
     }
 
     /// Writes a run of graphic bytes through the sets in GL and GR. Most runs end in the cursor's row.
+    /// Speed: a run that ends in the row of the cursor is written at once.
     #[inline(always)]
     pub(crate) fn write_graphics(&mut self, run: &[u8])
         requires graphic { All HasGlyph run.now }
@@ -155,7 +157,7 @@ impl Display {
     fn room(&self) -> usize
         ensures room { result + self.now.cursor.col ≡ self.now.grid.width + 1 }
         ensures some { 1 ≤ result }
-        ensures few { result ≤ 132 }
+        ensures few { result ≤ COLUMNS }
     {
         self.screen.width() + 1 - self.cursor.col
     }

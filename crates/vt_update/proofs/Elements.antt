@@ -1,8 +1,7 @@
 -- Elements that are appended.
-use Rattle.std.proofs.Common.{◌≡◌, Bool, true, false, ℕ, ◌+◌, ◌-◌, ◌<◌, ◌≤◌, List, [], ◌∷◌, ◌++◌, length, take, drop, refl}
-use Rattle.std.proofs.Common.{sym, ap, subst, ◌∙◌, append_assoc, arith, set}
+use Rattle.std.proofs.Common.{◌≡◌, Bool, true, false, ℕ, ◌+◌, ◌<◌, ◌≤◌, List, [], ◌∷◌, ◌++◌, length, take, drop, refl}
+use Rattle.std.proofs.Common.{sym, ap, subst, ◌∙◌, append_assoc, set}
 use Rattle.std.proofs.lemmas.List.{take_more_set}
-use Rattle.std.proofs.Math.Seq.{drop-append_seam}
 use Rattle.vt_paint.specs.Spoken.{are_attributes, Speaks}
 use Rattle.vt_paint.proofs.Speech.{speaks-append, character_speaks}
 use Rattle.vt_update.specs.Private.Attributes.{attributes}
@@ -35,25 +34,6 @@ character_more all at next b e inside low high h =
     (sym (ap (λ n. take n (set all at b)) e ∙ take_more_set all at b inside))
     (speaks-append (take at all) (b ∷ []) h (character_speaks b low high))
 
--- the attributes, and without the first `;`
-pub attributes_are : (b u k r : Bool) → are_attributes (attributes b u k r) ≡ true
-attributes_are true true true true = refl
-attributes_are true true true false = refl
-attributes_are true true false true = refl
-attributes_are true true false false = refl
-attributes_are true false true true = refl
-attributes_are true false true false = refl
-attributes_are true false false true = refl
-attributes_are true false false false = refl
-attributes_are false true true true = refl
-attributes_are false true true false = refl
-attributes_are false true false true = refl
-attributes_are false true false false = refl
-attributes_are false false true true = refl
-attributes_are false false true false = refl
-attributes_are false false false true = refl
-attributes_are false false false false = refl
-
 pub attributes_behind : (b u k r : Bool) → are_attributes (drop 1 (attributes b u k r)) ≡ true
 attributes_behind true true true true = refl
 attributes_behind true true true false = refl
@@ -71,10 +51,3 @@ attributes_behind false false true true = refl
 attributes_behind false false true false = refl
 attributes_behind false false false true = refl
 attributes_behind false false false false = refl
-
--- what stands behind what was there before
-pub behind_speaks : (old sent now : List ℕ) (n : ℕ) → n ≡ length old → now ≡ old ++ sent → Speaks sent
-    → Speaks (drop n now)
-behind_speaks old sent now n e h k =
-    subst Speaks
-    (sym (ap (λ n. drop n now) e ∙ ap (λ (xs : List ℕ). drop (length old) xs) h ∙ drop-append_seam old sent)) k

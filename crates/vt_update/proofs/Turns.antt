@@ -10,7 +10,7 @@ module _ (none : (s : State) → IsSound s → play s [] ≡ silently s)
     (two : (s : State) (a b : List ℕ) → play s (a ++ b) ≡ both (play s a) (play (play s a).state b))
     (all : (s : State) (pieces : List (List ℕ)) → IsSound s → play_all s pieces ≡ play s (joined pieces))
     (kept : (s : State) (bytes : List ℕ) → IsSound s → IsSound (play s bytes).state) where
-  pub leads_played : (s t : State) (bytes : List ℕ) → IsSound s → play s bytes ≡ silently t → Leads s bytes t
+  leads_played : (s t : State) (bytes : List ℕ) → IsSound s → play s bytes ≡ silently t → Leads s bytes t
   leads_played s t bytes sound h = record {
     whole = h;
     cut = λ pieces e. all s pieces sound ∙ ap (λ bytes. play s bytes) e ∙ h;

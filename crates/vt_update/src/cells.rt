@@ -3,8 +3,8 @@ ghost use Rattle.std.specs.Prelude.{◌≤◌};
 ghost use Rattle.vt_screen.specs.Grid.{last_row};
 
 use crate::remote::Remote;
-use crate::rows::{BLANK, ROWS, Rows, word_of};
-use vt_screen::Cell;
+use crate::rows::{BLANK, Rows, word_of};
+use vt_screen::{Cell, ROWS};
 use vt_term::Terminal;
 
 /// An erasure pays where it spares more cells than this: so many bytes it takes.

@@ -1,6 +1,7 @@
 //! The bytes that are chosen: elements of what updates are made of, and nothing else.
 ghost use Rattle.std.specs.Prelude.{◌≡◌, ℕ, ◌+◌, ◌≤◌, ◌++◌, ◌∷◌, [], true, length, take, codes};
 ghost use Rattle.vt_paint.specs.Spoken.{Control, Escape, Sequence, is_spoken, is_one_of, is_among, mode_numbers, Speaks};
+ghost use Rattle.vt_update.specs.declared.chosen.TheConstants.{CHOICE_LIMIT};
 
 use itoa::Buffer;
 use vt_glyph::Set;
@@ -17,14 +18,14 @@ const CSI: &[u8] = b"\x1B[";
 pub(crate) struct Chosen {
     bytes: [u8; CHOICE_LIMIT],
     len: usize,
-    ghost within: { len ≤ 16384 },
+    ghost within: { len ≤ CHOICE_LIMIT },
     ghost speaks: { Speaks (take len bytes) },
 }
 
 /// Writes a part from a place on. Answers the place behind it.
 #[inline(always)]
 fn put_part(part: &[u8], at: usize, all: &mut [u8; CHOICE_LIMIT]) -> usize
-    requires { at + length part.now ≤ 16384 }
+    requires { at + length part.now ≤ CHOICE_LIMIT }
     ensures items { take result all.new ≡ take at all.old ++ part.now }
     ensures kept { (n : ℕ) → n ≤ at → take n all.new ≡ take n all.old }
     ensures next { result ≡ at + length part.now }
@@ -38,7 +39,7 @@ fn put_part(part: &[u8], at: usize, all: &mut [u8; CHOICE_LIMIT]) -> usize
 /// Writes the codes of plain cells from a place on. Answers the place behind them. (No other codes come; that they are cut
 /// to 20 to 7E here needs no proof of that.)
 fn put_codes(cells: &[Cell], at: usize, all: &mut [u8; CHOICE_LIMIT]) -> usize
-    requires { at + length cells.now ≤ 16384 }
+    requires { at + length cells.now ≤ CHOICE_LIMIT }
     ensures speaks { Speaks (take at all.old) → Speaks (take result all.new) }
     ensures kept { (n : ℕ) → n ≤ at → take n all.new ≡ take n all.old }
     ensures next { result ≡ at + length cells.now }

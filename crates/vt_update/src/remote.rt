@@ -9,7 +9,7 @@ ghost use Rattle.vt_update.specs.Private.Attributes.{attribute, attributes};
 use crate::chosen::Chosen;
 use crate::rows::{BLANK, word_of};
 use vt_glyph::{Glyph, Set, Sets, Spelling};
-use vt_screen::{Brush, Cell, Rendition};
+use vt_screen::{Brush, Cell, ROWS, Rendition};
 use vt_term::{Cursor, Margins, Modes, Saved, Terminal};
 
 /// The most cells that are written once more to get past them.
@@ -487,7 +487,10 @@ impl Remote {
         }
         let inside = self.margins.top <= saved.row && saved.row <= self.margins.bottom;
         if saved.origin && !inside {
-            self.set_margins(Margins { top: 1, bottom: 24 });
+            self.set_margins(Margins {
+                top: 1,
+                bottom: ROWS,
+            });
         }
         self.set_origin(saved.origin);
         let cursor = Cursor {

@@ -1,16 +1,10 @@
 //! The rows of the other side, and counts of cells.
-ghost use Rattle.std.specs.Prelude.{◌≤◌, ◌<◌};
-ghost use Rattle.vt_screen.specs.Grid.{last_row};
+ghost use Rattle.std.specs.Prelude.{◌≤◌, ◌<◌, true};
+ghost use Rattle.vt_screen.specs.Grid.{columns, last_row};
 
 use crate::scrolling::Scroll;
-use vt_screen::{Cell, same_cells};
+use vt_screen::{COLUMNS, Cell, ROWS, same_cells};
 use vt_term::Terminal;
-
-/// The rows of the screen.
-pub(crate) const ROWS: usize = 24;
-
-/// The columns of a wide screen.
-const WIDE: usize = 132;
 
 /// What erasing a row that is not to be touched spares: no other row makes that good.
 const NEVER: i32 = -10_000;
@@ -24,16 +18,16 @@ pub(crate) struct Rows<'a> {
     differing: [i32; ROWS],
     /// How many cells of each row aren't to be blank, where the row differs; else 0.
     filled: [i32; ROWS],
-    blanks: [Cell; WIDE],
+    blanks: [Cell; COLUMNS],
     width: usize,
-    ghost narrow: { width ≤ 132 },
+    ghost narrow: { width ≤ columns true },
 }
 
 impl Rows<'_> {
     /// The rows as they are shown; marked is where they differ from what they are to be.
     pub(crate) fn new<'a>(
         shown: &'a Terminal,
-        marks: &[[bool; WIDE]; ROWS],
+        marks: &[[bool; COLUMNS]; ROWS],
         to: &Terminal,
     ) -> Rows<'a> {
         let mut rows = Rows {
@@ -41,8 +35,8 @@ impl Rows<'_> {
             scroll: None,
             differing: [0; ROWS],
             filled: [0; ROWS],
-            blanks: [Cell::blank(); WIDE],
-            width: shown.width().min(WIDE),
+            blanks: [Cell::blank(); COLUMNS],
+            width: shown.width().min(COLUMNS),
         };
         for row in 1..ROWS + 1 {
             rows.note(row, marked(&marks[row - 1]), to);
@@ -57,8 +51,8 @@ impl Rows<'_> {
             scroll: Some(scroll),
             differing: [0; ROWS],
             filled: [0; ROWS],
-            blanks: [Cell::blank(); WIDE],
-            width: shown.width().min(WIDE),
+            blanks: [Cell::blank(); COLUMNS],
+            width: shown.width().min(COLUMNS),
         };
         rows.compare(to);
         rows
@@ -168,7 +162,7 @@ fn is_blank(cell: &Cell) -> bool {
 }
 
 /// How many places of a row are marked.
-fn marked(marks: &[bool; WIDE]) -> i32 {
+fn marked(marks: &[bool; COLUMNS]) -> i32 {
     let mut count = 0i32;
     for mark in marks.iter() {
         count = count.wrapping_add(*mark as i32);

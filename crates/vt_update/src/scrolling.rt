@@ -3,8 +3,8 @@ ghost use Rattle.std.specs.Prelude.{◌≤◌, ◌<◌, ◌+◌};
 ghost use Rattle.vt_screen.specs.Grid.{last_row};
 
 use crate::remote::Remote;
-use crate::rows::{ROWS, Rows, filled, unlike, word_of};
-use vt_screen::{Cell, same_cells};
+use crate::rows::{Rows, filled, unlike, word_of};
+use vt_screen::{Cell, ROWS, same_cells};
 use vt_term::{Margins, Terminal};
 
 /// The fewest cells that have to come to their rows by a scroll, for it to be looked at.
@@ -20,7 +20,7 @@ pub(crate) struct Scroll {
     ghost from_row_1: { 1 ≤ top },
     ghost some: { 1 ≤ by },
     ghost inside: { top + by ≤ bottom },
-    ghost to_last_row: { bottom ≤ 24 },
+    ghost to_last_row: { bottom ≤ last_row },
 }
 
 impl Scroll {

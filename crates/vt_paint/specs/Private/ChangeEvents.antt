@@ -1,39 +1,27 @@
 -- What is asked for where one screen is changed into another. No public clause speaks of it. (this profile)
-use Rattle.std.specs.Prelude.{ℕ, List, [], ◌∷◌, ◌++◌, Bool, true, Some, None, ◌&&◌, if◌then◌else◌, codes}
+use Rattle.std.specs.Prelude.{ℕ, List, [], ◌∷◌, ◌++◌, Bool, true, false, Some, None, ◌&&◌, if◌then◌else◌, codes}
 use Rattle.std.specs.List.{range_with_len, flat_map}
 use Rattle.vt_syntax.specs.declared.event.Event.{Event}
-use Rattle.vt_syntax.specs.declared.event.Event.TheVariants.{Escape, Sequence}
+use Rattle.vt_syntax.specs.declared.event.Event.TheVariants.{Sequence}
 use Rattle.vt_screen.specs.declared.cell.Rendition.{Rendition}
 use Rattle.vt_screen.specs.declared.cell.Brush.{Brush}
 use Rattle.vt_screen.specs.declared.cell.Cell.{Cell}
 use Rattle.vt_screen.specs.Cells.{brush_of}
 use Rattle.vt_screen.specs.Grid.{Grid, cell_at, last_row}
 use Rattle.vt_term.specs.declared.state.Cursor.{Cursor}
-use Rattle.vt_term.specs.declared.state.Modes.{Modes}
 use Rattle.vt_term.specs.declared.state.Saved.{Saved}
 use Rattle.vt_term.specs.State.{Display, saved_sets}
 use Rattle.vt_term.specs.Functions.{byte}
-use Rattle.vt_paint.specs.Controls.{where_true, sequence_of, ansi_mode, private_mode, decom, cursor_position}
-use Rattle.vt_paint.specs.Controls.{rendition_to, protection_to, brush_events, save_cursor, reports_8bit}
-use Rattle.vt_paint.specs.Controls.{application_keypad, sets_events, spelling_sets_events}
+use Rattle.vt_screen.specs.Same.{when}
+use Rattle.vt_paint.specs.Controls.{sequence_of, private_mode, cursor_position, rendition_to, protection_to}
+use Rattle.vt_paint.specs.Controls.{brush_events, save_cursor, sets_events, spelling_sets_events}
 use Rattle.vt_paint.specs.Pieces.{glyph_events}
-use Rattle.vt_paint.specs.Items.{margins_item, origin_item, position_item, wrap_item, shift_item}
+use Rattle.vt_paint.specs.Items.{origin_item, wrap_item, last_items}
 use Rattle.vt_paint.specs.Changes.{is_marked}
 
 -- DECSTR
 abbrev pub soft_reset : Event
 soft_reset = Sequence None (record { items = 0 ∷ [] }) (Some (byte (codes "!"))) (byte (codes "p"))
-
-abbrev pub decawm : ℕ
-decawm = 7
-
--- DECKPAM or DECKPNM
-abbrev pub keypad_event : Bool → Event
-keypad_event application = if application then application_keypad else Escape None (byte (codes ">"))
-
--- S8C1T or S7C1T
-abbrev pub report_form_event : Bool → Event
-report_form_event eight = if eight then reports_8bit else Escape (Some (byte (codes " "))) (byte (codes "F"))
 
 -- ---- the cells
 
@@ -53,7 +41,7 @@ short_brush_events brush = short_rendition brush.rendition ∷ protection_to bru
 
 -- a cell where it is marked: its place, its brush and its glyph
 unfoldable pub change_of : ℕ → ℕ → Bool → Cell → List Event
-change_of r c marked cell = where_true marked (cursor_position r c
+change_of r c marked cell = when marked (cursor_position r c
     ∷ (short_brush_events (brush_of cell) ++ glyph_events cell))
 
 abbrev pub change : List (List Bool) → Grid → ℕ → ℕ → List Event
@@ -77,7 +65,7 @@ changed_cells marks g = changed_rows marks g 1 last_row
 
 -- a soft reset, under which cells can be written; it resets DECAWM
 unfoldable pub start_item : List Event
-start_item = soft_reset ∷ private_mode decawm true ∷ []
+start_item = soft_reset ∷ private_mode 7 true ∷ []
 
 -- where the saved cursor is
 abbrev pub saved_cursor : Saved → Cursor
@@ -86,29 +74,12 @@ saved_cursor saved = record { row = saved.row; col = saved.col; wrap = saved.wra
 -- the saved record: all that is saved is made, and saved
 unfoldable pub record_item : Grid → Saved → List Event
 record_item g saved =
-    origin_item saved.origin
+    origin_item true saved.origin
     ++ (cursor_position saved.row saved.col
     ∷ (wrap_item g (saved_cursor saved)
     ++ (brush_events saved.brush
     ++ (sets_events (saved_sets saved)
     ++ save_cursor ∷ []))))
-
--- every mode but DECOM
-unfoldable pub every_mode : Modes → List Event
-every_mode m =
-    ansi_mode 2 m.kam
-    ∷ ansi_mode 4 m.irm
-    ∷ ansi_mode 12 m.srm
-    ∷ ansi_mode 20 m.lnm
-    ∷ private_mode 1 m.decckm
-    ∷ private_mode 4 m.decsclm
-    ∷ private_mode 5 m.decscnm
-    ∷ private_mode 7 m.decawm
-    ∷ private_mode 8 m.decarm
-    ∷ private_mode 25 m.dectcem
-    ∷ keypad_event m.keypad_application
-    ∷ report_form_event m.reports_8bit
-    ∷ []
 
 -- the marked cells, and then all but the cells, the width and the stops
 unfoldable pub change_events : List (List Bool) → Display → List Event
@@ -118,11 +89,4 @@ change_events marks s =
     ++ (changed_cells marks s.grid
     ++ (record_item s.grid s.saved
     ++ (spelling_sets_events
-    ++ (margins_item s.margins
-    ++ (private_mode decom s.modes.decom
-    ∷ (position_item s
-    ++ (wrap_item s.grid s.cursor
-    ++ (brush_events s.brush
-    ++ (sets_events s.sets
-    ++ (every_mode s.modes
-    ++ shift_item s.sets.pending)))))))))))
+    ++ last_items false s))))

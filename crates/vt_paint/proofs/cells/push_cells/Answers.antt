@@ -2,7 +2,8 @@ use Rattle.std.proofs.Common.{◌≡◌, ◌+◌, ◌-◌, ◌++◌, ◌||◌, n
 use Rattle.std.specs.List.{list_all}
 use Rattle.vt_paint.specs.Same.{is_blank}
 use Rattle.vt_syntax.specs.Spelling.{spell_events}
-use Rattle.vt_paint.specs.Controls.{where_true, spelling_sets_events}
+use Rattle.vt_screen.specs.Same.{when}
+use Rattle.vt_paint.specs.Controls.{spelling_sets_events}
 use Rattle.vt_paint.specs.Pieces.{rows_from, pieces, is_blank_grid}
 use Rattle.vt_paint.specs.Items.{cells_item}
 use Rattle.vt_paint.proofs.Pushing.{are_blank, shown-more, rows_shown, shown-unless}
@@ -27,7 +28,7 @@ loop-row-preserved c =
           (r - 1) r old c.loop-row.out.items c.push_shown_row-shown.new.out.items spelling_sets_events
           (omega arith) c.loop-row.invariant.shown after_is
           c.loop-row.invariant.items (step.items g c.row.ensures.cells)
-          ∙ ap (λ n. old ++ spell_events (where_true after (spelling_sets_events ++ rows_from g 1 n))) more;
+          ∙ ap (λ n. old ++ spell_events (when after (spelling_sets_events ++ rows_from g 1 n))) more;
       bounded = omega (arith, c.loop-row.invariant.bounded, step.bounded);
       capacity = omega (arith, c.loop-row.invariant.capacity, step.capacity);
     }
@@ -40,7 +41,7 @@ returns-clause-items c =
     let old = c.args.out.now.items in
     let all : c.loop-row.row - 1 ≡ 24 = omega arith in
     c.loop-row.invariant.items
-    ∙ ap (λ n. old ++ spell_events (where_true c.loop-row.shown (spelling_sets_events ++ rows_from g 1 n))) all
-    ∙ ap (λ b. old ++ spell_events (where_true b (spelling_sets_events ++ rows_from g 1 24)))
+    ∙ ap (λ n. old ++ spell_events (when c.loop-row.shown (spelling_sets_events ++ rows_from g 1 n))) all
+    ∙ ap (λ b. old ++ spell_events (when b (spelling_sets_events ++ rows_from g 1 24)))
     (c.loop-row.invariant.shown ∙ ap (λ n. w || not (are_blank g n)) all)
     ∙ ap (λ es. old ++ spell_events es) (shown-unless w (are_blank g 24) (spelling_sets_events ++ rows_from g 1 24))

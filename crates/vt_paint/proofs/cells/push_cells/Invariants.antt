@@ -3,7 +3,8 @@ use Rattle.std.specs.List.{range_with_len, list_all}
 use Rattle.vt_syntax.specs.Spelling.{spell_events}
 use Rattle.vt_screen.specs.Grid.{row_of}
 use Rattle.vt_paint.specs.Same.{is_blank}
-use Rattle.vt_paint.specs.Controls.{where_true, spelling_sets_events}
+use Rattle.vt_screen.specs.Same.{when}
+use Rattle.vt_paint.specs.Controls.{spelling_sets_events}
 use Rattle.vt_paint.specs.Pieces.{rows_from}
 use Rattle.vt_paint.specs.Private.Room.{head_room}
 use Rattle.vt_paint.proofs.cells.push_cells.Given as goal
@@ -14,7 +15,7 @@ invariant-loop-row l = record {
       ≡ (l.wrap || not (list_all (λ r. list_all is_blank (row_of l.t.display.grid r)) (range_with_len 1 (l.row - 1))));
   items : l.out.items
       ≡ l.fn.out.items
-      ++ spell_events (where_true l.shown (spelling_sets_events ++ rows_from l.t.display.grid 1 (l.row - 1)));
+      ++ spell_events (when l.shown (spelling_sets_events ++ rows_from l.t.display.grid 1 (l.row - 1)));
   bounded : vec_len l.out + head_room l.shown ≤ vec_len l.fn.out + 11 + 3828 * (l.row - 1);
   capacity : vec_capacity l.fn.out ≤ vec_capacity l.out;
 }

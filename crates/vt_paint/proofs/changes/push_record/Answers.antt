@@ -1,3 +1,4 @@
+use Rattle.std.proofs.Common.{true}
 use Rattle.vt_term.specs.State.{saved_sets}
 use Rattle.vt_paint.specs.Controls.{cursor_position, brush_events, sets_events, save_cursor}
 use Rattle.vt_paint.specs.Items.{origin_item, wrap_item}
@@ -9,7 +10,7 @@ pub returns-clause-items : goal.returns-clause-items
 unfolding record_item origin_item
 returns-clause-items c =
     let s = c.args.saved.now in
-    (then_events (events (origin_item s.origin) c.push_private_mode_where.ensures.items)
+    (then_events (events (origin_item true s.origin) c.push_private_mode_item.ensures.items)
     (then_events (event (cursor_position s.row s.col) c.push_cursor_to.ensures.items)
     (then_events (events (wrap_item c.args.t.now.display.grid (saved_cursor s)) c.push_wrap.ensures.items)
     (then_events (events (brush_events s.brush) c.push_brush.ensures.items)

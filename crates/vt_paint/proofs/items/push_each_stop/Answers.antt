@@ -1,5 +1,6 @@
 use Rattle.std.proofs.Common.{◌≡◌, ◌+◌, ◌-◌, false, get_or, arith, ap, ◌∷◌, []}
-use Rattle.vt_paint.specs.Controls.{where_true, cursor_position, set_tab}
+use Rattle.vt_screen.specs.Same.{when}
+use Rattle.vt_paint.specs.Controls.{cursor_position, set_tab}
 use Rattle.vt_paint.specs.Items.{stop_events}
 use Rattle.vt_paint.proofs.Pushing.{appended-more}
 use Rattle.vt_paint.proofs.items.push_each_stop.Goals as goal
@@ -13,10 +14,10 @@ loop-i-preserved c =
     record {
       items =
           appended-more (λ c. stop_events stops c) 1 i (i + 1)
-          (where_true (get_or stops i false) (cursor_position 1 (i + 1) ∷ set_tab ∷ [])) c.args.out.now.items
+          (when (get_or stops i false) (cursor_position 1 (i + 1) ∷ set_tab ∷ [])) c.args.out.now.items
           c.loop-i.out.items c.push_stop.new.out.items (omega arith)
           c.loop-i.invariant.items c.push_stop.ensures.items
-          (ap (λ n. where_true (get_or stops n false) (cursor_position 1 (i + 1) ∷ set_tab ∷ [])) back);
+          (ap (λ n. when (get_or stops n false) (cursor_position 1 (i + 1) ∷ set_tab ∷ [])) back);
       bounded = omega (arith, c.loop-i.invariant.bounded, c.push_stop.ensures.bounded);
       capacity = omega (arith, c.loop-i.invariant.capacity, c.push_stop.ensures.capacity);
     }

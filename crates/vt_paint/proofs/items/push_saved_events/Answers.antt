@@ -2,7 +2,8 @@ use Rattle.std.proofs.Common.{◌∷◌, [], true, false}
 use Rattle.vt_syntax.specs.declared.event.Event.TheVariants.{Print}
 use Rattle.vt_glyph.specs.Tables.{space}
 use Rattle.vt_term.specs.State.{saved_sets}
-use Rattle.vt_paint.specs.Controls.{where_true, private_mode, decom, cursor_position, brush_events, sets_events}
+use Rattle.vt_screen.specs.Same.{when}
+use Rattle.vt_paint.specs.Controls.{private_mode, cursor_position, brush_events, sets_events}
 use Rattle.vt_paint.specs.Controls.{save_cursor}
 use Rattle.vt_paint.specs.Items.{saved_events}
 use Rattle.vt_paint.proofs.Pushing.{then_events, events, event, bytes_where}
@@ -12,10 +13,10 @@ pub returns-clause-items : goal.returns-clause-items
 unfolding saved_events
 returns-clause-items c =
     let s = c.args.saved.now in
-    (then_events (events (where_true s.origin (private_mode decom true ∷ [])) c.push_private_mode_where.ensures.items)
+    (then_events (events (when s.origin (private_mode 6 true ∷ [])) c.push_private_mode_when.ensures.items)
     (then_events (event (cursor_position s.row s.col) c.push_cursor_to.ensures.items)
-    (then_events (bytes_where s.wrap (Print space ∷ []) c.push_where.ensures.items)
+    (then_events (bytes_where s.wrap (Print space ∷ []) c.push_when.ensures.items)
     (then_events (events (brush_events s.brush) c.push_brush.ensures.items)
     (then_events (events (sets_events (saved_sets s)) c.push_sets.ensures.items)
     (then_events (event save_cursor c.push_bytes.ensures.items)
-    (events (where_true s.origin (private_mode decom false ∷ [])) c.push_private_mode_where-2.ensures.items))))))).is
+    (events (when s.origin (private_mode 6 false ∷ [])) c.push_private_mode_when-2.ensures.items))))))).is

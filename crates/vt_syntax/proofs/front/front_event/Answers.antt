@@ -1,4 +1,4 @@
-use Rattle.std.proofs.Common.{get_or, arith, inl, inr}
+use Rattle.std.proofs.Common.{arith, inl, inr}
 use Rattle.vt_syntax.specs.declared.event.EventKind.TheVariants as kind
 use Rattle.vt_syntax.proofs.WholeSequences.{steps_csi}
 use Rattle.vt_syntax.proofs.Fronts.{whole_of, whole_graphic, whole_return}

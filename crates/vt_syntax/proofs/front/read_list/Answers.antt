@@ -1,4 +1,4 @@
-use Rattle.std.proofs.Common.{take, arith, refl, ◌∙◌, ◌-◌, length-take}
+use Rattle.std.proofs.Common.{take, arith, length-take}
 use Rattle.std.proofs.lemmas.List.{take_more_set}
 use Rattle.vt_syntax.proofs.WholeSequences.{read_none, read_separator}
 use Rattle.vt_syntax.proofs.front.read_list.Goals as goal

@@ -1,5 +1,5 @@
 -- The values so far, and a new one begins.
-use Rattle.std.proofs.Common.{◌≡◌, ◌-◌, ◌<◌, ◌≤◌, ◌++◌, [], ◌∷◌, length, take}
+use Rattle.std.proofs.Common.{◌-◌, ◌<◌, ◌≤◌, ◌++◌, [], ◌∷◌, length, take}
 use Rattle.vt_syntax.specs.Whole.{AreRead}
 use Rattle.vt_syntax.proofs.front.read_list.Given as goal
 

@@ -1,4 +1,4 @@
-use Rattle.std.proofs.Common.{◌+◌, ◌∙◌, arith, rules}
+use Rattle.std.proofs.Common.{◌+◌, ◌∙◌, arith}
 use Rattle.std.proofs.lemmas.List.{take-set-le}
 use Rattle.vt_update.proofs.Elements.{character_more}
 use Rattle.vt_update.proofs.chosen.put_codes.Goals as goal

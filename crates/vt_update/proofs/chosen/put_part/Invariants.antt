@@ -1,4 +1,4 @@
-use Rattle.std.proofs.Common.{◌≡◌, ℕ, ◌+◌, ◌≤◌, ◌++◌, take, length}
+use Rattle.std.proofs.Common.{◌≡◌, ℕ, ◌+◌, ◌≤◌, ◌++◌, take}
 use Rattle.vt_update.proofs.chosen.put_part.Given as goal
 
 abbrev pub invariant-loop-i : goal.invariant-loop-i

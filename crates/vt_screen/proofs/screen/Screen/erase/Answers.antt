@@ -1,9 +1,9 @@
 use Rattle.std.proofs.Common.{arith, ◌≡◌, ◌+◌, ◌-◌, length, ap, ◌∙◌, sym, subst}
 use Rattle.vt_screen.specs.Order.{room}
-use Rattle.vt_screen.specs.Grid.{Grid, erase, IsSoundGrid}
+use Rattle.vt_screen.specs.Grid.{Grid, columns_of, erase, IsSoundGrid}
 use Rattle.vt_screen.proofs.Places.{width-bounds}
 use Rattle.vt_screen.proofs.Maps.{edited, erase-row}
-use Rattle.vt_screen.proofs.SoundGrids.{erase-sound, as_many}
+use Rattle.vt_screen.proofs.SoundGrids.{erase_area-sound, as_many}
 use Rattle.vt_screen.proofs.screen.Screen.erase.Goals as goal
 
 pub returns-clause-grid : goal.returns-clause-grid
@@ -25,7 +25,7 @@ returns-clause-grid c =
 
 pub returns-clause-sound : goal.returns-clause-sound
 returns-clause-sound c = subst IsSoundGrid (sym (returns-clause-grid c))
-    (erase-sound c.args.self.now c.args.row c.args.from c.args.to c.args.selective
+    (erase_area-sound c.args.self.now (columns_of c.args.row c.args.from c.args.to) c.args.selective
     (subst IsSoundGrid c.self.view_is c.self.invariant.1))
 
 pub invariant_of-self : goal.invariant_of-self

@@ -3,7 +3,7 @@ use Rattle.vt_screen.specs.Grid.{columns, IsSoundGrid}
 use Rattle.vt_screen.specs.Order.{room}
 use Rattle.vt_screen.proofs.Places.{grid_of-same}
 use Rattle.vt_screen.proofs.Maps.{stored-replicate}
-use Rattle.vt_screen.proofs.SoundGrids.{blank-sound}
+use Rattle.vt_screen.proofs.SoundGrids.{blank_grid-sound}
 use Rattle.vt_screen.proofs.screen.Screen.new.Goals as goal
 
 pub returns : goal.returns
@@ -13,4 +13,4 @@ returns c =
 
 pub invariant_of-result : goal.invariant_of-result
 invariant_of-result c =
-    (search rules, subst IsSoundGrid (sym (returns c)) (blank-sound false))
+    (search rules, subst IsSoundGrid (sym (returns c)) (blank_grid-sound false))

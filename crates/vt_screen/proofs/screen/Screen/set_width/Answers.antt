@@ -5,7 +5,7 @@ use Rattle.vt_screen.specs.Cells.{blank}
 use Rattle.vt_screen.specs.Order.{stored}
 use Rattle.vt_screen.specs.Grid.{grid_of, columns, IsSoundGrid}
 use Rattle.vt_screen.proofs.Places.{grid_of-same}
-use Rattle.vt_screen.proofs.SoundGrids.{blank-sound, as_many}
+use Rattle.vt_screen.proofs.SoundGrids.{blank_grid-sound, as_many}
 use Rattle.vt_screen.proofs.screen.Screen.set_width.Goals as goal
 use Rattle.vt_screen.proofs.screen.Screen.set_width.Goals.{then-wide, else-wide}
 
@@ -23,7 +23,7 @@ returns-clause-grid c =
     ∙ ap (λ w. grid_of w (λ r col. blank)) width
 
 pub returns-clause-sound : goal.returns-clause-sound
-returns-clause-sound c = subst IsSoundGrid (sym (returns-clause-grid c)) (blank-sound c.args.wide)
+returns-clause-sound c = subst IsSoundGrid (sym (returns-clause-grid c)) (blank_grid-sound c.args.wide)
 
 pub invariant_of-self : goal.invariant_of-self
 invariant_of-self c =

@@ -1,5 +1,3 @@
-use Rattle.std.proofs.Common.{List, ℕ, ◌∷◌, [], subst, sym}
-use Rattle.vt_paint.specs.Spoken.{Speaks}
 use Rattle.vt_paint.proofs.Speech.{designation_speaks}
 use Rattle.vt_update.proofs.chosen.Chosen.designation.Goals as goal
 

@@ -1,5 +1,5 @@
-use Rattle.std.proofs.Common.{◌≡◌, ◌∙◌, ◌∷◌, ◌++◌, [], List, ℕ, sym, ap, subst, arith, decimal, take, append-nil, true}
-use Rattle.vt_paint.specs.Spoken.{Sequence, Speaks, are_numbers}
+use Rattle.std.proofs.Common.{◌≡◌, ◌∙◌, ◌∷◌, ◌++◌, [], List, ℕ, ap, arith, decimal, take}
+use Rattle.vt_paint.specs.Spoken.{Sequence}
 use Rattle.vt_paint.proofs.Speech.{speaks-one, numbers_spoken, two_numbers_are}
 use Rattle.vt_update.proofs.Elements.{put_two_speaks}
 use Rattle.vt_update.proofs.chosen.Chosen.numbered_twice.Goals as goal

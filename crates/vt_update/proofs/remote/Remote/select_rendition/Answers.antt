@@ -1,4 +1,4 @@
-use Rattle.std.proofs.Common.{◌≡◌, ◌∙◌, ◌||◌, ◌+◌, ◌-◌, List, ℕ, Bool, sym, ap, arith, take, drop, false}
+use Rattle.std.proofs.Common.{◌≡◌, ◌∙◌, ◌||◌, ◌+◌, ◌-◌, List, ℕ, sym, ap, arith, take, drop, false}
 use Rattle.std.proofs.lemmas.List.{drop-take}
 use Rattle.vt_paint.specs.Spoken.{are_attributes}
 use Rattle.vt_update.proofs.Elements.{attributes_behind}

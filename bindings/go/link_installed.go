@@ -1,0 +1,8 @@
+//go:build !vt220_source
+
+package vt220
+
+// The installed library, as pkg-config finds it.
+
+// #cgo pkg-config: vt220
+import "C"

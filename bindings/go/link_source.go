@@ -1,0 +1,9 @@
+//go:build vt220_source
+
+package vt220
+
+// The library that ./build-c builds into out/ of this repository.
+
+// #cgo CFLAGS: -I${SRCDIR}/../../include
+// #cgo LDFLAGS: ${SRCDIR}/../../out/libvt220.a
+import "C"

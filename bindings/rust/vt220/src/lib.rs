@@ -1,0 +1,436 @@
+//! A proved DEC VT220 terminal emulator core, over libvt220. Rows and columns count from 1.
+//!
+//! ```
+//! let mut terminal = vt220::Terminal::new().unwrap();
+//! let reports = terminal.feed(b"Hello\r\n\x1b[6n");
+//! assert_eq!(reports, b"\x1b[2;1R");
+//! let mut scratch = vt220::Scratch::new().unwrap();
+//! assert!(terminal.text(&mut scratch).starts_with("Hello\n"));
+//! ```
+use std::ffi::CStr;
+use std::fmt;
+use vt220_sys as sys;
+
+pub use vt220_sys::{
+    VT220_COLUMNS as COLUMNS, VT220_PAINT_LIMIT as PAINT_LIMIT, VT220_PICTURE_LIMIT as PICTURE_LIMIT,
+    VT220_REPORT_LIMIT as REPORT_LIMIT, VT220_ROWS as ROWS, VT220_ROW_TEXT_LIMIT as ROW_TEXT_LIMIT,
+    VT220_SHOW_LIMIT as SHOW_LIMIT, VT220_TEXT_LIMIT as TEXT_LIMIT, VT220_UPDATE_LIMIT as UPDATE_LIMIT,
+    VT220_VERSION as VERSION,
+};
+
+/// Holds the cursor, and whether the next character begins a new line.
+#[derive(Clone, Copy, Debug, Default, PartialEq, Eq)]
+pub struct Cursor {
+    pub row: usize,
+    pub col: usize,
+    pub wrap: bool,
+}
+
+/// Holds the first and the last row of the scroll region.
+#[derive(Clone, Copy, Debug, Default, PartialEq, Eq)]
+pub struct Margins {
+    pub top: usize,
+    pub bottom: usize,
+}
+
+/// Holds which modes are set.
+#[derive(Clone, Copy, Debug, Default, PartialEq, Eq)]
+pub struct Modes {
+    pub kam: bool,
+    pub irm: bool,
+    pub srm: bool,
+    pub lnm: bool,
+    pub decckm: bool,
+    pub decsclm: bool,
+    pub decscnm: bool,
+    pub decom: bool,
+    pub decawm: bool,
+    pub decarm: bool,
+    pub dectcem: bool,
+    pub keypad_application: bool,
+    pub reports_8bit: bool,
+}
+
+/// Holds the attributes with which a character is written.
+#[derive(Clone, Copy, Debug, Default, PartialEq, Eq)]
+pub struct Brush {
+    pub bold: bool,
+    pub underline: bool,
+    pub blink: bool,
+    pub reverse: bool,
+    /// A selective erase leaves what is written.
+    pub is_protected: bool,
+}
+
+/// Holds the graphic sets: the final byte of each set in G0 to G3, and which of these are in GL and GR.
+#[derive(Clone, Copy, Debug, Default, PartialEq, Eq)]
+pub struct Sets {
+    pub g: [u8; 4],
+    pub gl: u8,
+    pub gr: u8,
+    /// 2 or 3 if a single shift is pending.
+    pub single_shift: Option<u8>,
+}
+
+/// Holds what DECRC restores.
+#[derive(Clone, Copy, Debug, Default, PartialEq, Eq)]
+pub struct Saved {
+    pub cursor: Cursor,
+    pub origin: bool,
+    pub brush: Brush,
+    pub g: [u8; 4],
+    pub gl: u8,
+    pub gr: u8,
+}
+
+/// Holds one cell of the screen.
+#[derive(Clone, Copy, Debug, PartialEq, Eq)]
+pub struct Cell {
+    pub glyph: char,
+    pub brush: Brush,
+}
+
+/// Names what kind of sequence is unfinished.
+#[derive(Clone, Copy, Debug, PartialEq, Eq)]
+pub enum Held {
+    Nothing,
+    Escape,
+    Control,
+    String,
+}
+
+/// Says why nothing was done.
+#[derive(Clone, Copy, Debug, PartialEq, Eq)]
+pub enum Error {
+    /// The allocation failed.
+    Memory,
+    /// A terminal is inside a sequence.
+    Partial,
+    /// The processor is older than x86-64-v2.
+    Unsupported,
+    /// There is no such row.
+    NoRow,
+}
+
+impl Error {
+    fn status(self) -> u32 {
+        match self {
+            Error::Memory => sys::VT220_MEMORY,
+            Error::Partial => sys::VT220_PARTIAL,
+            Error::Unsupported => sys::VT220_UNSUPPORTED,
+            Error::NoRow => sys::VT220_NO_ROW,
+        }
+    }
+}
+
+impl fmt::Display for Error {
+    fn fmt(&self, f: &mut fmt::Formatter<'_>) -> fmt::Result {
+        // SAFETY: the call takes a number, and returns a text that is never null and lives for ever.
+        let text = unsafe { CStr::from_ptr(sys::vt220_status_text(self.status())) };
+        f.write_str(&text.to_string_lossy())
+    }
+}
+
+impl std::error::Error for Error {}
+
+fn result(status: u32) -> Result<(), Error> {
+    match status {
+        sys::VT220_OK => Ok(()),
+        sys::VT220_MEMORY => Err(Error::Memory),
+        sys::VT220_PARTIAL => Err(Error::Partial),
+        sys::VT220_UNSUPPORTED => Err(Error::Unsupported),
+        sys::VT220_NO_ROW => Err(Error::NoRow),
+        other => unreachable!("status {other} of an open terminal with enough capacity"),
+    }
+}
+
+/// Returns the library's version, as `VERSION`.
+pub fn version() -> u32 {
+    // SAFETY: it takes nothing.
+    unsafe { sys::vt220_version() }
+}
+
+/// Owns a scratch buffer, in which the calls that write a whole screen work. One serves any number of terminals.
+pub struct Scratch(sys::vt220_scratch);
+
+// SAFETY: a handle owns its memory alone, and each call that writes takes it by `&mut`.
+unsafe impl Send for Scratch {}
+
+impl Scratch {
+    /// Opens a scratch buffer.
+    ///
+    /// # Errors
+    ///
+    /// `Memory` if the allocation fails; `Unsupported` on an old processor.
+    pub fn new() -> Result<Scratch, Error> {
+        let mut handle = sys::vt220_scratch::INIT;
+        // SAFETY: the handle is closed.
+        result(unsafe { sys::vt220_scratch_open(&mut handle) })?;
+        Ok(Scratch(handle))
+    }
+}
+
+impl Drop for Scratch {
+    fn drop(&mut self) {
+        // SAFETY: the handle is as the calls left it.
+        unsafe { sys::vt220_scratch_close(&mut self.0) }
+    }
+}
+
+/// Owns a terminal. The methods that only read take `&self`, and threads may call them at once.
+pub struct Terminal(sys::vt220);
+
+// SAFETY: a handle owns its memory alone.
+unsafe impl Send for Terminal {}
+
+// SAFETY: the calls that take a `const vt220 *` don't write to the terminal.
+unsafe impl Sync for Terminal {}
+
+type Writer = unsafe extern "C" fn(*const sys::vt220, *mut sys::vt220_scratch, *mut u8, usize, *mut usize) -> u32;
+
+// SAFETY of all calls below: the handle is open from `new` on, and each length is that of its slice.
+impl Terminal {
+    /// Opens a terminal in its power-up state.
+    ///
+    /// # Errors
+    ///
+    /// `Memory` if the allocation fails; `Unsupported` on an old processor.
+    pub fn new() -> Result<Terminal, Error> {
+        let mut handle = sys::vt220::INIT;
+        result(unsafe { sys::vt220_open(&mut handle) })?;
+        Ok(Terminal(handle))
+    }
+
+    /// Opens another terminal in the same state.
+    ///
+    /// # Errors
+    ///
+    /// `Memory` if the allocation fails.
+    pub fn try_clone(&self) -> Result<Terminal, Error> {
+        let mut copy = Terminal::new()?;
+        copy.copy_from(self);
+        Ok(copy)
+    }
+
+    /// Brings this terminal into the state of another one, also if that is inside a sequence.
+    pub fn copy_from(&mut self, other: &Terminal) {
+        unsafe { sys::vt220_copy(&mut self.0, &other.0) };
+    }
+
+    /// Resets the terminal to its power-up state, also inside a sequence.
+    pub fn reset(&mut self) {
+        unsafe { sys::vt220_reset(&mut self.0) };
+    }
+
+    /// Processes bytes of the host as far as there is capacity for replies. Returns how many bytes were processed, and how
+    /// many bytes of replies were written. If some are left, fewer than `REPORT_LIMIT` bytes of `reports` are free.
+    pub fn feed_into(&mut self, bytes: &[u8], reports: &mut [u8]) -> (usize, usize) {
+        let mut written = 0;
+        let (len, size) = (bytes.len(), reports.len());
+        let taken = unsafe { sys::vt220_feed(&mut self.0, bytes.as_ptr(), len, reports.as_mut_ptr(), size, &mut written) };
+        (taken, written)
+    }
+
+    /// Processes all bytes of the host, and returns the replies to it.
+    pub fn feed(&mut self, bytes: &[u8]) -> Vec<u8> {
+        let (mut buffer, mut reports, mut at) = ([0; 5120], Vec::new(), 0);
+        while at < bytes.len() {
+            let (taken, written) = self.feed_into(&bytes[at..], &mut buffer);
+            reports.extend_from_slice(&buffer[..written]);
+            at += taken;
+        }
+        reports
+    }
+
+    /// Returns how often BEL was carried out.
+    pub fn bells(&self) -> u64 {
+        unsafe { sys::vt220_bells(&self.0) }
+    }
+
+    fn written(&self, call: Writer, scratch: &mut Scratch, limit: usize) -> Result<Vec<u8>, Error> {
+        let (mut out, mut written) = (Vec::with_capacity(limit), 0);
+        result(unsafe { call(&self.0, &mut scratch.0, out.as_mut_ptr(), limit, &mut written) })?;
+        // SAFETY: the call has written so many bytes, and has succeeded only if they fit.
+        unsafe { out.set_len(written) };
+        Ok(out)
+    }
+
+    fn text_by(&self, call: Writer, scratch: &mut Scratch, limit: usize) -> String {
+        let out = self.written(call, scratch, limit).expect("a text has no error");
+        String::from_utf8(out).expect("a text is UTF-8")
+    }
+
+    /// Returns the screen as text: 24 lines, each without the spaces at its end, and with LF.
+    pub fn text(&self, scratch: &mut Scratch) -> String {
+        self.text_by(sys::vt220_text, scratch, TEXT_LIMIT)
+    }
+
+    /// Returns one line of the text, that of a row from 1 to 24.
+    ///
+    /// # Errors
+    ///
+    /// `NoRow` if there is no such row.
+    pub fn row_text(&self, row: usize, scratch: &mut Scratch) -> Result<String, Error> {
+        let (mut out, mut written) = (vec![0; ROW_TEXT_LIMIT], 0);
+        let (at, size) = (out.as_mut_ptr(), out.len());
+        result(unsafe { sys::vt220_row_text(&self.0, &mut scratch.0, row, at, size, &mut written) })?;
+        out.truncate(written);
+        Ok(String::from_utf8(out).expect("a text is UTF-8"))
+    }
+
+    /// Returns the screen as text with SGR sequences for the attributes.
+    pub fn show(&self, scratch: &mut Scratch) -> String {
+        self.text_by(sys::vt220_show, scratch, SHOW_LIMIT)
+    }
+
+    /// Returns the screen as a picture: an SVG document.
+    pub fn picture(&self, scratch: &mut Scratch) -> String {
+        self.text_by(sys::vt220_picture, scratch, PICTURE_LIMIT)
+    }
+
+    /// Returns bytes that leave any terminal of this library in the state of this one.
+    ///
+    /// # Errors
+    ///
+    /// `Partial` inside a sequence.
+    pub fn repaint(&self, scratch: &mut Scratch) -> Result<Vec<u8>, Error> {
+        self.written(sys::vt220_repaint, scratch, PAINT_LIMIT)
+    }
+
+    /// Returns bytes that lead from the state of this terminal to that of another, and brings this one there.
+    ///
+    /// # Errors
+    ///
+    /// `Partial` if one of the two is inside a sequence.
+    pub fn update(&mut self, to: &Terminal, scratch: &mut Scratch) -> Result<Vec<u8>, Error> {
+        let (mut out, mut written) = (Vec::with_capacity(UPDATE_LIMIT), 0);
+        let at = out.as_mut_ptr();
+        result(unsafe { sys::vt220_update(&mut self.0, &to.0, &mut scratch.0, at, UPDATE_LIMIT, &mut written) })?;
+        // SAFETY: the call has written so many bytes, and these fit.
+        unsafe { out.set_len(written) };
+        Ok(out)
+    }
+
+    /// Returns which cells of a row of `to` this terminal doesn't have: index c - 1 is for column c.
+    ///
+    /// # Errors
+    ///
+    /// `NoRow` if there is no such row.
+    pub fn row_changes(&self, to: &Terminal, row: usize) -> Result<Vec<bool>, Error> {
+        let mut marks = sys::vt220_row_marks { width: 0, changed: [false; COLUMNS], reserved: [0; 12] };
+        result(unsafe { sys::vt220_row_changes(&self.0, &to.0, row, &mut marks) })?;
+        Ok(marks.changed[..marks.width].to_vec())
+    }
+
+    /// Returns the cells of a row, 1 to 24, or `None` if there is no such row.
+    pub fn row(&self, row: usize) -> Option<Vec<Cell>> {
+        let mut cells = [sys::vt220_cell::default(); COLUMNS];
+        let count = unsafe { sys::vt220_row(&self.0, row, cells.as_mut_ptr(), COLUMNS) };
+        if count == 0 {
+            return None;
+        }
+        cells[..count].iter().map(cell_of).collect()
+    }
+
+    /// Returns how many columns the screen has: 80 or 132.
+    pub fn width(&self) -> usize {
+        unsafe { sys::vt220_width(&self.0) }
+    }
+
+    /// Returns the place of the cursor.
+    pub fn cursor(&self) -> Cursor {
+        let mut now = sys::vt220_cursor_place::default();
+        unsafe { sys::vt220_cursor(&self.0, &mut now) };
+        Cursor { row: now.row, col: now.col, wrap: now.wrap }
+    }
+
+    /// Returns the margins.
+    pub fn margins(&self) -> Margins {
+        let mut now = sys::vt220_margin_rows::default();
+        unsafe { sys::vt220_margins(&self.0, &mut now) };
+        Margins { top: now.top, bottom: now.bottom }
+    }
+
+    /// Returns the modes.
+    pub fn modes(&self) -> Modes {
+        let mut now = sys::vt220_mode_set::default();
+        unsafe { sys::vt220_modes(&self.0, &mut now) };
+        Modes {
+            kam: now.kam,
+            irm: now.irm,
+            srm: now.srm,
+            lnm: now.lnm,
+            decckm: now.decckm,
+            decsclm: now.decsclm,
+            decscnm: now.decscnm,
+            decom: now.decom,
+            decawm: now.decawm,
+            decarm: now.decarm,
+            dectcem: now.dectcem,
+            keypad_application: now.keypad_application,
+            reports_8bit: now.reports_8bit,
+        }
+    }
+
+    /// Returns the attributes with which the next character is written.
+    pub fn brush(&self) -> Brush {
+        let mut now = sys::vt220_brush_look::default();
+        unsafe { sys::vt220_brush(&self.0, &mut now) };
+        Brush { bold: now.bold, underline: now.underline, blink: now.blink, reverse: now.reverse, is_protected: now.is_protected }
+    }
+
+    /// Returns the graphic sets.
+    pub fn sets(&self) -> Sets {
+        let mut now = sys::vt220_graphic_sets::default();
+        unsafe { sys::vt220_sets(&self.0, &mut now) };
+        let single_shift = if now.single_shift == 0 { None } else { Some(now.single_shift) };
+        Sets { g: [now.g0, now.g1, now.g2, now.g3], gl: now.gl, gr: now.gr, single_shift }
+    }
+
+    /// Returns which columns have a tab stop: index c - 1 is for column c.
+    pub fn stops(&self) -> [bool; COLUMNS] {
+        let mut now = sys::vt220_tab_stops { stop: [false; COLUMNS], reserved: [0; 12] };
+        unsafe { sys::vt220_stops(&self.0, &mut now) };
+        now.stop
+    }
+
+    /// Returns what DECRC restores.
+    pub fn saved(&self) -> Saved {
+        let mut now = sys::vt220_saved_record::default();
+        unsafe { sys::vt220_saved(&self.0, &mut now) };
+        let brush = Brush { bold: now.bold, underline: now.underline, blink: now.blink, reverse: now.reverse, is_protected: now.is_protected };
+        let cursor = Cursor { row: now.row, col: now.col, wrap: now.wrap };
+        Saved { cursor, origin: now.origin, brush, g: [now.g0, now.g1, now.g2, now.g3], gl: now.gl, gr: now.gr }
+    }
+
+    /// Returns whether the terminal is between sequences.
+    pub fn is_between(&self) -> bool {
+        unsafe { sys::vt220_is_between(&self.0) }
+    }
+
+    /// Returns what kind of sequence is unfinished.
+    pub fn held(&self) -> Held {
+        match unsafe { sys::vt220_held_kind(&self.0) } {
+            sys::VT220_HELD_NOTHING => Held::Nothing,
+            sys::VT220_HELD_ESCAPE => Held::Escape,
+            sys::VT220_HELD_CONTROL => Held::Control,
+            _ => Held::String,
+        }
+    }
+
+    /// Returns whether two terminals are in the same state, hidden parts included.
+    pub fn same_state(&self, other: &Terminal) -> bool {
+        unsafe { sys::vt220_same_state(&self.0, &other.0) }
+    }
+}
+
+impl Drop for Terminal {
+    fn drop(&mut self) {
+        unsafe { sys::vt220_close(&mut self.0) }
+    }
+}
+
+fn cell_of(cell: &sys::vt220_cell) -> Option<Cell> {
+    let brush = Brush { bold: cell.bold, underline: cell.underline, blink: cell.blink, reverse: cell.reverse, is_protected: cell.is_protected };
+    Some(Cell { glyph: char::from_u32(cell.glyph)?, brush })
+}

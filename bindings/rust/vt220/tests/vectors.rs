@@ -1,0 +1,116 @@
+//! The vectors through Rust: VT220_VECTORS names their file, else this repository's is read.
+use std::{env, fs};
+use vt220::{Error, Held, Scratch, Terminal};
+
+fn bytes_of(hex: &str) -> Vec<u8> {
+    (0..hex.len() / 2).map(|i| u8::from_str_radix(&hex[2 * i..2 * i + 2], 16).unwrap()).collect()
+}
+
+fn begun() -> Terminal {
+    let mut terminal = Terminal::new().unwrap();
+    terminal.feed(b"any\x1b[5mthing\x1b[?3h");
+    terminal
+}
+
+fn one_way(cut: usize, scratch: &mut Scratch, input: &[u8], fields: &[&str]) {
+    let mut terminal = Terminal::new().unwrap();
+    let sent: Vec<u8> = input.chunks(cut).flat_map(|piece| terminal.feed(piece)).collect();
+    assert_eq!(sent, bytes_of(fields[3]), "{}", fields[0]);
+    assert_eq!(terminal.text(scratch).into_bytes(), bytes_of(fields[2]), "{}", fields[0]);
+    let (mut other, mut shown) = (begun(), begun());
+    if fields[4] == "-" {
+        assert_eq!(terminal.repaint(scratch), Err(Error::Partial), "{}", fields[0]);
+        assert_eq!(shown.update(&terminal, scratch), Err(Error::Partial), "{}", fields[0]);
+        assert!(!terminal.is_between() && terminal.held() != Held::Nothing, "{}", fields[0]);
+        return;
+    }
+    let painted = terminal.repaint(scratch).unwrap();
+    assert_eq!(painted, bytes_of(fields[4]), "{}", fields[0]);
+    assert!(other.feed(&painted).is_empty() && other.same_state(&terminal), "{}", fields[0]);
+    let update = shown.update(&terminal, scratch).unwrap();
+    let mut played = begun();
+    assert!(played.feed(&update).is_empty() && played.same_state(&terminal), "{}", fields[0]);
+    assert!(shown.update(&terminal, scratch).unwrap().is_empty(), "{}", fields[0]);
+}
+
+#[test]
+fn vectors() {
+    // What is packed has no vectors beside it.
+    let here = concat!(env!("CARGO_MANIFEST_DIR"), "/../../../crates/vectors/stdout");
+    let path = env::var("VT220_VECTORS").unwrap_or_else(|_| here.to_string());
+    let (all, mut scratch) = match fs::read_to_string(path) {
+        Ok(all) => (all, Scratch::new().unwrap()),
+        Err(_) => return,
+    };
+    let mut count = 0;
+    for line in all.lines().skip(1) {
+        let fields: Vec<&str> = line.split('\t').collect();
+        let input = bytes_of(fields[1]);
+        for cut in [input.len().max(1), 1, 5] {
+            one_way(cut, &mut scratch, &input, &fields);
+        }
+        count += 1;
+    }
+    assert!(count >= 147);
+}
+
+#[test]
+fn readers() {
+    let mut terminal = Terminal::new().unwrap();
+    terminal.feed(b"\x1b[2;3H\x1b[1;4mx\x1b[5;9r\x1b[4h");
+    let cell = terminal.row(2).unwrap()[2];
+    assert!(cell.glyph == 'x' && cell.brush.bold && cell.brush.underline && !cell.brush.blink && !cell.brush.is_protected);
+    assert_eq!(terminal.row(24).unwrap().len(), 80);
+    assert!(terminal.row(0).is_none() && terminal.row(25).is_none());
+    assert_eq!(terminal.cursor(), vt220::Cursor { row: 1, col: 1, wrap: false });
+    assert_eq!(terminal.margins(), vt220::Margins { top: 5, bottom: 9 });
+    assert!(terminal.modes().irm && !terminal.modes().lnm && terminal.width() == 80);
+    assert_eq!(terminal.feed_into(b"\x1b[6n", &mut [0; 9]), (0, 0));
+    assert_eq!(vt220::version(), vt220::VERSION);
+}
+
+#[test]
+fn parts() {
+    let mut terminal = Terminal::new().unwrap();
+    terminal.feed(b"\x1b[3;7H\x1b(A\x1b)0\x0e\x1b[1m\x1b7\x1b[m\x1b[4m\x1bO\x07");
+    let (saved, sets) = (terminal.saved(), terminal.sets());
+    assert!(saved.cursor.row == 3 && saved.cursor.col == 7 && saved.brush.bold && saved.g == *b"A0<<" && saved.gl == 1);
+    assert!(sets.g == *b"A0<<" && sets.gl == 1 && sets.gr == 2 && sets.single_shift == Some(3));
+    assert!(terminal.brush().underline && !terminal.brush().bold && terminal.bells() == 1);
+    assert!(terminal.stops()[8] && !terminal.stops()[0] && !terminal.stops()[9]);
+}
+
+#[test]
+fn copies_and_changes() {
+    let (mut a, mut scratch) = (Terminal::new().unwrap(), Scratch::new().unwrap());
+    a.feed(b"abc\x1b[2");
+    let mut b = a.try_clone().unwrap();
+    assert!(a.same_state(&b) && a.same_state(&a) && a.update(&b, &mut scratch) == Err(Error::Partial));
+    a.feed(b"H");
+    b.feed(b"HB");
+    let marks = a.row_changes(&b, 2).unwrap();
+    assert!(marks.len() == 80 && marks[0] && marks.iter().filter(|&&changed| changed).count() == 1);
+    assert_eq!(a.row_changes(&b, 25), Err(Error::NoRow));
+    assert_eq!(b.row_text(2, &mut scratch).unwrap(), "B\n");
+    assert_eq!(b.row_text(0, &mut scratch), Err(Error::NoRow));
+    assert!(b.show(&mut scratch).starts_with("abc\nB\n") && b.picture(&mut scratch).starts_with("<svg "));
+    b.reset();
+    assert!(b.same_state(&Terminal::new().unwrap()));
+    assert_eq!(Error::Partial.to_string(), "a terminal is inside a sequence");
+}
+
+#[test]
+fn threads_read_at_once() {
+    let mut terminal = Terminal::new().unwrap();
+    terminal.feed(b"shared");
+    std::thread::scope(|scope| {
+        for _ in 0..4 {
+            scope.spawn(|| {
+                let mut scratch = Scratch::new().unwrap();
+                for _ in 0..200 {
+                    assert!(terminal.text(&mut scratch).starts_with("shared\n") && terminal.width() == 80);
+                }
+            });
+        }
+    });
+}

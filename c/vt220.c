@@ -1,0 +1,252 @@
+/* The calls of vt220.h over the proved ones, core_*. This file looks at the processor, allows null pointers of length 0 and the same
+ * terminal twice, keeps `const` handles unwritten, sets reserved bytes to zero, and counts the bells. */
+#include "vt220.h"
+#include <string.h>
+#if defined __x86_64__
+#include <cpuid.h>
+#endif
+
+/* A handle as the proved calls take it. They empty it while they work and then put the same block back, so each works on a copy. */
+typedef struct handle {
+    void *at;
+    bool is_open;
+} handle;
+
+uint32_t core_version(void);
+uint32_t core_open(handle *t);
+void core_close(handle *t);
+uint32_t core_scratch_open(handle *s);
+void core_scratch_close(handle *s);
+size_t core_feed(handle *t, const uint8_t *bytes, size_t len, bool counts, uint8_t *reports, size_t size, size_t *written, size_t *bells);
+uint32_t core_reset(handle *t);
+uint32_t core_copy(handle *to, handle *from);
+uint32_t core_text(handle *t, handle *s, uint8_t *out, size_t size, size_t *written);
+uint32_t core_row_text(handle *t, handle *s, size_t row, uint8_t *out, size_t size, size_t *written);
+uint32_t core_show(handle *t, handle *s, uint8_t *out, size_t size, size_t *written);
+uint32_t core_picture(handle *t, handle *s, uint8_t *out, size_t size, size_t *written);
+uint32_t core_repaint(handle *t, handle *s, uint8_t *out, size_t size, size_t *written);
+uint32_t core_update(handle *shown, handle *to, handle *s, uint8_t *out, size_t size, size_t *written);
+uint32_t core_row_changes(handle *shown, handle *to, size_t row, vt220_row_marks *marks);
+size_t core_row(handle *t, size_t row, vt220_cell *cells, size_t size);
+size_t core_width(handle *t);
+bool core_cursor(handle *t, vt220_cursor_place *cursor);
+bool core_margins(handle *t, vt220_margin_rows *margins);
+bool core_modes(handle *t, vt220_mode_set *modes);
+bool core_brush(handle *t, vt220_brush_look *brush);
+bool core_sets(handle *t, vt220_graphic_sets *sets);
+bool core_stops(handle *t, vt220_tab_stops *stops);
+bool core_saved(handle *t, vt220_saved_record *saved);
+bool core_is_between(handle *t);
+uint32_t core_held_kind(handle *t);
+bool core_same_state(handle *a, handle *b);
+
+/* Stands for a null pointer of length 0. */
+static uint8_t nothing;
+
+/* How many bytes are searched for BEL and then processed: few enough to stay in the nearest cache. */
+enum { BLOCK = 16384, BEL = 0x07 };
+
+static handle own(const vt220 *t) { return (handle){t->terminal, t->is_open}; }
+
+static bool is_same(const vt220 *a, const vt220 *b) { return a->is_open && b->is_open && a->terminal == b->terminal; }
+
+/* Returns whether the processor has all of x86-64-v2, which the proved calls are compiled for. */
+static bool is_supported(void) {
+#if defined __x86_64__
+    unsigned a, b, c = 0, d, low = 0;
+    const unsigned needed = bit_SSE3 | bit_SSSE3 | bit_CMPXCHG16B | bit_SSE4_1 | bit_SSE4_2 | bit_POPCNT;
+    if (!__get_cpuid(1, &a, &b, &c, &d) || !__get_cpuid(0x80000001, &a, &b, &low, &d)) return false;
+    return (c & needed) == needed && (low & bit_LAHF_LM) != 0;
+#else
+    return true;
+#endif
+}
+
+uint32_t vt220_version(void) { return core_version(); }
+
+const char *vt220_status_text(uint32_t status) {
+    static const char *const texts[] = {
+        "success",
+        "the allocation failed",
+        "the handle is already open",
+        "a handle is closed",
+        "a terminal is inside a sequence",
+        "the output buffer is too small",
+        "the processor is older than x86-64-v2",
+        "there is no such row",
+    };
+    return status < sizeof texts / sizeof texts[0] ? texts[status] : "unknown status";
+}
+
+uint32_t vt220_open(vt220 *t) {
+    if (t->is_open) return VT220_IN_USE;
+    if (!is_supported()) return VT220_UNSUPPORTED;
+    handle h = {NULL, false};
+    uint32_t status = core_open(&h);
+    if (status == VT220_OK) *t = (vt220){h.at, h.is_open, 0};
+    return status;
+}
+
+void vt220_close(vt220 *t) {
+    handle h = own(t);
+    if (h.is_open) core_close(&h);
+    *t = (vt220){NULL, false, 0};
+}
+
+bool vt220_is_open(const vt220 *t) { return t->is_open; }
+
+uint32_t vt220_scratch_open(vt220_scratch *s) {
+    if (s->is_open) return VT220_IN_USE;
+    if (!is_supported()) return VT220_UNSUPPORTED;
+    handle h = {NULL, false};
+    uint32_t status = core_scratch_open(&h);
+    if (status == VT220_OK) *s = (vt220_scratch){h.at, h.is_open};
+    return status;
+}
+
+void vt220_scratch_close(vt220_scratch *s) {
+    handle h = {s->room, s->is_open};
+    if (h.is_open) core_scratch_close(&h);
+    *s = (vt220_scratch){NULL, false};
+}
+
+bool vt220_scratch_is_open(const vt220_scratch *s) { return s->is_open; }
+
+size_t vt220_feed(vt220 *t, const uint8_t *bytes, size_t len, uint8_t *reports, size_t size, size_t *written) {
+    size_t taken = 0, filled = 0;
+    *written = 0;
+    if (!t->is_open) return 0;
+    if (reports == NULL) reports = &nothing, size = 0;
+    while (taken < len) {
+        size_t part = len - taken < BLOCK ? len - taken : BLOCK, sent = 0, rung = 0;
+        bool counts = memchr(bytes + taken, BEL, part) != NULL;
+        handle h = own(t);
+        size_t now = core_feed(&h, bytes + taken, part, counts, reports + filled, size - filled, &sent, &rung);
+        taken += now, filled += sent, t->bells += rung;
+        if (now < part) break;
+    }
+    *written = filled;
+    return taken;
+}
+
+uint64_t vt220_bells(const vt220 *t) { return t->is_open ? t->bells : 0; }
+
+uint32_t vt220_reset(vt220 *t) {
+    handle h = own(t);
+    return h.is_open ? core_reset(&h) : VT220_CLOSED;
+}
+
+uint32_t vt220_copy(vt220 *to, const vt220 *from) {
+    handle h = own(to), other = own(from);
+    if (!h.is_open || !other.is_open) return VT220_CLOSED;
+    return is_same(to, from) ? VT220_OK : core_copy(&h, &other);
+}
+
+/* Makes a call that writes bytes by way of a scratch buffer. */
+typedef uint32_t writer(handle *t, handle *s, uint8_t *out, size_t size, size_t *written);
+
+static uint32_t write_by(writer *call, const vt220 *t, vt220_scratch *s, uint8_t *out, size_t size, size_t *written) {
+    handle h = own(t), room = {s->room, s->is_open};
+    *written = 0;
+    if (!h.is_open || !room.is_open) return VT220_CLOSED;
+    if (out == NULL) out = &nothing, size = 0;
+    return call(&h, &room, out, size, written);
+}
+
+uint32_t vt220_text(const vt220 *t, vt220_scratch *s, uint8_t *out, size_t size, size_t *written) {
+    return write_by(core_text, t, s, out, size, written);
+}
+
+uint32_t vt220_show(const vt220 *t, vt220_scratch *s, uint8_t *out, size_t size, size_t *written) {
+    return write_by(core_show, t, s, out, size, written);
+}
+
+uint32_t vt220_picture(const vt220 *t, vt220_scratch *s, uint8_t *out, size_t size, size_t *written) {
+    return write_by(core_picture, t, s, out, size, written);
+}
+
+uint32_t vt220_repaint(const vt220 *t, vt220_scratch *s, uint8_t *out, size_t size, size_t *written) {
+    return write_by(core_repaint, t, s, out, size, written);
+}
+
+uint32_t vt220_row_text(const vt220 *t, vt220_scratch *s, size_t row, uint8_t *out, size_t size, size_t *written) {
+    handle h = own(t), room = {s->room, s->is_open};
+    *written = 0;
+    if (!h.is_open || !room.is_open) return VT220_CLOSED;
+    if (out == NULL) out = &nothing, size = 0;
+    return core_row_text(&h, &room, row, out, size, written);
+}
+
+uint32_t vt220_update(vt220 *shown, const vt220 *to, vt220_scratch *s, uint8_t *out, size_t size, size_t *written) {
+    handle h = own(shown), other = own(to), room = {s->room, s->is_open};
+    *written = 0;
+    if (!h.is_open || !other.is_open || !room.is_open) return VT220_CLOSED;
+    if (is_same(shown, to)) return core_is_between(&h) ? VT220_OK : VT220_PARTIAL;
+    if (out == NULL) out = &nothing, size = 0;
+    return core_update(&h, &other, &room, out, size, written);
+}
+
+uint32_t vt220_row_changes(const vt220 *shown, const vt220 *to, size_t row, vt220_row_marks *marks) {
+    handle h = own(shown), other = own(to);
+    vt220_row_marks now = {0};
+    if (!h.is_open || !other.is_open) return VT220_CLOSED;
+    if (row < 1 || row > VT220_ROWS) return VT220_NO_ROW;
+    if (is_same(shown, to)) {
+        now.width = core_width(&other);
+    } else {
+        core_row_changes(&h, &other, row, &now);
+        memset(now.changed + now.width, 0, VT220_COLUMNS - now.width);
+    }
+    memset(now.reserved, 0, sizeof now.reserved);
+    *marks = now;
+    return VT220_OK;
+}
+
+size_t vt220_row(const vt220 *t, size_t row, vt220_cell *cells, size_t size) {
+    handle h = own(t);
+    size_t width = h.is_open ? core_width(&h) : 0;
+    if (width == 0 || row < 1 || row > VT220_ROWS || size < width) return 0;
+    memset(cells, 0, width * sizeof *cells);
+    return core_row(&h, row, cells, width);
+}
+
+size_t vt220_width(const vt220 *t) {
+    handle h = own(t);
+    return h.is_open ? core_width(&h) : 0;
+}
+
+/* Defines a call that writes one part of the state. */
+#define PART(name, type)                               \
+    bool vt220_##name(const vt220 *t, type *name) {    \
+        handle h = own(t);                             \
+        type now = {0};                                \
+        if (!h.is_open) return false;                  \
+        core_##name(&h, &now);                         \
+        memset(now.reserved, 0, sizeof now.reserved);  \
+        *name = now;                                   \
+        return true;                                   \
+    }
+
+PART(cursor, vt220_cursor_place)
+PART(margins, vt220_margin_rows)
+PART(modes, vt220_mode_set)
+PART(brush, vt220_brush_look)
+PART(sets, vt220_graphic_sets)
+PART(stops, vt220_tab_stops)
+PART(saved, vt220_saved_record)
+
+bool vt220_is_between(const vt220 *t) {
+    handle h = own(t);
+    return h.is_open && core_is_between(&h);
+}
+
+uint32_t vt220_held_kind(const vt220 *t) {
+    handle h = own(t);
+    return h.is_open ? core_held_kind(&h) : VT220_HELD_NOTHING;
+}
+
+bool vt220_same_state(const vt220 *a, const vt220 *b) {
+    handle h = own(a), other = own(b);
+    if (!h.is_open || !other.is_open) return false;
+    return is_same(a, b) || core_same_state(&h, &other);
+}

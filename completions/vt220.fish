@@ -1,0 +1,15 @@
+# Completions of vt220 for fish.
+set -l commands text reports repaint status show picture
+complete -c vt220 -n "not __fish_seen_subcommand_from $commands help" -f
+complete -c vt220 -n "not __fish_seen_subcommand_from $commands help" -a text -d 'The screen as text'
+complete -c vt220 -n "not __fish_seen_subcommand_from $commands help" -a reports -d 'What the terminal answers to the host'
+complete -c vt220 -n "not __fish_seen_subcommand_from $commands help" -a repaint -d 'The bytes that rebuild the terminal'
+complete -c vt220 -n "not __fish_seen_subcommand_from $commands help" -a status -d 'The cursor, the margins and the unfinished sequence'
+complete -c vt220 -n "not __fish_seen_subcommand_from $commands help" -a show -d 'The screen with its attributes'
+complete -c vt220 -n "not __fish_seen_subcommand_from $commands help" -a picture -d 'The screen as SVG'
+complete -c vt220 -n "not __fish_seen_subcommand_from $commands help" -a help -d 'Help on a command'
+complete -c vt220 -n "not __fish_seen_subcommand_from $commands help" -l version -d 'Print the version'
+complete -c vt220 -n "__fish_seen_subcommand_from $commands" -l piece -x -d 'The most bytes of one read'
+complete -c vt220 -n "__fish_seen_subcommand_from $commands" -l limit -x -d 'The most bytes of the input'
+complete -c vt220 -n "__fish_seen_subcommand_from help" -f -a "$commands"
+complete -c vt220 -l help -d 'Print the help'

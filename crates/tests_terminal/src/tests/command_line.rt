@@ -1,0 +1,190 @@
+//! Which words are taken, and what is said of the others.
+use super::common::holds;
+use std::alloc::{AllocError, Global};
+use std::test::Fail;
+use vt_replay::{Settings, What, settings};
+
+/// The words of a line, cut at each space.
+pub(super) fn words_of(alloc: Global, line: &str) -> Result<Vec<String>, AllocError> {
+    let mut words = Vec::new(alloc);
+    for word in line.split(' ') {
+        words.push(String::from_str(alloc, word)?)?;
+    }
+    Ok(words)
+}
+
+/// A line of words, and what it asks for: the kind, piece, limit and file.
+type Taken = (&'static str, What, usize, u64, Option<&'static str>);
+
+const TAKEN: [Taken; 14] = [
+    // the defaults
+    ("vt220 text", What::Text, 4096, 268435456, None),
+    ("vt220 reports", What::Reports, 4096, 268435456, None),
+    (
+        "vt220 status a.bin",
+        What::Status,
+        4096,
+        268435456,
+        Some("a.bin"),
+    ),
+    ("vt220 show", What::Show, 4096, 268435456, None),
+    (
+        "vt220 picture top.bin",
+        What::Picture,
+        4096,
+        268435456,
+        Some("top.bin"),
+    ),
+    // the least and the greatest numbers
+    (
+        "vt220 repaint --piece 1 --limit 0 a",
+        What::Repaint,
+        1,
+        0,
+        Some("a"),
+    ),
+    (
+        "vt220 text --piece 65536 --limit 1099511627776",
+        What::Text,
+        65536,
+        1099511627776,
+        None,
+    ),
+    // as users type them
+    (
+        "vt220 text --piece=7 a",
+        What::Text,
+        7,
+        268435456,
+        Some("a"),
+    ),
+    ("vt220 text a --limit=9", What::Text, 4096, 9, Some("a")),
+    (
+        "vt220 status --limit 3 a --piece 2",
+        What::Status,
+        2,
+        3,
+        Some("a"),
+    ),
+    ("vt220 text -- -x", What::Text, 4096, 268435456, Some("-x")),
+    (
+        "vt220 text --piece 5 -- --limit",
+        What::Text,
+        5,
+        268435456,
+        Some("--limit"),
+    ),
+    ("vt220 text -", What::Text, 4096, 268435456, Some("-")),
+    (
+        "/usr/bin/other repaint +7",
+        What::Repaint,
+        4096,
+        268435456,
+        Some("+7"),
+    ),
+];
+
+/// Whether settings are those of a row.
+fn are_taken(found: &Settings, (_line, what, piece, limit, file): &Taken) -> bool {
+    found.what == *what
+        && found.piece == *piece
+        && found.limit == *limit
+        && found.file.as_ref().map(|name| name.as_str()) == *file
+}
+
+/// Whether the line of a row asks for its settings.
+fn asks_for(alloc: Global, row: &Taken) -> Result<bool, Fail> {
+    let asked = settings(alloc, words_of(alloc, row.0)?);
+    Ok(match &asked {
+        Ok(found) => are_taken(found, row),
+        Err(_) => false,
+    })
+}
+
+#[test]
+fn words_ask_for_settings(rt: HostRuntime) -> Result<(), Fail> {
+    for row in &TAKEN {
+        holds(&rt, row.0, asks_for(rt.alloc(), row)?);
+    }
+    Ok(())
+}
+
+/// A line that asks for nothing, the status, and how the text begins.
+const REFUSED: [(&str, u8, &str); 23] = [
+    (
+        "vt220 text --piece 0",
+        2,
+        "error: invalid value '0' for '--piece <N>'",
+    ),
+    (
+        "vt220 text --piece 65537",
+        2,
+        "error: invalid value '65537' for '--piece <N>'",
+    ),
+    (
+        "vt220 text --limit 1099511627777",
+        2,
+        "error: invalid value '1099511627777' for '--limit <N>'",
+    ),
+    (
+        "vt220 text --piece x",
+        2,
+        "error: invalid value 'x' for '--piece <N>'",
+    ),
+    ("vt220 text --limit -1", 2, "error: "),
+    ("vt220 text --piece", 2, "error: "),
+    ("vt220 text --piece 1 --piece 2", 2, "error: "),
+    ("vt220", 2, "error: "),
+    ("vt220 frob", 2, "error: unrecognized subcommand 'frob'"),
+    ("vt220 text a b", 2, "error: unexpected argument 'b' found"),
+    ("vt220 text -x", 2, "error: unexpected argument '-x' found"),
+    (
+        "vt220 --piece 7 text",
+        2,
+        "error: unexpected argument '--piece' found",
+    ),
+    ("vt220 help frob", 2, "error: "),
+    (
+        "vt220 --help",
+        0,
+        "Plays what a host sent to a VT220 terminal",
+    ),
+    ("vt220 -h", 0, "Plays what a host sent to a VT220 terminal"),
+    (
+        "vt220 help",
+        0,
+        "Plays what a host sent to a VT220 terminal",
+    ),
+    (
+        "vt220 text --piece 9 --help",
+        0,
+        "The screen: 24 lines of UTF-8",
+    ),
+    ("vt220 reports --help", 0, "What the terminal answers"),
+    ("vt220 repaint --help", 0, "The bytes that rebuild"),
+    ("vt220 status --help", 0, "The cursor, the wrap flag"),
+    (
+        "vt220 show --help",
+        0,
+        "The screen with its attributes, for a terminal of today",
+    ),
+    ("vt220 picture --help", 0, "The screen as a picture (SVG)"),
+    ("vt220 --version", 0, "vt220 0.3.0\n"),
+];
+
+/// Whether a line is refused with this status, and a text that begins so.
+fn is_refused(alloc: Global, line: &str, status: u8, text: &str) -> Result<bool, Fail> {
+    let asked = settings(alloc, words_of(alloc, line)?);
+    Ok(match &asked {
+        Ok(_) => false,
+        Err(refused) => refused.status == status && refused.text.as_str().starts_with(text),
+    })
+}
+
+#[test]
+fn words_are_refused(rt: HostRuntime) -> Result<(), Fail> {
+    for (line, status, text) in &REFUSED {
+        holds(&rt, line, is_refused(rt.alloc(), line, *status, text)?);
+    }
+    Ok(())
+}

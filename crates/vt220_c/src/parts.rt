@@ -1,0 +1,179 @@
+//! The parts of the state that say what later bytes do: brush, sets, tab stops and the saved record.
+ghost use Rattle.std.specs.Prelude.{◌≡◌, IfSome, is_some};
+ghost use Rattle.vt220_c.specs.Parts.{c_brush, c_sets, c_saved};
+ghost use Rattle.std.specs.declared.option.Option.TheVariants.{None};
+
+use crate::handle::Vt220;
+use std::alloc::Global;
+use vt_screen::Brush;
+use vt_term::{STOPS, Saved, Sets};
+
+/// What the next glyph is written with.
+#[repr(C)]
+#[derive(Clone, Copy)]
+pub struct Vt220Brush {
+    pub bold: bool,
+    pub underline: bool,
+    pub blink: bool,
+    pub reverse: bool,
+    pub is_protected: bool,
+}
+
+/// The graphic sets: the final bytes of those designated as G0 to G3, the slots in GL and GR, and the slot of a pending
+/// single shift, or 0.
+#[repr(C)]
+#[derive(Clone, Copy)]
+pub struct Vt220Sets {
+    pub g0: u8,
+    pub g1: u8,
+    pub g2: u8,
+    pub g3: u8,
+    pub gl: u8,
+    pub gr: u8,
+    pub single_shift: u8,
+}
+
+/// The tab stops: place c - 1 for column c.
+#[repr(C)]
+#[derive(Clone, Copy)]
+pub struct Vt220Stops {
+    pub stop: [bool; STOPS],
+}
+
+/// What DECRC gives back.
+#[repr(C)]
+#[derive(Clone, Copy)]
+pub struct Vt220Saved {
+    pub row: usize,
+    pub col: usize,
+    pub wrap: bool,
+    pub origin: bool,
+    pub bold: bool,
+    pub underline: bool,
+    pub blink: bool,
+    pub reverse: bool,
+    pub is_protected: bool,
+    pub g0: u8,
+    pub g1: u8,
+    pub g2: u8,
+    pub g3: u8,
+    pub gl: u8,
+    pub gr: u8,
+}
+
+fn c_brush(brush: Brush) -> Vt220Brush
+    ensures { result ≡ c_brush brush }
+{
+    let look = brush.rendition;
+    Vt220Brush {
+        bold: look.bold,
+        underline: look.underline,
+        blink: look.blink,
+        reverse: look.reverse,
+        is_protected: brush.protected,
+    }
+}
+
+fn c_sets(sets: &Sets) -> Vt220Sets
+    ensures { result ≡ c_sets sets.now }
+{
+    Vt220Sets {
+        g0: sets.set(0).last(),
+        g1: sets.set(1).last(),
+        g2: sets.set(2).last(),
+        g3: sets.set(3).last(),
+        gl: sets.left(),
+        gr: sets.right(),
+        single_shift: sets.pending().unwrap_or(0),
+    }
+}
+
+fn c_saved(saved: &Saved) -> Vt220Saved
+    ensures { result ≡ c_saved saved.now }
+{
+    let look = saved.brush.rendition;
+    Vt220Saved {
+        row: saved.row,
+        col: saved.col,
+        wrap: saved.wrap,
+        origin: saved.origin,
+        bold: look.bold,
+        underline: look.underline,
+        blink: look.blink,
+        reverse: look.reverse,
+        is_protected: saved.brush.protected,
+        g0: saved.g[0].last(),
+        g1: saved.g[1].last(),
+        g2: saved.g[2].last(),
+        g3: saved.g[3].last(),
+        gl: saved.gl,
+        gr: saved.gr,
+    }
+}
+
+/// Writes the brush. False, and `brush` is unchanged, if the handle is closed.
+#[unsafe(no_mangle)]
+pub extern "C" fn core_brush(t: &mut Vt220, brush: &mut Vt220Brush, alloc: Global) -> bool
+    ensures same { t.new.kept.inside ≡ t.old.kept.inside }
+    ensures brush { IfSome t.old.kept.inside (λ s. brush.new ≡ c_brush s.display.brush) }
+    ensures closed { t.old.kept.inside ≡ None → brush.new ≡ brush.old }
+    ensures opened { result ≡ is_some t.old.kept.inside }
+{
+    let Some(inner) = t.take(alloc) else {
+        return false;
+    };
+    *brush = c_brush(inner.terminal().brush());
+    t.put(inner);
+    true
+}
+
+/// Writes the sets. False, and `sets` is unchanged, if the handle is closed.
+#[unsafe(no_mangle)]
+pub extern "C" fn core_sets(t: &mut Vt220, sets: &mut Vt220Sets, alloc: Global) -> bool
+    ensures same { t.new.kept.inside ≡ t.old.kept.inside }
+    ensures sets { IfSome t.old.kept.inside (λ s. sets.new ≡ c_sets s.display.sets) }
+    ensures closed { t.old.kept.inside ≡ None → sets.new ≡ sets.old }
+    ensures opened { result ≡ is_some t.old.kept.inside }
+{
+    let Some(inner) = t.take(alloc) else {
+        return false;
+    };
+    *sets = c_sets(inner.terminal().sets());
+    t.put(inner);
+    true
+}
+
+/// Writes the tab stops of the columns 1 to 132, whatever the width. False, and `stops` is unchanged, if the handle is
+/// closed.
+#[unsafe(no_mangle)]
+pub extern "C" fn core_stops(t: &mut Vt220, stops: &mut Vt220Stops, alloc: Global) -> bool
+    ensures same { t.new.kept.inside ≡ t.old.kept.inside }
+    ensures stops { IfSome t.old.kept.inside (λ s. stops.new ≡ record { stop = s.display.stops }) }
+    ensures closed { t.old.kept.inside ≡ None → stops.new ≡ stops.old }
+    ensures opened { result ≡ is_some t.old.kept.inside }
+{
+    let Some(inner) = t.take(alloc) else {
+        return false;
+    };
+    *stops = Vt220Stops {
+        stop: *inner.terminal().stops(),
+    };
+    t.put(inner);
+    true
+}
+
+/// Writes the saved record. False, and `saved` is unchanged, if the handle is closed.
+#[unsafe(no_mangle)]
+pub extern "C" fn core_saved(t: &mut Vt220, saved: &mut Vt220Saved, alloc: Global) -> bool
+    ensures same { t.new.kept.inside ≡ t.old.kept.inside }
+    ensures saved { IfSome t.old.kept.inside (λ s. saved.new ≡ c_saved s.display.saved) }
+    ensures closed { t.old.kept.inside ≡ None → saved.new ≡ saved.old }
+    ensures opened { result ≡ is_some t.old.kept.inside }
+{
+    let Some(inner) = t.take(alloc) else {
+        return false;
+    };
+    *saved = c_saved(&inner.terminal().saved());
+    t.put(inner);
+    true
+}

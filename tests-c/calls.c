@@ -1,0 +1,231 @@
+/* calls: each call of the header that the other tests don't turn, with values from docs/SPECIFICATION.md and the VT220 manual. */
+#include "check.h"
+
+static vt220_scratch s = VT220_INIT;
+static uint8_t out[VT220_PICTURE_LIMIT], other[VT220_PICTURE_LIMIT];
+
+static vt220 opened(const char *text) {
+    vt220 t = VT220_INIT;
+    uint8_t reports[64];
+    size_t written;
+    CHECK(vt220_open(&t) == VT220_OK);
+    CHECK(vt220_feed(&t, (const uint8_t *)text, strlen(text), reports, sizeof reports, &written) == strlen(text) && written == 0);
+    return t;
+}
+
+static void feed(vt220 *t, const char *text) {
+    uint8_t reports[64];
+    size_t written;
+    CHECK(vt220_feed(t, (const uint8_t *)text, strlen(text), reports, sizeof reports, &written) == strlen(text) && written == 0);
+}
+
+static bool all_zero(const uint8_t *at, size_t len) {
+    for (size_t i = 0; i < len; i++)
+        if (at[i] != 0) return false;
+    return true;
+}
+#define RESERVED(x) all_zero((x).reserved, sizeof(x).reserved)
+
+/* A BEL rings between sequences and inside an escape or control sequence, and not in a control string, which OSC's BEL ends. */
+static void bells(void) {
+    static const struct {
+        const char *bytes;
+        size_t len;
+        uint64_t bells;
+    } rows[] = {
+        {"", 0, 0}, {"abc", 3, 0}, {"\a", 1, 1}, {"a\ab\a\ac", 6, 3}, {"\033[\a1m\a", 6, 2}, {"\033\a(B", 4, 1},
+        {"\033P\a\a\033\\\a", 7, 1}, {"\033]0;x\ay\a", 8, 1}, {"\x90\a\x9c\a", 4, 1}, {"\x1b[:\a\am\a", 7, 3}, {"\033_\a\x18\a", 5, 1},
+    };
+    static uint8_t many[70000];
+    uint8_t reports[5120];
+    size_t written;
+    for (size_t i = 0; i < sizeof rows / sizeof rows[0]; i++) {
+        vt220 t = VT220_INIT, u = VT220_INIT;
+        CHECK(vt220_open(&t) == VT220_OK && vt220_open(&u) == VT220_OK && vt220_bells(&t) == 0);
+        CHECK(vt220_feed(&t, (const uint8_t *)rows[i].bytes, rows[i].len, reports, sizeof reports, &written) == rows[i].len);
+        CHECK(vt220_bells(&t) == rows[i].bells);
+        for (size_t j = 0; j < rows[i].len; j++) CHECK(vt220_feed(&u, (const uint8_t *)rows[i].bytes + j, 1, reports, 10, &written) == 1);
+        CHECK(vt220_bells(&u) == rows[i].bells && vt220_same_state(&t, &u));
+        vt220_close(&t);
+        CHECK(vt220_bells(&t) == 0);
+        vt220_close(&u);
+    }
+    memset(many, 'x', sizeof many);
+    for (size_t i = 0; i < sizeof many; i += 1000) many[i] = '\a';
+    vt220 t = VT220_INIT;
+    CHECK(vt220_open(&t) == VT220_OK);
+    CHECK(vt220_feed(&t, many, sizeof many, reports, sizeof reports, &written) == sizeof many && vt220_bells(&t) == 70);
+    CHECK(vt220_reset(&t) == VT220_OK && vt220_bells(&t) == 70);
+    memset(many, '\a', 600);
+    CHECK(vt220_feed(&t, many, 600, reports, 10, &written) == 600 && vt220_bells(&t) == 670);
+    vt220_close(&t);
+}
+
+static void resets_and_copies(void) {
+    static const char *const states[] = {"", "abc", "\033[?3h\033[5;9r\033[4mx", "\033", "\033 ", "\033  ", "\033[", "\033[?12;7", "\033[1;2;3;4;5;6;7;8;9;10;11;12;13;14;15;16;17", "\033[1 ", "\033[:", "\033P1", "\033]0;", "\033_x", "\033N", "\033#8\033[7m\0337\033)0\016"};
+    vt220 power_up = opened("");
+    for (size_t i = 0; i < sizeof states / sizeof states[0]; i++) {
+        vt220 from = opened(states[i]), to = opened("\033[?3hzz\033]");
+        CHECK(vt220_copy(&to, &from) == VT220_OK && vt220_same_state(&to, &from) && vt220_held_kind(&to) == vt220_held_kind(&from));
+        feed(&to, "1m\033[2;2Hq");
+        CHECK(!vt220_same_state(&to, &from));
+        feed(&from, "1m\033[2;2Hq");
+        CHECK(vt220_same_state(&to, &from));
+        CHECK(vt220_copy(&from, &from) == VT220_OK && vt220_same_state(&to, &from));
+        CHECK(vt220_reset(&from) == VT220_OK && vt220_same_state(&from, &power_up));
+        vt220_close(&from);
+        CHECK(vt220_copy(&to, &from) == VT220_CLOSED && vt220_copy(&from, &to) == VT220_CLOSED && vt220_reset(&from) == VT220_CLOSED);
+        vt220_close(&to);
+    }
+    vt220_close(&power_up);
+}
+
+static void parts(void) {
+    vt220 t = opened("");
+    vt220_cursor_place cursor;
+    vt220_margin_rows margins;
+    vt220_mode_set modes;
+    vt220_brush_look brush;
+    vt220_graphic_sets sets;
+    vt220_tab_stops stops;
+    vt220_saved_record saved;
+    /* What is written needs nothing of the caller before. */
+    memset(&cursor, 0xA5, sizeof cursor), memset(&margins, 0xA5, sizeof margins), memset(&modes, 0xA5, sizeof modes);
+    memset(&brush, 0xA5, sizeof brush), memset(&sets, 0xA5, sizeof sets), memset(&stops, 0xA5, sizeof stops), memset(&saved, 0xA5, sizeof saved);
+    CHECK(vt220_cursor(&t, &cursor) && cursor.row == 1 && cursor.col == 1 && !cursor.wrap && RESERVED(cursor));
+    CHECK(vt220_margins(&t, &margins) && margins.top == 1 && margins.bottom == 24 && RESERVED(margins));
+    CHECK(vt220_modes(&t, &modes) && modes.srm && modes.decawm && !modes.irm && RESERVED(modes));
+    CHECK(vt220_brush(&t, &brush) && !brush.bold && !brush.underline && !brush.blink && !brush.reverse && !brush.is_protected && RESERVED(brush));
+    CHECK(vt220_sets(&t, &sets) && sets.g0 == 'B' && sets.g1 == 'B' && sets.g2 == '<' && sets.g3 == '<');
+    CHECK(sets.gl == 0 && sets.gr == 2 && sets.single_shift == 0 && RESERVED(sets));
+    CHECK(vt220_stops(&t, &stops) && RESERVED(stops));
+    for (size_t c = 1; c <= VT220_COLUMNS; c++) CHECK(stops.stop[c - 1] == (c > 1 && c % 8 == 1));
+    CHECK(vt220_saved(&t, &saved) && saved.row == 1 && saved.col == 1 && !saved.wrap && !saved.origin && RESERVED(saved));
+    CHECK(saved.g0 == 'B' && saved.g1 == 'B' && saved.g2 == '<' && saved.g3 == '<' && saved.gl == 0 && saved.gr == 2);
+    /* Each field by itself. */
+    feed(&t, "\033[3;7H\033(A\033)0\033*K\033+B\016\033}\033[1;5m\0337\033[0;4;7m\033[1\"q\033(K\033n\033~\033O");
+    CHECK(vt220_saved(&t, &saved) && saved.row == 3 && saved.col == 7 && saved.bold && saved.blink && !saved.underline && !saved.reverse && !saved.is_protected);
+    CHECK(saved.g0 == 'A' && saved.g1 == '0' && saved.g2 == 'K' && saved.g3 == 'B' && saved.gl == 1 && saved.gr == 2);
+    CHECK(vt220_brush(&t, &brush) && !brush.bold && brush.underline && !brush.blink && brush.reverse && brush.is_protected);
+    CHECK(vt220_sets(&t, &sets) && sets.g0 == 'K' && sets.g1 == '0' && sets.g2 == 'K' && sets.g3 == 'B' && sets.gl == 2 && sets.gr == 1 && sets.single_shift == 3);
+    feed(&t, "\033[3g\033[1;5H\033H\033[?6h\033[24;80Hx\0337");
+    CHECK(vt220_stops(&t, &stops));
+    for (size_t c = 1; c <= VT220_COLUMNS; c++) CHECK(stops.stop[c - 1] == (c == 5));
+    CHECK(vt220_saved(&t, &saved) && saved.row == 24 && saved.col == 80 && saved.wrap && saved.origin);
+    vt220_close(&t);
+    CHECK(!vt220_brush(&t, &brush) && !vt220_sets(&t, &sets) && !vt220_stops(&t, &stops) && !vt220_saved(&t, &saved));
+    CHECK(saved.row == 24 && stops.stop[4] && sets.gl == 2 && brush.underline);
+}
+
+static void rows_as_text(void) {
+    vt220 t = opened("Hello\r\n\033[1m\033(0lqk\033[m x \033[24;80HE");
+    size_t written, all, at = 0;
+    CHECK(vt220_text(&t, &s, other, sizeof other, &all) == VT220_OK);
+    for (size_t row = 1; row <= VT220_ROWS; row++) {
+        CHECK(vt220_row_text(&t, &s, row, out, VT220_ROW_TEXT_LIMIT, &written) == VT220_OK && written > 0 && out[written - 1] == '\n');
+        CHECK(at + written <= all && memcmp(out, other + at, written) == 0);
+        at += written;
+    }
+    CHECK(at == all);
+    CHECK(vt220_row_text(&t, &s, 1, out, 6, &written) == VT220_OK && written == 6 && memcmp(out, "Hello\n", 6) == 0);
+    memset(out, 0xA5, 8);
+    CHECK(vt220_row_text(&t, &s, 1, out, 5, &written) == VT220_ROOM && written == 6 && out[0] == 0xA5);
+    size_t none[] = {0, 25, SIZE_MAX};
+    for (int i = 0; i < 3; i++) CHECK(vt220_row_text(&t, &s, none[i], out, 400, &written) == VT220_NO_ROW && written == 0);
+    vt220_close(&t);
+    CHECK(vt220_row_text(&t, &s, 1, out, 400, &written) == VT220_CLOSED && written == 0);
+}
+
+static void shown_and_drawn(void) {
+    static const char bold[] = "\033[0;1mab\033[0m\n\n";
+    static const char picture[] = "<svg ";
+    vt220 t = opened("\033[1mab\033[m");
+    size_t written, len;
+    CHECK(vt220_show(&t, &s, out, sizeof out, &written) == VT220_OK && written == sizeof bold - 1 + 22 && memcmp(out, bold, sizeof bold - 1) == 0);
+    CHECK(vt220_picture(&t, &s, out, sizeof out, &len) == VT220_OK && len > 100 && memcmp(out, picture, sizeof picture - 1) == 0 && memcmp(out + len - 7, "</svg>\n", 7) == 0);
+    CHECK(vt220_picture(&t, &s, out, len, &written) == VT220_OK && written == len);
+    CHECK(vt220_picture(&t, &s, out, len - 1, &written) == VT220_ROOM && written == len);
+    CHECK(vt220_show(&t, &s, NULL, 0, &written) == VT220_ROOM && written > 0 && vt220_picture(&t, &s, NULL, 0, &written) == VT220_ROOM && written == len);
+    feed(&t, "\033[");
+    CHECK(vt220_show(&t, &s, out, sizeof out, &written) == VT220_OK && vt220_picture(&t, &s, out, sizeof out, &written) == VT220_OK);
+    vt220_close(&t);
+    CHECK(vt220_show(&t, &s, out, sizeof out, &written) == VT220_CLOSED && written == 0 && vt220_picture(&t, &s, out, sizeof out, &written) == VT220_CLOSED && written == 0);
+}
+
+static void changed_cells(void) {
+    vt220 a = opened("abc\033[5;10Hx"), b = opened("aBc\033[5;10H\033[1mx"), wide = opened("\033[?3habc");
+    vt220_row_marks marks;
+    memset(&marks, 0xA5, sizeof marks);
+    for (size_t row = 1; row <= VT220_ROWS; row++) {
+        CHECK(vt220_row_changes(&a, &b, row, &marks) == VT220_OK && marks.width == 80 && RESERVED(marks));
+        for (size_t c = 1; c <= VT220_COLUMNS; c++) CHECK(marks.changed[c - 1] == ((row == 1 && c == 2) || (row == 5 && c == 10)));
+        CHECK(vt220_row_changes(&a, &a, row, &marks) == VT220_OK && marks.width == 80);
+        for (size_t c = 1; c <= VT220_COLUMNS; c++) CHECK(!marks.changed[c - 1]);
+    }
+    CHECK(vt220_row_changes(&a, &wide, 1, &marks) == VT220_OK && marks.width == 132);
+    for (size_t c = 1; c <= VT220_COLUMNS; c++) CHECK(marks.changed[c - 1] == (c > 80));
+    CHECK(vt220_row_changes(&wide, &a, 1, &marks) == VT220_OK && marks.width == 80);
+    for (size_t c = 1; c <= VT220_COLUMNS; c++) CHECK(!marks.changed[c - 1]);
+    marks.width = 7;
+    CHECK(vt220_row_changes(&a, &b, 0, &marks) == VT220_NO_ROW && vt220_row_changes(&a, &b, 25, &marks) == VT220_NO_ROW && marks.width == 7);
+    vt220_close(&a);
+    CHECK(vt220_row_changes(&a, &b, 1, &marks) == VT220_CLOSED && vt220_row_changes(&b, &a, 1, &marks) == VT220_CLOSED && marks.width == 7);
+    vt220_close(&b);
+    vt220_close(&wide);
+}
+
+/* An update fits exactly if the buffer holds its bytes, and is refused without a trace otherwise. */
+static void exact_buffers(void) {
+    static const char *const states[] = {"x", "\033[10;10Habc", "\033[?3hwide", "\033#8", "\033[1;4mA\033[24;1H\n\n", "\033[3g", "\033[?5h"};
+    size_t needed, written;
+    for (size_t i = 0; i < sizeof states / sizeof states[0]; i++) {
+        vt220 shown = opened("start"), before = opened("start"), to = opened(states[i]), client = opened("start");
+        CHECK(vt220_update(&shown, &to, &s, NULL, 0, &needed) == VT220_ROOM && needed > 0 && vt220_same_state(&shown, &before));
+        memset(out, 0xA5, needed + 1);
+        CHECK(vt220_update(&shown, &to, &s, out, needed - 1, &written) == VT220_ROOM && written == needed && out[0] == 0xA5 && vt220_same_state(&shown, &before));
+        CHECK(vt220_update(&shown, &to, &s, out, needed, &written) == VT220_OK && written == needed && out[needed] == 0xA5 && vt220_same_state(&shown, &to));
+        CHECK(vt220_feed(&client, out, needed, NULL, 0, &written) == 0);
+        CHECK(vt220_feed(&client, out, needed, other, 10 * needed, &written) == needed && written == 0 && vt220_same_state(&client, &to));
+        CHECK(vt220_update(&shown, &to, &s, NULL, 0, &written) == VT220_OK && written == 0);
+        CHECK(vt220_update(&to, &to, &s, NULL, 0, &written) == VT220_OK && written == 0 && vt220_same_state(&to, &to));
+        feed(&to, "\033[");
+        CHECK(vt220_update(&to, &to, &s, out, sizeof out, &written) == VT220_PARTIAL && written == 0);
+        vt220_close(&shown), vt220_close(&before), vt220_close(&to), vt220_close(&client);
+        CHECK(!vt220_same_state(&to, &to) && vt220_update(&to, &to, &s, out, sizeof out, &written) == VT220_CLOSED);
+    }
+}
+
+/* A null pointer of length 0 is allowed. */
+static void null_pointers(void) {
+    vt220 t = opened("abc");
+    size_t written = 9;
+    CHECK(vt220_feed(&t, NULL, 0, NULL, 0, &written) == 0 && written == 0);
+    CHECK(vt220_feed(&t, (const uint8_t *)"d", 1, NULL, 0, &written) == 0 && written == 0);
+    CHECK(vt220_text(&t, &s, NULL, 0, &written) == VT220_ROOM && written == 4 + 23);
+    CHECK(vt220_repaint(&t, &s, NULL, 0, &written) == VT220_ROOM && written > 0);
+    CHECK(vt220_row(&t, 1, NULL, 0) == 0);
+    vt220_close(&t);
+}
+
+static void statuses(void) {
+    for (uint32_t status = 0; status < 8; status++) {
+        CHECK(vt220_status_text(status) != NULL && strcmp(vt220_status_text(status), "unknown status") != 0);
+        for (uint32_t before = 0; before < status; before++) CHECK(strcmp(vt220_status_text(status), vt220_status_text(before)) != 0);
+    }
+    CHECK(strcmp(vt220_status_text(8), "unknown status") == 0 && strcmp(vt220_status_text(UINT32_MAX), "unknown status") == 0);
+}
+
+int main(void) {
+    CHECK(vt220_scratch_open(&s) == VT220_OK);
+    bells();
+    resets_and_copies();
+    parts();
+    rows_as_text();
+    shown_and_drawn();
+    changed_cells();
+    exact_buffers();
+    null_pointers();
+    statuses();
+    vt220_scratch_close(&s);
+    return finish("calls");
+}

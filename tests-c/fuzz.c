@@ -1,0 +1,210 @@
+/* fuzz: a libFuzzer harness over the interface. The library has no coverage of its own, so the state of the terminal guides it.
+ * An input is a byte that says how it is cut, and the bytes that a host sends. */
+#include "vt220.h"
+#include <stdio.h>
+#include <stdlib.h>
+#include <string.h>
+
+/* What libFuzzer takes for coverage, beside that of this file. */
+__attribute__((section("__libfuzzer_extra_counters"))) static uint8_t seen[8192];
+
+#define MUST(is) \
+    do { \
+        if (!(is)) { \
+            fprintf(stderr, "fuzz: line %d: %s\n", __LINE__, #is); \
+            abort(); \
+        } \
+    } while (0)
+
+enum { LONGEST = 4096 };
+
+static vt220 a = VT220_INIT, b = VT220_INIT, c = VT220_INIT, power_up = VT220_INIT;
+static vt220_scratch s = VT220_INIT, s2 = VT220_INIT;
+static uint8_t reports_a[VT220_REPORT_LIMIT * LONGEST], reports_b[VT220_REPORT_LIMIT * LONGEST];
+
+int LLVMFuzzerTestOneInput(const uint8_t *data, size_t len);
+
+static void see(unsigned kind, unsigned value) { seen[(kind * 131 + value * 2654435761u % 127) % sizeof seen] = 1; }
+
+/* Feeds all bytes in chunks and with buffers of different sizes. Returns how many bytes of replies came. */
+static size_t feed(vt220 *t, const uint8_t *bytes, size_t len, unsigned cut, uint8_t *reports) {
+    size_t at = 0, filled = 0, written;
+    unsigned n = cut;
+    while (at < len) {
+        n = n * 1103515245u + 12345;
+        size_t part = cut == 0 ? len - at : 1 + (n >> 16) % (cut + 1);
+        size_t size = cut == 0 ? VT220_REPORT_LIMIT * (len - at) : VT220_REPORT_LIMIT + (n >> 20) % 40;
+        if (part > len - at) part = len - at;
+        uint8_t *chunk = (uint8_t *)malloc(part), *room = (uint8_t *)malloc(size);
+        if (chunk == NULL || room == NULL) abort();
+        memcpy(chunk, bytes + at, part);
+        size_t taken = vt220_feed(t, chunk, part, room, size, &written);
+        MUST(taken >= 1 && taken <= part && written <= VT220_REPORT_LIMIT * taken && written <= size);
+        MUST(taken == part || size - written < VT220_REPORT_LIMIT);
+        memcpy(reports + filled, room, written);
+        at += taken, filled += written;
+        free(chunk), free(room);
+    }
+    return filled;
+}
+
+typedef uint32_t writer(const vt220 *, vt220_scratch *, uint8_t *, size_t, size_t *);
+
+/* Writes by a call into a buffer of exactly the size that it asks for; one byte less is refused. The caller frees it. */
+static uint8_t *exactly(writer *call, const vt220 *t, size_t limit, size_t *len) {
+    size_t written;
+    MUST(call(t, &s, NULL, 0, len) == VT220_ROOM && *len > 0 && *len <= limit);
+    uint8_t *out = (uint8_t *)malloc(*len);
+    if (out == NULL) abort();
+    MUST(call(t, &s, out, *len - 1, &written) == VT220_ROOM && written == *len);
+    MUST(call(t, &s2, out, *len, &written) == VT220_OK && written == *len);
+    return out;
+}
+
+static size_t utf8(uint32_t glyph, uint8_t *out) {
+    if (glyph < 0x80) return out[0] = (uint8_t)glyph, 1;
+    if (glyph < 0x800) return out[0] = (uint8_t)(0xC0 | glyph >> 6), out[1] = (uint8_t)(0x80 | (glyph & 0x3F)), 2;
+    return out[0] = (uint8_t)(0xE0 | glyph >> 12), out[1] = (uint8_t)(0x80 | (glyph >> 6 & 0x3F)), out[2] = (uint8_t)(0x80 | (glyph & 0x3F)), 3;
+}
+
+/* The text is that of the cells, and no cell has a control character. */
+static void look_at_text(const vt220 *t) {
+    size_t len, at = 0, row_len;
+    uint8_t *text = exactly(vt220_text, t, VT220_TEXT_LIMIT, &len), line[VT220_ROW_TEXT_LIMIT], row_text[VT220_ROW_TEXT_LIMIT];
+    vt220_cell cells[VT220_COLUMNS];
+    for (size_t row = 1; row <= VT220_ROWS; row++) {
+        size_t width = vt220_row(t, row, cells, VT220_COLUMNS), end = width, n = 0;
+        MUST(width == vt220_width(t) && (width == 80 || width == 132));
+        for (size_t i = 0; i < width; i++) MUST(cells[i].glyph >= 0x20 && (cells[i].glyph < 0x7F || cells[i].glyph > 0x9F) && cells[i].reserved[0] == 0);
+        while (end > 0 && cells[end - 1].glyph == 0x20) end--;
+        for (size_t i = 0; i < end; i++) n += utf8(cells[i].glyph, line + n);
+        line[n++] = '\n';
+        MUST(at + n <= len && memcmp(text + at, line, n) == 0);
+        MUST(vt220_row_text(t, &s, row, row_text, n, &row_len) == VT220_OK && row_len == n && memcmp(row_text, line, n) == 0);
+        at += n;
+    }
+    MUST(at == len);
+    free(text);
+}
+
+/* Counts the cells that differ, by their marks, which are those of the cells. */
+static size_t count_marks(const vt220 *t, const vt220 *u) {
+    vt220_cell x[VT220_COLUMNS], y[VT220_COLUMNS];
+    vt220_row_marks marks;
+    size_t count = 0;
+    for (size_t row = 1; row <= VT220_ROWS; row++) {
+        size_t width = vt220_row(t, row, x, VT220_COLUMNS), to = vt220_row(u, row, y, VT220_COLUMNS);
+        MUST(vt220_row_changes(t, u, row, &marks) == VT220_OK && marks.width == to);
+        for (size_t i = 0; i < VT220_COLUMNS; i++) {
+            bool differs = i < to && (i >= width || memcmp(&x[i], &y[i], sizeof x[i]) != 0);
+            MUST(marks.changed[i] == differs);
+            count += differs;
+        }
+    }
+    return count;
+}
+
+static bool has_same_columns(const vt220 *t, const vt220 *u) {
+    vt220_tab_stops x, y;
+    MUST(vt220_stops(t, &x) && vt220_stops(u, &y));
+    return vt220_width(t) == vt220_width(u) && memcmp(x.stop, y.stop, sizeof x.stop) == 0;
+}
+
+/* Leads `shown` to `to` by an update in a buffer of exactly its size, and another terminal by its bytes. */
+static void lead(vt220 *shown, const vt220 *to, unsigned cut) {
+    static uint8_t reports[VT220_REPORT_LIMIT * VT220_UPDATE_LIMIT];
+    size_t len, written;
+    bool same = vt220_same_state(shown, to);
+    uint32_t status = vt220_update(shown, to, &s, NULL, 0, &len);
+    if (!vt220_is_between(shown) || !vt220_is_between(to)) {
+        MUST(status == VT220_PARTIAL && len == 0);
+        return;
+    }
+    MUST(same ? status == VT220_OK && len == 0 : status == VT220_ROOM && len > 0 && len <= VT220_UPDATE_LIMIT);
+    if (same) return;
+    if (has_same_columns(shown, to)) MUST(len <= 28 * count_marks(shown, to) + 230);
+    MUST(vt220_copy(&c, shown) == VT220_OK);
+    uint8_t *out = (uint8_t *)malloc(len);
+    if (out == NULL) abort();
+    MUST(vt220_update(shown, to, &s, out, len - 1, &written) == VT220_ROOM && written == len && vt220_same_state(shown, &c));
+    MUST(vt220_update(shown, to, &s2, out, len, &written) == VT220_OK && written == len && vt220_same_state(shown, to));
+    for (size_t i = 0; i < len; i++) MUST(out[i] < 0x80);
+    if (len > LONGEST) cut = 0;
+    MUST(feed(&c, out, len, cut, reports) == 0 && vt220_same_state(&c, to));
+    free(out);
+}
+
+/* What a repaint leaves on a terminal in any state. */
+static void repaint(const vt220 *t, vt220 *dirty) {
+    static uint8_t reports[VT220_REPORT_LIMIT * VT220_PAINT_LIMIT];
+    size_t len;
+    if (!vt220_is_between(t)) {
+        MUST(vt220_repaint(t, &s, NULL, 0, &len) == VT220_PARTIAL && len == 0);
+        return;
+    }
+    uint8_t *out = exactly(vt220_repaint, t, VT220_PAINT_LIMIT, &len);
+    MUST(feed(dirty, out, len, 0, reports) == 0 && vt220_same_state(dirty, t));
+    free(out);
+}
+
+/* Shows libFuzzer what the state is like. */
+static void look(const vt220 *t) {
+    vt220_cursor_place cursor;
+    vt220_margin_rows margins;
+    vt220_mode_set modes;
+    vt220_brush_look brush;
+    vt220_graphic_sets sets;
+    vt220_saved_record saved;
+    MUST(vt220_cursor(t, &cursor) && vt220_margins(t, &margins) && vt220_modes(t, &modes) && vt220_brush(t, &brush) && vt220_sets(t, &sets) && vt220_saved(t, &saved));
+    MUST(cursor.row >= 1 && cursor.row <= 24 && cursor.col >= 1 && cursor.col <= vt220_width(t) && margins.top < margins.bottom && margins.bottom <= 24 && margins.top >= 1);
+    MUST(saved.row >= 1 && saved.row <= 24 && saved.col >= 1 && saved.col <= vt220_width(t) && sets.gl < 4 && sets.gr >= 1 && sets.gr < 4);
+    unsigned kind = vt220_held_kind(t);
+    const bool *mode = &modes.kam;
+    see(1, kind), see(2, (unsigned)cursor.row), see(3, (unsigned)cursor.col / 8), see(4, cursor.wrap), see(5, (unsigned)margins.top), see(6, (unsigned)margins.bottom);
+    for (unsigned i = 0; i < 13; i++) see(10 + i, mode[i] * 4u + kind);
+    see(30, brush.bold + 2u * brush.underline + 4u * brush.blink + 8u * brush.reverse + 16u * brush.is_protected);
+    see(31, sets.g0), see(32, sets.g1), see(33, sets.g2), see(34, sets.g3), see(35, sets.gl), see(36, sets.gr), see(37, sets.single_shift);
+    see(38, (unsigned)saved.row), see(39, (unsigned)saved.col / 8), see(40, saved.wrap + 2u * saved.origin), see(41, (unsigned)vt220_width(t));
+}
+
+static void open_all(void) {
+    vt220 *all[] = {&a, &b, &c, &power_up};
+    for (int i = 0; i < 4; i++) MUST(vt220_open(all[i]) == VT220_OK);
+    MUST(vt220_scratch_open(&s) == VT220_OK && vt220_scratch_open(&s2) == VT220_OK);
+}
+
+int LLVMFuzzerTestOneInput(const uint8_t *data, size_t len) {
+    if (len < 2 || len > LONGEST) return 0;
+    if (!vt220_is_open(&a)) open_all();
+    unsigned cut = data[0];
+    const uint8_t *bytes = data + 1;
+    size_t half, all;
+    len--;
+    half = len / 2;
+    /* However the bytes are cut, state, replies and bells are the same. */
+    MUST(vt220_reset(&a) == VT220_OK && vt220_reset(&b) == VT220_OK && vt220_same_state(&a, &power_up));
+    uint64_t bells_a = vt220_bells(&a), bells_b = vt220_bells(&b);
+    all = feed(&a, bytes, len, 0, reports_a);
+    MUST(feed(&b, bytes, len, cut, reports_b) == all && memcmp(reports_a, reports_b, all) == 0 && vt220_same_state(&a, &b));
+    MUST(vt220_bells(&a) - bells_a == vt220_bells(&b) - bells_b);
+    look(&a);
+    look_at_text(&a);
+    size_t shown;
+    free(exactly(vt220_show, &a, VT220_SHOW_LIMIT, &shown));
+    if (cut % 16 == 0) free(exactly(vt220_picture, &a, VT220_PICTURE_LIMIT, &shown));
+    /* b is where half of the bytes lead: updates between both, repaints on both, and copies that go on alike. */
+    MUST(vt220_reset(&b) == VT220_OK);
+    feed(&b, bytes, half, 0, reports_b);
+    count_marks(&a, &b);
+    lead(&b, &a, cut);
+    MUST(vt220_reset(&b) == VT220_OK);
+    feed(&b, bytes, half, 0, reports_b);
+    repaint(&a, &b);
+    MUST(vt220_reset(&b) == VT220_OK);
+    repaint(&a, &b);
+    MUST(vt220_copy(&b, &a) == VT220_OK && vt220_same_state(&a, &b) && vt220_held_kind(&a) == vt220_held_kind(&b));
+    all = feed(&a, bytes, half, 0, reports_a);
+    MUST(feed(&b, bytes, half, cut, reports_b) == all && memcmp(reports_a, reports_b, all) == 0 && vt220_same_state(&a, &b));
+    lead(&a, &power_up, cut);
+    return 0;
+}

@@ -49,7 +49,7 @@ def raises(fault, call, *arguments):
     return False
 
 
-def wait_for(is_so, seconds=10.0, pause=0.02):
+def wait_for(is_so, seconds=30.0, pause=0.02):
     """Waits until something is so, for at most so long. Returns whether it is."""
     end = time.monotonic() + seconds
     while not is_so():
@@ -59,7 +59,7 @@ def wait_for(is_so, seconds=10.0, pause=0.02):
     return True
 
 
-def until(is_so, *workers, seconds=10.0):
+def until(is_so, *workers, seconds=30.0):
     """Turns of workers in this process until something is so. Returns whether it is."""
     end = time.monotonic() + seconds
     while not is_so():

@@ -96,10 +96,11 @@ def shell(run, directory):
     rig.keys(UP, DELETE, DELETE, "k", ctrl("a"), ctrl("d"), "E")
     rig.wait("^\\$ Echo hello work$", row=3)
     rig.matches("shell-line")
-    rig.keys(ctrl("c"))
-    rig.wait(cursor=(4, 3))
+    rig.keys(ENTER)
+    rig.wait("^bash: Echo: command not found$", row=4)
+    rig.wait(cursor=(5, 3))
     rig.keys("exit", ENTER)
-    rig.ended(130)
+    rig.ended(127)
 
 
 PROGRAMS = {"less": less, "vi": vi, "top": top, "dialog": dialog, "mc": mc, "shell": shell}

@@ -245,7 +245,7 @@ map-onto_last (q ∷ r ∷ rs) b low high = ap (λ (vs : List ℕ). value_of q �
 
 -- ---- values of one more byte
 
-length-change_last : (f : ℕ → ℕ) (vs : List ℕ) → length (change_last f vs) ≡ length vs
+pub length-change_last : (f : ℕ → ℕ) (vs : List ℕ) → length (change_last f vs) ≡ length vs
 length-change_last f [] = refl
 length-change_last f (x ∷ []) = refl
 length-change_last f (x ∷ y ∷ xs) = ap suc (length-change_last f (y ∷ xs))

@@ -1,22 +1,29 @@
--- Bytes after a rest, and bytes after what is held of it.
-use Rattle.std.proofs.Common.{◌≡◌, ℕ, List, [], ◌∷◌, ◌++◌, Option, None, false, refl, sym, ap, subst, ◌∙◌, append_assoc}
+-- What the split reads is what one step after another does; so the laws of the syntax are laws of steps.
+use Rattle.std.proofs.Common.{◌≡◌, ℕ, List, [], ◌∷◌, ◌++◌, Option, Some, None, false, refl, sym, ap, subst, ◌∙◌, append_assoc}
 use Rattle.std.proofs.Common.{append-nil}
+use Rattle.std.specs.Prelude.{All, IfSome}
 use Rattle.std.specs.List.{flat_map}
+use Rattle.std.specs.Option.{option_to_list}
 use Rattle.std.proofs.lemmas.List.Concat.{flat_map-append}
+use Rattle.std.proofs.lemmas.List.Elements.{All-head, All-same}
 use Rattle.vt_syntax.specs.declared.event.Event.{Event}
+use Rattle.vt_syntax.specs.declared.event.EventKind.{EventKind}
 use Rattle.vt_syntax.specs.declared.held.Held.{Held}
 use Rattle.vt_syntax.specs.declared.held.Held.TheVariants.{Nothing}
 use Rattle.vt_syntax.specs.Class.{is_opener}
-use Rattle.vt_syntax.proofs.Classes.{not_opener}
+use Rattle.vt_syntax.specs.Event.{event_of, event_in}
 use Rattle.vt_syntax.specs.Items.{Beginning, rest_bytes, IsRest}
+use Rattle.vt_syntax.specs.Spelling.{IsEvent}
 use Rattle.vt_syntax.specs.Split.{Parts, split_one, split_after, split_of}
-use Rattle.vt_syntax.specs.Reading.{single_function, reading, rest_reading, events_of}
+use Rattle.vt_syntax.specs.Reading.{single_function, reading, rest_reading, parts_reading, events_of}
 use Rattle.vt_syntax.specs.Held.{held_of, held_after, IsHeldPart, spell, events_from, held_from}
 use Rattle.vt_syntax.specs.Steps.{Step, step_to, step_of, steps}
 use Rattle.vt_syntax.proofs.Splits.{last_is_rest}
-use Rattle.vt_syntax.proofs.OneSplit.{rest_reads}
+use Rattle.vt_syntax.proofs.Steps.{steps_append, steps_then, steps_one}
+use Rattle.vt_syntax.proofs.OneSplit.{split_only}
 use Rattle.vt_syntax.proofs.OneByte.{Matches, byte_matches}
-use Rattle.vt_syntax.proofs.HeldSpelling.{spelled_rest, bytes_of_spelled, is_spelled}
+use Rattle.vt_syntax.proofs.Ranges.{InRange, steps_range}
+use Rattle.vt_syntax.proofs.Spelled.{spelled_steps, single_step, escape_step}
 
 runs : (bytes : List ℕ) (rest : Option Beginning)
     → Matches (rest_reading rest) (split_after rest bytes) (steps (held_of rest) bytes)
@@ -42,164 +49,106 @@ runs (b ∷ bytes) rest =
           ∙ append_assoc (rest_reading rest) t.events (steps (held_of now.rest) bytes).events;
     })
 
--- what the bytes of a rest and more read, and hold
-rest_runs : (rest : Option Beginning) (more : List ℕ) → IsRest rest
-    → Matches (rest_reading rest) (split_of (rest_bytes rest ++ more)) (steps (held_of rest) more)
-rest_runs rest more h =
-    subst (λ (p : Parts). Matches (rest_reading rest) p (steps (held_of rest) more)) (sym (rest_reads rest more h))
-    (runs more rest)
+-- ---- bytes, as one step
 
--- and so of the bytes that spell what is held of it
-spell_runs : (rest : Option Beginning) (more : List ℕ) → IsRest rest
-    → Matches [] (split_of (spell (held_of rest) ++ more)) (steps (held_of rest) more)
-spell_runs rest more h =
-    let held = held_of rest in
-    let s = is_spelled rest in
-    let m = rest_runs (spelled_rest held) more s.is_rest in
-    let n : Matches (rest_reading (spelled_rest held)) (split_of (spell held ++ more))
-    (steps (held_of (spelled_rest held)) more) =
-    subst (λ (t : List ℕ). Matches (rest_reading (spelled_rest held)) (split_of (t ++ more))
-    (steps (held_of (spelled_rest held)) more)) (bytes_of_spelled held) m in
-    let o : Matches (rest_reading (spelled_rest held)) (split_of (spell held ++ more)) (steps held more) =
-    subst (λ (t : Held). Matches (rest_reading (spelled_rest held)) (split_of (spell held ++ more)) (steps t more))
-    s.holds n in
-    subst (λ (t : List Event). Matches t (split_of (spell held ++ more)) (steps held more)) s.reads o
+pub read : (bytes : List ℕ) → step_to (held_after bytes) (events_of bytes) ≡ steps Nothing bytes
+read bytes =
+    let m = runs bytes None in
+    ap (λ (h : Held). step_to h (events_of bytes)) m.held
+    ∙ ap (λ (events : List Event). step_to (steps Nothing bytes).held events) m.events
 
--- ---- the laws
+-- the bytes of a rest
+rest_steps : (rest : Option Beginning) → IsRest rest
+    → steps Nothing (rest_bytes rest) ≡ step_to (held_of rest) (rest_reading rest)
+rest_steps rest h =
+    sym (read (rest_bytes rest))
+    ∙ ap (λ (p : Parts). step_to (held_of p.rest) (parts_reading p))
+    (split_only (rest_bytes rest) [] rest (record { joined = refl; each = h }))
 
--- whatever follows, a rest and the bytes that spell what is held of it go on alike
-pub same_events : (rest : Option Beginning) (more : List ℕ) → IsRest rest → events_of (rest_bytes rest ++ more)
-    ≡ rest_reading rest ++ events_of (spell (held_of rest) ++ more)
-same_events rest more h =
-    (rest_runs rest more h).events
-    ∙ ap (λ (e : List Event). rest_reading rest ++ e) (sym (spell_runs rest more h).events)
+-- all that bytes ask for are events
+pub are_events : (bytes : List ℕ) → All IsEvent (events_of bytes)
+are_events bytes = rw (ap (λ (t : Step). t.events) (read bytes)) (steps_range bytes Nothing tt).events
 
-pub same_held : (rest : Option Beginning) (more : List ℕ) → IsRest rest → held_after (rest_bytes rest ++ more)
-    ≡ held_after (spell (held_of rest) ++ more)
-same_held rest more h = (rest_runs rest more h).held ∙ sym (spell_runs rest more h).held
+pub is_event : (bytes : List ℕ) (event : Option Event) → option_to_list event ≡ events_of bytes → IfSome event IsEvent
+is_event bytes None e = tt
+is_event bytes (Some event) e = All-head IsEvent event [] (All-same IsEvent (event ∷ []) (events_of bytes) e (are_events bytes))
 
--- the spelling of a held part leaves it, and is read as nothing
-pub spelled_held : (held : Held) → IsHeldPart held → held_after (spell held) ≡ held
-unfolding steps
-spelled_held held i =
-    subst (λ (h : Held). held_after (spell h) ≡ h) i.of_rest
-    (ap (λ (t : List ℕ). held_after t) (sym (append-nil (spell (held_of i.rest))))
-    ∙ (spell_runs i.rest [] i.is_rest).held)
-
-pub spelled_events : (held : Held) → IsHeldPart held → events_of (spell held) ≡ []
-unfolding steps
-spelled_events held i =
-    subst (λ (h : Held). events_of (spell h) ≡ []) i.of_rest
-    (ap (λ (t : List ℕ). events_of t) (sym (append-nil (spell (held_of i.rest))))
-    ∙ (spell_runs i.rest [] i.is_rest).events)
-
-pub held_nil : (held : Held) → IsHeldPart held → held_from held [] ≡ held
-held_nil held i = ap (λ (t : List ℕ). held_after t) (append-nil (spell held)) ∙ spelled_held held i
-
-pub events_nil : (held : Held) → IsHeldPart held → events_from held [] ≡ []
-events_nil held i = ap (λ (t : List ℕ). events_of t) (append-nil (spell held)) ∙ spelled_events held i
-
--- ---- one byte after what is held
-
-pub step_events : (held : Held) (b : ℕ) → IsHeldPart held → events_of (spell held ++ b ∷ []) ≡ (step_of held b).events
-unfolding steps
-step_events held b i =
-    subst (λ (h : Held). events_of (spell h ++ b ∷ []) ≡ (step_of h b).events) i.of_rest
-    ((spell_runs i.rest (b ∷ []) i.is_rest).events ∙ append-nil (step_of (held_of i.rest) b).events)
-
-pub step_held : (held : Held) (b : ℕ) → IsHeldPart held → held_after (spell held ++ b ∷ []) ≡ (step_of held b).held
-unfolding steps
-step_held held b i =
-    subst (λ (h : Held). held_after (spell h ++ b ∷ []) ≡ (step_of h b).held) i.of_rest
-    (spell_runs i.rest (b ∷ []) i.is_rest).held
-
--- what bytes leave is a held part
-pub held_part : (bytes : List ℕ) → IsHeldPart (held_after bytes)
-held_part bytes =
-    record { rest = (split_of bytes).rest; is_rest = last_is_rest bytes; of_rest = refl }
-
-pub step_is_held : (held : Held) (b : ℕ) → IsHeldPart held → IsHeldPart (step_of held b).held
-step_is_held held b i = subst (λ (h : Held). IsHeldPart h) (step_held held b i) (held_part (spell held ++ b ∷ []))
-
--- a byte between sequences that opens nothing
-pub single_step : (b : ℕ) → is_opener b ≡ false → step_of Nothing b ≡ step_to Nothing (single_function b)
-unfolding step_of
-single_step b e = let n = not_opener b e in rw (n.0, n.1, n.2) refl
-
-pub nothing_held : IsHeldPart Nothing
-nothing_held = record { rest = None; is_rest = tt; of_rest = refl }
-
-pub single_events : (b : ℕ) → is_opener b ≡ false → events_of (b ∷ []) ≡ single_function b
-single_events b e = step_events Nothing b nothing_held ∙ ap (λ (t : Step). t.events) (single_step b e)
-
-pub single_held : (b : ℕ) → is_opener b ≡ false → held_after (b ∷ []) ≡ Nothing
-single_held b e = step_held Nothing b nothing_held ∙ ap (λ (t : Step). t.held) (single_step b e)
+pub is_kind : (bytes : List ℕ) (kind : Option EventKind) (values : List ℕ) → event_in kind values ≡ events_of bytes
+    → IfSome kind (λ k. IsEvent (event_of k values))
+is_kind bytes None values e = tt
+is_kind bytes (Some k) values e = is_event bytes (Some (event_of k values)) e
 
 -- ---- bytes after what is held
 
-pub steps_events : (held : Held) (bytes : List ℕ) → IsHeldPart held
-    → events_of (spell held ++ bytes) ≡ (steps held bytes).events
-steps_events held bytes i =
-    subst (λ (h : Held). events_of (spell h ++ bytes) ≡ (steps h bytes).events) i.of_rest
-    (spell_runs i.rest bytes i.is_rest).events
+part_range : (held : Held) → IsHeldPart held → InRange held
+part_range held i =
+    rw (← i.of_rest) (rw (rest_steps i.rest i.is_rest) at (steps_range (rest_bytes i.rest) Nothing tt)).held
 
-pub steps_held : (held : Held) (bytes : List ℕ) → IsHeldPart held
-    → held_after (spell held ++ bytes) ≡ (steps held bytes).held
-steps_held held bytes i =
-    subst (λ (h : Held). held_after (spell h ++ bytes) ≡ (steps h bytes).held) i.of_rest
-    (spell_runs i.rest bytes i.is_rest).held
+pub read_from : (held : Held) (bytes : List ℕ) → IsHeldPart held
+    → step_to (held_from held bytes) (events_from held bytes) ≡ steps held bytes
+read_from held bytes i =
+    read (spell held ++ bytes) ∙ steps_then Nothing held (spell held) bytes (spelled_steps held (part_range held i))
 
-pub steps_is_held : (held : Held) (bytes : List ℕ) → IsHeldPart held → IsHeldPart (steps held bytes).held
-steps_is_held held bytes i =
-    subst (λ (h : Held). IsHeldPart h) (steps_held held bytes i) (held_part (spell held ++ bytes))
+-- one byte
+pub read_step : (held : Held) (b : ℕ) → IsHeldPart held
+    → step_to (held_from held (b ∷ [])) (events_from held (b ∷ [])) ≡ step_of held b
+read_step held b i =
+    read_from held (b ∷ []) i ∙ steps_one held (step_of held b).held b (step_of held b).events refl
 
--- ---- bytes after bytes
+-- what bytes leave is a held part
+pub held_part : (bytes : List ℕ) → IsHeldPart (held_after bytes)
+held_part bytes = record { rest = (split_of bytes).rest; is_rest = last_is_rest bytes; of_rest = refl }
 
-pub steps_append : (held : Held) (bytes more : List ℕ)
-    → steps held (bytes ++ more)
-    ≡ step_to (steps (steps held bytes).held more).held
-    ((steps held bytes).events ++ (steps (steps held bytes).held more).events)
+-- ---- the laws
+
+-- a spelled held part leaves it, and no bytes change nothing
+pub spelled : (held : Held) → IsHeldPart held → step_to (held_after (spell held)) (events_of (spell held)) ≡ step_to held []
+spelled held i = read (spell held) ∙ spelled_steps held (part_range held i)
+
+pub nil : (held : Held) → IsHeldPart held → step_to (held_from held []) (events_from held []) ≡ step_to held []
 unfolding steps
-steps_append held [] more = refl
-steps_append held (b ∷ bytes) more =
-    let now = step_of held b in
-    let e = steps_append now.held bytes more in
-    ap (λ (t : Step). step_to t.held (now.events ++ t.events)) e
-    ∙ ap (λ (events : List Event). step_to (steps (steps now.held bytes).held more).held events)
-    (sym (append_assoc now.events (steps now.held bytes).events (steps (steps now.held bytes).held more).events))
+nil held i = read_from held [] i
 
--- the events of bytes, and then those of more bytes after what is held
-events_append : (bytes more : List ℕ)
-    → events_of (bytes ++ more) ≡ events_of bytes ++ events_of (spell (held_after bytes) ++ more)
-unfolding steps
-events_append bytes more =
-    let a = runs bytes None in
-    let b = spell_runs (split_of bytes).rest more (last_is_rest bytes) in
-    (runs (bytes ++ more) None).events
-    ∙ ap (λ (t : Step). t.events) (steps_append (held_of None) bytes more)
-    ∙ ap (λ (events : List Event). events ++ (steps (steps (held_of None) bytes).held more).events) (sym a.events)
-    ∙ ap (λ (h : Held). events_of bytes ++ (steps h more).events) (sym a.held)
-    ∙ ap (λ (events : List Event). events_of bytes ++ events) (sym b.events)
+-- whatever follows, a rest and the bytes that spell what is held of it go on alike
+pub same : (rest : Option Beginning) (more : List ℕ) → IsRest rest
+    → step_to (held_after (rest_bytes rest ++ more)) (events_of (rest_bytes rest ++ more))
+    ≡ step_to (held_from (held_of rest) more) (rest_reading rest ++ events_from (held_of rest) more)
+same rest more h =
+    read (rest_bytes rest ++ more)
+    ∙ steps_append Nothing (rest_bytes rest) more
+    ∙ rw (rest_steps rest h) (ap (λ (t : Step). step_to t.held (rest_reading rest ++ t.events))
+    (sym (read_from (held_of rest) more (record { rest = rest; is_rest = h; of_rest = refl }))))
 
-held_append : (bytes more : List ℕ) → held_after (bytes ++ more) ≡ held_after (spell (held_after bytes) ++ more)
-unfolding steps
-held_append bytes more =
-    let a = runs bytes None in
-    let b = spell_runs (split_of bytes).rest more (last_is_rest bytes) in
-    (runs (bytes ++ more) None).held
-    ∙ ap (λ (t : Step). t.held) (steps_append (held_of None) bytes more)
-    ∙ ap (λ (h : Held). (steps h more).held) (sym a.held)
-    ∙ sym b.held
+-- bytes and more bytes
+pub append : (held : Held) (first second : List ℕ)
+    → step_to (held_from held (first ++ second)) (events_from held (first ++ second))
+    ≡ step_to (held_from (held_from held first) second)
+    (events_from held first ++ events_from (held_from held first) second)
+append held first second =
+    let bytes = spell held ++ first in
+    ap (λ (t : List ℕ). step_to (held_after t) (events_of t)) (sym (append_assoc (spell held) first second))
+    ∙ read (bytes ++ second)
+    ∙ steps_append Nothing bytes second
+    ∙ ap (λ (t : Step). step_to (steps t.held second).held (t.events ++ (steps t.held second).events)) (sym (read bytes))
+    ∙ ap (λ (t : Step). step_to t.held (events_of bytes ++ t.events))
+    (sym (read_from (held_after bytes) second (held_part bytes)))
 
--- and so after any held part
-pub events_from_append : (held : Held) (first second : List ℕ) → events_from held (first ++ second)
-    ≡ events_from held first ++ events_from (held_from held first) second
-events_from_append held first second =
-    ap (λ (t : List ℕ). events_of t) (sym (append_assoc (spell held) first second))
-    ∙ events_append (spell held ++ first) second
+-- bytes that ask for events and leave nothing, and then more
+pub read_as : (bytes more : List ℕ) (events : List Event) → steps Nothing bytes ≡ step_to Nothing events
+    → step_to (held_after (bytes ++ more)) (events_of (bytes ++ more))
+    ≡ step_to (held_after more) (events ++ events_of more)
+read_as bytes more events e =
+    read (bytes ++ more)
+    ∙ steps_append Nothing bytes more
+    ∙ rw e (ap (λ (t : Step). step_to t.held (events ++ t.events)) (sym (read more)))
 
-pub held_from_append : (held : Held) (first second : List ℕ)
-    → held_from held (first ++ second) ≡ held_from (held_from held first) second
-held_from_append held first second =
-    ap (λ (t : List ℕ). held_after t) (sym (append_assoc (spell held) first second))
-    ∙ held_append (spell held ++ first) second
+-- a byte between sequences that opens nothing
+pub single : (b : ℕ) → is_opener b ≡ false
+    → step_to (held_after (b ∷ [])) (events_of (b ∷ [])) ≡ step_to Nothing (single_function b)
+single b e = read (b ∷ []) ∙ steps_one Nothing Nothing b (single_function b) (single_step b e)
+
+-- ESC after what is held
+pub escape : (held : Held) (more : List ℕ) → IsHeldPart held
+    → step_to (held_from held (0x1B ∷ more)) (events_from held (0x1B ∷ more))
+    ≡ step_to (held_after (0x1B ∷ more)) (events_of (0x1B ∷ more))
+escape held more i = read_from held (0x1B ∷ more) i ∙ escape_step held more ∙ sym (read (0x1B ∷ more))

@@ -1,6 +1,5 @@
 -- An event that stands whole at the front of a piece is what the split of its bytes reads.
-use Rattle.std.proofs.Common.{◌≡◌, ◌+◌, ◌-◌, ◌<◌, ◌≤◌, ℕ, List, [], ◌∷◌, length, take, get_or, Option, Some, None, IfSome, arith, refl, ap, sym, ◌∙◌}
-use Rattle.vt_syntax.specs.declared.event.Event.{Event}
+use Rattle.std.proofs.Common.{◌≡◌, ◌+◌, ◌-◌, ◌<◌, ◌≤◌, ℕ, List, [], length, take, get_or, Option, Some, None, IfSome, arith, refl, sym, ◌∙◌}
 use Rattle.vt_syntax.specs.declared.event.Event.TheVariants as event
 use Rattle.vt_syntax.specs.declared.event.EventKind.{EventKind}
 use Rattle.vt_syntax.specs.declared.event.EventKind.TheVariants as kind
@@ -11,26 +10,25 @@ use Rattle.vt_syntax.specs.Event.{event_of}
 use Rattle.vt_syntax.specs.Front.{IsFront, IsFinal}
 use Rattle.vt_syntax.specs.Held.{events_from, IsHeldPart}
 use Rattle.vt_syntax.specs.Spelling.{IsGraphic}
-use Rattle.vt_syntax.specs.Steps.{Step, step_to, steps}
+use Rattle.vt_syntax.specs.Steps.{steps}
 use Rattle.vt_syntax.specs.Whole.{IsWhole, AreRead}
-use Rattle.vt_syntax.proofs.Cutting.{steps_events, steps_held, nothing_held, single_step}
-use Rattle.vt_syntax.proofs.EventRanges.{is_kind}
-use Rattle.vt_syntax.proofs.EventSpelling.{graphic_alone}
+use Rattle.vt_syntax.proofs.Cutting.{read, read_from, is_kind}
+use Rattle.vt_syntax.proofs.Spelled.{graphic_step}
+use Rattle.vt_syntax.proofs.Steps.{same_held, same_events}
 use Rattle.vt_syntax.proofs.SilentBytes.{steps_nil}
 use Rattle.vt_syntax.proofs.WholeSequences.{steps_event, steps_alone, steps_control}
 
 pub front_of : (piece values : List ℕ) (bytes : ℕ) (kind : EventKind) → IsWhole piece values bytes kind
     → IsFront piece bytes (event_of kind values)
 front_of piece values bytes kind whole =
-    let events : events_from Nothing (take bytes piece) ≡ event_of kind values ∷ [] =
-    steps_events Nothing (take bytes piece) nothing_held ∙ ap (λ (t : Step). t.events) whole.reads in
+    let reads = read (take bytes piece) ∙ whole.reads in
     record {
       some = whole.some;
       within = whole.within;
-      events = events;
-      held = steps_held Nothing (take bytes piece) nothing_held ∙ ap (λ (t : Step). t.held) whole.reads;
-      last = steps_events Nothing (take (bytes - 1) piece) nothing_held ∙ whole.silent;
-      is_event = is_kind _ (Some kind) values (sym events);
+      events = same_events reads;
+      held = same_held reads;
+      last = same_events (read (take (bytes - 1) piece)) ∙ whole.silent;
+      is_event = is_kind _ (Some kind) values (sym (same_events reads));
     }
 
 -- a final byte after values without a marker
@@ -44,28 +42,22 @@ front_control piece values at read inside final =
 -- an event at the front is read by steps
 pub whole_of : (piece values : List ℕ) (bytes : ℕ) (kind : EventKind) → IsFront piece bytes (event_of kind values)
     → IsWhole piece values bytes kind
-whole_of piece values bytes kind front =
-    let front_bytes = take bytes piece in
-    let events = sym (steps_events Nothing front_bytes nothing_held) ∙ front.events in
-    let held = sym (steps_held Nothing front_bytes nothing_held) ∙ front.held in
-    record {
-      some = front.some;
-      within = front.within;
-      reads = ap (λ (es : List Event). step_to (steps Nothing front_bytes).held es) events
-          ∙ ap (λ (h : Held). step_to h (event_of kind values ∷ [])) held;
-      silent = sym (steps_events Nothing (take (bytes - 1) piece) nothing_held) ∙ front.last;
-    }
+whole_of piece values bytes kind front = record {
+  some = front.some;
+  within = front.within;
+  reads = sym (read (take bytes piece)) ∙ rw (front.held, front.events) refl;
+  silent = sym (same_events (read (take (bytes - 1) piece))) ∙ front.last;
+}
 
 -- a graphic byte at the front
 pub whole_graphic : (piece values : List ℕ) → 1 ≤ length piece → IsGraphic (get_or piece 0 0)
     → IsWhole piece values 1 (kind.Print (get_or piece 0 0))
-whole_graphic piece values some is = let a = graphic_alone (get_or piece 0 0) is in record {
+whole_graphic piece values some is = record {
   some = omega arith;
   within = some;
   reads = steps_event Nothing Nothing Nothing piece 0 (event.Print (get_or piece 0 0)) (omega arith)
-      (steps_nil Nothing)
-      (single_step (get_or piece 0 0) a.0 ∙ ap (λ (es : List Event). step_to Nothing es) a.1);
-  silent = ap (λ (t : Step). t.events) (steps_nil Nothing);
+      (steps_nil Nothing) (graphic_step (get_or piece 0 0) is);
+  silent = same_events (steps_nil Nothing);
 }
 
 -- CR at the front
@@ -79,4 +71,4 @@ whole_return piece values some is =
 pub none_before : (held : Held) (bytes : List ℕ) (event : Option EventKind) → IsHeldPart held
     → IfSome event (λ kind. (steps held bytes).events ≡ []) → IfSome event (λ kind. events_from held bytes ≡ [])
 none_before held bytes None part silent = tt
-none_before held bytes (Some kind) part silent = steps_events held bytes part ∙ silent
+none_before held bytes (Some kind) part silent = same_events (read_from held bytes part) ∙ silent

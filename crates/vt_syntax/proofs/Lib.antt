@@ -2,12 +2,11 @@ pub mod Classes
 pub mod Splits
 pub mod OneSplit
 pub mod Steps
+pub mod Ranges
+pub mod Spelled
 pub mod ControlSequences
 pub mod OneByte
-pub mod HeldSpelling
 pub mod Cutting
-pub mod EventSpelling
-pub mod EventRanges
 pub mod PlainRuns
 pub mod Masks
 pub mod GraphicRuns

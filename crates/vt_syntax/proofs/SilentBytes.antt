@@ -12,9 +12,8 @@ use Rattle.vt_syntax.specs.declared.class.Class.TheVariants.{Parameter}
 use Rattle.vt_syntax.specs.Class.{class_of}
 use Rattle.vt_syntax.specs.Steps.{step_to, step_of, step_value, step_string, opened_by, change_last, with_digit}
 use Rattle.vt_syntax.specs.Steps.{IsEarly, steps}
-use Rattle.vt_syntax.proofs.Steps.{change_last-push, value_class, step_bracket}
+use Rattle.vt_syntax.proofs.Steps.{change_last-push, value_class, step_bracket, steps_append}
 use Rattle.std.proofs.lemmas.Bool.Decides.{nat_tests}
-use Rattle.vt_syntax.proofs.Cutting.{steps_append}
 
 pub steps_nil : (held : Held) → steps held [] ≡ step_to held []
 unfolding steps

@@ -1,6 +1,6 @@
 -- What the private functions' proofs cite.
 use Rattle.std.proofs.Common.{◌≡◌, ℕ, ◌+◌, ◌<◌, ◌≤◌, Bool, true, false, List, [], ◌∷◌, ◌++◌, None, nat_lt, nat_le, ◌&&◌}
-use Rattle.std.proofs.Common.{if◌then◌else◌, inl, inr, refl, ap, ◌∙◌, arith}
+use Rattle.std.proofs.Common.{if◌then◌else◌, inl, inr, refl, sym, ap, ◌∙◌, append_assoc, append-nil, arith}
 use Rattle.std.proofs.lemmas.Bool.Decides.{nat_tests}
 use Rattle.std.proofs.lemmas.Bool.{cases_lt}
 use Rattle.vt_syntax.specs.declared.event.Event.{Event}
@@ -14,7 +14,7 @@ use Rattle.vt_syntax.specs.declared.held.Held.TheVariants.{Nothing, Escape, Cont
 use Rattle.vt_syntax.specs.Held.{IsEnding, ended_by}
 use Rattle.vt_syntax.specs.declared.held.Inters.TheVariants.{Zero, One, Many}
 use Rattle.vt_syntax.specs.Class.{class_of}
-use Rattle.vt_syntax.specs.Steps.{step_to, opened_by, step_of, change_last}
+use Rattle.vt_syntax.specs.Steps.{Step, step_to, opened_by, step_of, change_last, steps}
 use Rattle.vt_syntax.proofs.Classes.{range_of, opens_high, class_parameter, class_final}
 
 pub change_last-push : (f : ℕ → ℕ) (xs : List ℕ) (x : ℕ) → change_last f (xs ++ x ∷ []) ≡ xs ++ f x ∷ []
@@ -88,3 +88,42 @@ step_final (Escape Many) last ends = absurd ends
 step_final Nothing last ends = absurd ends
 step_final Spoilt last ends = absurd ends
 step_final (Text osc) last ends = absurd ends
+
+-- ---- bytes after bytes
+
+pub steps_append : (held : Held) (bytes more : List ℕ)
+    → steps held (bytes ++ more)
+    ≡ step_to (steps (steps held bytes).held more).held
+    ((steps held bytes).events ++ (steps (steps held bytes).held more).events)
+unfolding steps
+steps_append held [] more = refl
+steps_append held (b ∷ bytes) more =
+    let now = step_of held b in
+    let e = steps_append now.held bytes more in
+    ap (λ (t : Step). step_to t.held (now.events ++ t.events)) e
+    ∙ ap (λ (events : List Event). step_to (steps (steps now.held bytes).held more).held events)
+    (sym (append_assoc now.events (steps now.held bytes).events (steps (steps now.held bytes).held more).events))
+
+-- bytes that ask for nothing, and then more
+pub steps_then : (held now : Held) (bytes more : List ℕ) → steps held bytes ≡ step_to now []
+    → steps held (bytes ++ more) ≡ steps now more
+steps_then held now bytes more e = steps_append held bytes more ∙ rw e refl
+
+-- a byte that asks for nothing, and then more
+pub steps_cons : (held now : Held) (b : ℕ) (bytes : List ℕ) → step_of held b ≡ step_to now []
+    → steps held (b ∷ bytes) ≡ steps now bytes
+unfolding steps
+steps_cons held now b bytes e = rw e refl
+
+-- a byte alone
+pub steps_one : (held now : Held) (b : ℕ) (events : List Event) → step_of held b ≡ step_to now events
+    → steps held (b ∷ []) ≡ step_to now events
+unfolding steps
+steps_one held now b events e = rw e (ap (λ (t : List Event). step_to now t) (append-nil events))
+
+-- steps that are the same leave the same, and ask for the same
+pub same_held : {s t : Step} → s ≡ t → s.held ≡ t.held
+same_held e = ap (λ (step : Step). step.held) e
+
+pub same_events : {s t : Step} → s ≡ t → s.events ≡ t.events
+same_events e = ap (λ (step : Step). step.events) e

@@ -1,6 +1,6 @@
 -- Sequences that stand whole in a piece: byte after byte, from the first on.
 use Rattle.std.proofs.Common.{◌≡◌, ℕ, ◌+◌, ◌-◌, ◌*◌, ◌<◌, ◌≤◌, true, false, List, [], ◌∷◌, ◌++◌, length, take, get_or}
-use Rattle.std.proofs.Common.{◌==◌, nat_le, nat_lt, Option, Some, None, arith, append-nil, refl, sym, ap, ◌∙◌}
+use Rattle.std.proofs.Common.{◌==◌, nat_le, nat_lt, Bool, Option, Some, None, arith, append-nil, refl, sym, ap, ◌∙◌}
 use Rattle.std.proofs.lemmas.List.{take_more}
 use Rattle.std.proofs.lemmas.Bool.Decides.{nat_tests}
 use Rattle.arrayvec.specs.ArrayVec.{ArrayVec}
@@ -20,8 +20,7 @@ use Rattle.vt_syntax.specs.Held.{IsEnding, ended_by, phase_inter}
 use Rattle.vt_syntax.specs.Steps.{Step, step_to, step_of, step_between, opened_by, with_digit, IsEarly, steps}
 use Rattle.vt_syntax.specs.Whole.{IsWhole, AreRead, marker_phase, begun}
 use Rattle.vt_syntax.proofs.Classes.{class_parameter, class_intermediate}
-use Rattle.vt_syntax.proofs.Cutting.{steps_append}
-use Rattle.vt_syntax.proofs.Steps.{step_final}
+use Rattle.vt_syntax.proofs.Steps.{step_final, steps_append}
 use Rattle.vt_syntax.proofs.SilentBytes.{steps_nil, steps_more, digit_step, separator_step}
 
 -- one more byte, with its events
@@ -72,7 +71,7 @@ unfolding step_of
 steps_csi piece long first = steps_more Nothing Nothing (opened_by 0x9B) piece 0 (omega arith) (steps_nil Nothing)
     (rw first refl)
 
-marker_step : (b : ℕ) → 0x3C ≤ b → b < 0x40 → step_of (opened_by 0x9B) b ≡ step_to (begun (Some b)) []
+pub marker_step : (b : ℕ) → 0x3C ≤ b → b < 0x40 → step_of (opened_by 0x9B) b ≡ step_to (begun (Some b)) []
 unfolding step_of
 marker_step b low high =
     let k : class_of b ≡ Parameter = class_parameter b (omega arith) high in
@@ -81,14 +80,15 @@ marker_step b low high =
     let n : nat_lt b 0x40 ≡ true = grind (arith, nat_tests) in
     rw (k, c, m, n) refl
 
-inter_step : (marker : Option ℕ) (params : ArrayVec ℕ) (phase : Phase) (b : ℕ) → IsEarly phase → 0x20 ≤ b → b < 0x30
-    → step_of (Control marker params false phase) b ≡ step_to (Control marker params false (Inter b)) []
+pub inter_step : (marker : Option ℕ) (params : ArrayVec ℕ) (full : Bool) (phase : Phase) (b : ℕ) → IsEarly phase
+    → 0x20 ≤ b → b < 0x30
+    → step_of (Control marker params full phase) b ≡ step_to (Control marker params full (Inter b)) []
 unfolding step_of
-inter_step marker params Start b early low high = let k : class_of b ≡ Intermediate =
+inter_step marker params full Start b early low high = let k : class_of b ≡ Intermediate =
     class_intermediate b low high in rw k refl
-inter_step marker params Values b early low high = let k : class_of b ≡ Intermediate =
+inter_step marker params full Values b early low high = let k : class_of b ≡ Intermediate =
     class_intermediate b low high in rw k refl
-inter_step marker params (Inter i) b early low high = absurd early
+inter_step marker params full (Inter i) b early low high = absurd early
 
 -- a marker after the introducer
 pub steps_marker : (piece : List ℕ) (at : ℕ) → at < length piece → 0x3C ≤ get_or piece at 0 → get_or piece at 0 < 0x40
@@ -100,7 +100,7 @@ steps_marker piece at inside low high so_far =
 
 -- ---- values
 
-early_marker : (marker : Option ℕ) → IsEarly (marker_phase marker)
+pub early_marker : (marker : Option ℕ) → IsEarly (marker_phase marker)
 early_marker None = tt
 early_marker (Some m) = tt
 
@@ -171,7 +171,7 @@ steps_control_with piece values marker at read inside low high low2 high2 =
     let inter : Held = Control marker (record { items = values }) false (Inter (get_or piece at 0)) in
     let reads = steps_more Nothing (Control marker (record { items = values }) false read.phase) inter piece at
     (omega arith) read.reads
-    (inter_step marker (record { items = values }) read.phase (get_or piece at 0) read.early low high) in
+    (inter_step marker (record { items = values }) false read.phase (get_or piece at 0) read.early low high) in
     let two : at + 2 ≡ at + 1 + 1 = omega arith in
     record {
       some = omega arith;
@@ -195,7 +195,7 @@ steps_alone piece kind some is values = record {
 
 -- ---- escape sequences
 
-escape_inter_step : (b : ℕ) → 0x20 ≤ b → b < 0x30 → step_of (Escape Zero) b ≡ step_to (Escape (One b)) []
+pub escape_inter_step : (b : ℕ) → 0x20 ≤ b → b < 0x30 → step_of (Escape Zero) b ≡ step_to (Escape (One b)) []
 unfolding step_of
 escape_inter_step b low high = let k : class_of b ≡ Intermediate = class_intermediate b low high in rw k refl
 

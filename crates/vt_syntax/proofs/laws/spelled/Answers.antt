@@ -1,26 +1,27 @@
 -- The laws are lemmas.
-use Rattle.vt_syntax.proofs.EventRanges.{are_events}
-use Rattle.vt_syntax.proofs.EventSpelling.{event_events, event_held, events_events, events_held, all_events, all_held}
-use Rattle.vt_syntax.proofs.EventSpelling.{plain_events, plain_held, all_plain, all_plain_held, escape_events}
-use Rattle.vt_syntax.proofs.EventSpelling.{escape_held}
-use Rattle.vt_syntax.proofs.Cutting.{single_events, single_held}
+use Rattle.std.proofs.Common.{[], ◌∷◌, map, ◌∙◌}
+use Rattle.vt_syntax.specs.declared.event.Event.TheVariants.{Print}
+use Rattle.vt_syntax.specs.Spelling.{spell_event, spell_events}
+use Rattle.vt_syntax.proofs.Steps.{same_held, same_events}
+use Rattle.vt_syntax.proofs.Spelled.{event_steps, events_steps, plain_steps}
+use Rattle.vt_syntax.proofs.Cutting.{are_events, read, read_as, single, escape}
 use Rattle.vt_syntax.proofs.laws.spelled.Goals as goal
 
 pub returns : goal.returns
 returns c = record {
   are_events = are_events;
-  event = event_events;
-  event_held = event_held;
-  events = events_events;
-  events_held = events_held;
-  all_events = all_events;
-  all_held = all_held;
-  plain = plain_events;
-  plain_held = plain_held;
-  all_plain = all_plain;
-  all_plain_held = all_plain_held;
-  single = single_events;
-  single_held = single_held;
-  escape = escape_events;
-  escape_held = escape_held;
+  event = λ e more h. same_events (read_as (spell_event e) more (e ∷ []) (event_steps e h));
+  event_held = λ e more h. same_held (read_as (spell_event e) more (e ∷ []) (event_steps e h));
+  events = λ es more h. same_events (read_as (spell_events es) more es (events_steps es h));
+  events_held = λ es more h. same_held (read_as (spell_events es) more es (events_steps es h));
+  all_events = λ es h. same_events (read (spell_events es) ∙ events_steps es h);
+  all_held = λ es h. same_held (read (spell_events es) ∙ events_steps es h);
+  plain = λ run more h. same_events (read_as run more (map Print run) (plain_steps run h));
+  plain_held = λ run more h. same_held (read_as run more (map Print run) (plain_steps run h));
+  all_plain = λ run h. same_events (read run ∙ plain_steps run h);
+  all_plain_held = λ run h. same_held (read run ∙ plain_steps run h);
+  single = λ b e. same_events (single b e);
+  single_held = λ b e. same_held (single b e);
+  escape = λ held more i. same_events (escape held more i);
+  escape_held = λ held more i. same_held (escape held more i);
 }

@@ -37,4 +37,3 @@ lines_off (event ∷ events) s = line_off event s ++ lines_off events (effect ev
 -- the lines of bytes after what is held
 unfoldable pub log : State → List ℕ → List ℕ
 log s bytes = lines_off (events_from s.held bytes) s.display
-

@@ -4,5 +4,6 @@
 mod events;
 mod feeding;
 pub mod laws;
+mod quiet;
 
 pub use feeding::{LINE_LIMIT, feed_log, feed_log_reserved};

@@ -10,7 +10,7 @@ use crate::state::{Cursor, Margins, Modes, Saved};
 use crate::terminal::Terminal;
 use vt_glyph::Sets;
 use vt_screen::{Brush, Cell};
-use vt_syntax::Held;
+use vt_syntax::{Held, Parser};
 
 impl Terminal {
     /// The cells of a row, from 1 to 24: as many as the screen is wide.
@@ -90,6 +90,13 @@ impl Terminal {
         ensures held_part { IsHeldPart self.now.held }
     {
         self.parser.held()
+    }
+
+    /// Makes a parser that holds the same: it reads what follows as the terminal does.
+    pub fn parser(&self) -> Parser
+        ensures { result ≡ self.now.held }
+    {
+        self.parser.copied()
     }
 
     /// Whether the terminal is between sequences.

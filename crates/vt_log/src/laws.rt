@@ -1,0 +1,16 @@
+//! Laws over the definition alone. A caller calls one for its clauses.
+ghost use Rattle.std.specs.Prelude.{◌≡◌, List, ℕ, [], ◌++◌};
+ghost use Rattle.vt_term.specs.State.{State};
+ghost use Rattle.vt_term.specs.Sound.{IsSound};
+ghost use Rattle.vt_term.specs.Play.{play};
+ghost use Rattle.vt_log.specs.Log.{log};
+
+use vt_syntax::laws::one_split;
+
+/// Bytes may be cut anywhere: the lines of pieces in turn are those of the pieces joined.
+pub fn cuts()
+    ensures none { (s : State) → IsSound s → log s [] ≡ [] }
+    ensures two { (s : State) (a b : List ℕ) → log s (a ++ b) ≡ log s a ++ log (play s a).state b }
+{
+    one_split();
+}

@@ -6,6 +6,7 @@ pub mod ControlSequences
 pub mod OneByte
 pub mod HeldSpelling
 pub mod Cutting
+pub mod QuietControls
 pub mod EventSpelling
 pub mod EventRanges
 pub mod PlainRuns

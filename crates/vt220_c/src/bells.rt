@@ -1,7 +1,9 @@
 //! Which bytes ring.
-ghost use Rattle.std.specs.Prelude.{◌≡◌, ◌≢◌, ◌≤◌, ◌<◌, ◌⊎◌, ℕ, length, slice_index_or};
-ghost use Rattle.vt220_c.specs.Bells.{rings};
+ghost use Rattle.std.specs.Prelude.{◌≡◌, ◌≢◌, ◌≤◌, ◌<◌, ◌⊎◌, ◌∷◌, [], ℕ, length, slice_index_or};
+ghost use Rattle.vt_syntax.specs.Held.{IsHeldPart};
+ghost use Rattle.vt220_c.specs.Bells.{bells};
 
+use vt_syntax::laws::controls;
 use vt_term::Held;
 
 /// BEL.
@@ -27,11 +29,13 @@ pub(crate) fn part_before_bell(piece: &[u8]) -> usize
 
 /// How often a byte rings while this is held: once for a BEL outside a control string.
 pub(crate) fn rings(held: &Held, b: u8) -> usize
-    ensures { result ≡ rings held.now b }
+    requires { IsHeldPart held.now }
+    ensures bells { result ≡ bells held.now (b ∷ []) }
+    ensures few { result ≤ 1 }
 {
+    controls();
     match held {
         Held::Text { .. } => 0,
-        Held::Nothing | Held::Escape(_) | Held::Control { .. } | Held::Spoilt => (b
-            == BEL) as usize,
+        Held::Nothing | Held::Escape(_) | Held::Control { .. } | Held::Spoilt => (b == BEL) as usize,
     }
 }

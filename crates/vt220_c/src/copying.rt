@@ -1,7 +1,7 @@
 //! Copies, resets, and the cells in which two terminals differ.
 ghost use Rattle.std.specs.Prelude.{◌≡◌, ◌≢◌, ◌↔◌, ◌≤◌, ◌<◌, ◌⊎◌, IsTrue, IfSome, length};
 ghost use Rattle.std.specs.declared.option.Option.TheVariants.{None, Some};
-ghost use Rattle.vt_screen.specs.Grid.{row_of};
+ghost use Rattle.vt_screen.specs.Grid.{row_of, last_row};
 ghost use Rattle.vt_term.specs.State.{power_up};
 ghost use Rattle.vt220_c.specs.Changed.{IsKept, AreChanged};
 ghost use Rattle.vt220_c.specs.Status.{status_ok, status_closed, status_no_row};
@@ -68,7 +68,7 @@ fn is_kept(shown: &[Cell], to: &[Cell], at: usize) -> bool
 
 /// Marks the cells of a row that the other row doesn't have at the same place.
 fn changes(shown: &[Cell], to: &[Cell]) -> Vt220Changes
-    requires { length to.now ≤ 132 }
+    requires { length to.now ≤ STOPS }
     ensures { AreChanged shown.now to.now result }
 {
     let mut changed = [false; STOPS];
@@ -94,7 +94,7 @@ pub extern "C" fn core_row_changes(
 ) -> u32
     ensures same { (shown.new.kept.inside ≡ shown.old.kept.inside) × (to.new.kept.inside ≡ to.old.kept.inside) }
     ensures closed { (result ≡ status_closed) ↔ ((shown.old.kept.inside ≡ None) ⊎ (to.old.kept.inside ≡ None)) }
-    ensures no_row { result ≢ status_closed → (result ≡ status_no_row) ↔ ((row ≡ 0) ⊎ (24 < row)) }
+    ensures no_row { result ≢ status_closed → (result ≡ status_no_row) ↔ ((row ≡ 0) ⊎ (last_row < row)) }
     ensures answers { (result ≡ status_ok) ⊎ (result ≡ status_closed) ⊎ (result ≡ status_no_row) }
     ensures changed { result ≡ status_ok
         → IfSome shown.old.kept.inside

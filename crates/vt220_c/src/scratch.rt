@@ -1,17 +1,14 @@
 //! The room in which the calls that write a whole screen work. Many terminals share one.
 ghost use Rattle.std.specs.Prelude.{◌≡◌, ◌↔◌, ◌+◌, ◌*◌, ◌≤◌, IsTrue, true, false, length, take};
-ghost use Rattle.vt_screen.specs.Grid.{row_of, last_row};
 ghost use Rattle.std.specs.Str.{IsAscii};
 ghost use Rattle.vt_syntax.specs.declared.held.Held.TheVariants.{Nothing};
-ghost use Rattle.vt_term.specs.Text.{text, line_text};
-ghost use Rattle.vt_picture.specs.Show.{show};
-ghost use Rattle.vt_picture.specs.Picture.{picture};
-ghost use Rattle.vt_paint.specs.Repaint.{paint};
 ghost use Rattle.vt_paint.specs.Changes.{differing};
 ghost use Rattle.vt_paint.specs.Spoken.{Speaks};
+ghost use Rattle.vt220_c.specs.Forms.{written_as, CanBe};
 ghost use Rattle.vt220_c.specs.Written.{written_over, UpdatedOver};
 
 use crate::bytes::{Copied, copy_out};
+use crate::form::Form;
 use crate::inner::Inner;
 use std::alloc::{AllocError, Global};
 use std::marker::Model;
@@ -30,12 +27,13 @@ pub(crate) struct Scratch {
 
 impl Model for Scratch {
     ghost use Rattle.std.specs.Prelude.{◌≤◌, vec_capacity};
+    ghost use Rattle.vt_picture.specs.declared.document.TheConstants.{PICTURE_LIMIT};
 
     ghost Value = { Unit {0} };
 
     ghost view = { λ s. tt };
 
-    ghost invariant = { λ s. 659968 ≤ vec_capacity s.room };
+    ghost invariant = { λ s. PICTURE_LIMIT ≤ vec_capacity s.room };
 }
 
 impl Scratch {
@@ -47,65 +45,22 @@ impl Scratch {
         })
     }
 
-    /// The text of the screen into the front of `out`, if it fits.
-    pub(crate) fn text(&mut self, terminal: &Terminal, out: &mut [u8]) -> Copied
-        ensures len { result.len ≡ length (text terminal.now) }
-        ensures fits { IsTrue result.fits ↔ (length (text terminal.now) ≤ length out.old) }
-        ensures out { result.fits ≡ true → out.new ≡ written_over (text terminal.now) out.old }
+    /// Writes a form of a terminal into the front of `out`, if it fits.
+    pub(crate) fn write(&mut self, terminal: &Terminal, form: Form, out: &mut [u8]) -> Copied
+        requires { CanBe form terminal.now }
+        ensures len { result.len ≡ length (written_as form terminal.now) }
+        ensures fits { IsTrue result.fits ↔ (length (written_as form terminal.now) ≤ length out.old) }
+        ensures out { result.fits ≡ true → out.new ≡ written_over (written_as form terminal.now) out.old }
         ensures unchanged { result.fits ≡ false → out.new ≡ out.old }
     {
         self.room.clear();
-        terminal.text_reserved(&mut self.room);
-        copy_out(self.room.as_slice(), out)
-    }
-
-    /// The text of a row into the front of `out`, if it fits.
-    pub(crate) fn row_text(&mut self, terminal: &Terminal, row: usize, out: &mut [u8]) -> Copied
-        requires { (1 ≤ row) × (row ≤ last_row) }
-        ensures len { result.len ≡ length (line_text (row_of terminal.now.display.grid row)) }
-        ensures fits { IsTrue result.fits ↔ (length (line_text (row_of terminal.now.display.grid row)) ≤ length out.old) }
-        ensures out { result.fits ≡ true → out.new ≡ written_over (line_text (row_of terminal.now.display.grid row)) out.old }
-        ensures unchanged { result.fits ≡ false → out.new ≡ out.old }
-    {
-        self.room.clear();
-        terminal.row_text_reserved(row, &mut self.room);
-        copy_out(self.room.as_slice(), out)
-    }
-
-    /// The text of the screen with its attributes into the front of `out`, if it fits.
-    pub(crate) fn show(&mut self, terminal: &Terminal, out: &mut [u8]) -> Copied
-        ensures len { result.len ≡ length (show terminal.now) }
-        ensures fits { IsTrue result.fits ↔ (length (show terminal.now) ≤ length out.old) }
-        ensures out { result.fits ≡ true → out.new ≡ written_over (show terminal.now) out.old }
-        ensures unchanged { result.fits ≡ false → out.new ≡ out.old }
-    {
-        self.room.clear();
-        show_reserved(terminal, &mut self.room);
-        copy_out(self.room.as_slice(), out)
-    }
-
-    /// The picture into the front of `out`, if it fits.
-    pub(crate) fn picture(&mut self, terminal: &Terminal, out: &mut [u8]) -> Copied
-        ensures len { result.len ≡ length (picture terminal.now) }
-        ensures fits { IsTrue result.fits ↔ (length (picture terminal.now) ≤ length out.old) }
-        ensures out { result.fits ≡ true → out.new ≡ written_over (picture terminal.now) out.old }
-        ensures unchanged { result.fits ≡ false → out.new ≡ out.old }
-    {
-        self.room.clear();
-        picture_reserved(terminal, &mut self.room);
-        copy_out(self.room.as_slice(), out)
-    }
-
-    /// The repaint into the front of `out`, if it fits.
-    pub(crate) fn repaint(&mut self, terminal: &Terminal, out: &mut [u8]) -> Copied
-        requires { terminal.now.held ≡ Nothing }
-        ensures len { result.len ≡ length (paint terminal.now) }
-        ensures fits { IsTrue result.fits ↔ (length (paint terminal.now) ≤ length out.old) }
-        ensures out { result.fits ≡ true → out.new ≡ written_over (paint terminal.now) out.old }
-        ensures unchanged { result.fits ≡ false → out.new ≡ out.old }
-    {
-        self.room.clear();
-        repaint_reserved(terminal, &mut self.room);
+        match form {
+            Form::Text => terminal.text_reserved(&mut self.room),
+            Form::RowText(row) => terminal.row_text_reserved(row, &mut self.room),
+            Form::Show => show_reserved(terminal, &mut self.room),
+            Form::Picture => picture_reserved(terminal, &mut self.room),
+            Form::Repaint => repaint_reserved(terminal, &mut self.room),
+        }
         copy_out(self.room.as_slice(), out)
     }
 

@@ -3,22 +3,59 @@ ghost use Rattle.std.specs.Prelude.{◌≡◌, ◌≢◌, ◌↔◌, ◌+◌, �
 ghost use Rattle.std.specs.Str.{IsAscii};
 ghost use Rattle.std.specs.declared.option.Option.TheVariants.{None};
 ghost use Rattle.vt_syntax.specs.declared.held.Held.TheVariants.{Nothing};
-ghost use Rattle.vt_screen.specs.Grid.{row_of};
+ghost use Rattle.vt_screen.specs.Grid.{row_of, last_row};
 ghost use Rattle.vt_term.specs.Text.{text, line_text};
 ghost use Rattle.vt_picture.specs.Show.{show};
 ghost use Rattle.vt_picture.specs.Picture.{picture};
 ghost use Rattle.vt_paint.specs.Repaint.{paint};
 ghost use Rattle.vt_paint.specs.Changes.{differing};
 ghost use Rattle.vt_paint.specs.Spoken.{Speaks};
+ghost use Rattle.vt220_c.specs.Forms.{written_as, Answers};
 ghost use Rattle.vt220_c.specs.Status.{status_ok, status_closed, status_partial, status_room, status_no_row};
 ghost use Rattle.vt220_c.specs.Written.{written_over, UpdatedOver};
 
+use crate::form::Form;
 use crate::handle::Vt220;
 use crate::scratch_handle::Vt220Scratch;
-use crate::status::{CLOSED, NO_ROW, OK, PARTIAL, ROOM};
+use crate::status::{CLOSED, OK, PARTIAL, ROOM};
 use std::alloc::Global;
-use vt_term::ROWS;
 use vt_update::UPDATE_LIMIT;
+
+/// Writes a form of a terminal if it can be had and fits into `out`. Writes its length to `written`.
+fn write(
+    t: &mut Vt220,
+    s: &mut Vt220Scratch,
+    form: Form,
+    out: &mut [u8],
+    written: &mut usize,
+    alloc: Global,
+) -> u32
+    ensures same { t.new.kept.inside ≡ t.old.kept.inside }
+    ensures scratch { s.new.kept.inside ≡ s.old.kept.inside }
+    ensures closed { (result ≡ status_closed) ↔ ((t.old.kept.inside ≡ None) ⊎ (s.old.kept.inside ≡ None)) }
+    ensures none { result ≡ status_closed → written.new ≡ 0 }
+    ensures answers { result ≢ status_closed → IfSome t.old.kept.inside (λ u. Answers form u (length out.old) written.new result) }
+    ensures out { IfSome t.old.kept.inside (λ u. result ≡ status_ok → out.new ≡ written_over (written_as form u) out.old) }
+    ensures unchanged { (0 < result) → out.new ≡ out.old }
+{
+    *written = 0;
+    let Some(inner) = t.take(alloc) else {
+        return CLOSED;
+    };
+    let Some(mut scratch) = s.take(alloc) else {
+        t.put(inner);
+        return CLOSED;
+    };
+    let mut status = form.status(inner.terminal());
+    if status == OK {
+        let copied = scratch.write(inner.terminal(), form, out);
+        *written = copied.len;
+        status = if copied.fits { OK } else { ROOM };
+    }
+    t.put(inner);
+    s.put(scratch);
+    status
+}
 
 /// Writes the text of the screen if it fits into `out`. Writes its length to `written`.
 #[unsafe(no_mangle)]
@@ -40,19 +77,7 @@ pub extern "C" fn core_text(
     ensures out { IfSome t.old.kept.inside (λ u. result ≡ status_ok → out.new ≡ written_over (text u) out.old) }
     ensures unchanged { (0 < result) → out.new ≡ out.old }
 {
-    *written = 0;
-    let Some(inner) = t.take(alloc) else {
-        return CLOSED;
-    };
-    let Some(mut scratch) = s.take(alloc) else {
-        t.put(inner);
-        return CLOSED;
-    };
-    let copied = scratch.text(inner.terminal(), out);
-    t.put(inner);
-    s.put(scratch);
-    *written = copied.len;
-    if copied.fits { OK } else { ROOM }
+    write(t, s, Form::Text, out, written, alloc)
 }
 
 /// Writes the text of the screen with its attributes if it fits into `out`. Writes its length to `written`.
@@ -75,19 +100,7 @@ pub extern "C" fn core_show(
     ensures out { IfSome t.old.kept.inside (λ u. result ≡ status_ok → out.new ≡ written_over (show u) out.old) }
     ensures unchanged { (0 < result) → out.new ≡ out.old }
 {
-    *written = 0;
-    let Some(inner) = t.take(alloc) else {
-        return CLOSED;
-    };
-    let Some(mut scratch) = s.take(alloc) else {
-        t.put(inner);
-        return CLOSED;
-    };
-    let copied = scratch.show(inner.terminal(), out);
-    t.put(inner);
-    s.put(scratch);
-    *written = copied.len;
-    if copied.fits { OK } else { ROOM }
+    write(t, s, Form::Show, out, written, alloc)
 }
 
 /// Writes the picture if it fits into `out`. Writes its length to `written`.
@@ -110,19 +123,7 @@ pub extern "C" fn core_picture(
     ensures out { IfSome t.old.kept.inside (λ u. result ≡ status_ok → out.new ≡ written_over (picture u) out.old) }
     ensures unchanged { (0 < result) → out.new ≡ out.old }
 {
-    *written = 0;
-    let Some(inner) = t.take(alloc) else {
-        return CLOSED;
-    };
-    let Some(mut scratch) = s.take(alloc) else {
-        t.put(inner);
-        return CLOSED;
-    };
-    let copied = scratch.picture(inner.terminal(), out);
-    t.put(inner);
-    s.put(scratch);
-    *written = copied.len;
-    if copied.fits { OK } else { ROOM }
+    write(t, s, Form::Picture, out, written, alloc)
 }
 
 /// Writes the text of a row, 1 to 24, if it fits into `out`. Writes its length to `written`.
@@ -138,7 +139,7 @@ pub extern "C" fn core_row_text(
     ensures same { t.new.kept.inside ≡ t.old.kept.inside }
     ensures scratch { s.new.kept.inside ≡ s.old.kept.inside }
     ensures closed { (result ≡ status_closed) ↔ ((t.old.kept.inside ≡ None) ⊎ (s.old.kept.inside ≡ None)) }
-    ensures no_row { result ≢ status_closed → (result ≡ status_no_row) ↔ ((row ≡ 0) ⊎ (24 < row)) }
+    ensures no_row { result ≢ status_closed → (result ≡ status_no_row) ↔ ((row ≡ 0) ⊎ (last_row < row)) }
     ensures none { (result ≡ status_closed) ⊎ (result ≡ status_no_row) → written.new ≡ 0 }
     ensures ok { result ≡ status_ok
         → IfSome t.old.kept.inside
@@ -150,23 +151,7 @@ pub extern "C" fn core_row_text(
     ensures answers { (result ≡ status_ok) ⊎ (result ≡ status_closed) ⊎ (result ≡ status_room) ⊎ (result ≡ status_no_row) }
     ensures unchanged { (0 < result) → out.new ≡ out.old }
 {
-    *written = 0;
-    let Some(inner) = t.take(alloc) else {
-        return CLOSED;
-    };
-    let Some(mut scratch) = s.take(alloc) else {
-        t.put(inner);
-        return CLOSED;
-    };
-    let mut status = NO_ROW;
-    if 0 < row && row <= ROWS {
-        let copied = scratch.row_text(inner.terminal(), row, out);
-        *written = copied.len;
-        status = if copied.fits { OK } else { ROOM };
-    }
-    t.put(inner);
-    s.put(scratch);
-    status
+    write(t, s, Form::RowText(row), out, written, alloc)
 }
 
 /// Writes the repaint of a terminal between sequences if it fits into `out`. Writes its length to `written`.
@@ -191,24 +176,7 @@ pub extern "C" fn core_repaint(
     ensures out { IfSome t.old.kept.inside (λ u. result ≡ status_ok → out.new ≡ written_over (paint u) out.old) }
     ensures unchanged { (0 < result) → out.new ≡ out.old }
 {
-    *written = 0;
-    let Some(inner) = t.take(alloc) else {
-        return CLOSED;
-    };
-    let Some(mut scratch) = s.take(alloc) else {
-        t.put(inner);
-        return CLOSED;
-    };
-    if !inner.terminal().is_between() {
-        t.put(inner);
-        s.put(scratch);
-        return PARTIAL;
-    }
-    let copied = scratch.repaint(inner.terminal(), out);
-    t.put(inner);
-    s.put(scratch);
-    *written = copied.len;
-    if copied.fits { OK } else { ROOM }
+    write(t, s, Form::Repaint, out, written, alloc)
 }
 
 /// Writes bytes that lead from `shown` to `to` if they fit into `out`, and brings `shown` there. Both are between

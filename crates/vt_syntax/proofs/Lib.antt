@@ -7,6 +7,7 @@ pub mod Spelled
 pub mod ControlSequences
 pub mod OneByte
 pub mod Cutting
+pub mod QuietControls
 pub mod PlainRuns
 pub mod Masks
 pub mod GraphicRuns

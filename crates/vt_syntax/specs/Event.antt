@@ -1,5 +1,5 @@
 -- An event by its parts: its kind, and the values of a control sequence.
-use Rattle.std.specs.Prelude.{ℕ, List, [], ◌∷◌, Option, Some, None}
+use Rattle.std.specs.Prelude.{ℕ, List, [], ◌∷◌, Option, Some, None, Bool, false, ◌==◌}
 use Rattle.vt_syntax.specs.declared.event.Event.{Event}
 use Rattle.vt_syntax.specs.declared.event.Event.TheVariants as event
 use Rattle.vt_syntax.specs.declared.event.EventKind.{EventKind}
@@ -16,3 +16,8 @@ event_of (Sequence marker inter last) values = event.Sequence marker (record { i
 abbrev pub event_in : Option EventKind → List ℕ → List Event
 event_in None values = []
 event_in (Some kind) values = event_of kind values ∷ []
+
+-- the event carries out this control
+abbrev pub is_control : ℕ → Event → Bool
+is_control c (event.Control b) = b == c
+is_control c _ = false

@@ -1,10 +1,11 @@
 -- The laws of the syntax, each a record that the proofs of the crates above can pass on.
-use Rattle.std.specs.Prelude.{◌≡◌, ℕ, List, [], ◌∷◌, ◌++◌, false, map, All, Option}
+use Rattle.std.specs.Prelude.{◌≡◌, ◌≢◌, ◌<◌, ℕ, List, [], ◌∷◌, ◌++◌, Bool, false, map, All, Option, count_by}
 use Rattle.vt_syntax.specs.declared.event.Event.{Event}
 use Rattle.vt_syntax.specs.declared.event.Event.TheVariants.{Print}
 use Rattle.vt_syntax.specs.declared.held.Held.{Held}
-use Rattle.vt_syntax.specs.declared.held.Held.TheVariants.{Nothing}
+use Rattle.vt_syntax.specs.declared.held.Held.TheVariants.{Nothing, Text}
 use Rattle.vt_syntax.specs.Class.{is_opener, IsPlain}
+use Rattle.vt_syntax.specs.Event.{is_control}
 use Rattle.vt_syntax.specs.Items.{Item, Beginning, rest_bytes, IsRest}
 use Rattle.vt_syntax.specs.Split.{Split, split_of}
 use Rattle.vt_syntax.specs.Reading.{single_function, rest_reading, events_of}
@@ -35,6 +36,18 @@ pub record SplitLaw : Type 0 where
       → events_from held (first ++ second) ≡ events_from held first ++ events_from (held_from held first) second
   pub held_append : (held : Held) (first second : List ℕ)
       → held_from held (first ++ second) ≡ held_from (held_from held first) second
+
+-- the C0 controls below CAN (ECMA-48 5.4; that they are carried out inside a sequence is this profile)
+pub record ControlLaw : Type 0 where
+  -- such a control is carried out once where it stands, between sequences and inside one
+  pub carried_out : (held : Held) (c : ℕ) → IsHeldPart held → c < 0x18 → ((osc : Bool) → held ≢ Text osc)
+      → count_by (is_control c) (events_from held (c ∷ [])) ≡ 1
+  -- in a control string it isn't
+  pub in_string : (osc : Bool) (c : ℕ) → IsHeldPart (Text osc) → c < 0x18
+      → count_by (is_control c) (events_from (Text osc) (c ∷ [])) ≡ 0
+  -- and no other byte carries it out
+  pub by_no_other : (held : Held) (b c : ℕ) → IsHeldPart held → c < 0x18 → b ≢ c
+      → count_by (is_control c) (events_from held (b ∷ [])) ≡ 0
 
 -- events and their spelling
 pub record SpellingLaw : Type 0 where

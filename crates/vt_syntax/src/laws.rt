@@ -1,5 +1,5 @@
 //! Laws over the definitions alone. A caller calls one for its clause.
-ghost use Rattle.vt_syntax.specs.Laws.{SplitLaw, SpellingLaw};
+ghost use Rattle.vt_syntax.specs.Laws.{SplitLaw, SpellingLaw, ControlLaw};
 
 /// Each byte list has exactly one split.
 ///
@@ -17,4 +17,9 @@ pub fn one_split()
 /// event, so that a list of events whose spelling begins with ESC reads as itself after any held part.
 pub fn spelled()
     ensures { SpellingLaw }
+{}
+
+/// A C0 control below CAN is carried out once where it stands, unless a control string is held, and by no other byte.
+pub fn controls()
+    ensures { ControlLaw }
 {}

@@ -9,7 +9,7 @@ use std::test::Fail;
 use vt_paint::{PAINT_LIMIT, PaintError, repaint, repaint_reserved};
 use vt_picture::{PICTURE_LIMIT, SHOW_LIMIT, picture, picture_reserved, show, show_reserved};
 use vt_replay::{Fault, Refused, Settings, Watched, What, run, settings};
-use vt_term::{TEXT_LIMIT, Terminal};
+use vt_term::{ROWS, ROW_TEXT_LIMIT, TEXT_LIMIT, Terminal};
 use vt_vectors::{Mismatch, Vector, check, vector, vector_count};
 
 /// No input; a full line and a question; a saved cursor; and questions in the 8-bit form.
@@ -446,5 +446,30 @@ fn each_growth_of_check_is_refused(rt: HostRuntime) -> Result<(), Fail> {
         }
     }
     assert!(rt; found == 4);
+    Ok(())
+}
+
+/// The texts of the rows, one behind the other, each appended without memory that is left.
+fn row_texts(alloc: Global, terminal: &Terminal) -> Result<Vec<u8>, Fail> {
+    let mut all = Vec::new(alloc);
+    for row in 1..=ROWS {
+        let mut line = Vec::with_capacity(alloc, ROW_TEXT_LIMIT)?;
+        let scarce = Scarce::new(alloc)?;
+        terminal.row_text_reserved(row, &mut line);
+        drop(scarce);
+        all.extend_from_slice(line.as_slice())?;
+    }
+    Ok(all)
+}
+
+#[test]
+fn the_texts_of_the_rows_are_the_text(rt: HostRuntime) -> Result<(), Fail> {
+    for (i, input) in INPUTS.iter().enumerate() {
+        let terminal = Played::of(rt.alloc(), &[input])?.terminal;
+        let mut expected = Vec::new(rt.alloc());
+        terminal.text(&mut expected)?;
+        let rows = row_texts(rt.alloc(), &terminal)?;
+        holds_at(&rt, i, rows.as_slice() == expected.as_slice());
+    }
     Ok(())
 }

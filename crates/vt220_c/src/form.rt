@@ -1,0 +1,31 @@
+//! What is written of a terminal.
+ghost use Rattle.std.specs.Prelude.{◌≡◌, ◌≢◌, ◌↔◌};
+ghost use Rattle.vt220_c.specs.Forms.{CanBe, refusal};
+ghost use Rattle.vt220_c.specs.Status.{status_ok};
+
+use crate::status::{NO_ROW, OK, PARTIAL};
+use vt_term::{ROWS, Terminal};
+
+/// What is written: the text of the screen or of a row, the text with its attributes, the picture, or the repaint.
+#[derive(Clone, Copy)]
+pub(crate) enum Form {
+    Text,
+    RowText(usize),
+    Show,
+    Picture,
+    Repaint,
+}
+
+impl Form {
+    /// Returns `OK` if this can be written of a terminal, and else the status that says why not.
+    pub(crate) fn status(self, terminal: &Terminal) -> u32
+        ensures can { (result ≡ status_ok) ↔ CanBe self terminal.now }
+        ensures why { result ≢ status_ok → result ≡ refusal self }
+    {
+        match self {
+            Form::RowText(row) if row == 0 || row > ROWS => NO_ROW,
+            Form::Repaint if !terminal.is_between() => PARTIAL,
+            Form::Text | Form::RowText(_) | Form::Show | Form::Picture | Form::Repaint => OK,
+        }
+    }
+}

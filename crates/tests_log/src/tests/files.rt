@@ -1,0 +1,63 @@
+//! The log of a file that is shown is its text; and lines that have no room wait.
+use super::common::{holds, logged};
+use std::alloc::Global;
+use std::test::Fail;
+use vt_log::{LINE_LIMIT, feed_log_reserved};
+use vt_term::Terminal;
+
+/// Numbered lines with an end each.
+fn numbered(alloc: Global, count: u32, end: &[u8]) -> Result<Vec<u8>, Fail> {
+    let mut text = Vec::new(alloc);
+    for i in 0..count {
+        let line = format!(in alloc; "line number {}", i)?;
+        text.extend_from_slice(line.as_bytes())?;
+        text.extend_from_slice(end)?;
+    }
+    Ok(text)
+}
+
+/// Returns whether the log of 200 lines and then the screen are these lines, and the line that the cursor is on.
+fn is_shown_again(alloc: Global, size: usize) -> Result<bool, Fail>
+    requires { 1 ≤ size }
+{
+    let mut text = numbered(alloc, 200, b"\n")?;
+    text.push(b'\n')?;
+    Ok(logged(alloc, &numbered(alloc, 200, b"\r\n")?, size, true)? == text)
+}
+
+#[test]
+fn a_file_is_its_log(rt: HostRuntime) -> Result<(), Fail> {
+    holds(&rt, "by bytes", is_shown_again(rt.alloc(), 1)?);
+    holds(&rt, "by lines", is_shown_again(rt.alloc(), 4096)?);
+    Ok(())
+}
+
+/// Returns the lines that scroll off where there is room for one at a time.
+fn logged_by_lines(alloc: Global, input: &[u8]) -> Result<Vec<u8>, Fail> {
+    let mut terminal = Terminal::new(alloc)?;
+    let mut reports = Vec::with_capacity(alloc, 10 * 4096)?;
+    let mut line = Vec::with_capacity(alloc, LINE_LIMIT)?;
+    let mut lines = Vec::new(alloc);
+    let mut rest = input;
+    for _ in 0..4096u16 {
+        let piece = &rest[..rest.len().min(4096)];
+        reports.clear();
+        line.clear();
+        let played = feed_log_reserved(&mut terminal, piece, &mut reports, &mut line);
+        lines.extend_from_slice(&line)?;
+        rest = &rest[played..];
+    }
+    Ok(lines)
+}
+
+/// Returns whether the lines are the same as with room for all of them.
+fn is_same_by_lines(alloc: Global) -> Result<bool, Fail> {
+    let input = numbered(alloc, 100, b"\r\n")?;
+    Ok(logged_by_lines(alloc, &input)? == logged(alloc, &input, 4096, false)?)
+}
+
+#[test]
+fn lines_wait_for_room(rt: HostRuntime) -> Result<(), Fail> {
+    holds(&rt, "one line at a time", is_same_by_lines(rt.alloc())?);
+    Ok(())
+}

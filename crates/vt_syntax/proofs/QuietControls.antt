@@ -1,6 +1,6 @@
 -- A C0 control below CAN: it is carried out where it stands, and no other byte carries it out.
 use Rattle.std.proofs.Common.{◌≡◌, ◌≢◌, ℕ, ◌+◌, ◌<◌, Bool, true, false, cond, eqb, ltb, leb, ◌&&◌, ◌||◌, not, List, []}
-use Rattle.std.proofs.Common.{◌∷◌, Option, None, append-nil, refl, ap, ◌∙◌, arith}
+use Rattle.std.proofs.Common.{◌∷◌, Option, None, refl, ap, ◌∙◌, arith}
 use Rattle.std.specs.Prelude.{count_by}
 use Rattle.std.proofs.lemmas.Bool.Decides.{nat_tests}
 use Rattle.vt_syntax.specs.declared.class.Class.{Class}
@@ -17,8 +17,9 @@ use Rattle.vt_syntax.specs.Held.{IsHeldPart, events_from}
 use Rattle.vt_syntax.specs.declared.held.Phase.{Phase}
 use Rattle.vt_syntax.specs.Items.{introduces, ends_string, is_osc}
 use Rattle.vt_syntax.specs.Reading.{quiet_control, cancel_function, single_function, escape_function}
-use Rattle.vt_syntax.specs.Steps.{step_of, step_to, opened_by, step_between, step_escape, step_control, step_spoilt, step_string, steps}
-use Rattle.vt_syntax.proofs.Cutting.{steps_events}
+use Rattle.vt_syntax.specs.Steps.{step_of, step_to, opened_by, step_between, step_escape, step_control, step_spoilt, step_string}
+use Rattle.vt_syntax.proofs.Steps.{same_events}
+use Rattle.vt_syntax.proofs.Cutting.{read_step}
 
 quiet_low : (c : ℕ) → c < 24 → class_of c ≡ Quiet
 unfolding class_of
@@ -191,10 +192,7 @@ module _ (b c : ℕ) (other : b ≢ c) (low : c < 24) where
 -- the events of one byte
 counted : (held : Held) (b c : ℕ) → IsHeldPart held
     → count_by (is_control c) (events_from held (b ∷ [])) ≡ count_by (is_control c) (step_of held b).events
-unfolding steps
-counted held b c is =
-    ap (λ (events : List Event). count_by (is_control c) events)
-    (steps_events held (b ∷ []) is ∙ append-nil (step_of held b).events)
+counted held b c is = ap (λ (events : List Event). count_by (is_control c) events) (same_events (read_step held b is))
 
 pub carried_out : (held : Held) (c : ℕ) → IsHeldPart held → c < 24 → ((osc : Bool) → held ≢ Text osc)
     → count_by (is_control c) (events_from held (c ∷ [])) ≡ 1

@@ -36,6 +36,7 @@ pub(crate) fn rings(held: &Held, b: u8) -> usize
     controls();
     match held {
         Held::Text { .. } => 0,
-        Held::Nothing | Held::Escape(_) | Held::Control { .. } | Held::Spoilt => (b == BEL) as usize,
+        Held::Nothing | Held::Escape(_) | Held::Control { .. } | Held::Spoilt => (b
+            == BEL) as usize,
     }
 }

@@ -24,7 +24,6 @@ use Rattle.vt_syntax.specs.Spelling.{IsGraphic, IsC0, IsC1, IsMarker, IsIntermed
 use Rattle.vt_syntax.specs.Spelling.{spell_event, spell_events}
 use Rattle.vt_syntax.specs.Steps.{step_to, opened_by, step_of, with_digit, IsEarly, steps}
 use Rattle.vt_syntax.specs.Whole.{marker_phase, begun}
-use Rattle.vt_syntax.proofs.Classes.{not_opener}
 use Rattle.vt_syntax.proofs.Steps.{step_bracket, step_final, steps_append, steps_then, steps_cons, steps_one}
 use Rattle.vt_syntax.proofs.SilentBytes.{steps_nil, digit_step, separator_step}
 use Rattle.vt_syntax.proofs.WholeSequences.{marker_step, early_marker, inter_step, escape_inter_step}
@@ -138,7 +137,7 @@ spelled_steps (Text false) h = refl
 -- a byte between sequences that opens nothing
 pub single_step : (b : ℕ) → is_opener b ≡ false → step_of Nothing b ≡ step_to Nothing (single_function b)
 unfolding step_of
-single_step b e = let n = not_opener b e in rw (n.0, n.1, n.2) refl
+single_step b e = grind (arith, nat_tests)
 
 pub graphic_step : (b : ℕ) → IsGraphic b → step_of Nothing b ≡ step_to Nothing (event.Print b ∷ [])
 unfolding opens_string

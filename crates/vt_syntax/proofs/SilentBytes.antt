@@ -1,18 +1,17 @@
 -- Bytes that give no event, one after another.
-use Rattle.std.proofs.Common.{◌≡◌, ℕ, ◌+◌, ◌<◌, Bool, false, List, [], ◌∷◌, ◌++◌, length, take, drop, get_or, ◌==◌, ◌≤◌}
-use Rattle.std.proofs.Common.{nat_le, Option, length-append, length-drop, ◌-◌, arith, refl, sym, ap, ◌∙◌}
+use Rattle.std.proofs.Common.{◌≡◌, ℕ, ◌+◌, ◌<◌, Bool, false, List, [], ◌∷◌, ◌++◌, length, take, drop, get_or, ◌≤◌}
+use Rattle.std.proofs.Common.{Option, length-append, length-drop, ◌-◌, arith, refl, sym, ap, ◌∙◌}
 use Rattle.std.proofs.lemmas.List.{take_more}
 use Rattle.std.proofs.Math.Seq.{take-add, take-length}
 use Rattle.vt_syntax.specs.declared.held.Held.{Held}
 use Rattle.vt_syntax.specs.declared.held.Held.TheVariants.{Nothing, Escape, Control, Text}
 use Rattle.vt_syntax.specs.declared.held.Inters.TheVariants.{Zero}
 use Rattle.vt_syntax.specs.declared.held.Phase.{Phase}
-use Rattle.vt_syntax.specs.declared.held.Phase.TheVariants.{Start, Values, Inter}
-use Rattle.vt_syntax.specs.declared.class.Class.TheVariants.{Parameter}
+use Rattle.vt_syntax.specs.declared.held.Phase.TheVariants.{Values}
 use Rattle.vt_syntax.specs.Class.{class_of}
-use Rattle.vt_syntax.specs.Steps.{step_to, step_of, step_value, step_string, opened_by, change_last, with_digit}
+use Rattle.vt_syntax.specs.Steps.{step_to, step_of, step_string, opened_by, with_digit}
 use Rattle.vt_syntax.specs.Steps.{IsEarly, steps}
-use Rattle.vt_syntax.proofs.Steps.{change_last-push, value_class, step_bracket, steps_append}
+use Rattle.vt_syntax.proofs.Steps.{change_last-push, step_bracket, steps_append}
 use Rattle.std.proofs.lemmas.Bool.Decides.{nat_tests}
 
 pub steps_nil : (held : Held) → steps held [] ≡ step_to held []
@@ -69,38 +68,16 @@ steps_content osc piece at inside so_far step = steps_more (Text osc) (Text osc)
 -- ---- values
 
 -- a digit after any early phase
-digit_value : (marker : Option ℕ) (xs : List ℕ) (v : ℕ) (b : ℕ) → 48 ≤ b → b ≤ 57
-    → step_value marker (xs ++ v ∷ []) false b
-    ≡ Control marker (record { items = xs ++ with_digit b v ∷ [] }) false Values
-digit_value marker xs v b low high =
-    let s : (b == 0x3B) ≡ false = grind (arith, nat_tests) in
-    let l : change_last (with_digit b) (xs ++ v ∷ []) ≡ xs ++ with_digit b v ∷ [] =
-    change_last-push (with_digit b) xs v in
-    rw (s, l) refl
-
 pub digit_step : (marker : Option ℕ) (xs : List ℕ) (v : ℕ) (phase : Phase) (b : ℕ) → IsEarly phase → 48 ≤ b → b ≤ 57
     → step_of (Control marker (record { items = xs ++ v ∷ [] }) false phase) b
     ≡ step_to (Control marker (record { items = xs ++ with_digit b v ∷ [] }) false Values) []
-unfolding step_of
-digit_step marker xs v Start b early low high =
-    let k : class_of b ≡ Parameter = value_class b low (omega arith) in
-    let c : (b == 0x3A) ≡ false = grind (arith, nat_tests) in
-    let m : nat_le 0x3C b ≡ false = grind (arith, nat_tests) in
-    rw (k, c, m) (ap (λ (h : Held). step_to h []) (digit_value marker xs v b low high))
-digit_step marker xs v Values b early low high =
-    let k : class_of b ≡ Parameter = value_class b low (omega arith) in
-    let c : (b == 0x3A) ≡ false = grind (arith, nat_tests) in
-    let m : nat_le 0x3C b ≡ false = grind (arith, nat_tests) in
-    rw (k, c, m) (ap (λ (h : Held). step_to h []) (digit_value marker xs v b low high))
-digit_step marker xs v (Inter i) b early low high = absurd early
-
-not_full : (xs : List ℕ) (v : ℕ) → length xs < 15 → (length (xs ++ v ∷ []) == 16) ≡ false
-not_full xs v few = simp length-append (grind (arith, nat_tests))
+unfolding step_of class_of
+digit_step marker xs v phase b early low high =
+    let changed = change_last-push (with_digit b) xs v in grind (arith, nat_tests)
 
 pub separator_step : (marker : Option ℕ) (xs : List ℕ) (v : ℕ) (phase : Phase) → IsEarly phase → length xs < 15
     → step_of (Control marker (record { items = xs ++ v ∷ [] }) false phase) 0x3B
     ≡ step_to (Control marker (record { items = (xs ++ v ∷ []) ++ 0 ∷ [] }) false Values) []
 unfolding step_of class_of
-separator_step marker xs v Start early few = let n = not_full xs v few in rw n refl
-separator_step marker xs v Values early few = let n = not_full xs v few in rw n refl
-separator_step marker xs v (Inter i) early few = absurd early
+separator_step marker xs v phase early few =
+    let more = length-append xs (v ∷ []) in grind (arith, nat_tests)

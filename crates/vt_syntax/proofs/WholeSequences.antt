@@ -1,6 +1,6 @@
 -- Sequences that stand whole in a piece: byte after byte, from the first on.
-use Rattle.std.proofs.Common.{◌≡◌, ℕ, ◌+◌, ◌-◌, ◌*◌, ◌<◌, ◌≤◌, true, false, List, [], ◌∷◌, ◌++◌, length, take, get_or}
-use Rattle.std.proofs.Common.{◌==◌, nat_le, nat_lt, Bool, Option, Some, None, arith, append-nil, refl, sym, ap, ◌∙◌}
+use Rattle.std.proofs.Common.{◌≡◌, ℕ, ◌+◌, ◌-◌, ◌*◌, ◌<◌, ◌≤◌, false, List, [], ◌∷◌, ◌++◌, length, take, get_or}
+use Rattle.std.proofs.Common.{Bool, Option, Some, None, arith, append-nil, refl, sym, ap, ◌∙◌}
 use Rattle.std.proofs.lemmas.List.{take_more}
 use Rattle.std.proofs.lemmas.Bool.Decides.{nat_tests}
 use Rattle.arrayvec.specs.ArrayVec.{ArrayVec}
@@ -14,12 +14,10 @@ use Rattle.vt_syntax.specs.declared.held.Held.TheVariants.{Nothing, Escape, Cont
 use Rattle.vt_syntax.specs.declared.held.Inters.TheVariants.{Zero, One}
 use Rattle.vt_syntax.specs.declared.held.Phase.{Phase}
 use Rattle.vt_syntax.specs.declared.held.Phase.TheVariants.{Start, Values, Inter}
-use Rattle.vt_syntax.specs.declared.class.Class.TheVariants.{Parameter, Intermediate}
 use Rattle.vt_syntax.specs.Class.{class_of}
 use Rattle.vt_syntax.specs.Held.{IsEnding, ended_by, phase_inter}
 use Rattle.vt_syntax.specs.Steps.{Step, step_to, step_of, step_between, opened_by, with_digit, IsEarly, steps}
 use Rattle.vt_syntax.specs.Whole.{IsWhole, AreRead, marker_phase, begun}
-use Rattle.vt_syntax.proofs.Classes.{class_parameter, class_intermediate}
 use Rattle.vt_syntax.proofs.Steps.{step_final, steps_append}
 use Rattle.vt_syntax.proofs.SilentBytes.{steps_nil, steps_more, digit_step, separator_step}
 
@@ -72,23 +70,14 @@ steps_csi piece long first = steps_more Nothing Nothing (opened_by 0x9B) piece 0
     (rw first refl)
 
 pub marker_step : (b : ℕ) → 0x3C ≤ b → b < 0x40 → step_of (opened_by 0x9B) b ≡ step_to (begun (Some b)) []
-unfolding step_of
-marker_step b low high =
-    let k : class_of b ≡ Parameter = class_parameter b (omega arith) high in
-    let c : (b == 0x3A) ≡ false = grind (arith, nat_tests) in
-    let m : nat_le 0x3C b ≡ true = grind (arith, nat_tests) in
-    let n : nat_lt b 0x40 ≡ true = grind (arith, nat_tests) in
-    rw (k, c, m, n) refl
+unfolding step_of class_of
+marker_step b low high = grind (arith, nat_tests)
 
 pub inter_step : (marker : Option ℕ) (params : ArrayVec ℕ) (full : Bool) (phase : Phase) (b : ℕ) → IsEarly phase
     → 0x20 ≤ b → b < 0x30
     → step_of (Control marker params full phase) b ≡ step_to (Control marker params full (Inter b)) []
-unfolding step_of
-inter_step marker params full Start b early low high = let k : class_of b ≡ Intermediate =
-    class_intermediate b low high in rw k refl
-inter_step marker params full Values b early low high = let k : class_of b ≡ Intermediate =
-    class_intermediate b low high in rw k refl
-inter_step marker params full (Inter i) b early low high = absurd early
+unfolding step_of class_of
+inter_step marker params full phase b early low high = grind (arith, nat_tests)
 
 -- a marker after the introducer
 pub steps_marker : (piece : List ℕ) (at : ℕ) → at < length piece → 0x3C ≤ get_or piece at 0 → get_or piece at 0 < 0x40
@@ -196,8 +185,8 @@ steps_alone piece kind some is values = record {
 -- ---- escape sequences
 
 pub escape_inter_step : (b : ℕ) → 0x20 ≤ b → b < 0x30 → step_of (Escape Zero) b ≡ step_to (Escape (One b)) []
-unfolding step_of
-escape_inter_step b low high = let k : class_of b ≡ Intermediate = class_intermediate b low high in rw k refl
+unfolding step_of class_of
+escape_inter_step b low high = grind (arith, nat_tests)
 
 -- ESC and a final byte
 pub escape_whole : (piece : List ℕ) (kind : EventKind) → 2 ≤ length piece → get_or piece 0 0 ≡ 0x1B

@@ -21,10 +21,6 @@ pub range_of : (b : ℕ) (k : Class) → class_of b ≡ k → InClass k b
 unfolding class_of
 range_of b k e = grind (arith, nat_tests)
 
-pub class_intermediate : (b : ℕ) → 32 ≤ b → b < 48 → class_of b ≡ Intermediate
-unfolding class_of
-class_intermediate b low high = grind (arith, nat_tests)
-
 pub class_parameter : (b : ℕ) → 48 ≤ b → b < 64 → class_of b ≡ Parameter
 unfolding class_of
 class_parameter b low high = grind (arith, nat_tests)

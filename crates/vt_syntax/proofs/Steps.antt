@@ -31,10 +31,6 @@ final_low b e = (range_of b Final e).0
 pub final_high : (b : ℕ) → class_of b ≡ Final → b < 127
 final_high b e = (range_of b Final e).1
 
--- digits and `;` are parameter bytes
-pub value_class : (b : ℕ) → 48 ≤ b → b < 60 → class_of b ≡ Parameter
-value_class b low high = class_parameter b low (omega arith)
-
 -- ESC and `[` open a control sequence
 pub step_bracket : step_of (Escape Zero) 0x5B ≡ step_to (opened_by 0x9B) []
 unfolding step_of class_of

@@ -5,6 +5,8 @@ use Rattle.std.proofs.Common.{append-nil, arith}
 use Rattle.std.specs.List.{filter, list_any, slice_split, onto_first}
 use Rattle.std.specs.Char.{digit_value}
 use Rattle.std.specs.Str.Parse.{digits_value}
+use Rattle.std.proofs.Common.{inl, inr}
+use Rattle.std.proofs.lemmas.Bool.{cases_Bool}
 use Rattle.std.proofs.lemmas.Bool.Decides.{nat_tests}
 use Rattle.std.proofs.lemmas.List.{length-append, length-take-le, take-append-le, take_all}
 use Rattle.std.proofs.lemmas.List.Elements.{filter-append}
@@ -33,12 +35,8 @@ pub filter-push_no : (p : ℕ → Bool) (xs : List ℕ) (b : ℕ) → p b ≡ fa
 filter-push_no p xs b h = filter-append p xs (b ∷ []) ∙ ap (λ (t : Bool). filter p xs ++ cond t (b ∷ []) []) h
     ∙ append-nil (filter p xs)
 
-or_false : (x : Bool) → (x || false) ≡ x
-or_false true = refl
-or_false false = refl
-
 list_any-push : (p : ℕ → Bool) (xs : List ℕ) (b : ℕ) → list_any p (xs ++ b ∷ []) ≡ (list_any p xs || p b)
-list_any-push p xs b = list_any-append p xs (b ∷ []) ∙ ap (λ (t : Bool). list_any p xs || t) (or_false (p b))
+list_any-push p xs b = rw (list_any-append p xs (b ∷ [])) (grind (arith, nat_tests))
 
 inters-push : (is : List ℕ) (b : ℕ) → inters (is ++ b ∷ []) ≡ one_more (inters is) b
 inters-push [] b = refl
@@ -90,13 +88,13 @@ has_late_marker-push [] b = refl
 has_late_marker-push (x ∷ xs) b = list_any-push is_marker xs b
 
 -- what is not spoilt has none of the faults
-pub record IsSound (xs : List ℕ) : Type 0 where
-  pub colon : list_any (λ b. eqb b 58) xs ≡ false
-  pub marker : has_late_marker xs ≡ false
-  pub parameter : has_late_parameter xs ≡ false
-  pub inters : is_many (inters_of xs) ≡ false
+record IsSound (xs : List ℕ) : Type 0 where
+  colon : list_any (λ b. eqb b 58) xs ≡ false
+  marker : has_late_marker xs ≡ false
+  parameter : has_late_parameter xs ≡ false
+  inters : is_many (inters_of xs) ≡ false
 
-pub sound_of : (xs : List ℕ) → is_spoilt xs ≡ false → IsSound xs
+sound_of : (xs : List ℕ) → is_spoilt xs ≡ false → IsSound xs
 unfolding is_spoilt
 sound_of xs e = grind (arith, nat_tests)
 
@@ -145,42 +143,35 @@ onto_last (q ∷ r ∷ rs) b = q ∷ onto_last (r ∷ rs) b
 
 split_cons : (p : ℕ → Bool) (xs : List ℕ) → (q : List ℕ) × (qs : List (List ℕ)) × (slice_split p xs ≡ q ∷ qs)
 split_cons p [] = ([], [], refl)
-split_cons p (x ∷ xs) = go (p x) (split_cons p xs)
-  where
-    go : (t : Bool) → (q : List ℕ) × (qs : List (List ℕ)) × (slice_split p xs ≡ q ∷ qs) → (q : List ℕ)
-        × (qs : List (List ℕ)) × (cond t ([] ∷ slice_split p xs) (onto_first x (slice_split p xs)) ≡ q ∷ qs)
-    go true ih = ([], slice_split p xs, refl)
-    go false ih = (x ∷ ih.0, ih.1, ap (λ (t : List (List ℕ)). onto_first x t) ih.2)
+split_cons p (x ∷ xs) = let s = split_cons p xs in elim (cases_Bool (p x)) [
+  | inl e ↦ ([], slice_split p xs, rw e refl)
+  | inr e ↦ (x ∷ s.0, s.1, rw (e, s.2) refl)
+]
 
-pub slice_split-push_yes : (p : ℕ → Bool) (xs : List ℕ) (b : ℕ) → p b ≡ true
+slice_split-push_yes : (p : ℕ → Bool) (xs : List ℕ) (b : ℕ) → p b ≡ true
     → slice_split p (xs ++ b ∷ []) ≡ slice_split p xs ++ [] ∷ []
 slice_split-push_yes p [] b h = rw h refl
-slice_split-push_yes p (x ∷ xs) b h = go (p x) (slice_split-push_yes p xs b h) (split_cons p xs)
+slice_split-push_yes p (x ∷ xs) b h =
+    rw (slice_split-push_yes p xs b h, (split_cons p xs).2) (one (p x) (split_cons p xs).0 (split_cons p xs).1)
   where
-    go : (t : Bool) → slice_split p (xs ++ b ∷ []) ≡ slice_split p xs ++ [] ∷ [] → (q : List ℕ) × (qs : List (List ℕ))
-        × (slice_split p xs ≡ q ∷ qs)
-        → cond t ([] ∷ slice_split p (xs ++ b ∷ [])) (onto_first x (slice_split p (xs ++ b ∷ [])))
-        ≡ cond t ([] ∷ slice_split p xs) (onto_first x (slice_split p xs)) ++ [] ∷ []
-    go true ih s = ap (λ (t : List (List ℕ)). [] ∷ t) ih
-    go false ih s = rw (ih, s.2) refl
+    one : (t : Bool) (q : List ℕ) (qs : List (List ℕ)) → cond t ([] ∷ (q ∷ qs ++ [] ∷ [])) (onto_first x (q ∷ qs ++ [] ∷ []))
+        ≡ cond t ([] ∷ q ∷ qs) (onto_first x (q ∷ qs)) ++ [] ∷ []
+    one true q qs = refl
+    one false q qs = refl
 
 slice_split-push_no : (p : ℕ → Bool) (xs : List ℕ) (b : ℕ) → p b ≡ false
     → slice_split p (xs ++ b ∷ []) ≡ onto_last (slice_split p xs) b
 unfolding onto_last
 slice_split-push_no p [] b h = rw h refl
-slice_split-push_no p (x ∷ xs) b h = go (p x) (slice_split-push_no p xs b h) (split_cons p xs)
+slice_split-push_no p (x ∷ xs) b h =
+    rw (slice_split-push_no p xs b h, (split_cons p xs).2) (one (p x) (split_cons p xs).0 (split_cons p xs).1)
   where
-    first : (q : List ℕ) (qs : List (List ℕ)) → onto_first x (onto_last (q ∷ qs) b)
-        ≡ onto_last (onto_first x (q ∷ qs)) b
-    first q [] = refl
-    first q (r ∷ rs) = refl
-
-    go : (t : Bool) → slice_split p (xs ++ b ∷ []) ≡ onto_last (slice_split p xs) b → (q : List ℕ)
-        × (qs : List (List ℕ)) × (slice_split p xs ≡ q ∷ qs)
-        → cond t ([] ∷ slice_split p (xs ++ b ∷ [])) (onto_first x (slice_split p (xs ++ b ∷ [])))
-        ≡ onto_last (cond t ([] ∷ slice_split p xs) (onto_first x (slice_split p xs))) b
-    go true ih s = rw (ih, s.2) refl
-    go false ih s = rw (ih, s.2) (first s.0 s.1)
+    one : (t : Bool) (q : List ℕ) (qs : List (List ℕ))
+        → cond t ([] ∷ onto_last (q ∷ qs) b) (onto_first x (onto_last (q ∷ qs) b))
+        ≡ onto_last (cond t ([] ∷ q ∷ qs) (onto_first x (q ∷ qs))) b
+    one true q qs = refl
+    one false q [] = refl
+    one false q (r ∷ rs) = refl
 
 digit_value_of : (b : ℕ) → 48 ≤ b → b < 58 → digit_value b ≡ b - 48
 digit_value_of b low high = grind (arith, nat_tests)
@@ -218,11 +209,7 @@ take-change_last f (suc n) (x ∷ y ∷ xs) h = ap (λ (t : List ℕ). x ∷ t) 
 after_marker-push : (xs : List ℕ) (b : ℕ) → is_marker b ≡ false
     → after_marker (xs ++ b ∷ []) ≡ after_marker xs ++ b ∷ []
 after_marker-push [] b h = rw h refl
-after_marker-push (x ∷ xs) b h = go (is_marker x)
-  where
-    go : (t : Bool) → cond t (xs ++ b ∷ []) (x ∷ (xs ++ b ∷ [])) ≡ cond t xs (x ∷ xs) ++ b ∷ []
-    go true = refl
-    go false = refl
+after_marker-push (x ∷ xs) b h = elim (cases_Bool (is_marker x)) [ inl e ↦ rw e refl | inr e ↦ rw e refl ]
 
 marker_of-push : (xs : List ℕ) (b : ℕ) → is_marker b ≡ false → marker_of (xs ++ b ∷ []) ≡ marker_of xs
 marker_of-push [] b h = rw h refl
@@ -235,12 +222,12 @@ values_of-push_no : (xs : List ℕ) (b : ℕ) → is_marker b ≡ false → is_p
     → values_of (xs ++ b ∷ []) ≡ values_of xs
 values_of-push_no xs b m p = rw (after_marker-push xs b m, filter-push_no is_parameter (after_marker xs) b p) refl
 
-pub map-append_one : (qs : List (List ℕ)) (q : List ℕ) → map value_of (qs ++ q ∷ []) ≡ map value_of qs ++ value_of q
+map-append_one : (qs : List (List ℕ)) (q : List ℕ) → map value_of (qs ++ q ∷ []) ≡ map value_of qs ++ value_of q
     ∷ []
 map-append_one [] q = refl
 map-append_one (r ∷ qs) q = ap (λ (vs : List ℕ). value_of r ∷ vs) (map-append_one qs q)
 
-pub value_of-nil : value_of [] ≡ 0
+value_of-nil : value_of [] ≡ 0
 unfolding value_of
 value_of-nil = refl
 
@@ -284,9 +271,6 @@ value_more n b vs ws marker is semi digit =
 
 -- ---- one more parameter byte
 
-parameter_facts : (b : ℕ) → class_of b ≡ Parameter → (is_parameter b ≡ true) × (is_intermediate b ≡ false)
-parameter_facts b k = (rw k refl, rw k refl)
-
 plain_range : (b : ℕ) → class_of b ≡ Parameter → is_marker b ≡ false → eqb b 58 ≡ false → eqb b 59 ≡ false
     → (48 ≤ b) × (b < 58)
 unfolding class_of
@@ -296,10 +280,10 @@ values_more : (xs : List ℕ) (b : ℕ) → class_of b ≡ Parameter → is_mark
     → Control (marker_of xs) (params_of (xs ++ b ∷ [])) (ltb 16 (length (values_of (xs ++ b ∷ [])))) Values
     ≡ step_value (marker_of xs) (take 16 (values_of xs)) (ltb 16 (length (values_of xs))) b
 values_more xs b k m c =
-    let p = parameter_facts b k in
+    let p : is_parameter b ≡ true = rw k refl in
     value_more 16 b (values_of xs) (values_of (xs ++ b ∷ [])) (marker_of xs) refl
-    (λ s. values_of-push_semi xs b m p.0 s)
-    (λ s. let r = plain_range b k m c s in values_of-push_digit xs b m p.0 s r.0 r.1)
+    (λ s. values_of-push_semi xs b m p s)
+    (λ s. let r = plain_range b k m c s in values_of-push_digit xs b m p s r.0 r.1)
 
 phase-push : (xs : List ℕ) (b : ℕ) (n : Inters) → phase_by (xs ++ b ∷ []) n ≡ phase_by (b ∷ []) n
 phase-push [] b n = refl

@@ -16,7 +16,7 @@ use Rattle.vt_syntax.specs.Split.{split_one, split_after, split_of}
 
 -- ---- lists of bytes that pass
 
-pub Each-push : (p : ℕ → Bool) (xs : List ℕ) (b : ℕ) → Each p xs → p b ≡ true → Each p (xs ++ b ∷ [])
+Each-push : (p : ℕ → Bool) (xs : List ℕ) (b : ℕ) → Each p xs → p b ≡ true → Each p (xs ++ b ∷ [])
 Each-push p [] b h e = (e, tt)
 Each-push p (x ∷ xs) b h e = (h.0, Each-push p xs b h.1 e)
 
@@ -54,8 +54,8 @@ split_one_cases beginning b P end cut longer' = elim (cases_Bool (ends beginning
 -- ---- the computed split is a split
 
 -- a byte after a rest gives these parts
-pub record Grows (rest : Option Beginning) (b : ℕ) (parts : Parts) : Type 0 where
-  pub is_rest : IsRest parts.rest
+record Grows (rest : Option Beginning) (b : ℕ) (parts : Parts) : Type 0 where
+  is_rest : IsRest parts.rest
   splits : (bytes : List ℕ) (items : List Item) (final : Option Beginning)
       → Split (rest_bytes parts.rest ++ bytes) items final
       → Split (rest_bytes rest ++ b ∷ bytes) (parts.items ++ items) final

@@ -1,9 +1,8 @@
 -- Runs of content of a string, seen a vector at a time through the mask of the lanes that may end it.
-use Rattle.std.proofs.Common.{◌≡◌, ℕ, zero, suc, ◌+◌, ◌-◌, ◌%◌, ◌^◌, ◌<◌, ◌≤◌, Bool, true, false, not, ◌||◌, cond, ltb}
+use Rattle.std.proofs.Common.{◌≡◌, ℕ, zero, suc, ◌+◌, ◌-◌, ◌%◌, ◌^◌, ◌<◌, ◌≤◌, Bool, true, not, ◌||◌, cond, ltb}
 use Rattle.std.proofs.Common.{List, [], ◌∷◌, map, length, take, replicate, get_or, refl, ap, ap₂, ◌∙◌, arith, bit_or}
-use Rattle.std.proofs.Common.{w8, Fits, inl, inr}
+use Rattle.std.proofs.Common.{w8, Fits}
 use Rattle.std.specs.List.{prefix_len}
-use Rattle.std.proofs.lemmas.Bool.{cases_lt}
 use Rattle.std.proofs.lemmas.Bool.Decides.{nat_tests}
 use Rattle.std.proofs.lemmas.List.{length-map}
 use Rattle.std.proofs.lemmas.List.Sums.{prefix_len-le-length, prefix_len_passes}
@@ -11,47 +10,19 @@ use Rattle.std.proofs.lemmas.Simd.{mask_l-mod}
 use lib.Lanes.{zip2, mask_l, top, Each1}
 use Rattle.vt_syntax.specs.declared.held.Held.TheVariants.{Text}
 use Rattle.vt_syntax.specs.Items.{ends_string}
-use Rattle.vt_syntax.specs.Steps.{step_to, step_string, steps}
+use Rattle.vt_syntax.specs.Steps.{step_to, step_of, steps}
 use Rattle.vt_syntax.specs.Content.{goes_on}
-use Rattle.vt_syntax.proofs.SilentBytes.{steps_nil, steps_content}
+use Rattle.vt_syntax.proofs.SilentBytes.{steps_nil, steps_more}
 
 -- ---- the mask of a vector
 
 -- a byte from 18 to 1B, 9C or 07: less the first of each, with wrapping, it is below how many there are
 stops : (x : ℕ) → x < 256
     → ltb ((x + 232) % 256) 4 || (ltb ((x + 100) % 256) 1 || ltb ((x + 249) % 256) 1) ≡ not (goes_on x)
-stops x h = elim (cases_lt x 7) [
-  | inl below ↦
-      let a : (x + 232) % 256 ≡ x + 232 = omega arith in
-      let b : (x + 100) % 256 ≡ x + 100 = omega arith in
-      let c : (x + 249) % 256 ≡ x + 249 = omega arith in
-      rw (a, b, c) (grind (arith, nat_tests))
-  | inr from_7 ↦
-      let c : (x + 249) % 256 ≡ x - 7 = omega arith in
-      elim (cases_lt x 24) [
-        | inl below ↦
-            let a : (x + 232) % 256 ≡ x + 232 = omega arith in
-            let b : (x + 100) % 256 ≡ x + 100 = omega arith in
-            rw (a, b, c) (grind (arith, nat_tests))
-        | inr from_24 ↦
-            let a : (x + 232) % 256 ≡ x - 24 = omega arith in
-            elim (cases_lt x 156) [
-              | inl below ↦ let b : (x + 100) % 256 ≡ x + 100 = omega arith in rw (a, b, c) (grind (arith, nat_tests))
-              | inr from_156 ↦ let b : (x + 100) % 256 ≡ x - 156 =
-                  omega arith in rw (a, b, c) (grind (arith, nat_tests))
-            ]
-      ]
-]
+stops x h = grind (arith, nat_tests)
 
 any_tops : (a b c : Bool) → top 7 (bit_or (cond a 255 0) (bit_or (cond b 255 0) (cond c 255 0))) ≡ a || (b || c)
-any_tops true true true = refl
-any_tops true true false = refl
-any_tops true false true = refl
-any_tops true false false = refl
-any_tops false true true = refl
-any_tops false true false = refl
-any_tops false false true = refl
-any_tops false false false = refl
+any_tops a b c = grind (arith, nat_tests)
 
 -- the lanes below a limit, less a byte
 abbrev below : ℕ → ℕ → ℕ → List ℕ → List ℕ
@@ -77,10 +48,9 @@ stops_mask n v long few fits =
 
 -- ---- what goes on is content
 
-content_byte : (osc : Bool) (b : ℕ) → goes_on b ≡ true → step_string osc b ≡ step_to (Text osc) []
-unfolding ends_string
-content_byte true b is = grind (arith, nat_tests)
-content_byte false b is = grind (arith, nat_tests)
+content_byte : (osc : Bool) (b : ℕ) → goes_on b ≡ true → step_of (Text osc) b ≡ step_to (Text osc) []
+unfolding step_of ends_string
+content_byte osc b is = grind (arith, nat_tests)
 
 steps_front : (osc : Bool) (piece : List ℕ) (n : ℕ) → n ≤ prefix_len goes_on piece
     → steps (Text osc) (take n piece) ≡ step_to (Text osc) []
@@ -89,7 +59,7 @@ steps_front osc piece (suc n) few =
     let below : n < prefix_len goes_on piece = omega arith in
     let inside : n < length piece = omega (arith, prefix_len-le-length goes_on piece) in
     let next : n + 1 ≡ suc n = omega arith in
-    rw (← next) (steps_content osc piece n inside (steps_front osc piece n (omega arith))
+    rw (← next) (steps_more (Text osc) (Text osc) (Text osc) piece n [] inside (steps_front osc piece n (omega arith))
     (content_byte osc (get_or piece n 0) (prefix_len_passes goes_on piece n 0 below)))
 
 -- the front of bytes that go on

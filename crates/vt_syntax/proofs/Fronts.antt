@@ -1,5 +1,5 @@
 -- An event that stands whole at the front of a piece is what the split of its bytes reads.
-use Rattle.std.proofs.Common.{◌≡◌, ◌+◌, ◌-◌, ◌<◌, ◌≤◌, ℕ, List, [], length, take, get_or, Option, Some, None, IfSome, arith, refl, sym, ◌∙◌}
+use Rattle.std.proofs.Common.{◌≡◌, ◌+◌, ◌-◌, ◌<◌, ◌≤◌, ℕ, List, [], ◌∷◌, length, take, get_or, Option, Some, None, IfSome, arith, refl, sym, ◌∙◌}
 use Rattle.vt_syntax.specs.declared.event.Event.TheVariants as event
 use Rattle.vt_syntax.specs.declared.event.EventKind.{EventKind}
 use Rattle.vt_syntax.specs.declared.event.EventKind.TheVariants as kind
@@ -15,8 +15,8 @@ use Rattle.vt_syntax.specs.Whole.{IsWhole, AreRead}
 use Rattle.vt_syntax.proofs.Cutting.{read, read_from, is_kind}
 use Rattle.vt_syntax.proofs.Spelled.{graphic_step}
 use Rattle.vt_syntax.proofs.Steps.{same_held, same_events}
-use Rattle.vt_syntax.proofs.SilentBytes.{steps_nil}
-use Rattle.vt_syntax.proofs.WholeSequences.{steps_event, steps_alone, steps_control}
+use Rattle.vt_syntax.proofs.SilentBytes.{steps_nil, steps_more}
+use Rattle.vt_syntax.proofs.WholeSequences.{steps_alone, steps_control}
 
 pub front_of : (piece values : List ℕ) (bytes : ℕ) (kind : EventKind) → IsWhole piece values bytes kind
     → IsFront piece bytes (event_of kind values)
@@ -55,7 +55,7 @@ pub whole_graphic : (piece values : List ℕ) → 1 ≤ length piece → IsGraph
 whole_graphic piece values some is = record {
   some = omega arith;
   within = some;
-  reads = steps_event Nothing Nothing Nothing piece 0 (event.Print (get_or piece 0 0)) (omega arith)
+  reads = steps_more Nothing Nothing Nothing piece 0 (event.Print (get_or piece 0 0) ∷ []) (omega arith)
       (steps_nil Nothing) (graphic_step (get_or piece 0 0) is);
   silent = same_events (steps_nil Nothing);
 }

@@ -1,8 +1,6 @@
 -- The bytes of the graphic areas, seen a vector at a time.
-use Rattle.std.proofs.Common.{◌≡◌, ℕ, zero, suc, ◌+◌, ◌-◌, ◌%◌, ◌^◌, ◌<◌, ◌≤◌, Bool, true, false, not, ◌&&◌, cond}
+use Rattle.std.proofs.Common.{◌≡◌, ℕ, zero, suc, ◌+◌, ◌-◌, ◌%◌, ◌^◌, ◌<◌, ◌≤◌, Bool, true, not, ◌&&◌, cond}
 use Rattle.std.proofs.Common.{ltb, List, [], ◌∷◌, map, length, replicate, refl, ap, ap₂, ◌∙◌, arith, bit_and, w8, Fits}
-use Rattle.std.proofs.Common.{inl, inr}
-use Rattle.std.proofs.lemmas.Bool.{cases_lt}
 use Rattle.std.proofs.lemmas.Bool.Decides.{nat_tests}
 use Rattle.std.proofs.lemmas.List.{length-map}
 use Rattle.std.proofs.lemmas.Simd.{mask_l-mod}
@@ -13,24 +11,10 @@ use Rattle.vt_syntax.specs.Class.{is_in_areas, IsInAreas}
 
 -- a byte less 20 is above 5E, and less A1 above 5D, where it is of neither area
 outside : (x : ℕ) → x < 256 → ltb 94 ((x + 224) % 256) && ltb 93 ((x + 95) % 256) ≡ not (is_in_areas x)
-outside x h = elim (cases_lt x 32) [
-  | inl low ↦
-      let left : (x + 224) % 256 ≡ x + 224 = omega arith in
-      let right : (x + 95) % 256 ≡ x + 95 = omega arith in
-      rw (left, right) (grind (arith, nat_tests))
-  | inr more ↦
-      let left : (x + 224) % 256 ≡ x - 32 = omega arith in
-      elim (cases_lt x 161) [
-        | inl low ↦ let right : (x + 95) % 256 ≡ x + 95 = omega arith in rw (left, right) (grind (arith, nat_tests))
-        | inr high ↦ let right : (x + 95) % 256 ≡ x - 161 = omega arith in rw (left, right) (grind (arith, nat_tests))
-      ]
-]
+outside x h = grind (arith, nat_tests)
 
 both_tops : (a b : Bool) → top 7 (bit_and (cond a 255 0) (cond b 255 0)) ≡ a && b
-both_tops true true = refl
-both_tops true false = refl
-both_tops false true = refl
-both_tops false false = refl
+both_tops a b = grind (arith, nat_tests)
 
 lanes : (n : ℕ) (v : List ℕ) → length v ≡ n → Each1 (Fits w8) v
     → map (top 7)
@@ -58,11 +42,7 @@ stops_mask n v long few fits =
 -- ---- the test and its meaning
 
 pub graphic_byte : (b : ℕ) → is_in_areas b ≡ true → IsInAreas b
-graphic_byte b e = elim (cases_lt b 161) [
-  | inl low ↦ inl (grind (arith, nat_tests), grind (arith, nat_tests))
-  | inr high ↦ inr (grind (arith, nat_tests), grind (arith, nat_tests))
-]
+graphic_byte b e = grind (arith, nat_tests)
 
 pub graphic_test : (b : ℕ) → IsInAreas b → is_in_areas b ≡ true
-graphic_test b (inl h) = grind (arith, nat_tests)
-graphic_test b (inr h) = grind (arith, nat_tests)
+graphic_test b h = grind (arith, nat_tests)

@@ -1,7 +1,6 @@
 -- Runs of plain bytes, seen a vector at a time through the mask of the lanes that aren't plain.
 use Rattle.std.proofs.Common.{◌≡◌, ℕ, ◌+◌, ◌-◌, ◌%◌, ◌^◌, ◌<◌, ◌≤◌, true, not, cond, ltb, List, [], ◌∷◌, map, length}
-use Rattle.std.proofs.Common.{replicate, refl, ap, ap₂, ◌∙◌, arith, w8, Fits, inl, inr}
-use Rattle.std.proofs.lemmas.Bool.{cases_lt}
+use Rattle.std.proofs.Common.{replicate, refl, ap, ap₂, ◌∙◌, arith, w8, Fits}
 use Rattle.std.proofs.lemmas.Bool.Decides.{nat_tests}
 use Rattle.std.proofs.lemmas.List.{length-map}
 use Rattle.std.proofs.lemmas.Simd.{tops_compared, zip2_splat, zip2_splat_left, map-map, mask_l-mod}
@@ -12,10 +11,7 @@ use Rattle.vt_syntax.specs.Class.{is_plain, IsPlain}
 
 -- a byte less 20, with wrapping, is above 5E where it isn't plain
 above : (x : ℕ) → x < 256 → ltb 94 ((x + 224) % 256) ≡ not (is_plain x)
-above x h = elim (cases_lt x 32) [
-  | inl low ↦ let m : (x + 224) % 256 ≡ x + 224 = omega arith in rw m (grind (arith, nat_tests))
-  | inr high ↦ let m : (x + 224) % 256 ≡ x - 32 = omega arith in rw m (grind (arith, nat_tests))
-]
+above x h = grind (arith, nat_tests)
 
 each_above : (v : List ℕ) → Each1 (Fits w8) v → map (λ x. ltb 94 ((x + 224) % 256)) v ≡ map (λ b. not (is_plain b)) v
 each_above [] h = refl

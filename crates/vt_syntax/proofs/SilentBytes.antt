@@ -1,50 +1,41 @@
 -- Bytes that give no event, one after another.
-use Rattle.std.proofs.Common.{◌≡◌, ℕ, ◌+◌, ◌<◌, Bool, false, List, [], ◌∷◌, ◌++◌, length, take, drop, get_or, ◌==◌, ◌≤◌}
-use Rattle.std.proofs.Common.{nat_le, Option, length-append, length-drop, ◌-◌, arith, refl, sym, ap, ◌∙◌}
+use Rattle.std.proofs.Common.{◌≡◌, ℕ, ◌+◌, ◌<◌, false, List, [], ◌∷◌, ◌++◌, length, take, drop, get_or, ◌≤◌}
+use Rattle.std.proofs.Common.{Option, length-append, length-drop, ◌-◌, arith, refl, sym, ap, ◌∙◌}
 use Rattle.std.proofs.lemmas.List.{take_more}
 use Rattle.std.proofs.Math.Seq.{take-add, take-length}
+use Rattle.vt_syntax.specs.declared.event.Event.{Event}
 use Rattle.vt_syntax.specs.declared.held.Held.{Held}
-use Rattle.vt_syntax.specs.declared.held.Held.TheVariants.{Nothing, Escape, Control, Text}
+use Rattle.vt_syntax.specs.declared.held.Held.TheVariants.{Nothing, Escape, Control}
 use Rattle.vt_syntax.specs.declared.held.Inters.TheVariants.{Zero}
 use Rattle.vt_syntax.specs.declared.held.Phase.{Phase}
-use Rattle.vt_syntax.specs.declared.held.Phase.TheVariants.{Start, Values, Inter}
-use Rattle.vt_syntax.specs.declared.class.Class.TheVariants.{Parameter}
+use Rattle.vt_syntax.specs.declared.held.Phase.TheVariants.{Values}
 use Rattle.vt_syntax.specs.Class.{class_of}
-use Rattle.vt_syntax.specs.Steps.{step_to, step_of, step_value, step_string, opened_by, change_last, with_digit}
+use Rattle.vt_syntax.specs.Steps.{step_to, step_of, opened_by, with_digit}
 use Rattle.vt_syntax.specs.Steps.{IsEarly, steps}
-use Rattle.vt_syntax.proofs.Steps.{change_last-push, value_class, step_bracket, steps_append}
+use Rattle.vt_syntax.proofs.Steps.{change_last-push, step_bracket, steps_then, steps_one}
 use Rattle.std.proofs.lemmas.Bool.Decides.{nat_tests}
 
 pub steps_nil : (held : Held) → steps held [] ≡ step_to held []
 unfolding steps
 steps_nil held = refl
 
--- one more byte
-pub steps_more : (held now after : Held) (piece : List ℕ) (at : ℕ) → at < length piece
+-- one more byte, with its events
+pub steps_more : (held now after : Held) (piece : List ℕ) (at : ℕ) (events : List Event) → at < length piece
     → steps held (take at piece) ≡ step_to now []
-    → step_of now (get_or piece at 0) ≡ step_to after [] → steps held (take (at + 1) piece) ≡ step_to after []
-unfolding steps
-steps_more held now after piece at inside so_far step =
+    → step_of now (get_or piece at 0) ≡ step_to after events → steps held (take (at + 1) piece) ≡ step_to after events
+steps_more held now after piece at events inside so_far step =
     ap (λ (bytes : List ℕ). steps held bytes) (take_more piece at 0 inside)
-    ∙ steps_append held (take at piece) (get_or piece at 0 ∷ [])
-    ∙ rw (so_far, step) refl
+    ∙ steps_then held now (take at piece) (get_or piece at 0 ∷ []) so_far
+    ∙ steps_one now after (get_or piece at 0) events step
 
 -- ESC and `[`, between sequences
 pub steps_introducer : (piece : List ℕ) → 2 ≤ length piece → get_or piece 0 0 ≡ 0x1B → get_or piece 1 0 ≡ 0x5B
     → steps Nothing (take 2 piece) ≡ step_to (opened_by 0x9B) []
 unfolding step_of
 steps_introducer piece long first second =
-    steps_more Nothing (Escape Zero) (opened_by 0x9B) piece 1 (omega arith)
-    (steps_more Nothing Nothing (Escape Zero) piece 0 (omega arith) (steps_nil Nothing) (rw first refl))
+    steps_more Nothing (Escape Zero) (opened_by 0x9B) piece 1 [] (omega arith)
+    (steps_more Nothing Nothing (Escape Zero) piece 0 [] (omega arith) (steps_nil Nothing) (rw first refl))
     (rw second step_bracket)
-
--- more bytes
-steps_add : (held now after : Held) (piece : List ℕ) (at n : ℕ) → steps held (take at piece) ≡ step_to now []
-    → steps now (take n (drop at piece)) ≡ step_to after [] → steps held (take (at + n) piece) ≡ step_to after []
-steps_add held now after piece at n so_far more =
-    ap (λ (bytes : List ℕ). steps held bytes) (take-add at n piece)
-    ∙ steps_append held (take at piece) (take n (drop at piece))
-    ∙ rw (so_far, more) refl
 
 -- the part of a piece from a place on, to its end
 pub rest_of : (piece : List ℕ) (at : ℕ) → take (length piece - at) (drop at piece) ≡ drop at piece
@@ -56,51 +47,23 @@ pub steps_part : (held now after : Held) (piece : List ℕ) (at n : ℕ) → ste
     → steps now (take n (take (length piece - at) (drop at piece))) ≡ step_to after []
     → steps held (take (at + n) piece) ≡ step_to after []
 steps_part held now after piece at n so_far more =
-    let whole = rest_of piece at in steps_add held now after piece at n so_far (rw whole at more)
-
--- content of a string
-pub steps_content : (osc : Bool) (piece : List ℕ) (at : ℕ) → at < length piece
-    → steps (Text osc) (take at piece) ≡ step_to (Text osc) []
-    → step_string osc (get_or piece at 0) ≡ step_to (Text osc) [] → steps (Text osc) (take (at + 1) piece)
-    ≡ step_to (Text osc) []
-unfolding step_of
-steps_content osc piece at inside so_far step = steps_more (Text osc) (Text osc) (Text osc) piece at inside so_far step
+    ap (λ (bytes : List ℕ). steps held bytes) (take-add at n piece)
+    ∙ steps_then held now (take at piece) (take n (drop at piece)) so_far
+    ∙ rw (rest_of piece at) at more
 
 -- ---- values
 
 -- a digit after any early phase
-digit_value : (marker : Option ℕ) (xs : List ℕ) (v : ℕ) (b : ℕ) → 48 ≤ b → b ≤ 57
-    → step_value marker (xs ++ v ∷ []) false b
-    ≡ Control marker (record { items = xs ++ with_digit b v ∷ [] }) false Values
-digit_value marker xs v b low high =
-    let s : (b == 0x3B) ≡ false = grind (arith, nat_tests) in
-    let l : change_last (with_digit b) (xs ++ v ∷ []) ≡ xs ++ with_digit b v ∷ [] =
-    change_last-push (with_digit b) xs v in
-    rw (s, l) refl
-
 pub digit_step : (marker : Option ℕ) (xs : List ℕ) (v : ℕ) (phase : Phase) (b : ℕ) → IsEarly phase → 48 ≤ b → b ≤ 57
     → step_of (Control marker (record { items = xs ++ v ∷ [] }) false phase) b
     ≡ step_to (Control marker (record { items = xs ++ with_digit b v ∷ [] }) false Values) []
-unfolding step_of
-digit_step marker xs v Start b early low high =
-    let k : class_of b ≡ Parameter = value_class b low (omega arith) in
-    let c : (b == 0x3A) ≡ false = grind (arith, nat_tests) in
-    let m : nat_le 0x3C b ≡ false = grind (arith, nat_tests) in
-    rw (k, c, m) (ap (λ (h : Held). step_to h []) (digit_value marker xs v b low high))
-digit_step marker xs v Values b early low high =
-    let k : class_of b ≡ Parameter = value_class b low (omega arith) in
-    let c : (b == 0x3A) ≡ false = grind (arith, nat_tests) in
-    let m : nat_le 0x3C b ≡ false = grind (arith, nat_tests) in
-    rw (k, c, m) (ap (λ (h : Held). step_to h []) (digit_value marker xs v b low high))
-digit_step marker xs v (Inter i) b early low high = absurd early
-
-not_full : (xs : List ℕ) (v : ℕ) → length xs < 15 → (length (xs ++ v ∷ []) == 16) ≡ false
-not_full xs v few = simp length-append (grind (arith, nat_tests))
+unfolding step_of class_of
+digit_step marker xs v phase b early low high =
+    let changed = change_last-push (with_digit b) xs v in grind (arith, nat_tests)
 
 pub separator_step : (marker : Option ℕ) (xs : List ℕ) (v : ℕ) (phase : Phase) → IsEarly phase → length xs < 15
     → step_of (Control marker (record { items = xs ++ v ∷ [] }) false phase) 0x3B
     ≡ step_to (Control marker (record { items = (xs ++ v ∷ []) ++ 0 ∷ [] }) false Values) []
 unfolding step_of class_of
-separator_step marker xs v Start early few = let n = not_full xs v few in rw n refl
-separator_step marker xs v Values early few = let n = not_full xs v few in rw n refl
-separator_step marker xs v (Inter i) early few = absurd early
+separator_step marker xs v phase early few =
+    let more = length-append xs (v ∷ []) in grind (arith, nat_tests)

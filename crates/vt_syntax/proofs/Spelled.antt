@@ -1,11 +1,10 @@
 -- The spelling of what is held, and of events, one step after another.
-use Rattle.std.proofs.Common.{◌≡◌, ℕ, ◌+◌, ◌-◌, ◌*◌, ◌/◌, ◌%◌, ◌<◌, ◌≤◌, Bool, true, false, cond, ltb, leb}
+use Rattle.std.proofs.Common.{◌≡◌, ℕ, ◌+◌, ◌*◌, ◌/◌, ◌%◌, ◌<◌, ◌≤◌, Bool, true, false, cond}
 use Rattle.std.proofs.Common.{List, [], ◌∷◌, ◌++◌, length, map, Option, Some, None, refl, sym, ap, ◌∙◌, append_assoc}
-use Rattle.std.proofs.Common.{arith, inl, inr, length-append}
+use Rattle.std.proofs.Common.{arith, inl, length-append, ◌⊎◌}
 use Rattle.std.specs.Prelude.{All, IfSome, decimal}
 use Rattle.std.specs.List.{join_with_byte}
 use Rattle.std.specs.Option.{option_to_list}
-use Rattle.std.proofs.lemmas.Bool.{le-ltb}
 use Rattle.std.proofs.lemmas.Bool.Decides.{nat_tests}
 use Rattle.std.proofs.lemmas.Fmt.{decimal_by_steps}
 use Rattle.std.proofs.lemmas.List.Elements.{All-head, All-tail}
@@ -13,21 +12,21 @@ use Rattle.vt_syntax.specs.declared.event.Event.{Event}
 use Rattle.vt_syntax.specs.declared.event.Event.TheVariants as event
 use Rattle.vt_syntax.specs.declared.held.Held.{Held}
 use Rattle.vt_syntax.specs.declared.held.Held.TheVariants.{Nothing, Escape, Control, Spoilt, Text}
-use Rattle.vt_syntax.specs.declared.held.Inters.TheVariants.{Zero, One, Many}
+use Rattle.vt_syntax.specs.declared.held.Inters.TheVariants.{Zero}
+use Rattle.vt_syntax.specs.declared.held.Inters.{Inters}
 use Rattle.vt_syntax.specs.declared.held.Phase.{Phase}
 use Rattle.vt_syntax.specs.declared.held.Phase.TheVariants.{Start, Values, Inter}
 use Rattle.vt_syntax.specs.Class.{class_of, opens_string, is_opener, IsPlain}
 use Rattle.vt_syntax.specs.Items.{ends_string}
 use Rattle.vt_syntax.specs.Reading.{single_function}
-use Rattle.vt_syntax.specs.Held.{spell_values, spell, IsEnding, ended_by}
+use Rattle.vt_syntax.specs.Held.{spell_values, spell}
 use Rattle.vt_syntax.specs.Spelling.{IsGraphic, IsC0, IsC1, IsMarker, IsIntermediate, IsEscapeFinal, AreValues, IsEvent}
 use Rattle.vt_syntax.specs.Spelling.{spell_event, spell_events}
 use Rattle.vt_syntax.specs.Steps.{step_to, opened_by, step_of, with_digit, IsEarly, steps}
 use Rattle.vt_syntax.specs.Whole.{marker_phase, begun}
-use Rattle.vt_syntax.proofs.Classes.{not_opener}
-use Rattle.vt_syntax.proofs.Steps.{step_bracket, step_final, steps_append, steps_then, steps_cons, steps_one}
+use Rattle.vt_syntax.proofs.Steps.{step_bracket, steps_append, steps_then, steps_cons, steps_one}
 use Rattle.vt_syntax.proofs.SilentBytes.{steps_nil, digit_step, separator_step}
-use Rattle.vt_syntax.proofs.WholeSequences.{marker_step, early_marker, inter_step, escape_inter_step}
+use Rattle.vt_syntax.proofs.WholeSequences.{marker_step, early_marker, inter_step}
 use Rattle.vt_syntax.proofs.Ranges.{InRange}
 
 -- ---- the values of a control sequence
@@ -79,10 +78,11 @@ module _ (marker : Option ℕ) where
       ∙ ap (λ (t : List ℕ). step_to (with_values t Values) []) (append_assoc xs (v ∷ []) (w ∷ vs))
 
   -- a `;` after 16 values
-  full_step : (values : List ℕ) → length values ≡ 16
-      → step_of (with_values values Values) 0x3B ≡ step_to (Control marker (record { items = values }) true Values) []
-  unfolding step_of class_of
-  full_step values all = rw all refl
+  full_steps : (values : List ℕ) (full : Bool) → (full ≡ true → length values ≡ 16)
+      → steps (with_values values Values) (cond full (0x3B ∷ []) [])
+      ≡ step_to (Control marker (record { items = values }) full Values) []
+  unfolding steps step_of class_of
+  full_steps values full all = grind (arith, nat_tests)
 
   values_steps : (values : List ℕ) (full : Bool) → IfSome marker IsMarker → AreValues values
       → (full ≡ true → length values ≡ 16)
@@ -95,13 +95,7 @@ module _ (marker : Option ℕ) where
       steps_then (opened_by 0x9B) (with_values (v ∷ vs) Values) (option_to_list marker ++ joined) semi
       (steps_then (opened_by 0x9B) (begun marker) (option_to_list marker) joined (marker_steps marker m)
       ∙ joined_steps [] (marker_phase marker) v vs (early_marker marker) h.small (omega (arith, h.few)))
-      ∙ last full all
-    where
-      last : (f : Bool) → (f ≡ true → length (v ∷ vs) ≡ 16) → steps (with_values (v ∷ vs) Values) (cond f (0x3B ∷ []) [])
-          ≡ step_to (Control marker (record { items = v ∷ vs }) f Values) []
-      last true a = steps_one (with_values (v ∷ vs) Values) (Control marker (record { items = v ∷ vs }) true Values) 0x3B
-          [] (full_step (v ∷ vs) (a refl))
-      last false a = steps_nil (with_values (v ∷ vs) Values)
+      ∙ full_steps (v ∷ vs) full all
 
 -- ---- what is held
 
@@ -110,14 +104,14 @@ started : (marker : Option ℕ) (values : List ℕ) (full : Bool) → marker ≡
 unfolding steps step_of
 started marker values full m v f = rw (m, v, f) refl
 
+escape_spelled : (n : Inters) → InRange (Escape n) → steps Nothing (spell (Escape n)) ≡ step_to (Escape n) []
+unfolding steps step_of class_of
+escape_spelled n h = grind (arith, nat_tests)
+
 pub spelled_steps : (held : Held) → InRange held → steps Nothing (spell held) ≡ step_to held []
 unfolding steps step_of class_of opens_string
 spelled_steps Nothing h = refl
-spelled_steps (Escape Zero) h = refl
-spelled_steps (Escape (One i)) h =
-    steps_cons Nothing (Escape Zero) 0x1B (i ∷ []) refl
-    ∙ steps_one (Escape Zero) (Escape (One i)) i [] (escape_inter_step i h.0 (omega (arith, h)))
-spelled_steps (Escape Many) h = refl
+spelled_steps (Escape n) h = escape_spelled n h
 spelled_steps (Control marker params full Start) h =
     started marker params.items full h.in_phase.0 h.in_phase.1 h.in_phase.2
 spelled_steps (Control marker params full Values) h =
@@ -138,74 +132,38 @@ spelled_steps (Text false) h = refl
 -- a byte between sequences that opens nothing
 pub single_step : (b : ℕ) → is_opener b ≡ false → step_of Nothing b ≡ step_to Nothing (single_function b)
 unfolding step_of
-single_step b e = let n = not_opener b e in rw (n.0, n.1, n.2) refl
+single_step b e = grind (arith, nat_tests)
 
 pub graphic_step : (b : ℕ) → IsGraphic b → step_of Nothing b ≡ step_to Nothing (event.Print b ∷ [])
-unfolding opens_string
-graphic_step b h =
-    let alone = facts b h in single_step b alone.0 ∙ ap (λ (es : List Event). step_to Nothing es) alone.1
-  where
-    facts : (c : ℕ) → IsGraphic c → (is_opener c ≡ false) × (single_function c ≡ event.Print c ∷ [])
-    facts c (inl k) = (grind (arith, nat_tests), grind (arith, nat_tests))
-    facts c (inr k) = (grind (arith, nat_tests), grind (arith, nat_tests))
-
-c0_alone : (b : ℕ) → IsC0 b → (is_opener b ≡ false) × (single_function b ≡ event.Control b ∷ []) × (ltb b 128 ≡ true)
-unfolding opens_string
-c0_alone b h = (grind (arith, nat_tests), grind (arith, nat_tests), grind (arith, nat_tests))
-
--- a final of an escape sequence, after ESC
-c1_ended : (b : ℕ) → IsC1 b → IsEnding (Escape Zero) (b - 64) × (ended_by (Escape Zero) (b - 64) ≡ event.Control b)
-c1_ended b h =
-    let back : b - 64 + 64 ≡ b = omega arith in
-    let low : leb 64 (b - 64) ≡ true = grind (arith, nat_tests) in
-    let high : ltb (b - 64) 96 ≡ true = grind (arith, nat_tests) in
-    ((omega arith, omega arith, rw back h.2), rw (low, high, back) refl)
-
-plain_ended : (b : ℕ) → IsEscapeFinal None b → IsEnding (Escape Zero) b × (ended_by (Escape Zero) b ≡ event.Escape None b)
-unfolding opens_string
-plain_ended b (inl h) = ((grind arith, grind arith, grind (arith, nat_tests)), grind (arith, nat_tests))
-plain_ended b (inr h) = ((grind arith, grind arith, grind (arith, nat_tests)), grind (arith, nat_tests))
+unfolding step_of opens_string
+graphic_step b h = grind (arith, nat_tests)
 
 escape_byte : (more : List ℕ) → steps Nothing (0x1B ∷ more) ≡ steps (Escape Zero) more
 unfolding step_of
 escape_byte more = steps_cons Nothing (Escape Zero) 0x1B more refl
-
--- a final
-ended_steps : (held : Held) (last : ℕ) (event : Event) → IsEnding held last → ended_by held last ≡ event
-    → steps held (last ∷ []) ≡ step_to Nothing (event ∷ [])
-ended_steps held last event ends is =
-    steps_one held Nothing last (event ∷ []) (step_final held last ends ∙ ap (λ (e : Event). step_to Nothing (e ∷ [])) is)
 
 -- an intermediate or none, and a final
 sequence_ended : (marker : Option ℕ) (values : List ℕ) (inter : Option ℕ) (last : ℕ) → IfSome inter IsIntermediate
     → 0x40 ≤ last → last ≤ 0x7E
     → steps (with_values marker values Values) (option_to_list inter ++ last ∷ [])
     ≡ step_to Nothing (event.Sequence marker (record { items = values }) inter last ∷ [])
-sequence_ended marker values None last i low high =
-    ended_steps (with_values marker values Values) last (event.Sequence marker (record { items = values }) None last)
-    (low, high) refl
-sequence_ended marker values (Some i) last h low high =
-    steps_cons (with_values marker values Values) (with_values marker values (Inter i)) i (last ∷ [])
-    (inter_step marker (record { items = values }) false Values i tt h.0 (omega (arith, h)))
-    ∙ ended_steps (with_values marker values (Inter i)) last
-    (event.Sequence marker (record { items = values }) (Some i) last) (low, high) refl
+unfolding steps step_of class_of
+sequence_ended marker values inter last h low high = grind (arith, nat_tests)
+
+control_event : (b : ℕ) → IsC0 b ⊎ IsC1 b
+    → steps Nothing (spell_event (event.Control b)) ≡ step_to Nothing (event.Control b ∷ [])
+unfolding steps step_of class_of opens_string
+control_event b h = grind (arith, nat_tests)
+
+escape_event : (inter : Option ℕ) (last : ℕ) → IfSome inter IsIntermediate → IsEscapeFinal inter last
+    → steps Nothing (spell_event (event.Escape inter last)) ≡ step_to Nothing (event.Escape inter last ∷ [])
+unfolding steps step_of class_of opens_string
+escape_event inter last h k = grind (arith, nat_tests)
 
 pub event_steps : (event : Event) → IsEvent event → steps Nothing (spell_event event) ≡ step_to Nothing (event ∷ [])
 event_steps (event.Print b) h = steps_one Nothing Nothing b (event.Print b ∷ []) (graphic_step b h)
-event_steps (event.Control b) (inl h) =
-    let a = c0_alone b h in
-    rw (a.2) (steps_one Nothing Nothing b (event.Control b ∷ [])
-    (single_step b a.0 ∙ ap (λ (es : List Event). step_to Nothing es) a.1))
-event_steps (event.Control b) (inr h) =
-    let e = c1_ended b h in
-    rw (le-ltb b 128 h.0) (escape_byte ((b - 64) ∷ []) ∙ ended_steps (Escape Zero) (b - 64) (event.Control b) e.0 e.1)
-event_steps (event.Escape None last) h =
-    let e = plain_ended last h.1 in
-    escape_byte (last ∷ []) ∙ ended_steps (Escape Zero) last (event.Escape None last) e.0 e.1
-event_steps (event.Escape (Some i) last) h =
-    escape_byte (i ∷ last ∷ [])
-    ∙ steps_cons (Escape Zero) (Escape (One i)) i (last ∷ []) (escape_inter_step i h.0.0 (omega (arith, h.0)))
-    ∙ ended_steps (Escape (One i)) last (event.Escape (Some i) last) h.1 refl
+event_steps (event.Control b) h = control_event b h
+event_steps (event.Escape inter last) h = escape_event inter last h.0 h.1
 event_steps (event.Sequence marker params inter last) h =
     let values = spell_values marker params.items false in
     let end = option_to_list inter ++ last ∷ [] in
@@ -230,14 +188,9 @@ plain_steps (b ∷ run) h =
     rw (graphic_step b (inl (All-head IsPlain b run h))) (rw (plain_steps run (All-tail IsPlain b run h)) refl)
 
 -- ESC ends anything
-pub escape_step : (held : Held) (more : List ℕ) → steps held (0x1B ∷ more) ≡ steps Nothing (0x1B ∷ more)
+escape_one : (held : Held) → step_of held 0x1B ≡ step_to (Escape Zero) []
 unfolding step_of class_of ends_string
-escape_step held more = steps_cons held (Escape Zero) 0x1B more (one held) ∙ sym (escape_byte more)
-  where
-    one : (h : Held) → step_of h 0x1B ≡ step_to (Escape Zero) []
-    one (Text true) = refl
-    one (Text false) = refl
-    one Nothing = refl
-    one (Escape n) = refl
-    one (Control marker params full phase) = refl
-    one Spoilt = refl
+escape_one held = grind (arith, nat_tests)
+
+pub escape_step : (held : Held) (more : List ℕ) → steps held (0x1B ∷ more) ≡ steps Nothing (0x1B ∷ more)
+escape_step held more = steps_cons held (Escape Zero) 0x1B more (escape_one held) ∙ sym (escape_byte more)

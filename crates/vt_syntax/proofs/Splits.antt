@@ -1,154 +1,93 @@
 -- Each byte list has the split that is computed, and no other.
-use Rattle.std.proofs.Common.{◌≡◌, ℕ, ◌+◌, ◌-◌, Bool, true, false, cond, eqb, ◌||◌, not, List, [], ◌∷◌, ◌++◌, Option}
-use Rattle.std.proofs.Common.{Some, None, refl, sym, ap, subst, ◌∙◌, append_assoc, append-nil, arith}
+use Rattle.std.proofs.Common.{◌≡◌, ℕ, Bool, true, false, eqb, ◌||◌, not, List, [], ◌∷◌, ◌++◌, Option}
+use Rattle.std.proofs.Common.{Some, None, refl, ap, subst, ◌∙◌, append_assoc, append-nil, arith, inl, inr}
 use Rattle.std.specs.List.{filter}
-use Rattle.std.proofs.lemmas.Bool.{eqb-true}
-use Rattle.vt_syntax.specs.declared.class.Class.{Class}
-use Rattle.vt_syntax.specs.declared.class.Class.TheVariants.{Quiet, Cancel, Intermediate, Parameter}
-use Rattle.vt_syntax.specs.declared.held.Inters.{Inters}
+use Rattle.std.proofs.lemmas.Bool.{cases_Bool}
+use Rattle.std.proofs.lemmas.Bool.Decides.{nat_tests}
 use Rattle.vt_syntax.specs.declared.held.Inters.TheVariants.{Zero}
-use Rattle.vt_syntax.specs.Class.{class_of, is_quiet_class, is_intermediate_class, is_quiet, is_intermediate}
-use Rattle.vt_syntax.specs.Class.{opens_string, opens, is_opener, Each}
-use Rattle.vt_syntax.specs.Items.{EightBit, SevenBit, Beginning, OfEscape, OfControl, OfString, Item, Single, Ended}
-use Rattle.vt_syntax.specs.Items.{Cut, opening_bytes, beginning_bytes, rest_bytes, inters, inters_of, introduces}
-use Rattle.vt_syntax.specs.Items.{ends_escape, ends_control, ends_string, is_osc, ends, cuts_sequence, cuts}
+use Rattle.vt_syntax.specs.Class.{class_of, is_quiet, is_intermediate}
+use Rattle.vt_syntax.specs.Class.{opens_string, Each}
+use Rattle.vt_syntax.specs.Items.{Beginning, OfEscape, OfControl, OfString, Item, Ended}
+use Rattle.vt_syntax.specs.Items.{Cut, beginning_bytes, rest_bytes, inters_of}
+use Rattle.vt_syntax.specs.Items.{ends_control, ends_string, is_osc, ends, cuts_sequence, cuts}
 use Rattle.vt_syntax.specs.Items.{continues_escape, continues_control, IsBeginning, IsRest, IsItemBefore}
 use Rattle.vt_syntax.specs.Split.{AreItems, Split, Parts, items_alone, rest_alone, items_before, begin, extended}
 use Rattle.vt_syntax.specs.Split.{split_one, split_after, split_of}
-use Rattle.vt_syntax.proofs.Classes.{opens_other}
 
 -- ---- lists of bytes that pass
 
-pub Each-push : (p : ℕ → Bool) (xs : List ℕ) (b : ℕ) → Each p xs → p b ≡ true → Each p (xs ++ b ∷ [])
+Each-push : (p : ℕ → Bool) (xs : List ℕ) (b : ℕ) → Each p xs → p b ≡ true → Each p (xs ++ b ∷ [])
 Each-push p [] b h e = (e, tt)
 Each-push p (x ∷ xs) b h e = (h.0, Each-push p xs b h.1 e)
 
-inters_more : (i : ℕ) (more : List ℕ) → inters (i ∷ more) ≡ Zero → ⊥
-inters_more i [] e = cc
-inters_more i (j ∷ more) e = cc
-
 -- with no intermediate all the bytes are quiet
+quiet_first : (b : ℕ) (inside : List ℕ) → continues_escape (class_of b) ≡ true → inters_of (b ∷ inside) ≡ Zero
+    → (is_quiet b ≡ true) × (inters_of inside ≡ Zero)
+quiet_first b inside h e = grind (arith, nat_tests)
+
 quiets_inside : (inside : List ℕ) → Each (λ b. continues_escape (class_of b)) inside → inters_of inside ≡ Zero
     → Each is_quiet inside
 quiets_inside [] h e = tt
-quiets_inside (b ∷ inside) h e =
-    let r = go (class_of b) h.0 e in (r.0, quiets_inside inside h.1 r.1)
-  where
-    go : (k : Class) → continues_escape k ≡ true
-        → inters (cond (is_intermediate_class k) (b ∷ filter is_intermediate inside) (filter is_intermediate inside))
-        ≡ Zero → (is_quiet_class k ≡ true) × (inters_of inside ≡ Zero)
-    go Quiet g z = (refl, z)
-    go Intermediate g z = absurd (inters_more b (filter is_intermediate inside) z)
-    go _ g z = absurd cc
+quiets_inside (b ∷ inside) h e = let first = quiet_first b inside h.0 e in (first.0, quiets_inside inside h.1 first.1)
 
 -- and the other way round
 pub filter_quiets : (quiets : List ℕ) → Each is_quiet quiets → filter is_intermediate quiets ≡ []
 filter_quiets [] h = refl
-filter_quiets (b ∷ quiets) h = go (class_of b) h.0 (filter_quiets quiets h.1)
+filter_quiets (b ∷ quiets) h = first b quiets h.0 (filter_quiets quiets h.1)
   where
-    go : (k : Class) → is_quiet_class k ≡ true → filter is_intermediate quiets ≡ []
-        → cond (is_intermediate_class k) (b ∷ filter is_intermediate quiets) (filter is_intermediate quiets) ≡ []
-    go Quiet g rest = rest
-    go _ g rest = absurd cc
+    first : (c : ℕ) (cs : List ℕ) → is_quiet c ≡ true → filter is_intermediate cs ≡ []
+        → filter is_intermediate (c ∷ cs) ≡ []
+    first c cs k e = grind (arith, nat_tests)
 
 -- ---- the cases of one byte
-
-begin_cases : (b : ℕ) (P : Parts → Type 0) → (b ≡ 27 → P (rest_alone (OfEscape [])))
-    → (b ≡ 155 → P (rest_alone (OfControl EightBit [])))
-    → (opens_string b ≡ true → P (rest_alone (OfString EightBit b [])))
-    → (is_opener b ≡ false → P (items_alone (Single b ∷ []))) → P (begin b)
-begin_cases b P escape_function control string alone = go (eqb b 27) (eqb b 155) (opens_string b) refl refl refl
-  where
-    go : (x y z : Bool) → eqb b 27 ≡ x → eqb b 155 ≡ y → opens_string b ≡ z
-        → P (cond x (rest_alone (OfEscape []))
-        (cond y (rest_alone (OfControl EightBit []))
-        (cond z (rest_alone (OfString EightBit b [])) (items_alone (Single b ∷ [])))))
-    go true y z e f g = escape_function (eqb-true b 27 e)
-    go false true z e f g = control (eqb-true b 155 f)
-    go false false true e f g = string g
-    go false false false e f g = alone (rw (e, f, g) refl)
 
 split_one_cases : (beginning : Beginning) (b : ℕ) (P : Parts → Type 0)
     → (ends beginning b ≡ true → P (items_alone (Ended beginning b ∷ [])))
     → (ends beginning b ≡ false → cuts beginning b ≡ true → P (items_before (Cut beginning ∷ []) (begin b)))
     → (ends beginning b ≡ false → cuts beginning b ≡ false → P (rest_alone (extended beginning b)))
     → P (split_one (Some beginning) b)
-split_one_cases beginning b P end cut longer' = go (ends beginning b) (cuts beginning b) refl refl
-  where
-    go : (x y : Bool) → ends beginning b ≡ x → cuts beginning b ≡ y
-        → P (cond x (items_alone (Ended beginning b ∷ []))
-        (cond y (items_before (Cut beginning ∷ []) (begin b)) (rest_alone (extended beginning b))))
-    go true y e f = end e
-    go false true e f = cut e f
-    go false false e f = longer' e f
+split_one_cases beginning b P end cut longer' = elim (cases_Bool (ends beginning b)) [
+  | inl e ↦ rw e (end e)
+  | inr e ↦ rw e (elim (cases_Bool (cuts beginning b)) [ inl f ↦ rw f (cut e f) | inr f ↦ rw f (longer' e f) ])
+]
 
 -- ---- the computed split is a split
 
 -- a byte after a rest gives these parts
-pub record Grows (rest : Option Beginning) (b : ℕ) (parts : Parts) : Type 0 where
-  pub is_rest : IsRest parts.rest
+record Grows (rest : Option Beginning) (b : ℕ) (parts : Parts) : Type 0 where
+  is_rest : IsRest parts.rest
   splits : (bytes : List ℕ) (items : List Item) (final : Option Beginning)
       → Split (rest_bytes parts.rest ++ bytes) items final
       → Split (rest_bytes rest ++ b ∷ bytes) (parts.items ++ items) final
 
 begin_grows : (b : ℕ) → Grows None b (begin b)
-begin_grows b =
-    begin_cases b (λ parts. Grows None b parts)
-    (λ e. record { is_rest = tt; splits = λ bytes items final s. rw e s })
-    (λ e. record { is_rest = (tt, tt); splits = λ bytes items final s. rw e s })
-    (λ e. record { is_rest = (tt, e, tt); splits = λ bytes items final s. s })
-    (λ e. record {
-      is_rest = tt;
-      splits =
-          λ bytes items final s. record { joined = ap (λ (t : List ℕ). b ∷ t) s.joined; each = (e, s.each) };
-    })
+unfolding opens_string
+begin_grows b = record {
+  is_rest = grind (arith, nat_tests);
+  splits = λ bytes items final s. grind (arith, nat_tests);
+}
 
 extended_bytes : (beginning : Beginning) (b : ℕ) → beginning_bytes (extended beginning b) ≡ beginning_bytes beginning
     ++ b ∷ []
-extended_bytes (OfEscape inside) b = go (introduces (inters_of inside) b) (eqb b 91) refl
-  where
-    go : (x y : Bool) → eqb b 91 ≡ y
-        → beginning_bytes (cond x (cond y (OfControl (SevenBit inside) []) (OfString (SevenBit inside) (b + 64) []))
-        (OfEscape (inside ++ b ∷ []))) ≡ 27 ∷ (inside ++ b ∷ [])
-    go true true e = let is : b ≡ 91 = eqb-true b 91 e in rw (append-nil, is) refl
-    go true false e = let is : (b + 64) - 64 ≡ b = omega arith in rw (append-nil, is) refl
-    go false y e = refl
-extended_bytes (OfControl opening inside) b = sym (append_assoc (opening_bytes opening 155) inside (b ∷ []))
-extended_bytes (OfString opening code content) b = sym (append_assoc (opening_bytes opening code) content (b ∷ []))
+extended_bytes beginning b = grind (arith, nat_tests, append-nil, append_assoc)
+
+escape_extended : (inside : List ℕ) (b : ℕ) → IsBeginning (OfEscape inside) → ends (OfEscape inside) b ≡ false
+    → cuts (OfEscape inside) b ≡ false → IsBeginning (extended (OfEscape inside) b)
+unfolding opens_string
+escape_extended inside b h e f =
+    let quiets = quiets_inside inside h in
+    let pushed = Each-push (λ c. continues_escape (class_of c)) inside b h in
+    grind (arith, nat_tests)
+
+control_goes_on : (b : ℕ) → ends_control (class_of b) ≡ false → cuts_sequence (class_of b) ≡ false
+    → continues_control (class_of b) ≡ true
+control_goes_on b e f = grind (arith, nat_tests)
 
 extended_beginning : (beginning : Beginning) (b : ℕ) → IsBeginning beginning → ends beginning b ≡ false
     → cuts beginning b ≡ false → IsBeginning (extended beginning b)
-extended_beginning (OfEscape inside) b h e f = intro (introduces (inters_of inside) b) refl
-  where
-    on : (k : Class) → ends_escape k false ≡ false → cuts_sequence k ≡ false → continues_escape k ≡ true
-    on Quiet e' f' = refl
-    on Intermediate e' f' = refl
-    on Cancel e' f' = absurd cc
-    on _ e' f' = absurd cc
-
-    zero : (n : Inters) → introduces n b ≡ true → (n ≡ Zero) × (opens (b + 64) ≡ true)
-    zero Zero i = (refl, i)
-    zero _ i = absurd cc
-
-    inner : (y : Bool) → introduces (inters_of inside) b ≡ true → eqb b 91 ≡ y
-        → IsBeginning (cond y (OfControl (SevenBit inside) []) (OfString (SevenBit inside) (b + 64) []))
-    inner true i is = let z = zero (inters_of inside) i in (quiets_inside inside h z.0, tt)
-    inner false i is = let z = zero (inters_of inside) i in (quiets_inside inside h z.0, opens_other b z.1 is, tt)
-
-    intro : (x : Bool) → introduces (inters_of inside) b ≡ x
-        → IsBeginning
-        (cond x (cond (eqb b 91) (OfControl (SevenBit inside) []) (OfString (SevenBit inside) (b + 64) []))
-        (OfEscape (inside ++ b ∷ [])))
-    intro true i = inner (eqb b 91) i refl
-    intro false i = Each-push (λ c. continues_escape (class_of c)) inside b h (on (class_of b) (rw i at e) f)
+extended_beginning (OfEscape inside) b h e f = escape_extended inside b h e f
 extended_beginning (OfControl opening inside) b h e f =
-    (h.0, Each-push (λ c. continues_control (class_of c)) inside b h.1 (on (class_of b) e f))
-  where
-    on : (k : Class) → ends_control k ≡ false → cuts_sequence k ≡ false → continues_control k ≡ true
-    on Quiet e' f' = refl
-    on Intermediate e' f' = refl
-    on Parameter e' f' = refl
-    on _ e' f' = absurd cc
+    (h.0, Each-push (λ c. continues_control (class_of c)) inside b h.1 (control_goes_on b e f))
 extended_beginning (OfString opening code content) b h e f =
     (h.0, h.1, Each-push (λ c. not (ends_string (is_osc code) c || eqb c 27)) content b h.2 (rw (e, f) refl))
 

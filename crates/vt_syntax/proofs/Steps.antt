@@ -1,19 +1,16 @@
 -- What the private functions' proofs cite.
 use Rattle.std.proofs.Common.{◌≡◌, ℕ, ◌+◌, ◌<◌, ◌≤◌, Bool, true, false, List, [], ◌∷◌, ◌++◌, None, nat_lt, nat_le, ◌&&◌}
-use Rattle.std.proofs.Common.{if◌then◌else◌, inl, inr, refl, sym, ap, ◌∙◌, append_assoc, append-nil, arith}
+use Rattle.std.proofs.Common.{if◌then◌else◌, refl, sym, ap, ◌∙◌, append_assoc, append-nil, arith}
 use Rattle.std.proofs.lemmas.Bool.Decides.{nat_tests}
-use Rattle.std.proofs.lemmas.Bool.{cases_lt}
 use Rattle.vt_syntax.specs.declared.event.Event.{Event}
-use Rattle.vt_syntax.specs.declared.held.Inters.{Inters}
-use Rattle.vt_syntax.specs.Items.{introduces}
 use Rattle.vt_syntax.specs.Reading.{escape_function}
 use Rattle.vt_syntax.specs.declared.class.Class.TheVariants.{Parameter, Final}
 use Rattle.vt_syntax.specs.declared.event.Event.TheVariants as event
 use Rattle.vt_syntax.specs.declared.held.Held.{Held}
-use Rattle.vt_syntax.specs.declared.held.Held.TheVariants.{Nothing, Escape, Control, Spoilt, Text}
+use Rattle.vt_syntax.specs.declared.held.Held.TheVariants.{Nothing, Escape}
 use Rattle.vt_syntax.specs.Held.{IsEnding, ended_by}
-use Rattle.vt_syntax.specs.declared.held.Inters.TheVariants.{Zero, One, Many}
-use Rattle.vt_syntax.specs.Class.{class_of}
+use Rattle.vt_syntax.specs.declared.held.Inters.TheVariants.{Zero}
+use Rattle.vt_syntax.specs.Class.{class_of, opens_string}
 use Rattle.vt_syntax.specs.Steps.{Step, step_to, opened_by, step_of, change_last, steps}
 use Rattle.vt_syntax.proofs.Classes.{range_of, opens_high, class_parameter, class_final}
 
@@ -34,10 +31,6 @@ final_low b e = (range_of b Final e).0
 pub final_high : (b : ℕ) → class_of b ≡ Final → b < 127
 final_high b e = (range_of b Final e).1
 
--- digits and `;` are parameter bytes
-pub value_class : (b : ℕ) → 48 ≤ b → b < 60 → class_of b ≡ Parameter
-value_class b low high = class_parameter b low (omega arith)
-
 -- ESC and `[` open a control sequence
 pub step_bracket : step_of (Escape Zero) 0x5B ≡ step_to (opened_by 0x9B) []
 unfolding step_of class_of
@@ -55,39 +48,11 @@ escape_ended last = go (nat_le 0x40 last && nat_lt last 0x60)
     go true = refl
     go false = refl
 
-ended_low : (inters : Inters) (last : ℕ) → 0x30 ≤ last → last < 0x40
-    → step_of (Escape inters) last ≡ step_to Nothing (escape_function inters last)
-unfolding step_of
-ended_low inters last low high = let k : class_of last ≡ Parameter = class_parameter last low high in rw k refl
-
-ended_high : (inters : Inters) (last : ℕ) → 0x40 ≤ last → last ≤ 0x7E → introduces inters last ≡ false
-    → step_of (Escape inters) last ≡ step_to Nothing (escape_function inters last)
-unfolding step_of
-ended_high inters last low high opens = let k : class_of last ≡ Final = class_final last low (omega arith) in
-    rw (k, opens) refl
-
--- an escape sequence that opens nothing
-ended_escape : (inters : Inters) (last : ℕ) → 0x30 ≤ last → last ≤ 0x7E → introduces inters last ≡ false
-    → step_of (Escape inters) last ≡ step_to Nothing (escape_function inters last)
-ended_escape inters last low high opens = elim (cases_lt last 0x40) [
-  | inl below ↦ ended_low inters last low below
-  | inr above ↦ ended_high inters last above high opens
-]
-
 -- the final byte of a sequence
 pub step_final : (held : Held) (last : ℕ) → IsEnding held last
     → step_of held last ≡ step_to Nothing (ended_by held last ∷ [])
-unfolding step_of
-step_final (Control marker params full phase) last ends =
-    let k : class_of last ≡ Final = class_final last ends.0 (omega arith) in rw k refl
-step_final (Escape Zero) last ends =
-    ended_escape Zero last ends.0 ends.1 ends.2
-    ∙ ap (λ (events : List Event). step_to Nothing events) (escape_ended last)
-step_final (Escape (One i)) last ends = ended_escape (One i) last ends.0 ends.1 refl
-step_final (Escape Many) last ends = absurd ends
-step_final Nothing last ends = absurd ends
-step_final Spoilt last ends = absurd ends
-step_final (Text osc) last ends = absurd ends
+unfolding step_of class_of opens_string
+step_final held last ends = grind (arith, nat_tests)
 
 -- ---- bytes after bytes
 

@@ -1,7 +1,6 @@
 -- Sequences that stand whole in a piece: byte after byte, from the first on.
-use Rattle.std.proofs.Common.{◌≡◌, ℕ, ◌+◌, ◌-◌, ◌*◌, ◌<◌, ◌≤◌, true, false, List, [], ◌∷◌, ◌++◌, length, take, get_or}
-use Rattle.std.proofs.Common.{◌==◌, nat_le, nat_lt, Bool, Option, Some, None, arith, append-nil, refl, sym, ap, ◌∙◌}
-use Rattle.std.proofs.lemmas.List.{take_more}
+use Rattle.std.proofs.Common.{◌≡◌, ℕ, ◌+◌, ◌-◌, ◌*◌, ◌<◌, ◌≤◌, false, List, [], ◌∷◌, ◌++◌, length, take, get_or}
+use Rattle.std.proofs.Common.{Bool, Option, Some, None, arith, refl, sym, ap, ◌∙◌}
 use Rattle.std.proofs.lemmas.Bool.Decides.{nat_tests}
 use Rattle.arrayvec.specs.ArrayVec.{ArrayVec}
 use Rattle.vt_syntax.specs.declared.event.Event.{Event}
@@ -14,33 +13,12 @@ use Rattle.vt_syntax.specs.declared.held.Held.TheVariants.{Nothing, Escape, Cont
 use Rattle.vt_syntax.specs.declared.held.Inters.TheVariants.{Zero, One}
 use Rattle.vt_syntax.specs.declared.held.Phase.{Phase}
 use Rattle.vt_syntax.specs.declared.held.Phase.TheVariants.{Start, Values, Inter}
-use Rattle.vt_syntax.specs.declared.class.Class.TheVariants.{Parameter, Intermediate}
 use Rattle.vt_syntax.specs.Class.{class_of}
 use Rattle.vt_syntax.specs.Held.{IsEnding, ended_by, phase_inter}
 use Rattle.vt_syntax.specs.Steps.{Step, step_to, step_of, step_between, opened_by, with_digit, IsEarly, steps}
 use Rattle.vt_syntax.specs.Whole.{IsWhole, AreRead, marker_phase, begun}
-use Rattle.vt_syntax.proofs.Classes.{class_parameter, class_intermediate}
-use Rattle.vt_syntax.proofs.Steps.{step_final, steps_append}
+use Rattle.vt_syntax.proofs.Steps.{step_final}
 use Rattle.vt_syntax.proofs.SilentBytes.{steps_nil, steps_more, digit_step, separator_step}
-
--- one more byte, with its events
-run_step : (held now after : Held) (piece : List ℕ) (at : ℕ) (events : List Event) → at < length piece
-    → steps held (take at piece) ≡ step_to now []
-    → step_of now (get_or piece at 0) ≡ step_to after events
-    → steps held (take (at + 1) piece) ≡ step_to after events
-unfolding steps
-run_step held now after piece at events inside so_far step =
-    ap (λ (bytes : List ℕ). steps held bytes) (take_more piece at 0 inside)
-    ∙ steps_append held (take at piece) (get_or piece at 0 ∷ [])
-    ∙ rw (so_far, step) (ap (λ (es : List Event). step_to after es) (append-nil events))
-
--- one more byte, which gives an event
-pub steps_event : (held now after : Held) (piece : List ℕ) (at : ℕ) (event : Event) → at < length piece
-    → steps held (take at piece) ≡ step_to now []
-    → step_of now (get_or piece at 0) ≡ step_to after (event ∷ [])
-    → steps held (take (at + 1) piece) ≡ step_to after (event ∷ [])
-steps_event held now after piece at event inside so_far step =
-    run_step held now after piece at (event ∷ []) inside so_far step
 
 -- one more byte, which ends a sequence
 steps_last : (held now : Held) (piece : List ℕ) (at : ℕ) → at < length piece
@@ -48,7 +26,7 @@ steps_last : (held now : Held) (piece : List ℕ) (at : ℕ) → at < length pie
     → IsEnding now (get_or piece at 0)
     → steps held (take (at + 1) piece) ≡ step_to Nothing (ended_by now (get_or piece at 0) ∷ [])
 steps_last held now piece at inside so_far ends =
-    steps_event held now Nothing piece at (ended_by now (get_or piece at 0)) inside so_far
+    steps_more held now Nothing piece at (ended_by now (get_or piece at 0) ∷ []) inside so_far
     (step_final now (get_or piece at 0) ends)
 
 -- the bytes before the last one gave no event
@@ -61,41 +39,32 @@ silent_before held piece at so_far =
 steps_escape : (piece : List ℕ) → 1 ≤ length piece → get_or piece 0 0 ≡ 0x1B
     → steps Nothing (take 1 piece) ≡ step_to (Escape Zero) []
 unfolding step_of
-steps_escape piece long first = steps_more Nothing Nothing (Escape Zero) piece 0 (omega arith) (steps_nil Nothing)
+steps_escape piece long first = steps_more Nothing Nothing (Escape Zero) piece 0 [] (omega arith) (steps_nil Nothing)
     (rw first refl)
 
 -- CSI in its 8-bit form
 pub steps_csi : (piece : List ℕ) → 1 ≤ length piece → get_or piece 0 0 ≡ 0x9B
     → steps Nothing (take 1 piece) ≡ step_to (opened_by 0x9B) []
 unfolding step_of
-steps_csi piece long first = steps_more Nothing Nothing (opened_by 0x9B) piece 0 (omega arith) (steps_nil Nothing)
+steps_csi piece long first = steps_more Nothing Nothing (opened_by 0x9B) piece 0 [] (omega arith) (steps_nil Nothing)
     (rw first refl)
 
 pub marker_step : (b : ℕ) → 0x3C ≤ b → b < 0x40 → step_of (opened_by 0x9B) b ≡ step_to (begun (Some b)) []
-unfolding step_of
-marker_step b low high =
-    let k : class_of b ≡ Parameter = class_parameter b (omega arith) high in
-    let c : (b == 0x3A) ≡ false = grind (arith, nat_tests) in
-    let m : nat_le 0x3C b ≡ true = grind (arith, nat_tests) in
-    let n : nat_lt b 0x40 ≡ true = grind (arith, nat_tests) in
-    rw (k, c, m, n) refl
+unfolding step_of class_of
+marker_step b low high = grind (arith, nat_tests)
 
 pub inter_step : (marker : Option ℕ) (params : ArrayVec ℕ) (full : Bool) (phase : Phase) (b : ℕ) → IsEarly phase
     → 0x20 ≤ b → b < 0x30
     → step_of (Control marker params full phase) b ≡ step_to (Control marker params full (Inter b)) []
-unfolding step_of
-inter_step marker params full Start b early low high = let k : class_of b ≡ Intermediate =
-    class_intermediate b low high in rw k refl
-inter_step marker params full Values b early low high = let k : class_of b ≡ Intermediate =
-    class_intermediate b low high in rw k refl
-inter_step marker params full (Inter i) b early low high = absurd early
+unfolding step_of class_of
+inter_step marker params full phase b early low high = grind (arith, nat_tests)
 
 -- a marker after the introducer
 pub steps_marker : (piece : List ℕ) (at : ℕ) → at < length piece → 0x3C ≤ get_or piece at 0 → get_or piece at 0 < 0x40
     → steps Nothing (take at piece) ≡ step_to (opened_by 0x9B) []
     → steps Nothing (take (at + 1) piece) ≡ step_to (begun (Some (get_or piece at 0))) []
 steps_marker piece at inside low high so_far =
-    steps_more Nothing (opened_by 0x9B) (begun (Some (get_or piece at 0))) piece at inside so_far
+    steps_more Nothing (opened_by 0x9B) (begun (Some (get_or piece at 0))) piece at [] inside so_far
     (marker_step (get_or piece at 0) low high)
 
 -- ---- values
@@ -123,7 +92,7 @@ read_digit piece at next marker xs v d w read follows inside digit small is =
       within = omega arith;
       phase = Values;
       early = tt;
-      reads = rw e (steps_more Nothing (Control marker (record { items = xs ++ v ∷ [] }) false read.phase) _ piece at
+      reads = rw e (steps_more Nothing (Control marker (record { items = xs ++ v ∷ [] }) false read.phase) _ piece at []
           (omega arith) read.reads
           (digit_step marker xs v read.phase (get_or piece at 0) read.early digit.0 digit.1));
     })
@@ -137,7 +106,7 @@ read_separator piece at marker xs v read inside is few = record {
   within = omega arith;
   phase = Values;
   early = tt;
-  reads = steps_more Nothing (Control marker (record { items = xs ++ v ∷ [] }) false read.phase) _ piece at inside
+  reads = steps_more Nothing (Control marker (record { items = xs ++ v ∷ [] }) false read.phase) _ piece at [] inside
       read.reads
       (rw is (separator_step marker xs v read.phase read.early few));
 }
@@ -169,7 +138,7 @@ pub steps_control_with : (piece values : List ℕ) (marker : Option ℕ) (at : �
     → IsWhole piece values (at + 2) (kind.Sequence marker (Some (get_or piece at 0)) (get_or piece (at + 1) 0))
 steps_control_with piece values marker at read inside low high low2 high2 =
     let inter : Held = Control marker (record { items = values }) false (Inter (get_or piece at 0)) in
-    let reads = steps_more Nothing (Control marker (record { items = values }) false read.phase) inter piece at
+    let reads = steps_more Nothing (Control marker (record { items = values }) false read.phase) inter piece at []
     (omega arith) read.reads
     (inter_step marker (record { items = values }) false read.phase (get_or piece at 0) read.early low high) in
     let two : at + 2 ≡ at + 1 + 1 = omega arith in
@@ -188,7 +157,7 @@ unfolding step_of
 steps_alone piece kind some is values = record {
   some = omega arith;
   within = some;
-  reads = steps_event Nothing Nothing Nothing piece 0 (event_of kind values) (omega arith) (steps_nil Nothing)
+  reads = steps_more Nothing Nothing Nothing piece 0 (event_of kind values ∷ []) (omega arith) (steps_nil Nothing)
       (is values);
   silent = ap (λ (t : Step). t.events) (steps_nil Nothing);
 }
@@ -196,8 +165,8 @@ steps_alone piece kind some is values = record {
 -- ---- escape sequences
 
 pub escape_inter_step : (b : ℕ) → 0x20 ≤ b → b < 0x30 → step_of (Escape Zero) b ≡ step_to (Escape (One b)) []
-unfolding step_of
-escape_inter_step b low high = let k : class_of b ≡ Intermediate = class_intermediate b low high in rw k refl
+unfolding step_of class_of
+escape_inter_step b low high = grind (arith, nat_tests)
 
 -- ESC and a final byte
 pub escape_whole : (piece : List ℕ) (kind : EventKind) → 2 ≤ length piece → get_or piece 0 0 ≡ 0x1B
@@ -218,7 +187,7 @@ pub escape_with_whole : (piece : List ℕ) → 3 ≤ length piece → get_or pie
     → 0x30 ≤ get_or piece 2 0 → get_or piece 2 0 < 0x7F
     → (values : List ℕ) → IsWhole piece values 3 (kind.Escape (Some (get_or piece 1 0)) (get_or piece 2 0))
 escape_with_whole piece long first low high low2 high2 values =
-    let inter = steps_more Nothing (Escape Zero) (Escape (One (get_or piece 1 0))) piece 1 (omega arith)
+    let inter = steps_more Nothing (Escape Zero) (Escape (One (get_or piece 1 0))) piece 1 [] (omega arith)
     (steps_escape piece (omega arith) first) (escape_inter_step (get_or piece 1 0) low high) in record {
       some = omega arith;
       within = long;

@@ -28,6 +28,9 @@ const BYTES_A_CELL: usize = 28;
 /// The most bytes for all else then.
 const BYTES_FOR_THE_REST: usize = 230;
 
+/// The most bytes that are chosen. If more were needed, the marked cells are sent.
+const CHOICE_LIMIT: usize = 16384;
+
 /// How many bytes of an update are played at a time: at most so many, and fewer where there isn't room for their
 /// reports, ten bytes for each byte.
 const CHUNK: usize = 1024;
@@ -227,7 +230,9 @@ fn send_choice(
     leading();
     let start = out.len();
     push_choice(shown, marks, to, out);
-    if is_short(out.len() - start, shown, to)
+    let len = out.len() - start;
+    if len <= CHOICE_LIMIT
+        && is_short(len, shown, to)
         && play_back(start, shown, out)
         && shown.same_state(to)
     {

@@ -7,14 +7,14 @@ ghost use Rattle.vt_update.specs.Private.Appended.{Appended};
 use crate::remote::Remote;
 use crate::rows::Rows;
 use crate::scrolling::Scroll;
-use vt_term::{ROWS, STOPS, Terminal};
+use vt_term::{ROWS, Terminal};
 
-/// Appends bytes that should lead from one state to another, whose screens differ at the marked places.
+/// Appends bytes that should lead from one state to another, whose rows differ in so many places each.
 ///
 /// None where a single shift is pending: the next glyph is then another.
 pub(crate) fn push_choice(
     shown: &Terminal,
-    marks: &[[bool; STOPS]; ROWS],
+    counts: &[usize; ROWS],
     to: &Terminal,
     out: &mut Vec<u8>,
 )
@@ -26,24 +26,18 @@ pub(crate) fn push_choice(
         return;
     }
     let mut remote = Remote::new(shown);
-    remote.bring(shown, marks, to, out);
+    remote.bring(shown, counts, to, out);
 }
 
 impl Remote {
     /// Brings the other side, whose cells are those of `shown`, to the state that is asked for.
-    fn bring(
-        &mut self,
-        shown: &Terminal,
-        marks: &[[bool; STOPS]; ROWS],
-        to: &Terminal,
-        out: &mut Vec<u8>,
-    )
+    fn bring(&mut self, shown: &Terminal, counts: &[usize; ROWS], to: &Terminal, out: &mut Vec<u8>)
         ensures appended { Appended out.old.items out.new.items }
         ensures capacity { vec_capacity out.old ≤ vec_capacity out.new }
     {
         let cursor = to.cursor();
         self.set_margins(to.margins());
-        let mut rows = Rows::new(shown, marks, to);
+        let mut rows = Rows::new(shown, counts, to);
         if let Some(scroll) = Scroll::find(&rows, shown, to) {
             self.scroll(scroll, to);
             rows.scroll(scroll, to);

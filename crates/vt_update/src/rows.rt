@@ -24,12 +24,8 @@ pub(crate) struct Rows<'a> {
 }
 
 impl Rows<'_> {
-    /// The rows as they are shown; marked is where they differ from what they are to be.
-    pub(crate) fn new<'a>(
-        shown: &'a Terminal,
-        marks: &[[bool; COLUMNS]; ROWS],
-        to: &Terminal,
-    ) -> Rows<'a> {
+    /// The rows as they are shown; `counts` says in how many places each differs from what it is to be.
+    pub(crate) fn new<'a>(shown: &'a Terminal, counts: &[usize; ROWS], to: &Terminal) -> Rows<'a> {
         let mut rows = Rows {
             shown,
             scroll: None,
@@ -39,7 +35,7 @@ impl Rows<'_> {
             width: shown.width().min(COLUMNS),
         };
         for row in 1..ROWS + 1 {
-            rows.note(row, marked(&marks[row - 1]), to);
+            rows.note(row, counts[row - 1].min(COLUMNS) as i32, to);
         }
         rows
     }
@@ -156,15 +152,6 @@ fn is_blank_row(cells: &[Cell]) -> bool {
 #[inline(always)]
 fn is_blank(cell: &Cell) -> bool {
     word_of(cell) == BLANK
-}
-
-/// How many places of a row are marked.
-fn marked(marks: &[bool; COLUMNS]) -> i32 {
-    let mut count = 0i32;
-    for mark in marks.iter() {
-        count = count.wrapping_add(*mark as i32);
-    }
-    count
 }
 
 /// In how many places the cells differ.

@@ -63,7 +63,7 @@ same_bool-same : (b : Bool) → same_bool b b ≡ true
 same_bool-same true = refl
 same_bool-same false = refl
 
-same_cell-same : (x : Cell) → same_cell x x ≡ true
+pub same_cell-same : (x : Cell) → same_cell x x ≡ true
 same_cell-same x =
     rw (eqb-same x.glyph, same_bool-same x.rendition.bold, same_bool-same x.rendition.underline)
     (rw (same_bool-same x.rendition.blink, same_bool-same x.rendition.reverse, same_bool-same x.protected) refl)

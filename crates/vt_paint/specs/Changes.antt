@@ -38,6 +38,11 @@ abbrev pub AreMarked : List (List Bool) → Grid → Grid → Type 0
 AreMarked marks a b =
     (r c : ℕ) → 1 ≤ r → r ≤ last_row → 1 ≤ c → c ≤ b.width → is_marked marks r c ≡ differs_at a b r c
 
+-- of each row of a screen the number is told at how many places two screens differ
+abbrev pub AreCounted : List ℕ → Grid → Grid → Type 0
+AreCounted counts a b =
+    (r : ℕ) → 1 ≤ r → r ≤ last_row → slice_index_or counts (r - 1) 0 ≡ differing_from a b r 1 b.width
+
 -- two displays have the same width and the same stops, and the places are marked at which their screens differ
 pub record AreChanges (marks : List (List Bool)) (s t : Display) : Type 0 where
   pub width : last_column s ≡ last_column t

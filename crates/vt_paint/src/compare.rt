@@ -2,7 +2,7 @@
 ghost use Rattle.std.specs.Prelude.{◌≡◌, ◌≤◌, ◌<◌, ℕ, ◌*◌, false, not, length, slice_index_or};
 ghost use Rattle.vt_screen.specs.Cells.{blank};
 ghost use Rattle.vt_screen.specs.Grid.{Grid, row_of};
-ghost use Rattle.vt_paint.specs.Changes.{same_cell, differing_from, differing, AreMarked};
+ghost use Rattle.vt_paint.specs.Changes.{same_cell, differing_from, differing, AreMarked, AreCounted};
 
 use crate::tables::cell_word;
 use vt_screen::laws::rows;
@@ -46,34 +46,52 @@ pub fn differing_cells(a: &Terminal, b: &Terminal) -> usize
     count
 }
 
-/// The places at which two rows of the same length have different cells. (Most rows are the same, and compared at
-/// once.)
-fn changed_in_row(a: &[Cell], b: &[Cell]) -> [bool; STOPS]
+/// Marks the places at which two rows of the same length have different cells, and counts them. (Most rows are the same,
+/// and compared at once.)
+fn changed_in_row(a: &[Cell], b: &[Cell]) -> ([bool; STOPS], usize)
     requires len { length a.now ≡ length b.now }
     requires short { length b.now ≤ COLUMNS }
-    ensures { (i : ℕ) → i < length b.now
-        → slice_index_or result i false ≡ not (same_cell (slice_index_or a.now i blank) (slice_index_or b.now i blank)) }
+    ensures marked { (i : ℕ) → i < length b.now
+        → slice_index_or result.0 i false ≡ not (same_cell (slice_index_or a.now i blank) (slice_index_or b.now i blank)) }
+    ensures count { (g h : Grid) (r : ℕ) → a.now ≡ row_of g r → b.now ≡ row_of h r
+        → result.1 ≡ differing_from g h r 1 (length b.now) }
+    ensures bounded { result.1 ≤ COLUMNS }
 {
+    rows();
     let mut marks = [false; STOPS];
     if same_cells(a, b) {
-        return marks;
+        return (marks, 0);
     }
+    let mut count = 0;
     for (i, cell) in b.iter().enumerate() {
-        marks[i] = differ(&a[i], cell);
+        let differs = differ(&a[i], cell);
+        marks[i] = differs;
+        count += differs as usize;
     }
-    marks
+    (marks, count)
 }
 
 /// Marks exactly the places at which the screens of two terminals of the same width have different cells: place c - 1
-/// of row r - 1 for row r and column c.
-pub fn changed_places(a: &Terminal, b: &Terminal) -> [[bool; STOPS]; ROWS]
+/// of row r - 1 for row r and column c. Counts them in each row. Returns how many they are in all.
+pub fn changed_places(
+    a: &Terminal,
+    b: &Terminal,
+    marks: &mut [[bool; STOPS]; ROWS],
+    counts: &mut [usize; ROWS],
+) -> usize
     requires { a.now.display.grid.width ≡ b.now.display.grid.width }
-    ensures marked { AreMarked result a.now.display.grid b.now.display.grid }
+    ensures marked { AreMarked marks.new a.now.display.grid b.now.display.grid }
+    ensures counted { AreCounted counts.new a.now.display.grid b.now.display.grid }
+    ensures count { result ≡ differing a.now.display.grid b.now.display.grid }
+    ensures bounded { result ≤ ROWS * COLUMNS }
 {
     rows();
-    let mut marks = [[false; STOPS]; ROWS];
+    let mut all = 0;
     for row in 1..ROWS + 1 {
-        marks[row - 1] = changed_in_row(a.row(row), b.row(row));
+        let (places, count) = changed_in_row(a.row(row), b.row(row));
+        marks[row - 1] = places;
+        counts[row - 1] = count;
+        all += count;
     }
-    marks
+    all
 }

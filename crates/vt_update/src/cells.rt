@@ -1,6 +1,7 @@
 //! The cells, row by row.
-ghost use Rattle.std.specs.Prelude.{◌≤◌};
+ghost use Rattle.std.specs.Prelude.{◌≡◌, ◌≤◌, length, vec_capacity};
 ghost use Rattle.vt_screen.specs.Grid.{last_row};
+ghost use Rattle.vt_update.specs.Private.Appended.{Appended};
 
 use crate::remote::Remote;
 use crate::rows::{BLANK, Rows, word_of};
@@ -27,28 +28,54 @@ enum Erased {
 
 impl Remote {
     /// All cells, by row and column.
-    pub(crate) fn set_cells(&mut self, rows: &Rows<'_>, to: &Terminal) {
-        let mut gains = [0i32; ROWS];
-        let mut below = 0i32;
-        for row in 1..ROWS + 1 {
-            gains[row - 1] = rows.gain(row, to);
-            below = below.wrapping_add(gains[row - 1]);
-        }
+    pub(crate) fn set_cells(&mut self, rows: &Rows<'_>, to: &Terminal, out: &mut Vec<u8>)
+        ensures appended { Appended out.old.items out.new.items }
+        ensures capacity { vec_capacity out.old ≤ vec_capacity out.new }
+    {
+        let below = rows.gains_below(to);
         let mut erased = false;
         for row in 1..ROWS + 1 {
-            let here = gains[row - 1];
-            below = below.wrapping_sub(here);
-            if erased {
-                self.write_filled(row, 0, rows.blank(), to);
-            } else if rows.differs(row) {
-                erased = self.set_row(row, rows, Spared { here, below }, to);
-            }
+            erased = self.set_row(row, erased, below[row - 1], rows, to, out);
         }
     }
 
-    /// The cells of a row that differs. Answers whether the rows below were erased.
-    fn set_row(&mut self, row: usize, rows: &Rows<'_>, spared: Spared, to: &Terminal) -> bool
+    /// Writes the cells of a row, which was erased or is as it was. Returns whether the rows below are erased.
+    fn set_row(
+        &mut self,
+        row: usize,
+        erased: bool,
+        below: i32,
+        rows: &Rows<'_>,
+        to: &Terminal,
+        out: &mut Vec<u8>,
+    ) -> bool
         requires { (1 ≤ row) × (row ≤ last_row) }
+        ensures appended { Appended out.old.items out.new.items }
+        ensures capacity { vec_capacity out.old ≤ vec_capacity out.new }
+    {
+        if erased {
+            self.write_filled(row, 0, rows.blank(), to, out);
+            return true;
+        }
+        if !rows.differs(row) {
+            return false;
+        }
+        let here = rows.gain(row);
+        self.change_row(row, rows, Spared { here, below }, to, out)
+    }
+
+    /// Writes the cells of a row that differs. Returns whether the rows below were erased.
+    fn change_row(
+        &mut self,
+        row: usize,
+        rows: &Rows<'_>,
+        spared: Spared,
+        to: &Terminal,
+        out: &mut Vec<u8>,
+    ) -> bool
+        requires { (1 ≤ row) × (row ≤ last_row) }
+        ensures appended { Appended out.old.items out.new.items }
+        ensures capacity { vec_capacity out.old ≤ vec_capacity out.new }
     {
         let old = rows.row(row);
         let new = to.row(row);
@@ -66,22 +93,55 @@ impl Remote {
             if word == BLANK {
                 let erased = self.erase(row, i + 1, Spared { here, ..spared }, to);
                 if erased != Erased::Nothing {
-                    self.write_filled(row, i, rows.blank(), to);
+                    self.write_filled(row, i, rows.blank(), to, out);
                     return erased == Erased::Below;
                 }
                 here = here.wrapping_sub(1);
             }
-            self.go(row, i + 1, to);
-            let count = self.write_run(&old[i..columns], &new[i..columns]);
+            let count = self.write_part(row, i + 1, &old[i..columns], &new[i..columns], to, out);
             left = left.wrapping_sub(count as i32);
             i += count;
         }
         false
     }
 
+    /// Goes to a place, and writes a run from there on. Returns how many cells it has.
+    #[inline(always)]
+    fn write_part(
+        &mut self,
+        row: usize,
+        col: usize,
+        old: &[Cell],
+        new: &[Cell],
+        to: &Terminal,
+        out: &mut Vec<u8>,
+    ) -> usize
+        requires row { (1 ≤ row) × (row ≤ last_row) }
+        requires some { 1 ≤ length new.now }
+        requires len { length old.now ≡ length new.now }
+        ensures some { 1 ≤ result }
+        ensures within { result ≤ length new.now }
+        ensures appended { Appended out.old.items out.new.items }
+        ensures capacity { vec_capacity out.old ≤ vec_capacity out.new }
+    {
+        self.go(row, col, to);
+        let count = self.write_run(old, new);
+        self.chosen.flush_many(out);
+        count
+    }
+
     /// The cells of a row that aren't blank, from a place on where the other side has a blank row.
-    fn write_filled(&mut self, row: usize, from: usize, blank: &[Cell], to: &Terminal)
+    fn write_filled(
+        &mut self,
+        row: usize,
+        from: usize,
+        blank: &[Cell],
+        to: &Terminal,
+        out: &mut Vec<u8>,
+    )
         requires { (1 ≤ row) × (row ≤ last_row) }
+        ensures appended { Appended out.old.items out.new.items }
+        ensures capacity { vec_capacity out.old ≤ vec_capacity out.new }
     {
         let new = to.row(row);
         let columns = blank.len().min(new.len());
@@ -90,8 +150,7 @@ impl Remote {
             if word_of(&new[i]) == BLANK {
                 i += 1;
             } else {
-                self.go(row, i + 1, to);
-                i += self.write_run(&blank[i..columns], &new[i..columns]);
+                i += self.write_part(row, i + 1, &blank[i..columns], &new[i..columns], to, out);
             }
         }
     }

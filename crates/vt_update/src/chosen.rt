@@ -1,31 +1,38 @@
 //! The bytes that are chosen: elements of what updates are made of, and nothing else.
-ghost use Rattle.std.specs.Prelude.{◌≡◌, ℕ, ◌+◌, ◌≤◌, ◌++◌, ◌∷◌, [], true, length, take, codes};
+ghost use Rattle.std.specs.Prelude.{◌≡◌, ℕ, ◌+◌, ◌≤◌, ◌++◌, ◌∷◌, [], true, length, take, codes, vec_capacity};
 ghost use Rattle.vt_paint.specs.Spoken.{Control, Escape, Sequence, is_spoken, is_one_of, is_among, mode_numbers, Speaks};
-ghost use Rattle.vt_update.specs.declared.chosen.TheConstants.{CHOICE_LIMIT};
+ghost use Rattle.vt_update.specs.declared.chosen.TheConstants.{ROOM};
+ghost use Rattle.vt_update.specs.Private.Appended.{Appended};
 
+use crate::rows::word_of;
 use itoa::Buffer;
 use vt_glyph::Set;
 use vt_screen::Cell;
 
-/// The most bytes that are chosen: where more were needed, the marked cells are sent.
-pub(crate) const CHOICE_LIMIT: usize = 16384;
+/// How many bytes are kept before they are appended to the output.
+const ROOM: usize = 1024;
+
+/// So many are appended before more cells are written. The other half is room for a run of cells with all that stands before
+/// it, and for all that follows the cells.
+const MANY: usize = ROOM / 2;
 
 /// CSI in two bytes.
 const CSI: &[u8] = b"\x1B[";
 
-/// The elements chosen so far. One that passes the limit is left out; played, the bytes then don't lead where they should.
+/// The elements chosen last, which aren't appended yet. One that passes the room is left out; played, the bytes then don't
+/// lead where they should.
 #[derive(Drop)]
 pub(crate) struct Chosen {
-    bytes: [u8; CHOICE_LIMIT],
+    bytes: [u8; ROOM],
     len: usize,
-    ghost within: { len ≤ CHOICE_LIMIT },
+    ghost within: { len ≤ ROOM },
     ghost speaks: { Speaks (take len bytes) },
 }
 
 /// Writes a part from a place on. Answers the place behind it.
 #[inline(always)]
-fn put_part(part: &[u8], at: usize, all: &mut [u8; CHOICE_LIMIT]) -> usize
-    requires { at + length part.now ≤ CHOICE_LIMIT }
+fn put_part(part: &[u8], at: usize, all: &mut [u8; ROOM]) -> usize
+    requires { at + length part.now ≤ ROOM }
     ensures items { take result all.new ≡ take at all.old ++ part.now }
     ensures kept { (n : ℕ) → n ≤ at → take n all.new ≡ take n all.old }
     ensures next { result ≡ at + length part.now }
@@ -36,36 +43,74 @@ fn put_part(part: &[u8], at: usize, all: &mut [u8; CHOICE_LIMIT]) -> usize
     at + part.len()
 }
 
-/// Writes the codes of plain cells from a place on. Answers the place behind them. (No other codes come; that they are cut
-/// to 20 to 7E here needs no proof of that.)
-fn put_codes(cells: &[Cell], at: usize, all: &mut [u8; CHOICE_LIMIT]) -> usize
-    requires { at + length cells.now ≤ CHOICE_LIMIT }
-    ensures speaks { Speaks (take at all.old) → Speaks (take result all.new) }
+/// Writes the bytes of cells from a place on, as long as these differ from the old ones and are in the range. The word `low` is
+/// written as the byte `first`, and the words behind it as the bytes behind it, up to 7E. Returns how many cells these are.
+fn put_codes(
+    low: u64,
+    first: u8,
+    old: &[Cell],
+    new: &[Cell],
+    at: usize,
+    all: &mut [u8; ROOM],
+) -> usize
+    requires room { at + length new.now ≤ ROOM }
+    requires len { length old.now ≡ length new.now }
+    requires first { (0x20 ≤ first) × (first ≤ 0x7E) }
+    ensures speaks { Speaks (take at all.old) → Speaks (take (at + result) all.new) }
     ensures kept { (n : ℕ) → n ≤ at → take n all.new ≡ take n all.old }
-    ensures next { result ≡ at + length cells.now }
+    ensures within { result ≤ length new.now }
 {
-    for (i, cell) in cells.iter().enumerate() {
-        let code = cell.glyph.code() as u8;
-        all[at + i] = code.max(0x20).min(0x7E);
+    let span = 0x7E - first as u64;
+    for (i, cell) in new.iter().enumerate() {
+        let word = word_of(cell);
+        let place = word.wrapping_sub(low);
+        if place > span || word == word_of(&old[i]) {
+            return i;
+        }
+        all[at + i] = place as u8 + first;
     }
-    at + cells.len()
+    new.len()
+}
+
+/// Appends the bytes of elements to the output, if it has the room for them.
+fn append(bytes: &[u8], out: &mut Vec<u8>)
+    requires { Speaks bytes.now }
+    ensures appended { Appended out.old.items out.new.items }
+    ensures capacity { vec_capacity out.old ≤ vec_capacity out.new }
+{
+    if bytes.len() <= out.capacity() - out.len() {
+        out.extend_from_slice(bytes).unwrap();
+    }
 }
 
 impl Chosen {
     /// No bytes.
     pub(crate) fn new() -> Chosen {
         Chosen {
-            bytes: [0; CHOICE_LIMIT],
+            bytes: [0; ROOM],
             len: 0,
         }
     }
 
-    /// The bytes.
-    pub(crate) fn as_slice(&self) -> &[u8]
-        ensures bounded { length result.now ≤ CHOICE_LIMIT }
-        ensures speaks { Speaks result.now }
+    /// Appends the bytes to the output, if it has the room for them, and keeps none.
+    #[inline(never)]
+    pub(crate) fn flush(&mut self, out: &mut Vec<u8>)
+        ensures appended { Appended out.old.items out.new.items }
+        ensures capacity { vec_capacity out.old ≤ vec_capacity out.new }
     {
-        &self.bytes[..self.len]
+        append(&self.bytes[..self.len], out);
+        self.len = 0;
+    }
+
+    /// Appends the bytes to the output, if they are many.
+    #[inline(always)]
+    pub(crate) fn flush_many(&mut self, out: &mut Vec<u8>)
+        ensures appended { Appended out.old.items out.new.items }
+        ensures capacity { vec_capacity out.old ≤ vec_capacity out.new }
+    {
+        if self.len >= MANY {
+            self.flush(out);
+        }
     }
 
     /// An element in three parts.
@@ -77,7 +122,7 @@ impl Chosen {
             .len()
             .saturating_add(middle.len())
             .saturating_add(back.len());
-        if count <= CHOICE_LIMIT - self.len {
+        if count <= ROOM - self.len {
             let at = put_part(front, self.len, &mut self.bytes);
             let at = put_part(middle, at, &mut self.bytes);
             self.len = put_part(back, at, &mut self.bytes);
@@ -92,10 +137,24 @@ impl Chosen {
         }
     }
 
-    /// The codes of plain cells.
-    pub(crate) fn characters(&mut self, cells: &[Cell]) {
-        let count = cells.len().min(CHOICE_LIMIT - self.len);
-        self.len = put_codes(&cells[..count], self.len, &mut self.bytes);
+    /// Writes the characters of cells, as long as these differ from the old ones and are in the range. The word `low` is
+    /// written as `first`. Returns how many cells these are.
+    pub(crate) fn characters(&mut self, low: u64, first: u8, old: &[Cell], new: &[Cell]) -> usize
+        requires len { length old.now ≡ length new.now }
+        requires first { (0x20 ≤ first) × (first ≤ 0x7E) }
+        ensures { result ≤ length new.now }
+    {
+        let room = new.len().min(ROOM - self.len);
+        let count = put_codes(
+            low,
+            first,
+            &old[..room],
+            &new[..room],
+            self.len,
+            &mut self.bytes,
+        );
+        self.len += count;
+        count
     }
 
     /// A control of one byte.
@@ -160,7 +219,7 @@ impl Chosen {
         let first = first.format(n).as_bytes();
         let mut second = Buffer::new();
         let second = second.format(m).as_bytes();
-        if first.len() + second.len() + 4 <= CHOICE_LIMIT - self.len {
+        if first.len() + second.len() + 4 <= ROOM - self.len {
             let at = put_part(CSI, self.len, &mut self.bytes);
             let at = put_part(first, at, &mut self.bytes);
             let at = put_part(b";", at, &mut self.bytes);

@@ -7,7 +7,7 @@ ghost use Rattle.vt_paint.specs.Spoken.{is_among, mode_numbers};
 ghost use Rattle.vt_update.specs.Private.Attributes.{attribute, attributes};
 
 use crate::chosen::Chosen;
-use crate::rows::{BLANK, word_of};
+use crate::rows::word_of;
 use vt_glyph::{Glyph, Set, Sets, Spelling};
 use vt_screen::{Brush, Cell, ROWS, Rendition};
 use vt_term::{Cursor, Margins, Modes, Saved, Terminal};
@@ -22,6 +22,8 @@ pub(crate) struct Remote {
     width: usize,
     pub(crate) cursor: Cursor,
     brush: Brush,
+    /// The brush as a number.
+    number: u64,
     sets: Sets,
     pub(crate) margins: Margins,
     pub(crate) modes: Modes,
@@ -31,11 +33,13 @@ pub(crate) struct Remote {
 impl Remote {
     /// The other side as it is before the first byte.
     pub(crate) fn new(shown: &Terminal) -> Remote {
+        let brush = shown.brush();
         Remote {
             chosen: Chosen::new(),
             width: shown.width(),
             cursor: shown.cursor(),
-            brush: shown.brush(),
+            brush,
+            number: brush_number(&brush),
             sets: *shown.sets(),
             margins: shown.margins(),
             modes: shown.modes(),
@@ -210,6 +214,7 @@ impl Remote {
             }
         }
         self.brush = brush;
+        self.number = brush_number(&brush);
     }
 
     /// SGR: the attributes that are set now, or where one goes, all off and then those that are to be set. An empty
@@ -237,12 +242,13 @@ impl Remote {
 
     /// The byte that writes a glyph under the set in GL, if one does.
     fn one_byte(&self, glyph: Glyph) -> Option<u8> {
-        let (_, code) = home_of(glyph);
-        if code == b' ' {
+        let code = glyph.code() as u8;
+        if code == b' ' || 0x20 <= code && code <= 0x7E && self.has_ascii() {
             return Some(code);
         }
+        let (home, code) = home_of(glyph);
         let left = self.sets.set(self.sets.left());
-        if 0x21 <= code && code <= 0x7E && left.glyph(code) == glyph {
+        if 0x21 <= code && code <= 0x7E && (left == home || left.glyph(code) == glyph) {
             Some(code)
         } else {
             None
@@ -252,7 +258,7 @@ impl Remote {
     /// Whether a cell is written with the brush that is there.
     #[inline(always)]
     fn has_brush(&self, cell: &Cell) -> bool {
-        word_of(cell) >> 24 == brush_number(&self.brush)
+        word_of(cell) >> 24 == self.number
     }
 
     /// Writes a cell where the cursor is; the wrap flag is reset. `goes_on` says that the cell behind it is written next,
@@ -274,8 +280,8 @@ impl Remote {
         self.pass(1);
     }
 
-    /// Writes the first cell where the cursor is, and those behind it as long as they differ from the old ones, are
-    /// plain and not blank, and have its brush. Answers how many these are.
+    /// Writes the first cell where the cursor is, and those behind it as long as they differ from the old ones, aren't blank,
+    /// have its brush, and are of the set in GL. Answers how many these are.
     pub(crate) fn write_run(&mut self, old: &[Cell], new: &[Cell]) -> usize
         requires some { 1 ≤ length new.now }
         requires len { length old.now ≡ length new.now }
@@ -283,21 +289,29 @@ impl Remote {
         ensures within { result ≤ length new.now }
     {
         self.write(&new[0], goes_on(old, new));
-        if !self.has_ascii() {
-            return 1;
+        // A blank cell is left out: a plain space.
+        let blank = (self.number == 0) as u8;
+        match self.sets.set(self.sets.left()) {
+            Set::Ascii => self.write_codes(0x20 + blank, 0x20 + blank, old, new),
+            Set::Supplemental => self.write_codes(0xA1, 0x21, old, new),
+            Set::Special => self.write_codes(0, 0x60, old, new),
+            _ => 1,
         }
-        let least = (word_of(&new[0]) >> 24 << 24) + b' ' as u64;
-        let mut count = 1;
-        while count < new.len() {
-            let word = word_of(&new[count]);
-            if word == word_of(&old[count]) || word == BLANK || word.wrapping_sub(least) > 0x5E {
-                break;
-            }
-            count += 1;
-        }
-        self.chosen.characters(&new[1..count]);
-        self.pass(count - 1);
-        count
+    }
+
+    /// Writes the cells behind the first one, as long as they differ from the old ones, and have the brush and glyphs from a
+    /// code on, which is written as the byte `first`. Returns how many cells these are, with the first one.
+    fn write_codes(&mut self, code: u8, first: u8, old: &[Cell], new: &[Cell]) -> usize
+        requires some { 1 ≤ length new.now }
+        requires len { length old.now ≡ length new.now }
+        requires first { (0x20 ≤ first) × (first ≤ 0x7E) }
+        ensures some { 1 ≤ result }
+        ensures within { result ≤ length new.now }
+    {
+        let low = (self.number << 24).wrapping_add(code as u64);
+        let count = self.chosen.characters(low, first, &old[1..], &new[1..]);
+        self.pass(count);
+        count + 1
     }
 
     /// The cursor behind so many cells more of its row.

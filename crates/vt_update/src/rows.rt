@@ -6,7 +6,7 @@ use crate::scrolling::Scroll;
 use vt_screen::{COLUMNS, Cell, ROWS, same_cells};
 use vt_term::Terminal;
 
-/// What erasing a row that is not to be touched spares: no other row makes that good.
+/// What erasing a row that isn't to be touched spares: no other row makes that good.
 const NEVER: i32 = -10_000;
 
 /// The cells of the other side: those that are shown, after a scroll.
@@ -24,12 +24,8 @@ pub(crate) struct Rows<'a> {
 }
 
 impl Rows<'_> {
-    /// The rows as they are shown; marked is where they differ from what they are to be.
-    pub(crate) fn new<'a>(
-        shown: &'a Terminal,
-        marks: &[[bool; COLUMNS]; ROWS],
-        to: &Terminal,
-    ) -> Rows<'a> {
+    /// The rows as they are shown; `counts` says in how many places each differs from what it is to be.
+    pub(crate) fn new<'a>(shown: &'a Terminal, counts: &[usize; ROWS], to: &Terminal) -> Rows<'a> {
         let mut rows = Rows {
             shown,
             scroll: None,
@@ -39,27 +35,15 @@ impl Rows<'_> {
             width: shown.width().min(COLUMNS),
         };
         for row in 1..ROWS + 1 {
-            rows.note(row, marked(&marks[row - 1]), to);
+            rows.note(row, counts[row - 1].min(COLUMNS) as i32, to);
         }
         rows
     }
 
-    /// The rows after a scroll.
-    pub(crate) fn scrolled<'a>(shown: &'a Terminal, scroll: Scroll, to: &Terminal) -> Rows<'a> {
-        let mut rows = Rows {
-            shown,
-            scroll: Some(scroll),
-            differing: [0; ROWS],
-            filled: [0; ROWS],
-            blanks: [Cell::blank(); COLUMNS],
-            width: shown.width().min(COLUMNS),
-        };
-        rows.compare(to);
-        rows
-    }
-
-    fn compare(&mut self, to: &Terminal) {
-        for row in 1..ROWS + 1 {
+    /// Moves the rows by a scroll.
+    pub(crate) fn scroll(&mut self, scroll: Scroll, to: &Terminal) {
+        self.scroll = Some(scroll);
+        for row in scroll.top..scroll.bottom + 1 {
             let old = self.row(row);
             let new = to.row(row);
             let differing = if same_cells(old, new) {
@@ -76,7 +60,7 @@ impl Rows<'_> {
         requires { (1 ≤ row) × (row ≤ last_row) }
     {
         self.differing[row - 1] = differing;
-        if differing != 0 {
+        if differing != 0 && self.filled[row - 1] == 0 {
             self.filled[row - 1] = filled(to.row(row));
         }
     }
@@ -120,18 +104,27 @@ impl Rows<'_> {
         self.filled[row - 1]
     }
 
-    /// How many cells erasing a row spares: those that differ, less those that aren't to be blank. A row that is as it
-    /// is to be, and isn't blank, is never erased.
-    pub(crate) fn gain(&self, row: usize, to: &Terminal) -> i32
+    /// Returns how many cells erasing a row that differs spares: those that differ, less those that aren't to be blank.
+    pub(crate) fn gain(&self, row: usize) -> i32
         requires { (1 ≤ row) × (row ≤ last_row) }
     {
-        if self.differs(row) {
-            self.differing[row - 1].wrapping_sub(self.filled[row - 1])
-        } else if is_blank_row(to.row(row)) {
-            0
-        } else {
-            NEVER
+        self.differing[row - 1].wrapping_sub(self.filled[row - 1])
+    }
+
+    /// Returns how many cells erasing all rows below each one spares. A row that is as it is to be, and isn't blank, is never
+    /// erased.
+    pub(crate) fn gains_below(&self, to: &Terminal) -> [i32; ROWS] {
+        let mut gains = [NEVER; ROWS];
+        let mut below = 0i32;
+        for row in (1..ROWS + 1).rev() {
+            gains[row - 1] = below;
+            if self.differs(row) {
+                below = below.wrapping_add(self.gain(row));
+            } else if !is_blank_row(to.row(row)) {
+                return gains;
+            }
         }
+        gains
     }
 }
 
@@ -161,29 +154,20 @@ fn is_blank(cell: &Cell) -> bool {
     word_of(cell) == BLANK
 }
 
-/// How many places of a row are marked.
-fn marked(marks: &[bool; COLUMNS]) -> i32 {
-    let mut count = 0i32;
-    for mark in marks.iter() {
-        count = count.wrapping_add(*mark as i32);
-    }
-    count
-}
-
 /// In how many places the cells differ.
 pub(crate) fn unlike(old: &[Cell], new: &[Cell]) -> i32 {
-    let mut count = 0i32;
+    let mut count = 0u64;
     for (old, new) in old.iter().zip(new) {
-        count = count.wrapping_add((word_of(old) != word_of(new)) as i32);
+        count = count.wrapping_add((word_of(old) != word_of(new)) as u64);
     }
-    count
+    count.min(COLUMNS as u64) as i32
 }
 
 /// How many cells aren't blank.
 pub(crate) fn filled(cells: &[Cell]) -> i32 {
-    let mut count = 0i32;
+    let mut count = 0u64;
     for cell in cells.iter() {
-        count = count.wrapping_add(!is_blank(cell) as i32);
+        count = count.wrapping_add(!is_blank(cell) as u64);
     }
-    count
+    count.min(COLUMNS as u64) as i32
 }

@@ -13,8 +13,8 @@ const FEW: i32 = 8;
 /// Rows `top` to `bottom` move by `by`, up or down; blank ones come in.
 #[derive(Clone, Copy)]
 pub(crate) struct Scroll {
-    top: usize,
-    bottom: usize,
+    pub(crate) top: usize,
+    pub(crate) bottom: usize,
     by: usize,
     up: bool,
     ghost from_row_1: { 1 ≤ top },
@@ -104,8 +104,8 @@ impl Votes {
         }
         let sum = sum_of(new);
         for source in 1..ROWS + 1 {
-            if rows.differs(source)
-                && self.sums[source - 1] == sum
+            if self.sums[source - 1] == sum
+                && rows.differs(source)
                 && same_cells(shown.row(source), new)
             {
                 if row < source {
@@ -124,10 +124,10 @@ impl Votes {
     }
 }
 
-/// The sum of the cells' words.
+/// The sum of the words of the cells on the left.
 fn sum_of(cells: &[Cell]) -> u64 {
     let mut sum = 0u64;
-    for cell in cells.iter() {
+    for cell in cells[..cells.len() / 2].iter() {
         sum = sum.wrapping_add(word_of(cell));
     }
     sum
@@ -153,7 +153,11 @@ impl Gains {
             if 1 <= source && source <= ROWS {
                 gains.moved[row - 1] = differing.wrapping_sub(unlike(shown.row(source), new));
             }
-            gains.blank[row - 1] = differing.wrapping_sub(filled(new));
+            gains.blank[row - 1] = if rows.differs(row) {
+                rows.gain(row)
+            } else {
+                filled(new).wrapping_neg()
+            };
         }
         gains
     }

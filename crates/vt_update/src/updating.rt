@@ -16,9 +16,7 @@ use crate::choice::push_choice;
 use crate::laws::leading;
 use thiserror::Error;
 use vt_paint::laws::spoken;
-use vt_paint::{
-    PAINT_LIMIT, changed_places, differing_cells, repaint_changes_reserved, repaint_reserved,
-};
+use vt_paint::{PAINT_LIMIT, changed_places, repaint_changes_reserved, repaint_reserved};
 use vt_term::laws::cuts;
 use vt_term::{ROWS, STOPS, Terminal};
 
@@ -27,6 +25,9 @@ const BYTES_A_CELL: usize = 28;
 
 /// The most bytes for all else then.
 const BYTES_FOR_THE_REST: usize = 230;
+
+/// The most bytes that are chosen. If more were needed, the marked cells are sent.
+const CHOICE_LIMIT: usize = 16384;
 
 /// How many bytes of an update are played at a time: at most so many, and fewer where there isn't room for their
 /// reports, ten bytes for each byte.
@@ -174,8 +175,10 @@ pub fn update_reserved(shown: &mut Terminal, to: &Terminal, out: &mut Vec<u8>)
         send_repaint(shown, to, out);
         return;
     }
-    let marks = changed_places(shown, to);
-    if !send_choice(&marks, shown, to, out) {
+    let mut marks = [[false; STOPS]; ROWS];
+    let mut counts = [0; ROWS];
+    let count = changed_places(shown, to, &mut marks, &mut counts);
+    if !send_choice(count, &counts, shown, to, out) {
         send_changes(&marks, shown, to, out);
     }
 }
@@ -195,25 +198,28 @@ fn same_stops(a: &[bool; STOPS], b: &[bool; STOPS]) -> bool
     a == b
 }
 
-/// Whether so many bytes are few for what differs between two terminals of the same width.
-fn is_short(len: usize, shown: &Terminal, to: &Terminal) -> bool
-    requires { shown.now.display.grid.width ≡ to.now.display.grid.width }
-    ensures { IsTrue result → len ≤ 28 * differing shown.now.display.grid to.now.display.grid + 230 }
+/// Returns whether so many bytes are few for a count of cells that differ.
+fn is_short(len: usize, count: usize) -> bool
+    requires { count ≤ ROWS * STOPS }
+    ensures few { IsTrue result → len ≤ 28 * count + 230 }
+    ensures room { IsTrue result → len ≤ CHOICE_LIMIT }
 {
-    len <= BYTES_FOR_THE_REST
-        || len - BYTES_FOR_THE_REST <= BYTES_A_CELL * differing_cells(shown, to)
+    len <= CHOICE_LIMIT && len <= BYTES_A_CELL * count + BYTES_FOR_THE_REST
 }
 
 /// Appends the chosen bytes and plays them on `shown`, where they are short. Where that doesn't lead to `to` in
-/// silence, the bytes are taken back, and the answer is false; `shown` is then in any state.
+/// silence, the bytes are taken back, and the answer is false; `shown` is then in any state. `count` places differ, and
+/// `counts` says how many in each row.
 fn send_choice(
-    marks: &[[bool; STOPS]; ROWS],
+    count: usize,
+    counts: &[usize; ROWS],
     shown: &mut Terminal,
     to: &Terminal,
     out: &mut Vec<u8>,
 ) -> bool
     requires sound { IsSound shown.old }
-    requires width { shown.old.display.grid.width ≡ to.now.display.grid.width }
+    requires count { count ≡ differing shown.old.display.grid to.now.display.grid }
+    requires bounded { count ≤ ROWS * STOPS }
     requires room { vec_len out.old + UPDATE_LIMIT ≤ vec_capacity out.old }
     ensures leads { OnTrue result (Updates shown.old to.now out.old.items out.new.items) }
     ensures shown { OnTrue result (shown.new ≡ to.now) }
@@ -226,11 +232,8 @@ fn send_choice(
 {
     leading();
     let start = out.len();
-    push_choice(shown, marks, to, out);
-    if is_short(out.len() - start, shown, to)
-        && play_back(start, shown, out)
-        && shown.same_state(to)
-    {
+    push_choice(shown, counts, to, out);
+    if is_short(out.len() - start, count) && play_back(start, shown, out) && shown.same_state(to) {
         return true;
     }
     out.truncate(start);

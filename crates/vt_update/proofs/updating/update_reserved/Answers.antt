@@ -9,7 +9,7 @@ returns-then-not-send_choice-clause-leads c =
     let same = c.same_columns.ensures.0 (search (rules, c.if-not-same_columns.false)) in
     subst (λ (before : List ℕ). Updates c.args.shown.now c.args.to.now before c.send_changes.new.out.items) taken
     (c.send_changes.ensures.leads c.args.shown.now (search rules)
-    (record { width = same.0; stops = same.1; marked = c.changed_places-marks.ensures.marked }))
+    (record { width = same.0; stops = same.1; marked = c.changed_places-count.ensures.marked }))
 
 pub returns-then-not-send_choice-clause-speaks : goal.returns-then-not-send_choice-clause-speaks
 returns-then-not-send_choice-clause-speaks c =
@@ -17,7 +17,7 @@ returns-then-not-send_choice-clause-speaks c =
     let same = c.same_columns.ensures.0 (search (rules, c.if-not-same_columns.false)) in
     subst (λ n. Speaks (drop n c.send_changes.new.out.items)) len
     (c.send_changes.ensures.speaks c.args.shown.now
-    (record { width = same.0; stops = same.1; marked = c.changed_places-marks.ensures.marked }))
+    (record { width = same.0; stops = same.1; marked = c.changed_places-count.ensures.marked }))
 
 pub returns-then-not-send_choice-clause-ascii : goal.returns-then-not-send_choice-clause-ascii
 returns-then-not-send_choice-clause-ascii c =

@@ -1,3 +1,4 @@
+use Rattle.vt_update.proofs.Elements.{appended_then}
 use Rattle.vt_update.proofs.remote.Remote.bring.Goals as goal
 
 pub set_saved-requires-clause-row : goal.set_saved-requires-clause-row
@@ -9,3 +10,6 @@ set_saved-requires-clause-left c = rw c.saved.ensures c.cursor-cursor.ensures.so
 
 pub set_saved-requires-clause-right : goal.set_saved-requires-clause-right
 set_saved-requires-clause-right c = rw c.saved.ensures c.cursor-cursor.ensures.sound.display.saved_sets.right
+
+pub returns-clause-appended : goal.returns-clause-appended
+returns-clause-appended c = appended_then _ _ _ c.set_cells.ensures.appended c.flush.ensures.appended

@@ -1,10 +1,13 @@
-use Rattle.std.proofs.Common.{◌-◌, ◌≤◌, length}
+use Rattle.std.proofs.Common.{◌-◌, ◌≤◌, length, vec_capacity}
+use Rattle.vt_update.specs.Private.Appended.{Appended}
 use Rattle.vt_update.proofs.remote.Remote.write_filled.Given as goal
 
 abbrev pub invariant-loop-i : goal.invariant-loop-i
 invariant-loop-i l = record {
   blank : l.columns ≤ length l.blank;
   new : l.columns ≤ length l.new;
+  appended : Appended l.fn.out.items l.out.items;
+  capacity : vec_capacity l.fn.out ≤ vec_capacity l.out;
 }
 
 abbrev pub decreases-loop-i : goal.decreases-loop-i

@@ -6,7 +6,7 @@ use Rattle.std.proofs.Math.Seq.{take-add}
 use Rattle.std.proofs.lemmas.List.{take-take, length-take}
 use Rattle.std.proofs.lemmas.List.Elements.{All-map}
 use Rattle.vt_syntax.specs.declared.event.Event.{Event}
-use Rattle.vt_syntax.specs.declared.event.Event.TheVariants.{Print, Control, Sequence}
+use Rattle.vt_syntax.specs.declared.event.Event.TheVariants.{Print, Control, Escape, Sequence}
 use Rattle.vt_syntax.specs.declared.held.Held.{Held}
 use Rattle.vt_syntax.specs.declared.held.Held.TheVariants.{Nothing}
 use Rattle.vt_syntax.specs.Class.{IsInAreas, opens_string, is_opener}
@@ -18,9 +18,11 @@ use Rattle.vt_syntax.specs.Spelling.{IsEvent, IsGraphic, spell_events}
 use Rattle.vt_glyph.specs.Invocation.{glyph_read, after_read}
 use Rattle.vt_term.specs.State.{Display, State, at_place}
 use Rattle.vt_screen.specs.Grid.{Grid}
-use Rattle.vt_term.specs.Parameters.{first, second, from_one}
-use Rattle.vt_term.specs.Functions.{effect, control, sequence_in, sequences_of}
-use Rattle.vt_term.specs.Moving.{index, next_line, cursor_position}
+use Rattle.vt_term.specs.Parameters.{first, second, count, from_one}
+use Rattle.vt_term.specs.Functions.{effect, control, designate_to, escape_with, sequence_in, sequences_of}
+use Rattle.vt_term.specs.Moving.{index, next_line, cursor_forward, cursor_position}
+use Rattle.vt_glyph.specs.declared.set.Set.{Set}
+use Rattle.vt_glyph.specs.Designation.{set_of_final}
 use Rattle.vt_term.specs.Rendition.{select_graphic_rendition}
 use Rattle.vt_term.specs.Editing.{names_area, with_grid, erase_in_line, erase_in_display}
 use Rattle.vt_term.specs.Writing.{write_if_read, put_glyph}
@@ -310,7 +312,7 @@ pub leads-position : (piece : List ℕ) (n width room left : ℕ) (params : List
 leads-position piece n width room left params last is front known =
     leads-front piece n width room left (plain params 0x48) (rw is at front) (λ s. refl)
     (λ s same fits. rw (position-effect params s)
-      (record { no_wrap = λ some. refl; in_row = rw same (omega (arith, known)) }))
+    (record { no_wrap = λ some. refl; in_row = rw same (omega (arith, known)) }))
     (λ s. ap (λ (t : Display). t.grid.width) (position-effect params s))
 
 -- SGR: the cursor stays
@@ -345,6 +347,50 @@ leads-display piece n width room params last is front =
     leads-front piece n width room room (plain params 0x4A) (rw is at front) (λ s. refl)
     (λ s same fits. rw (display-effect params s) (erased-fits (names_area (first params)) _ room s refl fits))
     (λ s. ap (λ (t : Display). t.grid.width) (display-effect params s) ∙ erased-width (names_area (first params)) _ s refl)
+
+-- CUF: the cursor goes right
+forward-effect : (params : List ℕ) (s : Display) → effect (plain params 0x43) s ≡ cursor_forward (count params) s
+unfolding sequence_in sequences_of
+forward-effect params s = refl
+
+pub leads-forward : (piece : List ℕ) (n width room left : ℕ) (params : List ℕ) (last : ℕ) → last ≡ 0x43
+    → IsFront piece n (plain params last) → left ≤ room - count params → Leads width room left (take n piece)
+leads-forward piece n width room left params last is front few =
+    leads-front piece n width room left (plain params 0x43) (rw is at front) (λ s. refl)
+    (λ s same fits. rw (forward-effect params s)
+    (record { no_wrap = λ some. refl; in_row = omega (arith, few, fits.in_row) }))
+    (λ s. ap (λ (t : Display). t.grid.width) (forward-effect params s))
+
+-- SCS: the cursor stays
+designated-fits : (slot count : ℕ) (set : Option Set) (s : Display) → Fits count s → Fits count (designate_to slot set s)
+designated-fits slot count None s fits = fits
+designated-fits slot count (Some set) s fits = record { no_wrap = fits.no_wrap; in_row = fits.in_row }
+
+designated-width : (slot : ℕ) (set : Option Set) (s : Display) → (designate_to slot set s).grid.width ≡ s.grid.width
+designated-width slot None s = refl
+designated-width slot (Some set) s = refl
+
+g0-effect : (last : ℕ) (s : Display) → effect (Escape (Some 0x28) last) s ≡ designate_to 0 (set_of_final last) s
+unfolding escape_with
+g0-effect last s = refl
+
+g1-effect : (last : ℕ) (s : Display) → effect (Escape (Some 0x29) last) s ≡ designate_to 1 (set_of_final last) s
+unfolding escape_with
+g1-effect last s = refl
+
+pub leads-g0 : (piece : List ℕ) (width room inter last : ℕ) → inter ≡ 0x28 → IsFront piece 3 (Escape (Some inter) last)
+    → Leads width room room (take 3 piece)
+leads-g0 piece width room inter last is front =
+    leads-front piece 3 width room room (Escape (Some 0x28) last) (rw is at front) (λ s. refl)
+    (λ s same fits. rw (g0-effect last s) (designated-fits 0 room (set_of_final last) s fits))
+    (λ s. ap (λ (t : Display). t.grid.width) (g0-effect last s) ∙ designated-width 0 (set_of_final last) s)
+
+pub leads-g1 : (piece : List ℕ) (width room inter last : ℕ) → inter ≡ 0x29 → IsFront piece 3 (Escape (Some inter) last)
+    → Leads width room room (take 3 piece)
+leads-g1 piece width room inter last is front =
+    leads-front piece 3 width room room (Escape (Some 0x29) last) (rw is at front) (λ s. refl)
+    (λ s same fits. rw (g1-effect last s) (designated-fits 1 room (set_of_final last) s fits))
+    (λ s. ap (λ (t : Display). t.grid.width) (g1-effect last s) ∙ designated-width 1 (set_of_final last) s)
 
 -- ---- LF
 

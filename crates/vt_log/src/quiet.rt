@@ -51,7 +51,7 @@ fn tracked_front(piece: &[u8], room: usize, width: usize) -> (usize, usize)
     (run, room - run)
 }
 
-/// Returns the same of a sequence: CUP, SGR, ED and EL.
+/// Returns the same of a sequence: CUP, SGR, ED, EL, CUF and SCS.
 #[inline(always)]
 fn tracked_sequence(piece: &[u8], room: usize, width: usize) -> (usize, usize)
     ensures within { result.0 ≤ length piece.now }
@@ -59,7 +59,7 @@ fn tracked_sequence(piece: &[u8], room: usize, width: usize) -> (usize, usize)
 {
     one_split();
     let Some(front) = front_values(piece) else {
-        return (0, room);
+        return tracked_designation(piece, room, width);
     };
     if front.last == b'H' {
         return (front.bytes, room_from(front.second, width));
@@ -72,6 +72,31 @@ fn tracked_sequence(piece: &[u8], room: usize, width: usize) -> (usize, usize)
     }
     if front.last == b'J' {
         return (front.bytes, room);
+    }
+    if front.last == b'C' {
+        return (
+            front.bytes,
+            room.saturating_sub(front.first.max(1) as usize),
+        );
+    }
+    tracked_designation(piece, room, width)
+}
+
+/// Returns the same of a designation of G0 or G1.
+#[inline(always)]
+fn tracked_designation(piece: &[u8], room: usize, width: usize) -> (usize, usize)
+    ensures within { result.0 ≤ length piece.now }
+    ensures leads { Leads width room result.1 (take result.0 piece.now) }
+{
+    one_split();
+    let Some((inter, _last)) = front_escape(piece) else {
+        return (0, room);
+    };
+    if inter == b'(' {
+        return (3, room);
+    }
+    if inter == b')' {
+        return (3, room);
     }
     (0, room)
 }

@@ -10,11 +10,22 @@ pub record Fits (count : ℕ) (s : Display) : Type 0 where
   pub no_wrap : 1 ≤ count → s.cursor.wrap ≡ false
   pub in_row : count + s.cursor.col ≤ s.grid.width + 1
 
+-- between sequences, on a screen of this width, and so many characters fit
+pub record IsReady (width count : ℕ) (s : State) : Type 0 where
+  pub between : s.held ≡ Nothing
+  pub same_width : s.display.grid.width ≡ width
+  pub fits : Fits count s.display
+
 -- between sequences the bytes scroll no line off, whatever the display is, and leave nothing held
 pub record AreSilent (bytes : List ℕ) : Type 0 where
   pub no_line : (s : State) → s.held ≡ Nothing → log s bytes ≡ []
   pub between : (s : State) → s.held ≡ Nothing → (play s bytes).state.held ≡ Nothing
 
--- the same where so many characters fit
-abbrev pub AreQuiet : ℕ → List ℕ → Type 0
-AreQuiet count bytes = (s : State) → s.held ≡ Nothing → Fits count s.display → log s bytes ≡ []
+-- where so many characters fit the bytes scroll no line off
+abbrev pub AreQuiet : ℕ → ℕ → List ℕ → Type 0
+AreQuiet width count bytes = (s : State) → IsReady width count s → log s bytes ≡ []
+
+-- and behind them so many fit
+pub record Leads (width count left : ℕ) (bytes : List ℕ) : Type 0 where
+  pub no_line : AreQuiet width count bytes
+  pub ready : (s : State) → IsReady width count s → IsReady width left (play s bytes).state

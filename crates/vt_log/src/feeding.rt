@@ -130,10 +130,11 @@ fn quiet_bytes(terminal: &Terminal, piece: &[u8]) -> usize
     ensures quiet { log terminal.now (take result piece.now) ≡ [] }
 {
     let cursor = terminal.cursor();
+    let width = terminal.width();
     if cursor.wrap {
-        return quiet_front(piece, 0);
+        return quiet_front(piece, 0, width);
     }
-    quiet_front(piece, terminal.width() + 1 - cursor.col)
+    quiet_front(piece, width + 1 - cursor.col, width)
 }
 
 /// Plays LF and what follows it and scrolls no line off. Returns how many bytes it played.
@@ -164,8 +165,9 @@ fn feed_line_feed(
     cuts();
     log_cuts();
     push_line_off(terminal, Some(EventKind::Control(b'\n')), lines);
-    let room = terminal.width() + 1 - terminal.cursor().col;
-    let bytes = 1 + quiet_front(&piece[1..], room);
+    let width = terminal.width();
+    let room = width + 1 - terminal.cursor().col;
+    let bytes = 1 + quiet_front(&piece[1..], room, width);
     terminal.feed_reserved(&piece[..bytes], reports);
     bytes
 }

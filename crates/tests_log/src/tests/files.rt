@@ -1,4 +1,6 @@
 //! The log of a file that is shown is its text; and lines that have no room wait.
+ghost use Rattle.std.specs.Prelude.{◌≤◌};
+
 use super::common::{holds, logged};
 use std::alloc::Global;
 use std::test::Fail;
@@ -32,20 +34,33 @@ fn a_file_is_its_log(rt: HostRuntime) -> Result<(), Fail> {
     Ok(())
 }
 
+/// Feeds the front of some bytes, with room for one line, and appends the line that scrolls off. Returns how many bytes it
+/// fed.
+fn feed_to_a_line(
+    alloc: Global,
+    terminal: &mut Terminal,
+    bytes: &[u8],
+    lines: &mut Vec<u8>,
+) -> Result<usize, Fail> {
+    let piece = &bytes[..bytes.len().min(4096)];
+    let mut reports = Vec::with_capacity(alloc, 40960)?;
+    let mut line = Vec::with_capacity(alloc, LINE_LIMIT)?;
+    let played = feed_log_reserved(terminal, piece, &mut reports, &mut line);
+    lines.extend_from_slice(&line)?;
+    Ok(played)
+}
+
 /// Returns the lines that scroll off where there is room for one at a time.
 fn logged_by_lines(alloc: Global, input: &[u8]) -> Result<Vec<u8>, Fail> {
     let mut terminal = Terminal::new(alloc)?;
-    let mut reports = Vec::with_capacity(alloc, 10 * 4096)?;
-    let mut line = Vec::with_capacity(alloc, LINE_LIMIT)?;
     let mut lines = Vec::new(alloc);
-    let mut rest = input;
-    for _ in 0..4096u16 {
-        let piece = &rest[..rest.len().min(4096)];
-        reports.clear();
-        line.clear();
-        let played = feed_log_reserved(&mut terminal, piece, &mut reports, &mut line);
-        lines.extend_from_slice(&line)?;
-        rest = &rest[played..];
+    let mut at = 0;
+    for _ in 0..1000u16 {
+        if at < input.len() {
+            at += feed_to_a_line(alloc, &mut terminal, &input[at..], &mut lines)?.min(
+                input.len() - at,
+            );
+        }
     }
     Ok(lines)
 }

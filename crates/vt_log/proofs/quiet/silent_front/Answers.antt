@@ -4,7 +4,7 @@ use Rattle.vt_log.proofs.quiet.silent_front.Goals as goal
 
 pub returns-then-piece-eq13-clause-silent : goal.returns-then-piece-eq13-clause-silent
 returns-then-piece-eq13-clause-silent c =
-    silent-return c.one_split.ensures c.spelled.ensures c.args.piece.now c.requires.some c.if-piece-eq13.true
+    silent-return c.one_split.ensures c.spelled.ensures c.args.piece.now c.requires c.if-piece-eq13.true
 
 pub returns-then-is_final-clause-silent : goal.returns-then-is_final-clause-silent
 returns-then-is_final-clause-silent c =

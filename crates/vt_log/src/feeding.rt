@@ -35,6 +35,10 @@ pub fn feed_log(
     ensures same_state { OnErr result (terminal.new ≡ terminal.old) }
     ensures same_reports { OnErr result (reports.new.items ≡ reports.old.items) }
     ensures same_lines { OnErr result (lines.new.items ≡ lines.old.items) }
+    ensures reports_bounded { vec_len reports.new ≤ vec_len reports.old + 10 * length piece.now }
+    ensures lines_bounded { vec_len lines.new ≤ vec_len lines.old + LINE_LIMIT * length piece.now }
+    ensures reports_capacity { vec_capacity reports.old ≤ vec_capacity reports.new }
+    ensures lines_capacity { vec_capacity lines.old ≤ vec_capacity lines.new }
     ensures has_room { (vec_len reports.old + 10 * length piece.now ≤ vec_capacity reports.old)
         × (vec_len lines.old + LINE_LIMIT * length piece.now ≤ vec_capacity lines.old) → IsOk result }
 {
@@ -53,9 +57,9 @@ pub fn feed_log(
 /// Plays the front of a piece of the host's bytes, and appends the reports to `reports` and the lines that scroll off to
 /// `lines`. Returns how many bytes it played.
 ///
-/// It plays as far as `lines` has room for one more line, `LINE_LIMIT` bytes: the whole piece, if there is room for a line
-/// for each of its bytes. `reports` has capacity for ten bytes for each byte of the piece. It never fails, and it
-/// allocates nothing.
+/// It plays while `lines` has room for one more line, `LINE_LIMIT` bytes. With room for a line for each byte, that is the
+/// whole piece. `reports` has capacity for ten bytes for each byte of the piece. It never fails, and it allocates
+/// nothing.
 pub fn feed_log_reserved(
     terminal: &mut Terminal,
     piece: &[u8],
@@ -84,8 +88,8 @@ pub fn feed_log_reserved(
     at
 }
 
-/// Plays the front of a piece that isn't empty: bytes that scroll no line off, or behind one that does. Returns how many bytes
-/// it played.
+/// Plays the front of a piece that isn't empty: bytes that scroll no line off, LF and such bytes, or the first event. Returns
+/// how many bytes it played.
 ///
 /// Speed: without the bytes that are played at once, `feed_event` does the same.
 #[inline(always)]
@@ -137,7 +141,7 @@ fn quiet_bytes(terminal: &Terminal, piece: &[u8]) -> usize
     quiet_front(piece, width + 1 - cursor.col, width)
 }
 
-/// Plays LF and what follows it and scrolls no line off. Returns how many bytes it played.
+/// Plays LF, and the bytes behind it that scroll no line off. Returns how many bytes it played.
 #[inline(always)]
 fn feed_line_feed(
     terminal: &mut Terminal,

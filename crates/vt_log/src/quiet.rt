@@ -31,8 +31,8 @@ pub(crate) fn quiet_front(piece: &[u8], room: usize, width: usize) -> usize
     at
 }
 
-/// Returns how many bytes at the front of a piece are characters that fit in the cursor's row, CR, or a sequence behind
-/// which the cursor's column is known; and how many characters fit behind them. Returns 0 if none of these stands there.
+/// Returns how many bytes at the front of a piece are known, and how many characters fit behind them. Known are characters
+/// that fit in the cursor's row, CR, and a sequence behind which the column is known. Returns 0 if none stands there.
 #[inline(always)]
 fn tracked_front(piece: &[u8], room: usize, width: usize) -> (usize, usize)
     requires { 1 ≤ length piece.now }

@@ -1,6 +1,6 @@
 -- A row by runs: what a cell's piece is behind a blank cell, behind one of its own brush, and behind any other.
 use Rattle.std.proofs.Common.{◌≡◌, ◌+◌, ◌≤◌, ◌&&◌, ◌||◌, not, ℕ, Bool, true, false, List, [], ◌∷◌, ◌++◌, refl, sym, ap}
-use Rattle.std.proofs.Common.{◌∙◌, append-nil, arith}
+use Rattle.std.proofs.Common.{◌∙◌, append-nil, append_assoc, arith}
 use Rattle.vt_syntax.specs.declared.event.Event.{Event}
 use Rattle.vt_syntax.specs.Spelling.{spell_events}
 use Rattle.vt_screen.specs.declared.cell.Brush.{Brush}
@@ -105,31 +105,35 @@ goes_on-brush left cell h =
 
 -- ---- what was written of a row
 
-pub none_written : (g : Grid) (r i : ℕ) (written : List ℕ) → is_blank (cell_at g r (i + 1)) ≡ true
-    → written ≡ spell_events (pieces_from g r 1 i)
-    → written ≡ spell_events (pieces_from g r 1 (i + 1))
-none_written g r i written h before =
-    appended-more (λ c. piece g r c) 1 i (i + 1) [] [] written written (omega arith) before (sym (append-nil written))
+-- bytes that are appended to a line stand behind all that was before it
+pub behind_all : (front line next more : List ℕ) → next ≡ line ++ more → front ++ next ≡ (front ++ line) ++ more
+behind_all front line next more e = ap (λ (xs : List ℕ). front ++ xs) e ∙ sym (append_assoc front line more)
+
+pub none_written : (g : Grid) (r i : ℕ) (old written : List ℕ) → is_blank (cell_at g r (i + 1)) ≡ true
+    → written ≡ old ++ spell_events (pieces_from g r 1 i)
+    → written ≡ old ++ spell_events (pieces_from g r 1 (i + 1))
+none_written g r i old written h before =
+    appended-more (λ c. piece g r c) 1 i (i + 1) [] old written written (omega arith) before (sym (append-nil written))
     (sym (blank_piece r (i + 1) (left_of g r (i + 1)) (cell_at g r (i + 1)) h))
 
-pub first_written : (g : Grid) (r i : ℕ) (cell : Cell) (brush : Brush) (before between after : List ℕ)
+pub first_written : (g : Grid) (r i : ℕ) (cell : Cell) (brush : Brush) (old before between after : List ℕ)
     → cell ≡ cell_at g r (i + 1) → IsFresh g r (i + 1) → is_blank cell ≡ false
-    → brush ≡ brush_of cell → before ≡ spell_events (pieces_from g r 1 i)
+    → brush ≡ brush_of cell → before ≡ old ++ spell_events (pieces_from g r 1 i)
     → between ≡ before ++ spell_events (cursor_position r (i + 1) ∷ brush_events brush)
-    → after ≡ between ++ spell_events (glyph_events cell) → after ≡ spell_events (pieces_from g r 1 (i + 1))
-first_written g r i cell brush before between after here fresh shown with first second third =
+    → after ≡ between ++ spell_events (glyph_events cell) → after ≡ old ++ spell_events (pieces_from g r 1 (i + 1))
+first_written g r i cell brush old before between after here fresh shown with first second third =
     let step = then_events (events (cursor_position r (i + 1) ∷ brush_events brush) second)
     (events (glyph_events cell) third) in
     let run = run_first g r (i + 1) fresh (ap (λ x. is_blank x) (sym here) ∙ shown) in
-    appended-more (λ c. piece g r c) 1 i (i + 1) _ [] before after (omega arith) first step.is
+    appended-more (λ c. piece g r c) 1 i (i + 1) _ old before after (omega arith) first step.is
     (ap (λ b. (cursor_position r (i + 1) ∷ brush_events b) ++ glyph_events cell) with
     ∙ ap (λ x. (cursor_position r (i + 1) ∷ brush_events (brush_of x)) ++ glyph_events x) here ∙ sym run)
 
-pub more_written : (g : Grid) (r i : ℕ) (cell : Cell) (before after : List ℕ) → cell ≡ cell_at g r (i + 1) → 1 ≤ i
+pub more_written : (g : Grid) (r i : ℕ) (cell : Cell) (old before after : List ℕ) → cell ≡ cell_at g r (i + 1) → 1 ≤ i
     → is_blank (cell_at g r i) ≡ false → goes_on (cell_at g r i) cell ≡ true
-    → before ≡ spell_events (pieces_from g r 1 i) → after ≡ before ++ spell_events (glyph_events cell)
-    → after ≡ spell_events (pieces_from g r 1 (i + 1))
-more_written g r i cell before after here i1 shown on first second =
+    → before ≡ old ++ spell_events (pieces_from g r 1 i) → after ≡ before ++ spell_events (glyph_events cell)
+    → after ≡ old ++ spell_events (pieces_from g r 1 (i + 1))
+more_written g r i cell old before after here i1 shown on first second =
     let run = run_more g r i i1 shown (ap (λ x. goes_on (cell_at g r i) x) (sym here) ∙ on) in
-    appended-more (λ c. piece g r c) 1 i (i + 1) (glyph_events cell) [] before after (omega arith) first second
+    appended-more (λ c. piece g r c) 1 i (i + 1) (glyph_events cell) old before after (omega arith) first second
     (ap (λ x. glyph_events x) here ∙ sym run)

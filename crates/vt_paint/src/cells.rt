@@ -13,7 +13,7 @@ ghost use Rattle.vt_paint.specs.Items.{cells_item};
 ghost use Rattle.vt_paint.specs.Private.Room.{head_room};
 ghost use Rattle.vt_paint.specs.Private.HeaderParts.{brush_number};
 
-use crate::line::{LINE, put_glyph, put_header};
+use crate::line::{LINE, MANY, ROW_LIMIT, put_glyph, put_header};
 use crate::room::{push_bytes, push_when};
 use crate::tables::{cell_brush_number, cell_word};
 use vt_screen::laws::rows;
@@ -54,12 +54,17 @@ fn goes_on(number: u64, cell: &Cell) -> bool
     word >> 24 == number && word != BLANK
 }
 
-/// The pieces of a row by runs: blank cells are passed over, and the cells of one brush are written behind one header.
-fn put_row(row: usize, cells: &[Cell], line: &mut [u8; LINE]) -> usize
+/// Writes the pieces of a row by runs: blank cells are passed over, and the cells of one brush are written behind one header.
+/// Returns how many bytes of the line are not appended yet.
+fn put_row(row: usize, cells: &[Cell], line: &mut [u8; LINE], out: &mut Vec<u8>) -> usize
     requires row { (1 ≤ row) × (row ≤ last_row) }
     requires len { length cells.now ≤ COLUMNS }
-    ensures items { (g : Grid) → cells.now ≡ row_of g row → take result line.new ≡ spell_events (row_pieces g row) }
-    ensures bounded { result ≤ LINE }
+    requires room { vec_len out.old + ROW_LIMIT ≤ vec_capacity out.old }
+    ensures items { (g : Grid) → cells.now ≡ row_of g row
+        → out.new.items ++ take result line.new ≡ out.old.items ++ spell_events (row_pieces g row) }
+    ensures fits { result ≤ LINE }
+    ensures bounded { vec_len out.new + result ≤ vec_len out.old + ROW_LIMIT }
+    ensures capacity { vec_capacity out.old ≤ vec_capacity out.new }
 {
     rows();
     let mut at = 0;
@@ -68,6 +73,7 @@ fn put_row(row: usize, cells: &[Cell], line: &mut [u8; LINE]) -> usize
         let first = &cells[i];
         i += 1;
         if !is_blank(first) {
+            at = push_many(at, line, out);
             let number = cell_brush_number(first);
             at = put_header(row, i, first.brush(), at, line);
             at = put_glyph(first.glyph, at, line);
@@ -80,17 +86,34 @@ fn put_row(row: usize, cells: &[Cell], line: &mut [u8; LINE]) -> usize
     at
 }
 
+/// Appends the line, if it is long. Returns how many of its bytes aren't appended.
+#[inline(always)]
+fn push_many(at: usize, line: &[u8; LINE], out: &mut Vec<u8>) -> usize
+    requires fits { at ≤ LINE }
+    requires room { vec_len out.old + at ≤ vec_capacity out.old }
+    ensures items { out.new.items ++ take result line.now ≡ out.old.items ++ take at line.now }
+    ensures few { result ≤ MANY }
+    ensures bounded { vec_len out.new + result ≤ vec_len out.old + at }
+    ensures capacity { vec_capacity out.old ≤ vec_capacity out.new }
+{
+    if at < MANY {
+        return at;
+    }
+    push_bytes(&line[..at], out);
+    0
+}
+
 /// The pieces of a row, gathered in the line.
 fn push_row(row: usize, cells: &[Cell], line: &mut [u8; LINE], out: &mut Vec<u8>)
     requires row { (1 ≤ row) × (row ≤ last_row) }
     requires len { length cells.now ≤ COLUMNS }
-    requires room { vec_len out.old + LINE ≤ vec_capacity out.old }
+    requires room { vec_len out.old + ROW_LIMIT ≤ vec_capacity out.old }
     ensures items { (g : Grid) → cells.now ≡ row_of g row
         → out.new.items ≡ out.old.items ++ spell_events (row_pieces g row) }
-    ensures bounded { vec_len out.new ≤ vec_len out.old + LINE }
+    ensures bounded { vec_len out.new ≤ vec_len out.old + ROW_LIMIT }
     ensures capacity { vec_capacity out.old ≤ vec_capacity out.new }
 {
-    let end = put_row(row, cells, line);
+    let end = put_row(row, cells, line, out);
     push_bytes(&line[..end], out);
 }
 
@@ -110,13 +133,13 @@ fn push_shown_row(
 ) -> bool
     requires row { (1 ≤ row) × (row ≤ last_row) }
     requires len { length cells.now ≤ COLUMNS }
-    requires room { vec_len out.old + LINE + head_room shown ≤ vec_capacity out.old }
+    requires room { vec_len out.old + ROW_LIMIT + head_room shown ≤ vec_capacity out.old }
     ensures shown { result ≡ (shown || not (list_all is_blank_cell cells.now)) }
     ensures items { (g : Grid) → cells.now ≡ row_of g row
         → out.new.items
         ≡ out.old.items
         ++ spell_events (when result (when (not shown) spelling_sets_events ++ row_pieces g row)) }
-    ensures bounded { vec_len out.new + head_room result ≤ vec_len out.old + LINE + head_room shown }
+    ensures bounded { vec_len out.new + head_room result ≤ vec_len out.old + ROW_LIMIT + head_room shown }
     ensures capacity { vec_capacity out.old ≤ vec_capacity out.new }
 {
     if shown {

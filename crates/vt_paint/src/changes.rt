@@ -16,7 +16,7 @@ use crate::PAINT_LIMIT;
 use crate::cells::SPELLING_SETS;
 use crate::controls::{push_brush, push_cursor_to, push_glyph, push_sets};
 use crate::items::{DECOM, push_private_mode_item};
-use crate::line::LINE;
+use crate::line::ROW_LIMIT;
 use crate::paint::{push_last, push_wrap};
 use crate::room::push_bytes;
 use vt_glyph::laws::{glyphs, spelling};
@@ -75,11 +75,11 @@ fn push_change(row: usize, col: usize, marked: bool, cell: &Cell, out: &mut Vec<
 fn push_changed_row(row: usize, cells: &[Cell], marks: &[bool; STOPS], out: &mut Vec<u8>)
     requires row { (1 ≤ row) × (row ≤ last_row) }
     requires len { length cells.now ≤ COLUMNS }
-    requires room { vec_len out.old + LINE ≤ vec_capacity out.old }
+    requires room { vec_len out.old + ROW_LIMIT ≤ vec_capacity out.old }
     ensures items { (g : Grid) (all : List (List Bool)) → cells.now ≡ row_of g row
         → marks.now ≡ slice_index_or all (row - 1) []
         → out.new.items ≡ out.old.items ++ spell_events (changed_row all g row) }
-    ensures bounded { vec_len out.new ≤ vec_len out.old + LINE }
+    ensures bounded { vec_len out.new ≤ vec_len out.old + ROW_LIMIT }
     ensures capacity { vec_capacity out.old ≤ vec_capacity out.new }
 {
     rows();

@@ -10,7 +10,13 @@ use vt_glyph::Glyph;
 use vt_screen::{Brush, COLUMNS, ROWS};
 
 /// The most bytes of a row: 29 for each of 132 cells.
-pub(crate) const LINE: usize = 29 * COLUMNS;
+pub(crate) const ROW_LIMIT: usize = 29 * COLUMNS;
+
+/// The room for bytes that aren't appended yet.
+pub(crate) const LINE: usize = 2048;
+
+/// So many bytes are appended before the next header. Behind fewer there is room for a run: a header, and the glyphs of a row.
+pub(crate) const MANY: usize = 1536;
 
 #[inline(always)]
 fn put(byte: u8, at: usize, line: &mut [u8; LINE]) -> usize

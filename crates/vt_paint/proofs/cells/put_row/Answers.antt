@@ -8,7 +8,7 @@ use Rattle.vt_paint.specs.Private.HeaderParts.{brush_number}
 use Rattle.vt_paint.specs.Pieces.{glyph_events}
 use Rattle.vt_paint.proofs.Pushing.{cell-is}
 use Rattle.vt_paint.proofs.RowRuns.{goes_on, first_fresh, blank_fresh, run_fresh, none_written, first_written}
-use Rattle.vt_paint.proofs.RowRuns.{more_written, goes_on-shows, goes_on-brush}
+use Rattle.vt_paint.proofs.RowRuns.{behind_all, more_written, goes_on-shows, goes_on-brush}
 use Rattle.vt_paint.proofs.cells.put_row.Goals as goal
 
 pub loop-i-init : goal.loop-i-init
@@ -16,7 +16,9 @@ loop-i-init c = record {
   items = λ g e. refl;
   fresh = λ g e l. first_fresh g c.args.row;
   within = omega arith;
+  fits = omega arith;
   bounded = omega arith;
+  capacity = omega arith;
 }
 
 -- a blank cell
@@ -29,11 +31,13 @@ loop-i-preserved c =
     c.args.cells.now c.index-cells-i.result e (omega arith) c.index-cells-i.is in
     let shown : is_blank c.index-cells-i.result ≡ true = sym c.is_blank.ensures ∙ c.if-not-is_blank.false in
     record {
-      items = λ g e. none_written g r i _ (ap (λ x. is_blank x) (sym (cell_is g e)) ∙ shown)
+      items = λ g e. none_written g r i _ _ (ap (λ x. is_blank x) (sym (cell_is g e)) ∙ shown)
           (c.loop-i.invariant.items g e);
       fresh = λ g e l. blank_fresh g r (i + 1) (omega arith) (ap (λ x. is_blank x) (sym (cell_is g e)) ∙ shown);
       within = omega arith;
+      fits = c.loop-i.invariant.fits;
       bounded = omega (arith, c.loop-i.invariant.bounded);
+      capacity = c.loop-i.invariant.capacity;
     }
 
 -- the first cell of a run
@@ -48,18 +52,27 @@ loop-i-then-not-is_blank-init c =
     c.args.cells.now cell e (omega arith) c.index-cells-i.is in
     let shown : is_blank cell ≡ false = sym c.is_blank.ensures ∙ c.if-not-is_blank.true in
     record {
-      items = λ g e. first_written g r i cell _ _ _ _ (cell_is g e) (c.loop-i.invariant.fresh g e (omega arith)) shown
+      items = λ g e. first_written g r i cell _ _ _ _ _ (cell_is g e) (c.loop-i.invariant.fresh g e (omega arith)) shown
           c.brush.ensures
-          (c.loop-i.invariant.items g e) c.put_header-at.ensures.items c.put_glyph-at.ensures.items;
+          (c.push_many-at.ensures.items ∙ c.loop-i.invariant.items g e)
+          (behind_all _ _ _ _ c.put_header-at.ensures.items) (behind_all _ _ _ _ c.put_glyph-at.ensures.items);
       left = λ g e. (
         ap (λ x. is_blank x) (sym (cell_is g e)) ∙ shown,
         c.cell_brush_number-number.ensures ∙ ap (λ x. brush_number (brush_of x)) (cell_is g e),
       );
       on = (omega arith, omega arith);
       within = omega arith;
+      fits = omega (
+        arith,
+        c.push_many-at.ensures.few,
+        c.put_header-at.ensures.bounded,
+        c.put_glyph-at.ensures.bounded,
+      );
+      capacity = omega (arith, c.loop-i.invariant.capacity, c.push_many-at.ensures.capacity);
       bounded = omega (
         arith,
         c.loop-i.invariant.bounded,
+        c.push_many-at.ensures.bounded,
         c.put_header-at.ensures.bounded,
         c.put_glyph-at.ensures.bounded,
       );
@@ -80,7 +93,9 @@ loop-i-preserved-else-goes_on c =
           run_fresh g r run.i run.invariant.on.0 (ap (λ x. goes_on (cell_at g r run.i) x) (sym here) ∙ sym on
           ∙ c.if-goes_on.false);
       within = run.invariant.within;
+      fits = omega (arith, run.invariant.fits, run.invariant.within, c.requires.len);
       bounded = run.invariant.bounded;
+      capacity = run.invariant.capacity;
     }
 
 -- one more cell of a run
@@ -101,9 +116,10 @@ loop-i-then-not-is_blank-preserved c =
     let on = λ (g : Grid) (e : c.args.cells.now ≡ row_of g r). sym
     (c.goes_on.ensures (brush_of (cell_at g r run.i)) (run.invariant.left g e).1) ∙ c.if-goes_on.true in
     record {
-      items = λ g e. more_written g r run.i same.result _ _ (same_is g e) run.invariant.on.0 (run.invariant.left g e).0
+      items = λ g e. more_written g r run.i same.result _ _ _ (same_is g e) run.invariant.on.0 (run.invariant.left g e).0
           (ap (λ x. goes_on (cell_at g r run.i) x) (same_is g e ∙ sym (cell_is g e)) ∙ on g e) (run.invariant.items g e)
-          (written.items ∙ ap (λ (x : Cell). take run.at run.line ++ spell_events (glyph_events x)) (sym same.is));
+          (behind_all _ _ _ _
+          (written.items ∙ ap (λ (x : Cell). take run.at run.line ++ spell_events (glyph_events x)) (sym same.is)));
       left = λ g e. (
         ap (λ x. is_blank x) (sym (cell_is g e)) ∙ goes_on-shows (cell_at g r run.i) cell.result (on g e),
         (run.invariant.left g e).1
@@ -112,5 +128,7 @@ loop-i-then-not-is_blank-preserved c =
       );
       on = (omega arith, omega (arith, run.invariant.on.1));
       within = omega arith;
+      fits = omega (arith, run.invariant.fits, written.bounded);
       bounded = omega (arith, run.invariant.bounded, written.bounded);
+      capacity = run.invariant.capacity;
     }

@@ -21,16 +21,8 @@ pub range_of : (b : ℕ) (k : Class) → class_of b ≡ k → InClass k b
 unfolding class_of
 range_of b k e = grind (arith, nat_tests)
 
-pub class_parameter : (b : ℕ) → 48 ≤ b → b < 64 → class_of b ≡ Parameter
-unfolding class_of
-class_parameter b low high = grind (arith, nat_tests)
-
 -- ---- letters that open
 
 pub opens_high : (b : ℕ) → 96 ≤ b → opens (b + 64) ≡ false
 unfolding opens_string
 opens_high b h = grind (arith, nat_tests)
-
-pub class_final : (b : ℕ) → 64 ≤ b → b < 127 → class_of b ≡ Final
-unfolding class_of
-class_final b low high = grind (arith, nat_tests)

@@ -3,6 +3,7 @@ use Rattle.std.proofs.Common.{◌≡◌, ℕ, true, false, not, List, [], ◌∷
 use Rattle.std.proofs.Common.{Option, Some, None, refl, ap, ◌∙◌, append_assoc, append-nil, arith, inl, inr}
 use Rattle.std.specs.List.{flat_map}
 use Rattle.std.proofs.lemmas.Bool.Decides.{nat_tests}
+use Rattle.std.proofs.Common.{◌⊎◌}
 use Rattle.std.proofs.lemmas.Bool.{cases_Bool}
 use Rattle.std.proofs.lemmas.List.Concat.{flat_map-append}
 use Rattle.vt_syntax.specs.declared.class.Class.{Class}
@@ -64,20 +65,12 @@ without_quiet-push_no : (inside : List ℕ) (b : ℕ) → is_quiet b ≡ true
     → without_quiet (inside ++ b ∷ []) ≡ without_quiet inside
 without_quiet-push_no inside b e = filter-push_no (λ c. not (is_quiet c)) inside b (rw e refl)
 
-parameter_held : (xs : List ℕ) (b : ℕ) → class_of b ≡ Parameter
+more_held : (xs : List ℕ) (b : ℕ) → (class_of b ≡ Parameter) ⊎ (class_of b ≡ Intermediate)
     → held_control (xs ++ b ∷ []) ≡ (step_of (held_control xs) b).held
 unfolding step_of
-parameter_held xs b k = elim (cases_Bool (is_spoilt xs)) [
-  | inl s ↦ rw (s, k, spoilt_stays xs b s) refl
-  | inr s ↦ rw (s, k) (parameter_more xs b s k)
-]
-
-intermediate_held : (xs : List ℕ) (b : ℕ) → class_of b ≡ Intermediate
-    → held_control (xs ++ b ∷ []) ≡ (step_of (held_control xs) b).held
-unfolding step_of
-intermediate_held xs b k = elim (cases_Bool (is_spoilt xs)) [
-  | inl s ↦ rw (s, k, spoilt_stays xs b s) refl
-  | inr s ↦ rw (s, k) (intermediate_more xs b s k)
+more_held xs b k = elim (cases_Bool (is_spoilt xs)) [
+  | inl s ↦ let t = spoilt_stays xs b s in elim k [ inl e ↦ rw (s, e, t) refl | inr e ↦ rw (s, e, t) refl ]
+  | inr s ↦ elim k [ inl e ↦ rw (s, e) (parameter_more xs b s e) | inr e ↦ rw (s, e) (intermediate_more xs b s e) ]
 ]
 
 module _ (opening : Opening) (inside : List ℕ) (b : ℕ) where
@@ -93,21 +86,17 @@ module _ (opening : Opening) (inside : List ℕ) (b : ℕ) where
       let carried_out = controls-push inside b in
       grind (arith, nat_tests, append_assoc)
 
-  parameter_matches : class_of b ≡ Parameter → IsMatched
+  more_matches : (class_of b ≡ Parameter) ⊎ (class_of b ≡ Intermediate) → IsMatched
   unfolding step_of
-  parameter_matches k =
-      let more = without_quiet-push_yes inside b (rw k refl) in
+  more_matches k =
+      let more = without_quiet-push_yes inside b (grind (arith, nat_tests)) in
       let carried_out = controls-push inside b in
-      let held = parameter_held (without_quiet inside) b k in
-      record { held = rw k (rw more held); events = grind (arith, nat_tests, append_assoc, append-nil) }
-
-  intermediate_matches : class_of b ≡ Intermediate → IsMatched
-  unfolding step_of
-  intermediate_matches k =
-      let more = without_quiet-push_yes inside b (rw k refl) in
-      let carried_out = controls-push inside b in
-      let held = intermediate_held (without_quiet inside) b k in
-      record { held = rw k (rw more held); events = grind (arith, nat_tests, append_assoc, append-nil) }
+      let ends : ends_control (class_of b) ≡ false = grind (arith, nat_tests) in
+      let cuts : cuts_sequence (class_of b) ≡ false = grind (arith, nat_tests) in
+      record {
+        held = rw (ends, cuts) (rw more (more_held (without_quiet inside) b k));
+        events = grind (arith, nat_tests, append_assoc, append-nil);
+      }
 
   final_matches : class_of b ≡ Final → IsMatched
   unfolding step_of
@@ -142,8 +131,8 @@ module _ (opening : Opening) (inside : List ℕ) (b : ℕ) where
     where
       go : (k : Class) → class_of b ≡ k → IsMatched
       go Quiet k = quiet_matches k
-      go Parameter k = parameter_matches k
-      go Intermediate k = intermediate_matches k
+      go Parameter k = more_matches (inl k)
+      go Intermediate k = more_matches (inr k)
       go Final k = final_matches k
       go Cancel k = cancel_matches k
       go Esc k = cut_matches (rw k refl)

@@ -7,11 +7,11 @@ use Rattle.std.proofs.lemmas.Bool.Decides.{nat_tests}
 use Rattle.vt_syntax.specs.declared.held.Inters.TheVariants.{Zero}
 use Rattle.vt_syntax.specs.Class.{class_of, is_quiet, is_intermediate}
 use Rattle.vt_syntax.specs.Class.{opens_string, Each}
-use Rattle.vt_syntax.specs.Items.{Beginning, OfEscape, OfControl, OfString, Item, Ended}
+use Rattle.vt_syntax.specs.Items.{Beginning, OfEscape, OfControl, OfString, Item}
 use Rattle.vt_syntax.specs.Items.{Cut, beginning_bytes, rest_bytes, inters_of}
 use Rattle.vt_syntax.specs.Items.{ends_control, ends_string, is_osc, ends, cuts_sequence, cuts}
 use Rattle.vt_syntax.specs.Items.{continues_escape, continues_control, IsBeginning, IsRest, IsItemBefore}
-use Rattle.vt_syntax.specs.Split.{AreItems, Split, Parts, items_alone, rest_alone, items_before, begin, extended}
+use Rattle.vt_syntax.specs.Split.{AreItems, Split, Parts, begin, extended}
 use Rattle.vt_syntax.specs.Split.{split_one, split_after, split_of}
 
 -- ---- lists of bytes that pass
@@ -38,18 +38,6 @@ filter_quiets (b ∷ quiets) h = first b quiets h.0 (filter_quiets quiets h.1)
     first : (c : ℕ) (cs : List ℕ) → is_quiet c ≡ true → filter is_intermediate cs ≡ []
         → filter is_intermediate (c ∷ cs) ≡ []
     first c cs k e = grind (arith, nat_tests)
-
--- ---- the cases of one byte
-
-split_one_cases : (beginning : Beginning) (b : ℕ) (P : Parts → Type 0)
-    → (ends beginning b ≡ true → P (items_alone (Ended beginning b ∷ [])))
-    → (ends beginning b ≡ false → cuts beginning b ≡ true → P (items_before (Cut beginning ∷ []) (begin b)))
-    → (ends beginning b ≡ false → cuts beginning b ≡ false → P (rest_alone (extended beginning b)))
-    → P (split_one (Some beginning) b)
-split_one_cases beginning b P end cut longer' = elim (cases_Bool (ends beginning b)) [
-  | inl e ↦ rw e (end e)
-  | inr e ↦ rw e (elim (cases_Bool (cuts beginning b)) [ inl f ↦ rw f (cut e f) | inr f ↦ rw f (longer' e f) ])
-]
 
 -- ---- the computed split is a split
 
@@ -93,16 +81,16 @@ extended_beginning (OfString opening code content) b h e f =
 
 split_one_grows : (beginning : Beginning) (b : ℕ) → IsBeginning beginning
     → Grows (Some beginning) b (split_one (Some beginning) b)
-split_one_grows beginning b h =
-    split_one_cases beginning b (λ parts. Grows (Some beginning) b parts)
-    (λ e. record {
-      is_rest = tt;
-      splits = λ bytes items final s. record {
-        joined = simp append_assoc (ap (λ (t : List ℕ). beginning_bytes beginning ++ b ∷ t) s.joined);
-        each = ((h, e), s.each);
-      };
-    })
-    (λ e f. record {
+split_one_grows beginning b h = elim (cases_Bool (ends beginning b)) [
+  | inl e ↦ rw e (record {
+    is_rest = tt;
+    splits = λ bytes items final s. record {
+      joined = simp append_assoc (ap (λ (t : List ℕ). beginning_bytes beginning ++ b ∷ t) s.joined);
+      each = ((h, e), s.each);
+    };
+  })
+  | inr e ↦ rw e (elim (cases_Bool (cuts beginning b)) [
+    | inl f ↦ rw f (record {
       is_rest = (begin_grows b).is_rest;
       splits = λ bytes items final s.
           let t : Split (b ∷ bytes) ((begin b).items ++ items) final = (begin_grows b).splits bytes items final s in
@@ -111,12 +99,14 @@ split_one_grows beginning b h =
             each = (subst (λ (u : List ℕ). IsItemBefore u (Cut beginning)) t.joined (h, f), t.each);
           };
     })
-    (λ e f. record {
+    | inr f ↦ rw f (record {
       is_rest = extended_beginning beginning b h e f;
       splits = λ bytes items final s.
           subst (λ (t : List ℕ). Split t items final) (ap (λ (t : List ℕ). t ++ bytes) (extended_bytes beginning b)
           ∙ append_assoc (beginning_bytes beginning) (b ∷ []) bytes) s;
     })
+  ])
+]
 
 byte_grows : (rest : Option Beginning) (b : ℕ) → IsRest rest → Grows rest b (split_one rest b)
 byte_grows None b h = begin_grows b

@@ -1,18 +1,17 @@
 -- What the private functions' proofs cite.
-use Rattle.std.proofs.Common.{◌≡◌, ℕ, ◌+◌, ◌<◌, ◌≤◌, Bool, true, false, List, [], ◌∷◌, ◌++◌, None, nat_lt, nat_le, ◌&&◌}
-use Rattle.std.proofs.Common.{if◌then◌else◌, refl, sym, ap, ◌∙◌, append_assoc, append-nil, arith}
+use Rattle.std.proofs.Common.{◌≡◌, ℕ, ◌<◌, ◌≤◌, List, [], ◌∷◌, ◌++◌}
+use Rattle.std.proofs.Common.{refl, sym, ap, ◌∙◌, append_assoc, append-nil, arith}
 use Rattle.std.proofs.lemmas.Bool.Decides.{nat_tests}
 use Rattle.vt_syntax.specs.declared.event.Event.{Event}
 use Rattle.vt_syntax.specs.Reading.{escape_function}
 use Rattle.vt_syntax.specs.declared.class.Class.TheVariants.{Parameter, Final}
-use Rattle.vt_syntax.specs.declared.event.Event.TheVariants as event
 use Rattle.vt_syntax.specs.declared.held.Held.{Held}
 use Rattle.vt_syntax.specs.declared.held.Held.TheVariants.{Nothing, Escape}
 use Rattle.vt_syntax.specs.Held.{IsEnding, ended_by}
 use Rattle.vt_syntax.specs.declared.held.Inters.TheVariants.{Zero}
 use Rattle.vt_syntax.specs.Class.{class_of, opens_string}
 use Rattle.vt_syntax.specs.Steps.{Step, step_to, opened_by, step_of, change_last, steps}
-use Rattle.vt_syntax.proofs.Classes.{range_of, opens_high, class_parameter, class_final}
+use Rattle.vt_syntax.proofs.Classes.{range_of, opens_high}
 
 pub change_last-push : (f : ℕ → ℕ) (xs : List ℕ) (x : ℕ) → change_last f (xs ++ x ∷ []) ≡ xs ++ f x ∷ []
 change_last-push f [] x = refl
@@ -41,12 +40,7 @@ pub ruleset byte_ranges = (nat_tests, parameter_low, parameter_high, final_low, 
 pub ruleset last_values = (nat_tests, change_last-push)
 
 pub escape_ended : (last : ℕ) → escape_function Zero last ≡ ended_by (Escape Zero) last ∷ []
-escape_ended last = go (nat_le 0x40 last && nat_lt last 0x60)
-  where
-    go : (b : Bool) → (if b then event.Control (last + 0x40) ∷ [] else event.Escape None last ∷ [])
-        ≡ (if b then event.Control (last + 0x40) else event.Escape None last) ∷ []
-    go true = refl
-    go false = refl
+escape_ended last = grind (arith, nat_tests)
 
 -- the final byte of a sequence
 pub step_final : (held : Held) (last : ℕ) → IsEnding held last

@@ -164,7 +164,7 @@ steps_alone piece kind some is values = record {
 
 -- ---- escape sequences
 
-pub escape_inter_step : (b : ℕ) → 0x20 ≤ b → b < 0x30 → step_of (Escape Zero) b ≡ step_to (Escape (One b)) []
+escape_inter_step : (b : ℕ) → 0x20 ≤ b → b < 0x30 → step_of (Escape Zero) b ≡ step_to (Escape (One b)) []
 unfolding step_of class_of
 escape_inter_step b low high = grind (arith, nat_tests)
 

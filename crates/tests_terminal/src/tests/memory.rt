@@ -9,7 +9,7 @@ use std::test::Fail;
 use vt_paint::{PAINT_LIMIT, PaintError, repaint, repaint_reserved};
 use vt_picture::{PICTURE_LIMIT, SHOW_LIMIT, picture, picture_reserved, show, show_reserved};
 use vt_replay::{Fault, Refused, Settings, Watched, What, run, settings};
-use vt_term::{ROWS, ROW_TEXT_LIMIT, TEXT_LIMIT, Terminal};
+use vt_term::{ROW_TEXT_LIMIT, ROWS, TEXT_LIMIT, Terminal};
 use vt_vectors::{Mismatch, Vector, check, vector, vector_count};
 
 /// No input; a full line and a question; a saved cursor; and questions in the 8-bit form.

@@ -81,7 +81,7 @@ def make(name, size):
 
 
 def fields():
-    """Every cell shows a letter; the attributes change behind some thirty of them, as on a form."""
+    """Every cell shows a letter; the attributes change after some thirty of them, as on a form."""
     source = Source(11)
     out, left = b"", 0
     for row in range(1, 25):
@@ -96,7 +96,7 @@ def fields():
 
 
 def words():
-    """What 64 KB of addressing leave: most cells shown, the attributes change behind every second or third."""
+    """The screen after 64 KB of addressing: most cells are shown, and the attributes change after every second or third."""
     return make("addressing, SGR", 65536) + b"\x18\x1b[m"
 
 

@@ -1,12 +1,12 @@
-/* The calls of vt220.h over the proved ones, core_*. This file looks at the processor, allows null pointers of length 0 and the same
- * terminal twice, keeps `const` handles unwritten, sets reserved bytes to zero, and counts the bells. */
+/* The calls of vt220.h over the proved ones, core_*. This file checks the processor, allows null pointers of length 0 and the same
+ * terminal twice, doesn't write `const` handles, sets reserved bytes to zero, and counts the bells. */
 #include "vt220.h"
 #include <string.h>
 #if defined __x86_64__
 #include <cpuid.h>
 #endif
 
-/* A handle as the proved calls take it. They empty it while they work and then put the same block back, so each works on a copy. */
+/* A handle in the form of the proved calls. They empty it while they work and then put the same block back, so each works on a copy. */
 typedef struct handle {
     void *at;
     bool is_open;
@@ -43,7 +43,7 @@ bool core_same_state(handle *a, handle *b);
 /* Stands for a null pointer of length 0. */
 static uint8_t nothing;
 
-/* How many bytes are searched for BEL and then processed: few enough to stay in the nearest cache. */
+/* The number of bytes that are searched for BEL and then processed: few enough to stay in the nearest cache. */
 enum { BLOCK = 16384, BEL = 0x07 };
 
 static handle own(const vt220 *t) { return (handle){t->terminal, t->is_open}; }
@@ -142,7 +142,7 @@ uint32_t vt220_copy(vt220 *to, const vt220 *from) {
     return is_same(to, from) ? VT220_OK : core_copy(&h, &other);
 }
 
-/* Makes a call that writes bytes by way of a scratch buffer. */
+/* A call that writes bytes by way of a scratch buffer. */
 typedef uint32_t writer(handle *t, handle *s, uint8_t *out, size_t size, size_t *written);
 
 static uint32_t write_by(writer *call, const vt220 *t, vt220_scratch *s, uint8_t *out, size_t size, size_t *written) {

@@ -2,12 +2,12 @@
 _vt220() {
   local word=${COMP_WORDS[COMP_CWORD]} before=${COMP_WORDS[COMP_CWORD - 1]}
   if [ "$COMP_CWORD" -eq 1 ]; then
-    mapfile -t COMPREPLY < <(compgen -W 'text reports repaint status show picture help --help --version' -- "$word")
+    mapfile -t COMPREPLY < <(compgen -W 'text reports repaint status show picture log help --help --version' -- "$word")
     return
   fi
   case $before in
     --piece | --limit) COMPREPLY=() ;;
-    help) mapfile -t COMPREPLY < <(compgen -W 'text reports repaint status show picture' -- "$word") ;;
+    help) mapfile -t COMPREPLY < <(compgen -W 'text reports repaint status show picture log' -- "$word") ;;
     *)
       if [[ $word == -* ]]; then
         mapfile -t COMPREPLY < <(compgen -W '--piece --limit --help' -- "$word")

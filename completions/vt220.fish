@@ -1,5 +1,5 @@
 # Completions of vt220 for fish.
-set -l commands text reports repaint status show picture
+set -l commands text reports repaint status show picture log
 complete -c vt220 -n "not __fish_seen_subcommand_from $commands help" -f
 complete -c vt220 -n "not __fish_seen_subcommand_from $commands help" -a text -d 'The screen as text'
 complete -c vt220 -n "not __fish_seen_subcommand_from $commands help" -a reports -d 'What the terminal answers to the host'
@@ -7,6 +7,7 @@ complete -c vt220 -n "not __fish_seen_subcommand_from $commands help" -a repaint
 complete -c vt220 -n "not __fish_seen_subcommand_from $commands help" -a status -d 'The cursor, the margins and the unfinished sequence'
 complete -c vt220 -n "not __fish_seen_subcommand_from $commands help" -a show -d 'The screen with its attributes'
 complete -c vt220 -n "not __fish_seen_subcommand_from $commands help" -a picture -d 'The screen as SVG'
+complete -c vt220 -n "not __fish_seen_subcommand_from $commands help" -a log -d 'The lines that scroll off, and then the screen'
 complete -c vt220 -n "not __fish_seen_subcommand_from $commands help" -a help -d 'Help on a command'
 complete -c vt220 -n "not __fish_seen_subcommand_from $commands help" -l version -d 'Print the version'
 complete -c vt220 -n "__fish_seen_subcommand_from $commands" -l piece -x -d 'The most bytes of one read'

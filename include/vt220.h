@@ -4,19 +4,19 @@
  * cells or a picture, and bytes that rebuild the whole state on another terminal of this library.
  *
  * Input. The input isn't UTF-8. Bytes 00 to 7F are ASCII and the C0 controls. Bytes 80 to 9F are the C1 controls, and A0 to FF
- * are characters of the DEC supplemental set. BEL changes nothing but vt220_bells. LEDs, printing, double-size lines and
+ * are characters of the DEC supplemental set. BEL changes only the count of vt220_bells. LEDs, printing, double-size lines and
  * sequences of later terminals have no effect. There is no keyboard: translate keys yourself, with vt220_modes.
  *
  * Handles. You allocate a vt220 or a vt220_scratch as a struct. All zero means closed. An open handle owns memory until you
  * close it. Only vt220_open and vt220_scratch_open allocate. Any call on a closed handle is safe, and reports it.
- * A vt220 takes 30 KB. A vt220_scratch is a work buffer of 690 KB of address space. Its memory becomes resident only as far as
- * it is used: 125 KB without pictures. One serves any number of terminals, one call at a time. It keeps nothing between calls.
+ * A vt220 takes 30 KB. A vt220_scratch is a work buffer of 690 KB of address space. Only the part that is used becomes resident:
+ * 125 KB without pictures. One serves any number of terminals, one call at a time. It keeps nothing between calls.
  *
  * Output structs. The library writes each field of a struct that you pass, and needs nothing in it before. It sets `reserved` to
  * zero. A later version may give these bytes a meaning.
  *
  * Threads. A call that takes a `const vt220 *` doesn't write to the terminal, so several threads may make such calls on one
- * terminal at once. Any other call needs the handle for itself. Each thread needs a scratch buffer of its own.
+ * terminal at once. Any other call needs the handle for itself. Each thread needs its own scratch buffer.
  *
  * Not checked. The caller must see to these:
  *  - A handle is all zero, or as the library left it. You may move it with memcpy if you don't use the original again.
@@ -25,15 +25,15 @@
  *  - malloc, realloc and free belong to one allocator. No call is made from a signal handler, nor in the forked child of a
  *    program with threads.
  *
- * Stack. vt220_update uses up to 32 KB of stack, and any other call at most 8 KB.
+ * Stack. A call uses at most 8 KB of stack.
  *
- * Processor. The library needs x86-64-v2 (SSE4.2, of 2009). On an older one the two open calls return VT220_UNSUPPORTED.
+ * Processor. The library needs x86-64-v2 (SSE4.2, of 2009). On an older processor the two open calls return VT220_UNSUPPORTED.
  *
  * Versions. A program and a library go together if the major version is the same, which the SONAME has, and the library isn't older
  * than the header. Version 0.3.0 is the first of which this holds.
  *
  * Rows, columns and margins count from 1. Sizes and lengths are in bytes; those of vt220_row are in cells.
- * What each call writes and returns is proved. docs/PROMISES.md says what is only tested.
+ * What each call writes and returns is proved. docs/PROMISES.md lists what is only tested.
  */
 #ifndef VT220_H
 #define VT220_H
@@ -49,17 +49,17 @@ extern "C" {
 /* The version of this header: 10000 * major + 100 * minor + patch. */
 #define VT220_VERSION 300
 
-/* What a call returns if its type is uint32_t. On an error nothing has changed. */
+/* The statuses, which calls of type uint32_t return. On an error nothing has changed. */
 #define VT220_OK 0          /* success */
 #define VT220_MEMORY 1      /* the allocation failed */
 #define VT220_IN_USE 2      /* the handle is already open */
 #define VT220_CLOSED 3      /* a terminal or the scratch buffer is closed */
-#define VT220_PARTIAL 4     /* a terminal is inside a sequence: feed the rest of it, or CAN (0x18), which only ends it */
+#define VT220_PARTIAL 4     /* a terminal is inside a sequence: feed the remainder of it, or CAN (0x18), which only ends it */
 #define VT220_ROOM 5        /* the output buffer is too small; *written is the size that is needed */
 #define VT220_UNSUPPORTED 6 /* the processor is older than x86-64-v2 */
 #define VT220_NO_ROW 7      /* there is no such row */
 
-/* What kind of sequence is unfinished. */
+/* The kinds of an unfinished sequence. */
 #define VT220_HELD_NOTHING 0 /* none: the terminal is between sequences */
 #define VT220_HELD_ESCAPE 1  /* an escape sequence */
 #define VT220_HELD_CONTROL 2 /* a control sequence */
@@ -149,7 +149,7 @@ typedef struct vt220_tab_stops {
     uint8_t reserved[12];
 } vt220_tab_stops;
 
-/* What DECRC restores. */
+/* The state that DECRC restores. */
 typedef struct vt220_saved_record {
     size_t row;  /* 1 to 24 */
     size_t col;  /* 1 to the width */
@@ -229,7 +229,7 @@ uint32_t vt220_text(const vt220 *t, vt220_scratch *s, uint8_t *out, size_t size,
  * Returns VT220_OK, VT220_ROOM, VT220_CLOSED or VT220_NO_ROW. */
 uint32_t vt220_row_text(const vt220 *t, vt220_scratch *s, size_t row, uint8_t *out, size_t size, size_t *written);
 
-/* Writes the screen as text with SGR sequences for the attributes, for the terminals of today. Each line ends without attributes.
+/* Writes the screen as text with SGR sequences for the attributes, for modern terminals. The attributes are reset after each line.
  *   out, size   the output buffer; VT220_SHOW_LIMIT bytes are always enough
  *   written     receives the length; 0 if a handle is closed
  * Returns VT220_OK, VT220_ROOM or VT220_CLOSED. */
@@ -273,19 +273,38 @@ size_t vt220_row(const vt220 *t, size_t row, vt220_cell *cells, size_t size);
 /* Returns how many columns the screen has: 80 or 132; 0 on a closed terminal. */
 size_t vt220_width(const vt220 *t);
 
-/* Write a part of the state. Each returns false on a closed terminal, and then writes nothing. */
+/* Writes the cursor's position and the wrap flag to *cursor.
+ * Returns true, or false on a closed terminal, and then writes nothing. */
 bool vt220_cursor(const vt220 *t, vt220_cursor_place *cursor);
+
+/* Writes the first and the last row of the scroll region to *margins.
+ * Returns true, or false on a closed terminal, and then writes nothing. */
 bool vt220_margins(const vt220 *t, vt220_margin_rows *margins);
+
+/* Writes the modes to *modes.
+ * Returns true, or false on a closed terminal, and then writes nothing. */
 bool vt220_modes(const vt220 *t, vt220_mode_set *modes);
+
+/* Writes the attributes of the next character to *brush.
+ * Returns true, or false on a closed terminal, and then writes nothing. */
 bool vt220_brush(const vt220 *t, vt220_brush_look *brush);
+
+/* Writes the graphic sets, and a pending single shift, to *sets.
+ * Returns true, or false on a closed terminal, and then writes nothing. */
 bool vt220_sets(const vt220 *t, vt220_graphic_sets *sets);
+
+/* Writes the tab stops of the columns 1 to 132 to *stops.
+ * Returns true, or false on a closed terminal, and then writes nothing. */
 bool vt220_stops(const vt220 *t, vt220_tab_stops *stops);
+
+/* Writes the state that DECRC restores to *saved.
+ * Returns true, or false on a closed terminal, and then writes nothing. */
 bool vt220_saved(const vt220 *t, vt220_saved_record *saved);
 
 /* Returns whether the terminal is between sequences; false on a closed terminal. */
 bool vt220_is_between(const vt220 *t);
 
-/* Returns what kind of sequence is unfinished: one of VT220_HELD_..; VT220_HELD_NOTHING on a closed terminal. */
+/* Returns the kind of the unfinished sequence: one of VT220_HELD_..; VT220_HELD_NOTHING on a closed terminal. */
 uint32_t vt220_held_kind(const vt220 *t);
 
 /* Returns whether two terminals are in the same state, hidden parts included; false if one is closed. */

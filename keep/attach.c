@@ -1,5 +1,5 @@
-/* A client: plays what the keeper sends on a terminal of its own, which so equals the keeper's, draws it on the terminal that it
- * runs in, and sends the keys that are typed there. */
+/* A client: plays what the keeper sends on its own emulated terminal, which then equals the keeper's. It draws that on the terminal
+ * in which it runs, and sends the keys that are typed there. */
 #include "keep.h"
 #include <errno.h>
 #include <poll.h>
@@ -64,7 +64,7 @@ static void hold_signal(int number, sigset_t *held) {
     sigaction(number, &action, NULL);
 }
 
-/* Signals come in ppoll alone, but for those that nobody can hold. */
+/* Signals are handled only in ppoll, except those that can't be blocked. */
 static void hold_signals(sigset_t *open_mask) {
     static const int others[] = {SIGWINCH, SIGCONT, SIGTSTP};
     sigset_t held;
@@ -90,7 +90,7 @@ static void type(const uint8_t *bytes, size_t len) {
     it.keys.rings = false;
 }
 
-/* The key that detaches does so when another key follows, or none for some time; pressed twice, it is sent once. */
+/* The detach key detaches when another key follows, or none for some time. Pressed twice, it is sent once. */
 static void take_typed(const uint8_t *bytes, size_t len) {
     while (len > 0 && it.why == 0) {
         if (it.pressed != 0 && *bytes != it.detach) {
@@ -124,7 +124,7 @@ static void read_keys(void) {
     uint8_t bytes[KEYS_LIMIT];
     ssize_t n = read(STDIN_FILENO, bytes, sizeof bytes);
     if (n < 0 && (errno == EINTR || errno == EAGAIN)) return;
-    if (n <= 0) it.why = 's'; /* the outer terminal is gone */
+    if (n <= 0) it.why = 's'; /* the outer terminal has closed */
     else take_typed(bytes, (size_t)n);
 }
 
@@ -142,7 +142,7 @@ static void begin_frame(void) {
     it.frame_len = FRAME_HEAD + len;
 }
 
-/* What the keeper can't take now waits here. That the keeper is gone is told by what comes of it. */
+/* Sends keys. Those that the keeper can't read now wait here. If the keeper has ended, the next read shows it. */
 static void send_keys(void) {
     while (has_keys()) {
         if (it.frame_at == it.frame_len) begin_frame();
@@ -175,7 +175,7 @@ static void take_frame(char letter, const uint8_t *bytes, size_t len) {
     }
 }
 
-/* Takes the whole frames that came. */
+/* Handles the whole frames that came. */
 static void take_frames(void) {
     size_t at = 0;
     while (it.why == 0 && it.frames_len - at >= FRAME_HEAD) {
@@ -204,7 +204,7 @@ static void read_frames(int flags) {
 
 /* --- the loop --- */
 
-/* Stops as any program does that doesn't handle SIGTSTP, with the outer terminal as it was. */
+/* Stops as a program without a handler for SIGTSTP does, after the outer terminal is restored. */
 static void stop(void) {
     struct sigaction normal = {.sa_handler = SIG_DFL}, before;
     sigset_t only, mask;
@@ -267,12 +267,12 @@ static void turn(const sigset_t *open_mask) {
 
 /* --- the end --- */
 
-/* The exit status of an ended command, as a shell has it. */
+/* Returns the exit status of a command that has ended, as a shell has it. */
 int shell_status(int ending) {
     return WIFSIGNALED(ending) ? 128 + WTERMSIG(ending) : WEXITSTATUS(ending);
 }
 
-/* Confirms the end to the keeper, and waits until it has let the name go, so that the name can be used when this returns. */
+/* Confirms the end to the keeper, and waits until the keeper has released the name. Then a new session can use it. */
 static void confirm_end(void) {
     uint8_t rest[256];
     wire_patience(it.socket, 1);
@@ -280,7 +280,7 @@ static void confirm_end(void) {
     while (recv(it.socket, rest, sizeof rest, 0) > 0) {}
 }
 
-/* Says how it ended; the status is the command's own if that has ended. */
+/* Prints how it ended. Returns the command's status if the command has ended. */
 static int say(const char *name) {
     switch (it.why) {
     case 'k':
@@ -299,7 +299,7 @@ static int say(const char *name) {
     }
 }
 
-/* The command has ended before: shows its last screen as text, and how and when it ended. */
+/* Shows the last screen of a command that has ended as text, and how and when it ended. */
 static int show_last(const char *name) {
     static uint8_t text[VT220_TEXT_LIMIT];
     vt220_scratch scratch = VT220_INIT;
@@ -341,7 +341,7 @@ int attach(int socket, const char *name, bool is_read_only) {
     it.socket = socket;
     it.is_read_only = is_read_only;
     it.detach = (uint8_t)keys_detach();
-    if (inside != NULL) fail(1, "cannot attach to %s from inside session %s: its terminal knows no UTF-8", name, inside);
+    if (inside != NULL) fail(1, "cannot attach to %s from inside session %s, whose terminal doesn't read UTF-8", name, inside);
     if (!isatty(STDOUT_FILENO) || tcgetattr(STDIN_FILENO, &it.before) != 0) fail(2, "attach needs a terminal");
     if (vt220_open(&it.terminal) != VT220_OK) fail(1, "out of memory");
     int result = wire_begin(socket, ASK_ATTACH, is_read_only ? FLAG_READ_ONLY : 0, &hello, why);

@@ -19,7 +19,7 @@ bool is_sent(const struct client *c) {
     return c->at == c->len;
 }
 
-/* Makes room in front when all was sent, so that a whole update fits; returns where the bytes of a frame go. */
+/* Returns the address for the bytes of a frame. When all was sent, it first moves to the front, so that a whole update fits. */
 static uint8_t *frame_room(struct client *c) {
     if (is_sent(c)) c->at = c->len = 0;
     return c->out + c->len + FRAME_HEAD;
@@ -39,7 +39,7 @@ static void put(struct client *c, char letter, const void *bytes, size_t len) {
     put_frame(c, letter, len);
 }
 
-/* Nothing more is put for it, and it is let go when all was sent. */
+/* Adds nothing more for a client, and drops it when everything was sent. */
 static void leave(struct client *c) {
     c->state = LEAVING;
     c->deadline = now() + PATIENCE;
@@ -50,7 +50,7 @@ static void refuse(struct client *c, const char *why) {
     leave(c);
 }
 
-/* The first frame: a repaint, which leaves any terminal in the state of `settled`. */
+/* Adds the first frame: a repaint, which leaves any terminal in the state of `settled`. */
 static void put_repaint(struct client *c) {
     uint8_t *room = frame_room(c), none[VT220_REPORT_LIMIT];
     size_t len = 0, reports;
@@ -79,7 +79,7 @@ static void send_on(struct client *c) {
         ssize_t n = send(c->socket, c->out + c->at, c->len - c->at, MSG_NOSIGNAL | MSG_DONTWAIT);
         if (n < 0 && errno == EINTR) continue;
         if (n < 0) {
-            if (errno != EAGAIN) c->deadline = 0; /* it is gone */
+            if (errno != EAGAIN) c->deadline = 0; /* it has closed */
             return;
         }
         c->at += (size_t)n;
@@ -108,14 +108,14 @@ void ring_clients(void) {
     }
 }
 
-/* The command has ended: each client has some time for the last frames. */
+/* Gives each client some time for the last frames, since the command has ended. */
 void tell_end(void) {
     for (size_t i = 0; i < CLIENT_LIMIT; i++) {
         if (the.clients[i] != NULL) the.clients[i]->deadline = now() + PATIENCE;
     }
 }
 
-/* The session is over, and its name is free: who wanted that is told so. */
+/* Replies to the clients that asked for the end: the session is over, and its name is free. */
 void answer_waiting(void) {
     for (size_t i = 0; i < CLIENT_LIMIT; i++) {
         struct client *c = the.clients[i];
@@ -179,7 +179,7 @@ static void answer(struct client *c) {
     leave(c);
 }
 
-/* Takes the client's first bytes; what it asks is then begun, or answered. */
+/* Reads the client's first bytes, and begins or does what it asks. */
 static void begin(struct client *c) {
     bool is_known = c->in[HELLO_LOWEST] <= PROTOCOL_HIGHEST && c->in[HELLO_HIGHEST] >= PROTOCOL_LOWEST;
     uint8_t version = c->in[HELLO_HIGHEST] < PROTOCOL_HIGHEST ? c->in[HELLO_HIGHEST] : PROTOCOL_HIGHEST;
@@ -207,7 +207,7 @@ static void begin(struct client *c) {
     }
 }
 
-/* A client of before version 1 asks with one letter. Its list can show a line; what else it wants it is refused. */
+/* Serves a client from before version 1, which asks with one letter. Its list can show a line. Everything else is refused. */
 static void begin_old(struct client *c) {
     static const char line[] = "is kept by a newer keep\n";
     if (c->in[0] == ASK_LIST) put(c, FRAME_ANSWER, line, sizeof line - 1);
@@ -227,7 +227,7 @@ static void take_name(struct client *c, const uint8_t *bytes, size_t len) {
     }
 }
 
-/* Takes a frame. False if there is no room now for its keys. */
+/* Handles a frame. Returns false if its keys don't fit into the queue now. */
 static bool take_frame(struct client *c, char letter, const uint8_t *bytes, size_t len) {
     bool is_typing = c->state == SENDING || (c->state == ATTACHED && !c->is_read_only);
     if (letter == FRAME_KEYS && is_typing && !the.is_over) return add_input(bytes, len, false);
@@ -242,7 +242,7 @@ static bool take_frame(struct client *c, char letter, const uint8_t *bytes, size
     return true;
 }
 
-/* Takes the whole frames that came. One that is too long is no frame of this protocol. */
+/* Handles the whole frames that came. A frame that is too long isn't one of this protocol. */
 static void take_frames(struct client *c) {
     size_t at = 0;
     while (c->in_len - at >= FRAME_HEAD) {
@@ -257,7 +257,7 @@ static void take_frames(struct client *c) {
     memmove(c->in, c->in + at, c->in_len);
 }
 
-/* Whether more is read of a client. When it isn't, keys wait in its socket, and then in the client. */
+/* Returns whether more is read from a client. If not, keys wait in its socket, and then in the client. */
 bool hears(const struct client *c) {
     return c->in_len < sizeof c->in;
 }
@@ -283,7 +283,7 @@ bool has_clients(void) {
     return false;
 }
 
-/* Finds a place. If too many clients are here that aren't attached, the one that came first goes. */
+/* Finds a free entry. If too many clients aren't attached, the oldest of them is dropped. */
 static size_t free_place(void) {
     size_t others = 0, oldest = CLIENT_LIMIT, i = 0;
     for (size_t k = 0; k < CLIENT_LIMIT; k++) {
@@ -303,7 +303,7 @@ static size_t free_place(void) {
 void let_in(long long time) {
     int socket = accept4(the.listener, NULL, NULL, SOCK_CLOEXEC);
     if (socket < 0) {
-        /* No more files, or no memory: to look again at once would only turn in a circle. */
+        /* No more files, or no memory: the next try is later, so that this loop doesn't spin. */
         if (errno != EAGAIN && errno != EINTR && errno != ECONNABORTED) the.listens_at = time + LISTEN_PAUSE;
         return;
     }
@@ -331,7 +331,7 @@ void let_go(size_t i) {
     if (!has_clients()) malloc_trim(0); /* a keeper may live for months after a crowd */
 }
 
-/* When something falls due for a client, or LLONG_MAX. */
+/* Returns the time at which something is due for a client, or LLONG_MAX. */
 long long next_time(const struct client *c) {
     bool has_news = c->state == ATTACHED && is_sent(c) && (c->changes != the.changes || c->rings);
     return has_news && c->due < c->deadline ? c->due : c->deadline;

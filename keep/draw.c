@@ -1,7 +1,7 @@
-/* Draws a terminal on the one that standard output is, whatever that is: characters in UTF-8, CUP, SGR 0 1 4 5 7, BEL, and the
- * cursor shown or hidden. What is drawn there is remembered, and only what differs is drawn. The screens may have any two sizes.
- * A smaller one shows the part that has the cursor, and says in a corner which part that is; on a larger one the rest is blank.
- * A drawing is gathered and written as the outer terminal takes it; the next one is made when that is done. */
+/* Draws a terminal on standard output, which is another terminal of any kind: characters in UTF-8, CUP, SGR 0 1 4 5 7, BEL, and the
+ * cursor shown or hidden. What is drawn there is remembered, and only differences are drawn. The two screens may have any size.
+ * A smaller outer screen shows the part that has the cursor, and names that part in a corner. On a larger one the remainder is blank.
+ * A drawing is gathered and written as the outer terminal takes it. The next one is made when that is done. */
 #include "keep.h"
 #include <errno.h>
 #include <fcntl.h>
@@ -21,7 +21,7 @@ struct place {
 };
 
 static struct {
-    int line;            /* where it is written, without waiting */
+    int line;            /* the file that is written, without waiting */
     size_t rows, cols;   /* of the screen that is drawn on */
     struct place *drawn; /* what is on it, row by row */
     size_t row, col;     /* where its cursor is; row 0 if that isn't known */
@@ -34,7 +34,7 @@ static struct {
     size_t hint_row, hint_col;
 } outer;
 
-static char *out; /* what is written as far as `at`; there is room for one whole drawing, and for what enters or leaves */
+static char *out; /* the drawing, written up to `at`; it has capacity for one whole drawing, and for what enters or leaves */
 static size_t at, length;
 
 static void put(const char *text) {
@@ -53,7 +53,7 @@ int draw_line(void) {
 
 void draw_on(void) {
     ssize_t n = at < length ? write(outer.line, out + at, length - at) : 0;
-    if (n < 0 && errno != EAGAIN && errno != EINTR) at = length; /* the terminal is gone, which standard input tells, too */
+    if (n < 0 && errno != EAGAIN && errno != EINTR) at = length; /* the terminal has closed, which standard input shows as well */
     if (n > 0) at += (size_t)n;
     if (at == length) at = length = 0;
 }
@@ -96,7 +96,7 @@ static void set_brush(uint32_t brush) {
     outer.brush = brush;
 }
 
-/* The cursor of the outer terminal stays in the last column, or doesn't: so there its place isn't known. */
+/* After the last column the position of the outer cursor isn't known: some terminals wrap at once. */
 static void draw_place(size_t row, size_t col, struct place it) {
     struct place *drawn = &outer.drawn[(row - 1) * outer.cols + col - 1];
     if (drawn->glyph == it.glyph && drawn->brush == it.brush) return;
@@ -122,7 +122,7 @@ static size_t pan(size_t first, size_t shown, size_t all, size_t cursor, size_t 
     return first + shown > all ? all - shown : first;
 }
 
-/* Says which rows and columns are shown, in the upper right corner, or in the lower one if the cursor is in the upper row. */
+/* Writes which rows and columns are shown in the upper right corner, or in the lower one if the cursor is in the upper row. */
 static void set_hint(size_t width, const vt220_cursor_place *cursor) {
     outer.top = pan(outer.top, outer.rows, VT220_ROWS, cursor->row, 0);
     outer.left = pan(outer.left, outer.cols, width, cursor->col, outer.cols / 2);
@@ -180,7 +180,7 @@ void draw_bell(void) {
     outer.rings = true;
 }
 
-/* Asks for the size of the outer screen. All of it is then drawn anew. False if there is no memory for it. */
+/* Asks for the size of the outer screen. All of it is then drawn again. Returns false if allocation fails. */
 bool draw_resize(void) {
     struct winsize size = {0};
     ioctl(outer.line, TIOCGWINSZ, &size);
@@ -194,7 +194,7 @@ bool draw_resize(void) {
     return outer.drawn != NULL && more != NULL;
 }
 
-/* The alternate screen of the outer terminal. It is opened once more, so that only this program's writes don't wait. */
+/* Enters the alternate screen of the outer terminal. The terminal is opened again, so that only this program's writes don't wait. */
 bool draw_enter(void) {
     const char *name = ttyname(STDOUT_FILENO);
     if (outer.line == 0) outer.line = name != NULL ? open(name, O_WRONLY | O_NONBLOCK | O_NOCTTY | O_CLOEXEC) : -1;
@@ -207,7 +207,7 @@ bool draw_enter(void) {
     return true;
 }
 
-/* Back to its own screen, cursor and keypad. What is begun is written to its end, if that takes no longer than a second. */
+/* Restores the outer terminal's screen, cursor and keypad. A drawing that has begun is completed if that takes at most a second. */
 void draw_leave(void) {
     struct pollfd line = {outer.line, POLLOUT, 0};
     if (out == NULL) return;

@@ -1,10 +1,10 @@
 /* The directory of the sockets.
  *
  * Only its user may get in: whoever could write to it could put a socket there. So it must belong to the user, have mode 0700
- * and be no link. In it is one directory for each boot of each machine, named by the kernel's boot id, and in that the sockets.
+ * and not be a link. In it is one directory for each boot of each machine, named by the kernel's boot id, and in that the sockets.
  * So machines that share a file system never see each other's sockets, and a socket that nobody listens to is surely the one
- * of a keeper of this machine that was killed. All names are used relative to the directory that was checked: nothing can be
- * put in its place, and its path may have any length. */
+ * of a keeper of this machine that was killed. All names are used relative to the directory that was checked: nobody can
+ * replace it, and its path may have any length. */
 #include "keep.h"
 #include <errno.h>
 #include <fcntl.h>
@@ -30,7 +30,7 @@ static bool refuse(char *why, const char *words, ...) {
     return false;
 }
 
-/* Opens a directory of this user's own; makes it if it isn't there, whatever the umask is. */
+/* Opens a directory that only this user may read. Makes it if it isn't there, under any umask. */
 static bool open_own(int at, const char *path, int *file, char *why) {
     struct stat it;
     mode_t mask = umask(0);
@@ -115,14 +115,14 @@ bool is_name(const char *name) {
     return len > 0 && len <= NAME_LIMIT && strspn(name, letters) == len && *name != '.' && *name != '-';
 }
 
-/* The address of a name in an open directory, which fits whatever the path of the directory is. */
+/* Returns the address of a name in an open directory. It fits for a path of any length. */
 static struct sockaddr_un address_of(int folder, const char *name) {
     struct sockaddr_un address = {.sun_family = AF_UNIX};
     snprintf(address.sun_path, sizeof address.sun_path, "/proc/self/fd/%d/%.*s", folder, NAME_LIMIT, name);
     return address;
 }
 
-/* A socket that waits at most two seconds for a keeper, which may be stopped. */
+/* Returns a socket that waits at most two seconds for a keeper, which may be stopped. */
 static int new_socket(void) {
     struct timeval patience = {PATIENCE / 1000, 0};
     int made = socket(AF_UNIX, SOCK_STREAM | SOCK_CLOEXEC, 0);
@@ -156,7 +156,7 @@ int connect_to(int folder, const char *name) {
     return -1;
 }
 
-/* Whether a keeper listens to a socket, even one that is stopped and whose queue is full. */
+/* Returns whether a keeper listens to a socket, even a keeper that is stopped and whose queue is full. */
 bool is_listening(int folder, const char *name) {
     struct sockaddr_un address = address_of(folder, name);
     int made = socket(AF_UNIX, SOCK_STREAM | SOCK_CLOEXEC | SOCK_NONBLOCK, 0);
@@ -165,16 +165,16 @@ bool is_listening(int folder, const char *name) {
     return is_there;
 }
 
-/* Whether a name can be used. A socket of this user that nobody listens to is removed; nothing else ever is. */
+/* Returns whether a name can be used. Removes a socket of this user to which nobody listens, and never anything else. */
 bool is_free(int folder, const char *name, char *why) {
     struct stat it;
     if (fstatat(folder, name, &it, AT_SYMLINK_NOFOLLOW) != 0) return errno == ENOENT ? true : refuse(why, "%s: %s", name, strerror(errno));
     if (!S_ISSOCK(it.st_mode) || it.st_uid != geteuid()) return refuse(why, "%s: a file that isn't a session has this name", name);
-    if (is_listening(folder, name)) return refuse(why, "session %s exists already", name);
+    if (is_listening(folder, name)) return refuse(why, "session %s already exists", name);
     return unlinkat(folder, name, 0) == 0 ? true : refuse(why, "%s: %s", name, strerror(errno));
 }
 
-/* The directory is locked from the look at a name until one listens there. */
+/* Locks the directory while it looks at a name and until it listens there. */
 int open_listener(int folder, const char *name, struct identity *made, char *why) {
     struct sockaddr_un address = address_of(folder, name);
     struct stat it;

@@ -1,4 +1,4 @@
-/* vt220-keep: keeps programs running on terminals of their own.
+/* vt220-keep: keeps programs running in the background, each on an emulated VT220.
  *   ./build-c && gcc -O2 -Iinclude -o out/vt220-keep keep/[a-z]*.c out/libvt220.a */
 #include "keep.h"
 #include <errno.h>
@@ -14,19 +14,19 @@
 
 static const char usage[] =
     "usage: vt220-keep new [-A] [--locale=LOCALE] NAME COMMAND [ARGUMENT ...]\n"
-    "                                       run a command on a VT220 of its own, 24 by 80, in the background;\n"
-    "                                       -A attaches to it, and to the session NAME if there is one already\n"
-    "       vt220-keep attach [-r] NAME     show a session on this terminal, and send it the keys; -r only shows it\n"
+    "                                       run a command on a new VT220 in the background;\n"
+    "                                       -A attaches to it, or to the session NAME if there is one\n"
+    "       vt220-keep attach [-r] NAME     show a session on this terminal, and send it keys; -r only shows it\n"
     "       vt220-keep detach NAME          detach all clients\n"
     "       vt220-keep list [--tsv]         list sessions; --tsv: one line each with tabs, for scripts\n"
     "       vt220-keep text NAME            print the screen as text\n"
     "       vt220-keep repaint NAME         print the bytes that rebuild the whole terminal\n"
     "       vt220-keep send [-l] NAME [KEY ...]\n"
-    "                                       send keys, by name (Enter, Up, PF1, ^C ..) or as text, or standard input;\n"
-    "                                       -l: each KEY is text\n"
+    "                                       send keys by name (Enter, Up, PF1, ^C ..), other words as text, or standard\n"
+    "                                       input if there is no KEY; -l: each KEY is text\n"
     "       vt220-keep kill NAME            end the command\n"
-    "       vt220-keep rename NAME NEW      give a session another name\n"
-    "       vt220-keep help | --help        print this\n"
+    "       vt220-keep rename NAME NEW      rename a session\n"
+    "       vt220-keep help | --help        print this help\n"
     "       vt220-keep version | --version  print the version\n"
     "Ctrl-\\ detaches; pressed twice, it is sent. KEEP_KEY=^A makes Ctrl-A that key.\n"
     "Sockets are in $KEEP_DIR (default /tmp/keep-UID).\n";
@@ -47,7 +47,7 @@ long long now(void) {
     return time.tv_sec * 1000LL + time.tv_nsec / 1000000;
 }
 
-/* --- the commands; each gets the words after its options, and returns the exit status --- */
+/* --- the commands; each gets the arguments after its options, and returns the exit status --- */
 
 struct options {
     bool attaches, is_read_only, is_for_scripts, is_text;
@@ -59,7 +59,7 @@ static void check_name(const char *name) {
     fail(2, "invalid session name '%s': use 1-%d letters, digits, '.', '_' or '-', not starting with '.' or '-'", name, NAME_LIMIT);
 }
 
-/* Whether there is a session of this name. One whose command has ended gives way if it isn't wanted. */
+/* Returns whether there is a session of this name. If its command has ended and `is_wanted` is false, ends the session first. */
 static bool is_there(const struct folder *folder, const char *name, bool is_wanted) {
     static uint8_t bytes[FRAME_LIMIT];
     struct hello hello;
@@ -82,7 +82,7 @@ static int do_new(char **words, const struct options *options) {
     if (strcmp(words[1], "--") == 0) beginning.command++;
     if (*beginning.command == NULL) fail(2, "new: an argument is missing; vt220-keep --help shows which");
     if (is_there(&folder, words[0], options->attaches)) {
-        if (!options->attaches) fail(1, "session %s exists already", words[0]);
+        if (!options->attaches) fail(1, "session %s already exists", words[0]);
     } else {
         start_session(&folder, &beginning);
     }
@@ -155,7 +155,7 @@ static int do_version(char **words, const struct options *options) {
 
 static const struct command {
     const char *word, *letters; /* its name, and its options of one letter */
-    int least, most;            /* how many words it takes after these */
+    int least, most;            /* how many arguments it takes after these */
     int (*run)(char **words, const struct options *options);
 } commands[] = {{"new", "+hA", 2, INT_MAX, do_new},   {"attach", "+hr", 1, 1, do_attach}, {"detach", "+h", 1, 1, do_detach},
                 {"list", "+h", 0, 0, do_list},        {"text", "+h", 1, 1, do_text},      {"repaint", "+h", 1, 1, do_repaint},
@@ -170,7 +170,7 @@ static const struct command *command_of(const char *word) {
     fail(2, "unknown command '%s'; vt220-keep --help lists them", word);
 }
 
-/* Reads the options after the command; returns where the words begin. */
+/* Reads the options after the command; returns the index of the first argument. */
 static int read_options(const struct command *command, int argc, char **argv, struct options *options) {
     static const struct option none[] = {{"help", 0, NULL, 'h'}, {0}}, for_new[] = {{"help", 0, NULL, 'h'}, {"locale", 1, NULL, 'L'}, {0}},
                                for_list[] = {{"help", 0, NULL, 'h'}, {"tsv", 0, NULL, 't'}, {0}};
@@ -184,14 +184,14 @@ static int read_options(const struct command *command, int argc, char **argv, st
         case 'l': options->is_text = true; break;
         case 't': options->is_for_scripts = true; break;
         case 'L': options->locale = optarg; break;
-        default: fail(2, "%s: '%s' isn't an option of it; vt220-keep --help lists them", command->word, argv[optind < argc ? optind : argc - 1]);
+        default: fail(2, "%s: unknown option '%s'; vt220-keep --help lists them", command->word, argv[optind < argc ? optind : argc - 1]);
         }
     }
     return optind + 1;
 }
 
-/* Opens standard streams that were closed, so that no other file gets one of their numbers, and closes what else was left
- * open: it would stay so in the keeper and in the command, for as long as they live. */
+/* Opens standard streams that were closed, so that no other file gets one of their numbers. Closes all other files that were
+ * left open: otherwise they would stay open in the keeper and in the command. */
 static void set_files(void) {
     int file;
     while ((file = open("/dev/null", O_RDWR)) >= 0 && file < 3) {}
@@ -209,7 +209,7 @@ int main(int argc, char **argv) {
     const struct command *command = command_of(argv[1]);
     int at = read_options(command, argc, argv, &options);
     if (argc - at < command->least) fail(2, "%s: an argument is missing; vt220-keep --help shows which", command->word);
-    if (argc - at > command->most) fail(2, "%s: '%s' is one argument too many", command->word, argv[at + command->most]);
+    if (argc - at > command->most) fail(2, "%s: unexpected argument '%s'", command->word, argv[at + command->most]);
     int status = command->run(argv + at, &options);
     if (fflush(stdout) != 0) fail(1, "standard output: %s", strerror(errno));
     return status;

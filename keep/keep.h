@@ -1,4 +1,4 @@
-/* keep: a program goes on without a terminal, and shows its screen to clients that attach. What the parts share. */
+/* vt220-keep: a program keeps running without a terminal, and shows its screen to clients that attach. Declarations of all parts. */
 #ifndef KEEP_H
 #define KEEP_H
 
@@ -16,7 +16,7 @@ enum { NAME_LIMIT = 64, WHY_LIMIT = 512 };
 
 /* --- keep.c --- */
 
-/* Says why on standard error, and ends with this status. */
+/* Prints the reason on standard error, and ends with this status. */
 noreturn void fail(int status, const char *why, ...) __attribute__((format(printf, 2, 3)));
 long long now(void); /* milliseconds of a clock that never jumps */
 
@@ -24,7 +24,7 @@ long long now(void); /* milliseconds of a clock that never jumps */
 
 struct folder {
     int file;            /* the directory of this boot of this machine, in which the sockets are */
-    char path[PATH_MAX]; /* the directory that has it, from the root on */
+    char path[PATH_MAX]; /* the absolute path of the directory that contains it */
 };
 
 /* Which file a socket is, so that another one of its name isn't taken for it. */
@@ -34,7 +34,7 @@ struct identity {
 };
 
 bool is_name(const char *name);
-struct folder open_folder(void); /* ends the program if it can't be had */
+struct folder open_folder(void); /* ends the program if it can't be opened */
 bool try_folder(const char *path, struct folder *folder, char *why);
 bool lock_folder(int folder); /* false if somebody else holds it for two seconds */
 void unlock_folder(int folder);
@@ -60,7 +60,7 @@ int wire_begin(int socket, char ask, uint8_t flags, struct hello *hello, char *w
 bool wire_send(int socket, char letter, const void *bytes, size_t len);
 bool wire_receive(int socket, char *letter, uint8_t *bytes, size_t room, size_t *len);
 void wire_patience(int socket, int seconds);
-/* Asks for one answer; ends the program if there is none. `bytes` has FRAME_LIMIT bytes. */
+/* Sends a request and reads the reply. Ends the program if there is none. `bytes` has FRAME_LIMIT bytes. */
 size_t wire_ask(int socket, const char *name, char ask, const char *argument, uint8_t *bytes);
 
 /* --- list.c --- */
@@ -68,7 +68,7 @@ size_t wire_ask(int socket, const char *name, char ask, const char *argument, ui
 void list_sessions(const struct folder *folder, bool is_for_scripts);
 bool call_keepers(const struct folder *folder);
 
-/* --- session.c: starts a keeper, which goes on in the background --- */
+/* --- session.c: starts a keeper, which runs in the background --- */
 
 struct beginning {
     const char *name, *locale;
@@ -85,7 +85,7 @@ struct keys {
     bool rings; /* something was typed that a VT220 has no key for */
 };
 
-enum { KEYS_GROWTH = 2 /* a key takes at most so many times the bytes that it was typed as */ };
+enum { KEYS_GROWTH = 2 /* a key has at most this many times the bytes that were typed */ };
 
 size_t keys_translate(struct keys *keys, vt220 *t, const uint8_t *typed, size_t len, uint8_t *to);
 size_t keys_flush(struct keys *keys, uint8_t *to); /* what is held isn't the beginning of a key */
@@ -106,8 +106,8 @@ bool draw_resize(void);
 void draw(vt220 *t); /* only when all is written that was drawn before */
 void draw_bell(void);
 bool draw_is_done(void);
-void draw_on(void);  /* writes what the outer terminal takes now */
-int draw_line(void); /* the file to wait for, until it takes more */
+void draw_on(void);  /* writes as much as the outer terminal takes now */
+int draw_line(void); /* returns the file to wait for */
 void draw_leave(void);
 
 #endif

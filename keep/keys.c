@@ -2,7 +2,7 @@
  *
  * Outer terminals send the cursor keys as `ESC [ A` or `ESC O A`, whichever their own mode asks for; the program is sent
  * what the mode of its own terminal asks for, with 8-bit controls if it wants these (S8C1T). Home and End are the VT220's Find
- * and Select, which are in the same places. A character beyond ASCII comes as UTF-8, and is sent as the byte of the DEC
+ * and Select, which are at the same positions of the keyboard. A character beyond ASCII comes as UTF-8, and is sent as the byte of the DEC
  * Supplemental set that shows it. */
 #include "keep.h"
 #include <stdlib.h>
@@ -181,7 +181,7 @@ int keys_detach(void) {
     const char *letter = named[0] == '^' && named[1] != 0 ? named + 1 : named;
     char upper = *letter >= 'a' && *letter <= 'z' ? (char)(*letter - 0x20) : *letter;
     if (letter[1] != 0 || upper < '@' || upper > '_') {
-        fail(2, "KEEP_KEY='%s': give ^ and one of A to Z, @, \\, ], ^ or _", named);
+        fail(2, "KEEP_KEY='%s': use ^ and one of A to Z, @, \\, ], ^ or _", named);
     }
     const char *meant = upper == 'M' || upper == 'J' ? "Enter" : upper == 'I' ? "Tab" : upper == '[' ? "ESC, with which function keys begin" : NULL;
     if (meant != NULL) fail(2, "KEEP_KEY='%s' is the key %s; choose another one", named, meant);

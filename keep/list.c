@@ -32,7 +32,7 @@ static size_t read_file(pid_t pid, const char *name, char *to, size_t room) {
     return len < 0 ? 0 : (size_t)len;
 }
 
-/* Whether a process is in this directory, or in one of the same path that was removed. */
+/* Returns whether the working directory of a process is this one, or a removed one with the same path. */
 static bool is_inside(pid_t pid, const struct folder *folder) {
     char path[64], own[64], there[PATH_MAX + 16], here[PATH_MAX + 16];
     struct stat his, mine;
@@ -58,7 +58,7 @@ static bool is_keeper(pid_t pid, const struct folder *folder) {
     return caught >> (SIGUSR1 - 1) & 1;
 }
 
-/* Counts the keepers of this directory, and tells each to look at its socket, if that is wanted. */
+/* Counts the keepers of this directory. If wanted, signals each to check its socket. */
 static size_t keepers(const struct folder *folder, bool is_told) {
     size_t count = 0;
     DIR *processes = opendir("/proc");
@@ -85,7 +85,7 @@ static int is_session(const struct dirent *it) {
 
 static size_t session_names(int folder, struct dirent ***names) {
     int count = scandirat(folder, ".", names, is_session, alphasort);
-    if (count < 0) fail(1, "the directory of the sockets: %s", strerror(errno));
+    if (count < 0) fail(1, "cannot read the directory of the sockets: %s", strerror(errno));
     return (size_t)count;
 }
 
@@ -102,7 +102,7 @@ static size_t sockets(int folder) {
     return count;
 }
 
-/* Has those keepers make their sockets again whose sockets were taken away. Whether there may be such. */
+/* Signals keepers to make their sockets again if these were removed. Returns whether there may be any. */
 bool call_keepers(const struct folder *folder) {
     struct timespec pause = {0, 10000000};
     size_t wanted = keepers(folder, false);

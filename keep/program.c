@@ -1,4 +1,4 @@
-/* The keeper's side of the program: its terminal line, and the terminal that plays what it writes. */
+/* The keeper's side of the program: its pseudo-terminal, and the VT220 that plays what it writes. */
 #include "session.h"
 #include <errno.h>
 #include <fcntl.h>
@@ -16,8 +16,8 @@ enum { DRAIN_LIMIT = 256 /* the most chunks that are read once the command has e
 
 /* --- what goes to the program --- */
 
-/* Keys and reports wait in one queue, in the order that they came in. Each kind has room of its own: a program that asks without
- * end and never reads can't keep the keys out, nor a paste the reports. False if there is no room for all of it. */
+/* Adds keys or reports to one queue, in the order in which they came. Each kind has a separate limit: a program that asks without
+ * end and never reads can't block the keys, nor a paste the reports. Returns false if the limit doesn't allow all of them. */
 bool add_input(const uint8_t *bytes, size_t len, bool is_report) {
     size_t *count = is_report ? &the.reports : &the.keys;
     if (*count + len > INPUT_LIMIT) return false;
@@ -39,7 +39,7 @@ void write_program(void) {
 
 /* --- what comes from the program --- */
 
-/* Brings `settled` along if the terminal is between sequences, and the line's window to the terminal's width. */
+/* Copies the terminal to `settled` if it is between sequences, and sets the window of the pseudo-terminal to its width. */
 void settle(void) {
     static uint8_t unused[FRAME_LIMIT];
     size_t len = 0;
@@ -51,8 +51,8 @@ void settle(void) {
     }
 }
 
-/* Plays bytes of the program, and answers its requests. Reports of a chunk that find no room are dropped together, since a
- * program that asks and never reads must not stop its own screen. */
+/* Plays bytes of the program, and sends the reports. If the queue is full, all reports of a chunk are dropped, since a program that
+ * asks and never reads must not stop its own screen. */
 static void feed(const uint8_t *bytes, size_t len) {
     static uint8_t reports[PIECE * VT220_REPORT_LIMIT];
     size_t written;
@@ -60,8 +60,8 @@ static void feed(const uint8_t *bytes, size_t len) {
     add_input(reports, written, true);
 }
 
-/* Plays a chunk. A BEL rings when the terminal carries it out, which is everywhere but inside a control string. One ring for a
- * chunk is enough, and a chunk without BEL costs no more than the search for it. */
+/* Plays a chunk. A BEL rings if the terminal carries it out, which it does except inside a control string. One ring for a
+ * chunk is enough. A chunk without BEL costs only the search for it. */
 static void play(const uint8_t *bytes, size_t len) {
     bool has_rung = false;
     for (size_t at = 0; at < len;) {
@@ -77,12 +77,13 @@ static void play(const uint8_t *bytes, size_t len) {
     settle();
 }
 
-/* Whether a byte begins a sequence: ESC, DCS, SOS, CSI, OSC, PM, APC. */
+/* Returns whether a byte begins a sequence: ESC, DCS, SOS, CSI, OSC, PM, APC. */
 static bool is_introducer(uint8_t byte) {
     return byte == 0x1B || byte == 0x90 || byte == 0x98 || byte == 0x9B || (byte >= 0x9D && byte <= 0x9F);
 }
 
-/* Plays a chunk of what the program writes, its last sequence by itself, as that may be unfinished. False if there is none. */
+/* Plays a chunk of what the program writes. The last sequence, which may be unfinished, is played separately. Returns false if
+ * there is no chunk. */
 bool read_program(void) {
     static uint8_t piece[PIECE];
     ssize_t n = read(the.master, piece, sizeof piece);
@@ -95,7 +96,7 @@ bool read_program(void) {
     return true;
 }
 
-/* Once the command has ended, its last bytes are played. Others may still have its line open, and are hung up. */
+/* Plays the last bytes of a command that has ended. Hangs up other processes that still have its pseudo-terminal open. */
 void drain_program(void) {
     for (int i = 0; i < DRAIN_LIMIT && read_program(); i++) {}
     close(the.master);
@@ -105,7 +106,7 @@ void drain_program(void) {
 
 /* --- the command --- */
 
-/* The command has every signal, also those that its starter ignores: Ctrl-C is to end it. */
+/* Resets every signal, also those that the parent ignores, so that Ctrl-C can end the command. */
 static void free_signals(void) {
     sigset_t none;
     sigemptyset(&none);
@@ -113,8 +114,8 @@ static void free_signals(void) {
     sigprocmask(SIG_SETMASK, &none, NULL);
 }
 
-/* The environment says what the command's terminal is, and nothing of the one that `vt220-keep new` ran on. The C locale is needed as
- * a VT220 reads no UTF-8: many of its bytes are control characters there, and one is enough to make the rest unseen. */
+/* Sets the environment to the command's terminal, and removes that of the terminal on which `vt220-keep new` ran. The C locale is
+ * needed since a VT220 reads no UTF-8: many bytes of UTF-8 are control characters there, and one can hide all that follows. */
 static void set_environment(const char *locale) {
     static const char *const others[] = {
         "ABDUCO_SESSION", "ABDUCO_SOCKET", "ALACRITTY_LOG", "ALACRITTY_SOCKET", "ALACRITTY_WINDOW_ID", "COLORFGBG", "COLORTERM", "COLUMNS",
@@ -139,15 +140,15 @@ static noreturn void become_command(char **command, const char *locale, int told
     _exit(127);
 }
 
-/* Runs the command on a new line. The keeper has the line's other side open as well, so that it never looks closed while the
- * command lives. Returns when the command runs; false if it can't be run: then *status is what env(1) would end with. */
+/* Runs the command on a new pseudo-terminal. The keeper keeps the other side open as well, so that it never looks closed while the
+ * command runs. Returns true when the command runs. Returns false if it can't be run: *status is then that of env(1). */
 bool run_command(char **command, const char *locale, char *why, int *status) {
     struct winsize size = {.ws_row = VT220_ROWS, .ws_col = 80};
     int told[2], error = 0;
     *status = 1;
     the.width = 80;
     if (pipe2(told, O_CLOEXEC) != 0 || openpty(&the.master, &the.slave, NULL, NULL, &size) != 0) {
-        snprintf(why, WHY_LIMIT, "a terminal line: %s", strerror(errno));
+        snprintf(why, WHY_LIMIT, "cannot open a pseudo-terminal: %s", strerror(errno));
         return false;
     }
     fcntl(the.master, F_SETFD, FD_CLOEXEC);
@@ -166,7 +167,7 @@ bool run_command(char **command, const char *locale, char *why, int *status) {
     return false;
 }
 
-/* Tells the command that its terminal is gone; what doesn't end of that is killed some time later. */
+/* Sends SIGHUP to the command. Processes that don't end are killed some time later. */
 void hang_up(void) {
     if (the.is_over || the.kill_at != 0) return;
     the.kill_at = now() + PATIENCE;

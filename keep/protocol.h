@@ -31,7 +31,7 @@ enum { FLAG_READ_ONLY = 1 };
 /* The frames of a client. */
 enum {
     FRAME_KEYS = 'K', /* for the program; the bytes of one frame stay together */
-    FRAME_DONE = 'Q', /* that were all the keys */
+    FRAME_DONE = 'Q', /* no more keys follow */
     FRAME_NAME = 'N', /* the new name */
     FRAME_SEEN = 'S'  /* the end of the command was shown to somebody */
 };
@@ -41,9 +41,9 @@ enum {
     FRAME_HELLO = 'H',
     FRAME_PLAY = 'P',     /* a repaint first, then updates: the client plays them on its terminal */
     FRAME_BELL = 'B',     /* the program rang the bell */
-    FRAME_ANSWER = 'A',   /* what was asked for: a line, the text, the repaint */
-    FRAME_REFUSED = 'R',  /* why it can't be had */
-    FRAME_DETACHED = 'D', /* somebody asked for it */
+    FRAME_ANSWER = 'A',   /* the reply to a request: a line, the text, the repaint */
+    FRAME_REFUSED = 'R',  /* the reason for which a request was refused */
+    FRAME_DETACHED = 'D', /* a client asked to detach all */
     FRAME_ENDED = 'E',    /* a struct ending */
     FRAME_FULL = 'F'      /* no more clients are let in, or none of this user */
 };

@@ -46,7 +46,7 @@ static void play_repaint(const struct folder *folder) {
     for (size_t at = 0; at < len;) at += vt220_feed(&it.terminal, it.bytes + at, len - at, none, sizeof none, &reports);
 }
 
-/* Each of `keys` is a key's name, or else text; `is_text` says that all are text. Without any, standard input is sent. */
+/* Sends `keys`: each is a key's name, otherwise text. If `is_text` is true, all are text. Without any, sends standard input. */
 void send_keys_to(const struct folder *folder, const char *name, char **keys, bool is_text) {
     char why[WHY_LIMIT] = "doesn't answer", letter;
     uint8_t key[16];

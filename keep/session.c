@@ -35,7 +35,7 @@ static void set_name(const char *name) {
     prctl(PR_SET_NAME, title); /* its first 15 characters; `vt220-keep list` knows keepers by it */
 }
 
-/* Makes the socket again if it was taken away. If another session has the name by now, this one gets a longer name. */
+/* Makes the socket again if it was removed. If another session has the name by now, this one gets a longer name. */
 static void mend_socket(void) {
     char why[WHY_LIMIT], other[NAME_LIMIT + 1];
     struct folder folder;
@@ -73,7 +73,7 @@ bool rename_session(const char *name, char *why) {
     return is_done;
 }
 
-/* The last screen isn't kept any more. The name is free before anybody is told so. */
+/* Ends the session of a command that has ended. The name is free before any client is informed. */
 void give_up(void) {
     if (the.is_given_up) return;
     the.is_given_up = true;
@@ -138,7 +138,7 @@ static void obey_signals(long long time) {
     }
 }
 
-/* What came of a client, and what is due for it. A client that is to confirm the end is let go when it has. */
+/* Reads from a client, and does what is due for it. A client that has to confirm the end is dropped when it has. */
 static void attend(size_t i, short events, long long time) {
     struct client *c = the.clients[i];
     if (events & (POLLIN | POLLHUP | POLLERR)) hear(c);
@@ -189,7 +189,7 @@ static void hold_signals(void) {
     sigprocmask(SIG_SETMASK, &held, NULL);
 }
 
-/* The words of the command in one line, without what a terminal would obey. */
+/* Writes the command and its arguments in one line, without control characters. */
 static void set_title(char **command) {
     size_t len = 0;
     for (; *command != NULL; command++) {
@@ -200,7 +200,7 @@ static void set_title(char **command) {
     }
 }
 
-/* For how many milliseconds the last screen of a command is kept that ended while nobody was attached; -1 if KEEP_LINGER is wrong. */
+/* Returns how many milliseconds the last screen is kept if the command ends while nobody is attached; -1 if KEEP_LINGER is wrong. */
 static long long linger(void) {
     const char *named = getenv("KEEP_LINGER");
     char *end;
@@ -214,7 +214,7 @@ struct report {
     char why[WHY_LIMIT];
 };
 
-/* Opens all that a keeper needs, and runs the command. False if that fails. */
+/* Opens everything that a keeper needs, and runs the command. Returns false if that fails. */
 static bool begin(const struct beginning *beginning, struct report *report) {
     set_name(beginning->name);
     set_title(beginning->command);
@@ -258,9 +258,9 @@ void start_session(const struct folder *folder, const struct beginning *beginnin
     int pipes[2];
     size_t len = 0;
     the.folder = *folder;
-    if (pipe2(pipes, O_CLOEXEC) != 0) fail(1, "a pipe: %s", strerror(errno));
+    if (pipe2(pipes, O_CLOEXEC) != 0) fail(1, "cannot create a pipe: %s", strerror(errno));
     pid_t child = fork();
-    if (child < 0) fail(1, "a process: %s", strerror(errno));
+    if (child < 0) fail(1, "cannot start a process: %s", strerror(errno));
     if (child == 0) {
         close(pipes[0]);
         keep(beginning, pipes[1]);

@@ -1,9 +1,9 @@
 /* The keeper: a command on a pseudo-terminal, the terminal that plays what it writes, and the clients. What its parts share.
  *
- * Clients see `settled`, the newest state between sequences, so that one that comes while the program is inside a sequence
- * gets a screen at once. Each client has a terminal that is in the state of what was sent to it. An update leads from
- * there to `settled`, and is made only when the last one is wholly written and its time has come: so a slow client
- * gets the newest state, and nothing ever waits for it in a queue. */
+ * Clients see `settled`, the newest state between sequences, so a client that attaches while the program is inside a
+ * sequence gets a screen at once. For each client there is a terminal in the state that was sent to it. An update leads from
+ * there to `settled`. It is made when its time has come and the last one is wholly written. So a slow client gets the newest
+ * state, and no older states wait in a queue. */
 #ifndef KEEP_SESSION_H
 #define KEEP_SESSION_H
 
@@ -11,13 +11,13 @@
 
 enum {
     ATTACHED_LIMIT = 32,
-    ASKING_LIMIT = 16,  /* clients that aren't attached; one more takes the place of the oldest, so silent ones keep nobody out */
+    ASKING_LIMIT = 16,  /* clients that aren't attached; one more replaces the oldest, so silent ones block nobody */
     CLIENT_LIMIT = ATTACHED_LIMIT + ASKING_LIMIT,
     INTERVAL = 20,      /* milliseconds from one update of a client to its next */
     PATIENCE = 2000,    /* milliseconds that a client has to ask, or to take the last frames */
     PIECE = 4096,       /* the most bytes of one read of the program */
     INPUT_LIMIT = 8192, /* the most bytes of keys that wait for the program, and as many of reports */
-    SMALL_FRAMES = 1024 /* room for what follows an update */
+    SMALL_FRAMES = 1024 /* capacity for the frames after an update */
 };
 
 struct client {
@@ -32,7 +32,7 @@ struct client {
     long long came;
     size_t in_len;
     uint8_t in[FRAME_HEAD + KEYS_LIMIT];
-    size_t at, len; /* `out` is written as far as `at` */
+    size_t at, len; /* `out` is written up to `at` */
     uint8_t out[FRAME_HEAD + FRAME_LIMIT + SMALL_FRAMES];
 };
 

@@ -52,7 +52,7 @@ bool wire_receive(int socket, char *letter, uint8_t *bytes, size_t room, size_t 
     return length <= room && receive(socket, bytes, length);
 }
 
-/* Asks, and reads the keeper's first frame. A keeper of before version 1 answers an empty FRAME_ANSWER. */
+/* Asks, and reads the keeper's first frame. A keeper from before version 1 sends an empty FRAME_ANSWER. */
 int wire_begin(int socket, char ask, uint8_t flags, struct hello *hello, char *why) {
     const uint8_t asked[HELLO_LENGTH] = {'k', 'e', 'e', 'p', PROTOCOL_LOWEST, PROTOCOL_HIGHEST, (uint8_t)ask, flags};
     uint8_t told[256];
@@ -60,7 +60,7 @@ int wire_begin(int socket, char ask, uint8_t flags, struct hello *hello, char *w
     size_t len;
     wire_patience(socket, PATIENCE);
     memset(hello, 0, sizeof *hello);
-    /* A keeper that lets nobody in closes at once, so what it said is read even if nothing could be sent. */
+    /* A keeper that rejects a client closes at once, so its frame is read even if nothing could be sent. */
     send_all(socket, asked, sizeof asked);
     if (!wire_receive(socket, &letter, told, sizeof told - 1, &len)) return WIRE_SILENT;
     if (letter == FRAME_FULL) return WIRE_FULL;

@@ -1,9 +1,9 @@
-/* stack: vt220_update uses at most 32 KB of stack, any other call at most 8 KB. Each runs on a thread whose stack was painted before. */
+/* stack: each call uses at most 8 KB of stack. Each runs on a thread whose stack was painted before. */
 #include "check.h"
 #include <pthread.h>
 #include <sys/mman.h>
 
-enum { STACK = 256 * 1024, PAINT = 0xA5, LIMIT = 8192, UPDATE = 32768 };
+enum { STACK = 256 * 1024, PAINT = 0xA5, LIMIT = 8192 };
 
 static vt220 a = VT220_INIT, b = VT220_INIT;
 static vt220_scratch s = VT220_INIT;
@@ -114,12 +114,12 @@ int main(void) {
     for (size_t i = 0; i < sizeof states / sizeof states[0]; i++) {
         vt220_reset(&b);
         vt220_feed(&b, (const uint8_t *)states[i], strlen(states[i]), out, 5120, &written);
-        measure("update", updates, UPDATE, empty);
+        measure("update", updates, LIMIT, empty);
     }
     vt220_feed(&b, (const uint8_t *)"\030", 1, out, 10, &written);
     feeds(NULL);
     vt220_feed(&b, (const uint8_t *)"\030", 1, out, 10, &written);
-    measure("update of much", updates, UPDATE, empty);
+    measure("update of much", updates, LIMIT, empty);
     measure("text, row text, show and repaint", writes, LIMIT, empty);
     measure("picture", draws, LIMIT, empty);
     measure("readers", reads, LIMIT, empty);

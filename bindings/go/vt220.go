@@ -1,12 +1,14 @@
 // Package vt220 wraps libvt220, a proved DEC VT220 terminal emulator core.
 //
 //	terminal, err := vt220.New()
-//	reports := terminal.Feed([]byte("Hello\r\n\x1b[6n")) // bytes of the host in, the reports to it out
+//	reports := terminal.Feed([]byte("Hello\r\n\x1b[6n")) // the host's bytes go in, the reports to the host come out
 //
-// It is built against the installed library, which pkg-config finds; with the tag vt220_source, against out/ of the repository.
+// It links the installed library, which pkg-config finds. With the tag vt220_source it links out/libvt220.a of the repository.
 //
-// Rows and columns count from 1. The methods that only read may be called by several goroutines at once; any other method needs the
-// Terminal for itself. A Scratch is used by one goroutine at a time.
+// Rows and columns count from 1, and lengths are in bytes. Several goroutines may call methods that only read at once. Any other
+// method needs the Terminal for itself. One goroutine at a time may use a Scratch.
+//
+// On a closed Terminal, methods with an error return ErrClosed, and all others do nothing and return zero values.
 package vt220
 
 // #include "vt220.h"
@@ -31,7 +33,7 @@ const (
 	Version      = 300 // 10000 * major + 100 * minor + patch
 )
 
-// Why a call did nothing.
+// The errors of the calls. A call that returns an error has changed nothing.
 var (
 	ErrMemory      = errors.New("vt220: the allocation failed")
 	ErrClosed      = errors.New("vt220: a terminal or the scratch buffer is closed")
@@ -40,13 +42,13 @@ var (
 	ErrNoRow       = errors.New("vt220: there is no such row")
 )
 
-// noCopy lets go vet find copies of what owns a handle.
+// noCopy lets go vet find copies of a struct that owns a handle.
 type noCopy struct{}
 
 func (*noCopy) Lock()   {}
 func (*noCopy) Unlock() {}
 
-// Held is what kind of sequence is unfinished.
+// Held is the kind of the unfinished sequence.
 type Held int
 
 const (
@@ -56,7 +58,7 @@ const (
 	HeldString
 )
 
-// Cursor is where the cursor is; Wrap says that the next glyph begins a new line.
+// Cursor is the cursor's position. If Wrap is true, the next glyph begins a new line.
 type Cursor struct {
 	Row, Col int
 	Wrap     bool
@@ -65,14 +67,14 @@ type Cursor struct {
 // Margins are the first and the last row of the scroll region.
 type Margins struct{ Top, Bottom int }
 
-// Modes says which modes are set.
+// Modes holds the modes: true if set.
 type Modes struct {
 	KAM, IRM, SRM, LNM                                       bool
 	DECCKM, DECSCLM, DECSCNM, DECOM, DECAWM, DECARM, DECTCEM bool
 	KeypadApplication, Reports8Bit                           bool
 }
 
-// Cell is one cell of the screen. A selective erase leaves a protected one.
+// Cell is one cell of the screen. A selective erase leaves a protected cell.
 type Cell struct {
 	Glyph                                        rune
 	Bold, Underline, Blink, Reverse, IsProtected bool
@@ -81,13 +83,14 @@ type Cell struct {
 // Brush holds the attributes with which the next character is written.
 type Brush struct{ Bold, Underline, Blink, Reverse, IsProtected bool }
 
-// Sets holds the final bytes of the sets in G0 to G3, which of these are in GL and GR, and a pending single shift, 2 or 3, or 0.
+// Sets holds the final bytes of the sets in G0 to G3, the numbers of those in GL and GR, and the pending single shift: 2, 3, or 0 for
+// none.
 type Sets struct {
 	G                   [4]byte
 	GL, GR, SingleShift int
 }
 
-// Saved holds what DECRC restores.
+// Saved holds the state that DECRC restores.
 type Saved struct {
 	Cursor Cursor
 	Origin bool
@@ -109,21 +112,21 @@ func result(status C.uint32_t) error {
 	case C.VT220_NO_ROW:
 		return ErrNoRow
 	default:
-		return ErrClosed // the other two can't be: New opens once, and the buffer always has the limit
+		return ErrClosed // the other two are impossible: New opens once, and the buffer always has the limit
 	}
 }
 
-// LibraryVersion is the library's own, as Version.
+// LibraryVersion returns the version of the library, in the form of Version.
 func LibraryVersion() int { return int(C.vt220_version()) }
 
-// Scratch is the buffer in which the calls that write a whole screen work. One serves any number of terminals.
+// Scratch is the work buffer of the calls that write a whole screen. One serves any number of terminals.
 type Scratch struct {
 	_      noCopy
 	handle C.vt220_scratch
 	out    []C.uint8_t
 }
 
-// NewScratch opens a scratch buffer: ErrMemory if the allocation fails.
+// NewScratch opens a scratch buffer. It returns ErrMemory if the allocation fails, and ErrUnsupported on an old processor.
 func NewScratch() (*Scratch, error) {
 	s := &Scratch{out: make([]C.uint8_t, UpdateLimit)}
 	if err := result(C.vt220_scratch_open(&s.handle)); err != nil {
@@ -133,7 +136,7 @@ func NewScratch() (*Scratch, error) {
 	return s, nil
 }
 
-// Close gives the memory back; a closed one stays closed.
+// Close frees the memory. A closed scratch buffer stays closed.
 func (s *Scratch) Close() { C.vt220_scratch_close(&s.handle) }
 
 func (s *Scratch) written(status C.uint32_t, length C.size_t) ([]byte, error) {
@@ -143,14 +146,14 @@ func (s *Scratch) written(status C.uint32_t, length C.size_t) ([]byte, error) {
 	return C.GoBytes(unsafe.Pointer(&s.out[0]), C.int(length)), nil
 }
 
-// Terminal is a terminal.
+// Terminal is a VT220. It is closed by Close, or when nothing refers to it any more.
 type Terminal struct {
 	_       noCopy
 	handle  C.vt220
 	reports [5120]C.uint8_t
 }
 
-// New opens a terminal, as it is at power-up: ErrMemory if the allocation fails.
+// New opens a terminal in its power-up state. It returns ErrMemory if the allocation fails, and ErrUnsupported on an old processor.
 func New() (*Terminal, error) {
 	t := new(Terminal)
 	if err := result(C.vt220_open(&t.handle)); err != nil {
@@ -160,10 +163,10 @@ func New() (*Terminal, error) {
 	return t, nil
 }
 
-// Close gives the memory back. A closed terminal stays closed: its calls do nothing, and answer zeros or ErrClosed.
+// Close frees the memory. A closed terminal stays closed.
 func (t *Terminal) Close() { C.vt220_close(&t.handle) }
 
-// IsOpen tells whether the terminal is open.
+// IsOpen returns whether the terminal is open.
 func (t *Terminal) IsOpen() bool { return bool(C.vt220_is_open(&t.handle)) }
 
 // Feed plays all bytes of the host, and returns the reports to it.
@@ -178,7 +181,7 @@ func (t *Terminal) Feed(bytes []byte) (reports []byte) {
 	return reports
 }
 
-// Text is the screen: 24 lines, each without the spaces at its end, and with a line feed.
+// Text returns the screen as text: 24 lines, each without the spaces at its end, and with a line feed.
 func (t *Terminal) Text(s *Scratch) (string, error) {
 	var length C.size_t
 	status := C.vt220_text(&t.handle, &s.handle, &s.out[0], UpdateLimit, &length)
@@ -186,7 +189,7 @@ func (t *Terminal) Text(s *Scratch) (string, error) {
 	return string(text), err
 }
 
-// RowText is one line of Text, that of a row from 1 to 24: ErrNoRow if there is no such row.
+// RowText returns one line of Text, that of a row from 1 to 24. It returns ErrNoRow if there is no such row.
 func (t *Terminal) RowText(row int, s *Scratch) (string, error) {
 	var length C.size_t
 	status := C.vt220_row_text(&t.handle, &s.handle, C.size_t(row), &s.out[0], RowTextLimit, &length)
@@ -194,7 +197,7 @@ func (t *Terminal) RowText(row int, s *Scratch) (string, error) {
 	return string(text), err
 }
 
-// Show is the screen as text with SGR sequences for the attributes.
+// Show returns the screen as text with SGR sequences for the attributes.
 func (t *Terminal) Show(s *Scratch) (string, error) {
 	var length C.size_t
 	status := C.vt220_show(&t.handle, &s.handle, &s.out[0], UpdateLimit, &length)
@@ -202,7 +205,7 @@ func (t *Terminal) Show(s *Scratch) (string, error) {
 	return string(text), err
 }
 
-// Picture is the screen as an SVG document.
+// Picture returns the screen as a picture: an SVG document.
 func (t *Terminal) Picture(s *Scratch) (string, error) {
 	if len(s.out) < PictureLimit {
 		s.out = make([]C.uint8_t, PictureLimit)
@@ -213,18 +216,19 @@ func (t *Terminal) Picture(s *Scratch) (string, error) {
 	return string(text), err
 }
 
-// CopyFrom brings this terminal into the state of another one, also if that is inside a sequence.
+// CopyFrom brings this terminal into the state of another one, also if the other is inside a sequence.
 func (t *Terminal) CopyFrom(other *Terminal) error {
 	return result(C.vt220_copy(&t.handle, &other.handle))
 }
 
-// Reset brings the terminal into its state at power-up, also inside a sequence.
+// Reset brings the terminal into its power-up state, also inside a sequence.
 func (t *Terminal) Reset() error { return result(C.vt220_reset(&t.handle)) }
 
-// Bells is how often BEL was carried out.
+// Bells returns how often BEL was carried out since New.
 func (t *Terminal) Bells() uint64 { return uint64(C.vt220_bells(&t.handle)) }
 
-// RowChanges says which cells of a row of another terminal this one doesn't have: index c - 1 is for column c.
+// RowChanges marks the cells of a row of another terminal that this one doesn't have: index c - 1 is for column c. It returns ErrNoRow
+// if there is no such row, 1 to 24.
 func (t *Terminal) RowChanges(to *Terminal, row int) ([]bool, error) {
 	var marks C.vt220_row_marks
 	if err := result(C.vt220_row_changes(&t.handle, &to.handle, C.size_t(row), &marks)); err != nil {
@@ -237,21 +241,21 @@ func (t *Terminal) RowChanges(to *Terminal, row int) ([]bool, error) {
 	return changed, nil
 }
 
-// Brush is the attributes with which the next character is written.
+// Brush returns the attributes with which the next character is written.
 func (t *Terminal) Brush() Brush {
 	var b C.vt220_brush_look
 	C.vt220_brush(&t.handle, &b)
 	return Brush{bool(b.bold), bool(b.underline), bool(b.blink), bool(b.reverse), bool(b.is_protected)}
 }
 
-// Sets is the graphic sets.
+// Sets returns the graphic sets.
 func (t *Terminal) Sets() Sets {
 	var g C.vt220_graphic_sets
 	C.vt220_sets(&t.handle, &g)
 	return Sets{[4]byte{byte(g.g0), byte(g.g1), byte(g.g2), byte(g.g3)}, int(g.gl), int(g.gr), int(g.single_shift)}
 }
 
-// Stops says which columns have a tab stop: index c - 1 is for column c.
+// Stops returns which columns have a tab stop: index c - 1 is for column c.
 func (t *Terminal) Stops() (stops [Columns]bool) {
 	var all C.vt220_tab_stops
 	C.vt220_stops(&t.handle, &all)
@@ -261,7 +265,7 @@ func (t *Terminal) Stops() (stops [Columns]bool) {
 	return stops
 }
 
-// Saved is what DECRC restores.
+// Saved returns the state that DECRC restores.
 func (t *Terminal) Saved() Saved {
 	var r C.vt220_saved_record
 	C.vt220_saved(&t.handle, &r)
@@ -272,22 +276,22 @@ func (t *Terminal) Saved() Saved {
 	}
 }
 
-// Repaint is the bytes that leave any terminal in this one's state: ErrPartial inside a sequence.
+// Repaint returns bytes that leave any terminal of this library in this one's state. It returns ErrPartial inside a sequence.
 func (t *Terminal) Repaint(s *Scratch) ([]byte, error) {
 	var length C.size_t
 	status := C.vt220_repaint(&t.handle, &s.handle, &s.out[0], UpdateLimit, &length)
 	return s.written(status, length)
 }
 
-// Update is the bytes that lead from this terminal's state to that of another, which this one then has: ErrPartial if one
-// of the two is inside a sequence; none between a terminal and itself.
+// Update returns bytes that lead from this terminal's state to that of another, and brings this one there. It returns no bytes if the
+// states are equal, and ErrPartial if one of the two is inside a sequence.
 func (t *Terminal) Update(to *Terminal, s *Scratch) ([]byte, error) {
 	var length C.size_t
 	status := C.vt220_update(&t.handle, &to.handle, &s.handle, &s.out[0], UpdateLimit, &length)
 	return s.written(status, length)
 }
 
-// Row is the cells of a row, 1 to 24; none if there is no such row.
+// Row returns the cells of a row, 1 to 24. It returns nil if there is no such row.
 func (t *Terminal) Row(row int) []Cell {
 	var cells [Columns]C.vt220_cell
 	if row < 1 || row > Rows {
@@ -301,24 +305,24 @@ func (t *Terminal) Row(row int) []Cell {
 	return told
 }
 
-// Cursor tells where the cursor is.
+// Cursor returns the cursor.
 func (t *Terminal) Cursor() Cursor {
 	var c C.vt220_cursor_place
 	C.vt220_cursor(&t.handle, &c)
 	return Cursor{int(c.row), int(c.col), bool(c.wrap)}
 }
 
-// Width is 80 or 132.
+// Width returns the number of columns: 80 or 132.
 func (t *Terminal) Width() int { return int(C.vt220_width(&t.handle)) }
 
-// Margins tells the margins.
+// Margins returns the margins.
 func (t *Terminal) Margins() Margins {
 	var m C.vt220_margin_rows
 	C.vt220_margins(&t.handle, &m)
 	return Margins{int(m.top), int(m.bottom)}
 }
 
-// Modes tells which modes are set.
+// Modes returns the modes.
 func (t *Terminal) Modes() Modes {
 	var m C.vt220_mode_set
 	C.vt220_modes(&t.handle, &m)
@@ -329,13 +333,13 @@ func (t *Terminal) Modes() Modes {
 	}
 }
 
-// IsBetween tells whether the terminal is between sequences.
+// IsBetween returns whether the terminal is between sequences.
 func (t *Terminal) IsBetween() bool { return bool(C.vt220_is_between(&t.handle)) }
 
-// Held tells what kind of sequence is unfinished.
+// Held returns the kind of the unfinished sequence.
 func (t *Terminal) Held() Held { return Held(C.vt220_held_kind(&t.handle)) }
 
-// SameState tells whether two terminals are in the same state, hidden parts included.
+// SameState returns whether two terminals are in the same state, hidden parts included.
 func (t *Terminal) SameState(other *Terminal) bool {
 	return bool(C.vt220_same_state(&t.handle, &other.handle))
 }

@@ -33,7 +33,7 @@ func unhex(t *testing.T, field string) []byte {
 	return content
 }
 
-// Each vector whole, byte by byte and in cuts: VT220_VECTORS names their file, else this repository's is read.
+// Each vector whole, byte by byte and in cuts: VT220_VECTORS names their file. Without it, this repository's file is read.
 func TestVectors(t *testing.T) {
 	path := os.Getenv("VT220_VECTORS")
 	if path == "" {

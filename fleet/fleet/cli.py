@@ -1,8 +1,8 @@
 """The command `fleet`.
 
-Exit status: 0 done; 1 failed; 2 the command line is wrong; 3 no such session or worker; 4 the session has a fault; 5 the name is
-taken; 6 refused; 69 the store cannot be reached or cannot keep a fleet; 77 no right; 78 the configuration is wrong. `host` ends
-with its program's status.
+Exit status: 0 success; 1 an input or output error; 2 the command line is wrong; 3 no such session or worker; 4 the session has a
+fault; 5 another host has the name; 6 refused by the host or the store; 69 the store can't be reached or can't keep a fleet; 77
+permission denied; 78 the configuration is wrong. `host` ends with its program's status.
 """
 import argparse
 import logging
@@ -13,7 +13,7 @@ import time
 
 from .config import Settings, Unclear, seconds
 
-LEAVING = 10.0  # seconds that a store is waited for when this process was told to end
+LEAVING = 10.0  # seconds to wait for a store after a signal to end
 TAKEN, FAULT, NONE, REFUSED, UNFIT, DENIED, CONFIGURATION = 5, 4, 3, 6, 69, 77, 78
 
 
@@ -49,7 +49,7 @@ def do_worker(words, settings):
 
 
 def on_end(call):
-    """Has a call made when this process is told to end."""
+    """Sets a call for the signals that end this process."""
     for ends in (signal.SIGHUP, signal.SIGTERM, signal.SIGINT):
         signal.signal(ends, lambda *_: call())
 
@@ -79,7 +79,7 @@ def do_host(words, settings):
 
 
 def replay(host, path, rate):
-    """Sends a file's bytes at a pace, twenty times a second."""
+    """Sends a file's bytes at `rate` bytes a second, in twenty parts a second."""
     with open(path, "rb") as file:
         while data := file.read(max(1, rate // 20)):
             host.send(data)
@@ -89,7 +89,7 @@ def replay(host, path, rate):
 
 
 def of_session(call):
-    """Returns a command that is about the session of a name."""
+    """Returns a command that works on the session of a name."""
 
     def do(words, settings):
         from .operate import find
@@ -201,67 +201,67 @@ def do_web(words, settings):
 
 
 def add_hosts(add):
-    each = add("run", do_run, "starts a store and workers on this machine, until Ctrl-C or as long as a command runs")
-    each.add_argument("--workers", type=int, default=4)
+    each = add("run", do_run, "starts a store and workers on this machine, until Ctrl-C or the end of COMMAND")
+    each.add_argument("--workers", type=int, default=4, help="the number of workers (4)")
     each.add_argument("command", nargs=argparse.REMAINDER)
-    each = add("worker", do_worker, "plays sessions, until it is told to end; then it hands them over")
-    each.add_argument("--every", type=int, help="a checkpoint after so many bytes (4096)")
-    each.add_argument("--lease", type=float, help="seconds of silence after which a worker counts as dead (5)")
-    each.add_argument("--keep", type=size, help="bytes before a checkpoint that stay in the store (all)")
-    each.add_argument("--most", type=int, help="sessions that it takes")
-    each.add_argument("--retain", type=seconds, help="how long the keys of an ended session stay (for ever)")
-    each.add_argument("--metrics", metavar="HOST:PORT", help="serves metrics for Prometheus")
+    each = add("worker", do_worker, "plays sessions until SIGTERM, and then moves them to other workers")
+    each.add_argument("--every", type=int, help="bytes between two checkpoints of a session (4096)")
+    each.add_argument("--lease", type=float, help="seconds of silence after which other workers take its sessions (5)")
+    each.add_argument("--keep", type=size, help="bytes before a checkpoint that stay in the store: a number, or all (all)")
+    each.add_argument("--most", type=int, help="the most sessions that it plays (1000000)")
+    each.add_argument("--retain", type=seconds, help="how long an ended session stays in the store, such as 7d (for ever)")
+    each.add_argument("--metrics", metavar="HOST:PORT", help="serves metrics for Prometheus at this address")
     each = add("host", do_host, "runs a command on a pseudo-terminal of 24 rows by 80 columns, as a session")
-    each.add_argument("--input", action="store_true", help="viewers may type")
-    each.add_argument("--replay", metavar="FILE", help="sends a file's bytes instead")
-    each.add_argument("--rate", type=int, default=9600, help="bytes a second of --replay (9600)")
+    each.add_argument("--input", action="store_true", help="allows viewers to type")
+    each.add_argument("--replay", metavar="FILE", help="sends a file's bytes instead of running a command")
+    each.add_argument("--rate", type=int, default=9600, help="bytes a second for --replay (9600)")
     each.add_argument("name")
     each.add_argument("command", nargs=argparse.REMAINDER)
 
 
 def add_viewers(add):
     each = add("view", do_view, "follows a session on this terminal")
-    each.add_argument("--type", action="store_true", help="keys go to the session; Ctrl-] leaves")
+    each.add_argument("--type", action="store_true", help="sends keys to the session; Ctrl-] ends the view")
     each.add_argument("name")
     named = [
-        ("text", do_text, "prints the screen as it is now"),
+        ("text", do_text, "prints the screen as text"),
         ("picture", do_picture, "writes the screen as SVG"),
-        ("repaint", do_repaint, "writes the bytes that leave a terminal in the session's state"),
-        ("log", do_log, "writes the bytes that the session wrote"),
+        ("repaint", do_repaint, "writes bytes that leave a terminal in the session's state"),
+        ("log", do_log, "writes the bytes that the session's program wrote"),
     ]
     for name, do, words in named:
         add(name, do, words).add_argument("name")
     each = add("export", do_export, "writes a recording with its times, as asciicast 2 or ttyrec")
-    each.add_argument("--ttyrec", action="store_true")
+    each.add_argument("--ttyrec", action="store_true", help="writes ttyrec instead of asciicast 2")
     each.add_argument("name")
     each = add("type", do_type, "types into a session")
-    each.add_argument("--enter", action="store_true", help="a return after it")
+    each.add_argument("--enter", action="store_true", help="sends Return after the text")
     each.add_argument("name")
-    each.add_argument("text", nargs="?", help="else standard input")
+    each.add_argument("text", nargs="?", help="the text; without it, standard input")
     each = add("web", do_web, "serves a page with live pictures of all sessions")
-    each.add_argument("--address", help="where it listens (127.0.0.1)")
-    each.add_argument("--port", type=int)
-    each.add_argument("--typing", action="store_true", default=None, help="the page may type, if a session's host allows that")
+    each.add_argument("--address", help="the address on which it listens (127.0.0.1)")
+    each.add_argument("--port", type=int, help="the port on which it listens (8220)")
+    each.add_argument("--typing", action="store_true", default=None, help="allows the page to type, if the session's host does")
 
 
 def add_operators(add):
     each = add("list", do_list, "lists the sessions")
-    each.add_argument("--all", action="store_true", help="ended ones, too")
-    each.add_argument("--json", action="store_true")
+    each.add_argument("--all", action="store_true", help="also lists ended sessions")
+    each.add_argument("--json", action="store_true", help="prints a line of JSON for each")
     each = add("workers", do_workers, "lists the workers")
-    each.add_argument("--json", action="store_true")
-    each = add("kill", do_kill, "sends a signal to a session's program, and waits for its end")
-    each.add_argument("--signal", choices=("HUP", "INT", "TERM", "KILL"), default="HUP")
-    each.add_argument("--patience", type=seconds, default=10)
+    each.add_argument("--json", action="store_true", help="prints a line of JSON for each")
+    each = add("kill", do_kill, "sends a signal to a session's program, and waits until it ends")
+    each.add_argument("--signal", choices=("HUP", "INT", "TERM", "KILL"), default="HUP", help="the signal (HUP)")
+    each.add_argument("--patience", type=seconds, default=10, help="the longest wait, such as 30s (10s)")
     each.add_argument("name")
     each = add("end", do_end, "ends a session that has no host")
-    each.add_argument("--keep", type=seconds, help="how long its keys stay, such as 7d; 0 removes them at once (for ever)")
-    each.add_argument("--force", action="store_true", help="even if its host lives")
+    each.add_argument("--keep", type=seconds, help="how long it stays in the store, such as 7d, or 0 (for ever)")
+    each.add_argument("--force", action="store_true", help="also if its host is alive")
     each.add_argument("name")
-    each = add("drain", do_drain, "has a worker hand its sessions over and end")
-    each.add_argument("--patience", type=seconds, default=10)
-    each.add_argument("worker", help="its name, or how that begins")
-    add("check-store", do_check, "says whether the store can keep a fleet")
+    each = add("drain", do_drain, "moves a worker's sessions to other workers, and ends it")
+    each.add_argument("--patience", type=seconds, default=10, help="the longest wait, such as 30s (10s)")
+    each.add_argument("worker", help="its name, or the beginning of its name")
+    add("check-store", do_check, "checks whether the store can keep a fleet")
 
 
 def parser():
@@ -282,8 +282,18 @@ def parser():
     return made
 
 
+def message_of(error):
+    """Returns the message for an error. That of a fault begins with the fault's name."""
+    from .keys import Fault
+
+    if isinstance(error, OSError) and error.strerror:
+        return ": ".join(str(part) for part in (error.filename, error.strerror) if part)
+    name, text = type(error).__name__, str(error).strip()
+    return f"{name}: {text}" if isinstance(error, Fault) or not text else text
+
+
 def status_of(error):
-    """Returns the exit status for an error, and the words for it; None if it isn't one that is expected."""
+    """Returns the exit status for an error, or None if the error isn't an expected one."""
     from redis.exceptions import AuthenticationError, NoPermissionError, RedisError
 
     from . import keys, operate, store
@@ -308,6 +318,11 @@ def status_of(error):
 
 def main(arguments=None):
     words = parser().parse_args(arguments)
+    try:
+        from . import keys  # loads the library
+    except ImportError as error:
+        print(f"fleet: {error}", file=sys.stderr)
+        return 1
     level = logging.ERROR if words.quiet else logging.INFO
     logging.basicConfig(stream=sys.stderr, level=level, format="%(asctime)s %(levelname)s %(message)s")
     try:
@@ -321,5 +336,5 @@ def main(arguments=None):
         status = status_of(error)
         if status is None:
             raise
-        print(f"fleet: {type(error).__name__}: {str(error).strip()}", file=sys.stderr)
+        print(f"fleet: {message_of(error)}", file=sys.stderr)
         return status

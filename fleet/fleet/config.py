@@ -1,6 +1,7 @@
-"""Settings: the configuration file, and what the command line says over it.
+"""Settings: those of the configuration file, which the command line overrides.
 
-The file is that of --config, else of FLEET_CONFIG, else ~/.config/vt220-fleet.conf, else /etc/vt220-fleet.conf.
+The file is the first of these that is given or exists: that of --config, that of FLEET_CONFIG, ~/.config/vt220-fleet.conf, and
+/etc/vt220-fleet.conf.
 """
 import configparser
 import os
@@ -13,7 +14,7 @@ DEFAULT_STORE = "redis://127.0.0.1:6379"
 
 
 class Unclear(Exception):
-    """The configuration has something that cannot be."""
+    """Reports a wrong configuration."""
 
 
 @dataclass
@@ -59,7 +60,11 @@ def seconds(word):
     return float(word[:-1]) * units[word[-1]] if word and word[-1] in units else float(word)
 
 
+EXPECTED = {bool: "yes or no", int: "a number", float: "a time, such as 30, 10m or 7d"}
+
+
 def value_of(kind, text, where):
+    """Returns a setting's value. `where` names the file, the section and the setting."""
     try:
         if kind is bool:
             return YES[text.lower()]
@@ -67,11 +72,11 @@ def value_of(kind, text, where):
             return None
         return seconds(text) if kind is float else kind(text)
     except (KeyError, ValueError):
-        raise Unclear(f"{where} = {text}: not a {kind.__name__}") from None
+        raise Unclear(f"{where} = {text}: expected {EXPECTED[kind]}") from None
 
 
 class Settings:
-    """All sections, each with its defaults where the file says nothing."""
+    """Holds all sections, with the default of each setting that the file doesn't have."""
 
     def __init__(self, path=None):
         for name, made in SECTIONS.items():
@@ -87,11 +92,13 @@ class Settings:
         try:
             with open(path) as file:
                 parser.read_file(file)
-        except (OSError, configparser.Error) as refused:
-            raise Unclear(f"{path}: {refused}") from None
+        except OSError as error:
+            raise Unclear(f"{path}: {error.strerror}") from None
+        except configparser.Error as error:
+            raise Unclear(f"{path}: {error}") from None
         for section in parser.sections():
             if section not in SECTIONS:
-                raise Unclear(f"{path}: no section is named [{section}]")
+                raise Unclear(f"{path}: unknown section [{section}]; the sections are {', '.join(SECTIONS)}")
             self.fill(path, section, parser[section])
 
     def fill(self, path, section, words):
@@ -99,12 +106,12 @@ class Settings:
         for name, text in words.items():
             name = name.replace("-", "_")
             if name not in kinds:
-                raise Unclear(f"{path}: [{section}] has no {name}")
+                raise Unclear(f"{path}: [{section}] has no setting {name}; its settings are {', '.join(kinds)}")
             setattr(getattr(self, section), name, value_of(kinds[name], text, f"{path}: [{section}] {name}"))
 
     def connect(self, waits=False):
-        """Returns the store: one that is waited for, for ever, or until give-up seconds are over. A password is read from its
-        file, so that it is on no command line and in no environment."""
+        """Returns the store. If `waits` is true, its calls wait for ever, otherwise at most give-up seconds. The password is from
+        its file, so that it is on no command line and in no environment."""
         options = {"socket_timeout": self.store.timeout}
         if self.store.password_file:
             with open(self.store.password_file) as file:

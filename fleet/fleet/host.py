@@ -176,7 +176,7 @@ class Host:
                 self.rebuild(there)
             elif len(answer) > 3 and not self.said_fault:
                 self.said_fault = answer[3].decode("utf-8", "replace")
-                log.error("%s: no worker goes on with this session: %s", self.name, self.said_fault)
+                log.error("%s: no worker can continue this session: %s", self.name, self.said_fault)
             else:
                 self.played = int(answer[2] or 0)
 
@@ -199,7 +199,7 @@ class Host:
         report = fields.get(b"report", b"")
         is_report = len(report) <= REPORT_LIMIT and REPORT.fullmatch(report) and entry_id.endswith(b"-0")
         if not is_report or keys.position(entry_id) > self.at:
-            log.error("%s: not passed on: %r at %s is no report to this session", self.name, report[:40], entry_id.decode())
+            log.error("%s: not passed on: %r at %s isn't a report to this session", self.name, report[:40], entry_id.decode())
             return []
         self.passed_on += 1
         if self.passed_on % TRIM == 0:

@@ -12,11 +12,11 @@ SIGNALS = {"HUP": 1, "INT": 2, "KILL": 9, "TERM": 15}
 
 
 class NoSession(Exception):
-    """No session has this name."""
+    """Reports that no session has this name."""
 
 
 class Refused(Exception):
-    """The store or a host doesn't allow it."""
+    """Reports that the store or a host doesn't allow a request."""
 
 
 def find(store, name):
@@ -25,7 +25,7 @@ def find(store, name):
         return name[1:]
     found = store.hget(keys.NAMES, name)
     if not found or not store.exists(key(found.decode(), "about")):
-        raise NoSession(f"no session has the name {name!r}")
+        raise NoSession(f"no such session: {name}")
     return found.decode()
 
 
@@ -140,9 +140,9 @@ class Typist:
                 break
             time.sleep(0.05)
         if answer == "refused":
-            raise Refused("the host of this session takes no input: start it with --input")
+            raise Refused("the host of this session allows no input: start it with --input")
         if answer in ("closed", "lost"):
-            raise Refused("the session is over")
+            raise Refused("the session has ended")
 
     def type(self, data):
         for at in range(0, len(data), 1024):
@@ -161,12 +161,12 @@ def kill(store, name, signal, patience):
     incarnation = find(store, name)
     state = about(store, [incarnation])[0]["state"]
     if state == "no host":
-        raise Refused(f"the host of {name!r} is silent: fleet end ends the session")
+        raise Refused(f"the host of {name} is silent; end the session with fleet end")
     Typist(store, incarnation).signal(SIGNALS[signal])
     end = time.monotonic() + patience
     while not store.hexists(key(incarnation, "about"), "closed") and not is_over(store, incarnation):
         if time.monotonic() > end:
-            raise Refused(f"{name!r} still runs after {patience:g} s; try --signal KILL")
+            raise Refused(f"{name} still runs after {patience:g} s; try --signal KILL")
         time.sleep(0.05)
     return 0
 
@@ -176,9 +176,9 @@ def end(store, name, keep, is_forced):
     incarnation = find(store, name)
     answer = store.run("end", incarnation, int(is_forced), keys.version(), -1 if keep is None else int(keep * 1000))[0]
     if answer == "alive":
-        raise Refused(f"the host of {name!r} lives: fleet kill ends its program, or use --force")
+        raise Refused(f"the host of {name} is alive; end its program with fleet kill, or use --force")
     if answer == "lost":
-        raise NoSession(f"no session has the name {name!r}")
+        raise NoSession(f"no such session: {name}")
     return 0
 
 
@@ -186,7 +186,7 @@ def drain(store, worker, patience):
     """Has a worker hand its sessions over, and waits until it has none."""
     found = [each.decode() for each in store.hkeys(keys.WORKERS) if each.decode() == worker or each.decode().startswith(worker)]
     if len(found) != 1:
-        raise NoSession(f"{len(found)} workers have a name that begins with {worker!r}")
+        raise NoSession(f"no such worker: {worker}" if not found else f"{len(found)} workers have a name that begins with {worker}")
     store.sadd(keys.DRAINING, found[0])
     store.publish(keys.wake(found[0]), "drain")
     end_at = time.monotonic() + patience

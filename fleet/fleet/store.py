@@ -82,7 +82,7 @@ class Store(redis.Redis):
         said = connection.read_response()
         run_id = next((line[7:].strip() for line in said.split(b"\n") if line.startswith(b"run_id:")), None)
         if self.run_id not in (None, run_id):
-            log.warning("the store is another run than before")
+            log.warning("the store was started again, or is another one")
             if self.minds_runs:
                 raise AnotherRun()
         self.run_id = run_id

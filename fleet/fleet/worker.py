@@ -99,7 +99,7 @@ class Worker:
             return
         news = self.claims.beat(len(self.kept))
         if news.is_dead:
-            self.begin_anew("it was taken for dead")
+            self.begin_anew("other workers took its sessions, since its count didn't change for a lease")
         elif news.is_to_be_compared:
             self.reconcile()
         if news.is_draining:
@@ -109,7 +109,7 @@ class Worker:
 
     def begin_anew(self, why):
         """Drops all sessions and goes on as another worker: what the old one had is others' now."""
-        log.warning("%s begins anew: %s", self.claims.me, why)
+        log.warning("%s starts again under a new name: %s", self.claims.me, why)
         self.kept.clear()
         self.due.clear()
         self.claims.enter()
@@ -150,7 +150,7 @@ class Worker:
             return
         taken = self.claims.take(room)
         if taken is None:
-            self.begin_anew("it was taken for dead")
+            self.begin_anew("other workers took its sessions, since its count didn't change for a lease")
         elif taken:
             self.adopt(taken)
 
@@ -193,7 +193,7 @@ class Worker:
         try:
             return call(*arguments)
         except (MemoryError, vt220.Memory):
-            log.error("%s has no memory for %s", self.claims.me, incarnation)
+            log.error("%s: allocation failed for %s", self.claims.me, incarnation)
             self.claims.release([incarnation])
             self.drop(incarnation)
             time.sleep(0.1)

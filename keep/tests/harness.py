@@ -1,4 +1,5 @@
 """What the tests of the session keeper share: sessions, windows of tmux, and clients that speak the protocol themselves."""
+import __main__
 import contextlib
 import fcntl
 import os
@@ -14,6 +15,11 @@ import sys
 import tempfile
 import termios
 import time
+
+# Each test has two arguments or more, and its help is its own text.
+if sys.argv[1:] == ["--help"] or len(sys.argv) < 3:
+    print(__main__.__doc__, end="", file=sys.stdout if sys.argv[1:] == ["--help"] else sys.stderr)
+    sys.exit(0 if sys.argv[1:] == ["--help"] else 2)
 
 PATIENCE = 15
 passed = failed = 0

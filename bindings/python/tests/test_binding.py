@@ -165,7 +165,7 @@ def test_docstrings_begin_with_a_verb():
 
 def test_a_library_of_another_version_is_refused(tmp_path):
     if not shutil.which("gcc"):
-        pytest.skip("gcc isn't here")
+        pytest.skip("gcc isn't installed")
     (tmp_path / "other.c").write_text("unsigned vt220_version(void) { return 9900; }\n")
     library = tmp_path / "libvt220.so"
     subprocess.run(["gcc", "-shared", "-fPIC", "-o", str(library), str(tmp_path / "other.c")], check=True)

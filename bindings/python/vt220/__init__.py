@@ -4,8 +4,8 @@
     reports = terminal.feed(b"Hello\\r\\n\\033[6n")   # the host's bytes go in, the reports to the host come out
     print(terminal.text())
 
-The shared library is the file that VT220_LIBRARY names, else libvt220.so next to this module, else out/libvt220.so of the
-repository that this module is in, else the system's. Rows and columns count from 1.
+The shared library is the file that VT220_LIBRARY names. If that isn't set, it is the first of these that exists: libvt220.so next to
+this module, out/libvt220.so of the repository that this module is in, and the system's. Rows and columns count from 1.
 
 Any thread may use any terminal at any time. A call is never interrupted by another thread's call, because the interpreter's lock
 is held during each call of the library.
@@ -56,9 +56,9 @@ class Memory(Error):
 
 
 class InUse(Error):
-    """Reports that a handle is open already."""
+    """Reports that a handle is already open."""
 
-    words = "the handle is open already"
+    words = "the handle is already open"
 
 
 class Closed(Error):
@@ -121,7 +121,7 @@ class Margins(NamedTuple):
 
 
 class Modes(NamedTuple):
-    """Holds which modes are set."""
+    """Holds the modes: True if set."""
 
     kam: bool
     irm: bool
@@ -149,7 +149,7 @@ class Brush(NamedTuple):
 
 
 class Sets(NamedTuple):
-    """Holds the graphic sets: the final bytes of those in G0 to G3, which of these are in GL and GR, and a pending single shift, or 0."""
+    """Holds the graphic sets: the final bytes of those in G0 to G3, the numbers of those in GL and GR, and a pending single shift, or 0."""
 
     g0: int
     g1: int
@@ -161,7 +161,7 @@ class Sets(NamedTuple):
 
 
 class Saved(NamedTuple):
-    """Holds what DECRC restores."""
+    """Holds the state that DECRC restores."""
 
     row: int
     col: int
@@ -351,10 +351,10 @@ _cells, _rows = _Cells(), _Rows()
 
 
 class Terminal:
-    """Opens a terminal in its state at power-up.
+    """Opens a terminal in its power-up state.
 
     It is closed by close(), by the end of a with statement, or when nothing refers to it any more. Raises Memory if an allocation
-    fails. Each call of a closed terminal, close() aside, raises Closed.
+    fails. Each call of a closed terminal except close() raises Closed.
     """
 
     def __init__(self) -> None:
@@ -446,15 +446,15 @@ class Terminal:
         return [place + 1 for place, changed in enumerate(marks.changed) if changed]
 
     def copy_from(self, other: "Terminal") -> None:
-        """Brings this terminal into the state of another one, also if that is inside a sequence."""
+        """Brings this terminal into the state of another one, also if the other is inside a sequence."""
         _expect(_library.vt220_copy(self._opened(), other._opened()))
 
     def reset(self) -> None:
-        """Brings this terminal into its state at power-up, also inside a sequence."""
+        """Brings this terminal into its power-up state, also inside a sequence."""
         _expect(_library.vt220_reset(self._opened()))
 
     def bells(self) -> int:
-        """Returns how often BEL was carried out."""
+        """Returns how often BEL was carried out since the terminal was opened."""
         return int(_library.vt220_bells(self._opened()))
 
     def _raw(self, row: int) -> bytes:
@@ -486,7 +486,7 @@ class Terminal:
         return self._told(_library.vt220_margins, _Margins, Margins)  # type: ignore[no-any-return]
 
     def modes(self) -> Modes:
-        """Returns which modes are set."""
+        """Returns the modes."""
         return self._told(_library.vt220_modes, _Modes, Modes)  # type: ignore[no-any-return]
 
     def brush(self) -> Brush:
@@ -498,7 +498,7 @@ class Terminal:
         return self._told(_library.vt220_sets, _Sets, Sets)  # type: ignore[no-any-return]
 
     def saved(self) -> Saved:
-        """Returns what DECRC restores."""
+        """Returns the state that DECRC restores."""
         return self._told(_library.vt220_saved, _Saved, Saved)  # type: ignore[no-any-return]
 
     def stops(self) -> List[int]:

@@ -1,19 +1,29 @@
-"""Prints the screen after a recording: python3 -m vt220 FILE [BYTES]. BYTES is how many of its bytes are played (all)."""
+"""Prints the screen after a recording: python3 -m vt220 FILE [BYTES]. BYTES is the number of bytes that are played (all)."""
 import sys
 
 from . import Terminal
 
 
-def main() -> None:
-    """Plays the recording that the command line names, and prints the screen."""
-    if len(sys.argv) not in (2, 3) or sys.argv[1] in ("-h", "--help"):
-        sys.exit(__doc__)
-    with open(sys.argv[1], "rb") as file:
-        data = file.read(int(sys.argv[2]) if len(sys.argv) == 3 else -1)
+def main() -> int:
+    """Plays the recording that the command line names, and prints the screen. Returns the exit status."""
+    words = sys.argv[1:]
+    if words in (["-h"], ["--help"]):
+        print(__doc__)
+        return 0
+    if len(words) not in (1, 2) or words[0].startswith("-") or not all(word.isdecimal() for word in words[1:]):
+        print(__doc__, file=sys.stderr)
+        return 2
+    try:
+        with open(words[0], "rb") as file:
+            data = file.read(int(words[1]) if len(words) == 2 else -1)
+    except OSError as error:
+        print(f"vt220: {words[0]}: {error.strerror}", file=sys.stderr)
+        return 1
     terminal = Terminal()
     terminal.feed(data)
     sys.stdout.write(terminal.text())
+    return 0
 
 
 if __name__ == "__main__":
-    main()
+    sys.exit(main())

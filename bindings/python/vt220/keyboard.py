@@ -10,7 +10,7 @@ from . import Modes
 
 
 class Key(enum.Enum):
-    """Names each key that sends a code of its own. Help is F15, and Do is F16, as on the keyboard."""
+    """Names each key that sends a separate code. Help is F15, and Do is F16, as on the keyboard."""
 
     UP = ("cursor", "A")
     DOWN = ("cursor", "B")

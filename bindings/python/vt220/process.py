@@ -1,8 +1,8 @@
-"""Starts a command on a pseudo-terminal of its own, and ends it with all that it started.
+"""Starts a command on a new pseudo-terminal, and ends it with everything that it started.
 
-posix_spawn starts the command, so that other threads are no danger to it and the cost is that of fork and exec. The command leads
-a session of its own. Each process below it carries VT220_RIG in its environment, by which it is found when the command ends. A
-watchdog, one for each Python process, does the same when that Python process is killed.
+posix_spawn starts the command, so that other threads can't disturb it and the cost is that of fork and exec. The command leads
+a new session. Each process that it starts has VT220_RIG in its environment, by which it is found when the command ends. There is a
+watchdog for each Python process. It does the same if the Python process is killed.
 """
 import ctypes
 import errno
@@ -70,7 +70,7 @@ def _pointers(words: Sequence[str]) -> "ctypes.Array[ctypes.c_char_p]":
 
 
 def _spawn(path: str, argv: Sequence[str], env: Dict[str, str], cwd: Optional[str], terminal: str) -> int:
-    """Starts a program in a session of its own, whose controlling terminal is `terminal`. Returns its process id."""
+    """Starts a program in a new session, whose controlling terminal is `terminal`. Returns its process id."""
     actions, attributes, signals = (ctypes.create_string_buffer(1024) for _ in range(3))
     _libc.posix_spawn_file_actions_init(actions)
     _libc.posix_spawnattr_init(attributes)

@@ -68,7 +68,7 @@ def pytest_configure(config: pytest.Config) -> None:
 
 @pytest.hookimpl(trylast=True)  # type: ignore[misc]
 def pytest_sessionfinish(session: pytest.Session) -> None:
-    """Hands a worker's list to the process that started the workers."""
+    """Sends a worker's list to the process that started the workers."""
     output: Optional[Dict[str, Any]] = getattr(session.config, "workeroutput", None)
     if output is not None:
         output[_KEY] = sorted(session.config._vt220_used)  # type: ignore[attr-defined]

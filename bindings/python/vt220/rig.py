@@ -53,7 +53,7 @@ class Event(NamedTuple):
 
 
 class Reports(NamedTuple):
-    """Holds where the files of a failure go, and the beginning of their names."""
+    """Holds the directory of a failure's files, and the beginning of their names."""
 
     directory: pathlib.Path = pathlib.Path("vt220-failures")
     name: str = ""
@@ -306,7 +306,7 @@ class Rig:
     def _differs(self, path: pathlib.Path, why: str, expected: Stored, found: Stored) -> None:
         __tracebackhide__ = True
         text = difference(expected, found, self.reports.colour)
-        why = f"{why}\n{path} (-) and the screen (+) differ; if the file is stale, --update-screens writes it anew\n{text}"
+        why = f"{why}\n{path} (-) and the screen (+) differ; if the file is stale, --update-screens writes it again\n{text}"
         raise self._failure(why, Failure, differing(expected, found)) from None
 
     def _fail(self, why: str, kind: "type[Failure]" = Failure) -> None:

@@ -21,7 +21,7 @@ Places = Dict[Tuple[int, int], str]
 
 
 class Place(NamedTuple):
-    """Holds where a text is on a screen, and its cells. It is false, and has no attribute, if the text isn't there."""
+    """Holds the position of a text on a screen, and its cells. It is false, and has no attribute, if the text isn't there."""
 
     row: int
     col: int
@@ -141,7 +141,7 @@ class Screen:
         return Place(0, 0, ())
 
     def stored(self, masks: Sequence[Mask] = ()) -> str:
-        """Returns the text file of this screen: 24 lines, and beneath them the cursor, attributes and modes as far as there are any."""
+        """Returns the text file of this screen: 24 lines, and beneath them the cursor, and attributes and modes if there are any."""
         lines, raws = list(self.rows), [self._terminal._raw(row) for row in range(1, ROWS + 1)]
         for row, col, length in self._masked(masks):
             line, raw = lines[row - 1].ljust(self.width), raws[row - 1]

@@ -1,8 +1,8 @@
-//! Plays a recording from standard input a frame at a time, as a server would: after each frame that ends between
+//! Plays a recording from standard input frame by frame, as a server would. After each frame that ends between
 //! sequences, one client is sent an update and another a repaint. Prints how many bytes each was sent.
 //!
-//! `frames N [--time]`: frames of N bytes. With `--time` also how long an update and a repaint took, on the average of
-//! the quickest round of many.
+//! `frames N [--time]` plays frames of N bytes. With `--time` it also prints how long an update and a repaint took on
+//! average, in the quickest round of many.
 #![tactic(auto)]
 
 ghost use Rattle.std.specs.Prelude.{◌≤◌};
@@ -15,7 +15,7 @@ use std::env;
 use std::io::{self, Input, Read};
 use std::time::Clock;
 
-/// How often the recording is played to measure the time; the quickest round counts.
+/// The number of times that the recording is played to measure the time. The quickest round counts.
 const ROUNDS: u64 = 200;
 
 /// Plays the recording from power-up.
@@ -35,7 +35,7 @@ fn play(
     Ok(())
 }
 
-/// How many nanoseconds an update and a repaint took.
+/// Returns how many nanoseconds an update and a repaint took.
 fn least_times(
     rt: &impl Clock,
     alloc: Global,

@@ -6,7 +6,7 @@ use vt_paint::{PAINT_LIMIT, repaint};
 use vt_term::Terminal;
 use vt_update::{UPDATE_LIMIT, update};
 
-/// What a client was sent, and how long it took to make.
+/// The bytes that a client was sent, and the time that it took to make them.
 #[derive(Drop)]
 pub(crate) struct Sent {
     pub(crate) bytes: u64,
@@ -50,7 +50,7 @@ pub(crate) struct Server {
 }
 
 impl Server {
-    /// Terminals as at power-up.
+    /// Returns a server with terminals in their power-up state. Returns `Err` if allocation fails.
     pub(crate) fn new(alloc: Global) -> Result<Server, AllocError> {
         Ok(Server {
             terminal: Terminal::new(alloc)?,
@@ -64,7 +64,7 @@ impl Server {
         })
     }
 
-    /// Everything as at power-up, and nothing sent. The room stays.
+    /// Resets everything to its power-up state, with nothing sent. The buffers keep their capacity.
     pub(crate) fn restart(&mut self, alloc: Global) -> Result<(), AllocError> {
         self.terminal = Terminal::new(alloc)?;
         self.shown = Terminal::new(alloc)?;
@@ -76,7 +76,7 @@ impl Server {
         Ok(())
     }
 
-    /// Plays a frame, and sends what it changed where it ends between sequences.
+    /// Plays a frame. If it ends between sequences, sends what it changed.
     pub(crate) fn play(&mut self, rt: &impl Clock, frame: &[u8]) -> io::Result<()> {
         self.frames = self.frames.saturating_add(1);
         self.reports.clear();

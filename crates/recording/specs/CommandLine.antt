@@ -1,4 +1,4 @@
--- The command line: its command in clap's terms, and what its answers say. (this profile)
+-- The command line: its command in clap's terms, and what its results contain. (this profile)
 use Rattle.std.specs.Prelude.{◌≡◌, ◌⊎◌, ℕ, List, [], ◌∷◌, ◌++◌, codes, Option, Some, None, true, cond, string_bytes}
 use Rattle.std.specs.Prelude.{map, bytes_eq}
 use Rattle.std.specs.Option.{option_map, option_and_then}
@@ -41,7 +41,7 @@ faults_in words = fault_of recording (map (λ w. string_bytes w) words)
 abbrev pub found_in : List (String Global) → List Row
 found_in words = matches_of recording (map (λ w. string_bytes w) words)
 
--- ---- the answers
+-- ---- the results
 
 -- the format that `--format` names, with the moment of `--until`, which ttyrec alone takes
 abbrev pub format_named : Text → (until : Option Text) → Option Format
@@ -73,7 +73,7 @@ pub record IsMemory (r : Refused) : Type 0 where
   pub status : r.status ≡ 1
   pub text : string_bytes r.text ≡ []
 
--- refused for a fault of this list
+-- the refusal for a fault of this list
 pub record IsFault (faults : Kinds) (r : Refused) : Type 0 where
   pub fault : ErrorKind
   pub found : IsAmong fault faults
@@ -86,6 +86,6 @@ pub record IsStray (faults : Kinds) (rows : List Row) (r : Refused) : Type 0 whe
   pub status : r.status ≡ 2
   pub text : string_bytes r.text ≡ codes "recording: bad command line" ++ 0x0A ∷ []
 
--- why words are refused, by the faults and the matches that clap finds in them
+-- the reason for which arguments are refused, by the faults and the matches that clap finds in them
 abbrev pub IsRefusal : Kinds → List Row → Refused → Type 0
 IsRefusal faults rows r = IsMemory r ⊎ (IsFault faults r ⊎ IsStray faults rows r)

@@ -1,22 +1,21 @@
-//! What the words of a command line come to.
+//! The settings that the arguments of a command line give.
 
 use vt_recording::Format;
 
-/// What the words ask for.
+/// The settings.
 #[derive(Debug, PartialEq, Eq, Drop)]
 pub(crate) struct Settings {
-    /// How the session was recorded, and up to which moment it is wanted.
+    /// The format of the recording, and the time up to which it is wanted.
     pub(crate) format: Format,
-    /// The file to read, or none for standard input.
+    /// The file to read, or `None` for standard input.
     pub(crate) file: Option<String>,
 }
 
-/// Why there are no settings, and what to say about it.
+/// The reason for which there are no settings.
 #[derive(Debug, PartialEq, Eq, Drop)]
 pub(crate) struct Refused {
-    /// The status with which to end: 0 where the help was asked for, 1 where memory was refused, 2 for a fault of the
-    /// words.
+    /// The exit status: 0 for the help, 1 if allocation failed, and 2 for a wrong argument.
     pub(crate) status: u8,
-    /// The help, the fault as clap words it, or nothing where memory was refused.
+    /// The help, clap's error text, or nothing if allocation failed.
     pub(crate) text: String,
 }

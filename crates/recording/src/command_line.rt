@@ -1,4 +1,4 @@
-//! The command line: which words the program takes, and what they ask for.
+//! The command line: the arguments of the program, and the settings that they give.
 ghost use Rattle.std.specs.Prelude.{◌≡◌, ◌≢◌, ◌⊎◌, [], IfOk, IfErr, IfSome, IfNone, Some, None, option_map};
 ghost use Rattle.std.specs.Prelude.{string_bytes, codes, false};
 ghost use Rattle.clap.specs.Words.{FailsBy, app_of, first_value, found_of, kind_of, rows_of, rule_of, with_rule};
@@ -14,13 +14,13 @@ use clap::{Arg, ArgMatches, Command, Error};
 use std::alloc::{AllocError, Global};
 use vt_recording::Format;
 
-/// What is said of words that clap takes and that ask for nothing.
+/// The message for arguments that clap accepts and that select nothing.
 const BAD_COMMAND_LINE: &str = "recording: bad command line\n";
 
-/// What the program is for.
+/// The program's purpose.
 const ABOUT: &str = "Writes the content of a recording by script(1) or ttyrec, for vt220 to play";
 
-/// What stands below the help.
+/// The text after the help.
 const AFTER_HELP: &str = "\
 Formats:
   script  what stands between the lines `Script started on ..` and `Script done on ..`
@@ -31,14 +31,14 @@ Example, the screen as it stood twelve and a half seconds after the start:
 
 Exit status:
   0  all was written, or the help was asked for
-  1  memory was refused
+  1  an allocation failed
   2  the command line is wrong
   3  the recording breaks its format; what came before that was written
   4  the input can't be opened or read
   5  the output can't be written
   6  the input is longer than 268435456 bytes";
 
-/// How the session was recorded.
+/// Returns the option for the format of the recording.
 fn format_option<'a>(alloc: Global) -> Arg<'a>
     ensures rule { rule_of result ≡ format_option }
     ensures local { result.global ≡ false }
@@ -50,7 +50,7 @@ fn format_option<'a>(alloc: Global) -> Arg<'a>
         .help("How the session was recorded: script or ttyrec")
 }
 
-/// Up to which moment it is wanted.
+/// Returns the option for the time up to which it is wanted.
 fn until_option<'a>(alloc: Global) -> Arg<'a>
     ensures rule { rule_of result ≡ until_option }
     ensures local { result.global ≡ false }
@@ -61,17 +61,17 @@ fn until_option<'a>(alloc: Global) -> Arg<'a>
         .help("Only what came so long after the first piece, as 12.5; of ttyrec alone")
 }
 
-/// The recording.
+/// Returns the argument for the recording.
 fn file_argument<'a>(alloc: Global) -> Arg<'a>
     ensures rule { rule_of result ≡ file_argument }
     ensures local { result.global ≡ false }
 {
     Arg::new(alloc, "file")
         .value_name("FILE")
-        .help("The recording; standard input where no file is named")
+        .help("The recording; standard input if no file is named")
 }
 
-/// The command without its arguments.
+/// Returns the command without its arguments.
 fn bare_command<'a>(alloc: Global) -> Command<'a>
     ensures app { app_of result ≡ bare_command }
     ensures local { (out-Command result).has_globals ≡ false }
@@ -81,7 +81,7 @@ fn bare_command<'a>(alloc: Global) -> Command<'a>
         .after_help(AFTER_HELP)
 }
 
-/// The program's command.
+/// Returns the program's command.
 fn command<'a>(alloc: Global) -> Result<Command<'a>, AllocError>
     ensures app { IfOk result (λ c. app_of c ≡ recording) }
     ensures local { IfOk result (λ c. (out-Command c).has_globals ≡ false) }
@@ -92,7 +92,7 @@ fn command<'a>(alloc: Global) -> Result<Command<'a>, AllocError>
         .arg(file_argument(alloc))
 }
 
-/// What clap makes of the words.
+/// Returns the matches of the arguments, or clap's error.
 fn matches_of<'a>(alloc: Global, words: &'a [String]) -> Result<ArgMatches<'a>, Error>
     ensures matches { IfOk result (λ m. rows_of (found_of m) ≡ found_in words.entry.now) }
     ensures faults { FailsBy (faults_in words.entry.now) result }
@@ -100,7 +100,7 @@ fn matches_of<'a>(alloc: Global, words: &'a [String]) -> Result<ArgMatches<'a>, 
     command(alloc)?.try_get_matches_from(words)
 }
 
-/// Want of memory.
+/// Returns the refusal for a failed allocation.
 fn out_of_memory(alloc: Global) -> Refused
     ensures { IsMemory result }
 {
@@ -110,7 +110,7 @@ fn out_of_memory(alloc: Global) -> Refused
     }
 }
 
-/// A refusal with this text.
+/// Returns a refusal with this text.
 fn refusal(alloc: Global, status: u8, text: &str) -> Refused
     ensures { IsMemory result ⊎ ((result.status ≡ status) × (string_bytes result.text ≡ text.now)) }
 {
@@ -120,7 +120,7 @@ fn refusal(alloc: Global, status: u8, text: &str) -> Refused
     }
 }
 
-/// What clap refused, as it words it.
+/// Returns the refusal for clap's error, with clap's text.
 fn refusal_of(alloc: Global, error: Error) -> Refused
     ensures { IsMemory result
         ⊎ ((kind_of error ≢ ErrorKind.OutOfMemory) × (result.status ≡ status_for (kind_of error))) }
@@ -136,7 +136,7 @@ fn refusal_of(alloc: Global, error: Error) -> Refused
     }
 }
 
-/// The format that two options ask for.
+/// Returns the format that two options give.
 fn format_of(format: Option<&str>, until: Option<&str>) -> Option<Format>
     ensures { result ≡ format_of (option_map (λ f. f.now) format.entry) (option_map (λ u. u.now) until.entry) }
 {
@@ -150,7 +150,7 @@ fn format_of(format: Option<&str>, until: Option<&str>) -> Option<Format>
     }
 }
 
-/// The file's name, if there is one.
+/// Returns the file's name, if there is one.
 fn file_of(alloc: Global, matches: &ArgMatches<'_>) -> Result<Option<String>, AllocError>
     ensures { IfOk result (λ file. option_map (λ name. string_bytes name) file
         ≡ first_value (found_of matches.now) (codes "file")) }
@@ -161,7 +161,7 @@ fn file_of(alloc: Global, matches: &ArgMatches<'_>) -> Result<Option<String>, Al
     }
 }
 
-/// The settings that the matches ask for, if they ask for a format.
+/// Returns the settings that the matches give, if they give a format.
 fn settings_of(alloc: Global, matches: &ArgMatches<'_>) -> Result<Option<Settings>, AllocError>
     ensures some { IfOk result (λ o. IfSome o (AreSettings (rows_of (found_of matches.now)))) }
     ensures none { IfOk result (λ o. IfNone o (format_in (rows_of (found_of matches.now)) ≡ None)) }
@@ -173,12 +173,13 @@ fn settings_of(alloc: Global, matches: &ArgMatches<'_>) -> Result<Option<Setting
     Ok(Some(Settings { format, file }))
 }
 
-/// The settings that the words ask for; the first word is the program's name.
+/// Returns the settings that the arguments give. The first argument is the program's name.
 ///
-/// The words are those of clap's command `recording`: `--format script` or `--format ttyrec`, with ttyrec `--until
-/// SECONDS`, of up to nine digits and, after a point, up to six decimals, and at most one FILE. `Err` is what to end
-/// with where there are no settings: the help that was asked for (status 0), want of memory (1), or what is wrong with
-/// the words (2). (this profile)
+/// The arguments are those of clap's command `recording`: `--format script` or `--format ttyrec`, and at most one FILE.
+/// With ttyrec there may be `--until SECONDS`: up to nine digits and, after a point, up to six decimals.
+///
+/// Returns `Err` if there are no settings. Its status is 0 for the help, 1 if allocation fails, and 2 for a wrong
+/// argument. (this profile)
 pub(crate) fn settings(alloc: Global, words: Vec<String>) -> Result<Settings, Refused>
     ensures ok { IfOk result (AreSettings (found_in words.items)) }
     ensures no_fault { IfOk result (λ _. faults_in words.items ≡ []) }

@@ -1,4 +1,5 @@
-//! The program: the words, the file, the engine, the line on standard error, the status.
+//! The program: it reads its arguments, opens the file, runs the engine, prints the line on standard error, and sets
+//! the exit status.
 #![tactic(auto)]
 
 mod asked;
@@ -17,10 +18,10 @@ use std::io::{self, ErrorKind, Input, Read, Write};
 use std::process::ExitCode;
 use vt_recording::{Fault, INPUT_LIMIT, Watched, run};
 
-/// The status of a wrong command line.
+/// The exit status for a wrong command line.
 const BAD_COMMAND_LINE: u8 = 2;
 
-/// Ends the program with a fault's line and status.
+/// Prints a fault's line, and returns its exit status.
 fn ended_by(rt: &impl Eprint, fault: Fault) -> ExitCode
     ensures { exit_status result ≡ status_of fault }
 {
@@ -28,7 +29,7 @@ fn ended_by(rt: &impl Eprint, fault: Fault) -> ExitCode
     ExitCode::from(fault.status())
 }
 
-/// The words of the command line, or what the program ends with where they can't be had as text.
+/// Returns the arguments of the command line. If they can't be had as text, returns the exit status.
 fn words<R: Env + AllocGlobal + Eprint>(rt: &R) -> Result<Vec<String>, ExitCode>
     ensures { IfErr result (λ ended. (exit_status ended ≡ status_of Fault.Memory) ⊎ (exit_status ended ≡ 2)) }
 {
@@ -45,8 +46,8 @@ fn words<R: Env + AllocGlobal + Eprint>(rt: &R) -> Result<Vec<String>, ExitCode>
     }
 }
 
-/// Says why the words ask for nothing, and ends the program with the status that they were refused with: with the help,
-/// for want of memory, or for a fault of theirs. What was asked for and can't be printed is a failed write.
+/// Prints the help or the reason for which there are no settings, and returns the exit status. A failure to print the
+/// help counts as a failed write.
 fn refused_by(rt: &(impl Print + Eprint), refused: &Refused) -> ExitCode
     ensures { (exit_status result ≡ refused.now.status)
         ⊎ ((refused.now.status ≡ 0) × (exit_status result ≡ status_of Fault.Write)) }
@@ -64,7 +65,7 @@ fn refused_by(rt: &(impl Print + Eprint), refused: &Refused) -> ExitCode
     }
 }
 
-/// Writes the content of a reader's recording to standard output, and flushes that, after a fault too.
+/// Writes the content of a reader's recording to standard output, and flushes it, also after a fault.
 fn write_content<R: Print + AllocGlobal, D: Read + Drop>(
     rt: &R,
     device: D,
@@ -83,7 +84,7 @@ fn write_content<R: Print + AllocGlobal, D: Read + Drop>(
     written.and(flushed.map_err(|_| Fault::Write))
 }
 
-/// Opens the file, if one is named, and writes its content, or that of standard input.
+/// Opens the file, if one is named, and writes its content. Otherwise it writes that of standard input.
 fn take_input<R: Files + Input + Print + AllocGlobal>(
     rt: &R,
     settings: &Settings,
@@ -97,7 +98,7 @@ fn take_input<R: Files + Input + Print + AllocGlobal>(
     }
 }
 
-/// Ends the program: with status 0 where all was written, else with the fault's line and status.
+/// Returns the exit status: 0 if everything was written. Otherwise it prints the fault's line, and returns its status.
 fn ended_after(rt: &impl Eprint, written: Result<(), Fault>) -> ExitCode
     ensures { MatchResult written (λ _. exit_status result ≡ 0) (λ fault. exit_status result ≡ status_of fault) }
 {

@@ -1,10 +1,10 @@
-//! A number of seconds as a word.
+//! A number of seconds as text.
 ghost use Rattle.std.specs.Prelude.{◌≡◌, ◌≤◌, ◌<◌, ◌^◌, IfSome, length, nat_eq, true};
 ghost use Rattle.std.specs.Char.{is_ascii_digit};
 ghost use Rattle.std.specs.List.{list_all, position};
 ghost use Rattle.recording.specs.Moment.{number, value, micros, scale};
 
-/// The number that at least one digit writes, and at most so many.
+/// Returns the number that the digits write, if there are at least one and at most `most`.
 fn number(most: usize, digits: &[u8]) -> Option<u64>
     requires { most ≤ 9 }
     ensures value { result ≡ number most digits.now }
@@ -16,14 +16,14 @@ fn number(most: usize, digits: &[u8]) -> Option<u64>
     Some(value(digits))
 }
 
-/// Whether all bytes are digits.
+/// Returns whether all bytes are digits.
 fn are_digits(bytes: &[u8]) -> bool
     ensures { result ≡ list_all (λ b. is_ascii_digit b) bytes.now }
 {
     bytes.iter().all(|b| b.is_ascii_digit())
 }
 
-/// The number that up to nine digits write.
+/// Returns the number that up to nine digits write.
 fn value(digits: &[u8]) -> u64
     requires few { length digits.now ≤ 9 }
     requires digits { list_all (λ b. is_ascii_digit b) digits.now ≡ true }
@@ -37,7 +37,7 @@ fn value(digits: &[u8]) -> u64
     n
 }
 
-/// What the last of so many decimals counts, in microseconds.
+/// Returns the value of the last of `decimals` decimals, in microseconds.
 fn scale(decimals: usize) -> u64
     ensures value { result ≡ scale decimals }
     ensures small { result ≤ 1000000 }
@@ -53,7 +53,8 @@ fn scale(decimals: usize) -> u64
     }
 }
 
-/// The microseconds that a text says: up to nine digits of seconds, and after a point up to six decimals.
+/// Returns the number of microseconds that a text gives: up to nine digits of seconds, and after a point up to six
+/// decimals.
 pub(crate) fn micros(text: &[u8]) -> Option<u64>
     ensures { result ≡ micros text.now }
 {
@@ -68,7 +69,7 @@ pub(crate) fn micros(text: &[u8]) -> Option<u64>
     }
 }
 
-/// The place of the first point.
+/// Returns the index of the first point.
 fn point(text: &[u8]) -> Option<usize>
     ensures value { result ≡ position (λ b. nat_eq b 0x2E) text.now }
     ensures within { IfSome result (λ at. at < length text.now) }

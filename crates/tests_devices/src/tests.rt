@@ -1,5 +1,6 @@
 //! What no clause says of replays: short, full and failing devices, settings at work, and what a fault prints.
 mod devices;
+mod log;
 mod program;
 mod settings;
 mod short_devices;

@@ -2,4 +2,5 @@
 //! there.
 mod common;
 mod files;
+mod pages;
 mod rows;

@@ -1,6 +1,6 @@
-//! Prints the conformance vectors, for terminals of any language: a header, and a line for each vector with its name,
-//! its input, the text, the reports and the repaint that it expects, between tabs. All but the name is in hexadecimal;
-//! a repaint that there is none of, since the input ends inside a sequence, is `-`.
+//! Prints the conformance vectors, for terminals in any language: a header, and a line for each vector. A line has its
+//! name, its input, and the text, the reports and the repaint that it expects, separated by tabs. All except the name
+//! are in hexadecimal. The repaint is `-` if the input ends inside a sequence.
 #![tactic(auto)]
 
 ghost use Rattle.std.specs.Prelude.{◌<◌};

@@ -1,4 +1,4 @@
-//! The program: the words, the file, the engine, the line on standard error, the status.
+//! The program: the arguments, the file, the engine, the line on standard error, the exit status.
 #![tactic(auto)]
 
 ghost use Rattle.std.specs.Prelude.{◌≡◌, ◌⊎◌, IfErr, MatchResult};
@@ -9,9 +9,9 @@ use std::env::{self, Env};
 use std::fs::{File, Files};
 use std::io::{self, ErrorKind, Input, Read, Write};
 use std::process::ExitCode;
-use vt_replay::{Fault, Refused, Settings, Watched, replay, settings};
+use vt_replay::{Fault, Refused, Request, Watched, carry_out, request};
 
-/// The status of a wrong command line.
+/// The exit status of a wrong command line.
 const BAD_COMMAND_LINE: u8 = 2;
 
 /// Ends the program with a fault's line and status.
@@ -22,7 +22,7 @@ fn ended_by(rt: &impl Eprint, fault: Fault) -> ExitCode
     ExitCode::from(fault.status())
 }
 
-/// The words of the command line, or what the program ends with where they can't be had as text.
+/// Returns the arguments. `Err` is what the program ends with if they aren't text or allocation fails.
 fn words<R: Env + AllocGlobal + Eprint>(rt: &R) -> Result<Vec<String>, ExitCode>
     ensures { IfErr result (λ ended. (exit_status ended ≡ status_of Fault.Memory) ⊎ (exit_status ended ≡ 2)) }
 {
@@ -39,8 +39,8 @@ fn words<R: Env + AllocGlobal + Eprint>(rt: &R) -> Result<Vec<String>, ExitCode>
     }
 }
 
-/// Says why the words ask for no replay, and ends the program with the status that they were refused with: with the
-/// help or the version, for want of memory, or for a fault of theirs. What was asked for and can't be printed is a
+/// Prints why the arguments are refused, and ends the program with the status of the refusal: with the help or the
+/// version, for a failed allocation, or for a fault of the arguments. If the help or the version can't be printed, it is a
 /// failed write.
 fn refused_by(rt: &(impl Print + Eprint), refused: &Refused) -> ExitCode
     ensures { (exit_status result ≡ refused.now.status)
@@ -59,38 +59,38 @@ fn refused_by(rt: &(impl Print + Eprint), refused: &Refused) -> ExitCode
     }
 }
 
-/// Replays a reader's bytes to standard output, and flushes that, after a fault too.
-fn replay_device<R: Print + AllocGlobal, D: Read + Drop>(
+/// Carries out a request on a reader's bytes, to standard output, and flushes that, after a fault too.
+fn carry_out_on<R: Print + AllocGlobal, D: Read + Drop>(
     rt: &R,
     device: D,
-    settings: &Settings,
+    request: &Request,
 ) -> Result<(), Fault> {
     let mut reader = Watched::new(device);
     let mut writer = Watched::new(io::writer(rt));
-    let replayed = replay(rt.alloc(), &mut reader, &mut writer, settings);
+    let done = carry_out(rt.alloc(), &mut reader, &mut writer, request);
     let flushed = writer.into_inner().flush();
-    replayed.and(flushed.map_err(|_| Fault::Write))
+    done.and(flushed.map_err(|_| Fault::Write))
 }
 
-/// Opens the file, if one is named, and replays it, or standard input.
-fn replay_input<R: Files + Input + Print + AllocGlobal>(
+/// Opens the file, if one is named, and carries out the request on it, or on standard input.
+fn carry_out_by_name<R: Files + Input + Print + AllocGlobal>(
     rt: &R,
-    settings: &Settings,
+    request: &Request,
 ) -> Result<(), Fault> {
-    match &settings.file {
+    match &request.file {
         Some(name) => match File::open(rt, name.as_str()) {
-            Ok(file) => replay_device(rt, file, settings),
+            Ok(file) => carry_out_on(rt, file, request),
             Err(_) => Err(Fault::Read),
         },
-        None => replay_device(rt, rt.reader(), settings),
+        None => carry_out_on(rt, rt.reader(), request),
     }
 }
 
-/// Ends the program after a replay: with status 0 where all was written, else with the fault's line and status.
-fn ended_after(rt: &impl Eprint, replayed: Result<(), Fault>) -> ExitCode
-    ensures { MatchResult replayed (λ _. exit_status result ≡ 0) (λ fault. exit_status result ≡ status_of fault) }
+/// Ends the program after a request: with status 0 if all was written, otherwise with the fault's line and status.
+fn ended_after(rt: &impl Eprint, done: Result<(), Fault>) -> ExitCode
+    ensures { MatchResult done (λ _. exit_status result ≡ 0) (λ fault. exit_status result ≡ status_of fault) }
 {
-    match replayed {
+    match done {
         Ok(()) => ExitCode::SUCCESS,
         Err(fault) => ended_by(rt, fault),
     }
@@ -101,9 +101,9 @@ fn main(rt: HostRuntime) -> ExitCode {
         Ok(words) => words,
         Err(ended) => return ended,
     };
-    let settings = match settings(rt.alloc(), words) {
-        Ok(settings) => settings,
+    let request = match request(rt.alloc(), words) {
+        Ok(request) => request,
         Err(refused) => return refused_by(&rt, &refused),
     };
-    ended_after(&rt, replay_input(&rt, &settings))
+    ended_after(&rt, carry_out_by_name(&rt, &request))
 }

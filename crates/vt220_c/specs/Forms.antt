@@ -30,7 +30,7 @@ refusal (RowText row) = status_no_row
 refusal Repaint = status_partial
 refusal _ = status_ok
 
--- what a call answers that has so many bytes of capacity: a status, and the length
+-- what a call returns that has this many bytes of capacity: a status, and the length
 pub record Answers (form : Form) (s : State) (capacity written status : ℕ) : Type 0 where
   pub refused : (CanBe form s → ⊥) → (status ≡ refusal form) × (written ≡ 0)
   pub len : CanBe form s → written ≡ length (written_as form s)

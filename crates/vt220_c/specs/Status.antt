@@ -1,11 +1,11 @@
--- The numbers that the calls answer, and the version: those of the header. (this profile)
+-- The statuses that the calls return, and the version: those of the header. (this profile)
 use Rattle.std.specs.Prelude.{ℕ}
 
 -- it was done
 abbrev pub status_ok : ℕ
 status_ok = 0
 
--- memory was refused
+-- allocation failed
 abbrev pub status_memory : ℕ
 status_memory = 1
 

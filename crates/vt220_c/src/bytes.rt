@@ -1,15 +1,15 @@
-//! Bytes that are written into a slice of the caller's.
+//! Bytes that are written into a slice of the caller.
 ghost use Rattle.std.specs.Prelude.{◌≡◌, ◌↔◌, ◌+◌, ◌≤◌, ◌++◌, IsTrue, true, false, length, take, drop};
 ghost use Rattle.vt220_c.specs.Written.{written_over};
 
-/// How many bytes there are, and whether they were written.
+/// The number of bytes, and whether they were written.
 #[derive(Drop)]
 pub(crate) struct Copied {
     pub(crate) len: usize,
     pub(crate) fits: bool,
 }
 
-/// Puts bytes into a slice, from a place on.
+/// Writes bytes into a slice, starting at `at`.
 pub(crate) fn put(out: &mut [u8], at: usize, bytes: &[u8])
     requires { at + length bytes.now ≤ length out.old }
     ensures { out.new ≡ take at out.old ++ written_over bytes.now (drop at out.old) }
@@ -18,7 +18,7 @@ pub(crate) fn put(out: &mut [u8], at: usize, bytes: &[u8])
     out[at..end].copy_from_slice(bytes);
 }
 
-/// Bytes into the front of a slice, where they fit.
+/// Writes bytes into the front of a slice, if they fit.
 pub(crate) fn copy_out(bytes: &[u8], out: &mut [u8]) -> Copied
     ensures len { result.len ≡ length bytes.now }
     ensures fits { IsTrue result.fits ↔ (length bytes.now ≤ length out.old) }

@@ -12,7 +12,7 @@ use std::alloc::Global;
 use vt_screen::{Cell, same_cells};
 use vt_term::{ROWS, STOPS};
 
-/// Which cells of a row changed: place c - 1 for column c, and the width of the row.
+/// The cells of a row that changed: index c - 1 for column c, and the width of the row.
 #[repr(C)]
 #[derive(Clone, Copy)]
 pub struct Vt220Changes {
@@ -20,7 +20,8 @@ pub struct Vt220Changes {
     pub changed: [bool; STOPS],
 }
 
-/// Brings a terminal into the state of another one, whatever that holds. The two handles are not one.
+/// Brings a terminal into the state of another one, in any state. The two handles are different. Returns `OK`, or
+/// `CLOSED` if one of the two is closed.
 #[unsafe(no_mangle)]
 pub extern "C" fn core_copy(to: &mut Vt220, from: &mut Vt220, alloc: Global) -> u32
     ensures from { from.new.kept.inside ≡ from.old.kept.inside }
@@ -42,7 +43,8 @@ pub extern "C" fn core_copy(to: &mut Vt220, from: &mut Vt220, alloc: Global) -> 
     OK
 }
 
-/// Brings a terminal into the state of power-up, whatever it holds.
+/// Brings a terminal into its power-up state, also inside a sequence. Returns `OK`, or `CLOSED` if the handle is
+/// closed.
 #[unsafe(no_mangle)]
 pub extern "C" fn core_reset(t: &mut Vt220, alloc: Global) -> u32
     ensures ok { result ≡ status_ok → t.new.kept.inside ≡ Some power_up }
@@ -58,7 +60,7 @@ pub extern "C" fn core_reset(t: &mut Vt220, alloc: Global) -> u32
     OK
 }
 
-/// Whether a row has the same cell at a place as another row.
+/// Returns whether two rows have the same cell at an index.
 fn is_kept(shown: &[Cell], to: &[Cell], at: usize) -> bool
     requires { at < length to.now }
     ensures { IsTrue result ↔ IsKept shown.now to.now at }
@@ -66,7 +68,7 @@ fn is_kept(shown: &[Cell], to: &[Cell], at: usize) -> bool
     at < shown.len() && same_cells(&shown[at..at + 1], &to[at..at + 1])
 }
 
-/// Marks the cells of a row that the other row doesn't have at the same place.
+/// Marks the cells of a row that differ from those of the other row.
 fn changes(shown: &[Cell], to: &[Cell]) -> Vt220Changes
     requires { length to.now ≤ STOPS }
     ensures { AreChanged shown.now to.now result }
@@ -83,7 +85,8 @@ fn changes(shown: &[Cell], to: &[Cell]) -> Vt220Changes
     }
 }
 
-/// Marks the cells of a row of `to`, from 1 to 24, that `shown` doesn't have there. The two handles are not one.
+/// Marks the cells of a row of `to`, 1 to 24, that `shown` doesn't have there. The two handles are different. Returns
+/// `OK`, `CLOSED` or `NO_ROW`.
 #[unsafe(no_mangle)]
 pub extern "C" fn core_row_changes(
     shown: &mut Vt220,

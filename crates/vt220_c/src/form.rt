@@ -1,4 +1,4 @@
-//! What is written of a terminal.
+//! The forms in which a terminal is written.
 ghost use Rattle.std.specs.Prelude.{◌≡◌, ◌≢◌, ◌↔◌};
 ghost use Rattle.vt220_c.specs.Forms.{CanBe, refusal};
 ghost use Rattle.vt220_c.specs.Status.{status_ok};
@@ -6,7 +6,7 @@ ghost use Rattle.vt220_c.specs.Status.{status_ok};
 use crate::status::{NO_ROW, OK, PARTIAL};
 use vt_term::{ROWS, Terminal};
 
-/// What is written: the text of the screen or of a row, the text with its attributes, the picture, or the repaint.
+/// A form: the text of the screen or of a row, the text with its attributes, the picture, or the repaint.
 #[derive(Clone, Copy)]
 pub(crate) enum Form {
     Text,
@@ -17,7 +17,7 @@ pub(crate) enum Form {
 }
 
 impl Form {
-    /// Returns `OK` if this can be written of a terminal, and else the status that says why not.
+    /// Returns `OK` if a terminal can be written in this form, otherwise the status with the reason.
     pub(crate) fn status(self, terminal: &Terminal) -> u32
         ensures can { (result ≡ status_ok) ↔ CanBe self terminal.now }
         ensures why { result ≢ status_ok → result ≡ refusal self }

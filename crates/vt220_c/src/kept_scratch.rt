@@ -1,4 +1,4 @@
-//! The block of a scratch room as its pointer, or nothing: what C may hold.
+//! The pointer of a scratch buffer's block, or none: what C may hold.
 ghost use Rattle.std.specs.Prelude.{◌≡◌, IsSome};
 ghost use Rattle.std.specs.declared.option.Option.{Option};
 ghost use Rattle.std.specs.declared.option.Option.TheVariants.{None, Some};
@@ -12,7 +12,7 @@ use std::alloc::Global;
 use std::marker::Model;
 use std::ptr;
 
-/// The pointer of a scratch room's block, or nothing.
+/// The pointer of a scratch buffer's block, or none.
 #[repr(C)]
 #[derive(Drop)]
 pub struct KeptScratch {
@@ -26,7 +26,7 @@ impl Model for KeptScratch {
 }
 
 impl KeptScratch {
-    /// Nothing.
+    /// Returns a value without a pointer.
     pub(crate) fn empty(alloc: Global) -> KeptScratch
         ensures { result.inside ≡ None }
     {
@@ -36,7 +36,7 @@ impl KeptScratch {
         }
     }
 
-    /// The pointer of a scratch room.
+    /// Returns the pointer of a scratch buffer.
     pub(crate) fn of(value: Loose<Scratch, Global>) -> KeptScratch
         ensures { result.inside ≡ Some value.value }
     {
@@ -47,7 +47,7 @@ impl KeptScratch {
         }
     }
 
-    /// The scratch room again.
+    /// Returns the scratch buffer of the pointer.
     pub(crate) fn into_loose(self) -> Loose<Scratch, Global>
         requires { IsSome self.inside }
         ensures { self.inside ≡ Some result.value }

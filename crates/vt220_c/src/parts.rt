@@ -1,4 +1,4 @@
-//! The parts of the state that say what later bytes do: brush, sets, tab stops and the saved record.
+//! The parts of the state that decide what later bytes do: brush, sets, tab stops and the saved record.
 ghost use Rattle.std.specs.Prelude.{◌≡◌, IfSome, is_some};
 ghost use Rattle.vt220_c.specs.Parts.{c_brush, c_sets, c_saved};
 ghost use Rattle.std.specs.declared.option.Option.TheVariants.{None};
@@ -8,7 +8,7 @@ use std::alloc::Global;
 use vt_screen::Brush;
 use vt_term::{STOPS, Saved, Sets};
 
-/// What the next glyph is written with.
+/// The attributes and the protection of the next glyph.
 #[repr(C)]
 #[derive(Clone, Copy)]
 pub struct Vt220Brush {
@@ -33,14 +33,14 @@ pub struct Vt220Sets {
     pub single_shift: u8,
 }
 
-/// The tab stops: place c - 1 for column c.
+/// The tab stops: index c - 1 for column c.
 #[repr(C)]
 #[derive(Clone, Copy)]
 pub struct Vt220Stops {
     pub stop: [bool; STOPS],
 }
 
-/// What DECRC gives back.
+/// The state that DECRC restores.
 #[repr(C)]
 #[derive(Clone, Copy)]
 pub struct Vt220Saved {
@@ -111,7 +111,7 @@ fn c_saved(saved: &Saved) -> Vt220Saved
     }
 }
 
-/// Writes the brush. False, and `brush` is unchanged, if the handle is closed.
+/// Writes the brush. Returns false, and leaves `brush` unchanged, if the handle is closed.
 #[unsafe(no_mangle)]
 pub extern "C" fn core_brush(t: &mut Vt220, brush: &mut Vt220Brush, alloc: Global) -> bool
     ensures same { t.new.kept.inside ≡ t.old.kept.inside }
@@ -127,7 +127,7 @@ pub extern "C" fn core_brush(t: &mut Vt220, brush: &mut Vt220Brush, alloc: Globa
     true
 }
 
-/// Writes the sets. False, and `sets` is unchanged, if the handle is closed.
+/// Writes the sets. Returns false, and leaves `sets` unchanged, if the handle is closed.
 #[unsafe(no_mangle)]
 pub extern "C" fn core_sets(t: &mut Vt220, sets: &mut Vt220Sets, alloc: Global) -> bool
     ensures same { t.new.kept.inside ≡ t.old.kept.inside }
@@ -143,8 +143,8 @@ pub extern "C" fn core_sets(t: &mut Vt220, sets: &mut Vt220Sets, alloc: Global) 
     true
 }
 
-/// Writes the tab stops of the columns 1 to 132, whatever the width. False, and `stops` is unchanged, if the handle is
-/// closed.
+/// Writes the tab stops of the columns 1 to 132, at any width. Returns false, and leaves `stops` unchanged, if the
+/// handle is closed.
 #[unsafe(no_mangle)]
 pub extern "C" fn core_stops(t: &mut Vt220, stops: &mut Vt220Stops, alloc: Global) -> bool
     ensures same { t.new.kept.inside ≡ t.old.kept.inside }
@@ -162,7 +162,7 @@ pub extern "C" fn core_stops(t: &mut Vt220, stops: &mut Vt220Stops, alloc: Globa
     true
 }
 
-/// Writes the saved record. False, and `saved` is unchanged, if the handle is closed.
+/// Writes the saved record. Returns false, and leaves `saved` unchanged, if the handle is closed.
 #[unsafe(no_mangle)]
 pub extern "C" fn core_saved(t: &mut Vt220, saved: &mut Vt220Saved, alloc: Global) -> bool
     ensures same { t.new.kept.inside ≡ t.old.kept.inside }

@@ -1,4 +1,4 @@
-//! The room in which the calls that write a whole screen work. Many terminals share one.
+//! The scratch buffer in which the calls that write a whole screen work. Many terminals share one.
 ghost use Rattle.std.specs.Prelude.{◌≡◌, ◌↔◌, ◌+◌, ◌*◌, ◌≤◌, IsTrue, true, false, length, take};
 ghost use Rattle.std.specs.Str.{IsAscii};
 ghost use Rattle.vt_syntax.specs.declared.held.Held.TheVariants.{Nothing};
@@ -17,8 +17,7 @@ use vt_picture::{PICTURE_LIMIT, picture_reserved, show_reserved};
 use vt_term::Terminal;
 use vt_update::{UPDATE_LIMIT, update_reserved};
 
-/// Room for the longest of what is written, a picture, and a terminal on which an update is tried. All its memory is
-/// taken by `new`.
+/// A buffer for the longest form, a picture, and a terminal on which an update is tried. Only `new` allocates.
 #[derive(Drop)]
 pub(crate) struct Scratch {
     room: Vec<u8>,
@@ -64,7 +63,7 @@ impl Scratch {
         copy_out(self.room.as_slice(), out)
     }
 
-    /// An update into the front of `out`, if it fits: `shown` is then in the state of `to`, and else as it was.
+    /// Writes an update into the front of `out`, if it fits. `shown` is then in the state of `to`, otherwise unchanged.
     pub(crate) fn update(&mut self, shown: &mut Inner, to: &Terminal, out: &mut [u8]) -> Copied
         requires shown { shown.old.held ≡ Nothing }
         requires to { to.now.held ≡ Nothing }

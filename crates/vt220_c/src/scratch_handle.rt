@@ -1,4 +1,4 @@
-//! The handle of a scratch room.
+//! The handle of a scratch buffer.
 ghost use Rattle.std.specs.Prelude.{◌≡◌, is_some, MatchOption};
 ghost use Rattle.std.specs.declared.option.Option.TheVariants.{None, Some};
 
@@ -8,7 +8,7 @@ use crate::scratch::Scratch;
 use std::alloc::Global;
 use std::mem;
 
-/// What C holds: a scratch room, or none.
+/// A handle of C: a scratch buffer, or none.
 #[repr(C)]
 #[derive(Drop)]
 pub struct Vt220Scratch {
@@ -18,7 +18,7 @@ pub struct Vt220Scratch {
 }
 
 impl Vt220Scratch {
-    /// Takes the room out of a handle, which is then closed.
+    /// Takes the scratch buffer out of a handle, which is then closed.
     pub(crate) fn take(&mut self, alloc: Global) -> Option<Box<Scratch>>
         ensures value { MatchOption result (self.old.kept.inside ≡ None) (λ b. self.old.kept.inside ≡ Some b.value) }
         ensures closed { self.new.kept.inside ≡ None }
@@ -39,7 +39,7 @@ impl Vt220Scratch {
         }
     }
 
-    /// Puts a room into a closed handle.
+    /// Puts a scratch buffer into a closed handle.
     pub(crate) fn put(&mut self, scratch: Box<Scratch>)
         requires { self.old.kept.inside ≡ None }
         ensures { self.new.kept.inside ≡ Some scratch.value }

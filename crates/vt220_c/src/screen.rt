@@ -1,4 +1,4 @@
-//! The calls that write a whole screen or a row. They work in a scratch room, and write into the caller's.
+//! Calls that write a whole screen or a row. They work in a scratch buffer, and write into the caller's buffer.
 ghost use Rattle.std.specs.Prelude.{◌≡◌, ◌≢◌, ◌↔◌, ◌+◌, ◌*◌, ◌≤◌, ◌<◌, ◌⊎◌, length, take, IfSome};
 ghost use Rattle.std.specs.Str.{IsAscii};
 ghost use Rattle.std.specs.declared.option.Option.TheVariants.{None};
@@ -21,7 +21,7 @@ use crate::status::{CLOSED, OK, PARTIAL, ROOM};
 use std::alloc::Global;
 use vt_update::UPDATE_LIMIT;
 
-/// Writes a form of a terminal if it can be had and fits into `out`. Writes its length to `written`.
+/// Writes a form of a terminal into `out` if the form is available and fits. Writes its length to `written`.
 fn write(
     t: &mut Vt220,
     s: &mut Vt220Scratch,
@@ -57,7 +57,8 @@ fn write(
     status
 }
 
-/// Writes the text of the screen if it fits into `out`. Writes its length to `written`.
+/// Writes the text of the screen if it fits into `out`. Writes its length to `written`. Returns `OK`, `ROOM` or
+/// `CLOSED`.
 #[unsafe(no_mangle)]
 pub extern "C" fn core_text(
     t: &mut Vt220,
@@ -80,7 +81,8 @@ pub extern "C" fn core_text(
     write(t, s, Form::Text, out, written, alloc)
 }
 
-/// Writes the text of the screen with its attributes if it fits into `out`. Writes its length to `written`.
+/// Writes the text of the screen with its attributes if it fits into `out`. Writes its length to `written`. Returns
+/// `OK`, `ROOM` or `CLOSED`.
 #[unsafe(no_mangle)]
 pub extern "C" fn core_show(
     t: &mut Vt220,
@@ -103,7 +105,7 @@ pub extern "C" fn core_show(
     write(t, s, Form::Show, out, written, alloc)
 }
 
-/// Writes the picture if it fits into `out`. Writes its length to `written`.
+/// Writes the picture if it fits into `out`. Writes its length to `written`. Returns `OK`, `ROOM` or `CLOSED`.
 #[unsafe(no_mangle)]
 pub extern "C" fn core_picture(
     t: &mut Vt220,
@@ -126,7 +128,8 @@ pub extern "C" fn core_picture(
     write(t, s, Form::Picture, out, written, alloc)
 }
 
-/// Writes the text of a row, 1 to 24, if it fits into `out`. Writes its length to `written`.
+/// Writes the text of a row, 1 to 24, if it fits into `out`. Writes its length to `written`. Returns `OK`, `ROOM`,
+/// `CLOSED` or `NO_ROW`.
 #[unsafe(no_mangle)]
 pub extern "C" fn core_row_text(
     t: &mut Vt220,
@@ -154,7 +157,8 @@ pub extern "C" fn core_row_text(
     write(t, s, Form::RowText(row), out, written, alloc)
 }
 
-/// Writes the repaint of a terminal between sequences if it fits into `out`. Writes its length to `written`.
+/// Writes the repaint of a terminal if it fits into `out`. Writes its length to `written`. Returns `OK`, `ROOM`,
+/// `CLOSED`, or `PARTIAL` if the terminal is inside a sequence.
 #[unsafe(no_mangle)]
 pub extern "C" fn core_repaint(
     t: &mut Vt220,
@@ -179,8 +183,9 @@ pub extern "C" fn core_repaint(
     write(t, s, Form::Repaint, out, written, alloc)
 }
 
-/// Writes bytes that lead from `shown` to `to` if they fit into `out`, and brings `shown` there. Both are between
-/// sequences. `shown` and `to` are two handles, and not one.
+/// Writes bytes that lead from `shown` to `to` if they fit into `out`, and brings `shown` there. Writes their length to
+/// `written`. `shown` and `to` are different handles. Returns `OK`, `ROOM`, `CLOSED`, or `PARTIAL` if one of them is
+/// inside a sequence.
 ///
 /// If width and tab stops are equal, these are at most 28 * n + 230 bytes for n cells that differ. They are ASCII:
 /// graphic characters, and the control functions that `Spoken` names.

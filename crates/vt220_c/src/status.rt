@@ -1,12 +1,12 @@
-//! What the calls answer: the numbers that `specs/Status` states, and the header.
+//! The statuses that the calls return. `specs/Status` and the header have the same numbers.
 
-/// It was done.
+/// Success.
 pub(crate) const OK: u32 = 0;
 
-/// Memory was refused.
+/// Allocation failed.
 pub(crate) const MEMORY: u32 = 1;
 
-/// The handle is open already.
+/// The handle is already open.
 pub(crate) const IN_USE: u32 = 2;
 
 /// The handle is closed.
@@ -15,8 +15,8 @@ pub(crate) const CLOSED: u32 = 3;
 /// The terminal is inside a sequence.
 pub(crate) const PARTIAL: u32 = 4;
 
-/// The caller's room is too little.
+/// The caller's buffer is too small.
 pub(crate) const ROOM: u32 = 5;
 
-/// There is no such row. (6 is the header's alone: a processor that isn't supported.)
+/// There is no such row. (Only the header has 6: an unsupported processor.)
 pub(crate) const NO_ROW: u32 = 7;

@@ -1,11 +1,17 @@
 -- Settings and what clap matched.
-use Rattle.std.proofs.Common.{rules, ℕ, ◌≡◌, ◌∙◌, List, ap, sym, Option, Some, None, Result, Ok, Err, IfSome, IfNone}
-use Rattle.std.proofs.Common.{codes}
+use Rattle.std.proofs.Common.{rules, ℕ, ◌≡◌, ◌∙◌, List, ap, sym, Option, Some, None, Result, Ok, Err, IfSome, IfNone, IfOk, IfErr, []}
+use Rattle.std.proofs.Common.{◌≢◌, codes, inl, inr}
 use Rattle.std.specs.Option.{unwrap_or}
 use Rattle.std.specs.Str.Parse.{ParsesUnsigned}
 use Rattle.std.specs.Result.{result_ok}
 use Rattle.clap.specs.Words.{Row, Text, first_of}
-use Rattle.vt_cli.specs.CommandLine.{IsNumberOf, HasNoSettings, name_of}
+use Rattle.std.specs.declared.alloc.Global.{Global}
+use Rattle.std.specs.declared.string.String.{String}
+use Rattle.vt_cli.specs.declared.asked.Refused.{Refused}
+use Rattle.vt_cli.specs.CommandLine.{IsNumberOf, HasNoSettings, IsRefusal, faults_in, found_in, name_of}
+use Rattle.vt_cli.specs.declared.asked.Request.{Request}
+use Rattle.vt_cli.specs.Request.{HasNoOptions, HasNoRequest, TakesNone, word_name, wider_faults_in, wider_found_in}
+use Rattle.vt_cli.specs.Request.{IsFound, IsRequest, IsWiderRefusal, IsNoRequest}
 
 -- a text is one of one option
 same_text : (a b : Text) → Some a ≡ Some b → a ≡ b
@@ -42,11 +48,47 @@ same_found name other matches more e = (
   ap (λ o. (unwrap_or {T = Text × List Row} o (name, matches)).1) e,
 )
 
-module _ (name : Text) (matches : List Row) where
-  pub without_piece : ((n : ℕ) → IsNumberOf (codes "piece") matches n → ⊥) → HasNoSettings (Some (name, matches))
-  without_piece none s a =
-      none s.piece (rw (same_found name (name_of s.what) matches a.matches a.what).1 a.piece)
+-- a subcommand with no options of this kind asks for nothing
+pub without_piece : (matches : List Row) → ((n : ℕ) → IsNumberOf (codes "piece") matches n → ⊥) → HasNoOptions matches
+without_piece matches none piece limit file a = none piece a.piece_is
 
-  pub without_limit : ((n : ℕ) → IsNumberOf (codes "limit") matches n → ⊥) → HasNoSettings (Some (name, matches))
-  without_limit none s a =
-      none s.limit (rw (same_found name (name_of s.what) matches a.matches a.what).1 a.limit)
+pub without_limit : (matches : List Row) → ((n : ℕ) → IsNumberOf (codes "limit") matches n → ⊥) → HasNoOptions matches
+without_limit matches none piece limit file a = none limit a.limit_is
+
+module _ (name : Text) (matches : List Row) (none : HasNoOptions matches) where
+  pub settings_without_options : HasNoSettings (Some (name, matches))
+  settings_without_options s a =
+      let same = (same_found name (name_of s.what) matches a.matches a.what).1 in
+      none s.piece s.limit s.file (record {
+        piece_is = rw same a.piece;
+        limit_is = rw same a.limit;
+        piece_in_range = a.piece_in_range;
+        limit_in_range = a.limit_in_range;
+        file_is = rw same a.file;
+      })
+
+  pub request_without_options : HasNoRequest (Some (name, matches))
+  request_without_options r a =
+      let same = (same_found name (word_name r.word) matches a.matches a.word).1 in
+      none r.piece r.limit r.file (rw same a.options)
+
+-- ---- what `settings` refuses
+
+-- with a status that is not 1 it takes nothing
+pub refused_otherwise : (words : List (String Global)) (r : Refused)
+    → IsRefusal (faults_in words) (found_in words) r → r.status ≢ 1 → TakesNone words
+refused_otherwise words r (inl memory) other s takes = other memory.status
+refused_otherwise words r (inr (inl fault)) other s takes = rw takes.no_fault at fault.found
+refused_otherwise words r (inr (inr stray)) other s takes = stray.stray s takes.settings
+
+-- ---- what the wider command gives
+
+pub widened : (words : List (String Global)) (r : Result Request Refused) → TakesNone words
+    → IfOk r (IsFound (wider_found_in words)) → IfOk r (λ _. wider_faults_in words ≡ []) → IfOk r (IsRequest words)
+widened words (Ok request) none found no_fault = inr (record { none = none; no_fault = no_fault; found = found })
+widened words (Err refused) none found no_fault = tt
+
+pub refused_by_both : (words : List (String Global)) (r : Result Request Refused) → TakesNone words
+    → IfErr r (IsWiderRefusal (wider_faults_in words) (wider_found_in words)) → IfErr r (IsNoRequest words)
+refused_by_both words (Ok request) none refusal = tt
+refused_by_both words (Err refused) none refusal = inr (none, refusal)

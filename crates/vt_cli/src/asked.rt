@@ -1,10 +1,10 @@
-//! What the words of a command line come to.
+//! What the arguments of a command line ask for.
 
 ghost use Rattle.std.specs.Prelude.{◌≤◌};
 
-use crate::what::What;
+use crate::what::{What, Word};
 
-/// What the words ask for. The two numbers are in their ranges, in every value of this type.
+/// What the arguments ask for, if it is a replay. The two numbers are in their ranges, in every value of this type.
 #[derive(Debug, PartialEq, Eq, Drop)]
 pub struct Settings {
     /// What is to be written.
@@ -19,12 +19,40 @@ pub struct Settings {
     pub ghost limit_in_range: { limit ≤ 1099511627776 },
 }
 
-/// Why there are no settings, and what to say about it.
+/// What the options of a subcommand ask for. The two numbers are in their ranges, in every value of this type.
+#[derive(Drop)]
+pub(crate) struct Options {
+    /// The most bytes of one read, 1 to 65536.
+    pub(crate) piece: usize,
+    /// The most bytes of the input, 0 to 1099511627776.
+    pub(crate) limit: u64,
+    /// The file to read, or none for standard input.
+    pub(crate) file: Option<String>,
+    pub(crate) ghost piece_in_range: { (1 ≤ piece) × (piece ≤ 65536) },
+    pub(crate) ghost limit_in_range: { limit ≤ 1099511627776 },
+}
+
+/// What the arguments ask for. The two numbers are in their ranges, in every value of this type.
+#[derive(Debug, PartialEq, Eq, Drop)]
+pub struct Request {
+    /// What is to be done with the input.
+    pub word: Word,
+    /// The most bytes of one read, 1 to 65536.
+    pub piece: usize,
+    /// The most bytes of the input, 0 to 1099511627776.
+    pub limit: u64,
+    /// The file to read, or none for standard input.
+    pub file: Option<String>,
+    pub ghost piece_in_range: { (1 ≤ piece) × (piece ≤ 65536) },
+    pub ghost limit_in_range: { limit ≤ 1099511627776 },
+}
+
+/// Why the arguments are refused, and what to print.
 #[derive(Debug, PartialEq, Eq, Drop)]
 pub struct Refused {
-    /// The status with which to end: 0 where the help or the version was asked for, 1 where memory was refused, 2 for a
-    /// fault of the words.
+    /// The exit status: 0 if the help or the version was asked for, 1 if allocation fails, 2 for a fault of the
+    /// arguments.
     pub status: u8,
-    /// The help, the version, the fault as clap words it, or nothing where memory was refused.
+    /// The help, the version, the fault as clap words it, or nothing if allocation fails.
     pub text: String,
 }

@@ -1,4 +1,4 @@
-//! The command line: which words the program takes, and what they ask for.
+//! The command line of a replay: which arguments it takes, and what they ask for.
 ghost use Rattle.std.specs.Prelude.{◌≡◌, ◌≢◌, ◌⊎◌, ℕ, [], IfOk, IfErr, IfSome, IfNone, Some, option_map, string_bytes};
 ghost use Rattle.std.specs.Prelude.{codes, false};
 ghost use Rattle.clap.specs.Words.{FailsBy, app_of, first_value, found_of, kind_of, rows_of, rule_of};
@@ -9,8 +9,9 @@ ghost use Rattle.vt_cli.specs.CommandLine.{number_option, subcommand, with_answe
 ghost use Rattle.vt_cli.specs.CommandLine.{vt220, faults_in, found_in, name_of, status_for};
 ghost use Rattle.vt_cli.specs.CommandLine.{IsNumberOf, AreSettings, IsMemory, IsFault, IsStray, IsRefusal};
 ghost use Rattle.vt_cli.specs.CommandLine.{HasNoSettings};
+ghost use Rattle.vt_cli.specs.Request.{AreOptions, HasNoOptions};
 
-use crate::asked::{Refused, Settings};
+use crate::asked::{Options, Refused, Settings};
 use crate::what::What;
 use clap::builder::ValueParser;
 use clap::error::ErrorKind;
@@ -23,8 +24,8 @@ const PIECE_MOST: u64 = 65536;
 /// The greatest limit.
 const LIMIT_MOST: u64 = 1099511627776;
 
-/// What is said of words that clap takes and that ask for nothing.
-const BAD_COMMAND_LINE: &str = "vt220: bad command line\n";
+/// The message for arguments that clap takes and that ask for nothing.
+pub(crate) const BAD_COMMAND_LINE: &str = "vt220: bad command line\n";
 
 /// The version of the program and of all its crates: `vt220 --version` prints it after the name.
 const VERSION: &str = "0.3.0";
@@ -37,7 +38,7 @@ const ABOUT: &str =
 const TEXT: &str = "The screen: 24 lines of UTF-8, each without the spaces at its end";
 
 /// What `reports` is for.
-const REPORTS: &str = "What the terminal answers to the host, piece by piece as the input comes";
+const REPORTS: &str = "What the terminal answers to the host, chunk by chunk as the input comes";
 
 /// What `repaint` is for.
 const REPAINT: &str = "The bytes that rebuild the terminal, hidden state included, on any terminal";
@@ -53,9 +54,9 @@ const SHOW: &str =
 /// What `picture` is for.
 const PICTURE: &str = "The screen as a picture (SVG)";
 
-/// What stands below the help.
+/// The text below the help.
 const AFTER_HELP: &str = "\
-Each command but help plays FILE, or standard input where no file is named, and takes these options:
+Each command but help plays FILE, or standard input if no file is named, and takes these options:
   --piece N  the most bytes of one read, 1 to 65536 [default: 4096]
   --limit N  the most bytes of the input, 0 to 1099511627776 [default: 268435456]
 
@@ -67,14 +68,14 @@ Example, with a recording made by script(1):
 
 Exit status:
   0  all was written, or the help or the version was asked for
-  1  memory was refused
+  1  an allocation failed
   2  the command line is wrong
   3  a repaint was asked for, and the input ends inside a sequence
   4  the input can't be opened or read
   5  the output can't be written
   6  the input is longer than the limit";
 
-/// An option with a number from `low` to `high`.
+/// Returns an option with a number from `low` to `high`.
 fn number<'a>(
     alloc: Global,
     name: &'a str,
@@ -94,8 +95,12 @@ fn number<'a>(
         .help(help)
 }
 
-/// One of the six subcommands.
-fn subcommand<'a>(alloc: Global, name: &'a str, about: &'a str) -> Result<Command<'a>, AllocError>
+/// Returns a subcommand with the options and the file.
+pub(crate) fn subcommand<'a>(
+    alloc: Global,
+    name: &'a str,
+    about: &'a str,
+) -> Result<Command<'a>, AllocError>
     ensures app { IfOk result (λ c. app_of c ≡ subcommand name.entry.now) }
     ensures local { IfOk result (λ c. (out-Command c).has_globals ≡ false) }
 {
@@ -115,9 +120,9 @@ fn subcommand<'a>(alloc: Global, name: &'a str, about: &'a str) -> Result<Comman
         "268435456",
         "The most bytes of the input, 0 to 1099511627776",
     );
-    let file = Arg::new(alloc, "file").value_name("FILE").help(
-        "What the host sent; standard input where no file is named",
-    );
+    let file = Arg::new(alloc, "file")
+        .value_name("FILE")
+        .help("What the host sent; standard input if no file is named");
     Command::new(alloc, name)
         .about(about)
         .arg(piece)?
@@ -125,7 +130,7 @@ fn subcommand<'a>(alloc: Global, name: &'a str, about: &'a str) -> Result<Comman
         .arg(file)
 }
 
-/// The command with the subcommand for one thing more.
+/// Adds the subcommand for one kind of output.
 fn with_subcommand<'a>(
     alloc: Global,
     command: Command<'a>,
@@ -145,7 +150,7 @@ fn with_subcommand<'a>(
     command.subcommand(subcommand(alloc, name, about)?)
 }
 
-/// The command with the subcommands `text`, `reports`, `repaint` and `status`.
+/// Adds the subcommands `text`, `reports`, `repaint` and `status`.
 fn with_answers<'a>(alloc: Global, command: Command<'a>) -> Result<Command<'a>, AllocError>
     ensures { IfOk result (λ c. app_of c ≡ with_answers (app_of command.entry)) }
 {
@@ -155,7 +160,7 @@ fn with_answers<'a>(alloc: Global, command: Command<'a>) -> Result<Command<'a>, 
     with_subcommand(alloc, command, What::Status, STATUS)
 }
 
-/// The command with the subcommands `show` and `picture`.
+/// Adds the subcommands `show` and `picture`.
 fn with_views<'a>(alloc: Global, command: Command<'a>) -> Result<Command<'a>, AllocError>
     ensures { IfOk result (λ c. app_of c ≡ with_views (app_of command.entry)) }
 {
@@ -163,8 +168,8 @@ fn with_views<'a>(alloc: Global, command: Command<'a>) -> Result<Command<'a>, Al
     with_subcommand(alloc, command, What::Picture, PICTURE)
 }
 
-/// The program's command.
-fn command<'a>(alloc: Global) -> Result<Command<'a>, AllocError>
+/// Returns the command of a replay.
+pub(crate) fn command<'a>(alloc: Global) -> Result<Command<'a>, AllocError>
     ensures { IfOk result (λ c. app_of c ≡ vt220) }
 {
     let command = Command::new(alloc, "vt220")
@@ -175,7 +180,7 @@ fn command<'a>(alloc: Global) -> Result<Command<'a>, AllocError>
     with_views(alloc, with_answers(alloc, command)?)
 }
 
-/// What clap makes of the words.
+/// Returns what clap matches in the arguments.
 fn matches_of<'a>(alloc: Global, words: &'a [String]) -> Result<ArgMatches<'a>, Error>
     ensures matches { IfOk result (λ m. subcommand_rows_of m ≡ found_in words.entry.now) }
     ensures faults { FailsBy (faults_in words.entry.now) result }
@@ -183,8 +188,8 @@ fn matches_of<'a>(alloc: Global, words: &'a [String]) -> Result<ArgMatches<'a>, 
     command(alloc)?.try_get_matches_from(words)
 }
 
-/// Want of memory.
-fn out_of_memory(alloc: Global) -> Refused
+/// Returns the refusal if allocation fails.
+pub(crate) fn out_of_memory(alloc: Global) -> Refused
     ensures { IsMemory result }
 {
     Refused {
@@ -193,8 +198,8 @@ fn out_of_memory(alloc: Global) -> Refused
     }
 }
 
-/// A refusal with this text.
-fn refusal(alloc: Global, status: u8, text: &str) -> Refused
+/// Returns a refusal with this text.
+pub(crate) fn refusal(alloc: Global, status: u8, text: &str) -> Refused
     ensures { IsMemory result ⊎ ((result.status ≡ status) × (string_bytes result.text ≡ text.now)) }
 {
     match String::from_str(alloc, text) {
@@ -203,8 +208,8 @@ fn refusal(alloc: Global, status: u8, text: &str) -> Refused
     }
 }
 
-/// What clap refused, as it words it.
-fn refusal_of(alloc: Global, error: Error) -> Refused
+/// Returns the refusal for a fault of clap, as clap words it.
+pub(crate) fn refusal_of(alloc: Global, error: Error) -> Refused
     ensures { IsMemory result
         ⊎ ((kind_of error ≢ ErrorKind.OutOfMemory) × (result.status ≡ status_for (kind_of error))) }
 {
@@ -219,8 +224,8 @@ fn refusal_of(alloc: Global, error: Error) -> Refused
     }
 }
 
-/// What the subcommand of this name is for.
-fn what_of(name: &str) -> Option<What>
+/// Returns what the subcommand of this name writes.
+pub(crate) fn what_of(name: &str) -> Option<What>
     ensures some { IfSome result (λ what. name.now ≡ name_of what) }
     ensures none { IfNone result ((what : What) → name.now ≢ name_of what) }
 {
@@ -235,7 +240,7 @@ fn what_of(name: &str) -> Option<What>
     }
 }
 
-/// The number of an option.
+/// Returns the number of an option.
 fn number_of(matches: &ArgMatches<'_>, option: &str) -> Option<u64>
     ensures some { IfSome result (IsNumberOf option.now (rows_of (found_of matches.now))) }
     ensures none { IfNone result ((n : ℕ) → IsNumberOf option.now (rows_of (found_of matches.now)) n → ⊥) }
@@ -243,7 +248,7 @@ fn number_of(matches: &ArgMatches<'_>, option: &str) -> Option<u64>
     matches.get_str(option)?.parse::<u64>().ok()
 }
 
-/// The file's name, if there is one.
+/// Returns the file's name, if there is one.
 fn file_of(alloc: Global, matches: &ArgMatches<'_>) -> Result<Option<String>, AllocError>
     ensures { IfOk result (λ file. option_map (λ name. string_bytes name) file
         ≡ first_value (found_of matches.now) (codes "file")) }
@@ -254,7 +259,32 @@ fn file_of(alloc: Global, matches: &ArgMatches<'_>) -> Result<Option<String>, Al
     }
 }
 
-/// The settings of a subcommand, where its numbers are in their ranges.
+/// Returns what a subcommand's options ask for, if the numbers are in their ranges.
+pub(crate) fn options_of(
+    alloc: Global,
+    matches: &ArgMatches<'_>,
+) -> Result<Option<Options>, AllocError>
+    ensures some { IfOk result (λ o. IfSome o (λ options. AreOptions (rows_of (found_of matches.now)) options.piece options.limit options.file)) }
+    ensures none { IfOk result (λ o. IfNone o (HasNoOptions (rows_of (found_of matches.now)))) }
+{
+    let Some(piece) = number_of(matches, "piece") else {
+        return Ok(None);
+    };
+    let Some(limit) = number_of(matches, "limit") else {
+        return Ok(None);
+    };
+    if piece < 1 || PIECE_MOST < piece || LIMIT_MOST < limit {
+        return Ok(None);
+    }
+    let file = file_of(alloc, matches)?;
+    Ok(Some(Options {
+        piece: piece as usize,
+        limit,
+        file,
+    }))
+}
+
+/// Returns the settings of a subcommand, if it is one of a replay and its numbers are in their ranges.
 fn settings_of(
     alloc: Global,
     name: &str,
@@ -266,36 +296,38 @@ fn settings_of(
     let Some(what) = what_of(name) else {
         return Ok(None);
     };
-    let Some(piece) = number_of(matches, "piece") else {
+    let Some(options) = options_of(alloc, matches)? else {
         return Ok(None);
     };
-    let Some(limit) = number_of(matches, "limit") else {
-        return Ok(None);
-    };
-    if piece < 1 || PIECE_MOST < piece || LIMIT_MOST < limit {
-        return Ok(None);
-    }
-    let file = file_of(alloc, matches)?;
     Ok(Some(Settings {
         what,
-        piece: piece as usize,
-        limit,
-        file,
+        piece: options.piece,
+        limit: options.limit,
+        file: options.file,
     }))
 }
 
-/// The settings that the words ask for; the first word is the program's name.
+/// Returns the settings that the arguments ask for; the first argument is the program's name.
 ///
-/// The words are those of clap's command `vt220`: one of the six subcommands `text`, `reports`, `repaint`, `status`,
-/// `show` and `picture`, each with `--piece N` (1 to 65536, else 4096), `--limit N` (0 to 1099511627776, else
-/// 268435456) and at most one FILE. `Err` is what to end with where there are no settings: the help or the version that
-/// was asked for (status 0), want of memory (1), or what is wrong with the words (2). (this profile)
+/// The arguments are those of clap's command `vt220`: one of the six subcommands `text`, `reports`, `repaint`, `status`,
+/// `show` and `picture`, each with `--piece N` (1 to 65536, otherwise 4096), `--limit N` (0 to 1099511627776, otherwise
+/// 268435456) and at most one FILE. `Err` is what to end with if there are no settings: the help or the version that was
+/// asked for (status 0), a failed allocation (1), or what is wrong with the arguments (2). (this profile)
 pub fn settings(alloc: Global, words: Vec<String>) -> Result<Settings, Refused>
     ensures ok { IfOk result (AreSettings (found_in words.items)) }
     ensures no_fault { IfOk result (λ _. faults_in words.items ≡ []) }
     ensures err { IfErr result (IsRefusal (faults_in words.items) (found_in words.items)) }
 {
-    let matches = match matches_of(alloc, words.as_slice()) {
+    settings_in(alloc, words.as_slice())
+}
+
+/// Returns the settings that borrowed arguments ask for, as `settings` does.
+pub(crate) fn settings_in(alloc: Global, words: &[String]) -> Result<Settings, Refused>
+    ensures ok { IfOk result (AreSettings (found_in words.now)) }
+    ensures no_fault { IfOk result (λ _. faults_in words.now ≡ []) }
+    ensures err { IfErr result (IsRefusal (faults_in words.now) (found_in words.now)) }
+{
+    let matches = match matches_of(alloc, words) {
         Ok(matches) => matches,
         Err(error) => return Err(refusal_of(alloc, error)),
     };

@@ -1,10 +1,12 @@
-//! The command line: which words the program takes, and what they ask for.
+//! The command line: which arguments the program takes, and what they ask for.
 #![tactic(auto)]
 
 mod asked;
 mod command_line;
+mod requests;
 mod what;
 
-pub use asked::{Refused, Settings};
+pub use asked::{Refused, Request, Settings};
 pub use command_line::settings;
-pub use what::What;
+pub use requests::request;
+pub use what::{What, Word};

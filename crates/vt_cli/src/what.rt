@@ -1,11 +1,11 @@
-//! What a replay writes.
+//! What the program writes.
 
 /// What a replay writes.
 #[derive(Clone, Copy, Debug, PartialEq, Eq)]
 pub enum What {
     /// The text of the screen after the whole input.
     Text,
-    /// The terminal's reports, those of each piece before the next is read.
+    /// The terminal's reports, those of each chunk before the next is read.
     Reports,
     /// The bytes that rebuild the terminal's state on any terminal, after the whole input.
     Repaint,
@@ -16,4 +16,13 @@ pub enum What {
     Show,
     /// The screen as a picture (SVG), after the whole input.
     Picture,
+}
+
+/// What the program does with its input.
+#[derive(Clone, Copy, Debug, PartialEq, Eq)]
+pub enum Word {
+    /// A replay.
+    Replay(What),
+    /// The lines that scroll off the top of the screen, as they come, and the text of the screen after the whole input.
+    Log,
 }

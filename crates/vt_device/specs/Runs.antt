@@ -2,7 +2,7 @@
 use Rattle.std.specs.Prelude.{◌≡◌, ℕ, List, Bool, Option}
 use Rattle.std.specs.Io.KnownBytes.{Appends, Consumes}
 
--- what a run tells of its two devices
+-- the flags of a run's two devices
 pub record Flags : Type 0 where
   pub reader_failed : Bool
   pub reader_ended : Bool

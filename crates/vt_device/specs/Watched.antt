@@ -16,7 +16,7 @@ abbrev pub read_ended : {E : Type 0} → Result ℕ E → List ℕ → Bool
 read_ended (Ok n) buf = (n == 0) && nat_lt 0 (length buf)
 read_ended (Err e) buf = false
 
--- the device answered a write by an error, or took no byte of a piece that isn't empty
+-- the device returned an error for a write, or wrote no byte of a chunk that isn't empty
 abbrev pub write_failed : {E : Type 0} → Result ℕ E → List ℕ → Bool
 write_failed (Ok n) piece = (n == 0) && nat_lt 0 (length piece)
 write_failed (Err e) piece = true

@@ -1,4 +1,4 @@
--- What a writer takes of a piece. (this profile)
+-- What a writer writes of a chunk. (this profile)
 use Rattle.std.specs.Prelude.{◌≡◌, ℕ, ◌<◌, ◌++◌, List, length, Bool, true, false, Option}
 use Rattle.std.specs.Io.KnownBytes.{Appends}
 
@@ -14,7 +14,7 @@ pub record Gives (held held_after : Option (List ℕ)) (P : List ℕ → Type 0)
   pub given : Appends held held_after w
   pub holds : P w
 
--- all of the piece and no failure, or a proper beginning and a failure
+-- all of the chunk and no failure, or a proper beginning and a failure
 abbrev pub WriteTable : Bool → Bool → List ℕ → List ℕ → Type 0
 WriteTable true failed piece w = (failed ≡ false) × (w ≡ piece)
 WriteTable false failed piece w = (failed ≡ true) × IsProperBeginning w piece

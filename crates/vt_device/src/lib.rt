@@ -1,4 +1,5 @@
-//! A device that is read or written, and what was seen of it: shared by all that plays an input or takes it apart.
+//! A device that is read or written, and two flags of its past calls. The engines that play a recording or take one
+//! apart share it.
 #![tactic(auto)]
 
 mod watched;

@@ -1,4 +1,4 @@
-//! A device and what was seen of it.
+//! A device with two flags of its past calls.
 ghost use Rattle.std.specs.Prelude.{◌≡◌, ◌||◌, false};
 ghost use Rattle.std.specs.Io.{ReadsAtMost, WritesAtMost};
 ghost use Rattle.std.specs.Io.KnownBytes.{ReadConsumes, WriteAppends};
@@ -8,7 +8,7 @@ use std::io;
 use std::io::{Read, Write};
 use std::marker::Model;
 
-/// A reader or writer, and two flags: whether it failed, and whether it came to its end.
+/// A reader or writer, and two flags: whether it failed, and whether it reached its end.
 #[derive(Debug, Drop)]
 pub struct Watched<D> {
     device: D,
@@ -25,7 +25,7 @@ impl<D> Model for Watched<D> {
 }
 
 impl<D> Watched<D> {
-    /// The device, with both flags false.
+    /// Returns a watched device with both flags false.
     pub fn new(device: D) -> Watched<D>
         ensures device { result.device ≡ device }
         ensures failed { result.failed ≡ false }
@@ -38,21 +38,21 @@ impl<D> Watched<D> {
         }
     }
 
-    /// Whether the device answered an error, or took no byte of a piece that wasn't empty.
+    /// Returns whether the device returned an error, or wrote no byte of a chunk that wasn't empty.
     pub fn failed(&self) -> bool
         ensures { result ≡ self.now.failed }
     {
         self.failed
     }
 
-    /// Whether a read into a buffer that wasn't empty gave no byte.
+    /// Returns whether a read into a buffer that wasn't empty returned no byte.
     pub fn ended(&self) -> bool
         ensures { result ≡ self.now.ended }
     {
         self.ended
     }
 
-    /// The device.
+    /// Returns the device.
     pub fn into_inner(self) -> D
         ensures { result ≡ self.device }
     {
@@ -66,7 +66,8 @@ impl<D> Watched<D> {
 }
 
 impl<D: Read> Watched<D> {
-    /// Reads as the device does, and sets the flags.
+    /// Reads as the device does, and sets the flags. An error sets `failed`. No byte, if the buffer isn't empty, sets
+    /// `ended`.
     pub fn read(&mut self, buf: &mut [u8]) -> io::Result<usize>
         ensures bound { ReadsAtMost result buf.new }
         ensures bytes { ReadConsumes (D.remaining self.old.device) (D.remaining self.new.device) result buf.new }
@@ -87,7 +88,7 @@ impl<D: Read> Watched<D> {
 }
 
 impl<D: Write> Watched<D> {
-    /// Writes as the device does, and sets the flags.
+    /// Writes as the device does, and sets the flags. An error, or no byte of a chunk that isn't empty, sets `failed`.
     pub fn write(&mut self, piece: &[u8]) -> io::Result<usize>
         ensures bound { WritesAtMost result piece.now }
         ensures bytes { WriteAppends (D.contents self.old.device) (D.contents self.new.device) result piece.now }

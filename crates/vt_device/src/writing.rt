@@ -1,12 +1,12 @@
-//! Writing of a whole piece.
+//! Writing of a whole chunk.
 ghost use Rattle.std.specs.Prelude.{◌≡◌, false};
 ghost use Rattle.vt_device.specs.Writing.{Gives, WriteTable};
 
 use crate::watched::Watched;
 use std::io::Write;
 
-/// Writes the whole piece, by as many writes as it takes, and says whether it got through. The device has not failed
-/// before, and it isn't asked again after an error.
+/// Writes the whole chunk, by as many writes as are needed, and returns whether all of it was written. The device
+/// hasn't failed before. After an error it isn't called again.
 pub fn write_whole<W: Write>(writer: &mut Watched<W>, piece: &[u8]) -> bool
     requires { writer.old.failed ≡ false }
     ensures gives { Gives (W.contents writer.old.device) (W.contents writer.new.device)

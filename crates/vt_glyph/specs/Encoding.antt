@@ -1,4 +1,4 @@
--- How a glyph is encoded in one byte: by its spelling. Of the public clauses those of `Glyph::code` alone speak of it.
+-- How a glyph is encoded in one byte: by its spelling. Among the public clauses only those of `Glyph::code` use it.
 use Rattle.std.specs.Prelude.{◌≡◌, ℕ, ◌+◌, ◌-◌, List, nat_lt, if◌then◌else◌}
 use Rattle.std.proofs.Common.{arith, sym, ap, ◌∙◌}
 use Rattle.std.proofs.lemmas.Bool.Decides.{nat_tests}

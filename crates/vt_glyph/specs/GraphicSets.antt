@@ -23,6 +23,6 @@ abbrev pub pending_number : Option ℕ → ℕ
 pending_number None = 0
 pending_number (Some slot) = slot + 1
 
--- all parts, as numbers: sets are equal where these are
+-- all parts, as numbers: sets are equal if these are
 abbrev pub parts : GraphicSets → List ℕ
 parts sets = sets.left ∷ sets.right ∷ pending_number sets.pending ∷ map final_of sets.g

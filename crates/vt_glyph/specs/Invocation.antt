@@ -54,8 +54,8 @@ glyph_read sets b =
 unfoldable pub after_read : GraphicSets → ℕ → GraphicSets
 after_read sets b = if has_no_glyph b then sets else record sets { pending = None }
 
--- the sets in GL and GR, which graphic bytes are read through where no single shift is pending (VT220 manual, chapter
--- 4: the in-use table)
+-- the sets in GL and GR: graphic bytes are read through them if no single shift is pending (VT220 manual, chapter 4:
+-- the in-use table)
 pub record InUseTable : Type 0 where
   pub left : Set
   pub right : Set

@@ -7,7 +7,7 @@ use Rattle.vt_glyph.specs.Invocation.{sets_at_power_up, designated, locked_left,
 use Rattle.vt_glyph.specs.Invocation.{glyph_read, after_read, in_use, glyph_in_use, HasGlyph, InUseTable}
 use Rattle.vt_glyph.specs.Spell.{spelling_of, code_of, shifted_for, AreSpellingSets}
 
--- where the sets are those that the spellings are for
+-- if the sets are those that the spellings are for
 pub record SpellingLaws : Type 0 where
   -- each glyph's spelling writes it, and leaves the sets
   pub writes : (sets : GraphicSets) (n : ℕ) → AreSpellingSets sets → IsGlyph n
@@ -28,7 +28,7 @@ pub record GlyphLaws : Type 0 where
   pub read : (sets : GraphicSets) (b : ℕ) → IfSome (glyph_read sets b) IsGlyph
   pub in_use : (table : InUseTable) (b : ℕ) → HasGlyph b → IsGlyph (glyph_in_use table b)
 
--- where no single shift is pending, a byte that has a glyph in either half is read through the sets in GL and GR, and
+-- if no single shift is pending, a byte that has a glyph in either half is read through the sets in GL and GR, and
 -- leaves the sets
 pub record InUseLaws : Type 0 where
   pub glyph : (sets : GraphicSets) (b : ℕ) → sets.pending ≡ None → HasGlyph b

@@ -1,8 +1,8 @@
--- Tables, as lists of a number and what stands beside it.
+-- Tables, as lists of a number and its entry.
 use Rattle.std.specs.Prelude.{ℕ, List, [], ◌∷◌, Bool, Option, Some, None, ◌==◌, if◌then◌else◌, unwrap_or}
 use Rattle.std.specs.List.{list_any}
 
--- what stands beside the first number that is equal
+-- the entry of the first number that is equal
 abbrev pub look_up : {A : Type 0} → List (ℕ × A) → ℕ → Option A
 look_up [] key = None
 look_up (row ∷ rows) key = if key == row.0 then Some row.1 else look_up rows key

@@ -1,4 +1,4 @@
--- The bytes that write a glyph where G0 is ASCII, G2 Supplemental, G3 Special Graphics, GL is G0 and no single shift is
+-- The bytes that write a glyph if G0 is ASCII, G2 Supplemental, G3 Special Graphics, GL is G0 and no single shift is
 -- pending. (This profile: one spelling a glyph)
 use Rattle.std.specs.Prelude.{◌≡◌, ℕ, List, [], ◌∷◌, Option, None, ◌==◌, ◌&&◌, nat_le, if◌then◌else◌, find}
 use Rattle.std.specs.Option.{option_map_or}

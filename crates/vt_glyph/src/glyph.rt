@@ -5,13 +5,14 @@ use std::marker::Model;
 
 /// One of the 204 glyphs that the graphic sets show. Contracts see its Unicode number.
 ///
-/// It is encoded by a code below 256, its spelling: an ASCII glyph is its own code, one that is spelled
-/// after a single shift to G2 its code with the high bit set, and one that is spelled after a single
-/// shift to G3 its code less 60 (hexadecimal).
+/// It is encoded by a code below 256, which depends on its spelling:
+/// - an ASCII glyph has its own code
+/// - a glyph that is spelled after a single shift to G2 has the code of its spelling with the high bit set
+/// - a glyph that is spelled after a single shift to G3 has the code of its spelling less 60 (hexadecimal)
 #[derive(Clone, Copy, Debug)]
 pub struct Glyph {
     byte: u8,
-    // Always 0. With these two a cell of the screen is eight bytes without a gap, which are written and compared as one
+    // Always 0. With these two a cell of the screen is eight bytes without a gap. They are written and compared as one
     // word.
     second: u8,
     third: u8,
@@ -58,21 +59,21 @@ impl Glyph {
     ghost use Rattle.vt_glyph.specs.Encoding.{encoded_glyph, encoded_spelling, encoding_of, IsEncoding};
     ghost use Rattle.vt_glyph.specs.Spell.{spelling_of};
 
-    /// The space, U+0020, which a blank cell shows.
+    /// Returns the space, U+0020, which a blank cell shows.
     pub fn blank() -> Glyph
         ensures { result ≡ space }
     {
         Glyph::encoded(b' ')
     }
 
-    /// U+2426, which undefined places of Supplemental show and SUB writes. (This profile)
+    /// Returns U+2426, which undefined positions of Supplemental show and SUB writes. (This profile)
     pub fn substitute() -> Glyph
         ensures { result ≡ substitute_glyph }
     {
         Glyph::encoded(0xA4)
     }
 
-    /// The ASCII glyph of a code from 20 to 7E, the space among them.
+    /// Returns the ASCII glyph of a code from 20 to 7E, including the space.
     pub fn ascii(code: u8) -> Glyph
         requires { (0x20 ≤ code) × (code ≤ 0x7E) }
         ensures { result ≡ code }
@@ -80,7 +81,7 @@ impl Glyph {
         Glyph::encoded(code)
     }
 
-    /// The glyph that this byte encodes.
+    /// Returns the glyph that this byte encodes.
     #[inline(always)]
     pub(crate) fn encoded(byte: u8) -> Glyph
         requires { IsEncoding byte }
@@ -93,8 +94,8 @@ impl Glyph {
         }
     }
 
-    /// The glyph's code, below 256: that of its spelling in ASCII; with the high bit set of a spelling by G2; less 60
-    /// (hexadecimal) of a spelling by G3. No two glyphs have one code.
+    /// Returns the glyph's code, below 256. It is the code of its spelling in ASCII. For a spelling by G2 the high bit
+    /// is set, and for a spelling by G3 the code is less 60 (hexadecimal). No two glyphs have the same code.
     #[inline(always)]
     pub fn code(&self) -> u32
         ensures value { result ≡ encoding_of self.now }
@@ -105,8 +106,8 @@ impl Glyph {
         self.byte as u32 + 0x100 * self.second as u32 + 0x1_0000 * self.third as u32
     }
 
-    /// The character with the glyph's Unicode number. (VT220 manual, chapter 2; the numbers of Special
-    /// Graphics are this profile's.)
+    /// Returns the character with the glyph's Unicode number. (VT220 manual, chapter 2; the numbers of Special Graphics
+    /// are this profile's.)
     pub fn to_char(self) -> char
         ensures value { result ≡ self }
         ensures is_glyph { IsGlyph self }
@@ -114,7 +115,7 @@ impl Glyph {
         CHARACTERS[self.byte as usize]
     }
 
-    /// The one spelling of the glyph: in ASCII if it can be, else in Supplemental, else in Special
+    /// Returns the one spelling of the glyph: in ASCII if it has one, otherwise in Supplemental, otherwise in Special
     /// Graphics. (This profile; [`laws::spelling`](crate::laws::spelling))
     pub fn spelling(self) -> Spelling
         ensures { result ≡ spelling_of self }
@@ -128,7 +129,7 @@ impl Glyph {
     }
 }
 
-/// The characters of the encoded glyphs, by their bytes. A byte that encodes none has U+2426, or a
+/// The characters of the encoded glyphs, indexed by their bytes. A byte that encodes no glyph has U+2426, or a
 /// character that another byte encodes.
 const CHARACTERS: [char; 256] = [
     // 0x00: codes 60 to 7E of Special Graphics

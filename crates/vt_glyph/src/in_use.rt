@@ -3,10 +3,10 @@ use crate::glyph::Glyph;
 use crate::set::{Set, halves};
 use std::marker::Model;
 
-/// The in-use table: the sets in GL and GR, through which graphic bytes are read where no single shift is pending.
-/// (VT220 manual, chapter 4)
+/// The in-use table: the sets in GL and GR. Graphic bytes are read through it when no single shift is pending. (VT220
+/// manual, chapter 4)
 ///
-/// It has their chart of both halves at hand, so that a byte of a run is read by one look-up.
+/// It refers to one chart of both halves, so that a byte of a run is read by one look-up.
 #[derive(Debug, Drop)]
 pub struct InUse {
     left: Set,
@@ -31,7 +31,7 @@ impl InUse {
     ghost use Rattle.vt_glyph.specs.Tables.{IsGlyph};
     ghost use Rattle.vt_glyph.specs.Invocation.{HasGlyph, glyph_in_use};
 
-    /// A table of two sets.
+    /// Returns the table of two sets, for GL and GR.
     pub(crate) fn new(left: Set, right: Set) -> InUse
         ensures { result ≡ record { left = left; right = right } }
     {
@@ -42,7 +42,7 @@ impl InUse {
         }
     }
 
-    /// The glyph of a byte from 20 to 7E, or from A1 to FE. 20 is the space, whatever the sets.
+    /// Returns the glyph of a byte from 20 to 7E, or from A1 to FE. 20 is the space in every set.
     #[inline(always)]
     pub fn glyph(&self, b: u8) -> Glyph
         requires { HasGlyph b }

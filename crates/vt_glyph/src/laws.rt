@@ -5,29 +5,30 @@ ghost use Rattle.vt_glyph.specs.declared.set.Set.{Set};
 ghost use Rattle.vt_glyph.specs.Designation.{set_of_final, final_of};
 ghost use Rattle.vt_glyph.specs.Laws.{SpellingLaws, GlyphLaws, InUseLaws, SetsLaws};
 
-/// Where the sets are those that the spellings are for, each glyph's spelling writes it and leaves
-/// the sets. Its code is from 20 to 7E, and no two glyphs have one spelling.
+/// States that each glyph's spelling writes it and leaves the sets, if the sets are those that the spellings are for.
+/// Its code is from 20 to 7E, and no two glyphs have the same spelling.
 pub fn spelling()
     ensures { SpellingLaws }
 {}
 
-/// The space, U+2426, ASCII, what the sets show and what is read through them are glyphs.
+/// States that these are glyphs: the space, U+2426, ASCII, the characters of the sets, and all that is read through
+/// them.
 pub fn glyphs()
     ensures { GlyphLaws }
 {}
 
-/// Where no single shift is pending, a byte that has a glyph in either half is read through the sets in GL and GR, and
-/// leaves the sets.
+/// States that a byte with a glyph in either half is read through the sets in GL and GR if no single shift is pending.
+/// It leaves the sets.
 pub fn in_use()
     ensures { InUseLaws }
 {}
 
-/// Each set's final byte designates it.
+/// States that each set's final byte designates it.
 pub fn designation()
     ensures { (set : Set) → set_of_final (final_of set) ≡ Some set }
 {}
 
-/// The sets at power-up are sound, and designations, shifts, DECRC and reading keep them so.
+/// States that the sets at power-up are sound, and that designations, shifts, DECRC and reading keep them sound.
 pub fn soundness()
     ensures { SetsLaws }
 {}

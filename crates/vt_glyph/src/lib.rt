@@ -1,9 +1,10 @@
 //! The glyphs of the terminal, the graphic sets that show them, and the bytes that spell them.
 //!
-//! A graphic byte is read through one of four designated sets ([`Sets::read`]), chosen by the locking
-//! shifts and a pending single shift. It shows one of 204 glyphs ([`Glyph`]), and each of these has one
-//! spelling ([`Spelling`]) that writes it where G0 is ASCII, G2 Supplemental, G3 Special Graphics, GL
-//! is G0 and no single shift is pending ([`laws::spelling`]).
+//! A graphic byte is read through one of four designated sets ([`Sets::read`]). The locking shifts and a pending single
+//! shift choose the set. The byte shows one of 204 glyphs ([`Glyph`]).
+//!
+//! Each glyph has one spelling ([`Spelling`]). It writes the glyph if G0 is ASCII, G2 Supplemental and G3 Special
+//! Graphics, GL is G0, and no single shift is pending ([`laws::spelling`]).
 #![tactic(auto)]
 
 mod glyph;

@@ -24,7 +24,7 @@ impl Set {
     ghost use Rattle.vt_glyph.specs.Tables.{glyph_of, IsGlyph};
     ghost use Rattle.vt_glyph.specs.Encoding.{encodings};
 
-    /// The set that a designating escape sequence with this final byte names; None where it names none.
+    /// Returns the set that a designating escape sequence with this final byte names, or `None` if it names none.
     /// (VT220 manual, chapter 4: SCS)
     pub fn of_final(last: u8) -> Option<Set>
         ensures { result ≡ set_of_final last }
@@ -39,7 +39,7 @@ impl Set {
         }
     }
 
-    /// The final byte that names this set in a designating escape sequence.
+    /// Returns the final byte that names this set in a designating escape sequence.
     pub fn last(self) -> u8
         ensures { result ≡ final_of self }
     {
@@ -52,7 +52,7 @@ impl Set {
         }
     }
 
-    /// The glyph of a code from 21 to 7E.
+    /// Returns the glyph of a code from 21 to 7E.
     pub fn glyph(self, code: u8) -> Glyph
         requires { (0x21 ≤ code) × (code ≤ 0x7E) }
         ensures value { result ≡ glyph_of self code }
@@ -61,7 +61,7 @@ impl Set {
         Glyph::encoded(self.encodings()[code as usize])
     }
 
-    /// The encodings of the set's glyphs, by their codes. The code 20 is the space in every set.
+    /// Returns the encodings of the set's glyphs, indexed by their codes. The code 20 is the space in every set.
     pub(crate) fn encodings(self) -> &'static [u8; 128]
         ensures { result.now ≡ encodings self }
     {
@@ -140,7 +140,8 @@ const WITH_SPECIAL: [[[u8; 128]; 2]; 5] = charts!(SPECIAL);
 
 const WITH_SUPPLEMENTAL: [[[u8; 128]; 2]; 5] = charts!(SUPPLEMENTAL);
 
-/// The encodings of two sets, by the codes of the left half and of the right one: one chart of 256 for each pair.
+/// Returns the encodings of two sets, indexed by the codes of the left half and of the right half. There is one chart
+/// of 256 for each pair.
 pub(crate) fn halves(left: Set, right: Set) -> &'static [[u8; 128]; 2]
     ensures { result.now ≡ encodings left ∷ encodings right ∷ [] }
 {

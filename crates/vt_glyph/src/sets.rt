@@ -1,4 +1,4 @@
-//! The four designated sets, and what is locked and shifted.
+//! The four designated sets, and the locking and single shifts.
 ghost use Rattle.std.specs.Prelude.{◌≡◌, ◌<◌, ◌≤◌, ◌⊎◌, ◌↔◌, ℕ, IsTrue, IfSome};
 
 use crate::glyph::Glyph;
@@ -6,8 +6,8 @@ use crate::in_use::InUse;
 use crate::set::Set;
 use std::marker::Model;
 
-/// The sets designated as G0 to G3, those in GL and GR, and a pending single shift. A slot is the
-/// number of one of G0 to G3. (VT220 manual, chapter 4; ECMA-35)
+/// The sets designated as G0 to G3, those in GL and GR, and a pending single shift. A slot is the number of one of G0
+/// to G3. (VT220 manual, chapter 4; ECMA-35)
 #[derive(Clone, Copy, Debug)]
 pub struct Sets {
     g: [Set; 4],
@@ -70,8 +70,8 @@ impl Sets {
     ghost use Rattle.vt_glyph.specs.Invocation.{sets_at_power_up, designated, locked_left, locked_right, shifted_once};
     ghost use Rattle.vt_glyph.specs.Invocation.{restored, set_at, glyph_read, after_read, in_use};
 
-    /// The sets at power-up: G0 and G1 ASCII, G2 and G3 Supplemental, G0 in GL, G2 in GR, and no
-    /// single shift. (This profile)
+    /// Returns the sets at power-up: G0 and G1 ASCII, G2 and G3 Supplemental, G0 in GL, G2 in GR, and no single shift.
+    /// (This profile)
     pub fn power_up() -> Sets
         ensures { result ≡ sets_at_power_up }
     {
@@ -83,9 +83,9 @@ impl Sets {
         }
     }
 
-    /// The glyph of a graphic byte, 20 to 7E or A0 to FF. It uses a pending single shift up.
+    /// Returns the glyph of a graphic byte, 20 to 7E or A0 to FF. A pending single shift is then no longer pending.
     ///
-    /// A0 and FF have no glyph, and leave a single shift pending. 20 is the space in every set.
+    /// Returns `None` for A0 and FF, which leave a single shift pending. 20 is the space in every set.
     #[tactic(auto, unfolding(crate::specs::Invocation::glyph_read, crate::specs::Invocation::after_read))]
     pub fn read(&mut self, b: u8) -> Option<Glyph>
         requires { ((0x20 ≤ b) × (b ≤ 0x7E)) ⊎ (0xA0 ≤ b) }
@@ -109,7 +109,7 @@ impl Sets {
         Some(self.g[slot as usize].glyph(b % 0x80))
     }
 
-    /// Designates a set as G0, G1, G2 or G3, slot 0 to 3. (SCS)
+    /// Designates a set as G0, G1, G2 or G3: `slot` is 0 to 3. (SCS)
     pub fn designate(&mut self, slot: u8, set: Set)
         requires { slot < 4 }
         ensures after { self.new ≡ designated slot set self.old }
@@ -118,7 +118,7 @@ impl Sets {
         self.g[slot as usize] = set;
     }
 
-    /// Locks one of G0 to G3 into GL. (SI and SO, which are LS0 and LS1; LS2, LS3)
+    /// Locks one of G0 to G3 into GL: `slot` is 0 to 3. (SI and SO, which are LS0 and LS1; LS2, LS3)
     pub fn lock_left(&mut self, slot: u8)
         requires { slot < 4 }
         ensures after { self.new ≡ locked_left slot self.old }
@@ -127,7 +127,7 @@ impl Sets {
         self.left = slot;
     }
 
-    /// Locks one of G1 to G3 into GR. (LS1R, LS2R, LS3R)
+    /// Locks one of G1 to G3 into GR: `slot` is 1 to 3. (LS1R, LS2R, LS3R)
     pub fn lock_right(&mut self, slot: u8)
         requires { (1 ≤ slot) × (slot < 4) }
         ensures after { self.new ≡ locked_right slot self.old }
@@ -136,8 +136,7 @@ impl Sets {
         self.right = slot;
     }
 
-    /// Shifts the next graphic byte to G2 or G3, slot 2 or 3. It replaces a pending single shift.
-    /// (SS2, SS3)
+    /// Shifts the next graphic byte to G2 or G3: `slot` is 2 or 3. It replaces a pending single shift. (SS2, SS3)
     pub fn shift_once(&mut self, slot: u8)
         requires { (2 ≤ slot) × (slot < 4) }
         ensures after { self.new ≡ shifted_once slot self.old }
@@ -146,7 +145,7 @@ impl Sets {
         self.pending = Some(slot);
     }
 
-    /// Gives saved designations and locking shifts back. A pending single shift stays. (DECRC)
+    /// Restores saved designations and locking shifts. A pending single shift stays. (DECRC)
     pub fn restore(&mut self, g: [Set; 4], left: u8, right: u8)
         requires left { left < 4 }
         requires right { (1 ≤ right) × (right < 4) }
@@ -158,7 +157,7 @@ impl Sets {
         self.right = right;
     }
 
-    /// The set designated as G0, G1, G2 or G3, slot 0 to 3.
+    /// Returns the set designated as G0, G1, G2 or G3: `slot` is 0 to 3.
     pub fn set(&self, slot: u8) -> Set
         requires { slot < 4 }
         ensures { result ≡ set_at self.now slot }
@@ -166,7 +165,7 @@ impl Sets {
         self.g[slot as usize]
     }
 
-    /// The sets designated as G0 to G3.
+    /// Returns the sets designated as G0 to G3.
     pub fn designations(&self) -> [Set; 4]
         ensures value { result ≡ self.now.g }
         ensures sound { AreSoundSets self.now }
@@ -174,7 +173,7 @@ impl Sets {
         self.g
     }
 
-    /// The slot in GL, 0 to 3.
+    /// Returns the slot in GL, 0 to 3.
     pub fn left(&self) -> u8
         ensures value { result ≡ self.now.left }
         ensures range { result < 4 }
@@ -182,7 +181,7 @@ impl Sets {
         self.left
     }
 
-    /// The slot in GR, 1 to 3.
+    /// Returns the slot in GR, 1 to 3.
     pub fn right(&self) -> u8
         ensures value { result ≡ self.now.right }
         ensures range { (1 ≤ result) × (result < 4) }
@@ -190,7 +189,7 @@ impl Sets {
         self.right
     }
 
-    /// The slot of a pending single shift, 2 or 3.
+    /// Returns the slot of a pending single shift, 2 or 3, or `None`.
     pub fn pending(&self) -> Option<u8>
         ensures value { result ≡ self.now.pending }
         ensures range { IfSome result (λ slot. (2 ≤ slot) × (slot < 4)) }
@@ -198,16 +197,16 @@ impl Sets {
         self.pending
     }
 
-    /// The sets in GL and GR, to read a run of bytes through while no single shift is pending.
-    /// ([`laws::in_use`](crate::laws::in_use))
+    /// Returns the table of the sets in GL and GR. A run of bytes may be read through it while no single shift is
+    /// pending. ([`laws::in_use`](crate::laws::in_use))
     pub fn in_use(&self) -> InUse
         ensures { result ≡ in_use self.now }
     {
         InUse::new(self.g[self.left as usize], self.g[self.right as usize])
     }
 
-    /// Whether the bytes 20 to 7E show ASCII: ASCII is in GL and no single shift is pending. Reading
-    /// such a byte then changes nothing.
+    /// Returns whether the bytes 20 to 7E show ASCII: ASCII is in GL and no single shift is pending. Reading such a
+    /// byte then changes nothing.
     pub fn reads_ascii(&self) -> bool
         ensures exact { IsTrue result ↔ ((set_at self.now self.now.left ≡ Ascii) × (self.now.pending ≡ None)) }
         ensures glyph { IsTrue result → (b : ℕ) → 0x20 ≤ b → b ≤ 0x7E → glyph_read self.now b ≡ Some b }

@@ -33,7 +33,7 @@ use Rattle.vt_log.proofs.Lines.{Plays, Logs}
 
 -- ---- silent bytes
 
-nothing : IsHeldPart Nothing
+pub nothing : IsHeldPart Nothing
 nothing = record { rest = None; is_rest = tt; of_rest = refl }
 
 pub silent-nothing : SplitLaw → AreSilent []
@@ -87,11 +87,11 @@ module _ (split : SplitLaw) (spelling : SpellingLaw) (b : ℕ) (opens : is_opene
       (spelling.single b opens ∙ is)
       ∙ ap (λ (h : Held). record { display = effect (Control b) s.display; held = h }) (spelling.single_held b opens)
 
-return-opens : is_opener 0x0D ≡ false
+pub return-opens : is_opener 0x0D ≡ false
 unfolding opens_string
 return-opens = refl
 
-line-feed-opens : is_opener 0x0A ≡ false
+pub line-feed-opens : is_opener 0x0A ≡ false
 unfolding opens_string
 line-feed-opens = refl
 
@@ -102,7 +102,7 @@ return-silent split spelling = record {
 }
 
 -- the byte at the front of a piece
-first-byte : (piece : List ℕ) (b : ℕ) → 1 ≤ length piece → slice_index piece 0 ≡ b → take 1 piece ≡ b ∷ []
+pub first-byte : (piece : List ℕ) (b : ℕ) → 1 ≤ length piece → slice_index piece 0 ≡ b → take 1 piece ≡ b ∷ []
 first-byte [] b some is = absurd (omega (arith, some))
 first-byte (x ∷ xs) b some is = ap (λ (c : ℕ). c ∷ []) is
 
@@ -150,11 +150,11 @@ graphic b (inr h) = inr (omega arith)
 prints-are : (bytes : List ℕ) → All IsInAreas bytes → All IsEvent (map Print bytes)
 prints-are bytes are = All-map IsEvent Print bytes (λ k d h. graphic (get_or bytes k d) (are k d h))
 
-run-events : SpellingLaw → (bytes : List ℕ) → All IsInAreas bytes → events_of bytes ≡ map Print bytes
+pub run-events : SpellingLaw → (bytes : List ℕ) → All IsInAreas bytes → events_of bytes ≡ map Print bytes
 run-events spelling bytes are =
     ap events_of (sym (prints-spelled bytes)) ∙ spelling.all_events (map Print bytes) (prints-are bytes are)
 
-run-held : SpellingLaw → (bytes : List ℕ) → All IsInAreas bytes → held_after bytes ≡ Nothing
+pub run-held : SpellingLaw → (bytes : List ℕ) → All IsInAreas bytes → held_after bytes ≡ Nothing
 run-held spelling bytes are =
     ap held_after (sym (prints-spelled bytes)) ∙ spelling.all_held (map Print bytes) (prints-are bytes are)
 

@@ -1,2 +1,4 @@
+pub mod Calm
 pub mod Log
+pub mod Pages
 pub mod Quiet

@@ -4,6 +4,7 @@ ghost use Rattle.vt_term.specs.State.{State};
 ghost use Rattle.vt_term.specs.Sound.{IsSound};
 ghost use Rattle.vt_term.specs.Play.{play};
 ghost use Rattle.vt_log.specs.Log.{log};
+ghost use Rattle.vt_log.specs.Pages.{pages};
 
 use vt_syntax::laws::one_split;
 
@@ -11,6 +12,14 @@ use vt_syntax::laws::one_split;
 pub fn cuts()
     ensures none { (s : State) → IsSound s → log s [] ≡ [] }
     ensures two { (s : State) (a b : List ℕ) → log s (a ++ b) ≡ log s a ++ log (play s a).state b }
+{
+    one_split();
+}
+
+/// Bytes may be cut anywhere: the lines and pages of pieces in turn are those of the pieces joined.
+pub fn pages_cut()
+    ensures none { (s : State) → IsSound s → pages s [] ≡ [] }
+    ensures two { (s : State) (a b : List ℕ) → pages s (a ++ b) ≡ pages s a ++ pages (play s a).state b }
 {
     one_split();
 }

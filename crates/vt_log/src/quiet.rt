@@ -21,6 +21,10 @@ pub(crate) fn quiet_front(piece: &[u8], room: usize, width: usize) -> usize
     let mut at = 0;
     let mut left = room;
     while at < piece.len() {
+        // Most runs end so: no other front is looked for.
+        if piece[at] == b'\n' {
+            return at;
+        }
         let (bytes, then) = tracked_front(&piece[at..], left, width);
         if bytes == 0 {
             return at + silent_run(&piece[at..]);

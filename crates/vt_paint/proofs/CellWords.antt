@@ -1,5 +1,5 @@
 -- Cells are the same where their words are.
-use Rattle.std.proofs.Common.{◌≡◌, ℕ, ◌<◌, ◌+◌, ◌*◌, ◌/◌, Bool, true, false, ◌&&◌, eqb, arith, refl, sym, ap, ◌∙◌}
+use Rattle.std.proofs.Common.{◌≡◌, ℕ, ◌<◌, ◌+◌, ◌-◌, ◌*◌, ◌/◌, ◌%◌, ◌^◌, leb, Bool, true, false, ◌&&◌, eqb, arith, refl, sym, ap, ◌∙◌}
 use Rattle.std.proofs.Common.{inl, inr}
 use Rattle.std.proofs.lemmas.Bool.{eq-eqb}
 use Rattle.std.proofs.lemmas.Bool.Decides.{eqb_tells, nat_tests}
@@ -12,7 +12,7 @@ use Rattle.vt_screen.specs.Cells.{blank, brush_of}
 use Rattle.vt_screen.specs.Same.{same_bool, same_brush}
 use Rattle.vt_paint.specs.Same.{is_blank}
 use Rattle.vt_paint.specs.Changes.{same_cell}
-use Rattle.vt_paint.specs.Private.HeaderParts.{bit, brush_number, cell_word}
+use Rattle.vt_paint.specs.Private.HeaderParts.{bit, brush_number, cell_word, lowest_word}
 
 same_parts : (m n p q : ℕ) → m < 0x100 → p < 0x100
     → eqb (m + 0x1000000 * n) (p + 0x1000000 * q) ≡ (eqb m p && eqb n q)
@@ -97,3 +97,8 @@ pub with_brush : (brush : Brush) (cell : Cell) (word number : ℕ) → word ≡ 
 with_brush brush cell word number is small own same =
     let top : word / 0x1000000 ≡ brush_number (brush_of cell) = omega (arith, is, small) in
     sym (same_numbers brush (brush_of cell)) ∙ eq-eqb _ _ (sym own ∙ sym same ∙ top)
+
+-- a word that is little above the lowest word of its brush is no blank one
+pub above_lowest : (word number low : ℕ) → low ≡ lowest_word number → number < 2 ^ 40 → word < 2 ^ 64
+    → leb ((word + (2 ^ 64 - low)) % 2 ^ 64) 0x5D ≡ true → eqb word 0x20 ≡ false
+above_lowest word number low lowest small word_small h = grind (arith, nat_tests)

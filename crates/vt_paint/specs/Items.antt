@@ -22,8 +22,8 @@ use Rattle.vt_paint.specs.Controls.{save_cursor, keypad, report_form, sets_event
 use Rattle.vt_paint.specs.Controls.{spelling_sets_events}
 use Rattle.vt_paint.specs.Pieces.{glyph_events, pieces, is_blank_grid}
 
--- 2. Where the stops differ from power-up they are made, on a wide screen, where each has its column; the width is left
--- as it is to be. Else a wide screen is asked for, if it is to be wide.
+-- 2. If the stops differ from power-up, they are made on a wide screen, which has all their columns. The width of the
+-- state follows. If the stops don't differ, a wide screen is selected if the state has one.
 unfoldable pub stop_events : List Bool → ℕ → List Event
 stop_events stops c = when (has_stop_at stops c) (cursor_position 1 c ∷ set_tab ∷ [])
 
@@ -45,8 +45,8 @@ stops_item width stops =
     if pointwise same_bool stops stops_at_power_up then when (is_wide width) (private_mode 3 true ∷ [])
     else made_stops (is_wide width) stops
 
--- 3. Where the saved record differs from power-up: the cursor is brought where it was saved, a space in the last column
--- sets the wrap flag, and DECSC saves; under DECOM if that was saved.
+-- 3. If the saved record differs from power-up, the cursor is moved to its position. A space in the last column sets
+-- the wrap flag, and DECSC saves, under DECOM if that was saved.
 unfoldable pub saved_events : Saved → List Event
 saved_events saved =
     when saved.origin (private_mode 6 true ∷ [])
@@ -60,7 +60,7 @@ saved_events saved =
 unfoldable pub saved_item : Saved → List Event
 saved_item saved = when (not (same_saved saved saved_at_power_up)) (saved_events saved)
 
--- 4. Where some cell isn't blank or the wrap flag is set: the sets of the spellings, and the pieces of all cells.
+-- 4. If some cell isn't blank or the wrap flag is set: the sets of the spellings, and the pieces of all cells.
 unfoldable pub cells_item : Grid → Bool → List Event
 cells_item g wrap = if is_blank_grid g && not wrap then [] else spelling_sets_events ++ pieces g
 

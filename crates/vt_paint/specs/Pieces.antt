@@ -1,4 +1,4 @@
--- The piece of a cell: what of the repaint writes it. (this profile)
+-- The piece of a cell: the part of the repaint that writes it. (this profile)
 use Rattle.std.specs.Prelude.{ℕ, ◌-◌, List, ◌∷◌, ◌++◌, Bool, not, ◌==◌, ◌||◌, if◌then◌else◌}
 use Rattle.std.specs.List.{range_with_len, flat_map, list_all}
 use Rattle.vt_syntax.specs.declared.event.Event.{Event}
@@ -26,14 +26,14 @@ header r c left cell = when (needs_header left cell) (cursor_position r c ∷ br
 unfoldable pub glyph_events : Cell → List Event
 glyph_events cell = spelling_events (spelling_of cell.glyph)
 
--- a blank cell has an empty piece; another has a header where it needs one, and its glyph
+-- a blank cell has an empty piece; another has a header if it needs one, and its glyph
 unfoldable pub piece_of : ℕ → ℕ → Cell → Cell → List Event
 piece_of r c left cell = when (not (is_blank cell)) (header r c left cell ++ glyph_events cell)
 
 abbrev pub piece : Grid → ℕ → ℕ → List Event
 piece g r c = piece_of r c (left_of g r c) (cell_at g r c)
 
--- the pieces of n cells of a row from a column on
+-- the pieces of n cells of a row, starting at a column
 abbrev pub pieces_from : Grid → ℕ → ℕ → ℕ → List Event
 pieces_from g r c n = flat_map (λ c. piece g r c) (range_with_len c n)
 

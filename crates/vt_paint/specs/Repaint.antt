@@ -8,7 +8,7 @@ use Rattle.vt_term.specs.Play.{play}
 use Rattle.vt_paint.specs.Controls.{reset_to_initial_state}
 use Rattle.vt_paint.specs.Items.{stops_item, saved_item, cells_item, last_items}
 
--- what a repaint asks for: its items in order, behind RIS
+-- the events of a repaint: its items in order, after RIS
 unfoldable pub repaint_events : Display → List Event
 repaint_events s =
     reset_to_initial_state

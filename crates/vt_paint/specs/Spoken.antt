@@ -3,7 +3,7 @@
 use Rattle.std.specs.Prelude.{◌≡◌, ℕ, List, [], ◌∷◌, ◌++◌, Bool, true, false, ◌==◌, ◌&&◌, ◌||◌, nat_le, codes, bytes_eq}
 use Rattle.std.specs.List.{flat_map, list_all, list_any}
 
--- a graphic character; a control of one byte; ESC and what stands behind it; CSI, the parameters, and what ends it
+-- a graphic character; a control of one byte; ESC and what follows it; CSI, the parameters, and what ends it
 pub data Element : Type 0 where
   Character : ℕ → Element
   Control : ℕ → Element
@@ -16,7 +16,7 @@ element_bytes (Control b) = b ∷ []
 element_bytes (Escape ending) = 0x1B ∷ ending
 element_bytes (Sequence parameters ending) = 0x1B ∷ 0x5B ∷ (parameters ++ ending)
 
--- ---- what is allowed behind ESC, and as parameters
+-- ---- what is allowed after ESC, and as parameters
 
 abbrev pub is_one_of : List ℕ → ℕ → Bool
 is_one_of bytes b = list_any (λ a. a == b) bytes
@@ -32,7 +32,7 @@ are_numbers text = list_all (λ b. nat_le 0x30 b && nat_le b 0x39 || b == 0x3B) 
 abbrev pub are_attributes : List ℕ → Bool
 are_attributes text = list_all (is_one_of (codes "01457;")) text && are_apart text
   where
-    -- no two digits stand together
+    -- no two digits are adjacent
     are_apart : List ℕ → Bool
     are_apart [] = true
     are_apart (b ∷ []) = true

@@ -1,5 +1,8 @@
-//! The cells of the screen. The room for them is there.
-ghost use Rattle.std.specs.Prelude.{◌≡◌, ◌+◌, ◌*◌, ◌≤◌, ◌++◌, ◌||◌, ◌&&◌, not, length, take, vec_len, vec_capacity};
+//! The cells of the screen. The output has capacity for them.
+ghost use Rattle.std.specs.Prelude.{◌≡◌, ◌+◌, ◌*◌, ◌^◌, ◌≤◌, ◌<◌, ◌++◌, ◌||◌, ◌&&◌, not, true, false, length, take, vec_len};
+ghost use Rattle.std.specs.Prelude.{vec_capacity};
+ghost use Rattle.vt_glyph.specs.Spell.{spelling_of};
+ghost use Rattle.vt_glyph.specs.Encoding.{encoding_of};
 ghost use Rattle.std.specs.List.{list_all};
 ghost use Rattle.vt_syntax.specs.Spelling.{spell_events};
 ghost use Rattle.vt_screen.specs.declared.cell.Brush.{Brush};
@@ -7,13 +10,13 @@ ghost use Rattle.vt_screen.specs.Cells.{brush_of};
 ghost use Rattle.vt_screen.specs.Grid.{Grid, cell_at, row_of, last_row};
 ghost use Rattle.vt_screen.specs.Same.{same_brush, when};
 ghost use Rattle.vt_paint.specs.Same.{is_blank as is_blank_cell};
-ghost use Rattle.vt_paint.specs.Controls.{spelling_sets_events};
+ghost use Rattle.vt_paint.specs.Controls.{spelling_sets_events, spelling_events};
 ghost use Rattle.vt_paint.specs.Pieces.{row_pieces};
 ghost use Rattle.vt_paint.specs.Items.{cells_item};
 ghost use Rattle.vt_paint.specs.Private.Room.{head_room};
-ghost use Rattle.vt_paint.specs.Private.HeaderParts.{brush_number};
+ghost use Rattle.vt_paint.specs.Private.HeaderParts.{brush_number, lowest_word};
 
-use crate::line::{LINE, MANY, ROW_LIMIT, put_glyph, put_header};
+use crate::line::{LINE, MANY, ROW_LIMIT, put, put_glyph, put_header};
 use crate::room::{push_bytes, push_when};
 use crate::tables::{cell_brush_number, cell_word};
 use vt_screen::laws::rows;
@@ -26,7 +29,7 @@ pub(crate) const SPELLING_SETS: &[u8] = b"\x1B(B\x1B*<\x1B+0\x0F";
 /// The word of a blank cell: that of a space.
 const BLANK: u64 = 0x20;
 
-/// The cell at a place.
+/// Returns the cell at a row and a column.
 pub(crate) fn row_cell(t: &Terminal, row: usize, col: usize) -> &Cell
     requires row { (1 ≤ row) × (row ≤ last_row) }
     requires col { (1 ≤ col) × (col ≤ t.now.display.grid.width) }
@@ -36,7 +39,7 @@ pub(crate) fn row_cell(t: &Terminal, row: usize, col: usize) -> &Cell
     &t.row(row)[col - 1]
 }
 
-/// Whether a cell is blank.
+/// Returns whether a cell is blank.
 #[inline(always)]
 fn is_blank(cell: &Cell) -> bool
     ensures { result ≡ is_blank_cell cell.now }
@@ -44,18 +47,69 @@ fn is_blank(cell: &Cell) -> bool
     cell_word(cell) == BLANK
 }
 
-/// Whether a cell isn't blank and is written with the brush of this number.
-#[inline(always)]
-fn goes_on(number: u64, cell: &Cell) -> bool
-    ensures { (brush : Brush) → number ≡ brush_number brush
-        → result ≡ (same_brush brush (brush_of cell.now) && not (is_blank_cell cell.now)) }
-{
-    let word = cell_word(cell);
-    word >> 24 == number && word != BLANK
+/// The brush of a run, in the words of its cells.
+#[derive(Clone, Copy)]
+struct Run {
+    /// The brush's number.
+    number: u64,
+    /// The lowest word of a plain glyph in this brush that isn't blank.
+    low: u64,
+    ghost lowest: { low ≡ lowest_word number },
+    ghost small: { number < 2 ^ 40 },
 }
 
-/// Writes the pieces of a row by runs: blank cells are passed over, and the cells of one brush are written behind one header.
-/// Returns how many bytes of the line are not appended yet.
+impl Run {
+    /// Returns the run that a cell begins.
+    #[inline(always)]
+    fn of(cell: &Cell) -> Run
+        ensures { result.number ≡ brush_number (brush_of cell.now) }
+    {
+        let number = cell_brush_number(cell);
+        Run {
+            number,
+            low: (number << 24) + 0x20 + (number == 0) as u64,
+        }
+    }
+
+    /// Speed: returns whether a cell is known to go on with the run and to have a plain glyph, by one comparison. Without
+    /// it, `goes_on` and `put_next` do the same.
+    #[inline(always)]
+    fn is_plain(&self, cell: &Cell) -> bool
+        ensures number { result ≡ true → self.now.number ≡ brush_number (brush_of cell.now) }
+        ensures blank { result ≡ true → is_blank_cell cell.now ≡ false }
+        ensures plain { result ≡ true → (0x20 ≤ encoding_of cell.now.glyph) × (encoding_of cell.now.glyph < 0x80) }
+    {
+        cell_word(cell).wrapping_sub(self.low) <= 0x5D
+    }
+
+    /// Returns whether a cell isn't blank and is written with the run's brush.
+    #[inline(always)]
+    fn goes_on(&self, cell: &Cell) -> bool
+        ensures { (brush : Brush) → self.now.number ≡ brush_number brush
+            → result ≡ (same_brush brush (brush_of cell.now) && not (is_blank_cell cell.now)) }
+    {
+        let word = cell_word(cell);
+        self.is_plain(cell) || word >> 24 == self.number && word != BLANK
+    }
+
+    /// Writes the glyph of a cell. Returns the position after it.
+    #[inline(always)]
+    fn put_next(&self, cell: &Cell, at: usize, line: &mut [u8; LINE]) -> usize
+        requires { at + 3 ≤ LINE }
+        ensures items { take result line.new
+            ≡ take at line.old ++ spell_events (spelling_events (spelling_of cell.now.glyph)) }
+        ensures bounded { result ≤ at + 3 }
+    {
+        if self.is_plain(cell) {
+            put(cell.glyph.code() as u8, at, line)
+        } else {
+            put_glyph(cell.glyph, at, line)
+        }
+    }
+}
+
+/// Writes the cells of a row by runs. Blank cells are left out, and the cells of one brush follow one header. Returns
+/// how many bytes of the line aren't appended yet.
 fn put_row(row: usize, cells: &[Cell], line: &mut [u8; LINE], out: &mut Vec<u8>) -> usize
     requires row { (1 ≤ row) × (row ≤ last_row) }
     requires len { length cells.now ≤ COLUMNS }
@@ -74,11 +128,11 @@ fn put_row(row: usize, cells: &[Cell], line: &mut [u8; LINE], out: &mut Vec<u8>)
         i += 1;
         if !is_blank(first) {
             at = push_many(at, line, out);
-            let number = cell_brush_number(first);
+            let run = Run::of(first);
             at = put_header(row, i, first.brush(), at, line);
             at = put_glyph(first.glyph, at, line);
-            while i < cells.len() && goes_on(number, &cells[i]) {
-                at = put_glyph(cells[i].glyph, at, line);
+            while i < cells.len() && run.goes_on(&cells[i]) {
+                at = run.put_next(&cells[i], at, line);
                 i += 1;
             }
         }
@@ -103,7 +157,7 @@ fn push_many(at: usize, line: &[u8; LINE], out: &mut Vec<u8>) -> usize
     0
 }
 
-/// The pieces of a row, gathered in the line.
+/// Appends the cells of a row, gathered in the line.
 fn push_row(row: usize, cells: &[Cell], line: &mut [u8; LINE], out: &mut Vec<u8>)
     requires row { (1 ≤ row) × (row ≤ last_row) }
     requires len { length cells.now ≤ COLUMNS }
@@ -123,7 +177,8 @@ fn is_blank_row(cells: &[Cell]) -> bool
     cells.iter().all(is_blank)
 }
 
-/// A row, behind the sets of the spellings where nothing was shown before. Answers whether something is shown now.
+/// Appends a row. If no cell was appended before it, the sets of the spellings come first. Returns whether any cell has
+/// been appended.
 fn push_shown_row(
     row: usize,
     cells: &[Cell],
@@ -154,7 +209,7 @@ fn push_shown_row(
     true
 }
 
-/// The sets of the spellings and the pieces of the cells, where something is to be shown.
+/// Appends the sets of the spellings and the cells, if any cell is shown.
 pub(crate) fn push_cells(t: &Terminal, wrap: bool, out: &mut Vec<u8>)
     requires { vec_len out.old + 29 * ROWS * COLUMNS + 11 ≤ vec_capacity out.old }
     ensures items { out.new.items ≡ out.old.items ++ spell_events (cells_item t.now.display.grid wrap) }

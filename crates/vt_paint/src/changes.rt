@@ -1,4 +1,5 @@
-//! The bytes that change one terminal into another: the cells at the places where the screens differ, and all else.
+//! The bytes that change one terminal into another: the cells at the positions at which the screens differ, and
+//! everything else.
 ghost use Rattle.std.specs.Prelude.{◌≡◌, ◌+◌, ◌-◌, ◌*◌, ◌≤◌, ◌<◌, ◌++◌, ◌∷◌, [], ℕ, List, Bool, length, slice_index_or};
 ghost use Rattle.std.specs.Prelude.{drop, vec_len, vec_capacity};
 ghost use Rattle.vt_syntax.specs.declared.held.Held.TheVariants.{Nothing};
@@ -30,14 +31,14 @@ const START: &[u8] = b"\x1B[0!p\x1B[?7h";
 
 // ---- the cells
 
-/// Whether every attribute is set.
+/// Returns whether every attribute is set.
 fn has_all(attributes: Rendition) -> bool
     ensures { result ≡ has_all attributes }
 {
     attributes.bold && attributes.underline && attributes.blink && attributes.reverse
 }
 
-/// SGR and DECSCA, in at most 15 bytes: without the 0 of SGR where every attribute is set.
+/// Appends SGR and DECSCA, in at most 15 bytes: without the 0 of SGR if every attribute is set.
 #[tactic(auto, unfolding(crate::specs::Private::ChangeEvents::short_brush_events))]
 fn push_short_brush(brush: Brush, out: &mut Vec<u8>)
     requires { vec_len out.old + 17 ≤ vec_capacity out.old }
@@ -54,7 +55,7 @@ fn push_short_brush(brush: Brush, out: &mut Vec<u8>)
     }
 }
 
-/// A cell where it is marked: its place, its brush and its glyph.
+/// Appends a cell if it is marked: its position, its brush and its glyph.
 #[tactic(auto, unfolding(crate::specs::Private::ChangeEvents::change_of))]
 fn push_change(row: usize, col: usize, marked: bool, cell: &Cell, out: &mut Vec<u8>)
     requires row { row ≤ ROWS }
@@ -71,7 +72,7 @@ fn push_change(row: usize, col: usize, marked: bool, cell: &Cell, out: &mut Vec<
     }
 }
 
-/// The marked cells of a row.
+/// Appends the marked cells of a row.
 fn push_changed_row(row: usize, cells: &[Cell], marks: &[bool; STOPS], out: &mut Vec<u8>)
     requires row { (1 ≤ row) × (row ≤ last_row) }
     requires len { length cells.now ≤ COLUMNS }
@@ -88,7 +89,7 @@ fn push_changed_row(row: usize, cells: &[Cell], marks: &[bool; STOPS], out: &mut
     }
 }
 
-/// The marked cells.
+/// Appends the marked cells.
 fn push_changed_cells(marks: &[[bool; STOPS]; ROWS], t: &Terminal, out: &mut Vec<u8>)
     requires { vec_len out.old + 29 * ROWS * COLUMNS ≤ vec_capacity out.old }
     ensures items { out.new.items ≡ out.old.items ++ spell_events (changed_cells marks.now t.now.display.grid) }
@@ -102,7 +103,7 @@ fn push_changed_cells(marks: &[[bool; STOPS]; ROWS], t: &Terminal, out: &mut Vec
 
 // ---- the saved record and the modes
 
-/// The saved record: all that is saved is made, and saved.
+/// Appends the saved record: the saved state is made, and then saved.
 #[tactic(auto, unfolding(crate::specs::Private::ChangeEvents::record_item))]
 fn push_record(t: &Terminal, saved: &Saved, out: &mut Vec<u8>)
     requires row { (1 ≤ saved.now.row) × (saved.now.row ≤ last_row) }
@@ -128,7 +129,7 @@ fn push_record(t: &Terminal, saved: &Saved, out: &mut Vec<u8>)
 
 // ---- the whole
 
-/// What is asked for leads where it should, is few bytes, and is made of what repaints are made of.
+/// States that the changes lead to the state, are short, and consist of what repaints consist of.
 fn changes_lead()
     ensures played { (marks : List (List Bool)) (s t : State) → IsSound s → IsSound t → t.held ≡ Nothing
         → AreChanges marks s.display t.display
@@ -149,7 +150,7 @@ fn changes_lead()
     tests();
 }
 
-/// All that is asked for.
+/// Appends all changes.
 fn push_changes(marks: &[[bool; STOPS]; ROWS], t: &Terminal, out: &mut Vec<u8>)
     requires { vec_len out.old + PAINT_LIMIT ≤ vec_capacity out.old }
     ensures items { out.new.items ≡ out.old.items ++ spell_events (change_events marks.now t.now.display) }
@@ -166,11 +167,12 @@ fn push_changes(marks: &[[bool; STOPS]; ROWS], t: &Terminal, out: &mut Vec<u8>)
     push_last(t, false, out);
 }
 
-/// Appends bytes to `out` that lead a terminal to `t`, where the two have the same width and the same tab stops, and
-/// [`changed_places`](crate::changed_places) has marked where they differ: at most 28 bytes for each marked place, and
-/// 230.
+/// Appends to `out` bytes that lead a terminal to `t`. It appends at most 28 bytes for each marked position, and 230.
 ///
-/// `t` is between sequences. The room is there: `PAINT_LIMIT` bytes. It never fails and takes no memory.
+/// The two terminals have the same width and the same tab stops. [`changed_places`](crate::changed_places) has marked
+/// the positions at which they differ. `t` is between sequences.
+///
+/// `out` has capacity for `PAINT_LIMIT` more bytes. It never fails and allocates nothing.
 pub fn repaint_changes_reserved(marks: &[[bool; STOPS]; ROWS], t: &Terminal, out: &mut Vec<u8>)
     requires between { t.now.held ≡ Nothing }
     requires room { vec_len out.old + PAINT_LIMIT ≤ vec_capacity out.old }

@@ -1,4 +1,4 @@
-//! The places at which the screens of two terminals differ.
+//! The positions at which the screens of two terminals differ.
 ghost use Rattle.std.specs.Prelude.{◌≡◌, ◌≤◌, ◌<◌, ℕ, ◌*◌, false, not, length, slice_index_or};
 ghost use Rattle.vt_screen.specs.Cells.{blank};
 ghost use Rattle.vt_screen.specs.Grid.{Grid, row_of};
@@ -9,7 +9,7 @@ use vt_screen::laws::rows;
 use vt_screen::{COLUMNS, Cell, same_cells};
 use vt_term::{ROWS, STOPS, Terminal};
 
-/// Whether two cells differ, compared as words.
+/// Returns whether two cells differ, compared as words.
 #[inline(always)]
 fn differ(a: &Cell, b: &Cell) -> bool
     ensures { result ≡ not (same_cell a.now b.now) }
@@ -17,7 +17,7 @@ fn differ(a: &Cell, b: &Cell) -> bool
     cell_word(a) != cell_word(b)
 }
 
-/// At how many places two rows of the same length have different cells.
+/// Returns the number of positions at which two rows of the same length have different cells.
 fn differing_in_row(a: &[Cell], b: &[Cell]) -> usize
     requires len { length a.now ≡ length b.now }
     requires short { length b.now ≤ COLUMNS }
@@ -33,7 +33,7 @@ fn differing_in_row(a: &[Cell], b: &[Cell]) -> usize
     count
 }
 
-/// At how many places the screens of two terminals of the same width have different cells.
+/// Returns the number of positions at which the screens of two terminals of the same width have different cells.
 pub fn differing_cells(a: &Terminal, b: &Terminal) -> usize
     requires { a.now.display.grid.width ≡ b.now.display.grid.width }
     ensures count { result ≡ differing a.now.display.grid b.now.display.grid }
@@ -46,8 +46,8 @@ pub fn differing_cells(a: &Terminal, b: &Terminal) -> usize
     count
 }
 
-/// Marks the places at which two rows of the same length have different cells, and counts them. (Most rows are the same,
-/// and compared at once.)
+/// Marks the positions at which two rows of the same length have different cells, and counts them. (Most rows are
+/// equal, and are compared at once.)
 fn changed_in_row(a: &[Cell], b: &[Cell]) -> ([bool; STOPS], usize)
     requires len { length a.now ≡ length b.now }
     requires short { length b.now ≤ COLUMNS }
@@ -71,8 +71,10 @@ fn changed_in_row(a: &[Cell], b: &[Cell]) -> ([bool; STOPS], usize)
     (marks, count)
 }
 
-/// Marks exactly the places at which the screens of two terminals of the same width have different cells: place c - 1
-/// of row r - 1 for row r and column c. Counts them in each row. Returns how many they are in all.
+/// Marks exactly the positions at which the screens of two terminals of the same width have different cells. The index
+/// of row r and column c is r - 1, c - 1. It counts them in each row, and returns their total. (It isn't inlined,
+/// so that its rows aren't on the stack of what comes after it.)
+#[inline(never)]
 pub fn changed_places(
     a: &Terminal,
     b: &Terminal,

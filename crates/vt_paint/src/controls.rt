@@ -1,4 +1,4 @@
-//! The control functions that a repaint is made of, in their 7-bit form. The room for each is there.
+//! The control functions that a repaint consists of, in their 7-bit form. The output has capacity for each.
 ghost use Rattle.std.specs.Prelude.{◌≡◌, ◌+◌, ◌≤◌, ◌<◌, ◌++◌, None, slice_index_or, vec_len, vec_capacity};
 ghost use Rattle.vt_glyph.specs.declared.set.Set.TheVariants.{Ascii};
 ghost use Rattle.vt_glyph.specs.Designation.{final_of};
@@ -12,7 +12,7 @@ use crate::tables::brush_part;
 use vt_glyph::{Glyph, Set, Spelling};
 use vt_screen::{Brush, COLUMNS, ROWS};
 
-/// CUP.
+/// Appends CUP.
 pub(crate) fn push_cursor_to(line: usize, col: usize, out: &mut Vec<u8>)
     requires line { line ≤ ROWS }
     requires col { col ≤ COLUMNS }
@@ -28,7 +28,7 @@ pub(crate) fn push_cursor_to(line: usize, col: usize, out: &mut Vec<u8>)
     push_bytes(b"H", out);
 }
 
-/// DECSTBM.
+/// Appends DECSTBM.
 pub(crate) fn push_margins_to(top: usize, bottom: usize, out: &mut Vec<u8>)
     requires top { top ≤ ROWS }
     requires bottom { bottom ≤ ROWS }
@@ -44,7 +44,7 @@ pub(crate) fn push_margins_to(top: usize, bottom: usize, out: &mut Vec<u8>)
     push_bytes(b"r", out);
 }
 
-/// SM or RM of an ANSI mode.
+/// Appends SM or RM of an ANSI mode.
 pub(crate) fn push_ansi_mode(number: u8, on: bool, out: &mut Vec<u8>)
     requires number { number < 100 }
     requires room { vec_len out.old + 6 ≤ vec_capacity out.old }
@@ -57,7 +57,7 @@ pub(crate) fn push_ansi_mode(number: u8, on: bool, out: &mut Vec<u8>)
     push_bytes(if on { b"h" } else { b"l" }, out);
 }
 
-/// SM or RM of a private mode.
+/// Appends SM or RM of a private mode.
 pub(crate) fn push_private_mode(number: u8, on: bool, out: &mut Vec<u8>)
     requires number { number < 100 }
     requires room { vec_len out.old + 6 ≤ vec_capacity out.old }
@@ -70,7 +70,7 @@ pub(crate) fn push_private_mode(number: u8, on: bool, out: &mut Vec<u8>)
     push_bytes(if on { b"h" } else { b"l" }, out);
 }
 
-/// SGR and DECSCA.
+/// Appends SGR and DECSCA.
 pub(crate) fn push_brush(brush: Brush, out: &mut Vec<u8>)
     requires { vec_len out.old + 17 ≤ vec_capacity out.old }
     ensures items { out.new.items ≡ out.old.items ++ spell_events (brush_events brush) }
@@ -82,7 +82,7 @@ pub(crate) fn push_brush(brush: Brush, out: &mut Vec<u8>)
     push_bytes(&rest[..len], out);
 }
 
-/// LS0 to LS3.
+/// Appends LS0 to LS3.
 fn push_left(slot: u8, out: &mut Vec<u8>)
     requires { vec_len out.old + 2 ≤ vec_capacity out.old }
     ensures items { out.new.items ≡ out.old.items ++ spell_event (left_event slot) }
@@ -97,7 +97,7 @@ fn push_left(slot: u8, out: &mut Vec<u8>)
     }
 }
 
-/// LS1R to LS3R.
+/// Appends LS1R to LS3R.
 fn push_right(slot: u8, out: &mut Vec<u8>)
     requires { vec_len out.old + 2 ≤ vec_capacity out.old }
     ensures items { out.new.items ≡ out.old.items ++ spell_event (right_event slot) }
@@ -111,7 +111,7 @@ fn push_right(slot: u8, out: &mut Vec<u8>)
     }
 }
 
-/// The final byte of the set in a slot, 0 to 3.
+/// Returns the final byte of the set in a slot, 0 to 3.
 fn final_at(g: &[Set; 4], slot: usize) -> u8
     requires { slot < 4 }
     ensures { result ≡ final_of (slice_index_or g.now slot Ascii) }
@@ -119,7 +119,8 @@ fn final_at(g: &[Set; 4], slot: usize) -> u8
     g[slot].last()
 }
 
-/// Designates G0 to G3, and then locks GL and GR. Slots are as those of [`Sets`](vt_glyph::Sets).
+/// Appends the designations of G0 to G3, and then the locking shifts into GL and GR. Slots are those of
+/// [`Sets`](vt_glyph::Sets).
 #[tactic(auto, unfolding(crate::specs::Controls::sets_events))]
 pub(crate) fn push_sets(g: &[Set; 4], left: u8, right: u8, out: &mut Vec<u8>)
     requires { vec_len out.old + 16 ≤ vec_capacity out.old }
@@ -141,7 +142,7 @@ pub(crate) fn push_sets(g: &[Set; 4], left: u8, right: u8, out: &mut Vec<u8>)
     push_right(right, out);
 }
 
-/// A glyph, where the sets are those of its spelling.
+/// Appends a glyph, if the sets are those of its spelling.
 #[inline(always)]
 pub(crate) fn push_glyph(glyph: Glyph, out: &mut Vec<u8>)
     requires { vec_len out.old + 3 ≤ vec_capacity out.old }

@@ -1,4 +1,4 @@
-//! The items of a repaint but for the cells. The room for each is there.
+//! The items of a repaint, except the cells. The output has capacity for each.
 ghost use Rattle.std.specs.Prelude.{◌≡◌, ◌+◌, ◌*◌, ◌≤◌, ◌<◌, ◌++◌, ◌∷◌, [], true, false, vec_len, vec_capacity};
 ghost use Rattle.vt_syntax.specs.Spelling.{spell_events};
 ghost use Rattle.vt_screen.specs.Grid.{columns};
@@ -21,7 +21,7 @@ const DECCOLM: u8 = 3;
 
 pub(crate) const DECOM: u8 = 6;
 
-/// SM or RM of a private mode, where a test passes.
+/// Appends SM or RM of a private mode if a test passes.
 pub(crate) fn push_private_mode_when(test: bool, number: u8, on: bool, out: &mut Vec<u8>)
     requires number { number < 100 }
     requires room { vec_len out.old + 6 ≤ vec_capacity out.old }
@@ -36,7 +36,7 @@ pub(crate) fn push_private_mode_when(test: bool, number: u8, on: bool, out: &mut
 
 // ---- 2: the stops and the width
 
-/// CUP and HTS, where there is a stop.
+/// Appends CUP and HTS if there is a stop.
 fn push_stop(stop: bool, col: usize, out: &mut Vec<u8>)
     requires col { col ≤ COLUMNS }
     requires room { vec_len out.old + 10 ≤ vec_capacity out.old }
@@ -62,7 +62,7 @@ fn push_each_stop(stops: &[bool; STOPS], out: &mut Vec<u8>)
     }
 }
 
-/// The stops, made on a wide screen, and the width that is asked for then.
+/// Appends the stops, which are set on a wide screen, and then the width of the state.
 fn push_made_stops(wide: bool, stops: &[bool; STOPS], out: &mut Vec<u8>)
     requires { vec_len out.old + 10 * COLUMNS + 16 ≤ vec_capacity out.old }
     ensures items { out.new.items ≡ out.old.items ++ spell_events (made_stops wide stops.now) }
@@ -75,7 +75,7 @@ fn push_made_stops(wide: bool, stops: &[bool; STOPS], out: &mut Vec<u8>)
     push_private_mode_when(!wide, DECCOLM, false, out);
 }
 
-/// The stops and the width.
+/// Appends the stops and the width.
 #[tactic(auto, unfolding(crate::specs::Items::stops_item))]
 pub(crate) fn push_stops(width: usize, stops: &[bool; STOPS], out: &mut Vec<u8>)
     requires { vec_len out.old + 10 * COLUMNS + 16 ≤ vec_capacity out.old }
@@ -111,7 +111,7 @@ fn push_saved_events(saved: &Saved, out: &mut Vec<u8>)
     push_private_mode_when(saved.origin, DECOM, false, out);
 }
 
-/// The saved record.
+/// Appends the saved record.
 #[tactic(auto, unfolding(crate::specs::Items::saved_item))]
 pub(crate) fn push_saved(saved: &Saved, out: &mut Vec<u8>)
     requires row { saved.now.row ≤ ROWS }
@@ -128,7 +128,7 @@ pub(crate) fn push_saved(saved: &Saved, out: &mut Vec<u8>)
 
 // ---- 5 to 7: margins, origin and cursor
 
-/// Margins that aren't the full ones.
+/// Appends margins that aren't the full ones.
 #[tactic(auto, unfolding(crate::specs::Items::margins_item))]
 pub(crate) fn push_margins(m: Margins, out: &mut Vec<u8>)
     requires top { m.top ≤ ROWS }
@@ -143,7 +143,7 @@ pub(crate) fn push_margins(m: Margins, out: &mut Vec<u8>)
     }
 }
 
-/// The wrap flag: the cell under the cursor is written once more.
+/// Appends the cell under the cursor once more, which sets the wrap flag.
 pub(crate) fn push_cell(cell: &Cell, out: &mut Vec<u8>)
     requires { vec_len out.old + 20 ≤ vec_capacity out.old }
     ensures items { out.new.items ≡ out.old.items ++ spell_events (brush_events (brush_of cell.now) ++ glyph_events cell.now) }
@@ -186,7 +186,7 @@ pub(crate) fn push_private_mode_item(
     }
 }
 
-/// DECKPAM or DECKPNM.
+/// Appends DECKPAM or DECKPNM.
 fn push_keypad_item(known: bool, application: bool, out: &mut Vec<u8>)
     requires { vec_len out.old + 2 ≤ vec_capacity out.old }
     ensures items { out.new.items ≡ out.old.items ++ spell_events (mode_item known false keypad application) }
@@ -200,7 +200,7 @@ fn push_keypad_item(known: bool, application: bool, out: &mut Vec<u8>)
     }
 }
 
-/// S8C1T or S7C1T.
+/// Appends S8C1T or S7C1T.
 fn push_report_form_item(known: bool, eight: bool, out: &mut Vec<u8>)
     requires { vec_len out.old + 3 ≤ vec_capacity out.old }
     ensures items { out.new.items ≡ out.old.items ++ spell_events (mode_item known false report_form eight) }
@@ -214,8 +214,8 @@ fn push_report_form_item(known: bool, eight: bool, out: &mut Vec<u8>)
     }
 }
 
-/// The modes, the keypad and the form of reports: all of them, or those that differ from power-up when each is known to
-/// be as it was then.
+/// Appends the modes, the keypad and the form of reports. If `known` is true, each is as at power-up, and only those
+/// that differ from it are appended.
 #[tactic(auto, unfolding(crate::specs::Items::modes_item))]
 pub(crate) fn push_modes(known: bool, m: Modes, out: &mut Vec<u8>)
     requires { vec_len out.old + 61 ≤ vec_capacity out.old }

@@ -1,4 +1,4 @@
-//! Laws over the definitions alone. A caller calls one for its clauses.
+//! Laws over the definitions alone. A caller cites a law by a call of its function.
 ghost use Rattle.std.specs.Prelude.{◌≡◌, ◌↔◌, ◌≤◌, ℕ, List, length};
 ghost use Rattle.vt_syntax.specs.declared.held.Held.TheVariants.{Nothing};
 ghost use Rattle.vt_term.specs.State.{State, power_up};
@@ -14,8 +14,8 @@ use vt_screen::laws::{places, rows, tests};
 use vt_syntax::laws::spelled;
 use vt_term::laws::soundness;
 
-/// The repaint of a state between sequences leaves that state on every terminal, whatever it shows and holds, and asks
-/// for no report.
+/// States that the repaint of a state between sequences rebuilds that state on every terminal, and gives no report. The
+/// terminal may be in any state.
 pub fn rebuilds()
     ensures { (s : State) → IsSound s → s.held ≡ Nothing → IsRebuilt s }
 {
@@ -27,9 +27,10 @@ pub fn rebuilds()
     tests();
 }
 
-/// States between sequences are equal exactly where their repaints are, and a repaint that is played is painted again.
+/// States that states between sequences are equal if and only if their repaints are. After a repaint is played, the new
+/// state has the same repaint.
 ///
-/// The sound ones are exactly those that some bytes leave from power-up.
+/// The sound states between sequences are exactly those that some bytes reach from power-up.
 pub fn canonical()
     ensures same { (s u : State) → IsSound s → IsSound u → s.held ≡ Nothing → u.held ≡ Nothing
         → (s ≡ u) ↔ (paint s ≡ paint u) }
@@ -42,7 +43,7 @@ pub fn canonical()
     soundness();
 }
 
-/// No repaint is longer than `PAINT_LIMIT`, and its bytes are ASCII.
+/// States that no repaint is longer than `PAINT_LIMIT`, and that its bytes are ASCII.
 pub fn bounded()
     ensures len { (s : State) → IsSound s → length (paint s) ≤ PAINT_LIMIT }
     ensures ascii { (s : State) → IsSound s → IsAscii (paint s) }
@@ -54,8 +55,8 @@ pub fn bounded()
     tests();
 }
 
-/// A repaint is made of graphic characters and of the control functions that `Spoken` names, in their 7-bit forms, and
-/// of nothing else. All that is made of these is ASCII.
+/// States that a repaint consists of graphic characters and of the control functions that `Spoken` names, in their
+/// 7-bit forms. All bytes of that kind are ASCII.
 pub fn spoken()
     ensures repaint { (s : State) → IsSound s → Speaks (paint s) }
     ensures ascii { (bytes : List ℕ) → Speaks bytes → IsAscii bytes }

@@ -1,4 +1,4 @@
-//! The repaint: one byte string for each state of a terminal, which rebuilds that state on any terminal.
+//! The repaint: one byte string for each state of a terminal. It rebuilds that state on any terminal.
 #![tactic(auto)]
 
 mod cells;

@@ -1,5 +1,5 @@
-//! Speed: the bytes of a row, written one behind another into a line that is appended at once. Each call takes the place where
-//! it writes, and answers the place behind what it wrote.
+//! Speed: the bytes of a row, written one after another into a line that is appended at once. Each call begins at a
+//! position of the line, and returns the position after the bytes that it wrote.
 ghost use Rattle.std.specs.Prelude.{◌≡◌, ◌+◌, ◌≤◌, ◌<◌, ◌++◌, ◌∷◌, [], take, length};
 ghost use Rattle.vt_syntax.specs.Spelling.{spell_event, spell_events};
 ghost use Rattle.vt_glyph.specs.Spell.{spelling_of};
@@ -9,17 +9,19 @@ use crate::tables::{brush_part, column_part, row_part};
 use vt_glyph::Glyph;
 use vt_screen::{Brush, COLUMNS, ROWS};
 
-/// The most bytes of a row: 29 for each of 132 cells.
+/// The limit of a row in bytes: 29 for each of 132 cells.
 pub(crate) const ROW_LIMIT: usize = 29 * COLUMNS;
 
-/// The room for bytes that aren't appended yet.
+/// The capacity for bytes that aren't appended yet.
 pub(crate) const LINE: usize = 2048;
 
-/// So many bytes are appended before the next header. Behind fewer there is room for a run: a header, and the glyphs of a row.
+/// If there are this many bytes, they are appended before the next header. After fewer there is capacity for a run: a
+/// header, and the glyphs of a row.
 pub(crate) const MANY: usize = 1536;
 
+/// Writes a byte.
 #[inline(always)]
-fn put(byte: u8, at: usize, line: &mut [u8; LINE]) -> usize
+pub(crate) fn put(byte: u8, at: usize, line: &mut [u8; LINE]) -> usize
     requires { at < LINE }
     ensures items { take result line.new ≡ take at line.old ++ byte ∷ [] }
     ensures next { result ≡ at + 1 }
@@ -28,7 +30,7 @@ fn put(byte: u8, at: usize, line: &mut [u8; LINE]) -> usize
     at + 1
 }
 
-/// The first `len` bytes of a part, which is copied whole.
+/// Writes the first `len` bytes of a part, which is copied whole.
 #[inline(always)]
 fn put_front(part: &[u8], len: usize, at: usize, line: &mut [u8; LINE]) -> usize
     requires len { len ≤ length part.now }
@@ -42,7 +44,7 @@ fn put_front(part: &[u8], len: usize, at: usize, line: &mut [u8; LINE]) -> usize
     at + len
 }
 
-/// CUP.
+/// Writes CUP.
 #[inline(always)]
 fn put_cursor_to(row: usize, col: usize, at: usize, line: &mut [u8; LINE]) -> usize
     requires row { (1 ≤ row) × (row ≤ ROWS) }
@@ -57,7 +59,7 @@ fn put_cursor_to(row: usize, col: usize, at: usize, line: &mut [u8; LINE]) -> us
     put_front(end, len, at, line)
 }
 
-/// SGR and DECSCA.
+/// Writes SGR and DECSCA.
 #[inline(always)]
 fn put_brush(brush: Brush, at: usize, line: &mut [u8; LINE]) -> usize
     requires { at + 19 ≤ LINE }
@@ -71,7 +73,7 @@ fn put_brush(brush: Brush, at: usize, line: &mut [u8; LINE]) -> usize
     put_front(rest, len, at, line)
 }
 
-/// The place and the brush of cells.
+/// Writes the header of cells: their position and their brush.
 #[inline(always)]
 pub(crate) fn put_header(
     row: usize,
@@ -90,7 +92,7 @@ pub(crate) fn put_header(
     put_brush(brush, at, line)
 }
 
-/// A code behind a single shift.
+/// Writes a code after a single shift.
 #[inline(always)]
 fn put_shifted(shift: u8, code: u8, at: usize, line: &mut [u8; LINE]) -> usize
     requires { at + 3 ≤ LINE }
@@ -102,7 +104,7 @@ fn put_shifted(shift: u8, code: u8, at: usize, line: &mut [u8; LINE]) -> usize
     put(code, at, line)
 }
 
-/// A glyph, where the sets are those of its spelling.
+/// Writes a glyph, if the sets are those of its spelling.
 #[inline(always)]
 pub(crate) fn put_glyph(glyph: Glyph, at: usize, line: &mut [u8; LINE]) -> usize
     requires { at + 3 ≤ LINE }

@@ -18,23 +18,23 @@ use thiserror::Error;
 use vt_screen::{COLUMNS, ROWS};
 use vt_term::{Cursor, Terminal};
 
-/// The most bytes of a repaint: 29 for each of 24 rows of 132 cells, 10 for each tab stop, and 320 for the rest.
+/// The limit of a repaint in bytes: 29 for each of 24 rows of 132 cells, 10 for each tab stop, and 320 for all others.
 pub const PAINT_LIMIT: usize = 29 * ROWS * COLUMNS + 10 * COLUMNS + 320;
 
 const _: () = prove!(PAINT_LIMIT == 93512);
 
-/// Why nothing was painted.
+/// The reason for which nothing was appended.
 #[derive(Clone, Copy, Debug, PartialEq, Eq, Error)]
 pub enum PaintError {
     /// The terminal is inside a sequence.
     #[error("partial")]
     Partial,
-    /// The room for the repaint was refused.
+    /// Allocation failed.
     #[error("memory")]
     Memory,
 }
 
-/// The wrap flag of a cursor, where it is set: the cell at its place once more.
+/// Appends the cell at the cursor's position once more, if the cursor's wrap flag is set.
 #[tactic(auto, unfolding(crate::specs::Items::wrap_item))]
 pub(crate) fn push_wrap(t: &Terminal, cursor: Cursor, out: &mut Vec<u8>)
     requires row { (1 ≤ cursor.row) × (cursor.row ≤ last_row) }
@@ -49,7 +49,7 @@ pub(crate) fn push_wrap(t: &Terminal, cursor: Cursor, out: &mut Vec<u8>)
     }
 }
 
-/// The cursor, and its wrap flag.
+/// Appends the cursor and its wrap flag.
 pub(crate) fn push_cursor(t: &Terminal, out: &mut Vec<u8>)
     requires { vec_len out.old + 29 ≤ vec_capacity out.old }
     ensures items { out.new.items
@@ -68,8 +68,8 @@ pub(crate) fn push_cursor(t: &Terminal, out: &mut Vec<u8>)
     push_wrap(t, cursor, out);
 }
 
-/// What both a repaint and changes end in: all but the cells, the width, the stops and the saved record. When the modes
-/// are known to be as at power-up, those that are to stay so are left out.
+/// Appends the end of a repaint and of changes: everything except the cells, the width, the stops and the saved record.
+/// If `known` is true, the modes are as at power-up, and those that stay so are left out.
 #[tactic(auto, unfolding(crate::specs::Items::last_items))]
 pub(crate) fn push_last(t: &Terminal, known: bool, out: &mut Vec<u8>)
     requires { vec_len out.old + 139 ≤ vec_capacity out.old }
@@ -77,7 +77,7 @@ pub(crate) fn push_last(t: &Terminal, known: bool, out: &mut Vec<u8>)
     ensures bounded { vec_len out.new ≤ vec_len out.old + 139 }
     ensures capacity { vec_capacity out.old ≤ vec_capacity out.new }
 {
-    // The width comes with the soundness of the state, and so with the bounds of the margins.
+    // The width's contract gives the soundness of the state, and so the bounds of the margins.
     let _ = t.width();
     let sets = t.sets();
     push_margins(t.margins(), out);
@@ -91,11 +91,12 @@ pub(crate) fn push_last(t: &Terminal, known: bool, out: &mut Vec<u8>)
 
 /// Appends the repaint to `out`: the bytes that rebuild the terminal's state on any terminal.
 ///
-/// `PAINT_LIMIT` bytes of room are reserved first. On an error the contents of `out` are unchanged.
+/// It first reserves `PAINT_LIMIT` bytes of capacity.
 ///
 /// # Errors
 ///
-/// `Partial` where the terminal is inside a sequence, which is looked at first; `Memory` where the room was refused.
+/// Returns `Partial` if the terminal is inside a sequence, which is checked first. Returns `Memory` if allocation
+/// fails. The contents of `out` are then unchanged.
 pub fn repaint(t: &Terminal, out: &mut Vec<u8>) -> Result<(), PaintError>
     ensures items { OnOk result (out.new.items ≡ out.old.items ++ paint t.now) }
     ensures rebuilds { OnOk result (IsRebuilt t.now) }
@@ -113,8 +114,8 @@ pub fn repaint(t: &Terminal, out: &mut Vec<u8>) -> Result<(), PaintError>
     Ok(())
 }
 
-/// Appends the repaint of a terminal between sequences to `out`, which has the room: `PAINT_LIMIT` bytes. It never
-/// fails and takes no memory.
+/// Appends the repaint of a terminal between sequences to `out`, which has capacity for `PAINT_LIMIT` more bytes. It
+/// never fails and allocates nothing.
 pub fn repaint_reserved(t: &Terminal, out: &mut Vec<u8>)
     requires between { t.now.held ≡ Nothing }
     requires room { vec_len out.old + PAINT_LIMIT ≤ vec_capacity out.old }

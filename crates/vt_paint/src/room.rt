@@ -1,10 +1,10 @@
-//! Bytes and numbers into an output that has the room.
+//! Bytes and numbers appended to an output that has capacity for them.
 ghost use Rattle.std.specs.Prelude.{◌≡◌, ◌+◌, ◌≤◌, ◌<◌, ◌++◌, length, decimal, vec_len, vec_capacity};
 ghost use Rattle.vt_screen.specs.Same.{when};
 
 use itoa::Buffer;
 
-/// Appends bytes. The room is there.
+/// Appends bytes. `out` has capacity for them.
 pub(crate) fn push_bytes(bytes: &[u8], out: &mut Vec<u8>)
     requires { vec_len out.old + length bytes.now ≤ vec_capacity out.old }
     ensures items { out.new.items ≡ out.old.items ++ bytes.now }
@@ -14,7 +14,7 @@ pub(crate) fn push_bytes(bytes: &[u8], out: &mut Vec<u8>)
     out.extend_from_slice(bytes).unwrap();
 }
 
-/// Appends bytes where a test passes. The room is there.
+/// Appends bytes if a test passes. `out` has capacity for them.
 pub(crate) fn push_when(test: bool, bytes: &[u8], out: &mut Vec<u8>)
     requires { vec_len out.old + length bytes.now ≤ vec_capacity out.old }
     ensures items { out.new.items ≡ out.old.items ++ when test bytes.now }
@@ -26,7 +26,7 @@ pub(crate) fn push_when(test: bool, bytes: &[u8], out: &mut Vec<u8>)
     }
 }
 
-/// Appends a number in decimal, in three bytes of room that are there.
+/// Appends a number in decimal. `out` has capacity for three bytes.
 pub(crate) fn push_number(n: u8, out: &mut Vec<u8>)
     requires { vec_len out.old + 3 ≤ vec_capacity out.old }
     ensures items { out.new.items ≡ out.old.items ++ decimal n }

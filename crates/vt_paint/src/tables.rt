@@ -1,13 +1,13 @@
-//! Speed: the parts of a header, spelled: the place of a row, a column, and a brush. Each entry of a table is filled up with
-//! spaces, so that it is copied whole.
-ghost use Rattle.std.specs.Prelude.{◌≡◌, ◌≤◌, ◌<◌, take, length};
+//! Speed: the parts of a header, spelled: the row of a position, its column, and a brush. Each entry of a table is
+//! padded with spaces, so that it is copied whole.
+ghost use Rattle.std.specs.Prelude.{◌≡◌, ◌≤◌, ◌<◌, ◌^◌, take, length};
 ghost use Rattle.vt_glyph.specs.Encoding.{encoded_glyph, encoding_of};
 ghost use Rattle.vt_screen.specs.Cells.{brush_of};
 ghost use Rattle.vt_paint.specs.Private.HeaderParts.{row_part, column_part, brush_part, brush_number, brush_index, cell_word};
 
 use vt_screen::{Brush, COLUMNS, Cell, ROWS, Rendition};
 
-/// The bytes of an entry of each table.
+/// The number of bytes of an entry of each table.
 const ROW_LEN: usize = 8;
 
 const COLUMN_LEN: usize = 4;
@@ -29,7 +29,7 @@ const COLUMN_PARTS: [u8; 528] =
     97H 98H 99H 100H101H102H103H104H105H106H107H108H109H110H111H112H113H114H115H116H117H118H119H120H\
     121H122H123H124H125H126H127H128H129H130H131H132H";
 
-/// SGR behind its 0, and DECSCA, for each brush: bold counts 1, underline 2, blink 4, reverse 8 and protection 16.
+/// SGR after its 0, and DECSCA, for each brush: bold counts 1, underline 2, blink 4, reverse 8 and protection 16.
 const BRUSHES: [u8; 512] =
     *b"m\x1B[0\"q          ;1m\x1B[0\"q        ;4m\x1B[0\"q        ;1;4m\x1B[0\"q      \
     ;5m\x1B[0\"q        ;1;5m\x1B[0\"q      ;4;5m\x1B[0\"q      ;1;4;5m\x1B[0\"q    \
@@ -40,13 +40,13 @@ const BRUSHES: [u8; 512] =
     ;7m\x1B[1\"q        ;1;7m\x1B[1\"q      ;4;7m\x1B[1\"q      ;1;4;7m\x1B[1\"q    \
     ;5;7m\x1B[1\"q      ;1;5;7m\x1B[1\"q    ;4;5;7m\x1B[1\"q    ;1;4;5;7m\x1B[1\"q  ";
 
-/// The lengths of these.
+/// The lengths of these entries.
 const BRUSH_LENGTHS: [u8; 32] = [
     6, 8, 8, 10, 8, 10, 10, 12, 8, 10, 10, 12, 10, 12, 12, 14, 6, 8, 8, 10, 8, 10, 10, 12, 8, 10,
     10, 12, 10, 12, 12, 14,
 ];
 
-/// CUP up to the column, and its length.
+/// Returns CUP up to the column, and its length.
 #[inline(always)]
 pub(crate) fn row_part(row: usize) -> (&'static [u8], usize)
     requires { (1 ≤ row) × (row ≤ ROWS) }
@@ -58,7 +58,7 @@ pub(crate) fn row_part(row: usize) -> (&'static [u8], usize)
     (&ROW_PARTS[from..from + ROW_LEN], 4 + (row >= 10) as usize)
 }
 
-/// The column of CUP and its final byte, and their length.
+/// Returns the column of CUP and its final byte, and their length.
 #[inline(always)]
 pub(crate) fn column_part(col: usize) -> (&'static [u8], usize)
     requires { (1 ≤ col) × (col ≤ COLUMNS) }
@@ -71,8 +71,8 @@ pub(crate) fn column_part(col: usize) -> (&'static [u8], usize)
     (&COLUMN_PARTS[from..from + COLUMN_LEN], len)
 }
 
-/// The attributes and the protection as a number, in a byte each. The compiler reads them at once, where they are those
-/// of the cell itself; of a copy it makes vectors.
+/// Returns the attributes and the protection as a number, with a byte for each. (The compiler reads them at once if
+/// they are those of the cell itself. Of a copy it makes vectors.)
 #[inline(always)]
 fn brush_number(rendition: &Rendition, protected: bool) -> u64
     ensures { result ≡ brush_number (record { rendition = rendition.now; protected = protected }) }
@@ -84,16 +84,17 @@ fn brush_number(rendition: &Rendition, protected: bool) -> u64
         + 0x1_0000_0000 * protected as u64
 }
 
-/// That number for a cell.
+/// Returns the number of the brush that writes a cell.
 #[inline(always)]
 pub(crate) fn cell_brush_number(cell: &Cell) -> u64
-    ensures { result ≡ brush_number (brush_of cell.now) }
+    ensures value { result ≡ brush_number (brush_of cell.now) }
+    ensures small { result < 2 ^ 40 }
 {
-    brush_number(&cell.rendition, cell.protected)
+    cell_word(cell) >> 24
 }
 
-/// A cell as one number, a byte of it for each byte of the cell, so that it is read as one word. (Inlined `always`, it
-/// would be inlined before its loads are made one.)
+/// Returns a cell as one number, with a byte for each byte of the cell, so that it is read as one word. (Inlined
+/// `always`, it would be inlined before its loads become one.)
 #[inline]
 pub(crate) fn cell_word(cell: &Cell) -> u64
     ensures word { result ≡ cell_word cell.now }
@@ -108,18 +109,18 @@ pub(crate) fn cell_word(cell: &Cell) -> u64
         + 0x100_0000_0000_0000 * cell.protected as u64
 }
 
-/// The place of a brush in its table.
+/// Returns the index of a brush in its table.
 #[inline(always)]
 fn index_of(brush: Brush) -> usize
     ensures value { result ≡ brush_index brush }
     ensures below { result < 32 }
 {
-    // Each byte of the number comes to a bit of its own, from bit 32 on.
+    // Each byte of the number becomes a separate bit, starting at bit 32.
     (brush_number(&brush.rendition, brush.protected).wrapping_mul(0x01_0204_0810) >> 32
         & 0x1F) as usize
 }
 
-/// SGR behind its 0, and DECSCA, and their length.
+/// Returns SGR after its 0, and DECSCA, and their length.
 #[inline(always)]
 pub(crate) fn brush_part(brush: Brush) -> (&'static [u8], usize)
     ensures value { take result.1 result.0.now ≡ brush_part brush }

@@ -23,14 +23,14 @@ escaped glyph =
 
 -- ---- places
 
--- where a column begins, and how wide so many are
+-- the left edge of a column, and the width of some columns
 abbrev pub left_of : ℕ → ℕ
 left_of col = 10 * (col - 1)
 
 abbrev pub width_of : ℕ → ℕ
 width_of columns = 10 * columns
 
--- where a row begins, and the line that its characters stand on
+-- the top edge of a row, and the baseline of its characters
 abbrev pub top_of : ℕ → ℕ
 top_of row = 18 * (row - 1)
 
@@ -46,7 +46,7 @@ rectangle class row col count =
     ++ codes "' width='" ++ decimal (width_of count)
     ++ codes "' height='18'/>" ++ line_feed
 
--- ---- runs: cells beside each other that aren't blank and have the same attributes
+-- ---- runs: adjacent cells that aren't blank and have the same attributes
 
 -- a cell goes on with a run of these attributes
 abbrev pub goes_on : Rendition → Cell → Bool
@@ -68,8 +68,7 @@ classes look =
     (if look.reverse then codes "p" else codes "i")
     ++ when look.bold (codes " b") ++ when look.underline (codes " u") ++ when look.blink (codes " k")
 
--- what stands before the characters of a run of so many cells: where it is reversed, the ink under them; and their
--- element
+-- what comes before the characters of a run of this many cells: the ink under them if it is reversed, and their element
 unfoldable pub run_start : Rendition → ℕ → ℕ → ℕ → List ℕ
 run_start look row col count =
     when look.reverse (rectangle (codes "i") row col count)
@@ -82,8 +81,8 @@ run_start look row col count =
 abbrev pub run_end : List ℕ
 run_end = codes "</text>" ++ line_feed
 
--- a cell that isn't blank: it starts a run where the cell to its left doesn't go on with its attributes, and ends one
--- where the cell to its right doesn't
+-- a cell that isn't blank: it starts a run if the cell to its left has other attributes or is blank, and ends one if
+-- the cell to its right has or is
 unfoldable pub shown_cell : ℕ → ℕ → Cell → Cell → List Cell → List ℕ
 shown_cell row col left cell rest =
     when (not (goes_on cell.rendition left))
@@ -95,7 +94,7 @@ shown_cell row col left cell rest =
 abbrev pub cell_picture : ℕ → ℕ → Cell → Cell → List Cell → List ℕ
 cell_picture row col left cell rest = when (not (is_blank cell)) (shown_cell row col left cell rest)
 
--- the cells of a row from a column on, behind a cell to their left
+-- the cells of a row starting at a column, after a cell to their left
 abbrev pub cells_picture : ℕ → ℕ → Cell → List Cell → List ℕ
 cells_picture row col left [] = []
 cells_picture row col left (cell ∷ rest) = cell_picture row col left cell rest ++ cells_picture row (col + 1) cell rest
@@ -147,7 +146,7 @@ style reversed =
 unfoldable pub paper : List ℕ
 paper = codes "<rect class='p' width='100%' height='100%'/>" ++ line_feed
 
--- the cursor's outline, where DECTCEM is set
+-- the cursor's outline, if DECTCEM is set
 abbrev pub cursor_picture : Display → List ℕ
 cursor_picture s = when s.modes.dectcem (rectangle (codes "c") s.cursor.row s.cursor.col 1)
 

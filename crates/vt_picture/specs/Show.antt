@@ -15,11 +15,12 @@ rendition_sequence r =
     (0x1B ∷ codes "[0") ++ when r.bold (codes ";1") ++ when r.underline (codes ";4")
     ++ when r.blink (codes ";5") ++ when r.reverse (codes ";7") ++ codes "m"
 
--- SGR where the attributes aren't those before
+-- SGR if the attributes change
 abbrev pub change : Rendition → Rendition → List ℕ
 change before after = when (not (same_rendition before after)) (rendition_sequence after)
 
--- cells behind some attributes, each by its attributes where they change and its character; plain again at the end
+-- cells after some attributes: each has its attributes if they change, and its character; at the end the attributes are
+-- reset
 abbrev pub shown_behind : Rendition → List Cell → List ℕ
 shown_behind before [] = change before plain
 shown_behind before (cell ∷ cells) =

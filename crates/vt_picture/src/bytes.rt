@@ -1,4 +1,4 @@
-//! Bytes, numbers and characters into an output that has the room.
+//! Bytes, numbers and characters appended to an output that has capacity for them.
 ghost use Rattle.std.specs.Prelude.{◌≡◌, ◌+◌, ◌≤◌, ◌++◌, length, decimal, vec_len, vec_capacity, encode_utf8};
 ghost use Rattle.vt_screen.specs.Same.{when};
 ghost use Rattle.vt_picture.specs.Picture.{escaped as escaped_glyph};
@@ -6,7 +6,7 @@ ghost use Rattle.vt_picture.specs.Picture.{escaped as escaped_glyph};
 use itoa::Buffer;
 use vt_glyph::Glyph;
 
-/// Appends bytes. The room is there.
+/// Appends bytes. `out` has capacity for them.
 pub(crate) fn push_bytes(bytes: &[u8], out: &mut Vec<u8>)
     requires { vec_len out.old + length bytes.now ≤ vec_capacity out.old }
     ensures items { out.new.items ≡ out.old.items ++ bytes.now }
@@ -16,7 +16,7 @@ pub(crate) fn push_bytes(bytes: &[u8], out: &mut Vec<u8>)
     out.extend_from_slice(bytes).unwrap();
 }
 
-/// Appends bytes where a test passes. The room is there.
+/// Appends bytes if a test passes. `out` has capacity for them.
 pub(crate) fn push_when(test: bool, bytes: &[u8], out: &mut Vec<u8>)
     requires { vec_len out.old + length bytes.now ≤ vec_capacity out.old }
     ensures items { out.new.items ≡ out.old.items ++ when test bytes.now }
@@ -28,7 +28,7 @@ pub(crate) fn push_when(test: bool, bytes: &[u8], out: &mut Vec<u8>)
     }
 }
 
-/// Appends a number in decimal, in five bytes of room that are there.
+/// Appends a number in decimal. `out` has capacity for five bytes.
 pub(crate) fn push_number(n: u16, out: &mut Vec<u8>)
     requires { vec_len out.old + 5 ≤ vec_capacity out.old }
     ensures items { out.new.items ≡ out.old.items ++ decimal n }
@@ -40,7 +40,7 @@ pub(crate) fn push_number(n: u16, out: &mut Vec<u8>)
     push_bytes(digits.as_bytes(), out);
 }
 
-/// Appends a glyph's character in UTF-8, in four bytes of room that are there.
+/// Appends a glyph's character in UTF-8. `out` has capacity for four bytes.
 pub(crate) fn push_glyph(glyph: Glyph, out: &mut Vec<u8>)
     requires { vec_len out.old + 4 ≤ vec_capacity out.old }
     ensures items { out.new.items ≡ out.old.items ++ encode_utf8 glyph }
@@ -52,7 +52,7 @@ pub(crate) fn push_glyph(glyph: Glyph, out: &mut Vec<u8>)
     push_bytes(text.as_bytes(), out);
 }
 
-/// Appends a glyph's character as XML takes it, in five bytes of room that are there.
+/// Appends a glyph's character, escaped for XML. `out` has capacity for five bytes.
 #[tactic(auto, unfolding(crate::specs::Picture::escaped))]
 pub(crate) fn push_escaped(glyph: Glyph, out: &mut Vec<u8>)
     requires { vec_len out.old + 5 ≤ vec_capacity out.old }

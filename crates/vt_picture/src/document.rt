@@ -11,12 +11,12 @@ use std::alloc::AllocError;
 use vt_screen::Cell;
 use vt_term::{ROWS, STOPS, Terminal};
 
-/// The most bytes of a picture: for each row 208 for each of 132 cells and one more, and 1000 for the rest.
+/// The limit of a picture in bytes: for each row 208 for each of 132 cells and one more, and 1000 for everything else.
 pub const PICTURE_LIMIT: usize = ROWS * (208 * STOPS + 1) + 1000;
 
 const _: () = prove!(PICTURE_LIMIT == 659968);
 
-/// The document's start, up to the text alternative.
+/// Appends the start of the document, up to the text alternative.
 #[tactic(auto, unfolding(crate::specs::Picture::document_start))]
 fn push_start(columns: usize, out: &mut Vec<u8>)
     requires columns { columns ≤ STOPS }
@@ -40,7 +40,7 @@ fn push_start(columns: usize, out: &mut Vec<u8>)
     push_bytes(b"<desc id='d'>", out);
 }
 
-/// The text of a row as XML takes it, without the blank cells at its end, and LF.
+/// Appends the text of a row, escaped for XML, without the blank cells at its end, and LF.
 fn push_alternative_line(cells: &[Cell], out: &mut Vec<u8>)
     requires { vec_len out.old + 5 * length cells.now + 1 ≤ vec_capacity out.old }
     ensures items { out.new.items ≡ out.old.items ++ alternative_line cells.now }
@@ -53,7 +53,7 @@ fn push_alternative_line(cells: &[Cell], out: &mut Vec<u8>)
     push_bytes(b"\n", out);
 }
 
-/// The text alternative.
+/// Appends the text alternative.
 fn push_alternative(t: &Terminal, out: &mut Vec<u8>)
     requires { vec_len out.old + ROWS * (5 * STOPS + 1) ≤ vec_capacity out.old }
     ensures items { out.new.items ≡ out.old.items ++ alternative ROWS t.now.display.grid }
@@ -65,7 +65,7 @@ fn push_alternative(t: &Terminal, out: &mut Vec<u8>)
     }
 }
 
-/// What ink and paper look like.
+/// Returns the colours of the ink and of the paper.
 fn colours(reversed: bool) -> &'static [u8]
     ensures colours { result.now ≡ colours reversed }
     ensures short { length result.now ≤ 32 }
@@ -77,7 +77,7 @@ fn colours(reversed: bool) -> &'static [u8]
     }
 }
 
-/// The font and the classes.
+/// Appends the font and the classes.
 #[tactic(auto, unfolding(crate::specs::Picture::style))]
 fn push_style(reversed: bool, out: &mut Vec<u8>)
     requires { vec_len out.old + 500 ≤ vec_capacity out.old }
@@ -102,7 +102,7 @@ fn push_style(reversed: bool, out: &mut Vec<u8>)
     push_bytes(b"</style>\n", out);
 }
 
-/// The paper under all cells.
+/// Appends the paper under all cells.
 #[tactic(auto, unfolding(crate::specs::Picture::paper))]
 fn push_paper(out: &mut Vec<u8>)
     requires { vec_len out.old + 50 ≤ vec_capacity out.old }
@@ -113,7 +113,7 @@ fn push_paper(out: &mut Vec<u8>)
     push_bytes(b"<rect class='p' width='100%' height='100%'/>\n", out);
 }
 
-/// The rows.
+/// Appends the rows.
 fn push_rows(t: &Terminal, out: &mut Vec<u8>)
     requires { vec_len out.old + ROWS * (203 * STOPS) ≤ vec_capacity out.old }
     ensures items { out.new.items ≡ out.old.items ++ rows_picture ROWS t.now.display.grid }
@@ -125,7 +125,7 @@ fn push_rows(t: &Terminal, out: &mut Vec<u8>)
     }
 }
 
-/// The cursor's outline, where the cursor is shown.
+/// Appends the cursor's outline, if the cursor is shown.
 fn push_cursor(t: &Terminal, out: &mut Vec<u8>)
     requires { vec_len out.old + 80 ≤ vec_capacity out.old }
     ensures items { out.new.items ≡ out.old.items ++ cursor_picture t.now.display }
@@ -139,10 +139,10 @@ fn push_cursor(t: &Terminal, out: &mut Vec<u8>)
     }
 }
 
-/// Appends the screen to `out` as a picture: an SVG document in UTF-8, with the screen's text as its text alternative.
-/// A column is 10 units wide and a row 18 high, and each run of cells has its place and its length.
+/// Appends the screen to `out` as a picture: an SVG document in UTF-8. The screen's text is its text alternative. A
+/// column is 10 units wide and a row 18 high, and each run of cells has its position and its length.
 ///
-/// `PICTURE_LIMIT` bytes of room are reserved first. `Err` where that is refused: then the contents of `out` are
+/// It first reserves `PICTURE_LIMIT` bytes of capacity. Returns `Err` if that fails. Then the contents of `out` are
 /// unchanged.
 pub fn picture(t: &Terminal, out: &mut Vec<u8>) -> Result<(), AllocError>
     ensures ok { OnOk result (out.new.items ≡ out.old.items ++ picture t.now) }
@@ -156,8 +156,8 @@ pub fn picture(t: &Terminal, out: &mut Vec<u8>) -> Result<(), AllocError>
     Ok(())
 }
 
-/// Appends the screen to `out` as a picture, as [`picture`] does; `out` has the room: `PICTURE_LIMIT` bytes. It never
-/// fails and takes no memory.
+/// Appends the screen to `out` as a picture, as [`picture`] does. `out` has capacity for `PICTURE_LIMIT` more bytes. It
+/// never fails and allocates nothing.
 #[tactic(auto, unfolding(crate::specs::Picture::picture_of))]
 pub fn picture_reserved(t: &Terminal, out: &mut Vec<u8>)
     requires { vec_len out.old + PICTURE_LIMIT ≤ vec_capacity out.old }

@@ -1,4 +1,4 @@
-//! The screen for the eye: as text with its attributes, and as a picture.
+//! The screen for people: as text with its attributes, and as a picture.
 #![tactic(auto)]
 
 mod bytes;

@@ -1,18 +1,18 @@
-//! How cells look.
+//! Tests of what a cell looks like.
 ghost use Rattle.std.specs.Prelude.{◌≡◌, ◌≤◌, length};
 ghost use Rattle.vt_picture.specs.Looks.{is_blank as is_blank_cell, trimmed};
 
 use vt_glyph::Glyph;
 use vt_screen::{Cell, Rendition};
 
-/// Whether a cell shows a space without attributes.
+/// Returns whether a cell shows a space without attributes.
 pub(crate) fn is_blank(cell: &Cell) -> bool
     ensures { result ≡ is_blank_cell cell.now }
 {
     cell.glyph == Glyph::blank() && cell.rendition == Rendition::plain()
 }
 
-/// The row without the blank cells at its end.
+/// Returns the row without the blank cells at its end.
 pub(crate) fn without_blank_end(cells: &[Cell]) -> &[Cell]
     ensures value { result.now ≡ trimmed cells.now }
     ensures shorter { length result.now ≤ length cells.now }

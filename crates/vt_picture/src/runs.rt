@@ -1,4 +1,4 @@
-//! The cells of a picture by runs: cells beside each other that aren't blank and have the same attributes.
+//! The cells of a picture by runs. A run is adjacent cells that aren't blank and have the same attributes.
 ghost use Rattle.std.specs.Prelude.{◌≡◌, ◌+◌, ◌*◌, ◌≤◌, ◌<◌, ◌++◌, codes, length, vec_len, vec_capacity};
 ghost use Rattle.vt_screen.specs.Grid.{last_row};
 ghost use Rattle.vt_screen.specs.Same.{when};
@@ -10,7 +10,7 @@ use crate::bytes::{push_bytes, push_escaped, push_number, push_when};
 use crate::looks::is_blank;
 use vt_screen::{COLUMNS, Cell, Rendition};
 
-/// Where a column begins.
+/// Returns the left edge of a column, in units.
 fn left_of(col: usize) -> u16
     requires { (1 ≤ col) × (col ≤ COLUMNS) }
     ensures { result ≡ left_of col }
@@ -18,7 +18,7 @@ fn left_of(col: usize) -> u16
     10 * (col as u16 - 1)
 }
 
-/// How wide so many columns are.
+/// Returns the width of `columns` columns, in units.
 pub(crate) fn width_of(columns: usize) -> u16
     requires { columns ≤ COLUMNS }
     ensures { result ≡ width_of columns }
@@ -26,7 +26,7 @@ pub(crate) fn width_of(columns: usize) -> u16
     10 * columns as u16
 }
 
-/// Where a row begins.
+/// Returns the top edge of a row, in units.
 fn top_of(row: usize) -> u16
     requires { (1 ≤ row) × (row ≤ last_row) }
     ensures { result ≡ top_of row }
@@ -34,7 +34,7 @@ fn top_of(row: usize) -> u16
     18 * (row as u16 - 1)
 }
 
-/// The line that the characters of a row stand on.
+/// Returns the baseline of a row's characters, in units.
 fn baseline_of(row: usize) -> u16
     requires { (1 ≤ row) × (row ≤ last_row) }
     ensures { result ≡ baseline_of row }
@@ -42,7 +42,7 @@ fn baseline_of(row: usize) -> u16
     top_of(row) + 13
 }
 
-/// A rectangle over some cells of a row, from a column on.
+/// Appends a rectangle over `count` cells of a row, starting at `col`.
 #[tactic(auto, unfolding(crate::specs::Picture::rectangle))]
 pub(crate) fn push_rectangle(class: &[u8], row: usize, col: usize, count: usize, out: &mut Vec<u8>)
     requires class { length class.now ≤ 1 }
@@ -65,14 +65,14 @@ pub(crate) fn push_rectangle(class: &[u8], row: usize, col: usize, count: usize,
     push_bytes(b"' height='18'/>\n", out);
 }
 
-/// Whether a cell goes on with a run of these attributes.
+/// Returns whether a cell continues a run of these attributes.
 fn goes_on(look: Rendition, cell: &Cell) -> bool
     ensures { result ≡ goes_on_with look cell.now }
 {
     !is_blank(cell) && look == cell.rendition
 }
 
-/// How many of these cells go on with a run of these attributes.
+/// Returns how many of these cells continue a run of these attributes.
 fn run_length(look: Rendition, cells: &[Cell]) -> usize
     ensures length { result ≡ run_length_of look cells.now }
     ensures within { result ≤ length cells.now }
@@ -84,7 +84,7 @@ fn run_length(look: Rendition, cells: &[Cell]) -> usize
     i
 }
 
-/// Whether the first of these cells goes on with a run of these attributes.
+/// Returns whether the first of these cells continues a run of these attributes.
 fn is_followed(look: Rendition, cells: &[Cell]) -> bool
     ensures { result ≡ is_followed_by look cells.now }
 {
@@ -94,7 +94,7 @@ fn is_followed(look: Rendition, cells: &[Cell]) -> bool
     }
 }
 
-/// The classes of these attributes.
+/// Appends the classes of these attributes.
 fn push_classes(look: Rendition, out: &mut Vec<u8>)
     requires { vec_len out.old + 7 ≤ vec_capacity out.old }
     ensures items { out.new.items ≡ out.old.items ++ classes look }
@@ -107,7 +107,7 @@ fn push_classes(look: Rendition, out: &mut Vec<u8>)
     push_when(look.blink, b" k", out);
 }
 
-/// The ink under a run that is reversed.
+/// Appends the rectangle under a run that is reversed.
 fn push_ground(reverse: bool, row: usize, col: usize, count: usize, out: &mut Vec<u8>)
     requires row { (1 ≤ row) × (row ≤ last_row) }
     requires col { (1 ≤ col) × (col ≤ COLUMNS) }
@@ -122,7 +122,7 @@ fn push_ground(reverse: bool, row: usize, col: usize, count: usize, out: &mut Ve
     }
 }
 
-/// What stands before the characters of a run.
+/// Appends what comes before the characters of a run.
 #[tactic(auto, unfolding(crate::specs::Picture::run_start))]
 fn push_run_start(look: Rendition, row: usize, col: usize, count: usize, out: &mut Vec<u8>)
     requires row { (1 ≤ row) × (row ≤ last_row) }
@@ -145,7 +145,7 @@ fn push_run_start(look: Rendition, row: usize, col: usize, count: usize, out: &m
     push_bytes(b"' lengthAdjust='spacingAndGlyphs'>", out);
 }
 
-/// A cell that isn't blank, between the cell to its left and those to its right.
+/// Appends a cell that isn't blank, between the cell to its left and those to its right.
 #[tactic(auto, unfolding(crate::specs::Picture::shown_cell))]
 fn push_shown_cell(
     row: usize,
@@ -173,7 +173,7 @@ fn push_shown_cell(
     }
 }
 
-/// The cells of a row.
+/// Appends the cells of a row.
 pub(crate) fn push_row(row: usize, cells: &[Cell], out: &mut Vec<u8>)
     requires row { (1 ≤ row) × (row ≤ last_row) }
     requires len { length cells.now ≤ COLUMNS }

@@ -8,13 +8,13 @@ use std::alloc::AllocError;
 use vt_screen::{Cell, Rendition};
 use vt_term::{ROWS, STOPS, Terminal};
 
-/// The most bytes of a screen that is shown: for each row twelve of attributes and four of a character for each of 132
-/// cells, twelve for the attributes behind them, and LF.
+/// The limit of a screen with its attributes in bytes. Each row has twelve for attributes and four for a character for
+/// each of 132 cells, twelve for the attributes at its end, and LF.
 pub const SHOW_LIMIT: usize = ROWS * (16 * STOPS + 13);
 
 const _: () = prove!(SHOW_LIMIT == 51000);
 
-/// SGR with 0 and the attributes that are set.
+/// Appends SGR with 0 and the attributes that are set.
 fn push_rendition(look: Rendition, out: &mut Vec<u8>)
     requires { vec_len out.old + 12 ≤ vec_capacity out.old }
     ensures items { out.new.items ≡ out.old.items ++ rendition_sequence look }
@@ -29,7 +29,7 @@ fn push_rendition(look: Rendition, out: &mut Vec<u8>)
     push_bytes(b"m", out);
 }
 
-/// SGR where the attributes aren't those before.
+/// Appends SGR if the attributes change.
 fn push_change(before: Rendition, after: Rendition, out: &mut Vec<u8>)
     requires { vec_len out.old + 12 ≤ vec_capacity out.old }
     ensures items { out.new.items ≡ out.old.items ++ change before after }
@@ -41,7 +41,7 @@ fn push_change(before: Rendition, after: Rendition, out: &mut Vec<u8>)
     }
 }
 
-/// A row without the blank cells at its end, and LF.
+/// Appends a row without the blank cells at its end, and LF.
 fn push_shown_line(cells: &[Cell], out: &mut Vec<u8>)
     requires { vec_len out.old + 16 * length cells.now + 13 ≤ vec_capacity out.old }
     ensures items { out.new.items ≡ out.old.items ++ shown_line cells.now }
@@ -58,10 +58,11 @@ fn push_shown_line(cells: &[Cell], out: &mut Vec<u8>)
     push_bytes(b"\n", out);
 }
 
-/// Appends the screen to `out` as text with its attributes, for the terminals of today: each row in UTF-8 without the
-/// blank cells at its end, SGR where the attributes change, each line closed plain, and LF.
+/// Appends the screen to `out` as text with its attributes, for modern terminals. Each row is in UTF-8, without the
+/// blank cells at its end, and ends in LF. SGR comes before each change of attributes, and resets them at the end of a
+/// row.
 ///
-/// `SHOW_LIMIT` bytes of room are reserved first. `Err` where that is refused: then the contents of `out` are
+/// It first reserves `SHOW_LIMIT` bytes of capacity. Returns `Err` if that fails. Then the contents of `out` are
 /// unchanged.
 pub fn show(t: &Terminal, out: &mut Vec<u8>) -> Result<(), AllocError>
     ensures ok { OnOk result (out.new.items ≡ out.old.items ++ show t.now) }
@@ -75,8 +76,8 @@ pub fn show(t: &Terminal, out: &mut Vec<u8>) -> Result<(), AllocError>
     Ok(())
 }
 
-/// Appends the screen to `out` as text with its attributes, as [`show`] does; `out` has the room: `SHOW_LIMIT` bytes.
-/// It never fails and takes no memory.
+/// Appends the screen to `out` as text with its attributes, as [`show`] does. `out` has capacity for `SHOW_LIMIT` more
+/// bytes. It never fails and allocates nothing.
 pub fn show_reserved(t: &Terminal, out: &mut Vec<u8>)
     requires { vec_len out.old + SHOW_LIMIT ≤ vec_capacity out.old }
     ensures items { out.new.items ≡ out.old.items ++ show t.now }

@@ -17,7 +17,7 @@ pub record IsCutOff (format : Format) (b w : List ℕ) : Type 0 where
   pub taken : IsTaken format b content broken
   pub begins : IsProperBeginning w content
 
--- what each answer says, b being the bytes read and w the bytes written
+-- what each result means, b being the bytes read and w the bytes written
 abbrev pub Table : Result (Unit {0}) Fault → Format → (b w : List ℕ) → Flags → (limit : ℕ) → Type 0
 Table (Ok u) format b w f limit = AreFlags f false true false × (length b ≤ limit) × IsTaken format b w None
 Table (Err Memory) format b w f limit =
@@ -30,7 +30,7 @@ Table (Err TooLong) format b w f limit = AreFlags f false false false × (length
 
 -- ---- the parts of a run
 
--- what each answer of the reading part says
+-- what each result of the reading part means
 abbrev pub ReadTable : Result (Vec ℕ Global) Fault → (b : List ℕ) → (failed ended : Bool) → (limit : ℕ) → Type 0
 ReadTable (Ok bytes) b failed ended limit = (failed ≡ false) × (ended ≡ true) × (length b ≤ limit) × (bytes.items ≡ b)
 ReadTable (Err Memory) b failed ended limit = (failed ≡ false) × (length b ≤ limit + 1)

@@ -1,4 +1,4 @@
--- A recording by script(1): what stands between its first and its last line. (script(1) of util-linux)
+-- A recording by script(1): the content between its first and its last line. (script(1) of util-linux)
 use Rattle.std.specs.Prelude.{◌≡◌, ℕ, ◌+◌, ◌≤◌, ◌<◌, ◌&&◌, ◌||◌, List, [], ◌∷◌, length, take, drop, codes, Bool, true, false, cond}
 use Rattle.std.specs.Prelude.{Option, Some, None, nat_eq}
 use Rattle.std.specs.List.{starts_with, position}
@@ -15,7 +15,7 @@ last_words = 0x0A ∷ codes "Script done on "
 abbrev pub begins_with : List ℕ → List ℕ → Bool
 begins_with words bytes = starts_with nat_eq bytes words
 
--- the place of the LF that ends the first line, where the bytes begin with such a line
+-- the index of the LF that ends the first line, if the bytes begin with such a line
 abbrev pub first_line : List ℕ → Option ℕ
 first_line bytes = cond (begins_with first_words bytes) (position (λ b. nat_eq b 0x0A) bytes) None
 
@@ -36,7 +36,7 @@ line_feed bytes = position (λ b. nat_eq b 0x0A) bytes
 abbrev pub is_last_line : List ℕ → Bool
 is_last_line bytes = begins_with last_words bytes && is_last_place (line_feed (drop 1 bytes)) (length (drop 1 bytes))
 
--- an LF and a last line, and at once a first line behind it: here script -a appended a session
+-- an LF and a last line, and directly after it a first line: here script -a appended a session
 abbrev pub is_joint : List ℕ → Bool
 is_joint bytes =
     begins_with last_words bytes && begins_with first_words (behind_line (line_feed (drop 1 bytes)) (drop 1 bytes))
@@ -51,8 +51,8 @@ pub record EndsAt (body : List ℕ) (end : ℕ) : Type 0 where
   pub before : (k : ℕ) → k < end → is_end (drop k body) ≡ false
   pub place : end < length body → is_end (drop end body) ≡ true
 
--- what was taken: the content, and the byte at which the format is broken: where a session was appended. Without a first
--- line there is no content
+-- the content, and the byte at which the format is broken: a session was appended there. Without a first line there is
+-- no content
 abbrev pub IsAfter : Option ℕ → (bytes content : List ℕ) → (broken : Option ℕ) → Type 0
 IsAfter (Some line) bytes content broken =
     (end : ℕ) × EndsAt (drop (line + 1) bytes) end × (content ≡ take end (drop (line + 1) bytes))

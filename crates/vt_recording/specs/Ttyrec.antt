@@ -1,4 +1,4 @@
--- A recording by ttyrec: pieces, each after a header of 12 bytes. (the format of ttyrec)
+-- A recording by ttyrec: frames, each after a header of 12 bytes. (the format of ttyrec)
 use Rattle.std.specs.Prelude.{◌≡◌, ℕ, ◌+◌, ◌*◌, ◌<◌, ◌⊎◌, List, [], ◌++◌, length, slice_index, Bool, true, Option, Some}
 use Rattle.std.specs.Prelude.{None, nat_le}
 use Rattle.std.specs.List.{All, filter, flat_map}
@@ -9,7 +9,7 @@ number_at at bytes =
     slice_index bytes at + 0x100 * slice_index bytes (at + 1) + 0x10000 * slice_index bytes (at + 2)
     + 0x1000000 * slice_index bytes (at + 3)
 
--- when a piece came, in microseconds: its header's seconds, and the microseconds beside them
+-- the time of a frame, in microseconds: its header's seconds and microseconds
 abbrev pub time_of : List ℕ → ℕ
 time_of header = 1000000 * number_at 0 header + number_at 4 header
 
@@ -21,7 +21,7 @@ pub record Piece : Type 0 where
   pub header : List ℕ
   pub bytes : List ℕ
 
--- the header has 12 bytes, and the piece as many as it says
+-- the header has 12 bytes, and the frame as many as the header says
 pub record IsWhole (p : Piece) : Type 0 where
   pub header : length p.header ≡ 12
   pub bytes : length p.bytes ≡ size_of p.header
@@ -29,20 +29,21 @@ pub record IsWhole (p : Piece) : Type 0 where
 abbrev pub spelled : Piece → List ℕ
 spelled p = p.header ++ p.bytes
 
--- bytes that are less than a piece: less than a header, or than the header and the bytes that it promises
+-- bytes that are less than a frame: less than a header, or than the header and the bytes that it announces
 abbrev pub IsCut : List ℕ → Type 0
 IsCut rest = (length rest < 12) ⊎ (length rest < 12 + size_of rest)
 
--- a piece of this time is wanted: all are, or those that came so many microseconds after the first one at the latest
+-- whether a frame of this time is wanted: all are, or those that came at most this many microseconds after the first
+-- one
 abbrev pub is_due : (until : Option ℕ) → (start time : ℕ) → Bool
 is_due None start time = true
 is_due (Some until) start time = nat_le time (start + until)
 
--- the content: the pieces that are wanted, one after another
+-- the content: the frames that are wanted, one after another
 abbrev pub due : (until : Option ℕ) → (start : ℕ) → List Piece → List ℕ
 due until start pieces = flat_map (λ p. p.bytes) (filter (λ p. is_due until start (time_of p.header)) pieces)
 
--- where whole pieces end: at the end of the bytes, or before less than a piece
+-- the end of the whole frames: the end of the bytes, or the beginning of a cut frame
 abbrev pub EndsBefore : (at : ℕ) → (rest : List ℕ) → (broken : Option ℕ) → Type 0
 EndsBefore at rest None = rest ≡ []
 EndsBefore at rest (Some n) = (n ≡ at) × (0 < length rest) × IsCut rest

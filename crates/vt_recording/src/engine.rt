@@ -1,4 +1,4 @@
-//! A recording is read whole, taken apart, and its content written.
+//! Reads a whole recording, takes it apart, and writes its content.
 ghost use Rattle.std.specs.Prelude.{◌≡◌, ◌≤◌, ◌+◌, ℕ, true, false, length};
 ghost use Rattle.std.specs.Io.KnownBytes.{IsAtEnd};
 ghost use Rattle.vt_device.specs.Runs.{Moves, Takes};
@@ -11,7 +11,7 @@ use std::alloc::Global;
 use std::io::{Read, Write};
 use vt_device::{Watched, write_whole};
 
-/// The most bytes of a recording that the program takes.
+/// The most bytes of a recording that the program reads.
 pub const INPUT_LIMIT: usize = 268_435_456;
 
 const _: () = prove!(INPUT_LIMIT == 268435456);
@@ -19,16 +19,19 @@ const _: () = prove!(INPUT_LIMIT == 268435456);
 /// The most bytes of one read.
 const PIECE: usize = 65536;
 
-/// Reads a recording to its end, and writes its content: what `take_apart` says of the bytes. Neither device has failed
-/// before, and the reader hasn't ended.
+/// Reads a recording to its end, and writes the content that `take_apart` returns. Neither device has failed before,
+/// and the reader hasn't ended.
 ///
-/// At most `limit` bytes are read (up to 2 to the 40th), and one more to see whether the input goes on. Nothing is
-/// written before the input has ended, no memory is taken after the first write, and no call of a device is made again
-/// after an error. Where the reader has ended, no byte that it tells of is left.
+/// It reads at most `limit` bytes (up to 2 to the 40th), and one more to see whether the input continues. It writes
+/// nothing before the input has ended, and allocates nothing after the first write. After an error it doesn't call that
+/// device again. If the reader has ended, none of its `remaining` bytes is left.
 ///
-/// `Err` is `Memory` where a growth was refused, `Read` or `Write` where that device failed, `TooLong` where the input
-/// has more than `limit` bytes, and `Broken` where the recording breaks its format, after all content before that was
-/// written.
+/// # Errors
+///
+/// - `Memory` if allocation fails
+/// - `Read` or `Write` if that device failed
+/// - `TooLong` if the input has more than `limit` bytes
+/// - `Broken` if the recording breaks its format. All content before that was written
 pub fn run<R: Read, W: Write>(
     alloc: Global,
     reader: &mut Watched<R>,
@@ -57,7 +60,7 @@ pub fn run<R: Read, W: Write>(
     }
 }
 
-/// Reads to the end of the input, a buffer at a time.
+/// Reads to the end of the input, one buffer at a time.
 fn read_whole<R: Read>(
     alloc: Global,
     reader: &mut Watched<R>,

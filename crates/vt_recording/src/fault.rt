@@ -1,4 +1,4 @@
-//! Why a recording was not taken apart to its end.
+//! The faults of taking a recording apart.
 ghost use Rattle.std.specs.Prelude.{◌≡◌, Some};
 ghost use Rattle.vt_recording.specs.Fault.{status_of, line_of};
 
@@ -6,12 +6,12 @@ use std::alloc::AllocError;
 use std::error::Error;
 use std::fmt;
 
-/// Why a recording was not taken apart to its end. The message is the line that the program prints.
+/// The reason for which a recording wasn't taken apart to its end. Its message is the line that the program prints.
 #[derive(Clone, Copy, Debug, PartialEq, Eq)]
 pub enum Fault {
-    /// A growth was refused. Nothing was written.
+    /// Allocation failed. Nothing was written.
     Memory,
-    /// The recording breaks its format from this byte on, counted from 0. The content before it was written.
+    /// The recording breaks its format at this offset, counted from 0. The content before it was written.
     Broken(u64),
     /// A read of the input failed. Nothing was written.
     Read,
@@ -22,7 +22,7 @@ pub enum Fault {
 }
 
 impl Fault {
-    /// The status with which the program ends.
+    /// Returns the program's exit status.
     pub fn status(&self) -> u8
         ensures { result ≡ status_of self.now }
     {

@@ -1,23 +1,22 @@
-//! The formats of recordings, and what is taken out of one.
+//! The formats of recordings, and the content of one.
 
-/// How a session was recorded.
+/// The format of a recording.
 #[derive(Clone, Copy, Debug, PartialEq, Eq)]
 pub enum Format {
-    /// By script(1): the bytes as they came, between a first and a last line of its own.
+    /// The format of script(1): the bytes as they came, between a first and a last line.
     Script,
-    /// By ttyrec: pieces, each after a header with its time and its length.
+    /// The format of ttyrec: frames, each after a header with its time and its length.
     Ttyrec {
-        /// How long after the first piece the last one that is wanted may have come, in microseconds; with none all
-        /// are.
+        /// The latest time of a frame that is wanted, in microseconds after the first frame. `None` means all frames.
         until: Option<u64>,
     },
 }
 
-/// What was taken out of a recording.
+/// The content of a recording.
 #[derive(Debug, PartialEq, Eq, Drop)]
 pub struct Taken {
-    /// What the host sent, as far as the recording keeps its format.
+    /// The bytes that the host sent, up to the place at which the recording breaks its format.
     pub content: Vec<u8>,
-    /// The byte from which on the recording breaks its format, counted from 0; none where all of it is as it should be.
+    /// The offset at which the recording breaks its format, counted from 0, or `None`.
     pub broken: Option<usize>,
 }

@@ -1,5 +1,5 @@
-//! Recordings of terminal sessions: their content, taken out of what script(1) and ttyrec write around it, from any
-//! reader to any writer.
+//! Recordings of terminal sessions: their content, without what script(1) and ttyrec write around it. It is read from
+//! any reader and written to any writer.
 #![tactic(auto)]
 
 mod engine;

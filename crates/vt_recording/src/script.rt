@@ -3,20 +3,20 @@ ghost use Rattle.std.specs.Prelude.{◌≡◌, length};
 ghost use Rattle.vt_recording.specs.Script.{begins_with, first_words, first_line, line_feed, is_last_place, behind_line};
 ghost use Rattle.vt_recording.specs.Script.{is_joint, is_end, EndsAt};
 
-/// What a first line begins with.
+/// The beginning of a first line.
 const FIRST_WORDS: &[u8] = b"Script started on ";
 
-/// What a last line begins with, after the LF before it.
+/// The beginning of a last line, with the LF before it.
 const LAST_WORDS: &[u8] = b"\nScript done on ";
 
-/// The place of the first LF.
+/// Returns the index of the first LF.
 fn line_feed(bytes: &[u8]) -> Option<usize>
     ensures { result ≡ line_feed bytes.now }
 {
     bytes.iter().position(|b| *b == b'\n')
 }
 
-/// The place of the LF that ends the first line, if the bytes begin with such a line.
+/// Returns the index of the LF that ends the first line, if the bytes begin with such a line.
 pub(crate) fn first_line(bytes: &[u8]) -> Option<usize>
     ensures { result ≡ first_line bytes.now }
 {
@@ -27,7 +27,7 @@ pub(crate) fn first_line(bytes: &[u8]) -> Option<usize>
     }
 }
 
-/// Whether there is one line and no more.
+/// Returns whether there is exactly one line.
 fn is_line(bytes: &[u8]) -> bool
     ensures { result ≡ is_last_place (line_feed bytes.now) (length bytes.now) }
 {
@@ -37,7 +37,7 @@ fn is_line(bytes: &[u8]) -> bool
     }
 }
 
-/// Whether a first line begins behind the first line of these bytes.
+/// Returns whether another first line follows the first line of these bytes.
 fn goes_on(bytes: &[u8]) -> bool
     ensures { result ≡ begins_with first_words (behind_line (line_feed bytes.now) bytes.now) }
 {
@@ -47,21 +47,21 @@ fn goes_on(bytes: &[u8]) -> bool
     }
 }
 
-/// Whether a session was appended here, by `script -a`: an LF and a last line, and at once a first line behind it.
+/// Returns whether `script -a` appended a session here: an LF and a last line, and a first line directly after it.
 pub(crate) fn is_joint(bytes: &[u8]) -> bool
     ensures { result ≡ is_joint bytes.now }
 {
     bytes.starts_with(LAST_WORDS) && goes_on(&bytes[1..])
 }
 
-/// Whether the content ends here: with the last line, or where a session was appended.
+/// Returns whether the content ends here: with the last line, or at an appended session.
 fn is_end(bytes: &[u8]) -> bool
     ensures { result ≡ is_end bytes.now }
 {
     bytes.starts_with(LAST_WORDS) && (is_line(&bytes[1..]) || goes_on(&bytes[1..]))
 }
 
-/// Where the content ends in what follows the first line.
+/// Returns the index at which the content ends, in the bytes after the first line.
 pub(crate) fn end_of(body: &[u8]) -> usize
     ensures { EndsAt body.now result }
 {

@@ -1,4 +1,4 @@
-//! A recording is taken apart.
+//! Takes a recording apart.
 ghost use Rattle.std.specs.Prelude.{◌≡◌, IfOk};
 ghost use Rattle.vt_recording.specs.Script.{IsOfScript};
 ghost use Rattle.vt_recording.specs.Ttyrec.{IsOfTtyrec};
@@ -9,8 +9,14 @@ use crate::script::{end_of, first_line, is_joint};
 use crate::ttyrec::{HEADER, header_of, is_due, time_of};
 use std::alloc::{AllocError, Global};
 
-/// The content of a recording, and the byte at which it breaks its format, if it does: without a first line at byte 0,
-/// where `script -a` appended a session at the LF before the line between, and at the first piece that is cut short. What came before that is content. `Err` where memory was refused.
+/// Returns the content of a recording, and the offset at which it breaks its format, if it does. The content is what
+/// came before that offset. A recording breaks its format:
+///
+/// - at byte 0 if it has no first line
+/// - at the LF before the line between two sessions, if `script -a` appended a session
+/// - at the first frame that is cut short
+///
+/// Returns `Err` if allocation fails.
 pub fn take_apart(alloc: Global, bytes: &[u8], format: Format) -> Result<Taken, AllocError>
     ensures { IfOk result (λ t. IsTaken format bytes.now t.content.items t.broken) }
 {
@@ -20,7 +26,7 @@ pub fn take_apart(alloc: Global, bytes: &[u8], format: Format) -> Result<Taken, 
     }
 }
 
-/// What stands between the first and the last line.
+/// Returns the content between the first and the last line.
 fn script_content(alloc: Global, bytes: &[u8]) -> Result<Taken, AllocError>
     ensures { IfOk result (λ t. IsOfScript bytes.now t.content.items t.broken) }
 {
@@ -45,7 +51,7 @@ fn script_content(alloc: Global, bytes: &[u8]) -> Result<Taken, AllocError>
     }
 }
 
-/// The pieces that are wanted.
+/// Returns the content of the frames up to `until`.
 fn ttyrec_content(alloc: Global, bytes: &[u8], until: Option<u64>) -> Result<Taken, AllocError>
     ensures { IfOk result (λ t. IsOfTtyrec until bytes.now t.content.items t.broken) }
 {

@@ -2,19 +2,19 @@
 ghost use Rattle.std.specs.Prelude.{◌≡◌, ◌+◌, ◌*◌, ◌≤◌, ◌<◌, ◌^◌, length, drop, IfSome, IfNone};
 ghost use Rattle.vt_recording.specs.Ttyrec.{number_at, time_of, size_of, is_due, IsCut};
 
-/// The bytes of a piece's header.
+/// The number of bytes of a frame's header.
 pub(crate) const HEADER: usize = 12;
 
-/// What a header says.
+/// The contents of a header.
 #[derive(Clone, Copy, Debug, PartialEq, Eq)]
 pub(crate) struct Header {
-    /// When the piece came, in microseconds.
+    /// The time of the frame, in microseconds.
     pub(crate) time: u64,
-    /// How many bytes it has.
+    /// The number of bytes of the frame.
     pub(crate) size: usize,
 }
 
-/// The number of 32 bits at a place, its lowest byte first.
+/// Returns the number of 32 bits at `at`, lowest byte first.
 fn number_at(at: usize, bytes: &[u8]) -> u64
     requires { at + 4 ≤ length bytes.now }
     ensures value { result ≡ number_at at bytes.now }
@@ -26,7 +26,7 @@ fn number_at(at: usize, bytes: &[u8]) -> u64
         + 0x100_0000 * bytes[at + 3] as u64
 }
 
-/// The time that a header says, in microseconds.
+/// Returns the time in a header, in microseconds.
 pub(crate) fn time_of(header: &[u8]) -> u64
     requires { 12 ≤ length header.now }
     ensures { result ≡ time_of header.now }
@@ -34,7 +34,7 @@ pub(crate) fn time_of(header: &[u8]) -> u64
     1_000_000 * number_at(0, header) + number_at(4, header)
 }
 
-/// The header of the piece with which the bytes begin, if the whole piece is there.
+/// Returns the header of the frame with which the bytes begin, if the frame is whole.
 pub(crate) fn header_of(bytes: &[u8]) -> Option<Header>
     ensures time { IfSome result (λ h. h.time ≡ time_of bytes.now) }
     ensures size { IfSome result (λ h. h.size ≡ size_of bytes.now) }
@@ -54,7 +54,7 @@ pub(crate) fn header_of(bytes: &[u8]) -> Option<Header>
     })
 }
 
-/// Whether a piece of this time is wanted.
+/// Returns whether a frame of this time is wanted.
 pub(crate) fn is_due(until: Option<u64>, start: u64, time: u64) -> bool
     ensures { result ≡ is_due until start time }
 {

@@ -1,4 +1,4 @@
-//! The replay of an input: all memory is taken first, and the loops take none.
+//! The replay of an input: it allocates all memory first, and its loops allocate none.
 ghost use Rattle.std.specs.Prelude.{◌≡◌, ◌≢◌, IsTrue, ◌+◌, ◌*◌, ◌≤◌, ◌<◌, ◌++◌, [], true, false, length, vec_len};
 ghost use Rattle.std.specs.Prelude.{vec_capacity, IfOk, IfErr};
 ghost use Rattle.std.specs.Io.KnownBytes.{IsAtEnd};
@@ -23,17 +23,17 @@ use vt_term::{REPORT_LIMIT, TEXT_LIMIT, Terminal};
 /// Plays the reader's bytes on a new terminal, and writes what is due. Neither device has failed before, and the reader
 /// hasn't ended.
 ///
-/// It reads at most `piece` bytes at a time (1 to 65536), and at most `limit` bytes in all (up to 2 to the 40th), and
-/// one more to see whether the input goes on. All memory is taken before the first read, and no call of a device is
-/// made again after an error. The input ends where a read gives no byte. Reports are written before the next read, all
-/// else after the whole input was read. Where the reader has ended, no byte that it tells of is left.
+/// It reads at most `piece` bytes at a time (1 to 65536), and at most `limit` bytes in all (up to 2 to the 40th). Then it
+/// reads one more to see whether the input goes on. It allocates all memory before the first read. It calls no device
+/// again after an error. The input ends when a read gives no byte. Reports are written before the next read, everything
+/// else after the whole input was read. If the reader has ended, no byte that it reports as its own is left.
 ///
-/// `Err` is `Memory` where a growth was refused, `Read` or `Write` where that device failed, `TooLong` where the input
-/// has more than `limit` bytes, and `Partial` where a repaint is asked for and the input ends inside a sequence.
+/// `Err` is `Memory` if allocation fails, `Read` or `Write` if that device failed, `TooLong` if the input has more than
+/// `limit` bytes, and `Partial` if a repaint is asked for and the input ends inside a sequence.
 ///
-/// The table of answers speaks of the bytes that the reader tells of (`remaining`) and those that the writer tells of
-/// (`contents`), as those over memory do. A file, a pipe, standard input and standard output tell none: of these it
-/// says which flags go with which answer, and that what was written is what is due for some bytes.
+/// The table of answers is stated for the bytes that the reader reports as its own (`remaining`) and those of the writer
+/// (`contents`), as devices over memory do. A file, a pipe, standard input and standard output report none. For these it
+/// states which flags go with which result, and that what was written is what is due for some bytes.
 pub fn run<R: Read, W: Write>(
     alloc: Global,
     reader: &mut Watched<R>,
@@ -68,15 +68,15 @@ pub fn run<R: Read, W: Write>(
 #[derive(Drop)]
 struct Room {
     terminal: Terminal,
-    /// One piece.
+    /// One chunk.
     buffer: Vec<u8>,
     /// What is to be written.
     out: Vec<u8>,
 }
 
 impl Room {
-    /// The room for pieces of so many bytes and for what is due at the end, with a terminal as at power-up. `Err` is
-    /// `Memory`.
+    /// Allocates the memory for chunks of so many bytes and for what is due at the end, with a terminal as at power-up.
+    /// `Err` is `Memory`.
     fn new(alloc: Global, what: What, piece: usize) -> Result<Room, Fault>
         requires { piece ≤ 65536 }
         ensures terminal { IfOk result (λ room. room.terminal ≡ power_up) }
@@ -93,10 +93,11 @@ impl Room {
     }
 }
 
-/// Plays the reader's bytes as the settings ask, and writes what is due: `run` by their kind, piece and limit. Their
-/// file is not looked at: the reader is what it names. Neither device has failed before, and the reader hasn't ended.
+/// Plays the reader's bytes as the settings ask, and writes what is due: by `run`, with their kind, chunk size and limit.
+/// It doesn't look at their file: the caller opens it as the reader. Neither device has failed before, and the reader
+/// hasn't ended.
 ///
-/// `Err` is what `run` answers.
+/// `Err` is what `run` returns.
 pub fn replay<R: Read, W: Write>(
     alloc: Global,
     reader: &mut Watched<R>,
@@ -121,7 +122,7 @@ pub fn replay<R: Read, W: Write>(
     )
 }
 
-/// Plays the reader's bytes, and writes what is due. The buffers have the room for it.
+/// Plays the reader's bytes, and writes what is due. The buffers have the capacity for it.
 fn run_in_room<R: Read, W: Write>(
     reader: &mut Watched<R>,
     writer: &mut Watched<W>,
@@ -157,7 +158,7 @@ fn run_in_room<R: Read, W: Write>(
     }
 }
 
-/// Whether what is asked for is there: a repaint between sequences only, all else always.
+/// Returns whether what is asked for is there: a repaint between sequences only, everything else always.
 fn is_there(terminal: &Terminal, what: What) -> bool
     ensures yes { IsTrue result → IsThere what terminal.now }
     ensures no { result ≡ false → (what ≡ What.Repaint) × (terminal.now.held ≢ Nothing) }
@@ -168,7 +169,7 @@ fn is_there(terminal: &Terminal, what: What) -> bool
     }
 }
 
-/// The most bytes that are due after the whole input.
+/// Returns the most bytes that are due after the whole input.
 fn room_for(what: What) -> usize
     ensures { result ≡ room_for what }
 {
@@ -199,7 +200,7 @@ fn push_due_at_end(terminal: &Terminal, what: What, reported: u64, out: &mut Vec
     }
 }
 
-/// Plays the reader's bytes to their end, and answers how many report bytes they gave.
+/// Plays the reader's bytes to their end. Returns how many report bytes they gave.
 fn play_input<R: Read, W: Write>(
     reader: &mut Watched<R>,
     writer: &mut Watched<W>,
@@ -249,7 +250,7 @@ fn play_input<R: Read, W: Write>(
     }
 }
 
-/// Writes the reports of a piece, where reports are asked for, and says whether they got through.
+/// Writes the reports of a chunk, if reports are asked for. Returns whether the writer took them.
 fn send<W: Write>(writer: &mut Watched<W>, what: What, reports: &[u8]) -> bool
     requires { writer.old.failed ≡ false }
     ensures gives { Gives (W.contents writer.old.device) (W.contents writer.new.device)

@@ -8,7 +8,7 @@ use thiserror::Error;
 /// Why a replay ended early. The message is the line that the program prints.
 #[derive(Clone, Copy, Debug, PartialEq, Eq, Error)]
 pub enum Fault {
-    /// A growth was refused. Nothing was read or written.
+    /// An allocation failed. Nothing was read or written.
     #[error("vt220: out of memory")]
     Memory,
     /// A repaint was asked for, and the input ends inside a sequence.
@@ -26,7 +26,7 @@ pub enum Fault {
 }
 
 impl Fault {
-    /// The status with which the program ends.
+    /// Returns the status with which the program ends.
     pub fn status(&self) -> u8
         ensures { result ≡ status_of self.now }
     {
@@ -39,7 +39,7 @@ impl Fault {
         }
     }
 
-    /// The line that the program prints on standard error.
+    /// Returns the line that the program prints on standard error.
     pub fn line(&self) -> &'static str
         ensures { result.now ≡ line_of self.now }
     {

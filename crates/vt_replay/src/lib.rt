@@ -1,12 +1,16 @@
-//! The replay engine: a reader's bytes are played on a terminal, and what is due is written to a writer. With it comes
-//! the command line that says what is to be replayed, of the crate vt_cli.
+//! The replay engine: plays a reader's bytes on a terminal, and writes what is due to a writer. It re-exports the command
+//! line of the crate vt_cli.
 #![tactic(auto)]
 
 mod engine;
 mod fault;
+mod logging;
+mod requests;
 mod status;
 
 pub use engine::{replay, run};
 pub use fault::Fault;
-pub use vt_cli::{Refused, Settings, What, settings};
+pub use logging::write_log;
+pub use requests::carry_out;
+pub use vt_cli::{Refused, Request, Settings, What, Word, request, settings};
 pub use vt_device::Watched;

@@ -10,7 +10,7 @@ use vt_term::Terminal;
 /// The most bytes of a status.
 pub(crate) const STATUS_LIMIT: usize = 1000;
 
-/// What of an unfinished sequence is held, in a word.
+/// Returns the kind of the unfinished sequence, as a word.
 fn kind_of_held(held: &Held) -> &'static str
     ensures kind { result.now ≡ kind_of_held held.now }
     ensures short { length result.now ≤ 7 }
@@ -24,7 +24,7 @@ fn kind_of_held(held: &Held) -> &'static str
     }
 }
 
-/// A truth value in a word.
+/// Returns a truth value as a word.
 fn yes_or_no(flag: bool) -> &'static [u8]
     ensures word { result.now ≡ (if flag then codes "yes" else codes "no") }
     ensures short { length result.now ≤ 3 }
@@ -32,7 +32,7 @@ fn yes_or_no(flag: bool) -> &'static [u8]
     if flag { b"yes" } else { b"no" }
 }
 
-/// Appends a number, of at most twenty digits. The room is there.
+/// Appends a number, of at most twenty digits, in existing capacity.
 fn push_number(n: u64, out: &mut Vec<u8>)
     requires { vec_len out.old + 20 ≤ vec_capacity out.old }
     ensures items { out.new.items ≡ out.old.items ++ decimal n }
@@ -44,7 +44,7 @@ fn push_number(n: u64, out: &mut Vec<u8>)
     out.extend_from_slice(digits.as_bytes()).unwrap();
 }
 
-/// Appends a short text. The room is there.
+/// Appends a short text, in existing capacity.
 fn push_text(text: &[u8], out: &mut Vec<u8>)
     requires short { length text.now ≤ 20 }
     requires room { vec_len out.old + 20 ≤ vec_capacity out.old }
@@ -70,7 +70,7 @@ fn push_pair(name: &[u8], a: u64, b: u64, out: &mut Vec<u8>)
     push_text(b"\n", out);
 }
 
-/// Appends the five lines of the status. The room is there: `STATUS_LIMIT` bytes.
+/// Appends the five lines of the status, at most `STATUS_LIMIT` bytes, in existing capacity.
 pub(crate) fn push_status(terminal: &Terminal, reported: u64, out: &mut Vec<u8>)
     requires { vec_len out.old + STATUS_LIMIT ≤ vec_capacity out.old }
     ensures items { out.new.items ≡ out.old.items ++ status terminal.now reported }

@@ -1,4 +1,4 @@
--- Where the rows of the screen are kept. No public clause speaks of it.
+-- The order in which the rows of the screen are stored. No public clause cites it.
 use Rattle.std.specs.Prelude.{ℕ, true, ◌+◌, ◌-◌, ◌*◌, List, map, slice_index, slice_index_or}
 use Rattle.std.specs.List.{range_with_len}
 use Rattle.std.specs.List.Sorted.{IsPermutation}
@@ -14,7 +14,7 @@ stride = columns true
 abbrev pub room : ℕ
 room = last_row * stride
 
--- where rows may begin
+-- the indices at which rows may begin
 abbrev pub starts : List ℕ
 starts = map (λ number. number * stride) (range_with_len 0 last_row)
 
@@ -22,7 +22,7 @@ starts = map (λ number. number * stride) (range_with_len 0 last_row)
 abbrev pub IsOrder : List ℕ → Type 0
 IsOrder order = IsPermutation starts order
 
--- where the cells of a row begin
+-- the index at which the cells of a row begin
 abbrev pub start_of : List ℕ → ℕ → ℕ
 start_of order row = slice_index order (row - 1)
 

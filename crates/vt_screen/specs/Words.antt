@@ -1,4 +1,4 @@
--- A cell as one number. No public clause speaks of it.
+-- A cell as one number. No public clause cites it.
 use Rattle.std.specs.Prelude.{ℕ, ◌+◌, ◌*◌, Bool, if◌then◌else◌}
 use Rattle.vt_glyph.specs.Encoding.{encoding_of}
 use Rattle.vt_screen.specs.declared.cell.Cell.{Cell}

@@ -1,9 +1,9 @@
-//! What one place of the screen shows.
+//! A cell of the screen: what it shows.
 ghost use Rattle.std.specs.Prelude.{◌≡◌};
 
 use vt_glyph::Glyph;
 
-/// The character attributes (VT220 manual, "select graphic rendition").
+/// The character attributes. (VT220 manual, chapter 4: SGR)
 #[derive(Clone, Copy, Debug, PartialEq, Eq)]
 pub struct Rendition {
     /// Shown bold (SGR 1).
@@ -19,7 +19,7 @@ pub struct Rendition {
 impl Rendition {
     ghost use Rattle.vt_screen.specs.Cells.{plain};
 
-    /// No attribute.
+    /// Returns the attributes with none set.
     pub fn plain() -> Rendition
         ensures { result ≡ plain }
     {
@@ -32,19 +32,19 @@ impl Rendition {
     }
 }
 
-/// What a cell is written with: attributes, and protection from a selective erase.
+/// The attributes and the protection that a cell is written with.
 #[derive(Clone, Copy, Debug, PartialEq, Eq)]
 pub struct Brush {
     /// The attributes.
     pub rendition: Rendition,
-    /// Whether a selective erase passes over what is written (DECSCA).
+    /// Whether a selective erase leaves what is written (DECSCA).
     pub protected: bool,
 }
 
 impl Brush {
     ghost use Rattle.vt_screen.specs.Cells.{plain_brush};
 
-    /// No attribute, unprotected.
+    /// Returns the brush without attributes and without protection.
     pub fn plain() -> Brush
         ensures { result ≡ plain_brush }
     {
@@ -55,28 +55,28 @@ impl Brush {
     }
 }
 
-/// One place of the screen: a glyph, its attributes, and whether a selective erase passes it over.
+/// A position of the screen: a glyph, its attributes and its protection.
 #[derive(Clone, Copy, Debug, PartialEq, Eq)]
 pub struct Cell {
-    /// What it shows.
+    /// The glyph that it shows.
     pub glyph: Glyph,
-    /// The attributes that it is shown with.
+    /// The attributes that the glyph is shown with.
     pub rendition: Rendition,
-    /// Whether a selective erase passes it over (DECSCA).
+    /// Whether a selective erase leaves it (DECSCA).
     pub protected: bool,
 }
 
 impl Cell {
     ghost use Rattle.vt_screen.specs.Cells.{blank, cell_of, brush_of};
 
-    /// An unprotected space without attributes.
+    /// Returns an unprotected space without attributes.
     pub fn blank() -> Cell
         ensures { result ≡ blank }
     {
         Cell::new(Glyph::blank(), Brush::plain())
     }
 
-    /// A glyph as the brush writes it.
+    /// Returns the cell that the brush writes for this glyph.
     pub fn new(glyph: Glyph, brush: Brush) -> Cell
         ensures { result ≡ cell_of glyph brush }
     {
@@ -87,7 +87,7 @@ impl Cell {
         }
     }
 
-    /// The brush that writes a cell like this one.
+    /// Returns the brush that writes a cell like this one.
     pub fn brush(self) -> Brush
         ensures { result ≡ brush_of self }
     {

@@ -2,28 +2,28 @@
 //! cites by calling it.
 ghost use Rattle.vt_screen.specs.Laws.{PlaceLaws, RowLaws, RunLaws, AreaLaws, TestLaws};
 
-/// What a formula's grid has at a place, and when two grids are equal.
+/// States what a formula's grid has at a position, and when two grids are equal.
 pub fn places()
     ensures { PlaceLaws }
 {}
 
-/// A row has the cells of its columns, in order.
+/// States that a row has the cells of its columns, in order.
 pub fn rows()
     ensures { RowLaws }
 {}
 
-/// A run of glyphs is written as its glyphs are, one after another.
+/// States that writing a run of glyphs is writing its glyphs one after another.
 pub fn runs()
     ensures { RunLaws }
 {}
 
-/// Areas that are erased in turn are erased at once.
+/// States that erasing areas in turn is erasing them at once.
 pub fn areas()
     ensures { AreaLaws }
 {}
 
-/// A test that a blank cell and each cell of a grid pass is passed at every place. A formula's grid
-/// passes a test that the formula passes at every place.
+/// States that a grid passes a test at every position if a blank cell and each of its cells pass it. A formula's grid
+/// passes a test if the formula passes it at every position.
 pub fn tests()
     ensures { TestLaws }
 {}

@@ -1,5 +1,5 @@
-//! The screen of a terminal: 24 rows of 80 or 132 cells, and every way in which a terminal changes them.
-//! Rows and columns count from 1.
+//! The screen of a terminal: 24 rows of 80 or 132 cells, and all changes that a terminal makes to them. Rows and
+//! columns count from 1.
 #![tactic(auto)]
 
 mod cell;

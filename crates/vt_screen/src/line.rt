@@ -12,7 +12,7 @@ use vt_glyph::{Glyph, InUse};
 /// How many cells are filled at a time: a block of a fixed size is filled without a loop.
 const BLOCK: usize = 16;
 
-/// Writes one cell everywhere.
+/// Writes one cell at every position.
 #[inline(always)]
 pub fn fill_cells(cells: &mut [Cell], cell: &Cell)
     ensures { (k : ℕ) → k < length cells.old → slice_index_or cells.new k blank ≡ cell.now }
@@ -25,8 +25,8 @@ pub fn fill_cells(cells: &mut [Cell], cell: &Cell)
     fill_each(&mut cells[at..], cell);
 }
 
-/// Writes one cell all over a line of at least 80 cells: a part of a fixed size, and then the rest.
-/// Speed: the first part is filled by a loop of a fixed length.
+/// Writes one cell at every position of a line of at least 80 cells. Speed: the first part is filled by a loop of a
+/// fixed length.
 #[inline(always)]
 pub fn fill_line(line: &mut [Cell], cell: &Cell)
     requires { 80 ≤ length line.old }
@@ -38,7 +38,7 @@ pub fn fill_line(line: &mut [Cell], cell: &Cell)
     }
 }
 
-/// Writes one cell everywhere, a place at a time.
+/// Writes one cell at every position, one by one.
 #[inline(always)]
 fn fill_each(cells: &mut [Cell], cell: &Cell)
     ensures { (k : ℕ) → k < length cells.old → slice_index_or cells.new k blank ≡ cell.now }
@@ -48,7 +48,7 @@ fn fill_each(cells: &mut [Cell], cell: &Cell)
     }
 }
 
-/// Makes a space of each cell that isn't protected; its attributes stay.
+/// Clears the glyph of each cell that isn't protected. Its attributes stay.
 fn erase_selectively(cells: &mut [Cell])
     ensures { (k : ℕ) → k < length cells.old
         → slice_index_or cells.new k blank ≡ selectively_erased (slice_index_or cells.old k blank) }
@@ -60,7 +60,7 @@ fn erase_selectively(cells: &mut [Cell])
     }
 }
 
-/// Erases each cell.
+/// Erases each cell. A selective erase leaves protected cells, and clears only the glyph of the others.
 pub fn erase_cells(cells: &mut [Cell], selective: bool)
     ensures { (k : ℕ) → k < length cells.old
         → slice_index_or cells.new k blank ≡ erased selective (slice_index_or cells.old k blank) }
@@ -72,7 +72,7 @@ pub fn erase_cells(cells: &mut [Cell], selective: bool)
     }
 }
 
-/// Moves the cells from `at` on right by `n`, and leaves open what stands in the gap.
+/// Moves the cells starting at `at` right by `n`, and leaves the gap unspecified.
 fn shift_right(line: &mut [Cell], at: usize, n: usize)
     requires { at + n ≤ length line.old }
     ensures moved { (k : ℕ) → at + n ≤ k → k < length line.old
@@ -83,7 +83,7 @@ fn shift_right(line: &mut [Cell], at: usize, n: usize)
     line.copy_within(at..kept, at + n);
 }
 
-/// Inserts a cell; the last one is lost.
+/// Inserts a cell at `at`. The last cell is lost.
 pub fn insert_cell(line: &mut [Cell], at: usize, cell: Cell)
     requires { at < length line.old }
     ensures here { slice_index_or line.new at blank ≡ cell }
@@ -95,7 +95,7 @@ pub fn insert_cell(line: &mut [Cell], at: usize, cell: Cell)
     line[at] = cell;
 }
 
-/// Inserts `n` blank cells; the last `n` are lost.
+/// Inserts `n` blank cells at `at`. The last `n` are lost.
 pub fn insert_blanks(line: &mut [Cell], at: usize, n: usize)
     requires { at + n ≤ length line.old }
     ensures gap { (k : ℕ) → at ≤ k → k < at + n → slice_index_or line.new k blank ≡ blank }
@@ -107,7 +107,7 @@ pub fn insert_blanks(line: &mut [Cell], at: usize, n: usize)
     fill_cells(&mut line[at..at + n], &Cell::blank());
 }
 
-/// Removes `n` cells; `n` blank ones come in at the end.
+/// Removes `n` cells starting at `at`. `n` blank cells are added at the end.
 pub fn remove_cells(line: &mut [Cell], at: usize, n: usize)
     requires { at + n ≤ length line.old }
     ensures moved { (k : ℕ) → at ≤ k → k + n < length line.old
@@ -120,7 +120,7 @@ pub fn remove_cells(line: &mut [Cell], at: usize, n: usize)
     fill_cells(&mut line[len - n..], &Cell::blank());
 }
 
-/// Writes over a place a cell like another one, with its own glyph.
+/// Writes a cell like another one, with its own glyph.
 #[inline(always)]
 fn write_like(place: &mut Cell, like: &Cell, glyph: Glyph)
     ensures { place.new ≡ cell_like like.now glyph }
@@ -130,15 +130,15 @@ fn write_like(place: &mut Cell, like: &Cell, glyph: Glyph)
     write(place, &cell);
 }
 
-/// Writes a cell over a place. (A cell that is read through a reference is copied as one word.)
+/// Writes a cell. (A cell that is read through a reference is copied as one word.)
 fn write(place: &mut Cell, cell: &Cell)
     ensures { place.new ≡ cell.now }
 {
     *place = *cell;
 }
 
-/// Writes ASCII codes, each with the attributes and the protection of `like`.
-/// Speed: this and the functions below write blocks; `write` a cell at a time does the same.
+/// Writes ASCII codes, each with the attributes and the protection of `like`. Speed: this function and those below
+/// write blocks. Writing cell by cell gives the same.
 #[inline(always)]
 pub fn write_codes(cells: &mut [Cell], codes: &[u8], like: Cell)
     requires codes { All (λ code. (0x20 ≤ code) × (code ≤ 0x7E)) codes.now }
@@ -153,8 +153,8 @@ pub fn write_codes(cells: &mut [Cell], codes: &[u8], like: Cell)
     }
 }
 
-/// The same for at least eight codes. (Out of line: where the test of a brush is compiled beside a short run, the
-/// compiler takes the cell apart for both.)
+/// Writes at least eight codes. (Out of line: next to the test of a brush in a short run, the compiler would take the
+/// cell apart for both.)
 #[inline(never)]
 fn write_many(cells: &mut [Cell], codes: &[u8], like: &Cell)
     requires codes { All (λ code. (0x20 ≤ code) × (code ≤ 0x7E)) codes.now }
@@ -170,7 +170,7 @@ fn write_many(cells: &mut [Cell], codes: &[u8], like: &Cell)
     }
 }
 
-/// Whether a cell has no attribute and isn't protected.
+/// Returns whether a cell has no attribute and isn't protected.
 #[inline(always)]
 fn is_plain(cell: &Cell) -> bool
     ensures { OnTrue result (brush_of cell.now ≡ plain_brush) }
@@ -195,8 +195,8 @@ fn write_each(cells: &mut [Cell], codes: &[u8], like: &Cell)
     }
 }
 
-/// Writes at least eight ASCII codes: sixteen at a time, and then the rest in blocks that end with the last cell, so
-/// that some cells are written twice. (Where `like` is a constant the compiler makes one move of each two cells.)
+/// Writes at least eight ASCII codes: sixteen at a time, and then the remainder in blocks that end with the last cell.
+/// So some cells are written twice. (If `like` is a constant, the compiler makes one move of each two cells.)
 #[inline(always)]
 fn write_blocks(cells: &mut [Cell], codes: &[u8], like: &Cell)
     requires codes { All (λ code. (0x20 ≤ code) × (code ≤ 0x7E)) codes.now }
@@ -218,7 +218,7 @@ fn write_blocks(cells: &mut [Cell], codes: &[u8], like: &Cell)
     write_eight(cells, codes, len - 8, like);
 }
 
-/// The same for fewer than eight codes.
+/// Writes fewer than eight codes.
 #[inline(always)]
 fn write_few(cells: &mut [Cell], codes: &[u8], like: &Cell)
     requires codes { All (λ code. (0x20 ≤ code) × (code ≤ 0x7E)) codes.now }
@@ -239,7 +239,7 @@ fn write_few(cells: &mut [Cell], codes: &[u8], like: &Cell)
     }
 }
 
-/// Writes the eight ASCII codes from a place on.
+/// Writes the eight ASCII codes that begin at `at`.
 #[inline(always)]
 fn write_eight(cells: &mut [Cell], codes: &[u8], at: usize, like: &Cell)
     requires codes { All (λ code. (0x20 ≤ code) × (code ≤ 0x7E)) codes.now }
@@ -253,7 +253,7 @@ fn write_eight(cells: &mut [Cell], codes: &[u8], at: usize, like: &Cell)
     write_four(cells, codes, at + 4, like);
 }
 
-/// Writes the four ASCII codes from a place on.
+/// Writes the four ASCII codes that begin at `at`.
 #[inline(always)]
 fn write_four(cells: &mut [Cell], codes: &[u8], at: usize, like: &Cell)
     requires codes { All (λ code. (0x20 ≤ code) × (code ≤ 0x7E)) codes.now }
@@ -267,8 +267,8 @@ fn write_four(cells: &mut [Cell], codes: &[u8], at: usize, like: &Cell)
     write_two(cells, codes, at + 2, like);
 }
 
-/// Writes the two ASCII codes from a place on. (Both are read before a cell is written: so the compiler makes one move
-/// of two cells.)
+/// Writes the two ASCII codes that begin at `at`. (Both are read before a cell is written, so the compiler makes one
+/// move of two cells.)
 #[inline(always)]
 fn write_two(cells: &mut [Cell], codes: &[u8], at: usize, like: &Cell)
     requires codes { All (λ code. (0x20 ≤ code) × (code ≤ 0x7E)) codes.now }
@@ -284,8 +284,8 @@ fn write_two(cells: &mut [Cell], codes: &[u8], at: usize, like: &Cell)
     write_like(&mut cells[at + 1], like, Glyph::ascii(second));
 }
 
-/// Writes the glyphs of graphic bytes, each with the attributes and the protection of `like`: eight at a time, since a
-/// turn of the loop costs as much as a cell, and then the rest. Speed: in blocks of four.
+/// Writes the glyphs of graphic bytes, each with the attributes and the protection of `like`. Speed: in blocks of four,
+/// eight at a time, since an iteration of the loop costs as much as a cell.
 #[inline(always)]
 pub fn write_graphics(cells: &mut [Cell], bytes: &[u8], table: &InUse, like: Cell)
     requires bytes { All HasGlyph bytes.now }
@@ -305,7 +305,7 @@ pub fn write_graphics(cells: &mut [Cell], bytes: &[u8], table: &InUse, like: Cel
     }
 }
 
-/// Writes the glyphs of the four graphic bytes from a place on.
+/// Writes the glyphs of the four graphic bytes that begin at `at`.
 #[inline(always)]
 fn write_four_graphics(cells: &mut [Cell], bytes: &[u8], at: usize, table: &InUse, like: &Cell)
     requires bytes { All HasGlyph bytes.now }
@@ -321,9 +321,9 @@ fn write_four_graphics(cells: &mut [Cell], bytes: &[u8], at: usize, table: &InUs
     write_like(&mut cells[at + 3], like, table.glyph(bytes[at + 3]));
 }
 
-/// A cell as one number, a byte of it for each byte of the cell, so that it is read as one word. (Each field is read
-/// from the cell itself. Of copies of its parts the compiler makes vectors. Inlined `always`, it would be inlined
-/// before its loads are made one.)
+/// Returns a cell as one number, with a byte for each byte of the cell, so that it is read as one word. (Each field is
+/// read from the cell itself: of copies of its parts the compiler makes vectors. Inlined `always`, it would be inlined
+/// before its loads become one.)
 #[inline]
 fn word_of(cell: &Cell) -> u64
     ensures word { result ≡ cell_word cell.now }
@@ -338,7 +338,7 @@ fn word_of(cell: &Cell) -> u64
         + 0x100_0000_0000_0000 * cell.protected as u64
 }
 
-/// Whether two cells are the same, compared as words.
+/// Returns whether two cells are equal, compared as words.
 #[inline(always)]
 fn same_cell(a: &Cell, b: &Cell) -> bool
     ensures { IsTrue result ↔ (a.now ≡ b.now) }
@@ -346,7 +346,7 @@ fn same_cell(a: &Cell, b: &Cell) -> bool
     word_of(a) == word_of(b)
 }
 
-/// Whether the four cells from a place on are the same in both rows. Speed: one comparison of four cells.
+/// Returns whether the four cells that begin at `at` are equal in both rows. Speed: one comparison of four cells.
 #[inline(always)]
 fn same_four(a: &[Cell], b: &[Cell], at: usize) -> bool
     requires a { at + 4 ≤ length a.now }
@@ -361,8 +361,8 @@ fn same_four(a: &[Cell], b: &[Cell], at: usize) -> bool
         & same_cell(&a[at + 3], &b[at + 3])
 }
 
-/// Whether two rows have the same cells: as many, and each the same. (Four cells are compared at a time, each as one
-/// word.)
+/// Returns whether two rows have the same cells: equally many, and each equal. (Speed: four cells are compared at a
+/// time, each as one word.)
 pub fn same_cells(a: &[Cell], b: &[Cell]) -> bool
     ensures { IsTrue result ↔ (a.now ≡ b.now) }
 {

@@ -1,4 +1,4 @@
-//! Where the rows of the screen are kept.
+//! The order in which the rows of the screen are stored.
 ghost use Rattle.std.specs.Prelude.{◌≡◌, ℕ, ◌+◌, ◌-◌, ◌<◌, ◌≤◌, ◌⊎◌, length, slice_index};
 ghost use Rattle.std.specs.List.Sorted.{IsPermutation};
 ghost use Rattle.vt_screen.specs.Grid.{last_row};
@@ -6,13 +6,13 @@ ghost use Rattle.vt_screen.specs.Order.{IsOrder, start_of, stride, room};
 
 use std::marker::Model;
 
-/// The rows of the screen.
+/// The number of rows of the screen.
 pub const ROWS: usize = 24;
 
-/// The most columns of the screen: those of a wide one. Two rows are kept so many cells apart, whatever the width.
+/// The number of columns of the wide screen. Rows are stored this many cells apart, whatever the width.
 pub const COLUMNS: usize = 132;
 
-/// The place where the cells of each row of the screen begin. Scrolling moves these starts, and no cell.
+/// The index at which the cells of each row of the screen begin. Scrolling moves these starts, and no cell.
 #[derive(Debug, Drop)]
 pub struct RowOrder {
     rows: [u16; ROWS],
@@ -30,7 +30,7 @@ impl Model for RowOrder {
 }
 
 impl RowOrder {
-    /// The rows one after another.
+    /// Returns the table in which the rows follow one another.
     pub fn new() -> RowOrder
         ensures { IsOrder result }
     {
@@ -42,14 +42,14 @@ impl RowOrder {
         }
     }
 
-    /// Another table with the same starts.
+    /// Returns a table with the same starts.
     pub fn copied(&self) -> RowOrder
         ensures { result ≡ self.now }
     {
         RowOrder { rows: self.rows }
     }
 
-    /// Where the cells of a row begin.
+    /// Returns the index at which the cells of a row, 1 to 24, begin.
     pub fn start(&self, row: usize) -> usize
         requires { (1 ≤ row) × (row ≤ last_row) }
         ensures place { result ≡ start_of self.now row }
@@ -59,7 +59,7 @@ impl RowOrder {
         self.rows[row - 1] as usize
     }
 
-    /// Moves the rows `top` to `bottom` up by `n`; the first of them become the last.
+    /// Moves the rows `top` to `bottom` up by `n`: the first of them become the last.
     pub fn move_up(&mut self, top: usize, bottom: usize, n: usize)
         requires rows { (1 ≤ top) × (top ≤ bottom) × (bottom ≤ last_row) }
         requires count { n ≤ bottom + 1 - top }
@@ -71,8 +71,8 @@ impl RowOrder {
         }
     }
 
-    /// Moves the rows `top` to `bottom` up by 1; the first of them becomes the last.
-    /// Speed: most scrolls are by one row.
+    /// Moves the rows `top` to `bottom` up by 1: the first of them becomes the last. Speed: most scrolls are by one
+    /// row.
     #[inline(always)]
     pub fn move_up_once(&mut self, top: usize, bottom: usize)
         requires rows { (1 ≤ top) × (top ≤ bottom) × (bottom ≤ last_row) }
@@ -82,7 +82,7 @@ impl RowOrder {
         move_first_behind(&mut self.rows[top - 1..bottom]);
     }
 
-    /// Moves the rows `top` to `bottom` down by `n`; the last of them become the first.
+    /// Moves the rows `top` to `bottom` down by `n`: the last of them become the first.
     pub fn move_down(&mut self, top: usize, bottom: usize, n: usize)
         requires rows { (1 ≤ top) × (top ≤ bottom) × (bottom ≤ last_row) }
         requires count { n ≤ bottom + 1 - top }
@@ -94,8 +94,8 @@ impl RowOrder {
         }
     }
 
-    /// Moves the rows `top` to `bottom` down by 1; the last of them becomes the first.
-    /// Speed: most scrolls are by one row.
+    /// Moves the rows `top` to `bottom` down by 1: the last of them becomes the first. Speed: most scrolls are by one
+    /// row.
     pub fn move_down_once(&mut self, top: usize, bottom: usize)
         requires rows { (1 ≤ top) × (top ≤ bottom) × (bottom ≤ last_row) }
         ensures moved { (r : ℕ) → top + 1 ≤ r → r ≤ bottom → start_of self.new r ≡ start_of self.old (r - 1) }
@@ -105,7 +105,7 @@ impl RowOrder {
     }
 }
 
-/// Moves the first start behind the others.
+/// Moves the first start after the others.
 #[inline(always)]
 fn move_first_behind(rows: &mut [u16])
     requires { 1 ≤ length rows.old }

@@ -1,4 +1,4 @@
-//! The screen, and every way in which a terminal changes it.
+//! The screen, and all changes that a terminal makes to it.
 ghost use Rattle.std.specs.Prelude.{◌≡◌, ℕ, ◌+◌, ◌<◌, ◌≤◌, ◌⊎◌, ◌↔◌, false, IsTrue, IfOk, All, length, map};
 ghost use Rattle.vt_glyph.specs.Invocation.{HasGlyph, glyph_in_use};
 ghost use Rattle.vt_screen.specs.Grid.{last_row};
@@ -15,12 +15,12 @@ use std::marker::Model;
 use vt_glyph::InUse;
 use vt_glyph::laws::glyphs;
 
-/// The columns of the narrow screen; the wide one has `COLUMNS`.
+/// The number of columns of the narrow screen. The wide one has `COLUMNS`.
 const NARROW: usize = 80;
 
-/// A grid of 24 rows of 80 or 132 cells, blank at first. (VT220 manual, chapter 4: DECCOLM sets the width)
+/// A grid of 24 rows of 80 or 132 cells, initially blank. (VT220 manual, chapter 4: DECCOLM sets the width)
 ///
-/// Rows count from 1 to 24, and columns from 1 to the width. Nothing but `new` can fail or takes memory.
+/// Rows count from 1 to 24, and columns from 1 to the width. Only `new` allocates, and only `new` can fail.
 #[derive(Debug, Drop)]
 pub struct Screen {
     cells: Vec<Cell>,
@@ -40,7 +40,7 @@ impl Model for Screen {
     ghost invariant = { λ s. (length s.cells.items ≡ room) × IsSoundGrid (grid_of s.width (stored s.order s.cells.items)) };
 }
 
-/// Writes one cell all over the rows from `first` up to before `end`.
+/// Writes one cell over the rows from `first` to `end`, `end` excluded.
 #[inline(always)]
 fn fill_rows(
     cells: &mut [Cell],
@@ -67,8 +67,8 @@ impl Screen {
     ghost use Rattle.vt_screen.specs.Grid.{IsGrid, IsSoundGrid, cell_at, row_of, put, put_inserting, put_run, erase};
     ghost use Rattle.vt_screen.specs.Grid.{insert_cells, delete_cells, scroll_up, scroll_down, fill, blank_grid};
 
-    /// A narrow screen, all blank. It takes the room of a wide one, 24 rows of 132 cells, and fails where
-    /// there is no memory for it.
+    /// Returns a narrow screen, all blank. It allocates memory for a wide one, 24 rows of 132 cells. Returns `Err` if
+    /// allocation fails.
     pub fn new(alloc: Global) -> Result<Screen, AllocError>
         ensures { IfOk result (λ screen. screen ≡ blank_grid false) }
     {
@@ -88,7 +88,7 @@ impl Screen {
         self.width = other.width;
     }
 
-    /// How many columns the screen has: 80, or 132.
+    /// Returns the number of columns: 80 or 132.
     pub fn width(&self) -> usize
         ensures width { result ≡ self.now.width }
         ensures grid { IsGrid self.now }
@@ -97,7 +97,7 @@ impl Screen {
         self.width
     }
 
-    /// The cell at a place.
+    /// Returns the cell at a row, 1 to 24, and a column, 1 to the width.
     pub fn cell(&self, row: usize, column: usize) -> Cell
         requires row { (1 ≤ row) × (row ≤ last_row) }
         requires column { (1 ≤ column) × (column ≤ self.now.width) }
@@ -106,7 +106,7 @@ impl Screen {
         self.cells[self.order.start(row) + column - 1]
     }
 
-    /// The cells of a row, as many as the screen has columns.
+    /// Returns the cells of a row, 1 to 24: as many as the screen has columns.
     pub fn row(&self, row: usize) -> &[Cell]
         requires { (1 ≤ row) × (row ≤ last_row) }
         ensures cells { result.now ≡ row_of self.now row }
@@ -118,7 +118,7 @@ impl Screen {
         &self.cells[start..start + self.width]
     }
 
-    /// Whether the two screens have the same width and the same cells.
+    /// Returns whether the two screens have the same width and the same cells.
     pub fn same(&self, other: &Screen) -> bool
         ensures { IsTrue result ↔ (self.now ≡ other.now) }
     {
@@ -133,7 +133,7 @@ impl Screen {
         true
     }
 
-    /// Writes a cell over the one at a place.
+    /// Writes a cell over the one at a row and a column.
     #[inline(always)]
     pub fn put(&mut self, row: usize, column: usize, cell: Cell)
         requires row { (1 ≤ row) × (row ≤ last_row) }
@@ -146,7 +146,7 @@ impl Screen {
         self.cells[start + column - 1] = cell;
     }
 
-    /// Puts a cell in at a place: the cells from there on move right by one, and the last one of the row
+    /// Inserts a cell at a row and a column. The cells starting there move right by one, and the last cell of the row
     /// is lost. (VT220 manual: insert mode, IRM)
     #[inline(never)]
     pub fn put_inserting(&mut self, row: usize, column: usize, cell: Cell)
@@ -160,11 +160,11 @@ impl Screen {
         insert_cell(&mut self.cells[start..start + self.width], column - 1, cell);
     }
 
-    /// Writes ASCII codes, each from 20 to 7E, from a place on: what writing them one after another does.
-    /// The cells get the attributes and the protection of `like`. The codes end by the last column;
-    /// without codes nothing changes.
+    /// Writes ASCII codes, each from 20 to 7E, starting at a row and a column. The result is that of writing them one
+    /// after another. The cells get the attributes and the protection of `like`. The codes end at or before the last
+    /// column. Without codes nothing changes.
     ///
-    /// (The clause speaks of glyphs: that of an ASCII code has the same number.)
+    /// (The clause is stated in glyphs: that of an ASCII code has the same number.)
     #[inline(always)]
     pub fn put_run(&mut self, row: usize, column: usize, codes: &[u8], like: Cell)
         requires row { (1 ≤ row) × (row ≤ last_row) }
@@ -179,9 +179,9 @@ impl Screen {
         write_codes(&mut self.cells[start..start + codes.len()], codes, like);
     }
 
-    /// Writes graphic bytes, each from 20 to 7E or from A1 to FE, from a place on, as they are read through
-    /// the sets in GL and GR: what writing them one after another does. The cells get the attributes and
-    /// the protection of `like`. The bytes end by the last column; without bytes nothing changes.
+    /// Writes graphic bytes, each from 20 to 7E or from A1 to FE, starting at a row and a column. They are read through
+    /// the sets in GL and GR. The result is that of writing them one after another. The cells get the attributes and
+    /// the protection of `like`. The bytes end at or before the last column. Without bytes nothing changes.
     #[inline(always)]
     pub fn put_graphics(
         &mut self,
@@ -208,11 +208,11 @@ impl Screen {
         );
     }
 
-    /// Erases the columns `from` to `to` of a row, both included. (VT220 manual: ED, EL, ECH; selectively
-    /// DECSED, DECSEL)
+    /// Erases the columns `from` to `to` of a row, both included. (VT220 manual: ED, EL, ECH; selectively DECSED,
+    /// DECSEL)
     ///
-    /// Erased cells are blank, protected or not. A selective erase leaves protected cells as they are;
-    /// of the others it clears the glyph, and their attributes stay.
+    /// Erased cells are blank, even if they were protected. A selective erase leaves protected cells unchanged. It
+    /// clears the glyph of the other cells, and their attributes stay.
     pub fn erase(&mut self, row: usize, from: usize, to: usize, selective: bool)
         requires row { (1 ≤ row) × (row ≤ last_row) }
         requires columns { (1 ≤ from) × (from ≤ to) × (to ≤ self.old.width) }
@@ -223,8 +223,8 @@ impl Screen {
         erase_cells(&mut self.cells[start + from - 1..start + to], selective);
     }
 
-    /// Inserts `n` blank cells at a place: the cells from there on move right, and those that pass the
-    /// last column are lost. (VT220 manual: ICH)
+    /// Inserts `n` blank cells at a row and a column. The cells starting there move right, and those that pass the last
+    /// column are lost. (VT220 manual: ICH)
     pub fn insert_cells(&mut self, row: usize, column: usize, n: u16)
         requires row { (1 ≤ row) × (row ≤ last_row) }
         requires column { (1 ≤ column) × (column ≤ self.old.width) }
@@ -240,8 +240,8 @@ impl Screen {
         );
     }
 
-    /// Deletes `n` cells from a place on: those after them move left, and blank cells come in at the last
-    /// column. (VT220 manual: DCH)
+    /// Deletes `n` cells starting at a row and a column. The cells after them move left, and blank cells are added at
+    /// the end of the row. (VT220 manual: DCH)
     pub fn delete_cells(&mut self, row: usize, column: usize, n: u16)
         requires row { (1 ≤ row) × (row ≤ last_row) }
         requires column { (1 ≤ column) × (column ≤ self.old.width) }
@@ -257,7 +257,7 @@ impl Screen {
         );
     }
 
-    /// Moves the rows `top` to `bottom` up by `n`: the first `n` are lost, and blank rows come in below.
+    /// Moves the rows `top` to `bottom` up by `n`. The first `n` are lost, and blank rows are added at the bottom.
     /// (VT220 manual: IND, DL)
     #[inline(always)]
     pub fn scroll_up(&mut self, top: usize, bottom: usize, n: u16)
@@ -266,7 +266,7 @@ impl Screen {
         ensures sound { IsSoundGrid self.new }
     {
         if n == 1 {
-            // The whole screen has a call of its own: its table is moved by a copy of a fixed size.
+            // The whole screen has a separate call: its table is moved by a copy of a fixed size.
             if top == 1 && bottom == ROWS {
                 return self.scroll_up_once(1, ROWS);
             }
@@ -285,8 +285,8 @@ impl Screen {
         );
     }
 
-    /// Moves the rows `top` to `bottom` down by `n`: the last `n` are lost, and blank rows come in above.
-    /// (VT220 manual: RI, IL)
+    /// Moves the rows `top` to `bottom` down by `n`. The last `n` are lost, and blank rows are added at the top. (VT220
+    /// manual: RI, IL)
     #[inline(always)]
     pub fn scroll_down(&mut self, top: usize, bottom: usize, n: u16)
         requires { (1 ≤ top) × (top ≤ bottom) × (bottom ≤ last_row) }
@@ -344,7 +344,7 @@ impl Screen {
         );
     }
 
-    /// Writes one cell at every place. (VT220 manual: DECALN)
+    /// Writes one cell at every position. (VT220 manual: DECALN)
     pub fn fill(&mut self, cell: Cell)
         ensures grid { self.new ≡ fill self.old cell }
         ensures sound { IsSoundGrid self.new }
@@ -353,8 +353,8 @@ impl Screen {
         fill_rows(&mut self.cells, &self.order, 1, ROWS + 1, self.width, &cell);
     }
 
-    /// Makes the screen wide, 132 columns, or narrow, 80, and blanks every cell, also where it has that
-    /// width already. (VT220 manual: DECCOLM)
+    /// Makes the screen wide, 132 columns, or narrow, 80 columns. It blanks every cell, even if the width doesn't
+    /// change. (VT220 manual: DECCOLM)
     pub fn set_width(&mut self, wide: bool)
         ensures grid { self.new ≡ blank_grid wide }
         ensures sound { IsSoundGrid self.new }

@@ -5,7 +5,7 @@ use Rattle.vt_syntax.specs.declared.event.Event.TheVariants as event
 use Rattle.vt_syntax.specs.declared.event.EventKind.{EventKind}
 use Rattle.vt_syntax.specs.declared.event.EventKind.TheVariants.{Print, Control, Escape, Sequence}
 
--- the event of this kind, with these values where it is a control sequence
+-- the event of this kind, with these values if it is a control sequence
 abbrev pub event_of : EventKind → List ℕ → Event
 event_of (Print b) values = event.Print b
 event_of (Control b) values = event.Control b

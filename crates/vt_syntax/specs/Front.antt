@@ -1,4 +1,4 @@
--- What stands whole at the front of a piece, between sequences.
+-- Fronts: events that are whole at the front of a chunk, between sequences.
 use Rattle.std.specs.Prelude.{◌≡◌, ◌≤◌, ◌-◌, ℕ, List, [], ◌∷◌, length, take, slice_index, ◌⊎◌, true}
 use Rattle.vt_syntax.specs.declared.event.Event.{Event}
 use Rattle.vt_syntax.specs.declared.event.Event.TheVariants as event
@@ -13,7 +13,7 @@ use Rattle.vt_syntax.specs.Class.{IsPlain, opens_string}
 use Rattle.vt_syntax.specs.Held.{events_from, held_from, IsEnding}
 use Rattle.vt_syntax.specs.Spelling.{IsEvent, IsC0, IsC1, IsIntermediate}
 
--- so many bytes of the piece are just this event: the last of them completes it, and nothing is held after it
+-- this many bytes of the chunk are exactly this event: the last of them completes it, and nothing is held after it
 pub record IsFront (piece : List ℕ) (bytes : ℕ) (event : Event) : Type 0 where
   pub some : 1 ≤ bytes
   pub within : bytes ≤ length piece
@@ -22,7 +22,7 @@ pub record IsFront (piece : List ℕ) (bytes : ℕ) (event : Event) : Type 0 whe
   pub last : events_from Nothing (take (bytes - 1) piece) ≡ []
   pub is_event : IsEvent event
 
--- ---- what a piece begins with
+-- ---- what a chunk begins with
 
 -- a control of C0 other than CAN and ESC, or the 8-bit form of one of C1 that opens nothing
 abbrev pub IsControl : ℕ → Type 0
@@ -54,7 +54,7 @@ AreFirst f = (slice_index (front_list f) 0 ≡ f.first) × (slice_index (front_l
 
 -- ---- which escape sequences there are, by their bytes
 
--- ESC and a final byte 30..7E that stands for no C1 control which opens something
+-- ESC and a final byte 30..7E that isn't the 7-bit form of a C1 control which opens something
 abbrev pub BeginsWithShortEscape : List ℕ → Type 0
 BeginsWithShortEscape piece =
     (2 ≤ length piece) × (slice_index piece 0 ≡ 0x1B) × IsEnding (held.Escape Zero) (slice_index piece 1)

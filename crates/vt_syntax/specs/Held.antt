@@ -52,7 +52,7 @@ pub record IsHeldPart (held : Held) : Type 0 where
 
 -- ---- spelling
 
--- the marker, the values in decimal with `;` between them, and a last `;` where a 17th began
+-- the marker, the values in decimal with `;` between them, and a last `;` if a 17th began
 abbrev pub spell_values : Option ℕ → List ℕ → Bool → List ℕ
 spell_values marker values full =
     option_to_list marker ++ join_with_byte 0x3B (map decimal values) ++ (if full then 0x3B ∷ [] else [])

@@ -124,7 +124,7 @@ abbrev pub IsRest : Option Beginning → Type 0
 IsRest None = Unit {0}
 IsRest (Some beginning) = IsBeginning beginning
 
--- it is an item where these bytes follow it
+-- whether it is an item if these bytes follow it
 abbrev pub IsItemBefore : List ℕ → Item → Type 0
 IsItemBefore after (Single b) = is_opener b ≡ false
 IsItemBefore after (Ended beginning last) = IsBeginning beginning × (ends beginning last ≡ true)

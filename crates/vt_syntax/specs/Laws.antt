@@ -12,7 +12,7 @@ use Rattle.vt_syntax.specs.Reading.{single_function, rest_reading, events_of}
 use Rattle.vt_syntax.specs.Held.{held_of, held_after, IsHeldPart, spell, events_from, held_from}
 use Rattle.vt_syntax.specs.Spelling.{IsEvent, spell_event, spell_events}
 
--- one split, held parts, and bytes in pieces
+-- one split, held parts, and bytes in chunks
 pub record SplitLaw : Type 0 where
   -- each byte list has a split, and no other
   pub some : (bytes : List ℕ) → Split bytes (split_of bytes).items (split_of bytes).rest
@@ -31,7 +31,7 @@ pub record SplitLaw : Type 0 where
   -- no bytes have no events, and change nothing
   pub events_nil : (held : Held) → IsHeldPart held → events_from held [] ≡ []
   pub held_nil : (held : Held) → IsHeldPart held → held_from held [] ≡ held
-  -- bytes in two pieces have the events of the first, and then those of the second after the held part between them
+  -- bytes in two chunks have the events of the first, and then those of the second after the held part between them
   pub events_append : (held : Held) (first second : List ℕ)
       → events_from held (first ++ second) ≡ events_from held first ++ events_from (held_from held first) second
   pub held_append : (held : Held) (first second : List ℕ)
@@ -39,7 +39,7 @@ pub record SplitLaw : Type 0 where
 
 -- the C0 controls below CAN (ECMA-48 5.4; that they are carried out inside a sequence is this profile)
 pub record ControlLaw : Type 0 where
-  -- such a control is carried out once where it stands, between sequences and inside one
+  -- such a control is carried out once, at its byte, between sequences and inside one
   pub carried_out : (held : Held) (c : ℕ) → IsHeldPart held → c < 0x18 → ((osc : Bool) → held ≢ Text osc)
       → count_by (is_control c) (events_from held (c ∷ [])) ≡ 1
   -- in a control string it isn't

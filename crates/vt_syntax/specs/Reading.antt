@@ -13,7 +13,7 @@ use Rattle.vt_syntax.specs.Items.{Opening, EightBit, SevenBit, Beginning, OfEsca
 use Rattle.vt_syntax.specs.Items.{Ended, Cut, inters_of}
 use Rattle.vt_syntax.specs.Split.{Parts, split_of}
 
--- ---- the controls inside a sequence, carried out where they stand (this profile)
+-- ---- the controls inside a sequence, carried out at their bytes (this profile)
 
 -- a quiet byte is a C0 control, or DEL, which has no effect
 abbrev pub quiet_control : ℕ → List Event
@@ -73,13 +73,13 @@ abbrev pub is_many : Inters → Bool
 is_many Many = true
 is_many _ = false
 
--- a parameter byte stands after an intermediate
+-- whether a parameter byte follows an intermediate
 abbrev pub has_late_parameter : List ℕ → Bool
 has_late_parameter [] = false
 has_late_parameter (b ∷ bytes) =
     if is_intermediate b then list_any is_parameter bytes else has_late_parameter bytes
 
--- a 3C..3F stands after the first byte
+-- whether a 3C..3F comes after the first byte
 abbrev pub has_late_marker : List ℕ → Bool
 has_late_marker [] = false
 has_late_marker (b ∷ bytes) = list_any is_marker bytes

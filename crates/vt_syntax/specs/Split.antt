@@ -9,7 +9,7 @@ use Rattle.vt_syntax.specs.Items.{Cut, item_bytes, rest_bytes, inters_of, introd
 abbrev pub bytes_of : List Item → Option Beginning → List ℕ
 bytes_of items rest = flat_map item_bytes items ++ rest_bytes rest
 
--- each is an item where it stands, before the bytes of those after it
+-- each is an item if the bytes of those after it follow
 abbrev pub AreItems : List Item → Option Beginning → Type 0
 AreItems [] rest = IsRest rest
 AreItems (item ∷ items) rest = IsItemBefore (bytes_of items rest) item × AreItems items rest
@@ -21,7 +21,7 @@ pub record Split (bytes : List ℕ) (items : List Item) (rest : Option Beginning
 
 -- ---- the split, computed
 
--- items, and the beginning that stands after them, if there is one
+-- items, and the beginning that follows them, if there is one
 pub record Parts : Type 0 where
   pub items : List Item
   pub rest : Option Beginning
@@ -38,7 +38,7 @@ rest_alone beginning = record { items = []; rest = Some beginning }
 abbrev pub items_before : List Item → Parts → Parts
 items_before items parts = record { items = items ++ parts.items; rest = parts.rest }
 
--- a byte after no rest: it begins something, or stands by itself
+-- a byte after no rest: it begins something, or is an item by itself
 abbrev pub begin : ℕ → Parts
 begin b =
     if b == 0x1B then rest_alone (OfEscape []) else (

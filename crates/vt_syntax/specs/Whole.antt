@@ -1,5 +1,4 @@
--- A sequence that stands whole in a piece, by steps. Contracts of private functions cite this, and no public clause
--- does.
+-- A sequence that is whole in a chunk, by steps. Only contracts of private functions cite this.
 use Rattle.std.specs.Prelude.{◌≡◌, ◌≤◌, ◌-◌, ℕ, List, [], ◌∷◌, length, take, Option, Some, None, false}
 use Rattle.vt_syntax.specs.declared.event.EventKind.{EventKind}
 use Rattle.vt_syntax.specs.declared.held.Held.{Held}
@@ -9,7 +8,7 @@ use Rattle.vt_syntax.specs.declared.held.Phase.TheVariants.{Start, Values}
 use Rattle.vt_syntax.specs.Event.{event_of}
 use Rattle.vt_syntax.specs.Steps.{step_to, IsEarly, steps}
 
--- these bytes at the front of the piece are one event, which the last of them completes, and nothing is held after it
+-- these bytes at the front of the chunk are one event, which the last of them completes, and nothing is held after it
 pub record IsWhole (piece values : List ℕ) (bytes : ℕ) (kind : EventKind) : Type 0 where
   pub some : 1 ≤ bytes
   pub within : bytes ≤ length piece

@@ -2,10 +2,10 @@
 ghost use Rattle.std.specs.Prelude.{◌≡◌};
 ghost use Rattle.vt_syntax.specs.Class.{class_of as byte_class};
 
-/// What a byte is inside an escape or control sequence.
+/// The class of a byte inside an escape or control sequence (ECMA-48 5.4, ECMA-35 13; this profile).
 #[derive(Clone, Copy, Debug, PartialEq, Eq)]
 pub enum Class {
-    /// 00..17, 19, 1C..1F, which are carried out at once, and 7F, which does nothing; the sequence goes on.
+    /// 00..17, 19 and 1C..1F, which are carried out at once, and 7F, which does nothing. The sequence goes on.
     Quiet,
     /// 18 and 1A: the sequence ends.
     Cancel,
@@ -17,11 +17,11 @@ pub enum Class {
     Parameter,
     /// 40..7E.
     Final,
-    /// 80..FF: the sequence is over, and the byte stands by itself.
+    /// 80..FF: the sequence ends, and the byte is read as if it came between sequences.
     High,
 }
 
-/// The class of a byte.
+/// Returns the class of a byte.
 #[tactic(auto, using(crate::proofs::Classes::class_tests), unfolding(crate::specs::Class::class_of))]
 pub fn class_of(b: u8) -> Class
     ensures { result ≡ byte_class b }

@@ -1,4 +1,4 @@
-//! Speed: content of strings, found by lanes.
+//! Speed: the content of strings, searched by vectors of bytes.
 ghost use Rattle.std.specs.Prelude.{◌≡◌, ◌≤◌, Bool, [], length, take};
 ghost use Rattle.vt_syntax.specs.declared.held.Held.TheVariants.{Text};
 ghost use Rattle.vt_syntax.specs.Content.{goes_on};
@@ -7,7 +7,7 @@ ghost use Rattle.vt_syntax.specs.Steps.{step_to, steps};
 use crate::lanes::{ByteClass, end_of};
 use std::simd::prelude::*;
 
-/// The bytes that surely go on a string, of any kind.
+/// The bytes that can't end a string of any kind.
 struct Content;
 
 impl ByteClass for Content {
@@ -18,7 +18,7 @@ impl ByteClass for Content {
         !matches!(byte, 0x07 | 0x18..=0x1B | 0x9C)
     }
 
-    /// It may end a string where it is one of the four bytes from 18 on, or 9C, or 07.
+    /// Returns a bit for each byte that may end a string: one of the four bytes starting at 18, or 9C, or 07.
     #[inline(always)]
     fn ends_16(lanes: u8x16) -> u64 {
         let ends = (lanes - u8x16::splat(0x18)).simd_lt(u8x16::splat(4));
@@ -36,7 +36,7 @@ impl ByteClass for Content {
     }
 }
 
-/// How many bytes at the front of a piece surely go on a string, of any kind. They give no event.
+/// Returns how many bytes at the front of a chunk can't end a string of any kind. They give no event.
 pub(crate) fn content_len(piece: &[u8]) -> usize
     ensures within { result ≤ length piece.now }
     ensures content { (osc : Bool) → steps (Text osc) (take result piece.now) ≡ step_to (Text osc) [] }

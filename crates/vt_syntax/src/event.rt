@@ -1,4 +1,4 @@
-//! What bytes ask for.
+//! Events: what bytes ask for.
 use arrayvec::ArrayVec;
 
 /// One thing that bytes ask for: a graphic byte, a control, or an escape or control sequence.
@@ -30,7 +30,7 @@ pub enum Event {
     },
 }
 
-/// An event without the values of a control sequence, which stand beside it.
+/// An event without the values of a control sequence, which are in a separate [`Values`](crate::Values).
 #[derive(Clone, Copy, Debug, PartialEq, Eq)]
 pub enum EventKind {
     /// A graphic byte, 20..7E or A0..FF.
@@ -55,11 +55,11 @@ pub enum EventKind {
     },
 }
 
-/// What was taken from the front of a piece.
+/// The bytes that were read from the front of a chunk, and their event.
 #[derive(Clone, Copy, Debug, PartialEq, Eq)]
 pub struct Taken {
-    /// How many bytes.
+    /// The number of bytes.
     pub bytes: usize,
-    /// The event that the last of them completes; none where the piece ends before an event.
+    /// The event that the last of these bytes completes, or `None` if the chunk ends before an event.
     pub event: Option<EventKind>,
 }

@@ -1,7 +1,8 @@
-//! What stands whole at the front of a piece, between sequences: it is read from the piece, and never held.
+//! Fronts: events that are whole at the front of a chunk, between sequences. They are read from the chunk, and never
+//! held.
 //!
-//! A terminal asks [`Front::of`] what a piece begins with, and reads what frequently follows by the function of that kind, so that
-//! the kind is known when its dispatchers are compiled. Speed: all other sequences are read by [`front_event`], for `Parser::next`.
+//! A terminal asks [`Front::of`] for the kind of the front. A function of that kind reads what is frequent, so that the
+//! kind is known when its dispatcher is compiled. Speed: [`front_event`] reads all other fronts, for `Parser::next`.
 ghost use Rattle.std.specs.Prelude.{◌≡◌, ◌+◌, ◌-◌, ◌<◌, ◌≤◌, ℕ, List, [], ◌∷◌, ◌++◌, Option, Some, None, IfSome, IsTrue, ◌↔◌};
 ghost use Rattle.std.specs.Prelude.{IsSome, length, take, slice_index};
 ghost use Rattle.std.specs.Bool.{OnTrue};
@@ -19,7 +20,7 @@ ghost use Rattle.vt_syntax.specs.Whole.{IsWhole, AreRead, begun};
 use crate::event::EventKind;
 use crate::values::Values;
 
-/// What a piece begins with, between sequences.
+/// What a chunk begins with, between sequences.
 #[derive(Clone, Copy, Debug, PartialEq, Eq)]
 pub enum Front {
     /// ESC.
@@ -30,7 +31,7 @@ pub enum Front {
     Plain,
     /// A byte of the right graphic area, A1 to FE.
     Right,
-    /// A0 or FF: a graphic byte at which no set has a glyph.
+    /// A0 or FF: a graphic byte for which no set has a glyph.
     Empty,
     /// CR.
     CarriageReturn,
@@ -43,9 +44,9 @@ pub enum Front {
 /// The first values of a control sequence, and the byte after them.
 #[derive(Clone, Copy, Debug)]
 pub struct FrontValues {
-    /// How many bytes they are, from the introducer to the byte after the values.
+    /// The number of bytes, from the introducer to the byte after the values.
     pub bytes: usize,
-    /// How many values, 1 to 3. (The third is read only of SGR.)
+    /// The number of values, 1 to 3. The third is read only for SGR.
     pub count: usize,
     /// The first value.
     pub first: u16,
@@ -58,7 +59,7 @@ pub struct FrontValues {
 }
 
 impl Front {
-    /// Returns what a piece begins with.
+    /// Returns what a chunk begins with.
     #[inline(always)]
     pub fn of(piece: &[u8]) -> Front
         requires some { 1 ≤ length piece.now }
@@ -85,9 +86,11 @@ impl Front {
     }
 }
 
-/// Reads the first values of a control sequence without a marker, whose introducer is `ESC [`, and the byte after them.
+/// Reads the first values of a control sequence whose introducer is `ESC [` and that has no marker. It also reads the
+/// byte after them.
 ///
-/// Returns `None` if none stands there, if fewer than ten bytes are left, and for three values that aren't those of SGR.
+/// Returns `None` if there is no such sequence, if fewer than ten bytes remain, and for three values that aren't those
+/// of SGR.
 #[inline(always)]
 pub fn front_values(piece: &[u8]) -> Option<FrontValues>
     ensures front { IfSome result (λ f. IsFinal f.last
@@ -147,8 +150,8 @@ pub fn is_final(b: u8) -> bool
     0x40 <= b && b < 0x7F
 }
 
-/// Returns the intermediate and the final byte of an escape sequence of three bytes. Returns `None` exactly if none
-/// stands whole at the front.
+/// Returns the intermediate and the final byte of an escape sequence of three bytes. Returns `None` if and only if no
+/// such sequence is whole at the front.
 #[inline(always)]
 pub fn front_escape(piece: &[u8]) -> Option<(u8, u8)>
     ensures front { IfSome result (λ t. IsFront piece.now 3 (event.Escape (Some t.0) t.1)) }
@@ -165,8 +168,8 @@ pub fn front_escape(piece: &[u8]) -> Option<(u8, u8)>
     None
 }
 
-/// Returns the event of an escape sequence of two bytes, which may be the 7-bit form of a C1 control. Returns `None`
-/// exactly if none stands whole at the front.
+/// Returns the event of an escape sequence of two bytes, which may be the 7-bit form of a C1 control. Returns `None` if
+/// and only if no such sequence is whole at the front.
 #[inline(always)]
 pub fn front_short_escape(piece: &[u8]) -> Option<EventKind>
     ensures front { IfSome result (λ kind. (values : List ℕ) → IsFront piece.now 2 (event_of kind values)) }
@@ -192,10 +195,10 @@ fn is_single_control(b: u8) -> bool
     }
 }
 
-/// Reads the event that stands whole at the front of a piece: a byte by itself, or a sequence. Returns its length and kind.
+/// Reads the event that is whole at the front of a chunk: a byte by itself, or a sequence. Returns its length and kind.
 ///
-/// Returns `None` if none stands there, and for what is rare: more than 16 values, a value of four digits, a byte inside
-/// that has a function of its own, or fewer than four bytes left.
+/// Returns `None` if there is none, and for rare forms: more than 16 values, a value of four digits, or a control
+/// inside. It also returns `None` if fewer than four bytes remain.
 #[inline(always)]
 pub(crate) fn front_event(piece: &[u8], values: &mut Values) -> Option<(usize, EventKind)>
     ensures { IfSome result (λ t. IsWhole piece.now values.new t.0 t.1) }
@@ -248,7 +251,7 @@ fn front_sequence(piece: &[u8], from: usize, values: &mut Values) -> Option<(usi
     front_sequence_with(piece, at, marker, values)
 }
 
-/// Reads the intermediate at `at`, after the values of a control sequence, and its final byte.
+/// Reads the intermediate at `at`, after the values of a control sequence, and the final byte.
 #[inline(never)]
 fn front_sequence_with(
     piece: &[u8],
@@ -277,7 +280,7 @@ fn front_sequence_with(
     ))
 }
 
-/// Returns the marker at a place, and the place after it.
+/// Returns the marker at `from`, if there is one, and the position after it.
 #[inline(always)]
 fn marker_at(piece: &[u8], from: usize) -> (Option<u8>, usize)
     requires { from ≤ length piece.now }
@@ -292,8 +295,8 @@ fn marker_at(piece: &[u8], from: usize) -> (Option<u8>, usize)
     }
 }
 
-/// Reads the values from a place on, and returns the place after them. Returns `None` after the 16th, and if fewer than
-/// four bytes are left.
+/// Reads the values that begin at `start`, and returns the position after them. Returns `None` after the 16th, and if
+/// fewer than four bytes remain.
 #[inline(always)]
 fn read_values(piece: &[u8], start: usize, marker: Option<u8>, values: &mut Values) -> Option<usize>
     requires within { start ≤ length piece.now }
@@ -305,7 +308,7 @@ fn read_values(piece: &[u8], start: usize, marker: Option<u8>, values: &mut Valu
     Some(at)
 }
 
-/// Reads them into the front of a list, and returns how many they are. (Speed: they are counted in a register.)
+/// Reads values into the front of a list, and returns how many there are. (Speed: they are counted in a register.)
 #[inline(always)]
 fn read_list(
     piece: &[u8],
@@ -332,7 +335,7 @@ fn read_list(
     None
 }
 
-/// Reads a value of at most three digits, and returns it and the place after it.
+/// Reads a value of at most three digits, and returns it and the position after it.
 #[inline(always)]
 fn read_value(piece: &[u8], at: usize) -> (u16, usize)
     requires { at + 4 ≤ length piece.now }
@@ -353,7 +356,7 @@ fn read_value(piece: &[u8], at: usize) -> (u16, usize)
     ((100 * a + 10 * b + c) as u16, at + 3)
 }
 
-/// Returns the number that a digit stands for. (Speed: of a byte the compiler would widen it again at each use.)
+/// Returns the value of a digit. (Speed: the compiler would widen a byte again at each use.)
 #[inline(always)]
 fn digit(b: u8) -> Option<u32>
     ensures number { IfSome result (λ d. (48 ≤ b) × (b ≤ 57) × (d ≡ b - 48)) }
@@ -362,7 +365,7 @@ fn digit(b: u8) -> Option<u32>
     if d < 10 { Some(d) } else { None }
 }
 
-/// Reads the sequence that begins with the ESC at the front of a piece.
+/// Reads the sequence that begins with the ESC at the front of a chunk.
 #[inline(always)]
 fn front_after_escape(piece: &[u8], values: &mut Values) -> Option<(usize, EventKind)>
     requires long { 2 ≤ length piece.now }
@@ -379,7 +382,7 @@ fn front_after_escape(piece: &[u8], values: &mut Values) -> Option<(usize, Event
     Some((3, EventKind::Escape { inter, last }))
 }
 
-/// Returns whether a byte after ESC ends an escape sequence: a final byte, but for the letters of the C1 controls that
+/// Returns whether a byte after ESC ends an escape sequence: a final byte, except the letters of the C1 controls that
 /// open something.
 #[inline(always)]
 #[tactic(auto, using(crate::proofs::Classes::class_tests), unfolding(crate::specs::Class::opens_string))]
@@ -394,7 +397,7 @@ pub(crate) fn ends_escape(b: u8) -> bool
     }
 }
 
-/// Returns the event of ESC and a final byte: 40..5F stand for the C1 control that is 40 higher.
+/// Returns the event of ESC and a final byte. 40..5F are the C1 controls that are 40 higher.
 #[inline(always)]
 pub(crate) fn plain_escape(last: u8) -> EventKind
     requires { last < 0x80 }

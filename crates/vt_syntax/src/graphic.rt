@@ -1,4 +1,4 @@
-//! Speed: runs of bytes of the graphic areas, found by lanes.
+//! Speed: runs of bytes of the graphic areas, searched by vectors of bytes.
 ghost use Rattle.std.specs.Prelude.{◌≡◌, ◌<◌, ◌≤◌, length, take, slice_index, All};
 ghost use Rattle.std.specs.Bool.{OnTrue};
 ghost use Rattle.vt_syntax.specs.Class.{is_in_areas, IsInAreas};
@@ -17,7 +17,8 @@ impl ByteClass for Graphic {
         is_in_areas(byte)
     }
 
-    /// Less 20 it is above 5E, and less A1 above 5D, both with wrapping.
+    /// Returns a bit for each byte that is in neither area: less 20 it is above 5E, and less A1 above 5D, both with
+    /// wrapping.
     #[inline(always)]
     fn ends_16(lanes: u8x16) -> u64 {
         let not_left = u8x16::splat(0x5E).simd_lt(lanes - u8x16::splat(0x20));
@@ -33,7 +34,7 @@ impl ByteClass for Graphic {
     }
 }
 
-/// Returns whether a byte is of one of the two graphic areas of the code table, or the space: 20..7E or A1..FE.
+/// Returns whether a byte is in one of the two graphic areas of the code table, or is the space: 20..7E or A1..FE.
 #[inline(always)]
 fn is_in_areas(byte: u8) -> bool
     ensures tells { result ≡ is_in_areas byte }
@@ -42,7 +43,7 @@ fn is_in_areas(byte: u8) -> bool
     (0x20 <= byte && byte <= 0x7E) || (0xA1 <= byte && byte <= 0xFE)
 }
 
-/// Returns how many bytes of `piece`, from the first on, are of the graphic areas.
+/// Returns how many bytes at the front of `piece` are of the graphic areas, 20..7E or A1..FE.
 #[inline(always)]
 pub fn graphic_run(piece: &[u8]) -> usize
     ensures within { result ≤ length piece.now }

@@ -1,13 +1,13 @@
-//! What of an unfinished sequence decides how it goes on.
+//! The held part: what decides how an unfinished sequence goes on.
 ghost use Rattle.std.specs.Prelude.{◌≡◌};
 ghost use Rattle.vt_syntax.specs.Held.{phase_inter};
 
 use arrayvec::ArrayVec;
 
-/// The held part: what of an unfinished sequence or string decides how it goes on.
+/// The held part: the parts of an unfinished sequence or string that decide how it goes on.
 #[derive(Clone, Debug, PartialEq, Eq, Drop)]
 pub enum Held {
-    /// Between sequences.
+    /// Nothing is held: the parser is between sequences.
     Nothing,
     /// ESC and intermediates.
     Escape(Inters),
@@ -23,9 +23,9 @@ pub enum Held {
         /// How far it has come.
         phase: Phase,
     },
-    /// A control sequence that has no function, whatever comes before its final byte.
+    /// A spoilt control sequence: it has no function, whatever comes before its final byte.
     Spoilt,
-    /// A string: DCS, SOS, PM or APC, or OSC, which BEL ends too.
+    /// A string: DCS, SOS, PM or APC, or OSC, which BEL also ends.
     Text {
         /// Whether it is OSC.
         osc: bool,
@@ -33,7 +33,7 @@ pub enum Held {
 }
 
 impl Held {
-    /// Returns the same held part. It never fails and takes no memory.
+    /// Returns a copy of the held part. It never fails and doesn't allocate.
     pub(crate) fn copied(&self) -> Held
         ensures { result ≡ self.now }
     {
@@ -61,7 +61,7 @@ impl Held {
     }
 }
 
-/// The intermediates of an escape sequence: of two or more, which have no function, it doesn't matter which.
+/// The intermediates of an escape sequence. A sequence with two or more has no function, so they aren't kept.
 #[derive(Clone, Copy, Debug, PartialEq, Eq)]
 pub enum Inters {
     /// None has come.
@@ -84,7 +84,7 @@ pub enum Phase {
 }
 
 impl Phase {
-    /// The intermediate, if one has come.
+    /// Returns the intermediate, if one has come.
     #[inline]
     pub fn inter(&self) -> Option<u8>
         ensures { result ≡ phase_inter self.now }

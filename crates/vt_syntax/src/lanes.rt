@@ -1,29 +1,30 @@
-//! Speed: where a run of bytes of one class ends, looked for by lanes. Going byte by byte finds the same end.
+//! Speed: the end of a run of bytes of one class, searched by vectors of bytes. A search byte by byte finds the same
+//! end.
 ghost use Rattle.std.specs.Prelude.{◌≡◌, ◌+◌, ◌≤◌, ℕ, Bool, length, map, not, drop};
 ghost use Rattle.std.specs.List.{prefix_len};
 ghost use Rattle.std.specs.Simd.Lanes.{mask_l};
 
 use std::simd::prelude::*;
 
-/// A class of bytes, by its test: of one byte, and of each lane of a vector.
+/// A class of bytes, by its test of one byte, and of each lane of a vector.
 pub(crate) trait ByteClass {
     ghost test: { ℕ → Bool };
 
-    /// Whether a byte is of the class.
+    /// Returns whether a byte is of the class.
     fn has(byte: u8) -> bool
         ensures { result ≡ test byte };
 
-    /// A bit for each lane that isn't of the class.
+    /// Returns a bit for each lane that isn't of the class.
     fn ends_16(lanes: u8x16) -> u64
         ensures { result ≡ mask_l (map (λ b. not (test b)) lanes) };
 
-    /// A bit for each lane that isn't of the class.
+    /// Returns a bit for each lane that isn't of the class.
     fn ends_8(lanes: u8x8) -> u64
         ensures { result ≡ mask_l (map (λ b. not (test b)) lanes) };
 }
 
-/// The place of the first byte that isn't of the class, or the length, looked for a vector of 16 bytes at a time. (Most
-/// runs end in the first vector, which therefore stands before the loop.)
+/// Returns the position of the first byte that isn't of the class, or the length. Searches 16 bytes at a time. (Most
+/// runs end in the first vector, so it comes before the loop.)
 #[inline(always)]
 pub(crate) fn end_of<C: ByteClass>(piece: &[u8]) -> usize
     ensures { result ≡ prefix_len C.test piece.now }
@@ -38,7 +39,7 @@ pub(crate) fn end_of<C: ByteClass>(piece: &[u8]) -> usize
     end_from::<C>(piece, 16)
 }
 
-/// The same from a place on.
+/// Returns the position of the first byte at or after `from` that isn't of the class, or the length.
 #[inline(always)]
 fn end_from<C: ByteClass>(piece: &[u8], from: usize) -> usize
     requires { from ≤ length piece.now }
@@ -55,7 +56,7 @@ fn end_from<C: ByteClass>(piece: &[u8], from: usize) -> usize
     end_of_8::<C>(piece, at)
 }
 
-/// The same from `at` on, where fewer than 16 bytes are left.
+/// Returns the same starting at `at`, if fewer than 16 bytes remain.
 #[inline(always)]
 fn end_of_8<C: ByteClass>(piece: &[u8], at: usize) -> usize
     requires { at ≤ length piece.now }
@@ -71,7 +72,7 @@ fn end_of_8<C: ByteClass>(piece: &[u8], at: usize) -> usize
     end_of_slowly::<C>(piece, at + 8)
 }
 
-/// The same, a byte at a time.
+/// Returns the same, byte by byte.
 #[inline(always)]
 fn end_of_slowly<C: ByteClass>(piece: &[u8], from: usize) -> usize
     requires { from ≤ length piece.now }

@@ -1,9 +1,11 @@
-//! The syntax of a terminal's input (ECMA-48, ECMA-35, EK-VT220-RM): bytes, one at a time, into events.
+//! The syntax of a terminal's input (ECMA-48, ECMA-35, EK-VT220-RM): from bytes, one at a time, to events.
 //!
-//! A byte list has one split into items (single bytes, escape sequences, control sequences, strings and cuts) and a
-//! rest; its events are the reading of these. [`Parser`] takes the bytes of pieces in turn and holds, in bounded room,
-//! as much of the rest as decides how it goes on; [`laws`] has what a caller may conclude of longer byte lists. Nothing
-//! here takes memory or refuses a byte.
+//! A byte list has exactly one split into items and a rest. An item is a single byte, an escape sequence, a control
+//! sequence, a string or a cut. The events of the bytes are read from their items.
+//!
+//! [`Parser`] reads the bytes of successive chunks. It keeps the held part, which is bounded: what decides how an
+//! unfinished sequence goes on. [`laws`] has what a caller may conclude about longer byte lists. Nothing here allocates
+//! or rejects a byte.
 #![tactic(auto)]
 
 mod class;

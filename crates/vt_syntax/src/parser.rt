@@ -1,4 +1,4 @@
-//! The parser: bytes, one at a time, into events.
+//! The parser: from bytes, one at a time, to events.
 ghost use Rattle.std.specs.Prelude.{◌≡◌, ◌-◌, ◌<◌, ◌≤◌, [], ◌∷◌, IsTrue, ◌↔◌, IfSome, IfNone, length, take};
 ghost use Rattle.std.specs.Option.{option_to_list};
 ghost use Rattle.vt_syntax.specs.Held.{IsHeldPart, events_from, held_from};
@@ -14,7 +14,7 @@ use crate::values::Values;
 use arrayvec::ArrayVec;
 use std::marker::Model;
 
-/// Reads bytes, and keeps the held part: as much of an unfinished sequence as decides how it goes on.
+/// A parser. It keeps the held part: what decides how an unfinished sequence goes on.
 #[derive(Clone, Debug, PartialEq, Eq, Drop)]
 pub struct Parser {
     held: Held,
@@ -34,7 +34,7 @@ impl Model for Parser {
 }
 
 impl Parser {
-    /// A parser between sequences.
+    /// Returns a parser between sequences.
     pub fn new() -> Self
         ensures { result ≡ Held.Nothing }
     {
@@ -43,9 +43,9 @@ impl Parser {
         }
     }
 
-    /// Takes the next byte, and answers the event that it completes, if there is one.
+    /// Reads the next byte, and returns the event that it completes, if there is one.
     ///
-    /// The event is that of the split of the held part's spelling and the byte; the new held part is that of its rest.
+    /// The event and the new held part are those of the split of the held part's spelling and the byte.
     #[inline(always)]
     pub fn push(&mut self, b: u8) -> Option<Event>
         ensures event { option_to_list result ≡ events_from self.old (b ∷ []) }
@@ -55,11 +55,11 @@ impl Parser {
         step_with_values(&mut self.held, b)
     }
 
-    /// Takes the bytes of a piece up to and including the first that completes an event, or all of them if none does.
-    /// Returns how many it took, and the event. The values of a control sequence are put into `values`.
+    /// Reads the bytes of a chunk up to and including the first that completes an event. Reads all of them if none
+    /// does. Returns how many it read, and the event. It writes the values of a control sequence into `values`.
     ///
-    /// [`Parser::push`] takes these bytes one by one to the same event and held part. A sequence that stands whole in
-    /// the piece is read from it, and one that pieces cut from what is held: both come in this one form.
+    /// [`Parser::push`] called for these bytes one by one gives the same event and held part. A sequence may be whole
+    /// in the chunk or cut by chunks: the result has the same form.
     #[inline(always)]
     pub fn next(&mut self, piece: &[u8], values: &mut Values) -> Taken
         ensures some { 1 ≤ length piece.now → 1 ≤ result.bytes }
@@ -73,7 +73,7 @@ impl Parser {
         next_event(&mut self.held, piece, values)
     }
 
-    /// Another parser that holds the same.
+    /// Returns a parser with the same held part.
     pub fn copied(&self) -> Parser
         ensures { result ≡ self.now }
     {
@@ -82,7 +82,7 @@ impl Parser {
         }
     }
 
-    /// The held part: as much of an unfinished sequence as decides how it goes on.
+    /// Returns the held part: what decides how an unfinished sequence goes on.
     pub fn held(&self) -> &Held
         ensures value { result.now ≡ self.now }
         ensures held_part { IsHeldPart self.now }
@@ -90,7 +90,7 @@ impl Parser {
         &self.held
     }
 
-    /// Whether the parser is between sequences.
+    /// Returns whether the parser is between sequences.
     pub fn is_between(&self) -> bool
         ensures { IsTrue result ↔ (self.now ≡ Held.Nothing) }
     {
@@ -98,7 +98,7 @@ impl Parser {
     }
 }
 
-/// The front of a piece as far as the first event: a sequence that stands whole in it, or bytes one by one.
+/// Reads the front of a chunk up to the first event: a sequence that is whole in it, or bytes one by one.
 #[inline(always)]
 fn next_event(held: &mut Held, piece: &[u8], values: &mut Values) -> Taken
     ensures some { 1 ≤ length piece.now → 1 ≤ result.bytes }
@@ -118,7 +118,7 @@ fn next_event(held: &mut Held, piece: &[u8], values: &mut Values) -> Taken
     next_held(held, piece, values)
 }
 
-/// The same, byte by byte.
+/// Reads the front of a chunk up to the first event, byte by byte.
 #[inline(never)]
 fn next_held(held: &mut Held, piece: &[u8], values: &mut Values) -> Taken
     ensures some { 1 ≤ length piece.now → 1 ≤ result.bytes }
@@ -141,7 +141,7 @@ fn next_held(held: &mut Held, piece: &[u8], values: &mut Values) -> Taken
     Taken { bytes, event: None }
 }
 
-/// The event of one byte after a held part, with its values.
+/// Reads one byte after a held part, and returns its event with its values.
 fn step_with_values(held: &mut Held, b: u8) -> Option<Event>
     ensures holds { held.new ≡ (step_of held.old b).held }
     ensures tells { option_to_list result ≡ (step_of held.old b).events }
@@ -153,7 +153,7 @@ fn step_with_values(held: &mut Held, b: u8) -> Option<Event>
     }
 }
 
-/// The event of this kind, with these values where it is a control sequence.
+/// Returns the event of this kind, with these values if it is a control sequence.
 fn with_values(kind: EventKind, values: &Values) -> Event
     ensures { result ≡ event_of kind values.now }
 {

@@ -1,11 +1,11 @@
-//! Speed: runs of plain bytes, found by lanes.
+//! Speed: runs of plain bytes, searched by vectors of bytes.
 ghost use Rattle.std.specs.Prelude.{◌≡◌, ◌<◌, ◌≤◌, length, take, slice_index, All};
 ghost use Rattle.vt_syntax.specs.Class.{is_plain, IsPlain};
 
 use crate::lanes::{ByteClass, end_of};
 use std::simd::prelude::*;
 
-/// The plain bytes.
+/// The plain bytes, 20..7E.
 struct Plain;
 
 impl ByteClass for Plain {
@@ -16,7 +16,7 @@ impl ByteClass for Plain {
         0x20 <= byte && byte < 0x7F
     }
 
-    /// Less 20, with wrapping, it is above 5E.
+    /// Returns a bit for each byte that isn't plain: less 20, with wrapping, it is above 5E.
     #[inline(always)]
     fn ends_16(lanes: u8x16) -> u64 {
         u8x16::splat(0x5E)
@@ -32,7 +32,7 @@ impl ByteClass for Plain {
     }
 }
 
-/// How many bytes of `piece`, from the first on, are plain, that is 20..7E.
+/// Returns how many bytes at the front of `piece` are plain, 20..7E.
 pub fn plain_run(piece: &[u8]) -> usize
     ensures within { result ≤ length piece.now }
     ensures plain { All IsPlain (take result piece.now) }

@@ -1,4 +1,4 @@
-//! One byte after a held part: what is held then, and the event that the byte gives.
+//! One byte after a held part: the new held part, and the event that the byte gives.
 ghost use Rattle.std.specs.Prelude.{◌≡◌, ◌<◌, ◌≤◌, ℕ, List, [], ◌∷◌, Option, Bool, length, take};
 ghost use Rattle.std.specs.Bool.{OnTrue, OnFalse};
 ghost use Rattle.vt_syntax.specs.Class.{class_of as byte_class};
@@ -18,8 +18,8 @@ use crate::held::{Held, Inters, Phase};
 use crate::values::Values;
 use arrayvec::ArrayVec;
 
-/// Takes one byte after a held part, and answers the event that it gives, if there is one. The values of a control
-/// sequence are put into `values`. (It is compiled in the place of each call, so that no event goes through memory.)
+/// Reads one byte after a held part, and returns its event, if there is one. It writes the values of a control sequence
+/// into `values`. (It is inlined in each caller, so that no event goes through memory.)
 #[inline(always)]
 #[tactic(auto, unfolding(crate::specs::Steps::step_of))]
 pub(crate) fn step(held: &mut Held, b: u8, values: &mut Values) -> Option<EventKind>
@@ -71,7 +71,7 @@ pub(crate) fn step(held: &mut Held, b: u8, values: &mut Values) -> Option<EventK
     }
 }
 
-/// Takes the content at the front of a piece, in a string: all of it or a part.
+/// Returns how many bytes of a string's content at the front of a chunk can be read at once: all of it or a part.
 #[inline(always)]
 #[tactic(auto, unfolding(crate::specs::Steps::steps))]
 pub(crate) fn hold_content(held: &Held, piece: &[u8]) -> usize
@@ -84,7 +84,7 @@ pub(crate) fn hold_content(held: &Held, piece: &[u8]) -> usize
     }
 }
 
-/// A byte between sequences, or one that cuts a sequence off: it opens something, or stands by itself.
+/// Reads a byte between sequences, or one that cuts a sequence off: it opens something, or is read by itself.
 #[tactic(auto, using(crate::proofs::Classes::class_tests), unfolding(crate::specs::Class::opens_string))]
 fn step_between(held: &mut Held, b: u8) -> Option<EventKind>
     ensures { (values : List ℕ) → between b ≡ step_to held.new (event_in result values) }
@@ -100,7 +100,7 @@ fn step_between(held: &mut Held, b: u8) -> Option<EventKind>
     None
 }
 
-/// What a C1 control that opens something leaves.
+/// Returns the held part after a C1 control that opens something.
 #[tactic(auto, using(crate::proofs::Classes::class_tests), unfolding(crate::specs::Class::opens_string))]
 fn opened_by(code: u8) -> Held
     ensures { result ≡ opened_part code }
@@ -117,7 +117,7 @@ fn opened_by(code: u8) -> Held
     }
 }
 
-/// The one value 0.
+/// Returns the values of a sequence without parameters: one 0.
 fn zero() -> ArrayVec<u16, 16>
     ensures { result.items ≡ 0 ∷ [] }
 {
@@ -126,7 +126,7 @@ fn zero() -> ArrayVec<u16, 16>
     params
 }
 
-/// A byte by itself: CAN and DEL ask for nothing.
+/// Returns the event of a byte by itself. CAN and DEL have none.
 #[tactic(auto, using(crate::proofs::Classes::class_tests))]
 fn single_function(b: u8) -> Option<EventKind>
     ensures { (values : List ℕ) → event_in result values ≡ function_of_single b }
@@ -138,7 +138,7 @@ fn single_function(b: u8) -> Option<EventKind>
     }
 }
 
-/// A quiet byte in a sequence: DEL asks for nothing.
+/// Returns the event of a quiet byte in a sequence. DEL has none.
 #[tactic(auto, using(crate::proofs::Classes::class_tests))]
 fn quiet_control(b: u8) -> Option<EventKind>
     requires { byte_class b ≡ Class.Quiet }
@@ -151,7 +151,7 @@ fn quiet_control(b: u8) -> Option<EventKind>
     }
 }
 
-/// CAN or SUB ends what is held; SUB is an event.
+/// Ends the held part at CAN or SUB. SUB is an event.
 #[tactic(auto, using(crate::proofs::Classes::class_tests))]
 fn cancel(held: &mut Held, b: u8) -> Option<EventKind>
     ensures holds { held.new ≡ Held.Nothing }
@@ -165,7 +165,7 @@ fn cancel(held: &mut Held, b: u8) -> Option<EventKind>
     }
 }
 
-/// A byte in a string.
+/// Reads a byte in a string.
 #[tactic(auto, using(crate::proofs::Classes::class_tests), unfolding(crate::specs::Items::ends_string))]
 fn step_string(held: &mut Held, osc: bool, b: u8) -> Option<EventKind>
     requires { held.old ≡ Held.Text osc }
@@ -180,7 +180,7 @@ fn step_string(held: &mut Held, osc: bool, b: u8) -> Option<EventKind>
     None
 }
 
-/// A byte after ESC and intermediates.
+/// Reads a byte after ESC and intermediates.
 #[tactic(auto, using(crate::proofs::Steps::byte_ranges))]
 fn step_escape(held: &mut Held, inters: Inters, b: u8) -> Option<EventKind>
     requires { held.old ≡ Held.Escape inters }
@@ -208,7 +208,7 @@ fn step_escape(held: &mut Held, inters: Inters, b: u8) -> Option<EventKind>
     }
 }
 
-/// Whether a final byte after ESC is the 7-bit form of a C1 control that opens something.
+/// Returns whether a final byte after ESC is the 7-bit form of a C1 control that opens something.
 #[tactic(auto, using(crate::proofs::Classes::class_tests), unfolding(crate::specs::Class::opens_string))]
 fn introduces(inters: Inters, b: u8) -> bool
     requires { b < 0x80 }
@@ -220,7 +220,7 @@ fn introduces(inters: Inters, b: u8) -> bool
     }
 }
 
-/// The event of an escape sequence; with two intermediates and more it has none.
+/// Returns the event of an escape sequence. If it has two or more intermediates, it has none.
 #[tactic(auto, using(crate::proofs::Steps::escape_ended))]
 fn escape_function(inters: Inters, last: u8) -> Option<EventKind>
     requires { last < 0x80 }
@@ -236,7 +236,7 @@ fn escape_function(inters: Inters, last: u8) -> Option<EventKind>
     }
 }
 
-/// A byte in a control sequence that has no function.
+/// Reads a byte in a control sequence that has no function.
 fn step_spoilt(held: &mut Held, b: u8) -> Option<EventKind>
     requires { held.old ≡ Held.Spoilt }
     ensures { (values : List ℕ) → in_spoilt (byte_class b) b ≡ step_to held.new (event_in result values) }
@@ -253,7 +253,8 @@ fn step_spoilt(held: &mut Held, b: u8) -> Option<EventKind>
     }
 }
 
-/// An intermediate in a control sequence. Answers whether the sequence may still have a function: it is the first.
+/// Reads an intermediate in a control sequence. Returns whether the sequence may still have a function: it is the
+/// first.
 fn intermediate(phase: &mut Phase, b: u8) -> bool
     ensures goes_on { (marker : Option ℕ) (params : List ℕ) (full : Bool) → OnTrue result
         (step_intermediate marker params full phase.old b
@@ -268,8 +269,8 @@ fn intermediate(phase: &mut Phase, b: u8) -> bool
     true
 }
 
-/// A parameter byte in a control sequence. Answers whether the sequence may still have a function: no intermediate has
-/// come, and the byte is a digit, `;`, or a marker that is first.
+/// Reads a parameter byte in a control sequence. Returns whether the sequence may still have a function. It may if no
+/// intermediate has come, and the byte is a digit, `;`, or a marker that is first.
 #[tactic(auto, using(crate::proofs::Steps::byte_ranges))]
 fn parameter(
     marker: &mut Option<u8>,
@@ -294,7 +295,7 @@ fn parameter(
     true
 }
 
-/// A digit or `;`: one more digit of the last value, or a new value. Once 16 are there, the rest is dropped.
+/// Reads a digit or `;`: one more digit of the last value, or a new value. After the 16th value, it drops the rest.
 #[inline(always)]
 #[tactic(auto, using(crate::proofs::Steps::last_values))]
 fn value(params: &mut ArrayVec<u16, 16>, full: &mut bool, b: u8)
@@ -317,7 +318,7 @@ fn value(params: &mut ArrayVec<u16, 16>, full: &mut bool, b: u8)
     }
 }
 
-/// A value with one more digit, at most 9999.
+/// Returns a value with one more digit, at most 9999.
 #[inline(always)]
 fn with_digit(value: u16, b: u8) -> u16
     requires low { 48 ≤ b }

@@ -1,9 +1,9 @@
-//! The values of a control sequence, beside its other parts.
+//! The values of a control sequence, separate from its other parts.
 ghost use Rattle.std.specs.Prelude.{◌≡◌, ◌≤◌, [], length};
 
 use std::marker::Model;
 
-/// The values of a control sequence: at most 16. They stand in the value itself.
+/// The values of a control sequence: at most 16, stored in the struct itself.
 #[derive(Drop)]
 pub struct Values {
     pub(crate) list: [u16; 16],
@@ -21,7 +21,7 @@ impl Model for Values {
 }
 
 impl Values {
-    /// No value.
+    /// Returns an empty list of values.
     pub fn new() -> Values
         ensures { result ≡ [] }
     {
@@ -31,7 +31,7 @@ impl Values {
         }
     }
 
-    /// The values.
+    /// Returns the values.
     #[inline(always)]
     pub fn as_slice(&self) -> &[u16]
         ensures value { result.now ≡ self.now }
@@ -40,7 +40,7 @@ impl Values {
         &self.list[..self.len]
     }
 
-    /// Puts these values in place of all that there are.
+    /// Replaces all values by these.
     pub(crate) fn set(&mut self, values: &[u16])
         requires { length values.now ≤ 16 }
         ensures { self.new ≡ values.now }

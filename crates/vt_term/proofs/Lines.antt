@@ -1,11 +1,18 @@
 -- The text of a row.
-use Rattle.std.proofs.Common.{◌≡◌, ◌≢◌, inl, inr, ℕ, zero, suc, ◌+◌, ◌<◌, List, [], ◌∷◌, ◌++◌, length, take, get_or}
-use Rattle.std.proofs.Common.{refl, sym, ap, ◌∙◌, arith, add-one, append-nil}
+use Rattle.std.proofs.Common.{◌≡◌, ◌≢◌, inl, inr, ℕ, zero, suc, ◌<◌, List, [], ◌∷◌, ◌++◌, length, take, get_or}
+use Rattle.std.proofs.Common.{◌+◌, ◌≤◌, All, set, subst, refl, sym, ap, ◌∙◌, arith, add-one, append-nil}
 use Rattle.std.specs.List.{range_with_len, flat_map}
 use Rattle.std.proofs.Math.Seq.{take-suc}
 use Rattle.std.proofs.lemmas.Grind.{flat_map-append}
-use Rattle.std.proofs.lemmas.Bool.Decides.{eqb_tells}
-use Rattle.vt_glyph.specs.Tables.{space}
+use Rattle.std.proofs.lemmas.Bool.Decides.{eqb_tells, nat_tests}
+use Rattle.std.proofs.lemmas.Grind.{same_number_lists}
+use Rattle.std.proofs.lemmas.List.{length-take-le, get_or-take, take_more_set, take-take}
+use Rattle.std.proofs.lemmas.List.Elements.{All-get_or, All-head, All-tail, All-take}
+use Rattle.std.proofs.lemmas.Str.{encode_ascii}
+use Rattle.vt_syntax.specs.Class.{IsPlain}
+use Rattle.vt_glyph.specs.Encoding.{encoded_glyph}
+use Rattle.vt_screen.specs.Cells.{blank}
+use Rattle.vt_glyph.specs.Tables.{space, glyph_of}
 use Rattle.vt_screen.specs.Grid.{Grid, row_of}
 use Rattle.vt_term.specs.Text.{trimmed, before_trimmed, lines_text, line_text, glyphs_of}
 use Rattle.vt_screen.specs.declared.cell.Cell.{Cell}
@@ -38,6 +45,18 @@ trimmed-take-glyph xs n below ne =
     let front : take (n + 1) xs ≡ take n xs ++ get_or xs n 0 ∷ [] =
     ap (λ k. take k xs) (add-one n) ∙ take-suc xs n 0 below in
     ap trimmed front ∙ trimmed-glyph (take n xs) (get_or xs n 0) ne ∙ sym front
+
+-- a front that ends with so many spaces
+pub trimmed-take-spaces : (xs : List ℕ) (n k : ℕ) → n + k ≤ length xs
+    → ((i : ℕ) → n ≤ i → i < n + k → get_or xs i 0 ≡ space) → trimmed (take (n + k) xs) ≡ trimmed (take n xs)
+trimmed-take-spaces xs n zero within are =
+    let none : n + 0 ≡ n = omega arith in
+    ap (λ m. trimmed (take m xs)) none
+trimmed-take-spaces xs n (suc k) within are =
+    let last : n + suc k ≡ n + k + 1 = omega arith in
+    ap (λ m. trimmed (take m xs)) last
+    ∙ trimmed-take-space xs (n + k) (omega (arith, within)) (are (n + k) (omega arith) (omega arith))
+    ∙ trimmed-take-spaces xs n k (omega (arith, within)) (λ i above below. are i above (omega (arith, below)))
 
 -- one more line
 pub lines_text-more : (n : ℕ) (g : Grid) → lines_text (n + 1) g ≡ lines_text n g ++ line_text (row_of g (n + 1))
@@ -75,3 +94,44 @@ encoded-more cells n d below =
     ∙ encodes-append (glyphs_of (take n cells)) ((get_or cells n d).glyph ∷ [])
     ∙ ap (λ (t : List ℕ). encode_utf8_all (glyphs_of (take n cells)) ++ t)
     (append-nil (encode_utf8 (get_or cells n d).glyph))
+
+-- ---- rows of ASCII glyphs
+
+-- a plain code is its glyph
+plain-glyph : (b : ℕ) → IsPlain b → encoded_glyph b ≡ b
+unfolding encoded_glyph glyph_of
+plain-glyph b h = grind (arith, nat_tests)
+
+-- the codes of cells, if each is plain
+pub plain-codes : (cells : List Cell) (line : List ℕ) → length cells ≤ length line
+    → All IsPlain (take (length cells) line)
+    → ((k : ℕ) → k < length cells → encoded_glyph (get_or line k 0) ≡ (get_or cells k blank).glyph)
+    → take (length cells) line ≡ glyphs_of cells
+plain-codes cells line within plain are =
+    same_number_lists (take (length cells) line) (glyphs_of cells)
+    (length-take-le (length cells) line within ∙ sym (length-glyphs cells))
+    (λ k below.
+    let inside : k < length cells = omega (arith, below, length-take-le (length cells) line within) in
+    let here : get_or (take (length cells) line) k 0 ≡ get_or line k 0 = get_or-take (length cells) line k 0 inside in
+    let code : IsPlain (get_or line k 0) = subst IsPlain here (All-get_or IsPlain (take (length cells) line) k 0 below plain) in
+    here ∙ sym (plain-glyph (get_or line k 0) code) ∙ are k inside ∙ sym (glyph-at cells k blank inside))
+
+-- plain codes are their own UTF-8
+pub plain-encoded : (xs : List ℕ) → All IsPlain xs → encode_utf8_all xs ≡ xs
+plain-encoded [] plain = refl
+plain-encoded (x ∷ xs) plain =
+    let one : encode_utf8 x ≡ x ∷ [] = encode_ascii x (omega (arith, (All-head IsPlain x xs plain).1)) in
+    rw one (ap (λ (t : List ℕ). x ∷ t) (plain-encoded xs (All-tail IsPlain x xs plain)))
+
+-- the text of a row whose codes are plain: they without the spaces at their end, and LF
+pub plain-line : (cells : List Cell) (line : List ℕ) (end : ℕ) → take (length cells) line ≡ glyphs_of cells
+    → All IsPlain (take (length cells) line) → end ≤ length cells → length cells < length line
+    → take end (take (length cells) line) ≡ trimmed (take (length cells) line)
+    → take (end + 1) (set line end 0x0A) ≡ line_text cells
+plain-line cells line end are plain within long text =
+    let front : List ℕ = take (length cells) line in
+    take_more_set line end 0x0A (omega (arith, within, long))
+    ∙ ap (λ (t : List ℕ). t ++ 0x0A ∷ [])
+    (sym (take-take end (length cells) line within)
+    ∙ sym (plain-encoded (take end front) (All-take IsPlain end front plain))
+    ∙ ap encode_utf8_all (text ∙ ap trimmed are))

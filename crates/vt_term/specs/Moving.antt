@@ -41,7 +41,7 @@ cursor_backward n s = record s { cursor = at_place s.cursor.row (max (s.cursor.c
 abbrev pub row_of_line : ℕ → Display → ℕ
 row_of_line line s = if s.modes.decom then min (s.margins.top + line - 1) s.margins.bottom else min line last_row
 
--- CUP and HVP: to a line and column, where 0 stands for 1
+-- CUP and HVP: to a line and column, for which 0 means 1
 abbrev pub cursor_position : ℕ → ℕ → Display → Display
 cursor_position line col s =
     record s { cursor = at_place (row_of_line (from_one line) s) (min (from_one col) (last_column s)) }

@@ -8,7 +8,7 @@ first params = slice_index params 0
 abbrev pub second : List ℕ → ℕ
 second params = slice_index params 1
 
--- of a place or a count, 0 stands for 1
+-- for a position or a count, 0 means 1
 abbrev pub from_one : ℕ → ℕ
 from_one p = max p 1
 

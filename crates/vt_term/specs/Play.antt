@@ -34,12 +34,12 @@ play s bytes = record {
 abbrev pub both : Played → Played → Played
 both before after = record { state = after.state; reports = before.reports ++ after.reports }
 
--- pieces played in turn
+-- chunks played in turn
 abbrev pub play_all : State → List (List ℕ) → Played
 play_all s [] = record { state = s; reports = [] }
 play_all s (piece ∷ pieces) = both (play s piece) (play_all (play s piece).state pieces)
 
--- pieces joined
+-- chunks joined
 abbrev pub joined : List (List ℕ) → List ℕ
 joined [] = []
 joined (piece ∷ pieces) = piece ++ joined pieces

@@ -31,7 +31,7 @@ line_of_cursor s = if s.modes.decom then s.cursor.row - s.margins.top + 1 else s
 abbrev pub cursor_report : Display → List ℕ
 cursor_report s = answer (decimal (line_of_cursor s) ++ codes ";" ++ decimal s.cursor.col ++ codes "R") s
 
--- a table of the answers for the values of the first parameter, beside each final byte
+-- a table for each final byte: the report for each value of the first parameter
 abbrev pub Answers : Type 0
 Answers = List (ℕ × List (ℕ × (Display → List ℕ)))
 

@@ -24,7 +24,7 @@ WritesAscii s = WritesOver IsPlain (λ b. b) s
 abbrev pub WritesInUse : InUseTable → Display → Type 0
 WritesInUse table s = WritesOver HasGlyph (glyph_in_use table) s
 
--- behind so many glyphs in the cursor's row
+-- the cursor after this many glyphs in its row
 abbrev pub advanced_by : ℕ → Display → Cursor
 advanced_by n s =
     if nat_le (s.cursor.col + n) (last_column s) then at_place s.cursor.row (s.cursor.col + n)

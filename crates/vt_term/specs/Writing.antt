@@ -23,7 +23,7 @@ next_place s =
     if nat_lt s.cursor.col (last_column s) then at_place s.cursor.row (s.cursor.col + 1)
     else record s.cursor { wrap = s.modes.decawm }
 
--- a glyph where no wrap is pending
+-- a glyph if no wrap is pending
 abbrev pub put_glyph : ℕ → Display → Display
 put_glyph glyph s = record s { grid = with_glyph glyph s; cursor = next_place s }
 

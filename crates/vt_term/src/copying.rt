@@ -21,7 +21,7 @@ impl Display {
 }
 
 impl Terminal {
-    /// Brings the terminal into the state of another one, the held part included. It never fails and takes no memory.
+    /// Makes the state equal to that of another terminal, the held part included. It never fails and allocates nothing.
     pub fn copy_from(&mut self, other: &Terminal)
         ensures { self.new ≡ other.now }
     {

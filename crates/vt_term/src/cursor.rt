@@ -1,4 +1,4 @@
-//! Moving the cursor. Each of these resets the wrap flag, but for margins that have no effect.
+//! Moving the cursor. Each function resets the wrap flag, except DECSTBM with margins that have no effect.
 ghost use Rattle.std.specs.Prelude.{◌≡◌, ◌≤◌};
 ghost use Rattle.vt_term.specs.Moving.{home, backspace, carriage_return, cursor_up, cursor_down, cursor_forward};
 ghost use Rattle.vt_term.specs.Moving.{cursor_backward, cursor_position, index, reverse_index, next_line, line_feed};
@@ -9,7 +9,7 @@ use crate::display::{Display, ROWS};
 use crate::state::{Cursor, Margins};
 
 impl Display {
-    /// Column 1 of row 1, or under DECOM of the top margin's row.
+    /// Moves the cursor home: to column 1 of row 1, or under DECOM of the top margin's row.
     pub(crate) fn home(&mut self)
         ensures { self.new ≡ home self.old }
     {
@@ -21,21 +21,22 @@ impl Display {
         self.cursor = Cursor::at(row, 1);
     }
 
-    /// BS.
+    /// Carries out BS: moves the cursor left by one, not past column 1.
     pub(crate) fn backspace(&mut self)
         ensures { self.new ≡ backspace self.old }
     {
         self.cursor = Cursor::at(self.cursor.row, (self.cursor.col - 1).max(1));
     }
 
-    /// CR.
+    /// Carries out CR: moves the cursor to column 1.
     pub(crate) fn carriage_return(&mut self)
         ensures { self.new ≡ carriage_return self.old }
     {
         self.cursor = Cursor::at(self.cursor.row, 1);
     }
 
-    /// CUU: up `n`, not past the top margin, or from above it not past row 1.
+    /// Carries out CUU: moves the cursor up by `n`, not past the top margin. If it starts above the margin, it stops at
+    /// row 1.
     pub(crate) fn cursor_up(&mut self, n: u16)
         ensures { self.new ≡ cursor_up n self.old }
     {
@@ -48,7 +49,8 @@ impl Display {
         self.cursor = Cursor::at(row, self.cursor.col);
     }
 
-    /// CUD: down `n`, not past the bottom margin, or from below it not past row 24.
+    /// Carries out CUD: moves the cursor down by `n`, not past the bottom margin. If it starts below the margin, it
+    /// stops at row 24.
     pub(crate) fn cursor_down(&mut self, n: u16)
         ensures { self.new ≡ cursor_down n self.old }
     {
@@ -61,7 +63,7 @@ impl Display {
         self.cursor = Cursor::at(row, self.cursor.col);
     }
 
-    /// CUF: right `n`, not past the last column.
+    /// Carries out CUF: moves the cursor right by `n`, not past the last column.
     pub(crate) fn cursor_forward(&mut self, n: u16)
         ensures { self.new ≡ cursor_forward n self.old }
     {
@@ -69,7 +71,7 @@ impl Display {
         self.cursor = Cursor::at(self.cursor.row, col);
     }
 
-    /// CUB: left `n`, not past column 1.
+    /// Carries out CUB: moves the cursor left by `n`, not past column 1.
     pub(crate) fn cursor_backward(&mut self, n: u16)
         ensures { self.new ≡ cursor_backward n self.old }
     {
@@ -77,9 +79,10 @@ impl Display {
         self.cursor = Cursor::at(self.cursor.row, col);
     }
 
-    /// CUP and HVP: to a line and column, where 0 stands for 1. Under DECOM lines count from the top margin.
+    /// Carries out CUP and HVP: moves the cursor to a line and a column, for which 0 means 1. Under DECOM lines count
+    /// from the top margin.
     ///
-    /// Speed: a place on the screen is taken as it is, and any other is bounded out of line.
+    /// Speed: a position on the screen is used as it is. Any other is bounded out of line.
     #[inline(always)]
     pub(crate) fn cursor_position(&mut self, line: u16, col: u16)
         ensures { self.new ≡ cursor_position line col self.old }
@@ -109,7 +112,8 @@ impl Display {
         self.cursor = Cursor::at(row, col);
     }
 
-    /// IND: down by one, staying in row 24; at the bottom margin the scroll region moves up instead.
+    /// Carries out IND: moves the cursor down by one, not past row 24. At the bottom margin the scroll region moves up
+    /// instead.
     #[inline(never)]
     pub(crate) fn index(&mut self)
         ensures { self.new ≡ index self.old }
@@ -123,8 +127,8 @@ impl Display {
         }
     }
 
-    /// Moves the scroll region up by one row. Speed: for the whole screen there is a separate call, which moves its rows by
-    /// a copy of a fixed size.
+    /// Moves the scroll region up by one row. Speed: the whole screen has a separate call, which moves its rows by a
+    /// copy of a fixed size.
     #[inline(always)]
     fn scroll_up_once(&mut self)
         ensures { self.new ≡ record self.old {
@@ -138,7 +142,7 @@ impl Display {
         }
     }
 
-    /// The same, whatever the margins are.
+    /// Moves the scroll region up by one row, at any margins.
     #[inline(never)]
     fn scroll_region_up(&mut self)
         ensures { self.new ≡ record self.old {
@@ -149,7 +153,8 @@ impl Display {
             .scroll_up(self.margins.top, self.margins.bottom, 1);
     }
 
-    /// RI: up by one, staying in row 1; at the top margin the scroll region moves down instead.
+    /// Carries out RI: moves the cursor up by one, not past row 1. At the top margin the scroll region moves down
+    /// instead.
     #[inline(never)]
     pub(crate) fn reverse_index(&mut self)
         ensures { self.new ≡ reverse_index self.old }
@@ -164,7 +169,7 @@ impl Display {
         self.cursor = Cursor::at(row, self.cursor.col);
     }
 
-    /// NEL.
+    /// Carries out NEL: CR, and then IND.
     #[inline(never)]
     pub(crate) fn next_line(&mut self)
         ensures { self.new ≡ next_line self.old }
@@ -173,7 +178,7 @@ impl Display {
         self.index();
     }
 
-    /// LF, VT and FF: IND, and under LNM column 1 too.
+    /// Carries out LF, VT and FF: IND, and under LNM also CR.
     pub(crate) fn line_feed(&mut self)
         ensures { self.new ≡ line_feed self.old }
     {
@@ -184,7 +189,7 @@ impl Display {
         }
     }
 
-    /// DECSTBM: margins of at least two rows, and the cursor goes home; else no effect.
+    /// Carries out DECSTBM: sets margins of at least two rows, and moves the cursor home. Other margins have no effect.
     #[inline(never)]
     pub(crate) fn set_margins(&mut self, top: u16, bottom: u16)
         ensures { self.new ≡ set_margins top bottom self.old }

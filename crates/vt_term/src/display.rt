@@ -1,4 +1,4 @@
-//! All of a terminal but its parser: what events change.
+//! The display: all of a terminal except its parser. Events change it.
 ghost use Rattle.std.specs.Prelude.{◌≡◌, ◌↔◌, IsTrue, IfOk};
 ghost use Rattle.vt_term.specs.Sound.{IsSoundDisplay};
 ghost use Rattle.vt_term.specs.State.{display_at_power_up, stops_at_power_up, is_stop_at_power_up};
@@ -11,7 +11,7 @@ use vt_glyph::Sets;
 pub use vt_screen::ROWS;
 use vt_screen::{COLUMNS, Cell, Screen};
 
-/// The columns that have a tab stop or none, whatever the width.
+/// The number of columns that may have a tab stop, at any width.
 pub const STOPS: usize = COLUMNS;
 
 /// A terminal without its parser.
@@ -19,11 +19,11 @@ pub const STOPS: usize = COLUMNS;
 pub(crate) struct Display {
     pub(crate) screen: Screen,
     pub(crate) cursor: Cursor,
-    /// What glyphs are written with, as the cell that a space becomes. (Speed: a run copies it as one word.)
+    /// The brush, as the cell that a space becomes. (Speed: a run copies it as one word.)
     pub(crate) pen: Cell,
     pub(crate) sets: Sets,
     pub(crate) margins: Margins,
-    /// Place c - 1 for column c.
+    /// Index c - 1 for column c.
     pub(crate) stops: [bool; STOPS],
     pub(crate) modes: Modes,
     pub(crate) saved: Saved,
@@ -60,14 +60,14 @@ impl Model for Display {
     }) };
 }
 
-/// Whether a column has a tab stop at power-up.
+/// Returns whether a column has a tab stop at power-up.
 fn has_stop_at_power_up(col: usize) -> bool
     ensures { result ≡ is_stop_at_power_up col }
 {
     1 < col && col % 8 == 1
 }
 
-/// The tab stops at power-up, at columns 9, 17, .. 129: place c - 1 for column c. (This profile)
+/// Returns the tab stops at power-up, at columns 9, 17, .. 129: index c - 1 for column c. (This profile)
 pub fn stops_at_power_up() -> [bool; STOPS]
     ensures { result ≡ stops_at_power_up }
 {
@@ -79,7 +79,7 @@ pub fn stops_at_power_up() -> [bool; STOPS]
 }
 
 impl Display {
-    /// The display at power-up.
+    /// Returns the display at power-up. Returns `Err` if allocation fails.
     pub(crate) fn new(alloc: Global) -> Result<Display, AllocError>
         ensures { IfOk result (λ d. d ≡ display_at_power_up) }
     {
@@ -95,14 +95,14 @@ impl Display {
         })
     }
 
-    /// That the display is sound: a clause for the proofs, and no work.
+    /// States that the display is sound, for proofs. It does nothing when it runs.
     pub(crate) fn soundness(&self)
         ensures { IsSoundDisplay self.now }
     {
         let _ = &self.cursor;
     }
 
-    /// Whether two displays are equal in every part.
+    /// Returns whether two displays are equal in every part.
     pub(crate) fn same(&self, other: &Display) -> bool
         ensures { IsTrue result ↔ (self.now ≡ other.now) }
     {

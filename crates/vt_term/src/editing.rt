@@ -1,4 +1,4 @@
-//! Inserting, deleting and erasing. Each of these resets the wrap flag, but for a parameter that isn't listed.
+//! Inserting, deleting and erasing. Each function resets the wrap flag, unless its parameter isn't listed.
 ghost use Rattle.std.specs.Prelude.{◌≡◌, ◌≤◌};
 ghost use Rattle.vt_term.specs.Editing.{insert_line, delete_line, insert_character, delete_character, erase_character};
 ghost use Rattle.vt_term.specs.Editing.{erase_in_display, erase_in_line, rows_between};
@@ -10,7 +10,8 @@ use vt_screen::Screen;
 use vt_screen::laws::areas;
 
 impl Display {
-    /// IL: `n` blank rows come in at the cursor's row, above the bottom margin.
+    /// Carries out IL: inserts `n` blank rows at the cursor's row, and moves the cursor to column 1. The rows down to
+    /// the bottom margin move down. Outside the margins it only resets the wrap flag.
     #[inline(never)]
     pub(crate) fn insert_line(&mut self, n: u16)
         ensures { self.new ≡ insert_line n self.old }
@@ -24,7 +25,8 @@ impl Display {
         }
     }
 
-    /// DL: `n` rows go from the cursor's row on, above the bottom margin.
+    /// Carries out DL: deletes `n` rows starting at the cursor's row, and moves the cursor to column 1. The rows down
+    /// to the bottom margin move up. Outside the margins it only resets the wrap flag.
     #[inline(never)]
     pub(crate) fn delete_line(&mut self, n: u16)
         ensures { self.new ≡ delete_line n self.old }
@@ -38,7 +40,7 @@ impl Display {
         }
     }
 
-    /// ICH: `n` blank cells come in at the cursor.
+    /// Carries out ICH: inserts `n` blank cells at the cursor.
     #[inline(never)]
     pub(crate) fn insert_character(&mut self, n: u16)
         ensures { self.new ≡ insert_character n self.old }
@@ -48,7 +50,7 @@ impl Display {
         self.cursor.wrap = false;
     }
 
-    /// DCH: `n` cells go from the cursor on.
+    /// Carries out DCH: deletes `n` cells starting at the cursor.
     #[inline(never)]
     pub(crate) fn delete_character(&mut self, n: u16)
         ensures { self.new ≡ delete_character n self.old }
@@ -58,7 +60,7 @@ impl Display {
         self.cursor.wrap = false;
     }
 
-    /// ECH: `n` cells, at least one, from the cursor on become blank, not past the last column.
+    /// Carries out ECH: blanks `n` cells starting at the cursor, at least one, not past the last column.
     #[inline(never)]
     pub(crate) fn erase_character(&mut self, n: u16)
         requires { 1 ≤ n }
@@ -70,7 +72,8 @@ impl Display {
         self.cursor.wrap = false;
     }
 
-    /// ED, and DECSED which is selective: 0 from the cursor on, 1 up to the cursor, 2 the whole screen.
+    /// Carries out ED, and DECSED, which is selective: 0 erases starting at the cursor, 1 up to the cursor, 2 the whole
+    /// screen.
     #[inline(never)]
     pub(crate) fn erase_in_display(&mut self, selective: bool, p: u16)
         ensures { self.new ≡ erase_in_display selective p self.old }
@@ -94,7 +97,8 @@ impl Display {
         }
     }
 
-    /// EL, and DECSEL which is selective: 0 from the cursor on, 1 up to the cursor, 2 the whole line.
+    /// Carries out EL, and DECSEL, which is selective: 0 erases starting at the cursor, 1 up to the cursor, 2 the whole
+    /// line.
     #[inline(never)]
     pub(crate) fn erase_in_line(&mut self, selective: bool, p: u16)
         ensures { self.new ≡ erase_in_line selective p self.old }
@@ -104,7 +108,7 @@ impl Display {
         }
     }
 
-    /// The part of the line that EL erases.
+    /// Erases the part of the line that EL erases.
     fn erase_part_of_line(&mut self, selective: bool, p: u16)
         requires { p ≤ 2 }
         ensures { self.new ≡ erase_in_line selective p self.old }
@@ -117,7 +121,7 @@ impl Display {
         self.cursor.wrap = false;
     }
 
-    /// The rows from `first` up to before `end`.
+    /// Erases the rows from `first` to `end`, `end` excluded.
     fn erase_rows(&mut self, first: usize, end: usize, selective: bool)
         requires { (1 ≤ first) × (first ≤ end) × (end ≤ 25) }
         ensures { self.new ≡ record self.old { grid = erase_area self.old.grid (rows_between first end) selective } }
@@ -126,7 +130,7 @@ impl Display {
     }
 }
 
-/// The rows from `first` up to before `end`.
+/// Erases the rows from `first` to `end`, `end` excluded.
 fn erase_rows(screen: &mut Screen, first: usize, end: usize, selective: bool)
     requires { (1 ≤ first) × (first ≤ end) × (end ≤ 25) }
     ensures grid { screen.new ≡ erase_area screen.old (rows_between first end) selective }

@@ -1,4 +1,4 @@
-//! Feeding: a host's bytes in; a state and report bytes out.
+//! Feeding: a host's bytes change the state, and give report bytes.
 ghost use Rattle.std.specs.Prelude.{◌≡◌, ◌+◌, ◌*◌, ◌≤◌, ◌<◌, ◌++◌, ◌∷◌, [], ℕ, List, All, false, length, take};
 ghost use Rattle.std.specs.Prelude.{slice_index, vec_len, vec_capacity, OnOk, OnErr, IsOk};
 ghost use Rattle.std.specs.Bool.{OnTrue};
@@ -21,19 +21,19 @@ use vt_syntax::{
     plain_run,
 };
 
-/// How many plain bytes are written by themselves at least, even if bytes of the right half follow.
+/// The least number of plain bytes that are written separately even if bytes of the right half follow.
 const LONG_RUN: usize = 8;
 
-/// Returns whether there is a byte at a place, and it is of the right half.
+/// Returns whether there is a byte at a position, and it is of the right half.
 #[inline(always)]
 fn right_half_at(piece: &[u8], at: usize) -> bool {
     at < piece.len() && piece[at] >= 0xA0
 }
 
 impl Terminal {
-    /// Plays a piece of the host's bytes, and appends the reports to `out`.
+    /// Plays a chunk of the host's bytes, and appends the reports to `out`.
     ///
-    /// Reserves ten bytes of capacity for each byte of the piece first. Returns `Err` if that fails, or is more than
+    /// It first reserves ten bytes of capacity for each byte of the chunk. Returns `Err` if that fails, or is more than
     /// any vector may hold. Then the terminal and the contents of `out` are unchanged.
     pub fn feed(&mut self, piece: &[u8], out: &mut Vec<u8>) -> Result<(), AllocError>
         ensures state { OnOk result (self.new ≡ (play self.old piece.now).state) }
@@ -52,8 +52,8 @@ impl Terminal {
         Ok(())
     }
 
-    /// Plays a piece of the host's bytes, and appends the reports to `out`, which has enough capacity: ten bytes for each
-    /// byte of the piece. It never fails, and it allocates nothing.
+    /// Plays a chunk of the host's bytes, and appends the reports to `out`. `out` has capacity for ten more bytes for
+    /// each byte of the chunk. It never fails and allocates nothing.
     pub fn feed_reserved(&mut self, piece: &[u8], out: &mut Vec<u8>)
         requires { vec_len out.old + 10 * length piece.now ≤ vec_capacity out.old }
         ensures state { self.new ≡ (play self.old piece.now).state }
@@ -70,8 +70,8 @@ impl Terminal {
         }
     }
 
-    /// Plays the front of a piece that isn't empty, and returns how many bytes it played: between sequences up to the
-    /// first sequence that isn't whole in the piece, otherwise up to the first event.
+    /// Plays the front of a chunk that isn't empty, and returns how many bytes it played. Between sequences it plays up
+    /// to the first sequence that isn't whole in the chunk, otherwise up to the first event.
     #[inline(always)]
     fn feed_next(&mut self, piece: &[u8], values: &mut Values, out: &mut Vec<u8>) -> usize
         requires some { 1 ≤ length piece.now }
@@ -90,8 +90,8 @@ impl Terminal {
         }
     }
 
-    /// Plays the front of a piece that isn't empty, between sequences, up to the first byte that goes through the parser, and
-    /// the first event from there on. Returns how many bytes it played.
+    /// Plays the front of a chunk that isn't empty, between sequences. It plays up to the first byte that goes through
+    /// the parser, and the first event that begins there. Returns how many bytes it played.
     #[inline(always)]
     fn feed_between(&mut self, piece: &[u8], values: &mut Values, out: &mut Vec<u8>) -> usize
         requires some { 1 ≤ length piece.now }
@@ -117,8 +117,8 @@ impl Terminal {
         piece.len()
     }
 
-    /// Plays what is at the front of a piece that isn't empty, between sequences, by its kind. Returns how many bytes it
-    /// played, and whether it is known that nothing is held then.
+    /// Plays the front of a chunk that isn't empty, between sequences, by its kind. Returns how many bytes it played,
+    /// and whether nothing is known to be held afterwards.
     #[inline(always)]
     fn feed_front(&mut self, piece: &[u8], values: &mut Values, out: &mut Vec<u8>) -> (usize, bool)
         requires some { 1 ≤ length piece.now }
@@ -150,8 +150,8 @@ impl Terminal {
         }
     }
 
-    /// Plays the front of a piece that begins with ESC, between sequences, up to the first event. Returns how many bytes it
-    /// played, and whether it is known that nothing is held then.
+    /// Plays the front of a chunk that begins with ESC, between sequences, up to the first event. Returns how many
+    /// bytes it played, and whether nothing is known to be held afterwards.
     #[inline(always)]
     fn feed_escape(&mut self, piece: &[u8], values: &mut Values, out: &mut Vec<u8>) -> (usize, bool)
         requires some { 1 ≤ length piece.now }
@@ -204,8 +204,8 @@ impl Terminal {
         (self.feed_by_parser(piece, values, out), false)
     }
 
-    /// Carries out an event that is whole at the front of a piece, between sequences. Speed: it is compiled into each
-    /// caller, so that what is known of its kind costs no dispatch.
+    /// Carries out an event that is whole at the front of a chunk, between sequences. Speed: it is inlined in each
+    /// caller, so a known kind costs no dispatch.
     #[inline(always)]
     fn carry_out_front(&mut self, kind: EventKind, values: &[u16], out: &mut Vec<u8>)
         requires event { IsEvent (event_of kind values.now) }
@@ -222,10 +222,11 @@ impl Terminal {
         self.display.carry_out(kind, values, out);
     }
 
-    /// Plays the graphic bytes at the front of a piece that begins with a plain one, between sequences. Returns how many
-    /// bytes it played.
+    /// Plays the graphic bytes at the front of a chunk that begins with a plain one, between sequences. Returns how
+    /// many bytes it played.
     ///
-    /// Speed: if GL is ASCII, plain bytes are their own glyphs, and need no chart. Without this, `feed_graphics` does the same.
+    /// Speed: if GL is ASCII, plain bytes are their own glyphs, and need no chart. Without this, `feed_graphics` does
+    /// the same.
     #[inline(always)]
     fn feed_ascii(&mut self, piece: &[u8]) -> usize
         requires some { 1 ≤ length piece.now }
@@ -247,8 +248,8 @@ impl Terminal {
         self.feed_graphics(piece)
     }
 
-    /// Plays the graphic bytes at the front of a piece, between sequences: a run of them if they may be written at once,
-    /// otherwise the first. Returns how many bytes it played.
+    /// Plays graphic bytes at the front of a chunk, between sequences. It plays a run if it may be written at once,
+    /// otherwise the first byte. Returns how many bytes it played.
     #[inline(always)]
     fn feed_graphics(&mut self, piece: &[u8]) -> usize
         requires some { 1 ≤ length piece.now }
@@ -282,7 +283,8 @@ impl Terminal {
         self.display.print(byte);
     }
 
-    /// Plays CR at the front of a piece, and LF if it follows. Returns how many bytes it played. Speed: most lines end so.
+    /// Plays CR at the front of a chunk, and LF if it follows. Returns how many bytes it played. Speed: most lines end
+    /// so.
     #[inline(always)]
     fn carriage_return_first(&mut self, piece: &[u8]) -> usize
         requires some { 1 ≤ length piece.now }
@@ -317,7 +319,8 @@ impl Terminal {
         self.display.control(byte);
     }
 
-    /// Plays the front of a piece that isn't empty up to the first event, by the parser. Returns how many bytes it played.
+    /// Plays the front of a chunk that isn't empty up to the first event, by the parser. Returns how many bytes it
+    /// played.
     #[inline(never)]
     fn feed_by_parser(&mut self, piece: &[u8], values: &mut Values, out: &mut Vec<u8>) -> usize
         requires some { 1 ≤ length piece.now }

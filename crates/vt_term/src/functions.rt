@@ -1,4 +1,4 @@
-//! Which function or report an event asks for.
+//! The function or report that an event asks for.
 ghost use Rattle.std.specs.Prelude.{◌≡◌, ◌<◌, ◌≤◌, ◌+◌, ◌++◌, vec_len, vec_capacity, Some, None};
 ghost use Rattle.vt_syntax.specs.Spelling.{IsEvent};
 ghost use Rattle.std.specs.Bool.{OnTrue, OnFalse};
@@ -17,21 +17,21 @@ use crate::display::Display;
 use vt_glyph::{Glyph, Set};
 use vt_syntax::{EventKind, FrontValues, is_final};
 
-/// The first parameter; one that isn't there is 0.
+/// Returns the first parameter, or 0 if there is none.
 pub(crate) fn first(params: &[u16]) -> u16
     ensures { result ≡ first params.now }
 {
     params.first().copied().unwrap_or(0)
 }
 
-/// The second parameter; one that isn't there is 0.
+/// Returns the second parameter, or 0 if there is none.
 fn second(params: &[u16]) -> u16
     ensures { result ≡ second params.now }
 {
     params.get(1).copied().unwrap_or(0)
 }
 
-/// The first parameter as a count, where 0 stands for 1.
+/// Returns the first parameter as a count: 0 means 1.
 fn count(params: &[u16]) -> u16
     ensures { result ≡ count params.now }
 {
@@ -39,8 +39,8 @@ fn count(params: &[u16]) -> u16
 }
 
 impl Display {
-    /// An event is carried out: its kind, and the values of a control sequence. Its report in the state before it is
-    /// appended to `out`: at most ten bytes, whose room is there.
+    /// Carries out an event: its kind, and the values of a control sequence. It appends the report in the state before
+    /// the event to `out`: at most ten bytes, for which `out` has capacity.
     #[inline(always)]
     pub(crate) fn carry_out(&mut self, kind: EventKind, values: &[u16], out: &mut Vec<u8>)
         requires event { IsEvent (event_of kind values.now) }
@@ -71,7 +71,7 @@ impl Display {
 
     /// Carries out a control sequence of these values if its last byte is a final byte, and returns whether it is.
     ///
-    /// Speed: CUP and SGR are told before the table, and all others out of line.
+    /// Speed: CUP and SGR are tested before the table, and all others out of line.
     #[inline(always)]
     #[tactic(auto, unfolding(crate::specs::Functions::sequences_of, crate::specs::Functions::sequence_in, crate::specs::Reports::sequence_report))]
     pub(crate) fn carry_out_values(&mut self, front: &FrontValues, out: &mut Vec<u8>) -> bool
@@ -104,7 +104,7 @@ impl Display {
         true
     }
 
-    /// A C0 or C1 control. (It is compiled in the place of each call, so that CR and LF cost no dispatch.)
+    /// Carries out a C0 or C1 control. (It is inlined in each caller, so CR and LF cost no dispatch.)
     #[inline(always)]
     #[tactic(auto, unfolding(crate::specs::Functions::control))]
     pub(crate) fn control(&mut self, b: u8)
@@ -130,7 +130,7 @@ impl Display {
         }
     }
 
-    /// SUB.
+    /// Carries out SUB: writes U+2426.
     #[inline(never)]
     fn write_substitute(&mut self)
         ensures { self.new ≡ write_glyph substitute_glyph self.old }
@@ -138,7 +138,7 @@ impl Display {
         self.write_glyph(Glyph::substitute());
     }
 
-    /// An escape sequence without an intermediate.
+    /// Carries out an escape sequence without an intermediate.
     #[tactic(auto, unfolding(crate::specs::Functions::plain_escape))]
     fn plain_escape(&mut self, last: u8)
         ensures { self.new ≡ plain_escape last self.old }
@@ -158,7 +158,7 @@ impl Display {
         }
     }
 
-    /// An escape sequence with an intermediate.
+    /// Carries out an escape sequence with an intermediate.
     #[tactic(auto, unfolding(crate::specs::Functions::escape_with))]
     fn escape_with(&mut self, inter: u8, last: u8)
         ensures { self.new ≡ escape_with inter last self.old }
@@ -175,7 +175,7 @@ impl Display {
         }
     }
 
-    /// SCS: the set of a final byte is designated; another final byte does nothing.
+    /// Carries out SCS: designates the set of a final byte. Another final byte does nothing.
     fn designate(&mut self, slot: u8, last: u8)
         requires { slot < 4 }
         ensures { self.new ≡ designate slot last self.old }
@@ -185,7 +185,7 @@ impl Display {
         }
     }
 
-    /// LS0 to LS3.
+    /// Carries out LS0 to LS3.
     fn lock_left(&mut self, slot: u8)
         requires { slot < 4 }
         ensures { self.new ≡ lock_left slot self.old }
@@ -193,7 +193,7 @@ impl Display {
         self.sets.lock_left(slot);
     }
 
-    /// LS1R to LS3R.
+    /// Carries out LS1R to LS3R.
     fn lock_right(&mut self, slot: u8)
         requires { (1 ≤ slot) × (slot < 4) }
         ensures { self.new ≡ lock_right slot self.old }
@@ -201,7 +201,7 @@ impl Display {
         self.sets.lock_right(slot);
     }
 
-    /// SS2 and SS3.
+    /// Carries out SS2 and SS3.
     fn shift_once(&mut self, slot: u8)
         requires { (2 ≤ slot) × (slot < 4) }
         ensures { self.new ≡ shift_once slot self.old }
@@ -209,7 +209,7 @@ impl Display {
         self.sets.shift_once(slot);
     }
 
-    /// A control sequence.
+    /// Carries out a control sequence.
     #[inline(always)]
     #[tactic(auto, unfolding(crate::specs::Functions::sequences_of, crate::specs::Functions::sequence_in, crate::specs::Reports::sequence_report))]
     fn sequence(
@@ -236,7 +236,8 @@ impl Display {
         }
     }
 
-    /// A control sequence without marker and intermediate: DA and DSR report, and the others change the display.
+    /// Carries out a control sequence without marker and intermediate: DA and DSR report, and the others change the
+    /// display.
     #[inline(never)]
     #[tactic(auto, unfolding(crate::specs::Functions::sequence_in, crate::specs::Reports::sequence_report))]
     fn plain_sequence(&mut self, last: u8, params: &[u16], out: &mut Vec<u8>)
@@ -271,7 +272,7 @@ impl Display {
         }
     }
 
-    /// A private control sequence, with the marker `?`.
+    /// Carries out a private control sequence, with the marker `?`.
     #[tactic(auto, unfolding(crate::specs::Functions::sequence_in, crate::specs::Reports::sequence_report))]
     fn private_sequence(&mut self, last: u8, params: &[u16], out: &mut Vec<u8>)
         requires room { vec_len out.old + 10 ≤ vec_capacity out.old }
@@ -291,7 +292,7 @@ impl Display {
         }
     }
 
-    /// A control sequence with the marker `>`: secondary DA.
+    /// Carries out a control sequence with the marker `>`: secondary DA.
     #[tactic(auto, unfolding(crate::specs::Reports::sequence_report))]
     fn greater_sequence(&self, last: u8, params: &[u16], out: &mut Vec<u8>)
         requires room { vec_len out.old + 10 ≤ vec_capacity out.old }
@@ -305,7 +306,7 @@ impl Display {
         }
     }
 
-    /// A control sequence with the intermediate `"`.
+    /// Carries out a control sequence with the intermediate `"`.
     #[tactic(auto, unfolding(crate::specs::Functions::sequence_in))]
     fn quote_sequence(&mut self, last: u8, params: &[u16])
         ensures { self.new ≡ sequence_in quote_sequences last params.now self.old }
@@ -317,7 +318,7 @@ impl Display {
         }
     }
 
-    /// A control sequence with the intermediate `!`.
+    /// Carries out a control sequence with the intermediate `!`.
     #[tactic(auto, unfolding(crate::specs::Functions::sequence_in))]
     fn exclamation_sequence(&mut self, last: u8, params: &[u16])
         ensures { self.new ≡ sequence_in exclamation_sequences last params.now self.old }

@@ -1,6 +1,7 @@
-//! The terminal: a host's bytes in; a screen, a cursor and report bytes out.
+//! The terminal: it reads a host's bytes, and has a screen, a cursor and report bytes.
 #![tactic(auto)]
 
+mod ascii_text;
 mod copying;
 mod cursor;
 mod display;

@@ -7,7 +7,7 @@ use crate::display::Display;
 use crate::state::{Cursor, Margins};
 
 impl Display {
-    /// SM and RM of ANSI modes: each parameter in order.
+    /// Carries out SM and RM of ANSI modes: each parameter in order.
     #[inline(never)]
     pub(crate) fn change_ansi_modes(&mut self, params: &[u16], on: bool)
         ensures { self.new ≡ change_modes ansi_modes on params.now self.old }
@@ -17,7 +17,7 @@ impl Display {
         }
     }
 
-    /// SM and RM of private modes: each parameter in order.
+    /// Carries out SM and RM of private modes: each parameter in order.
     pub(crate) fn change_private_modes(&mut self, params: &[u16], on: bool)
         ensures { self.new ≡ change_modes private_modes on params.now self.old }
     {
@@ -26,7 +26,7 @@ impl Display {
         }
     }
 
-    /// One ANSI mode.
+    /// Sets or resets one ANSI mode.
     #[tactic(auto, unfolding(crate::specs::Modes::with_mode))]
     fn change_ansi_mode(&mut self, p: u16, on: bool)
         ensures { self.new ≡ with_mode ansi_modes on p self.old }
@@ -40,7 +40,7 @@ impl Display {
         }
     }
 
-    /// One private mode.
+    /// Sets or resets one private mode.
     #[tactic(auto, unfolding(crate::specs::Modes::with_mode))]
     fn change_private_mode(&mut self, p: u16, on: bool)
         ensures { self.new ≡ with_mode private_modes on p self.old }
@@ -58,7 +58,7 @@ impl Display {
         }
     }
 
-    /// DECOM: the cursor goes home.
+    /// Sets or resets DECOM. The cursor goes home.
     fn origin_mode(&mut self, on: bool)
         ensures { self.new ≡ origin_mode on self.old }
     {
@@ -67,7 +67,7 @@ impl Display {
         self.cursor = Cursor::at(row, 1);
     }
 
-    /// DECAWM: without it the wrap flag is reset.
+    /// Sets or resets DECAWM. If it is reset, so is the wrap flag.
     fn autowrap_mode(&mut self, on: bool)
         ensures { self.new ≡ autowrap_mode on self.old }
     {
@@ -75,8 +75,8 @@ impl Display {
         self.cursor.wrap = self.cursor.wrap && on;
     }
 
-    /// DECCOLM: 132 or 80 columns, all blank; full margins, home. The saved column is brought inside the width, and the
-    /// saved wrap flag is reset.
+    /// Carries out DECCOLM: 132 or 80 columns, all blank, full margins, and the cursor home. The saved column is
+    /// brought inside the width, and the saved wrap flag is reset.
     fn column_mode(&mut self, wide: bool)
         ensures { self.new ≡ column_mode wide self.old }
     {
@@ -87,14 +87,14 @@ impl Display {
         self.saved.wrap = false;
     }
 
-    /// DECKPAM and DECKPNM.
+    /// Carries out DECKPAM and DECKPNM.
     pub(crate) fn keypad_mode(&mut self, application: bool)
         ensures { self.new ≡ keypad_mode application self.old }
     {
         self.modes.keypad_application = application;
     }
 
-    /// S8C1T and S7C1T.
+    /// Carries out S8C1T and S7C1T.
     pub(crate) fn report_form(&mut self, eight: bool)
         ensures { self.new ≡ report_form eight self.old }
     {

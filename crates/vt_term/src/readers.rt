@@ -1,4 +1,4 @@
-//! What a terminal is asked for: each part of its state.
+//! Readers of each part of a terminal's state.
 ghost use Rattle.std.specs.Prelude.{◌≡◌, ◌↔◌, ◌≤◌, ◌⊎◌, IsTrue, true, false, length};
 ghost use Rattle.vt_syntax.specs.Held.{IsHeldPart};
 ghost use Rattle.vt_syntax.specs.declared.held.Held.TheVariants.{Nothing};
@@ -13,7 +13,7 @@ use vt_screen::{Brush, Cell};
 use vt_syntax::{Held, Parser};
 
 impl Terminal {
-    /// The cells of a row, from 1 to 24: as many as the screen is wide.
+    /// Returns the cells of a row, 1 to 24: as many as the screen is wide.
     pub fn row(&self, row: usize) -> &[Cell]
         requires { (1 ≤ row) × (row ≤ last_row) }
         ensures cells { result.now ≡ row_of self.now.display.grid row }
@@ -23,7 +23,7 @@ impl Terminal {
         self.display.screen.row(row)
     }
 
-    /// How many columns the screen has: 80, or 132.
+    /// Returns the number of columns: 80 or 132.
     pub fn width(&self) -> usize
         ensures width { result ≡ self.now.display.grid.width }
         ensures sound { IsSound self.now }
@@ -32,7 +32,7 @@ impl Terminal {
         self.display.screen.width()
     }
 
-    /// Where the next glyph goes, and whether it begins a new line.
+    /// Returns the cursor: the position of the next glyph, and whether it begins a new line.
     pub fn cursor(&self) -> Cursor
         ensures cursor { result ≡ self.now.display.cursor }
         ensures sound { IsSound self.now }
@@ -41,50 +41,51 @@ impl Terminal {
         self.display.cursor
     }
 
-    /// What the next glyph is written with.
+    /// Returns the brush: the attributes and the protection of the next glyph.
     pub fn brush(&self) -> Brush
         ensures { result ≡ self.now.display.brush }
     {
         self.display.pen.brush()
     }
 
-    /// The graphic sets, designated and invoked.
+    /// Returns the graphic sets, designated and invoked.
     pub fn sets(&self) -> &Sets
         ensures sets { result.now ≡ self.now.display.sets }
     {
         &self.display.sets
     }
 
-    /// The scroll region: the whole screen, unless DECSTBM set another.
+    /// Returns the scroll region: the whole screen, unless DECSTBM set another.
     pub fn margins(&self) -> Margins
         ensures { result ≡ self.now.display.margins }
     {
         self.display.margins
     }
 
-    /// The tab stops: place c - 1 for column c, from 1 to 132 whatever the width.
+    /// Returns the tab stops: index c - 1 for column c, from 1 to 132 at any width.
     pub fn stops(&self) -> &[bool; STOPS]
         ensures { result.now ≡ self.now.display.stops }
     {
         &self.display.stops
     }
 
-    /// Which modes are set, the keypad's and the form of reports among them.
+    /// Returns the modes, with those of the keypad and of the form of reports.
     pub fn modes(&self) -> Modes
         ensures { result ≡ self.now.display.modes }
     {
         self.display.modes
     }
 
-    /// What DECRC gives back: what DECSC saved last, or after a reset what is saved at power-up. A change of the
-    /// columns since then (DECCOLM) has brought its column inside the width, and has reset its wrap flag.
+    /// Returns the state that DECRC restores: what DECSC saved last, or after a reset what is saved at power-up.
+    ///
+    /// A later change of the columns (DECCOLM) has brought its column inside the width, and has reset its wrap flag.
     pub fn saved(&self) -> Saved
         ensures { result ≡ self.now.display.saved }
     {
         self.display.saved
     }
 
-    /// What of an unfinished sequence is held.
+    /// Returns the held part: what decides how an unfinished sequence goes on.
     pub fn held(&self) -> &Held
         ensures held { result.now ≡ self.now.held }
         ensures held_part { IsHeldPart self.now.held }
@@ -92,21 +93,21 @@ impl Terminal {
         self.parser.held()
     }
 
-    /// Makes a parser that holds the same: it reads what follows as the terminal does.
+    /// Returns a parser with the same held part. It reads the following bytes as the terminal does.
     pub fn parser(&self) -> Parser
         ensures { result ≡ self.now.held }
     {
         self.parser.copied()
     }
 
-    /// Whether the terminal is between sequences.
+    /// Returns whether the terminal is between sequences.
     pub fn is_between(&self) -> bool
         ensures { IsTrue result ↔ (self.now.held ≡ Nothing) }
     {
         self.parser.is_between()
     }
 
-    /// Whether the two terminals are in the same state, the held part included.
+    /// Returns whether the two terminals are in the same state, the held part included.
     pub fn same_state(&self, other: &Terminal) -> bool
         ensures { IsTrue result ↔ (self.now ≡ other.now) }
     {

@@ -1,4 +1,4 @@
-//! The brush: the attributes and the protection of what is written.
+//! The brush: the attributes and the protection of what is written next.
 ghost use Rattle.std.specs.Prelude.{◌≡◌, ◌≤◌};
 ghost use Rattle.vt_syntax.specs.Front.{front_list};
 ghost use Rattle.vt_term.specs.Rendition.{with_attribute, with_rendition, select_graphic_rendition};
@@ -9,7 +9,7 @@ use vt_screen::Rendition;
 use vt_syntax::FrontValues;
 
 impl Display {
-    /// SGR: each parameter in order.
+    /// Carries out SGR: each parameter in order.
     #[inline(always)]
     pub(crate) fn select_graphic_rendition(&mut self, params: &[u16])
         ensures { self.new ≡ select_graphic_rendition params.now self.old }
@@ -19,7 +19,7 @@ impl Display {
         }
     }
 
-    /// Carries out SGR of one to three parameters.
+    /// Carries out SGR with one to three parameters.
     #[inline(always)]
     pub(crate) fn select_front_rendition(&mut self, front: &FrontValues)
         requires few { (1 ≤ front.now.count) × (front.now.count ≤ 3) }
@@ -36,7 +36,7 @@ impl Display {
         self.change_rendition(front.third);
     }
 
-    /// One parameter of SGR.
+    /// Carries out one parameter of SGR.
     #[inline(always)]
     #[tactic(auto, unfolding(crate::specs::Rendition::with_attribute))]
     fn change_rendition(&mut self, p: u16)
@@ -56,7 +56,7 @@ impl Display {
         }
     }
 
-    /// DECSCA: 1 protects what is written from now on, 0 and 2 do not.
+    /// Carries out DECSCA: 1 protects what is written afterwards, 0 and 2 don't.
     pub(crate) fn select_character_attribute(&mut self, p: u16)
         ensures { self.new ≡ select_character_attribute p self.old }
     {

@@ -1,4 +1,4 @@
-//! What the terminal reports.
+//! The terminal's reports.
 ghost use Rattle.std.specs.Prelude.{◌≡◌, ◌+◌, ◌≤◌, ◌<◌, ◌++◌, Some, None, length, decimal, vec_len, vec_capacity};
 ghost use Rattle.vt_term.specs.Reports.{answer, cursor_report, control_report, sequence_report};
 
@@ -6,7 +6,7 @@ use crate::display::Display;
 use itoa::Buffer;
 
 impl Display {
-    /// DECID.
+    /// Appends the report to DECID.
     #[inline(always)]
     #[tactic(auto, unfolding(crate::specs::Reports::control_report))]
     pub(crate) fn report_control(&self, b: u8, out: &mut Vec<u8>)
@@ -20,7 +20,7 @@ impl Display {
         }
     }
 
-    /// DA, by the first parameter.
+    /// Appends the report to DA, by the first parameter.
     #[inline(never)]
     #[tactic(auto, unfolding(crate::specs::Reports::sequence_report))]
     pub(crate) fn report_attributes(&self, p: u16, out: &mut Vec<u8>)
@@ -35,7 +35,7 @@ impl Display {
         }
     }
 
-    /// DSR: the operating status, and the cursor's place.
+    /// Appends the report to DSR: the operating status, or the cursor's position.
     #[inline(never)]
     #[tactic(auto, unfolding(crate::specs::Reports::sequence_report))]
     pub(crate) fn report_status(&self, p: u16, out: &mut Vec<u8>)
@@ -51,7 +51,7 @@ impl Display {
         }
     }
 
-    /// DSR after `?`: the printer, and the keyboard's language.
+    /// Appends the report to DSR with the marker `?`: the printer, or the keyboard's language.
     #[inline(never)]
     #[tactic(auto, unfolding(crate::specs::Reports::sequence_report))]
     pub(crate) fn report_private_status(&self, p: u16, out: &mut Vec<u8>)
@@ -67,7 +67,7 @@ impl Display {
         }
     }
 
-    /// An answer behind the introducer in its 7-bit or 8-bit form.
+    /// Appends a report: the introducer in its 7-bit or 8-bit form, and a text.
     pub(crate) fn answer(&self, text: &[u8], out: &mut Vec<u8>)
         requires { vec_len out.old + length text.now + 2 ≤ vec_capacity out.old }
         ensures items { out.new.items ≡ out.old.items ++ answer text.now self.now }
@@ -82,7 +82,7 @@ impl Display {
         out.extend_from_slice(text).unwrap();
     }
 
-    /// CPR: the cursor's row, under DECOM counted from the top margin, and its column.
+    /// Appends CPR: the cursor's row, under DECOM counted from the top margin, and its column.
     fn report_cursor(&self, out: &mut Vec<u8>)
         requires { vec_len out.old + 10 ≤ vec_capacity out.old }
         ensures items { out.new.items ≡ out.old.items ++ cursor_report self.now }

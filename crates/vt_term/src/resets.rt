@@ -8,7 +8,8 @@ use vt_glyph::{Glyph, Sets};
 use vt_screen::{Brush, Cell};
 
 impl Display {
-    /// DECALN: `E` everywhere, without attributes and unprotected; full margins, home.
+    /// Carries out DECALN: writes `E` at every position, without attributes and unprotected. Sets full margins, and
+    /// moves the cursor home.
     pub(crate) fn screen_alignment(&mut self)
         ensures { self.new ≡ screen_alignment self.old }
     {
@@ -18,7 +19,7 @@ impl Display {
         self.cursor = Cursor::at(1, 1);
     }
 
-    /// RIS.
+    /// Carries out RIS: resets the display to its power-up state.
     pub(crate) fn reset_to_initial_state(&mut self)
         ensures { self.new ≡ reset_to_initial_state self.old }
     {
@@ -32,7 +33,8 @@ impl Display {
         self.saved = Saved::power_up();
     }
 
-    /// DECSTR. It leaves the place of the cursor, the cells, the stops, and the modes that the definition doesn't name.
+    /// Carries out DECSTR. It leaves the cursor's position, the cells, the stops, and the modes that the definition
+    /// doesn't name.
     pub(crate) fn soft_reset(&mut self)
         ensures { self.new ≡ soft_reset self.old }
     {
@@ -50,7 +52,7 @@ impl Display {
         self.saved = Saved::power_up();
     }
 
-    /// DECSCL: a soft reset, and then the form of reports; other values have no effect.
+    /// Carries out DECSCL: a soft reset, and then the form of reports. Other values have no effect.
     pub(crate) fn set_conformance_level(&mut self, p1: u16, p2: u16)
         ensures { self.new ≡ set_conformance_level p1 p2 self.old }
     {

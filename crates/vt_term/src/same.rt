@@ -1,4 +1,4 @@
-//! Whether two parts are equal.
+//! Tests whether two parts are equal.
 ghost use Rattle.std.specs.Prelude.{◌≡◌, ◌↔◌, IsTrue};
 
 use crate::display::STOPS;

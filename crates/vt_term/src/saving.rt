@@ -8,7 +8,7 @@ use vt_glyph::Glyph;
 use vt_screen::Cell;
 
 impl Display {
-    /// DECSC.
+    /// Carries out DECSC: saves the cursor.
     pub(crate) fn save_cursor(&mut self)
         ensures { self.new ≡ save_cursor self.old }
     {
@@ -24,7 +24,8 @@ impl Display {
         };
     }
 
-    /// DECRC: the wrap flag only under DECAWM; a pending single shift stays.
+    /// Carries out DECRC: restores the saved cursor. It restores the wrap flag only under DECAWM. A pending single
+    /// shift stays.
     pub(crate) fn restore_cursor(&mut self)
         ensures { self.new ≡ restore_cursor self.old }
     {

@@ -5,7 +5,7 @@ ghost use Rattle.vt_term.specs.State.{at_place, full_margins, modes_at_power_up,
 use vt_glyph::{Set, Sets};
 use vt_screen::{Brush, ROWS};
 
-/// The place of the next glyph. Rows count from 1 to 24, columns from 1 to the width.
+/// The cursor: the position of the next glyph. Rows count from 1 to 24, columns from 1 to the width.
 #[derive(Clone, Copy, Debug, PartialEq, Eq)]
 pub struct Cursor {
     /// The row, 1 to 24.
@@ -17,7 +17,7 @@ pub struct Cursor {
 }
 
 impl Cursor {
-    /// The cursor at a place, the wrap flag reset.
+    /// Returns the cursor at a row and a column, with the wrap flag reset.
     pub(crate) fn at(row: usize, col: usize) -> Cursor
         ensures { result ≡ at_place row col }
     {
@@ -29,7 +29,7 @@ impl Cursor {
     }
 }
 
-/// The scroll region: its first and last row, both from 1 to 24, the first above the last.
+/// The scroll region: its first and last row, both from 1 to 24. The first is above the last.
 #[derive(Clone, Copy, Debug, PartialEq, Eq)]
 pub struct Margins {
     /// The first row, 1 to 23.
@@ -39,7 +39,7 @@ pub struct Margins {
 }
 
 impl Margins {
-    /// The whole screen.
+    /// Returns the margins of the whole screen.
     pub(crate) fn full() -> Margins
         ensures { result ≡ full_margins }
     {
@@ -50,17 +50,17 @@ impl Margins {
     }
 }
 
-/// The modes, named as in the manual; true where set. Only IRM, LNM, DECOM, DECAWM and the form of reports change what
-/// later bytes do; the others are kept for whoever draws the screen or has a keyboard. (VT220 manual, chapter 4)
+/// The modes, named as in the manual: true if set. IRM, LNM, DECOM, DECAWM and the form of reports change what later
+/// bytes do. The others are kept for programs that draw the screen or have a keyboard. (VT220 manual, chapter 4)
 #[derive(Clone, Copy, Debug, PartialEq, Eq)]
 pub struct Modes {
     /// The keyboard is locked.
     pub kam: bool,
-    /// A glyph moves the rest of its row right, and doesn't write it over.
+    /// A glyph moves the rest of its row right, and replaces no cell.
     pub irm: bool,
-    /// What is typed isn't shown by the terminal itself.
+    /// The terminal doesn't show what is typed by itself.
     pub srm: bool,
-    /// LF goes to column 1, too.
+    /// LF also goes to column 1.
     pub lnm: bool,
     /// The arrow keys send application sequences.
     pub decckm: bool,
@@ -70,7 +70,7 @@ pub struct Modes {
     pub decscnm: bool,
     /// Lines are counted from the top margin, and the cursor stays inside the margins.
     pub decom: bool,
-    /// A glyph behind the last column begins a new line.
+    /// A glyph after the last column begins a new line.
     pub decawm: bool,
     /// Keys repeat.
     pub decarm: bool,
@@ -83,7 +83,7 @@ pub struct Modes {
 }
 
 impl Modes {
-    /// SRM, DECAWM, DECARM and DECTCEM are set.
+    /// Returns the modes at power-up: SRM, DECAWM, DECARM and DECTCEM are set.
     pub(crate) fn power_up() -> Modes
         ensures { result ≡ modes_at_power_up }
     {
@@ -105,30 +105,31 @@ impl Modes {
     }
 }
 
-/// What DECSC saves. Rows count from 1 to 24, and the row may lie outside the margins; columns from 1 to the width.
+/// The state that DECSC saves. Rows count from 1 to 24, and columns from 1 to the width. The row may be outside the
+/// margins.
 #[derive(Clone, Copy, Debug, PartialEq, Eq)]
 pub struct Saved {
     /// The row, 1 to 24.
     pub row: usize,
     /// The column, 1 to the width.
     pub col: usize,
-    /// The wrap flag. It is set in the last column alone.
+    /// The wrap flag. It is set only in the last column.
     pub wrap: bool,
-    /// What glyphs were written with.
+    /// The brush.
     pub brush: Brush,
-    /// The sets that are designated as G0 to G3.
+    /// The sets designated as G0 to G3.
     pub g: [Set; 4],
-    /// Which of them is in GL, 0 to 3.
+    /// The number of the set in GL, 0 to 3.
     pub gl: u8,
-    /// Which of them is in GR, 1 to 3.
+    /// The number of the set in GR, 1 to 3.
     pub gr: u8,
-    /// DECOM.
+    /// Whether DECOM was set.
     pub origin: bool,
 }
 
 impl Saved {
-    /// What is saved at power-up: the cursor in row 1 and column 1 without the wrap flag, the plain brush, the sets of
-    /// power-up, and DECOM reset. (This profile)
+    /// Returns the saved state at power-up: the cursor in row 1 and column 1 without the wrap flag, and the plain
+    /// brush. The sets are those of power-up, and DECOM is reset. (This profile)
     pub fn power_up() -> Saved
         ensures { result ≡ saved_at_power_up }
     {

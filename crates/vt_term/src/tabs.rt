@@ -6,7 +6,7 @@ use crate::display::{Display, STOPS};
 use crate::state::Cursor;
 
 impl Display {
-    /// HT: to the next stop, or else to the last column.
+    /// Carries out HT: moves the cursor to the next tab stop, or to the last column if there is none.
     pub(crate) fn horizontal_tab(&mut self)
         ensures { self.new ≡ horizontal_tab self.old }
     {
@@ -14,14 +14,14 @@ impl Display {
         self.cursor = Cursor::at(self.cursor.row, col);
     }
 
-    /// HTS.
+    /// Carries out HTS: sets a tab stop at the cursor's column.
     pub(crate) fn set_tab(&mut self)
         ensures { self.new ≡ set_tab self.old }
     {
         self.stops[self.cursor.col - 1] = true;
     }
 
-    /// TBC: 0 clears the stop at the cursor's column, 3 all stops.
+    /// Carries out TBC: 0 clears the stop at the cursor's column, 3 clears all stops.
     #[inline(never)]
     pub(crate) fn clear_tabs(&mut self, p: u16)
         ensures { self.new ≡ clear_tabs p self.old }
@@ -34,7 +34,7 @@ impl Display {
     }
 }
 
-/// The next stop right of a column, or else the last column.
+/// Returns the next stop to the right of a column, or the last column if there is none.
 fn next_stop(stops: &[bool; STOPS], col: usize, last: usize) -> usize
     requires { (1 ≤ col) × (col ≤ last) × (last ≤ STOPS) }
     ensures stop { result ≡ next_stop_of stops.now col last }
@@ -48,7 +48,7 @@ fn next_stop(stops: &[bool; STOPS], col: usize, last: usize) -> usize
     last
 }
 
-/// No stop in any column.
+/// Returns a table without a stop in any column.
 fn no_stops() -> [bool; STOPS]
     ensures { result ≡ no_stops }
 {

@@ -11,20 +11,20 @@ use vt_glyph::Sets;
 use vt_screen::{Brush, Cell};
 use vt_syntax::Parser;
 
-/// The most bytes of the text of a row: three for each of 132 cells, and LF.
+/// The limit of the text of a row in bytes: three for each of 132 cells, and LF.
 pub const ROW_TEXT_LIMIT: usize = 3 * STOPS + 1;
 
 const _: () = prove!(ROW_TEXT_LIMIT == 397);
 
-/// The most bytes of a text: that of each row.
+/// The limit of a text in bytes: that of a row, for each row.
 pub const TEXT_LIMIT: usize = ROWS * ROW_TEXT_LIMIT;
 
 const _: () = prove!(TEXT_LIMIT == 9528);
 
-/// The most report bytes for each byte of a piece.
+/// The limit of report bytes for each byte of a chunk.
 pub const REPORT_LIMIT: usize = 10;
 
-/// A terminal. All its memory is taken by `new`.
+/// A terminal. `new` allocates its memory. After that, only calls that reserve capacity in `out` allocate.
 #[derive(Debug, Drop)]
 pub struct Terminal {
     pub(crate) display: Display,
@@ -40,7 +40,7 @@ impl Model for Terminal {
 }
 
 impl Terminal {
-    /// A terminal as at power-up. `Err` where memory was refused.
+    /// Returns a terminal in its power-up state. Returns `Err` if allocation fails.
     pub fn new(alloc: Global) -> Result<Terminal, AllocError>
         ensures { IfOk result (λ t. t ≡ power_up) }
     {
@@ -50,7 +50,7 @@ impl Terminal {
         })
     }
 
-    /// That the terminal is sound: a clause for the proofs, and no work.
+    /// States that the terminal is sound, for proofs. It does nothing when it runs.
     pub(crate) fn soundness(&self)
         ensures { IsSound self.now }
     {

@@ -5,6 +5,7 @@ ghost use Rattle.std.specs.Prelude.{encode_utf8, OnOk, OnErr, IsOk};
 ghost use Rattle.vt_screen.specs.Grid.{row_of, last_row};
 ghost use Rattle.vt_term.specs.Text.{text, glyphs_of, line_text, trimmed};
 
+use crate::ascii_text::push_ascii_line;
 use crate::display::ROWS;
 use crate::terminal::{ROW_TEXT_LIMIT, TEXT_LIMIT, Terminal};
 use std::alloc::AllocError;
@@ -12,9 +13,9 @@ use vt_glyph::Glyph;
 use vt_screen::Cell;
 
 impl Terminal {
-    /// Appends the text of the screen to `out`: each row without the spaces at its end, in UTF-8, and LF.
+    /// Appends the text of the screen to `out`: each row in UTF-8, without the spaces at its end, and LF.
     ///
-    /// `TEXT_LIMIT` bytes of room are reserved first. `Err` where that is refused: then the contents of `out` are
+    /// It first reserves `TEXT_LIMIT` bytes of capacity. Returns `Err` if that fails. Then the contents of `out` are
     /// unchanged.
     pub fn text(&self, out: &mut Vec<u8>) -> Result<(), AllocError>
         ensures ok { OnOk result (out.new.items ≡ out.old.items ++ text self.now) }
@@ -28,8 +29,8 @@ impl Terminal {
         Ok(())
     }
 
-    /// Appends the text of the screen to `out`, which has the room: `TEXT_LIMIT` bytes. It never fails and takes no
-    /// memory.
+    /// Appends the text of the screen to `out`, which has capacity for `TEXT_LIMIT` more bytes. It never fails and
+    /// allocates nothing.
     pub fn text_reserved(&self, out: &mut Vec<u8>)
         requires { vec_len out.old + TEXT_LIMIT ≤ vec_capacity out.old }
         ensures items { out.new.items ≡ out.old.items ++ text self.now }
@@ -55,14 +56,14 @@ impl Terminal {
     }
 }
 
-/// Whether a cell shows a space.
+/// Returns whether a cell shows a space.
 fn shows_space(cell: &Cell) -> bool
     ensures { IsTrue result ↔ (cell.now.glyph ≡ space) }
 {
     cell.glyph == Glyph::blank()
 }
 
-/// The row without the cells at its end that show a space.
+/// Returns the row without the cells at its end that show a space.
 fn without_trailing_spaces(cells: &[Cell]) -> &[Cell]
     ensures value { glyphs_of result.now ≡ trimmed (glyphs_of cells.now) }
     ensures shorter { length result.now ≤ length cells.now }
@@ -74,7 +75,7 @@ fn without_trailing_spaces(cells: &[Cell]) -> &[Cell]
     &cells[..end]
 }
 
-/// Appends a glyph's character in UTF-8, at most three bytes. The room is there.
+/// Appends a glyph's character in UTF-8, at most three bytes, for which `out` has capacity.
 fn push_glyph(glyph: Glyph, out: &mut Vec<u8>)
     requires { vec_len out.old + 3 ≤ vec_capacity out.old }
     ensures items { out.new.items ≡ out.old.items ++ encode_utf8 glyph }
@@ -91,8 +92,21 @@ fn push_glyph(glyph: Glyph, out: &mut Vec<u8>)
     out.extend_from_slice(text.as_bytes()).unwrap();
 }
 
-/// Appends the text of a row: its characters without the spaces at its end, and LF. The room is there.
+/// Appends the text of a row: its characters without the spaces at its end, and LF. `out` has capacity for it.
 pub(crate) fn push_line(cells: &[Cell], out: &mut Vec<u8>)
+    requires few { length cells.now ≤ 132 }
+    requires room { vec_len out.old + 3 * length cells.now + 1 ≤ vec_capacity out.old }
+    ensures items { out.new.items ≡ out.old.items ++ line_text cells.now }
+    ensures bounded { vec_len out.new ≤ vec_len out.old + 3 * length cells.now + 1 }
+    ensures capacity { vec_capacity out.old ≤ vec_capacity out.new }
+{
+    if !push_ascii_line(cells, out) {
+        push_glyphs(cells, out);
+    }
+}
+
+/// Appends the text of a row, a cell at a time. The room is there.
+fn push_glyphs(cells: &[Cell], out: &mut Vec<u8>)
     requires { vec_len out.old + 3 * length cells.now + 1 ≤ vec_capacity out.old }
     ensures items { out.new.items ≡ out.old.items ++ line_text cells.now }
     ensures bounded { vec_len out.new ≤ vec_len out.old + 3 * length cells.now + 1 }

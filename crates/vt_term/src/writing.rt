@@ -15,7 +15,7 @@ use vt_screen::laws::runs;
 use vt_screen::{COLUMNS, Cell};
 
 impl Display {
-    /// A graphic byte, 20..7E or A0..FF: it is read through the sets.
+    /// Reads a graphic byte, 20..7E or A0..FF, through the sets, and writes its glyph.
     #[inline(always)]
     pub(crate) fn print(&mut self, b: u8)
         requires { ((0x20 ≤ b) × (b ≤ 0x7E)) ⊎ (0xA0 ≤ b) }
@@ -26,7 +26,7 @@ impl Display {
         }
     }
 
-    /// A glyph is written.
+    /// Writes a glyph at the cursor, after a pending wrap.
     #[inline(always)]
     pub(crate) fn write_glyph(&mut self, glyph: Glyph)
         ensures { self.new ≡ write_glyph glyph self.old }
@@ -35,7 +35,7 @@ impl Display {
         self.put_glyph(glyph);
     }
 
-    /// A pending wrap is carried out.
+    /// Carries out a pending wrap.
     #[inline(always)]
     pub(crate) fn carry_out_wrap(&mut self)
         ensures { self.new ≡ after_wrap self.old }
@@ -45,7 +45,7 @@ impl Display {
         }
     }
 
-    /// A glyph where no wrap is pending: under IRM the cells from the cursor on move right first.
+    /// Writes a glyph if no wrap is pending. Under IRM the cells starting at the cursor first move right.
     #[inline(always)]
     fn put_glyph(&mut self, glyph: Glyph)
         ensures { self.new ≡ put_glyph glyph self.old }
@@ -64,16 +64,16 @@ impl Display {
         }
     }
 
-    /// Whether a graphic byte is read through the sets in GL and GR and written over the cell at the cursor: no single
-    /// shift is pending, and IRM is reset.
+    /// Returns whether a graphic byte is read through the sets in GL and GR and replaces the cell at the cursor. That
+    /// is so if no single shift is pending and IRM is reset.
     pub(crate) fn writes_over(&self) -> bool
         ensures { IsTrue result ↔ ((self.now.sets.pending ≡ None) × (self.now.modes.irm ≡ false)) }
     {
         !self.modes.irm && self.sets.pending().is_none()
     }
 
-    /// Writes a run of plain bytes where GL is ASCII. Most runs end in the cursor's row.
-    /// Speed: a run that ends in the row of the cursor is written at once.
+    /// Writes a run of plain bytes if GL is ASCII. Speed: a run that ends in the cursor's row is written at once. Most
+    /// runs do.
     #[inline(always)]
     pub(crate) fn write_run(&mut self, run: &[u8])
         requires plain { All IsPlain run.now }
@@ -89,7 +89,7 @@ impl Display {
         }
     }
 
-    /// The same, a line at a time.
+    /// Writes a run of plain bytes, line by line.
     #[inline(never)]
     fn write_lines(&mut self, run: &[u8])
         requires plain { All IsPlain run.now }
@@ -106,8 +106,8 @@ impl Display {
         }
     }
 
-    /// Writes a run of graphic bytes through the sets in GL and GR. Most runs end in the cursor's row.
-    /// Speed: a run that ends in the row of the cursor is written at once.
+    /// Writes a run of graphic bytes through the sets in GL and GR. Speed: a run that ends in the cursor's row is
+    /// written at once. Most runs do.
     #[inline(always)]
     pub(crate) fn write_graphics(&mut self, run: &[u8])
         requires graphic { All HasGlyph run.now }
@@ -124,7 +124,7 @@ impl Display {
         }
     }
 
-    /// The same, a line at a time.
+    /// Writes a run of graphic bytes, line by line.
     #[inline(never)]
     fn write_graphic_lines(&mut self, run: &[u8], table: &InUse)
         requires graphic { All HasGlyph run.now }
@@ -153,7 +153,7 @@ impl Display {
         self.cursor.col + run.len() <= self.screen.width()
     }
 
-    /// How many cells there are from the cursor to the end of its row.
+    /// Returns the number of cells from the cursor to the end of its row.
     fn room(&self) -> usize
         ensures room { result + self.now.cursor.col ≡ self.now.grid.width + 1 }
         ensures some { 1 ≤ result }
@@ -171,7 +171,7 @@ impl Display {
         ensures { self.new ≡ with_run run.now self.old }
     {
         let Cursor { row, col, .. } = self.cursor;
-        // The cursor goes first: behind the cells the compiler would read it and the width anew.
+        // The cursor is moved first: after the cells, the compiler would read it and the width again.
         self.advance(run.len());
         self.screen.put_run(row, col, run, self.pen);
     }
@@ -189,7 +189,7 @@ impl Display {
         self.screen.put_graphics(row, col, run, table, self.pen);
     }
 
-    /// The cursor goes behind `n` glyphs that were written in its row.
+    /// Moves the cursor after `n` glyphs that were written in its row.
     #[inline(always)]
     fn advance(&mut self, n: usize)
         requires some { 1 ≤ n }

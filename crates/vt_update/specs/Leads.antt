@@ -1,4 +1,4 @@
--- What an update promises: not its bytes, but where they lead. (this profile)
+-- The promise of an update: not its bytes, but the state to which they lead. (this profile)
 use Rattle.std.specs.Prelude.{◌≡◌, ◌≢◌, ◌⊎◌, ℕ, List, [], ◌∷◌, ◌++◌}
 use Rattle.vt_term.specs.State.{State}
 use Rattle.vt_term.specs.Play.{Played, play, play_all, joined}
@@ -7,7 +7,7 @@ use Rattle.vt_term.specs.Play.{Played, play, play_all, joined}
 abbrev pub silently : State → Played
 silently s = record { state = s; reports = [] }
 
--- playing the bytes from one state, whole or cut in any pieces, leaves exactly the other, and reports nothing
+-- playing the bytes from one state, whole or cut into any chunks, leaves exactly the other state, and gives no report
 pub record Leads (shown : State) (bytes : List ℕ) (to : State) : Type 0 where
   pub whole : play shown bytes ≡ silently to
   pub cut : (pieces : List (List ℕ)) → joined pieces ≡ bytes → play_all shown pieces ≡ silently to

@@ -1,3 +1,3 @@
--- What private contracts alone speak of. No public clause does, and no reader has to believe it.
+-- What only private contracts cite. No public clause does, and no reader has to believe it.
 pub mod Attributes
 pub mod Appended

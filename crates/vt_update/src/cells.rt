@@ -8,17 +8,17 @@ use crate::rows::{BLANK, Rows, word_of};
 use vt_screen::{Cell, ROWS};
 use vt_term::Terminal;
 
-/// An erasure pays where it spares more cells than this: so many bytes it takes.
+/// An erasure is chosen if it saves more cells than this: the number of bytes that it takes.
 const ERASURE: i32 = 3;
 
-/// What erasing spares: the rest of the row, and the rows below.
+/// The number of cells that erasing saves: in the remainder of the row, and in the rows below.
 #[derive(Clone, Copy)]
 struct Spared {
     here: i32,
     below: i32,
 }
 
-/// What was erased.
+/// What was erased: nothing, the remainder of the row, or also the rows below.
 #[derive(Clone, Copy, PartialEq, Eq)]
 enum Erased {
     Nothing,
@@ -27,7 +27,7 @@ enum Erased {
 }
 
 impl Remote {
-    /// All cells, by row and column.
+    /// Writes all cells, by row and column.
     pub(crate) fn set_cells(&mut self, rows: &Rows<'_>, to: &Terminal, out: &mut Vec<u8>)
         ensures appended { Appended out.old.items out.new.items }
         ensures capacity { vec_capacity out.old ≤ vec_capacity out.new }
@@ -39,7 +39,7 @@ impl Remote {
         }
     }
 
-    /// Writes the cells of a row, which was erased or is as it was. Returns whether the rows below are erased.
+    /// Writes the cells of a row that was erased or is unchanged. Returns whether the rows below are erased.
     fn set_row(
         &mut self,
         row: usize,
@@ -105,7 +105,7 @@ impl Remote {
         false
     }
 
-    /// Goes to a place, and writes a run from there on. Returns how many cells it has.
+    /// Goes to a position, and writes a run that begins there. Returns its number of cells.
     #[inline(always)]
     fn write_part(
         &mut self,
@@ -130,7 +130,7 @@ impl Remote {
         count
     }
 
-    /// The cells of a row that aren't blank, from a place on where the other side has a blank row.
+    /// Writes the cells of a row that aren't blank, starting at `from`. The other side has a blank row there.
     fn write_filled(
         &mut self,
         row: usize,
@@ -155,7 +155,7 @@ impl Remote {
         }
     }
 
-    /// ED or EL from a place on, where that pays.
+    /// Writes ED or EL at a position if it saves enough. Returns what was erased.
     fn erase(&mut self, row: usize, col: usize, spared: Spared, to: &Terminal) -> Erased
         requires { (1 ≤ row) × (row ≤ last_row) }
     {

@@ -1,5 +1,5 @@
-//! The choice of bytes. What rests on it is their number and that they are elements of what updates are made of: where
-//! they lead is seen when they are played, before they are sent.
+//! The choice of bytes. Updates depend only on their number, and on that they are elements of what updates consist of.
+//! Where they lead is checked by playing them before they are sent.
 ghost use Rattle.std.specs.Prelude.{◌≡◌, ◌≤◌, ◌++◌, drop, vec_len, vec_capacity};
 ghost use Rattle.vt_paint.specs.Spoken.{Speaks};
 ghost use Rattle.vt_update.specs.Private.Appended.{Appended};
@@ -7,11 +7,14 @@ ghost use Rattle.vt_update.specs.Private.Appended.{Appended};
 use crate::remote::Remote;
 use crate::rows::Rows;
 use crate::scrolling::Scroll;
+use vt_screen::{COLUMNS, Cell};
 use vt_term::{ROWS, Terminal};
 
-/// Appends bytes that should lead from one state to another, whose rows differ in so many places each.
+/// Appends bytes that should lead from one state to another. `counts` has the number of cells of each row that differ.
 ///
-/// None where a single shift is pending: the next glyph is then another.
+/// It appends none if a single shift is pending, since the next glyph would be read through it. (It isn't inlined,
+/// so that its buffers aren't on the stack while the bytes are played.)
+#[inline(never)]
 pub(crate) fn push_choice(
     shown: &Terminal,
     counts: &[usize; ROWS],
@@ -30,14 +33,16 @@ pub(crate) fn push_choice(
 }
 
 impl Remote {
-    /// Brings the other side, whose cells are those of `shown`, to the state that is asked for.
+    /// Brings the other side, which has the cells of `shown`, to the state of `to`.
     fn bring(&mut self, shown: &Terminal, counts: &[usize; ROWS], to: &Terminal, out: &mut Vec<u8>)
         ensures appended { Appended out.old.items out.new.items }
         ensures capacity { vec_capacity out.old ≤ vec_capacity out.new }
     {
         let cursor = to.cursor();
         self.set_margins(to.margins());
-        let mut rows = Rows::new(shown, counts, to);
+        let blanks = [Cell::blank(); COLUMNS];
+        let blank = &blanks[..shown.width().min(COLUMNS)];
+        let mut rows = Rows::new(shown, blank, counts, to);
         if let Some(scroll) = Scroll::find(&rows, shown, to) {
             self.scroll(scroll, to);
             rows.scroll(scroll, to);

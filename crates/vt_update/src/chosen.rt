@@ -1,4 +1,4 @@
-//! The bytes that are chosen: elements of what updates are made of, and nothing else.
+//! The chosen bytes: elements that updates consist of, and nothing else.
 ghost use Rattle.std.specs.Prelude.{◌≡◌, ℕ, ◌+◌, ◌≤◌, ◌++◌, ◌∷◌, [], true, length, take, codes, vec_capacity};
 ghost use Rattle.vt_paint.specs.Spoken.{Control, Escape, Sequence, is_spoken, is_one_of, is_among, mode_numbers, Speaks};
 ghost use Rattle.vt_update.specs.declared.chosen.TheConstants.{ROOM};
@@ -9,18 +9,18 @@ use itoa::Buffer;
 use vt_glyph::Set;
 use vt_screen::Cell;
 
-/// How many bytes are kept before they are appended to the output.
-const ROOM: usize = 1024;
+/// The number of bytes that are kept before they are appended to the output.
+const ROOM: usize = 768;
 
-/// So many are appended before more cells are written. The other half is room for a run of cells with all that stands before
-/// it, and for all that follows the cells.
+/// If there are this many bytes, they are appended before more cells are written. The other half has capacity for a run
+/// of cells with everything before it, and for everything after the cells.
 const MANY: usize = ROOM / 2;
 
 /// CSI in two bytes.
 const CSI: &[u8] = b"\x1B[";
 
-/// The elements chosen last, which aren't appended yet. One that passes the room is left out; played, the bytes then don't
-/// lead where they should.
+/// The elements chosen last, which aren't appended yet. An element that doesn't fit is left out. The play then shows
+/// that the bytes don't lead to the target.
 #[derive(Drop)]
 pub(crate) struct Chosen {
     bytes: [u8; ROOM],
@@ -29,7 +29,7 @@ pub(crate) struct Chosen {
     ghost speaks: { Speaks (take len bytes) },
 }
 
-/// Writes a part from a place on. Answers the place behind it.
+/// Writes a part at a position. Returns the position after it.
 #[inline(always)]
 fn put_part(part: &[u8], at: usize, all: &mut [u8; ROOM]) -> usize
     requires { at + length part.now ≤ ROOM }
@@ -43,8 +43,9 @@ fn put_part(part: &[u8], at: usize, all: &mut [u8; ROOM]) -> usize
     at + part.len()
 }
 
-/// Writes the bytes of cells from a place on, as long as these differ from the old ones and are in the range. The word `low` is
-/// written as the byte `first`, and the words behind it as the bytes behind it, up to 7E. Returns how many cells these are.
+/// Writes the bytes of cells at a position, as long as the cells differ from the old ones and are in the range. The
+/// word `low` is written as the byte `first`, and the words after it as the bytes after `first`, up to 7E. Returns the
+/// number of cells.
 fn put_codes(
     low: u64,
     first: u8,
@@ -72,7 +73,7 @@ fn put_codes(
     new.len()
 }
 
-/// Appends the bytes of elements to the output, if it has the room for them.
+/// Appends the bytes of elements to the output, if it has capacity for them.
 fn append(bytes: &[u8], out: &mut Vec<u8>)
     requires { Speaks bytes.now }
     ensures appended { Appended out.old.items out.new.items }
@@ -84,7 +85,7 @@ fn append(bytes: &[u8], out: &mut Vec<u8>)
 }
 
 impl Chosen {
-    /// No bytes.
+    /// Returns an empty list.
     pub(crate) fn new() -> Chosen {
         Chosen {
             bytes: [0; ROOM],
@@ -92,7 +93,7 @@ impl Chosen {
         }
     }
 
-    /// Appends the bytes to the output, if it has the room for them, and keeps none.
+    /// Appends the bytes to the output, if it has capacity for them, and keeps none.
     #[inline(never)]
     pub(crate) fn flush(&mut self, out: &mut Vec<u8>)
         ensures appended { Appended out.old.items out.new.items }
@@ -113,7 +114,7 @@ impl Chosen {
         }
     }
 
-    /// An element in three parts.
+    /// Writes an element in three parts.
     #[inline(always)]
     fn put(&mut self, front: &[u8], middle: &[u8], back: &[u8])
         requires { Speaks (front.now ++ (middle.now ++ back.now)) }
@@ -129,7 +130,7 @@ impl Chosen {
         }
     }
 
-    /// A graphic character, 20 to 7E.
+    /// Writes a graphic character, 20 to 7E.
     #[inline(always)]
     pub(crate) fn character(&mut self, code: u8) {
         if 0x20 <= code && code <= 0x7E {
@@ -137,8 +138,8 @@ impl Chosen {
         }
     }
 
-    /// Writes the characters of cells, as long as these differ from the old ones and are in the range. The word `low` is
-    /// written as `first`. Returns how many cells these are.
+    /// Writes the characters of cells, as long as the cells differ from the old ones and are in the range. The word
+    /// `low` is written as `first`. Returns the number of cells.
     pub(crate) fn characters(&mut self, low: u64, first: u8, old: &[Cell], new: &[Cell]) -> usize
         requires len { length old.now ≡ length new.now }
         requires first { (0x20 ≤ first) × (first ≤ 0x7E) }
@@ -157,7 +158,7 @@ impl Chosen {
         count
     }
 
-    /// A control of one byte.
+    /// Writes a control of one byte.
     #[inline(always)]
     pub(crate) fn control(&mut self, code: u8)
         requires { is_spoken (Control code) ≡ true }
@@ -165,7 +166,7 @@ impl Chosen {
         self.put(&[code], b"", b"");
     }
 
-    /// An escape sequence, by what stands behind ESC.
+    /// Writes an escape sequence, given what follows ESC.
     #[inline(always)]
     pub(crate) fn escape(&mut self, ending: &[u8])
         requires { is_spoken (Escape ending.now) ≡ true }
@@ -173,14 +174,14 @@ impl Chosen {
         self.put(b"\x1B", ending, b"");
     }
 
-    /// SCS, by the intermediate of G0, G1, G2 or G3.
+    /// Writes SCS, given the intermediate of G0, G1, G2 or G3.
     pub(crate) fn designation(&mut self, inter: u8, set: Set)
         requires { is_one_of (codes "()*+") inter ≡ true }
     {
         self.put(b"\x1B", &[inter], &[set.last()]);
     }
 
-    /// A control sequence, by its parameters and what ends it.
+    /// Writes a control sequence, given its parameters and what ends it.
     #[inline(always)]
     pub(crate) fn sequence(&mut self, parameters: &[u8], ending: &[u8])
         requires { is_spoken (Sequence parameters.now ending.now) ≡ true }
@@ -188,7 +189,7 @@ impl Chosen {
         self.put(CSI, parameters, ending);
     }
 
-    /// SM or RM.
+    /// Writes SM or RM.
     pub(crate) fn mode(&mut self, number: &[u8], on: bool)
         requires { is_among mode_numbers number.now ≡ true }
     {
@@ -199,7 +200,7 @@ impl Chosen {
         }
     }
 
-    /// A control sequence of one number, which is left out where it is 1.
+    /// Writes a control sequence of one number. The number is left out if it is 1.
     pub(crate) fn numbered(&mut self, n: usize, last: u8)
         requires { is_one_of (codes "CDHLMr") last ≡ true }
     {
@@ -211,7 +212,7 @@ impl Chosen {
         }
     }
 
-    /// A control sequence of two numbers.
+    /// Writes a control sequence of two numbers.
     pub(crate) fn numbered_twice(&mut self, n: usize, m: usize, last: u8)
         requires { is_one_of (codes "CDHLMr") last ≡ true }
     {

@@ -1,4 +1,4 @@
-//! Laws over the definitions alone. A caller calls one for its clauses.
+//! Laws over the definitions alone. A caller cites a law by a call of its function.
 ghost use Rattle.std.specs.Prelude.{◌≡◌, ◌↔◌, ℕ, List, [], ◌++◌};
 ghost use Rattle.vt_syntax.specs.declared.held.Held.TheVariants.{Nothing};
 ghost use Rattle.vt_term.specs.State.{State};
@@ -10,10 +10,11 @@ ghost use Rattle.vt_update.specs.Leads.{silently, Leads, LeadsAlong, last_state}
 use vt_paint::laws::rebuilds;
 use vt_term::laws::{cuts, soundness};
 
-/// Where bytes lead is where they play to in silence, whole or cut; no bytes lead from a state to itself alone.
+/// States that bytes lead to a state if and only if playing them reaches it without a report. The bytes may be whole or
+/// cut. No bytes lead from a state only to itself.
 ///
-/// Updates sent in turn lead a client along the server's states to the last one, whatever states these are. A client
-/// that gets a repaint first, whatever it shows, and then an update, is led there too.
+/// Updates that are sent in turn lead a client along the server's states to the last one, for any states. They also
+/// lead a client there that first gets a repaint, in any state, and then an update.
 pub fn leading()
     ensures played { (s t : State) (bytes : List ℕ) → IsSound s → play s bytes ≡ silently t → Leads s bytes t }
     ensures nothing { (s t : State) → IsSound s → Leads s [] t ↔ (s ≡ t) }

@@ -1,4 +1,4 @@
-//! The update: bytes that bring a terminal from one state to another, few where little differs.
+//! The update: bytes that bring a terminal from one state to another. They are few if little differs.
 #![tactic(auto)]
 
 mod cells;

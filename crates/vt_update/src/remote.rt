@@ -1,6 +1,7 @@
-//! The other side: what it has now, its cells apart. Each method sends bytes, and changes it as they change a terminal.
+//! The other side: its state without its cells. Each method sends bytes, and changes the state as they change a
+//! terminal.
 //!
-//! Of the cells one thing holds: those before the place looked at are already those that are asked for.
+//! All cells before the current position are already those of the target.
 ghost use Rattle.std.specs.Prelude.{◌≡◌, ◌+◌, ◌≤◌, ◌<◌, ◌++◌, true, length, take};
 ghost use Rattle.vt_screen.specs.Grid.{last_row};
 ghost use Rattle.vt_paint.specs.Spoken.{is_among, mode_numbers};
@@ -12,10 +13,10 @@ use vt_glyph::{Glyph, Set, Sets, Spelling};
 use vt_screen::{Brush, Cell, ROWS, Rendition};
 use vt_term::{Cursor, Margins, Modes, Saved, Terminal};
 
-/// The most cells that are written once more to get past them.
+/// The most cells that are written again to get past them.
 const FEW: usize = 4;
 
-/// What the other side has now, its cells apart, and the bytes chosen so far.
+/// The state of the other side without its cells, and the bytes chosen so far.
 #[derive(Drop)]
 pub(crate) struct Remote {
     pub(crate) chosen: Chosen,
@@ -31,7 +32,7 @@ pub(crate) struct Remote {
 }
 
 impl Remote {
-    /// The other side as it is before the first byte.
+    /// Returns the other side before the first byte.
     pub(crate) fn new(shown: &Terminal) -> Remote {
         let brush = shown.brush();
         Remote {
@@ -47,9 +48,9 @@ impl Remote {
         }
     }
 
-    // ---- going to a place
+    // ---- going to a position
 
-    /// DECSTBM, where the margins are others; the cursor is then home.
+    /// Sends DECSTBM if the margins differ. The cursor is then home.
     pub(crate) fn set_margins(&mut self, margins: Margins) {
         if self.margins != margins {
             self.chosen
@@ -59,7 +60,7 @@ impl Remote {
         }
     }
 
-    /// DECOM, where it is another; the cursor is then home.
+    /// Sends DECOM if it differs. The cursor is then home.
     pub(crate) fn set_origin(&mut self, on: bool) {
         if self.modes.decom != on {
             self.chosen.mode(b"?6", on);
@@ -68,7 +69,7 @@ impl Remote {
         }
     }
 
-    /// The cursor is in column 1 of row 1, or under DECOM of the top margin's row.
+    /// Moves the cursor to column 1 of row 1, or under DECOM of the top margin's row.
     fn home(&mut self) {
         let row = if self.modes.decom {
             self.margins.top
@@ -86,7 +87,7 @@ impl Remote {
         };
     }
 
-    /// The cursor at a place, the wrap flag reset. All cells of the row on the left are those of `to`.
+    /// Moves the cursor to a position, with the wrap flag reset. All cells to its left in the row are those of `to`.
     #[inline(always)]
     pub(crate) fn go(&mut self, row: usize, col: usize, to: &Terminal)
         requires { (1 ≤ row) × (row ≤ last_row) }
@@ -97,7 +98,7 @@ impl Remote {
         }
     }
 
-    /// The cursor at another place. DECOM goes where the row is outside the margins.
+    /// Moves the cursor to another position. Resets DECOM if the row is outside the margins.
     fn go_elsewhere(&mut self, row: usize, col: usize, to: &Terminal)
         requires { (1 ≤ row) × (row ≤ last_row) }
     {
@@ -120,7 +121,7 @@ impl Remote {
         self.stands_at(row, col);
     }
 
-    /// CUP.
+    /// Sends CUP.
     fn cursor_position(&mut self, line: usize, col: usize) {
         if col == 1 {
             self.chosen.numbered(line, b'H');
@@ -129,14 +130,14 @@ impl Remote {
         }
     }
 
-    /// LF to the next row, which is `row`; under LNM it goes to column 1.
+    /// Sends LF to the next row, which is `row`. Under LNM the cursor moves to column 1.
     pub(crate) fn line_feed(&mut self, row: usize) {
         self.chosen.control(b'\n');
         let col = if self.modes.lnm { 1 } else { self.cursor.col };
         self.stands_at(row, col);
     }
 
-    /// To a column of the row where the cursor is: BS, CUB, CR, the few cells between once more, or CUF.
+    /// Moves the cursor to a column of its row: by BS, CUB, CR, the few cells between written again, or CUF.
     fn go_sideways(&mut self, row: usize, col: usize, to: &Terminal)
         requires { (1 ≤ row) × (row ≤ last_row) }
     {
@@ -158,7 +159,8 @@ impl Remote {
         }
     }
 
-    /// Writes the cells of the cursor's row up to a column once more, where they are few and one byte each.
+    /// Writes the cells of the cursor's row up to a column again, if they are few and one byte each. Returns whether it
+    /// did.
     fn write_again(&mut self, row: usize, col: usize, to: &Terminal) -> bool
         requires row { (1 ≤ row) × (row ≤ last_row) }
     {
@@ -179,7 +181,8 @@ impl Remote {
         true
     }
 
-    /// The cursor with its wrap flag, which writing its cell once more sets. All cells are those that are asked for.
+    /// Moves the cursor to its position and sets its wrap flag, which writing its cell again does. All cells are those
+    /// of the target.
     pub(crate) fn stand(&mut self, cursor: Cursor, to: &Terminal)
         requires { (1 ≤ cursor.row) × (cursor.row ≤ last_row) }
     {
@@ -201,7 +204,7 @@ impl Remote {
 
     // ---- writing
 
-    /// SGR and DECSCA, where they are others.
+    /// Sends SGR and DECSCA if they differ.
     pub(crate) fn set_brush(&mut self, brush: Brush) {
         if self.brush.rendition != brush.rendition {
             self.select_rendition(brush.rendition);
@@ -217,8 +220,8 @@ impl Remote {
         self.number = brush_number(&brush);
     }
 
-    /// SGR: the attributes that are set now, or where one goes, all off and then those that are to be set. An empty
-    /// first parameter is 0.
+    /// Sends SGR: the attributes that are newly set. If one is reset, it sends all off and then those of the target. An
+    /// empty first parameter is 0.
     fn select_rendition(&mut self, new: Rendition) {
         let was = self.brush.rendition;
         let reset = was.bold && !new.bold
@@ -240,7 +243,7 @@ impl Remote {
         }
     }
 
-    /// The byte that writes a glyph under the set in GL, if one does.
+    /// Returns the byte that writes a glyph by the set in GL, if there is one.
     fn one_byte(&self, glyph: Glyph) -> Option<u8> {
         let code = glyph.code() as u8;
         if code == b' ' || 0x20 <= code && code <= 0x7E && self.has_ascii() {
@@ -255,14 +258,14 @@ impl Remote {
         }
     }
 
-    /// Whether a cell is written with the brush that is there.
+    /// Returns whether a cell is written with the current brush.
     #[inline(always)]
     fn has_brush(&self, cell: &Cell) -> bool {
         word_of(cell) >> 24 == self.number
     }
 
-    /// Writes a cell where the cursor is; the wrap flag is reset. `goes_on` says that the cell behind it is written next,
-    /// and is of the same set.
+    /// Writes a cell at the cursor, and resets the wrap flag. `goes_on` is true if the next cell is written next and is
+    /// of the same set.
     pub(crate) fn write(&mut self, cell: &Cell, goes_on: bool) {
         if self.modes.irm {
             self.chosen.mode(b"4", false);
@@ -280,8 +283,8 @@ impl Remote {
         self.pass(1);
     }
 
-    /// Writes the first cell where the cursor is, and those behind it as long as they differ from the old ones, aren't blank,
-    /// have its brush, and are of the set in GL. Answers how many these are.
+    /// Writes a run of cells, beginning at the cursor. Its cells differ from the old ones and aren't blank. They have
+    /// the brush of the first cell, and are of the set in GL. Returns the number of cells.
     pub(crate) fn write_run(&mut self, old: &[Cell], new: &[Cell]) -> usize
         requires some { 1 ≤ length new.now }
         requires len { length old.now ≡ length new.now }
@@ -299,8 +302,9 @@ impl Remote {
         }
     }
 
-    /// Writes the cells behind the first one, as long as they differ from the old ones, and have the brush and glyphs from a
-    /// code on, which is written as the byte `first`. Returns how many cells these are, with the first one.
+    /// Writes the cells of a run after the first one. Their glyphs have codes from `code` up, and `code` is written as
+    /// the byte `first`. They differ from the old ones, and have the brush. Returns the number of cells, including the
+    /// first.
     fn write_codes(&mut self, code: u8, first: u8, old: &[Cell], new: &[Cell]) -> usize
         requires some { 1 ≤ length new.now }
         requires len { length old.now ≡ length new.now }
@@ -314,7 +318,7 @@ impl Remote {
         count + 1
     }
 
-    /// The cursor behind so many cells more of its row.
+    /// Moves the cursor right by `count` cells of its row.
     fn pass(&mut self, count: usize) {
         let col = self.cursor.col.saturating_add(count);
         if col <= self.width {
@@ -325,14 +329,14 @@ impl Remote {
         }
     }
 
-    /// Whether ASCII is in GL.
+    /// Returns whether ASCII is in GL.
     #[inline(always)]
     fn has_ascii(&self) -> bool {
         self.sets.set(self.sets.left()) == Set::Ascii
     }
 
-    /// Writes a glyph that may be no ASCII: by one byte where GL shows it; alone, behind a single shift, where G2 or G3 has
-    /// its set; else after its set was brought to GL.
+    /// Writes a glyph that may not be ASCII. It sends one byte if GL shows the glyph. It sends a single shift if the
+    /// glyph is alone and G2 or G3 has its set. Otherwise it first brings the set to GL.
     #[inline(never)]
     fn write_glyph(&mut self, glyph: Glyph, goes_on: bool) {
         if let Some(byte) = self.one_byte(glyph) {
@@ -346,7 +350,7 @@ impl Remote {
         self.chosen.character(code);
     }
 
-    /// SS2 or SS3, where G2 or G3 has a set.
+    /// Sends SS2 or SS3 if G2 or G3 has a set. Returns whether it did.
     fn shift_once(&mut self, set: Set) -> bool {
         if self.sets.set(2) == set {
             self.chosen.escape(b"N");
@@ -359,7 +363,7 @@ impl Remote {
         }
     }
 
-    /// A set in GL: a slot that has it is locked, or it is designated in the slot that is there.
+    /// Brings a set to GL: it locks a slot that has the set, or designates the set in the slot that is in GL.
     fn bring_to_left(&mut self, set: Set) {
         for slot in 0..4u8 {
             if self.sets.set(slot) == set {
@@ -373,7 +377,7 @@ impl Remote {
 
     // ---- sets
 
-    /// SCS.
+    /// Sends SCS.
     fn designate(&mut self, slot: u8, set: Set)
         requires { slot < 4 }
     {
@@ -386,7 +390,7 @@ impl Remote {
         self.sets.designate(slot, set);
     }
 
-    /// LS0 to LS3.
+    /// Sends LS0 to LS3.
     fn lock_left(&mut self, slot: u8)
         requires { slot < 4 }
     {
@@ -399,7 +403,7 @@ impl Remote {
         self.sets.lock_left(slot);
     }
 
-    /// LS1R to LS3R.
+    /// Sends LS1R to LS3R.
     fn lock_right(&mut self, slot: u8)
         requires { (1 ≤ slot) × (slot < 4) }
     {
@@ -411,7 +415,7 @@ impl Remote {
         self.sets.lock_right(slot);
     }
 
-    /// The designations and locking shifts, where they are others. `sets` has no single shift that counts.
+    /// Sends the designations and locking shifts that differ. The single shift of `sets` isn't used.
     pub(crate) fn set_sets(&mut self, sets: &Sets) {
         for slot in 0..4u8 {
             if self.sets.set(slot) != sets.set(slot) {
@@ -426,7 +430,7 @@ impl Remote {
         }
     }
 
-    /// SS2 or SS3, where a single shift is to be pending.
+    /// Sends SS2 or SS3 if a single shift is pending in the target.
     pub(crate) fn set_shift(&mut self, pending: Option<u8>) {
         match pending {
             None => {}
@@ -437,7 +441,7 @@ impl Remote {
 
     // ---- modes and the saved record
 
-    /// SM or RM, where a mode is another.
+    /// Sends SM or RM if a mode differs.
     fn switch(&mut self, now: bool, new: bool, number: &[u8])
         requires { is_among mode_numbers number.now ≡ true }
     {
@@ -446,7 +450,7 @@ impl Remote {
         }
     }
 
-    /// DECKPAM or DECKPNM, where the keypad is in the other mode.
+    /// Sends DECKPAM or DECKPNM if the keypad's mode differs.
     fn set_keypad(&mut self, application: bool) {
         if self.modes.keypad_application != application {
             if application {
@@ -457,7 +461,7 @@ impl Remote {
         }
     }
 
-    /// S8C1T or S7C1T, where the form of reports is the other one.
+    /// Sends S8C1T or S7C1T if the form of reports differs.
     fn set_report_form(&mut self, eight: bool) {
         if self.modes.reports_8bit != eight {
             if eight {
@@ -468,7 +472,7 @@ impl Remote {
         }
     }
 
-    /// All modes but DECOM, the keypad and the form of reports.
+    /// Sets all modes except DECOM, with the keypad and the form of reports.
     pub(crate) fn set_modes(&mut self, new: Modes) {
         let now = self.modes;
         if now == new {
@@ -489,8 +493,8 @@ impl Remote {
         self.modes = new;
     }
 
-    /// The saved record, where it is another: all that it holds is made so, and saved by DECSC. All cells are those
-    /// that are asked for.
+    /// Sends the saved record if it differs: it makes the state that the record holds, and saves it by DECSC. All cells
+    /// are those of the target.
     pub(crate) fn set_saved(&mut self, saved: Saved, to: &Terminal)
         requires row { (1 ≤ saved.row) × (saved.row ≤ last_row) }
         requires left { saved.gl < 4 }
@@ -523,7 +527,7 @@ impl Remote {
     }
 }
 
-/// `;` and an attribute, where it is set. Answers the place behind it.
+/// Writes `;` and an attribute, if it is set. Returns the position after it.
 fn put_attribute(digit: u8, set: bool, at: usize, text: &mut [u8; 8]) -> usize
     requires { at ≤ 6 }
     ensures items { take result text.new ≡ take at text.old ++ attribute set digit }
@@ -537,7 +541,7 @@ fn put_attribute(digit: u8, set: bool, at: usize, text: &mut [u8; 8]) -> usize
     at + 2
 }
 
-/// The attributes that are to be set, each behind `;`. Answers how many bytes that is.
+/// Writes each attribute that is newly set, after `;`. Returns the number of bytes.
 fn put_attributes(
     bold: bool,
     underline: bool,
@@ -554,7 +558,7 @@ fn put_attributes(
     put_attribute(b'7', reverse, at, text)
 }
 
-/// Whether the second cell differs from the old one, and is of the same set as the first, which is no ASCII.
+/// Returns whether the second cell differs from the old one, and is of the same set as the first, which isn't ASCII.
 #[inline(always)]
 fn goes_on(old: &[Cell], new: &[Cell]) -> bool
     requires some { 1 ≤ length new.now }
@@ -567,7 +571,7 @@ fn goes_on(old: &[Cell], new: &[Cell]) -> bool
         && home_of(new[0].glyph).0 == home_of(new[1].glyph).0
 }
 
-/// A brush as a number, a byte of it for each truth value: what is left of a cell's word without the glyph.
+/// Returns a brush as a number, with a byte for each attribute: a cell's word without the glyph.
 #[inline(always)]
 fn brush_number(brush: &Brush) -> u64 {
     brush.rendition.bold as u64
@@ -577,7 +581,7 @@ fn brush_number(brush: &Brush) -> u64 {
         + 0x1_0000_0000 * brush.protected as u64
 }
 
-/// The set of a glyph's spelling, and its code there.
+/// Returns the set of a glyph's spelling, and its code there.
 fn home_of(glyph: Glyph) -> (Set, u8) {
     match glyph.spelling() {
         Spelling::Plain(code) => (Set::Ascii, code),

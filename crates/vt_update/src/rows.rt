@@ -1,38 +1,41 @@
 //! The rows of the other side, and counts of cells.
-ghost use Rattle.std.specs.Prelude.{◌≤◌, ◌<◌, true};
-ghost use Rattle.vt_screen.specs.Grid.{columns, last_row};
+ghost use Rattle.std.specs.Prelude.{◌≤◌, ◌<◌};
+ghost use Rattle.vt_screen.specs.Grid.{last_row};
 
 use crate::scrolling::Scroll;
 use vt_screen::{COLUMNS, Cell, ROWS, same_cells};
 use vt_term::Terminal;
 
-/// What erasing a row that isn't to be touched spares: no other row makes that good.
+/// The gain of a row that mustn't be erased. No other rows make up for it.
 const NEVER: i32 = -10_000;
 
-/// The cells of the other side: those that are shown, after a scroll.
+/// The cells of the other side: those of the shown terminal, after a scroll.
 #[derive(Drop)]
 pub(crate) struct Rows<'a> {
     shown: &'a Terminal,
     scroll: Option<Scroll>,
-    /// In how many places each row differs from what it is to be.
+    /// The number of cells of each row that differ from those of the target.
     differing: [i32; ROWS],
-    /// How many cells of each row aren't to be blank, where the row differs; else 0.
+    /// The number of cells of each row that aren't blank in the target if the row differs, otherwise 0.
     filled: [i32; ROWS],
-    blanks: [Cell; COLUMNS],
-    width: usize,
-    ghost narrow: { width ≤ columns true },
+    blank: &'a [Cell],
 }
 
 impl Rows<'_> {
-    /// The rows as they are shown; `counts` says in how many places each differs from what it is to be.
-    pub(crate) fn new<'a>(shown: &'a Terminal, counts: &[usize; ROWS], to: &Terminal) -> Rows<'a> {
+    /// Returns the rows of `shown`. `counts` has the number of cells of each row that differ from those of `to`, and `blank`
+    /// is a blank row.
+    pub(crate) fn new<'a>(
+        shown: &'a Terminal,
+        blank: &'a [Cell],
+        counts: &[usize; ROWS],
+        to: &Terminal,
+    ) -> Rows<'a> {
         let mut rows = Rows {
             shown,
             scroll: None,
             differing: [0; ROWS],
             filled: [0; ROWS],
-            blanks: [Cell::blank(); COLUMNS],
-            width: shown.width().min(COLUMNS),
+            blank,
         };
         for row in 1..ROWS + 1 {
             rows.note(row, counts[row - 1].min(COLUMNS) as i32, to);
@@ -55,7 +58,7 @@ impl Rows<'_> {
         }
     }
 
-    /// In how many places a row differs.
+    /// Notes how many cells of a row differ.
     fn note(&mut self, row: usize, differing: i32, to: &Terminal)
         requires { (1 ≤ row) × (row ≤ last_row) }
     {
@@ -65,12 +68,12 @@ impl Rows<'_> {
         }
     }
 
-    /// A blank row.
+    /// Returns a blank row.
     pub(crate) fn blank(&self) -> &[Cell] {
-        &self.blanks[..self.width]
+        self.blank
     }
 
-    /// A row.
+    /// Returns a row.
     pub(crate) fn row(&self, row: usize) -> &[Cell] {
         let source = match &self.scroll {
             Some(scroll) => scroll.source(row),
@@ -83,35 +86,36 @@ impl Rows<'_> {
         }
     }
 
-    /// Whether a row is to be another.
+    /// Returns whether a row differs from that of the target.
     pub(crate) fn differs(&self, row: usize) -> bool
         requires { (1 ≤ row) × (row ≤ last_row) }
     {
         self.differing[row - 1] != 0
     }
 
-    /// In how many places a row is to be another.
+    /// Returns how many cells of a row differ from those of the target.
     pub(crate) fn differing(&self, row: usize) -> i32
         requires { (1 ≤ row) × (row ≤ last_row) }
     {
         self.differing[row - 1]
     }
 
-    /// How many cells of a row that differs aren't to be blank.
+    /// Returns how many cells of a row that differs aren't blank in the target.
     pub(crate) fn filled(&self, row: usize) -> i32
         requires { (1 ≤ row) × (row ≤ last_row) }
     {
         self.filled[row - 1]
     }
 
-    /// Returns how many cells erasing a row that differs spares: those that differ, less those that aren't to be blank.
+    /// Returns how many cells erasing a row that differs saves: those that differ, less those that aren't blank in the
+    /// target.
     pub(crate) fn gain(&self, row: usize) -> i32
         requires { (1 ≤ row) × (row ≤ last_row) }
     {
         self.differing[row - 1].wrapping_sub(self.filled[row - 1])
     }
 
-    /// Returns how many cells erasing all rows below each one spares. A row that is as it is to be, and isn't blank, is never
+    /// Returns how many cells erasing all rows below each row saves. A row that doesn't differ and isn't blank is never
     /// erased.
     pub(crate) fn gains_below(&self, to: &Terminal) -> [i32; ROWS] {
         let mut gains = [NEVER; ROWS];
@@ -131,8 +135,8 @@ impl Rows<'_> {
 /// The word of a blank cell: that of a space.
 pub(crate) const BLANK: u64 = 0x20;
 
-/// A cell as one number, a byte of it for each byte of the cell, so that it is read as one word. (Inlined `always`, it
-/// would be inlined before its loads are made one.)
+/// Returns a cell as one number, with a byte for each byte of the cell, so that it is read as one word. (Inlined
+/// `always`, it would be inlined before its loads become one.)
 #[inline]
 pub(crate) fn word_of(cell: &Cell) -> u64 {
     cell.glyph.code() as u64
@@ -143,18 +147,18 @@ pub(crate) fn word_of(cell: &Cell) -> u64 {
         + 0x100_0000_0000_0000 * cell.protected as u64
 }
 
-/// Whether all cells are blank.
+/// Returns whether all cells are blank.
 fn is_blank_row(cells: &[Cell]) -> bool {
     cells.iter().all(is_blank)
 }
 
-/// Whether a cell is blank.
+/// Returns whether a cell is blank.
 #[inline(always)]
 fn is_blank(cell: &Cell) -> bool {
     word_of(cell) == BLANK
 }
 
-/// In how many places the cells differ.
+/// Returns the number of positions at which the cells differ.
 pub(crate) fn unlike(old: &[Cell], new: &[Cell]) -> i32 {
     let mut count = 0u64;
     for (old, new) in old.iter().zip(new) {
@@ -163,7 +167,7 @@ pub(crate) fn unlike(old: &[Cell], new: &[Cell]) -> i32 {
     count.min(COLUMNS as u64) as i32
 }
 
-/// How many cells aren't blank.
+/// Returns how many cells aren't blank.
 pub(crate) fn filled(cells: &[Cell]) -> i32 {
     let mut count = 0u64;
     for cell in cells.iter() {

@@ -1,4 +1,4 @@
-//! Scrolls: rows that move up or down, which spares writing them.
+//! Scrolls: rows that move up or down, so that they needn't be written.
 ghost use Rattle.std.specs.Prelude.{◌≤◌, ◌<◌, ◌+◌};
 ghost use Rattle.vt_screen.specs.Grid.{last_row};
 
@@ -7,10 +7,10 @@ use crate::rows::{Rows, filled, unlike, word_of};
 use vt_screen::{Cell, ROWS, same_cells};
 use vt_term::{Margins, Terminal};
 
-/// The fewest cells that have to come to their rows by a scroll, for it to be looked at.
+/// The fewest cells that a scroll has to bring to their rows to be considered.
 const FEW: i32 = 8;
 
-/// Rows `top` to `bottom` move by `by`, up or down; blank ones come in.
+/// A scroll: rows `top` to `bottom` move up or down by `by`, and blank rows are added.
 #[derive(Clone, Copy)]
 pub(crate) struct Scroll {
     pub(crate) top: usize,
@@ -24,7 +24,7 @@ pub(crate) struct Scroll {
 }
 
 impl Scroll {
-    /// Which row comes to a row; 0 where that is a blank one.
+    /// Returns the row that moves to `row`, or 0 if `row` becomes blank.
     pub(crate) fn source(&self, row: usize) -> usize {
         if row < self.top || self.bottom < row {
             row
@@ -37,8 +37,8 @@ impl Scroll {
         }
     }
 
-    /// A scroll inside the margins that leaves at least two cells fewer to be written, if one is found. Where it isn't
-    /// the best one, a few bytes more are sent.
+    /// Returns a scroll inside the margins that saves at least two cells, if one is found. If it isn't the best one, a
+    /// few more bytes are sent.
     pub(crate) fn find(rows: &Rows<'_>, shown: &Terminal, to: &Terminal) -> Option<Scroll> {
         let _ = to.width();
         let Margins { top, bottom } = to.margins();
@@ -64,8 +64,8 @@ impl Scroll {
     }
 }
 
-/// How many filled cells come to their rows, as whole rows that differ, where all move by so many rows up or down. Rows
-/// are compared where their sums are the same.
+/// The number of filled cells that each scroll brings to their rows, counted in whole rows that differ. Rows are
+/// compared if their sums are equal.
 #[derive(Drop)]
 struct Votes {
     sums: [u64; ROWS],
@@ -93,7 +93,7 @@ impl Votes {
         votes
     }
 
-    /// The votes of one row.
+    /// Adds the votes of one row.
     fn count(&mut self, row: usize, rows: &Rows<'_>, shown: &Terminal, to: &Terminal)
         requires { (1 ≤ row) × (row ≤ last_row) }
     {
@@ -124,7 +124,7 @@ impl Votes {
     }
 }
 
-/// The sum of the words of the cells on the left.
+/// Returns the sum of the words of the cells in the left half.
 fn sum_of(cells: &[Cell]) -> u64 {
     let mut sum = 0u64;
     for cell in cells[..cells.len() / 2].iter() {
@@ -133,7 +133,7 @@ fn sum_of(cells: &[Cell]) -> u64 {
     sum
 }
 
-/// How many cells fewer differ at each row between the margins, where it comes from another row, and where it is blank.
+/// The number of cells that each row between the margins saves: if it comes from another row, and if it is blank.
 #[derive(Drop)]
 struct Gains {
     moved: [i32; ROWS],
@@ -162,7 +162,7 @@ impl Gains {
         gains
     }
 
-    /// The rows of a scroll that are best moved. All rows between the margins are better than as good a part.
+    /// Returns the part of a scroll that saves most. All rows between the margins win over an equally good part.
     fn best(&self, scroll: Scroll) -> Option<Scroll> {
         let Scroll {
             top,
@@ -208,7 +208,7 @@ fn total(counts: &[i32]) -> i32 {
 }
 
 impl Remote {
-    /// DL and IL, or one LF where that does it.
+    /// Sends DL and IL, or one LF if that is enough.
     pub(crate) fn scroll(&mut self, scroll: Scroll, to: &Terminal) {
         let Scroll {
             top,

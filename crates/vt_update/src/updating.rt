@@ -1,4 +1,4 @@
-//! The update: bytes are chosen, played on what the other side shows, and sent where that led to the state asked for.
+//! The update: bytes are chosen and played on the shown terminal. They are sent if that gives the wanted state.
 ghost use Rattle.std.specs.Prelude.{◌≡◌, ◌↔◌, ◌⊎◌, ◌+◌, ◌*◌, ◌≤◌, ◌<◌, ◌≢◌, ◌++◌, [], IsTrue, IsErrOf, OnOk, OnErr};
 ghost use Rattle.std.specs.Prelude.{drop, length, take, vec_len, vec_capacity};
 ghost use Rattle.std.specs.Bool.{OnTrue, OnFalse};
@@ -20,47 +20,48 @@ use vt_paint::{PAINT_LIMIT, changed_places, repaint_changes_reserved, repaint_re
 use vt_term::laws::cuts;
 use vt_term::{ROWS, STOPS, Terminal};
 
-/// The most bytes of an update for each cell that differs, where width and tab stops are equal.
+/// The limit of an update in bytes for each cell that differs, if width and tab stops are equal.
 const BYTES_A_CELL: usize = 28;
 
-/// The most bytes for all else then.
+/// The limit in bytes for everything else in that case.
 const BYTES_FOR_THE_REST: usize = 230;
 
-/// The most bytes that are chosen. If more were needed, the marked cells are sent.
+/// The limit of the chosen bytes. If more are needed, the marked cells are sent.
 const CHOICE_LIMIT: usize = 16384;
 
-/// How many bytes of an update are played at a time: at most so many, and fewer where there isn't room for their
-/// reports, ten bytes for each byte.
+/// The most bytes of an update that are played at a time. Fewer are played if there isn't capacity for their reports,
+/// ten bytes for each byte.
 const CHUNK: usize = 1024;
 
-/// The room for the reports of the 64 bytes that are played at least. None ever stays.
+/// The capacity for the reports of the 64 bytes that are always played at a time. No report stays there.
 const REPORT_ROOM: usize = 10 * 64;
 
-/// The most bytes of an update, and the room that it needs: that of a repaint, and room for the play of it.
+/// The limit of an update in bytes, and the capacity that it needs: that of a repaint, and capacity to play it.
 pub const UPDATE_LIMIT: usize = PAINT_LIMIT + REPORT_ROOM;
 
 const _: () = prove!(UPDATE_LIMIT == 94152);
 
-/// Why no update was sent.
+/// The reason for which no update was appended.
 #[derive(Clone, Copy, Debug, PartialEq, Eq, Error)]
 pub enum UpdateError {
     /// One of the two terminals is inside a sequence.
     #[error("partial")]
     Partial,
-    /// The room for the update was refused.
+    /// Allocation failed.
     #[error("memory")]
     Memory,
 }
 
-/// That a terminal is sound: a clause for the proofs, and no work.
+/// States that a terminal is sound, for proofs. It does nothing when it runs.
 fn soundness(t: &Terminal)
     ensures { IsSound t.now }
 {
     let _ = t.width();
 }
 
-/// Plays the bytes of `out` from `start` on. Answers whether nothing was reported. `out` has room for the reports of a
-/// chunk, and none stays in it.
+/// Plays the bytes of `out` that begin at `start`. Returns whether there was no report. `out` has capacity for the
+/// reports of a chunk, and no report stays there.
+#[inline(never)]
 fn play_back(start: usize, shown: &mut Terminal, out: &mut Vec<u8>) -> bool
     requires sound { IsSound shown.old }
     requires start { start ≤ vec_len out.old }
@@ -83,7 +84,7 @@ fn play_back(start: usize, shown: &mut Terminal, out: &mut Vec<u8>) -> bool
     silent
 }
 
-/// Plays a few bytes of `out` from a place on. Answers whether nothing was reported.
+/// Plays `count` bytes of `out` that begin at `from`. Returns whether there was no report.
 fn play_chunk(from: usize, count: usize, shown: &mut Terminal, out: &mut Vec<u8>) -> bool
     requires count { count ≤ CHUNK }
     requires within { from + count ≤ vec_len out.old }
@@ -102,7 +103,7 @@ fn play_chunk(from: usize, count: usize, shown: &mut Terminal, out: &mut Vec<u8>
     silent
 }
 
-/// Fills `part` with the bytes that stand in `all` from a place on.
+/// Fills `part` with the bytes of `all` that begin at `from`.
 fn copy_part(from: usize, all: &[u8], part: &mut [u8])
     requires { from + length part.old ≤ length all.now }
     ensures { part.new ≡ take (length part.old) (drop from all.now) }
@@ -110,18 +111,19 @@ fn copy_part(from: usize, all: &[u8], part: &mut [u8])
     part.copy_from_slice(&all[from..from + part.len()]);
 }
 
-/// Appends bytes to `out` that lead from `shown` to `to`, and brings `shown` there.
+/// Appends to `out` bytes that lead from `shown` to `to`, and brings `shown` into the state of `to`.
 ///
-/// Where width and tab stops are equal, at most 28 * n + 230 bytes are sent for n cells that differ; else the repaint
-/// is. An update after an update to the same state is empty.
+/// If width and tab stops are equal, it appends at most 28 * n + 230 bytes for n cells that differ. Otherwise it
+/// appends the repaint. An update after an update to the same state is empty.
 ///
 /// The bytes are ASCII: graphic characters, and the control functions that `Spoken` names, in their 7-bit forms.
 ///
-/// `UPDATE_LIMIT` bytes of room are reserved first. On an error `shown` and the contents of `out` are unchanged.
+/// It first reserves `UPDATE_LIMIT` bytes of capacity.
 ///
 /// # Errors
 ///
-/// `Partial` where one of the two is inside a sequence, which is looked at first; `Memory` where the room was refused.
+/// Returns `Partial` if one of the two is inside a sequence, which is checked first. Returns `Memory` if allocation
+/// fails. `shown` and the contents of `out` are then unchanged.
 pub fn update(shown: &mut Terminal, to: &Terminal, out: &mut Vec<u8>) -> Result<(), UpdateError>
     ensures leads { OnOk result (Updates shown.old to.now out.old.items out.new.items) }
     ensures shown { OnOk result (shown.new ≡ to.now) }
@@ -147,8 +149,8 @@ pub fn update(shown: &mut Terminal, to: &Terminal, out: &mut Vec<u8>) -> Result<
     Ok(())
 }
 
-/// Appends bytes to `out` that lead from `shown` to `to`, both between sequences, and brings `shown` there. `out` has
-/// the room: `UPDATE_LIMIT` bytes. It never fails and takes no memory.
+/// Appends to `out` bytes that lead from `shown` to `to`, and brings `shown` into the state of `to`. Both are between
+/// sequences. `out` has capacity for `UPDATE_LIMIT` more bytes. It never fails and allocates nothing.
 pub fn update_reserved(shown: &mut Terminal, to: &Terminal, out: &mut Vec<u8>)
     requires shown { shown.old.held ≡ Nothing }
     requires to { to.now.held ≡ Nothing }
@@ -183,7 +185,7 @@ pub fn update_reserved(shown: &mut Terminal, to: &Terminal, out: &mut Vec<u8>)
     }
 }
 
-/// Whether two terminals have the same width and the same tab stops.
+/// Returns whether two terminals have the same width and the same tab stops.
 fn same_columns(shown: &Terminal, to: &Terminal) -> bool
     ensures { IsTrue result
         ↔ ((shown.now.display.grid.width ≡ to.now.display.grid.width)
@@ -198,7 +200,7 @@ fn same_stops(a: &[bool; STOPS], b: &[bool; STOPS]) -> bool
     a == b
 }
 
-/// Returns whether so many bytes are few for a count of cells that differ.
+/// Returns whether `len` bytes are few for `count` cells that differ.
 fn is_short(len: usize, count: usize) -> bool
     requires { count ≤ ROWS * STOPS }
     ensures few { IsTrue result → len ≤ 28 * count + 230 }
@@ -207,9 +209,10 @@ fn is_short(len: usize, count: usize) -> bool
     len <= CHOICE_LIMIT && len <= BYTES_A_CELL * count + BYTES_FOR_THE_REST
 }
 
-/// Appends the chosen bytes and plays them on `shown`, where they are short. Where that doesn't lead to `to` in
-/// silence, the bytes are taken back, and the answer is false; `shown` is then in any state. `count` places differ, and
-/// `counts` says how many in each row.
+/// Appends the chosen bytes, and plays them on `shown` if they are few. If they don't lead to `to` without a report, it
+/// removes them and returns false. `shown` is then in any state. `count` cells differ, and `counts` has their number in
+/// each row.
+#[inline(never)]
 fn send_choice(
     count: usize,
     counts: &[usize; ROWS],
@@ -240,8 +243,9 @@ fn send_choice(
     false
 }
 
-/// Appends bytes that write the marked places alone, and brings `shown`, which may be in any state, to `to`: by the
-/// repaint, which isn't sent.
+/// Appends bytes that write only the marked cells. Then it brings `shown`, which may be in any state, to `to` by the
+/// repaint. The repaint isn't sent.
+#[inline(never)]
 fn send_changes(
     marks: &[[bool; STOPS]; ROWS],
     shown: &mut Terminal,

@@ -1,4 +1,4 @@
--- A terminal with the room for what it gives. No public clause names it.
+-- A terminal, and buffers for what it gives. No public clause names it.
 use Rattle.std.specs.Prelude.{◌≡◌, ◌≤◌, ◌*◌, ℕ, List, vec_len, vec_capacity}
 use Rattle.vt_term.specs.State.{power_up}
 use Rattle.vt_term.specs.Sound.{IsSound}
@@ -19,7 +19,7 @@ pub record HasPlayed (bytes : List ℕ) (b : Bench) : Type 0 where
   pub state : b.terminal ≡ (play power_up bytes).state
   pub reports : b.reports.items ≡ (play power_up bytes).reports
 
--- all but what was compared has stayed, and the room is there
+-- everything except what was compared is unchanged, and there is capacity
 pub record IsKept (old new : Bench) : Type 0 where
   pub terminal : new.terminal ≡ old.terminal
   pub power_up : new.power_up ≡ old.power_up

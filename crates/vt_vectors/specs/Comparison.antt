@@ -10,7 +10,7 @@ use Rattle.vt_vectors.specs.Outcome.{Outcome}
 abbrev pub expected_of : Vector → Outcome
 expected_of v = record { text = v.text.now; reports = v.reports.now; repaint = option_copied v.repaint }
 
--- what each answer says of what is expected and what was given; want of memory says nothing of them
+-- what each result means for the expected and the given outcome; a failed allocation means nothing for them
 abbrev pub Compares : Result (Unit {0}) Mismatch → (expected given : Outcome) → Type 0
 Compares (Ok u) expected given = (expected.text ≡ given.text) × (expected.reports ≡ given.reports)
     × (expected.repaint ≡ given.repaint)

@@ -1,4 +1,4 @@
--- The rows that the vectors stand in. No public clause names them.
+-- The rows that contain the vectors. No public clause names them.
 use Rattle.std.specs.Prelude.{◌≡◌}
 use Rattle.std.specs.Option.{option_copied}
 use Rattle.vt_vectors.specs.declared.expectation.Vector.{Vector}

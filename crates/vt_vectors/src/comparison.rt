@@ -1,4 +1,4 @@
-//! Holding the terminal against a vector.
+//! Compares the terminal with a vector.
 ghost use Rattle.std.specs.Prelude.{◌≡◌, ◌↔◌, ◌≤◌, ◌+◌, ◌*◌, ◌++◌, ℕ, List, [], IsTrue, IsErrOf, IfOk, length, vec_len};
 ghost use Rattle.std.specs.Prelude.{vec_capacity};
 ghost use Rattle.std.specs.Option.{option_copied};
@@ -14,15 +14,15 @@ use vt_paint::{PAINT_LIMIT, repaint_reserved};
 use vt_term::laws::{cuts, soundness};
 use vt_term::{REPORT_LIMIT, Terminal};
 
-/// Holds the terminal against a vector: plays its input from power-up whole, byte by byte, and in every cut into two
-/// (length plus one places, empty parts included), and compares after each play the text, then the reports, then the
-/// repaint. The first difference decides.
+/// Compares the terminal with a vector. It plays the vector's input from power-up whole, byte by byte, and in every cut
+/// into two, empty parts included. After each play it compares the text, then the reports, then the repaint. The first
+/// difference decides.
 ///
-/// All memory is taken before the first play.
+/// It allocates only before the first play.
 ///
 /// # Errors
 ///
-/// `Memory` where a growth was refused; `Text`, `Reports` or `Repaint` where that one differs and those before it
+/// Returns `Memory` if allocation fails. Returns `Text`, `Reports` or `Repaint` if that one differs and those before it
 /// don't.
 pub fn check(alloc: Global, v: &Vector<'_>) -> Result<(), Mismatch>
     ensures { Compares result (expected_of v.now) (outcome_of v.now.input.now) }
@@ -31,11 +31,11 @@ pub fn check(alloc: Global, v: &Vector<'_>) -> Result<(), Mismatch>
     bench.check(v)
 }
 
-/// A terminal, and the room for what it gives.
+/// A terminal, and buffers for what it gives.
 #[derive(Drop)]
 struct Bench {
     terminal: Terminal,
-    /// The repaint of a terminal as at power-up, which brings any terminal there.
+    /// The repaint of a terminal in its power-up state, which brings any terminal there.
     power_up: Vec<u8>,
     reports: Vec<u8>,
     output: Vec<u8>,
@@ -44,7 +44,7 @@ struct Bench {
 impl Bench {
     ghost use Rattle.vt_vectors.specs.Bench.{IsReady, HasPlayed, IsKept};
 
-    /// A bench with the room for plays of an input of so many bytes.
+    /// Returns a bench with capacity for plays of an input of `longest` bytes. Returns `Err` if allocation fails.
     fn new(alloc: Global, longest: usize) -> Result<Bench, AllocError>
         ensures ready { IfOk result IsReady }
         ensures room { IfOk result (λ b. 10 * longest ≤ vec_capacity b.reports) }
@@ -88,7 +88,7 @@ impl Bench {
         Ok(())
     }
 
-    /// Brings the terminal to power-up, with no report.
+    /// Brings the terminal to its power-up state, with no report.
     fn start(&mut self)
         requires { IsReady self.old }
         ensures ready { IsReady self.new }
@@ -104,7 +104,7 @@ impl Bench {
             .feed_reserved(&self.power_up, &mut self.reports);
     }
 
-    /// Plays a piece, for whose reports there is room.
+    /// Plays a chunk. There is capacity for its reports.
     fn feed(&mut self, piece: &[u8])
         requires ready { IsReady self.old }
         requires room { vec_len self.old.reports + 10 * length piece.now ≤ vec_capacity self.old.reports }
@@ -118,7 +118,7 @@ impl Bench {
         self.terminal.feed_reserved(piece, &mut self.reports);
     }
 
-    /// Compares what the terminal has given with what the vector expects.
+    /// Compares the terminal's output with what the vector expects.
     fn compare(&mut self, v: &Vector<'_>) -> Result<(), Mismatch>
         requires { IsReady self.old }
         ensures kept { IsKept self.old self.new }
@@ -138,7 +138,7 @@ impl Bench {
         Ok(())
     }
 
-    /// Whether the terminal's text is the expected one.
+    /// Returns whether the terminal's text is as expected.
     fn shows(&mut self, expected: &[u8]) -> bool
         requires { IsReady self.old }
         ensures kept { IsKept self.old self.new }
@@ -149,7 +149,7 @@ impl Bench {
         self.output.as_slice() == expected
     }
 
-    /// Whether the terminal's repaint is the expected one, or neither is there.
+    /// Returns whether the terminal's repaint is as expected, or both are missing.
     fn repaints(&mut self, expected: Option<&[u8]>) -> bool
         requires { IsReady self.old }
         ensures kept { IsKept self.old self.new }

@@ -33,7 +33,7 @@ const SAMPLES: [&[u8]; 14] = [
     b"\x9d1\x1b",
 ];
 
-/// How many inputs there are that end inside a sequence: 14.
+/// Returns the number of inputs that end inside a sequence: 14.
 pub fn held_sample_count() -> usize
     ensures count { result ≡ 14 }
     ensures all { result ≡ length held_samples }
@@ -41,7 +41,7 @@ pub fn held_sample_count() -> usize
     SAMPLES.len()
 }
 
-/// The `i`-th of the inputs that end inside a sequence, counted from 0 to 13.
+/// Returns the `i`-th of the inputs that end inside a sequence, counted from 0 to 13.
 pub fn held_sample(i: usize) -> &'static [u8]
     requires { i < 14 }
     ensures { slice_get held_samples i ≡ Some result.now }

@@ -1,5 +1,5 @@
-//! Conformance vectors: inputs, each with the text, the reports and the repaint that a terminal must give; and readers
-//! and writers over memory that give and take little at a time, and fail when they are told to.
+//! Conformance vectors: inputs, each with the text, the reports and the repaint that a terminal must give. There are
+//! also readers and writers over memory that transfer few bytes at a time, and fail at a chosen call.
 #![tactic(auto)]
 
 mod comparison;

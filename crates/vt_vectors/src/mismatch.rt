@@ -1,24 +1,24 @@
-//! Why a terminal doesn't meet a vector.
+//! The reasons for which a terminal doesn't meet a vector.
 
 ghost use Rattle.std.specs.Prelude.{◌≡◌};
 
 use std::alloc::AllocError;
 use thiserror::Error;
 
-/// Why a terminal doesn't meet a vector: the first difference. The message is the variant's name in lower case.
+/// The reason for which a terminal doesn't meet a vector: the first difference. The message is the variant's name in
+/// lower case.
 #[derive(Clone, Copy, Debug, PartialEq, Eq, Error)]
 pub enum Mismatch {
-    /// A growth was refused, so nothing was compared.
+    /// Allocation failed, so nothing was compared.
     #[error("memory")]
     Memory = 1,
     /// The text differs.
     #[error("text")]
     Text = 2,
-    /// The text is the expected one, and the reports differ.
+    /// The text is as expected, and the reports differ.
     #[error("reports")]
     Reports = 3,
-    /// The text and the reports are the expected ones, and the repaint differs, or is there where none is expected, or
-    /// isn't there where one is.
+    /// The text and the reports are as expected. The repaint differs, is unexpected, or is missing.
     #[error("repaint")]
     Repaint = 4,
 }

@@ -1,4 +1,4 @@
-//! A reader over memory that gives little at a time.
+//! A reader over memory that returns few bytes at a time.
 ghost use Rattle.std.specs.Prelude.{◌≡◌, ◌≤◌, ◌↔◌, Some, IsErr, IfOk, OnErr, length, drop, take, min};
 ghost use Rattle.std.specs.Io.{ReadsAtMost};
 ghost use Rattle.std.specs.Io.KnownBytes.{ReadConsumes};
@@ -8,7 +8,7 @@ use std::io;
 use std::io::{ErrorKind, Read};
 use std::marker::Model;
 
-/// A reader over bytes that gives at most so many of them a call, and answers an error at one call.
+/// A reader over bytes. It returns at most a given number of bytes a call, and an error at one call.
 #[derive(Debug, Drop)]
 pub struct ShortReader<'a> {
     bytes: &'a [u8],
@@ -28,8 +28,8 @@ impl<'a> Model for ShortReader<'a> {
 }
 
 impl<'a> ShortReader<'a> {
-    /// A reader over `bytes` that gives at most `most` of them a call, 1 or more. Call number `fail`, counted from 1,
-    /// answers an error.
+    /// Returns a reader over `bytes` that returns at most `most` of them a call, 1 or more. Call number `fail`, counted
+    /// from 1, returns an error.
     pub fn new(bytes: &'a [u8], most: usize, fail: Option<usize>) -> ShortReader<'a>
         requires { 1 ≤ most }
         ensures { result ≡ record { bytes = bytes.entry.now; most = most; fail = fail } }
@@ -41,7 +41,7 @@ impl<'a> ShortReader<'a> {
 impl Read for ShortReader<'_> {
     ghost remaining = { λ r. Some r.bytes };
 
-    /// Gives as many bytes as `most`, the buffer and what is left allow. A call that answers an error takes none.
+    /// Reads as many bytes as `most`, the buffer and the remainder allow. A call that returns an error reads none.
     fn read(&mut self, buf: &mut [u8]) -> io::Result<usize>
         ensures bound { ReadsAtMost result buf.new }
         ensures bytes { ReadConsumes (Some self.old.bytes) (Some self.new.bytes) result buf.new }
@@ -63,7 +63,7 @@ impl Read for ShortReader<'_> {
     }
 }
 
-/// Which call fails, counted from the next one on.
+/// Returns the number of the call that fails, counted from the next call.
 pub(crate) fn later(fail: Option<usize>) -> Option<usize>
     ensures { result ≡ one_call_later fail }
 {

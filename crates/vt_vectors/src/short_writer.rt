@@ -1,4 +1,4 @@
-//! A writer over memory that takes little at a time.
+//! A writer into memory that writes few bytes at a time.
 ghost use Rattle.std.specs.Prelude.{◌≡◌, ◌≤◌, ◌-◌, ◌↔◌, Some, IsErr, IsOk, IfOk, length, min, vec_len, vec_capacity};
 ghost use Rattle.std.specs.Io.{WritesAtMost};
 ghost use Rattle.std.specs.Io.KnownBytes.{Keeps, WriteAppends};
@@ -9,7 +9,7 @@ use std::io;
 use std::io::{ErrorKind, Write};
 use std::marker::Model;
 
-/// A writer into memory that takes at most so many bytes a call and so many in all, and answers an error at one call.
+/// A writer into memory. It writes at most a given number of bytes a call and in all, and returns an error at one call.
 #[derive(Debug, Drop)]
 pub struct ShortWriter {
     into: Vec<u8>,
@@ -30,8 +30,8 @@ impl Model for ShortWriter {
 }
 
 impl ShortWriter {
-    /// A writer into `into`, which is empty and has the room, that takes at most `most` bytes a call, 1 or more, and
-    /// `room` in all. Call number `fail`, counted from 1, answers an error.
+    /// Returns a writer into `into`, which is empty and has capacity for `room` bytes. It writes at most `most` bytes a
+    /// call, 1 or more, and `room` in all. Call number `fail`, counted from 1, returns an error.
     pub fn new(into: Vec<u8>, room: usize, most: usize, fail: Option<usize>) -> ShortWriter
         requires empty { vec_len into ≡ 0 }
         requires fits { room ≤ vec_capacity into }
@@ -46,7 +46,7 @@ impl ShortWriter {
         }
     }
 
-    /// The bytes that it took.
+    /// Returns the bytes that it wrote.
     pub fn taken(&self) -> &[u8]
         ensures { result.now ≡ self.now.taken }
     {
@@ -57,7 +57,7 @@ impl ShortWriter {
 impl Write for ShortWriter {
     ghost contents = { λ w. Some w.taken };
 
-    /// Takes as many bytes as `most` and what is left of the room allow. A call that answers an error takes none.
+    /// Writes as many bytes as `most` and the remaining capacity allow. A call that returns an error writes none.
     fn write(&mut self, piece: &[u8]) -> io::Result<usize>
         ensures bound { WritesAtMost result piece.now }
         ensures bytes { WriteAppends (Some self.old.taken) (Some self.new.taken) result piece.now }
@@ -78,7 +78,7 @@ impl Write for ShortWriter {
         Ok(count)
     }
 
-    /// Does nothing, since nothing is kept back.
+    /// Does nothing, since no byte is buffered.
     fn flush(&mut self) -> io::Result<()>
         ensures bytes { Keeps (Some self.old.taken) (Some self.new.taken) }
         ensures ok { IsOk result }

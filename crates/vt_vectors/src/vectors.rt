@@ -16,7 +16,7 @@ mod width;
 
 use crate::expectation::Vector;
 
-/// A vector as its file gives it: its name, and the text and the repaint as strings.
+/// A vector as its file has it: its name, and the text and the repaint as strings.
 #[derive(Clone, Copy)]
 struct Row {
     name: &'static str,
@@ -52,7 +52,7 @@ const SUBJECTS: [&[Row]; 10] = [
     &width::ROWS,
 ];
 
-/// How many conformance vectors there are.
+/// The number of conformance vectors.
 pub const VECTOR_COUNT: usize = plain::ROWS.len()
     + syntax::ROWS.len()
     + held::ROWS.len()
@@ -64,7 +64,7 @@ pub const VECTOR_COUNT: usize = plain::ROWS.len()
     + reports::ROWS.len()
     + width::ROWS.len();
 
-/// How many conformance vectors there are: at least 60.
+/// Returns the number of conformance vectors: at least 60.
 pub fn vector_count() -> usize
     ensures many { 60 ≤ result }
     ensures count { result ≡ VECTOR_COUNT }
@@ -72,7 +72,7 @@ pub fn vector_count() -> usize
     VECTOR_COUNT
 }
 
-/// The `i`-th row, counted from 0.
+/// Returns the `i`-th row, counted from 0.
 fn row_at(i: usize) -> Row
     requires { i < VECTOR_COUNT }
     ensures named { 1 ≤ length result.name.now }
@@ -89,7 +89,7 @@ fn row_at(i: usize) -> Row
     unreachable!()
 }
 
-/// The `i`-th conformance vector, counted from 0. Its input has at most 200 bytes, and its text 24 lines.
+/// Returns the `i`-th conformance vector, counted from 0. Its input has at most 200 bytes, and its text 24 lines.
 pub fn vector(i: usize) -> Vector<'static>
     requires { i < VECTOR_COUNT }
     ensures short { length result.input.now ≤ 200 }
@@ -98,7 +98,7 @@ pub fn vector(i: usize) -> Vector<'static>
     row_at(i).vector()
 }
 
-/// The name of the `i`-th conformance vector, counted from 0: its subject, a colon, and what it shows.
+/// Returns the name of the `i`-th conformance vector, counted from 0: its subject, a colon, and what it shows.
 pub fn vector_name(i: usize) -> &'static str
     requires { i < VECTOR_COUNT }
     ensures { 1 ≤ length result.now }

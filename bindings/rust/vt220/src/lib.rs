@@ -33,7 +33,7 @@ pub struct Margins {
     pub bottom: usize,
 }
 
-/// Holds which modes are set.
+/// Holds the modes: true if set.
 #[derive(Clone, Copy, Debug, Default, PartialEq, Eq)]
 pub struct Modes {
     pub kam: bool,
@@ -72,7 +72,7 @@ pub struct Sets {
     pub single_shift: Option<u8>,
 }
 
-/// Holds what DECRC restores.
+/// Holds the state that DECRC restores.
 #[derive(Clone, Copy, Debug, Default, PartialEq, Eq)]
 pub struct Saved {
     pub cursor: Cursor,
@@ -90,7 +90,7 @@ pub struct Cell {
     pub brush: Brush,
 }
 
-/// Names what kind of sequence is unfinished.
+/// Names the kind of an unfinished sequence.
 #[derive(Clone, Copy, Debug, PartialEq, Eq)]
 pub enum Held {
     Nothing,
@@ -99,7 +99,7 @@ pub enum Held {
     String,
 }
 
-/// Says why nothing was done.
+/// Names the reason for which a call changed nothing.
 #[derive(Clone, Copy, Debug, PartialEq, Eq)]
 pub enum Error {
     /// The allocation failed.
@@ -212,7 +212,7 @@ impl Terminal {
         Ok(copy)
     }
 
-    /// Brings this terminal into the state of another one, also if that is inside a sequence.
+    /// Brings this terminal into the state of another one, also if the other is inside a sequence.
     pub fn copy_from(&mut self, other: &Terminal) {
         unsafe { sys::vt220_copy(&mut self.0, &other.0) };
     }
@@ -222,8 +222,8 @@ impl Terminal {
         unsafe { sys::vt220_reset(&mut self.0) };
     }
 
-    /// Processes bytes of the host as far as there is capacity for replies. Returns how many bytes were processed, and how
-    /// many bytes of replies were written. If some are left, fewer than `REPORT_LIMIT` bytes of `reports` are free.
+    /// Processes bytes of the host as long as there is capacity for replies. Returns how many bytes were processed, and how
+    /// many bytes of replies were written. If some bytes are left, fewer than `REPORT_LIMIT` bytes of `reports` are free.
     pub fn feed_into(&mut self, bytes: &[u8], reports: &mut [u8]) -> (usize, usize) {
         let mut written = 0;
         let (len, size) = (bytes.len(), reports.len());
@@ -337,7 +337,7 @@ impl Terminal {
         unsafe { sys::vt220_width(&self.0) }
     }
 
-    /// Returns the place of the cursor.
+    /// Returns the cursor.
     pub fn cursor(&self) -> Cursor {
         let mut now = sys::vt220_cursor_place::default();
         unsafe { sys::vt220_cursor(&self.0, &mut now) };
@@ -394,7 +394,7 @@ impl Terminal {
         now.stop
     }
 
-    /// Returns what DECRC restores.
+    /// Returns the state that DECRC restores.
     pub fn saved(&self) -> Saved {
         let mut now = sys::vt220_saved_record::default();
         unsafe { sys::vt220_saved(&self.0, &mut now) };
@@ -408,7 +408,7 @@ impl Terminal {
         unsafe { sys::vt220_is_between(&self.0) }
     }
 
-    /// Returns what kind of sequence is unfinished.
+    /// Returns the kind of the unfinished sequence.
     pub fn held(&self) -> Held {
         match unsafe { sys::vt220_held_kind(&self.0) } {
             sys::VT220_HELD_NOTHING => Held::Nothing,

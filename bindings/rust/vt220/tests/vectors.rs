@@ -1,4 +1,4 @@
-//! The vectors through Rust: VT220_VECTORS names their file, else this repository's is read.
+//! The vectors through Rust: VT220_VECTORS names their file. Without it, this repository's file is read.
 use std::{env, fs};
 use vt220::{Error, Held, Scratch, Terminal};
 

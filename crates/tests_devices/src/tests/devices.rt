@@ -3,7 +3,8 @@ ghost use Rattle.std.specs.Prelude.{◌≤◌};
 
 use std::alloc::Global;
 use std::test::Fail;
-use vt_replay::{Fault, Watched, What, run};
+use vt_log::feed_log;
+use vt_replay::{Fault, Request, Watched, What, Word, carry_out};
 use vt_term::Terminal;
 use vt_vectors::{ShortReader, ShortWriter, vector, vector_count};
 
@@ -30,7 +31,7 @@ struct Bounds {
 /// What a replay asks for, and its devices. A read gives one byte.
 #[derive(Clone, Copy)]
 struct Replay {
-    what: What,
+    word: Word,
     bounds: Bounds,
     /// The number of the read that fails.
     failing_read: Option<usize>,
@@ -60,7 +61,7 @@ const ONE: Bounds = Bounds {
 
 /// Devices that neither fail nor are short of room.
 const REPORTS: Replay = Replay {
-    what: What::Reports,
+    word: Word::Replay(What::Reports),
     bounds: WIDE,
     failing_read: None,
     room: ROOM,
@@ -77,14 +78,13 @@ fn replayed(
     let writer = ShortWriter::new(into, replay.room, replay.bounds.most, replay.failing_write);
     let mut reader = Watched::new(ShortReader::new(input, 1, replay.failing_read));
     let mut writer = Watched::new(writer);
-    let answer = run(
-        alloc,
-        &mut reader,
-        &mut writer,
-        replay.what,
-        1,
-        replay.bounds.limit,
-    );
+    let request = Request {
+        word: replay.word,
+        piece: 1,
+        limit: replay.bounds.limit,
+        file: None,
+    };
+    let answer = carry_out(alloc, &mut reader, &mut writer, &request);
     let written = Vec::from_slice(alloc, writer.into_inner().taken())?;
     Ok((answer, written))
 }
@@ -102,7 +102,7 @@ fn table() -> [(Replay, Result<(), Fault>, usize); 11] {
         ),
         (
             Replay {
-                what: What::Text,
+                word: Word::Replay(What::Text),
                 failing_read: Some(7),
                 ..REPORTS
             },
@@ -217,53 +217,61 @@ fn the_table_of_devices_holds(rt: HostRuntime) -> Result<(), Fail> {
 }
 
 /// What is asked for in turn.
-const KINDS: [What; 4] = [What::Text, What::Reports, What::Repaint, What::Status];
+const WORDS: [Word; 5] = [
+    Word::Replay(What::Text),
+    Word::Replay(What::Reports),
+    Word::Replay(What::Repaint),
+    Word::Replay(What::Status),
+    Word::Log,
+];
 
 /// A replay whose read of this number fails.
-fn with_failing_read(what: What, number: usize) -> Replay {
+fn with_failing_read(word: Word, number: usize) -> Replay {
     Replay {
-        what,
+        word,
         failing_read: Some(number),
         ..REPORTS
     }
 }
 
 /// Whether the read after the one that gave no byte is never made.
-fn ends_before(alloc: Global, input: &[u8], what: What, is_between: bool) -> Result<bool, Fail> {
-    let replay = with_failing_read(what, input.len().saturating_add(2));
+fn ends_before(alloc: Global, input: &[u8], word: Word, is_between: bool) -> Result<bool, Fail> {
+    let replay = with_failing_read(word, input.len().saturating_add(2));
     let (answer, _written) = replayed(alloc, input, replay)?;
-    Ok(if what == What::Repaint && !is_between {
+    Ok(if word == Word::Replay(What::Repaint) && !is_between {
         answer == Err(Fault::Partial)
     } else {
         answer == Ok(())
     })
 }
 
-/// Whether each read fails in turn: what was written is the reports of what was read, where they are asked for.
-fn each_read_fails(alloc: Global, input: &[u8], what: What) -> Result<bool, Fail> {
+/// Returns whether each read fails in turn: what was written is the reports or the lines of what was read, if they are
+/// asked for.
+fn each_read_fails(alloc: Global, input: &[u8], word: Word) -> Result<bool, Fail> {
     let mut terminal = Terminal::new(alloc)?;
     let mut reports = Vec::new(alloc);
+    let mut lines = Vec::new(alloc);
     for call in 0..input.len() + 1 {
-        let due = if what == What::Reports {
-            reports.as_slice()
-        } else {
-            b""
+        let due = match word {
+            Word::Replay(What::Reports) => reports.as_slice(),
+            Word::Log => lines.as_slice(),
+            _ => b"",
         };
-        let replay = with_failing_read(what, call + 1);
+        let replay = with_failing_read(word, call + 1);
         if !leaves(alloc, input, replay, Err(Fault::Read), due)? {
             return Ok(false);
         }
         if let Some(byte) = input.get(call..call + 1) {
-            terminal.feed(byte, &mut reports)?;
+            feed_log(&mut terminal, byte, &mut reports, &mut lines)?;
         }
     }
-    ends_before(alloc, input, what, terminal.is_between())
+    ends_before(alloc, input, word, terminal.is_between())
 }
 
 /// A replay whose write of one byte of this number fails.
-fn with_failing_write(what: What, number: Option<usize>) -> Replay {
+fn with_failing_write(word: Word, number: Option<usize>) -> Replay {
     Replay {
-        what,
+        word,
         bounds: ONE,
         failing_write: number,
         ..REPORTS
@@ -271,23 +279,23 @@ fn with_failing_write(what: What, number: Option<usize>) -> Replay {
 }
 
 /// Whether each write of one byte fails in turn: what was written is what is due up to there.
-fn each_write_fails(alloc: Global, input: &[u8], what: What) -> Result<bool, Fail> {
-    let (answered, due) = replayed(alloc, input, with_failing_write(what, None))?;
+fn each_write_fails(alloc: Global, input: &[u8], word: Word) -> Result<bool, Fail> {
+    let (answered, due) = replayed(alloc, input, with_failing_write(word, None))?;
     for call in 0..due.len() {
-        let replay = with_failing_write(what, Some(call + 1));
+        let replay = with_failing_write(word, Some(call + 1));
         if !leaves(alloc, input, replay, Err(Fault::Write), &due[..call])? {
             return Ok(false);
         }
     }
-    let replay = with_failing_write(what, Some(due.len().saturating_add(1)));
+    let replay = with_failing_write(word, Some(due.len().saturating_add(1)));
     leaves(alloc, input, replay, answered, &due)
 }
 
 #[test]
 fn each_read_of_each_vector_fails(rt: HostRuntime) -> Result<(), Fail> {
     for i in 0..vector_count() {
-        for what in KINDS {
-            let fails = each_read_fails(rt.alloc(), vector(i).input, what)?;
+        for word in WORDS {
+            let fails = each_read_fails(rt.alloc(), vector(i).input, word)?;
             assert!(rt; fails, "vector {i}");
         }
     }
@@ -297,8 +305,8 @@ fn each_read_of_each_vector_fails(rt: HostRuntime) -> Result<(), Fail> {
 #[test]
 fn each_write_of_each_vector_fails(rt: HostRuntime) -> Result<(), Fail> {
     for i in 0..vector_count() {
-        for what in KINDS {
-            let fails = each_write_fails(rt.alloc(), vector(i).input, what)?;
+        for word in WORDS {
+            let fails = each_write_fails(rt.alloc(), vector(i).input, word)?;
             assert!(rt; fails, "vector {i}");
         }
     }

@@ -1,7 +1,7 @@
 //! What the words ask for, at work: the piece, the limit and the kind; and a read that is passed on whole.
 use std::alloc::Global;
 use std::test::Fail;
-use vt_replay::{Fault, Watched, replay, settings};
+use vt_replay::{Fault, Watched, carry_out, replay, request, settings};
 use vt_vectors::ShortReader;
 
 /// A line of words, a call of the reader that fails, the answer, and the first line that is written.
@@ -25,31 +25,68 @@ const ASKED: [Asked; 7] = [
     ("vt220 text --piece 5", Some(3), Ok(()), b"ABCDE\n"),
 ];
 
+/// Each is a log of `ABCDE`, of which no line scrolls off.
+const LOGGED: [Asked; 4] = [
+    ("vt220 log", None, Ok(()), b"ABCDE\n"),
+    ("vt220 log --limit 4", None, Err(Fault::TooLong), b""),
+    ("vt220 log --piece 2", Some(4), Err(Fault::Read), b""),
+    ("vt220 log --piece 5", Some(3), Ok(()), b"ABCDE\n"),
+];
+
+/// Returns the words of a line.
+fn words_of(alloc: Global, line: &str) -> Result<Vec<String>, Fail> {
+    let mut words = Vec::new(alloc);
+    for word in line.split(' ') {
+        words.push(String::from_str(alloc, word)?)?;
+    }
+    Ok(words)
+}
+
 /// What is answered and written for a line of words.
 fn replayed(
     alloc: Global,
     line: &str,
     failing_read: Option<usize>,
 ) -> Result<(Result<(), Fault>, Vec<u8>), Fail> {
-    let mut words = Vec::new(alloc);
-    for word in line.split(' ') {
-        words.push(String::from_str(alloc, word)?)?;
-    }
-    let asked = settings(alloc, words).map_err(|_| "refused words")?;
+    let asked = settings(alloc, words_of(alloc, line)?).map_err(|_| "refused words")?;
     let mut reader = Watched::new(ShortReader::new(b"ABCDE", 100, failing_read));
     let mut writer = Watched::new(Vec::new(alloc));
     let answer = replay(alloc, &mut reader, &mut writer, &asked);
     Ok((answer, writer.into_inner()))
 }
 
+/// Returns what is returned and written for a line of words that is a request.
+fn carried_out(
+    alloc: Global,
+    line: &str,
+    failing_read: Option<usize>,
+) -> Result<(Result<(), Fault>, Vec<u8>), Fail> {
+    let asked = request(alloc, words_of(alloc, line)?).map_err(|_| "refused words")?;
+    let mut reader = Watched::new(ShortReader::new(b"ABCDE", 100, failing_read));
+    let mut writer = Watched::new(Vec::new(alloc));
+    let answer = carry_out(alloc, &mut reader, &mut writer, &asked);
+    Ok((answer, writer.into_inner()))
+}
+
+/// Returns whether what is returned and written is what a row says.
+fn is_due(
+    (_line, _failing_read, expected, first): &Asked,
+    answer: Result<(), Fault>,
+    written: &[u8],
+) -> bool {
+    answer == *expected && written.starts_with(first) && written.is_empty() == first.is_empty()
+}
+
 /// Whether the line of a row is answered as the row says.
-fn is_answered(alloc: Global, (line, failing_read, expected, first): &Asked) -> Result<bool, Fail> {
-    let (answer, written) = replayed(alloc, line, *failing_read)?;
-    Ok(
-        answer == *expected
-            && written.as_slice().starts_with(first)
-            && written.is_empty() == first.is_empty(),
-    )
+fn is_answered(alloc: Global, row: &Asked) -> Result<bool, Fail> {
+    let (answer, written) = replayed(alloc, row.0, row.1)?;
+    Ok(is_due(row, answer, &written))
+}
+
+/// Returns whether the line of a row is carried out as the row says.
+fn is_carried_out(alloc: Global, row: &Asked) -> Result<bool, Fail> {
+    let (answer, written) = carried_out(alloc, row.0, row.1)?;
+    Ok(is_due(row, answer, &written))
 }
 
 #[test]
@@ -57,6 +94,16 @@ fn settings_are_at_work(rt: HostRuntime) -> Result<(), Fail> {
     for row in &ASKED {
         let line = row.0;
         assert!(rt; is_answered(rt.alloc(), row)?, "{line}");
+        assert!(rt; is_carried_out(rt.alloc(), row)?, "{line}");
+    }
+    Ok(())
+}
+
+#[test]
+fn requests_are_at_work(rt: HostRuntime) -> Result<(), Fail> {
+    for row in &LOGGED {
+        let line = row.0;
+        assert!(rt; is_carried_out(rt.alloc(), row)?, "{line}");
     }
     Ok(())
 }

@@ -2,7 +2,7 @@
 use super::common::holds;
 use std::alloc::{AllocError, Global};
 use std::test::Fail;
-use vt_replay::{Settings, What, settings};
+use vt_replay::{Request, Settings, What, Word, request, settings};
 
 /// The words of a line, cut at each space.
 pub(super) fn words_of(alloc: Global, line: &str) -> Result<Vec<String>, AllocError> {
@@ -92,6 +92,23 @@ fn are_taken(found: &Settings, (_line, what, piece, limit, file): &Taken) -> boo
         && found.file.as_ref().map(|name| name.as_str()) == *file
 }
 
+/// Returns whether a request is for a word, with the rest of a row.
+fn is_requested(found: &Request, word: Word, (_line, _what, piece, limit, file): &Taken) -> bool {
+    found.word == word
+        && found.piece == *piece
+        && found.limit == *limit
+        && found.file.as_ref().map(|name| name.as_str()) == *file
+}
+
+/// Returns whether the line of a row asks for a word.
+fn requests(alloc: Global, word: Word, row: &Taken) -> Result<bool, Fail> {
+    let asked = request(alloc, words_of(alloc, row.0)?);
+    Ok(match &asked {
+        Ok(found) => is_requested(found, word, row),
+        Err(_) => false,
+    })
+}
+
 /// Whether the line of a row asks for its settings.
 fn asks_for(alloc: Global, row: &Taken) -> Result<bool, Fail> {
     let asked = settings(alloc, words_of(alloc, row.0)?);
@@ -105,6 +122,33 @@ fn asks_for(alloc: Global, row: &Taken) -> Result<bool, Fail> {
 fn words_ask_for_settings(rt: HostRuntime) -> Result<(), Fail> {
     for row in &TAKEN {
         holds(&rt, row.0, asks_for(rt.alloc(), row)?);
+        holds(&rt, row.0, requests(rt.alloc(), Word::Replay(row.1), row)?);
+    }
+    Ok(())
+}
+
+/// Lines that ask for a log. No row has a kind of output of its own.
+const LOGS: [Taken; 3] = [
+    ("vt220 log", What::Text, 4096, 268435456, None),
+    ("vt220 log --piece=7 a", What::Text, 7, 268435456, Some("a")),
+    (
+        "vt220 log --limit 1099511627776 -- -x",
+        What::Text,
+        4096,
+        1099511627776,
+        Some("-x"),
+    ),
+];
+
+#[test]
+fn words_ask_for_a_log(rt: HostRuntime) -> Result<(), Fail> {
+    for row in &LOGS {
+        holds(&rt, row.0, requests(rt.alloc(), Word::Log, row)?);
+        holds(
+            &rt,
+            row.0,
+            is_refused(rt.alloc(), row.0, 2, "error: unrecognized subcommand 'log'")?,
+        );
     }
     Ok(())
 }
@@ -181,10 +225,40 @@ fn is_refused(alloc: Global, line: &str, status: u8, text: &str) -> Result<bool,
     })
 }
 
+/// Returns whether a line is refused as a request with this status, and a text that begins so.
+fn has_no_request(alloc: Global, line: &str, status: u8, text: &str) -> Result<bool, Fail> {
+    let asked = request(alloc, words_of(alloc, line)?);
+    Ok(match &asked {
+        Ok(_) => false,
+        Err(refused) => refused.status == status && refused.text.as_str().starts_with(text),
+    })
+}
+
 #[test]
 fn words_are_refused(rt: HostRuntime) -> Result<(), Fail> {
     for (line, status, text) in &REFUSED {
         holds(&rt, line, is_refused(rt.alloc(), line, *status, text)?);
+        holds(&rt, line, has_no_request(rt.alloc(), line, *status, text)?);
+    }
+    Ok(())
+}
+
+/// A line of the wider command that asks for nothing, the status, and how the text begins.
+const NO_LOG: [(&str, u8, &str); 4] = [
+    ("vt220 log --help", 0, "The lines that scroll off"),
+    ("vt220 help log", 0, "The lines that scroll off"),
+    (
+        "vt220 log --piece 0",
+        2,
+        "error: invalid value '0' for '--piece <N>'",
+    ),
+    ("vt220 log a b", 2, "error: unexpected argument 'b' found"),
+];
+
+#[test]
+fn words_of_a_log_are_refused(rt: HostRuntime) -> Result<(), Fail> {
+    for (line, status, text) in &NO_LOG {
+        holds(&rt, line, has_no_request(rt.alloc(), line, *status, text)?);
     }
     Ok(())
 }

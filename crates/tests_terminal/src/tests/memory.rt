@@ -8,7 +8,7 @@ use std::alloc::{AllocError, Global};
 use std::test::Fail;
 use vt_paint::{PAINT_LIMIT, PaintError, repaint, repaint_reserved};
 use vt_picture::{PICTURE_LIMIT, SHOW_LIMIT, picture, picture_reserved, show, show_reserved};
-use vt_replay::{Fault, Refused, Settings, Watched, What, run, settings};
+use vt_replay::{Fault, Refused, Request, Watched, What, Word, carry_out, request};
 use vt_term::{ROW_TEXT_LIMIT, ROWS, TEXT_LIMIT, Terminal};
 use vt_vectors::{Mismatch, Vector, check, vector, vector_count};
 
@@ -264,13 +264,13 @@ fn calls_with_room_take_no_memory(rt: HostRuntime) -> Result<(), Fail> {
     Ok(())
 }
 
-/// `run`.
+/// `carry_out`, and with it `run` and `write_log`.
 #[derive(Drop)]
 struct Running<'a> {
     alloc: Global,
     reader: Watched<&'a [u8]>,
     writer: Watched<Vec<u8>>,
-    what: What,
+    request: Request,
     answered: Result<(), Fault>,
 }
 
@@ -279,13 +279,11 @@ impl Growing for Running<'_> {
         if self.reader.failed() || self.reader.ended() || self.writer.failed() {
             return true;
         }
-        self.answered = run(
+        self.answered = carry_out(
             self.alloc,
             &mut self.reader,
             &mut self.writer,
-            self.what,
-            4096,
-            LIMIT,
+            &self.request,
         );
         self.answered != Err(Fault::Memory)
     }
@@ -295,13 +293,19 @@ impl Growing for Running<'_> {
     }
 }
 
-/// Whether a replay that was refused, also more than once, has read and written nothing.
-fn run_is_refused(alloc: Global, input: &[u8], what: What) -> Result<bool, Fail> {
+/// Returns whether a request that was refused, also more than once, has read and written nothing. In the end it writes what
+/// a replay of this kind does.
+fn request_is_refused(alloc: Global, input: &[u8], word: Word, what: What) -> Result<bool, Fail> {
     let mut running = Running {
         alloc,
         reader: Watched::new(input),
         writer: Watched::new(Vec::with_capacity(alloc, TEXT_LIMIT)?),
-        what,
+        request: Request {
+            word,
+            piece: 4096,
+            limit: LIMIT,
+            file: None,
+        },
         answered: Err(Fault::Memory),
     };
     let (refused, changed) = refusals(alloc, &mut running)?;
@@ -315,7 +319,7 @@ fn run_is_refused(alloc: Global, input: &[u8], what: What) -> Result<bool, Fail>
 }
 
 #[test]
-fn each_growth_of_run_is_refused(rt: HostRuntime) -> Result<(), Fail> {
+fn each_growth_of_a_request_is_refused(rt: HostRuntime) -> Result<(), Fail> {
     for what in [
         What::Text,
         What::Reports,
@@ -324,22 +328,31 @@ fn each_growth_of_run_is_refused(rt: HostRuntime) -> Result<(), Fail> {
         What::Show,
     ] {
         for (i, input) in INPUTS.iter().enumerate() {
-            holds_at(&rt, i, run_is_refused(rt.alloc(), input, what)?);
+            let word = Word::Replay(what);
+            holds_at(&rt, i, request_is_refused(rt.alloc(), input, word, what)?);
         }
+    }
+    // no line scrolls off, so that the log is the text
+    for (i, input) in INPUTS.iter().enumerate() {
+        holds_at(
+            &rt,
+            i,
+            request_is_refused(rt.alloc(), input, Word::Log, What::Text)?,
+        );
     }
     Ok(())
 }
 
-/// `settings`, which takes the words.
+/// `request`, which takes the words.
 #[derive(Drop)]
 struct Asking {
     alloc: Global,
     copies: Vec<Vec<String>>,
-    answered: Option<Result<Settings, Refused>>,
+    answered: Option<Result<Request, Refused>>,
 }
 
 /// Whether words were refused for want of memory.
-fn is_want(answered: &Result<Settings, Refused>) -> bool {
+fn is_want(answered: &Result<Request, Refused>) -> bool {
     match answered {
         Ok(_) => false,
         Err(refused) => refused.status == 1,
@@ -351,7 +364,7 @@ impl Growing for Asking {
         let Some(words) = self.copies.pop() else {
             return true;
         };
-        let answered = settings(self.alloc, words);
+        let answered = request(self.alloc, words);
         let has_memory = !is_want(&answered);
         self.answered = Some(answered);
         has_memory
@@ -376,25 +389,26 @@ fn copies_of(alloc: Global, line: &str) -> Result<Vec<Vec<String>>, AllocError> 
 
 /// Whether words that were refused for want of memory, also more than once and each time without a text, are then
 /// answered as with ample memory.
-fn settings_is_refused(alloc: Global, line: &str) -> Result<bool, Fail> {
+fn words_are_refused(alloc: Global, line: &str) -> Result<bool, Fail> {
     let mut asking = Asking {
         alloc,
         copies: copies_of(alloc, line)?,
         answered: None,
     };
     let (refused, with_text) = refusals(alloc, &mut asking)?;
-    let expected = settings(alloc, words_of(alloc, line)?);
+    let expected = request(alloc, words_of(alloc, line)?);
     Ok(refused > 2 && with_text == 0 && asking.answered == Some(expected))
 }
 
 #[test]
-fn each_growth_of_settings_is_refused(rt: HostRuntime) -> Result<(), Fail> {
+fn each_growth_of_words_is_refused(rt: HostRuntime) -> Result<(), Fail> {
     for line in [
         "vt220 repaint --piece 1 --limit 0 a",
+        "vt220 log a",
         "vt220 --help",
         "vt220 text --piece x",
     ] {
-        holds(&rt, line, settings_is_refused(rt.alloc(), line)?);
+        holds(&rt, line, words_are_refused(rt.alloc(), line)?);
     }
     Ok(())
 }

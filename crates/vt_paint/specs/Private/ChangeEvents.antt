@@ -1,4 +1,4 @@
--- What is asked for where one screen is changed into another. No public clause speaks of it. (this profile)
+-- The events that change one screen into another. No public clause cites them. (this profile)
 use Rattle.std.specs.Prelude.{ℕ, List, [], ◌∷◌, ◌++◌, Bool, true, false, Some, None, ◌&&◌, if◌then◌else◌, codes}
 use Rattle.std.specs.List.{range_with_len, flat_map}
 use Rattle.vt_syntax.specs.declared.event.Event.{Event}
@@ -32,14 +32,14 @@ has_all r = r.bold && (r.underline && (r.blink && r.reverse))
 abbrev pub all_attributes : Event
 all_attributes = sequence_of (1 ∷ 4 ∷ 5 ∷ 7 ∷ []) (byte (codes "m"))
 
--- SGR without the 0 where every attribute is set
+-- SGR without the 0 if every attribute is set
 abbrev pub short_rendition : Rendition → Event
 short_rendition r = if has_all r then all_attributes else rendition_to r
 
 unfoldable pub short_brush_events : Brush → List Event
 short_brush_events brush = short_rendition brush.rendition ∷ protection_to brush.protected ∷ []
 
--- a cell where it is marked: its place, its brush and its glyph
+-- a cell if it is marked: its position, its brush and its glyph
 unfoldable pub change_of : ℕ → ℕ → Bool → Cell → List Event
 change_of r c marked cell = when marked (cursor_position r c
     ∷ (short_brush_events (brush_of cell) ++ glyph_events cell))
@@ -67,7 +67,7 @@ changed_cells marks g = changed_rows marks g 1 last_row
 unfoldable pub start_item : List Event
 start_item = soft_reset ∷ private_mode 7 true ∷ []
 
--- where the saved cursor is
+-- the saved cursor's position
 abbrev pub saved_cursor : Saved → Cursor
 saved_cursor saved = record { row = saved.row; col = saved.col; wrap = saved.wrap }
 

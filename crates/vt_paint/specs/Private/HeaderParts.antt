@@ -1,5 +1,5 @@
--- The parts of a header, and a brush and a cell as numbers. No public clause speaks of them.
-use Rattle.std.specs.Prelude.{ℕ, ◌+◌, ◌*◌, Bool, List, [], ◌∷◌, ◌++◌, if◌then◌else◌, decimal, drop}
+-- The parts of a header, and a brush and a cell as numbers. No public clause cites them.
+use Rattle.std.specs.Prelude.{ℕ, ◌+◌, ◌*◌, ◌==◌, Bool, List, [], ◌∷◌, ◌++◌, if◌then◌else◌, decimal, drop}
 use Rattle.vt_syntax.specs.Spelling.{spell_events}
 use Rattle.vt_glyph.specs.Encoding.{encoding_of}
 use Rattle.vt_screen.specs.declared.cell.Brush.{Brush}
@@ -14,7 +14,7 @@ row_part row = 0x1B ∷ 0x5B ∷ (decimal row ++ 0x3B ∷ [])
 unfoldable pub column_part : ℕ → List ℕ
 column_part col = decimal col ++ 0x48 ∷ []
 
--- SGR behind its 0, and DECSCA
+-- SGR after its 0, and DECSCA
 unfoldable pub brush_part : Brush → List ℕ
 brush_part brush = drop 3 (spell_events (brush_events brush))
 
@@ -36,3 +36,7 @@ brush_index brush =
 -- three bytes for the glyph, and above them those of the brush
 abbrev pub cell_word : Cell → ℕ
 cell_word cell = encoding_of cell.glyph + 0x1000000 * brush_number (brush_of cell)
+
+-- the lowest word of a plain glyph in a brush of this number that isn't blank: of a space, or of the character behind it
+abbrev pub lowest_word : ℕ → ℕ
+lowest_word number = 0x1000000 * number + (if number == 0 then 0x21 else 0x20)

@@ -1,4 +1,4 @@
--- The room that private contracts speak of. No public clause does.
+-- The capacities that private contracts cite. No public clause does.
 use Rattle.std.specs.Prelude.{ℕ, Bool, if◌then◌else◌}
 
 -- what the sets of the spellings may still take

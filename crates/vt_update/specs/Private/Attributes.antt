@@ -1,7 +1,7 @@
--- The parameters of SGR as they are gathered. No public clause speaks of them.
+-- The parameters of SGR as they are gathered. No public clause cites them.
 use Rattle.std.specs.Prelude.{ℕ, List, [], ◌∷◌, ◌++◌, Bool, if◌then◌else◌}
 
--- `;` and an attribute, where it is set
+-- `;` and an attribute, if it is set
 abbrev pub attribute : Bool → ℕ → List ℕ
 attribute set digit = if set then 0x3B ∷ digit ∷ [] else []
 

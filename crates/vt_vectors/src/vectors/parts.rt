@@ -1,13 +1,13 @@
-//! How expected texts and repaints are written: a list of strings and names, joined into one string.
+//! Parts of expected texts and repaints. Each text is a list of strings and names, joined into one string.
 //!
-//! The names stand for the parts that come again and again:
+//! The names are those of repeated parts:
 //!
 //! - `HEAD`: the sets in which a repaint spells every glyph;
 //! - `PLAIN`: no attribute, unprotected;
 //! - `REVERSE`: reverse alone, unprotected;
-//! - `SETS`: the sets as at power-up;
-//! - `EMPTY 20` to `EMPTY 24`: so many empty lines;
-//! - `X_78`, `X_80`, `X_52`, `A_80`, `A_40`, `E_80`, `E_52`: so many of that letter.
+//! - `SETS`: the sets at power-up;
+//! - `EMPTY 20` to `EMPTY 24`: 20 to 24 empty lines;
+//! - `X_78`, `X_80`, `X_52`, `A_80`, `A_40`, `E_80`, `E_52`: that letter repeated that many times.
 
 macro_rules! joined {
     (@ [$($done:tt)*]) => {

@@ -23,3 +23,6 @@ returns-then-bytes-eq0-clause-quiet c =
     leads-silent c.cuts-2.ensures.two c.args.width c.args.room c.loop-at.left c.args.piece.now c.loop-at.at
     c.silent_run.result c.loop-at.invariant.leads
     (rw (rest-of c.args.piece.now c.loop-at.at) at c.silent_run.ensures.silent)
+
+pub returns-then-piece-at-eq10-clause-quiet : goal.returns-then-piece-at-eq10-clause-quiet
+returns-then-piece-at-eq10-clause-quiet c = c.loop-at.invariant.leads.no_line

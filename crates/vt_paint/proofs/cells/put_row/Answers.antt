@@ -58,7 +58,7 @@ loop-i-then-not-is_blank-init c =
           (behind_all _ _ _ _ c.put_header-at.ensures.items) (behind_all _ _ _ _ c.put_glyph-at.ensures.items);
       left = λ g e. (
         ap (λ x. is_blank x) (sym (cell_is g e)) ∙ shown,
-        c.cell_brush_number-number.ensures ∙ ap (λ x. brush_number (brush_of x)) (cell_is g e),
+        c.of-run.ensures ∙ ap (λ x. brush_number (brush_of x)) (cell_is g e),
       );
       on = (omega arith, omega arith);
       within = omega arith;
@@ -106,7 +106,7 @@ loop-i-then-not-is_blank-preserved c =
     let run = c.loop-i-then-not-is_blank in
     let cell = c.index-cells-i-in-loop-i-then-not-is_blank in
     let same = c.index-cells-i-in-loop-i-then-not-is_blank-2 in
-    let written = c.put_glyph-at-in-loop-i-then-not-is_blank.ensures in
+    let written = c.put_next-at.ensures in
     let cell_is =
     λ (g : Grid) (e : c.args.cells.now ≡ row_of g r). cell-is c.rows.ensures.cell c.rows.ensures.len g r run.i
     c.args.cells.now cell.result e (omega arith) cell.is in
@@ -119,7 +119,7 @@ loop-i-then-not-is_blank-preserved c =
       items = λ g e. more_written g r run.i same.result _ _ _ (same_is g e) run.invariant.on.0 (run.invariant.left g e).0
           (ap (λ x. goes_on (cell_at g r run.i) x) (same_is g e ∙ sym (cell_is g e)) ∙ on g e) (run.invariant.items g e)
           (behind_all _ _ _ _
-          (written.items ∙ ap (λ (x : Cell). take run.at run.line ++ spell_events (glyph_events x)) (sym same.is)));
+          (written.items));
       left = λ g e. (
         ap (λ x. is_blank x) (sym (cell_is g e)) ∙ goes_on-shows (cell_at g r run.i) cell.result (on g e),
         (run.invariant.left g e).1

@@ -25,7 +25,7 @@ invariant-loop-i-then-not-is_blank l = record {
   items : (g : Grid) → l.cells ≡ row_of g l.row
       → l.out.items ++ take l.at l.line ≡ l.fn.out.items ++ spell_events (pieces_from g l.row 1 l.i);
   left : (g : Grid) → l.cells ≡ row_of g l.row → (is_blank (cell_at g l.row l.i) ≡ false)
-      × (l.number ≡ brush_number (brush_of (cell_at g l.row l.i)));
+      × (l.run.number ≡ brush_number (brush_of (cell_at g l.row l.i)));
   on : (1 ≤ l.i) × (l.initial.i ≤ l.i);
   within : l.i ≤ length l.cells;
   fits : l.at + 3 * l.initial.i ≤ 1565 + 3 * l.i;

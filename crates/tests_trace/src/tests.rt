@@ -1,0 +1,6 @@
+//! What no clause says of names: that bytes have the name which the specification gives them.
+mod functions;
+mod ignored;
+mod lines;
+mod names;
+mod traces;

@@ -1,0 +1,37 @@
+//! What the tests share: the names of the events of some bytes.
+use std::alloc::Global;
+use std::process::Abort;
+use std::test::Fail;
+use vt_syntax::{Parser, Values};
+use vt_trace::name;
+
+/// A row: bytes, and the names of their events, each with a space after it.
+pub(super) type Row = (&'static [u8], &'static [u8]);
+
+/// Returns the names of the events of some bytes, each with a space after it.
+fn names(alloc: Global, input: &[u8]) -> Result<Vec<u8>, Fail> {
+    let mut parser = Parser::new();
+    let mut values = Values::new();
+    let mut out = Vec::new(alloc);
+    let mut rest = input;
+    for _ in 0..100u16 {
+        let taken = parser.next(rest, &mut values);
+        rest = &rest[taken.bytes..];
+        if let Some(kind) = taken.event {
+            let word = name(kind, values.as_slice()).unwrap_or("ignored");
+            out.extend_from_slice(word.as_bytes())?;
+            out.push(b' ')?;
+        }
+    }
+    Ok(out)
+}
+
+/// Returns whether the events of the bytes have these names.
+pub(super) fn are_named(alloc: Global, row: &Row) -> Result<bool, Fail> {
+    Ok(names(alloc, row.0)?.as_slice() == row.1)
+}
+
+/// Asserts what a test has found of the row with these names.
+pub(super) fn holds(rt: &impl Abort, row: &Row, found: bool) {
+    assert!(rt; found, "{:?}", row.0);
+}

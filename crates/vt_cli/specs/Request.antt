@@ -1,0 +1,111 @@
+-- A request: the wider command in clap's terms, and what the answers of `request` say. (this profile)
+use Rattle.std.specs.Prelude.{◌≡◌, ◌⊎◌, ℕ, ◌≤◌, List, [], ◌∷◌, ◌++◌, codes, Option, Some, string_bytes, map}
+use Rattle.std.specs.Option.{option_map}
+use Rattle.std.specs.declared.alloc.Global.{Global}
+use Rattle.std.specs.declared.string.String.{String}
+use Rattle.clap.specs.Words.{App, Row, Text, Kinds, with_subcommand, first_of, fault_of, subcommand_of}
+use Rattle.vt_cli.specs.declared.what.Word.{Word}
+use Rattle.vt_cli.specs.declared.what.Word.TheVariants.{Replay, Log}
+use Rattle.vt_cli.specs.declared.asked.Settings.{Settings}
+use Rattle.vt_cli.specs.declared.asked.Request.{Request}
+use Rattle.vt_cli.specs.declared.asked.Refused.{Refused}
+use Rattle.vt_cli.specs.CommandLine.{vt220, subcommand, name_of, faults_in, found_in}
+use Rattle.vt_cli.specs.CommandLine.{IsNumberOf, AreSettings, IsMemory, IsFault}
+
+-- ---- the wider command
+
+-- the name of a word's subcommand
+abbrev pub word_name : Word → Text
+word_name (Replay what) = name_of what
+word_name Log = codes "log"
+
+-- with the subcommands that are no replay
+abbrev pub with_words : App → App
+with_words a = with_subcommand a (subcommand (codes "log")).top
+
+-- the program's command with all its words
+abbrev pub wider : App
+wider = with_words vt220
+
+-- the faults that clap finds in the words of a command line
+abbrev pub wider_faults_in : List (String Global) → Kinds
+wider_faults_in words = fault_of wider (map (λ w. string_bytes w) words)
+
+-- the subcommand that clap finds in them, with its matches
+abbrev pub wider_found_in : List (String Global) → Option (Text × List Row)
+wider_found_in words = subcommand_of wider (map (λ w. string_bytes w) words)
+
+-- ---- what `settings` takes
+
+-- `settings` takes the words, for these settings
+pub record Takes (words : List (String Global)) (s : Settings) : Type 0 where
+  pub no_fault : faults_in words ≡ []
+  pub settings : AreSettings (found_in words) s
+
+-- it doesn't take them
+abbrev pub TakesNone : List (String Global) → Type 0
+TakesNone words = (s : Settings) → Takes words s → ⊥
+
+-- r asks for what the settings ask for
+pub record AsksFor (s : Settings) (r : Request) : Type 0 where
+  pub word : r.word ≡ Replay s.what
+  pub piece : r.piece ≡ s.piece
+  pub limit : r.limit ≡ s.limit
+  pub file : r.file ≡ s.file
+
+-- r is what `settings` gives for the words
+pub record IsPlain (words : List (String Global)) (r : Request) : Type 0 where
+  pub settings : Settings
+  pub takes : Takes words settings
+  pub same : AsksFor settings r
+
+-- ---- what the wider command takes
+
+-- the numbers and the file of a subcommand's matches
+pub record AreOptions (matches : List Row) (piece limit : ℕ) (file : Option (String Global)) : Type 0 where
+  pub piece_is : IsNumberOf (codes "piece") matches piece
+  pub limit_is : IsNumberOf (codes "limit") matches limit
+  pub piece_in_range : (1 ≤ piece) × (piece ≤ 65536)
+  pub limit_in_range : limit ≤ 1099511627776
+  pub file_is : option_map (λ f. string_bytes f) file ≡ first_of (codes "file") matches
+
+-- no options are in the matches; private contracts alone speak of this
+abbrev pub HasNoOptions : List Row → Type 0
+HasNoOptions matches = (piece limit : ℕ) (file : Option (String Global)) → AreOptions matches piece limit file → ⊥
+
+-- r is what the subcommand that clap found, and its matches, ask for
+pub record IsFound (found : Option (Text × List Row)) (r : Request) : Type 0 where
+  pub matches : List Row
+  pub word : found ≡ Some (word_name r.word, matches)
+  pub options : AreOptions matches r.piece r.limit r.file
+
+-- `settings` doesn't take the words, and r is what the wider command finds
+pub record IsWider (words : List (String Global)) (r : Request) : Type 0 where
+  pub none : TakesNone words
+  pub no_fault : wider_faults_in words ≡ []
+  pub found : IsFound (wider_found_in words) r
+
+-- r is the request of the words
+abbrev pub IsRequest : List (String Global) → Request → Type 0
+IsRequest words r = IsPlain words r ⊎ IsWider words r
+
+-- ---- refusals
+
+-- no request is what clap found
+abbrev pub HasNoRequest : Option (Text × List Row) → Type 0
+HasNoRequest found = (r : Request) → IsFound found r → ⊥
+
+-- clap found no fault, and yet no request: the text says so
+pub record IsStrayRequest (faults : Kinds) (found : Option (Text × List Row)) (r : Refused) : Type 0 where
+  pub none : faults ≡ []
+  pub stray : HasNoRequest found
+  pub status : r.status ≡ 2
+  pub text : string_bytes r.text ≡ codes "vt220: bad command line" ++ 0x0A ∷ []
+
+-- why the wider command refuses, by the faults and the subcommand that clap finds
+abbrev pub IsWiderRefusal : Kinds → Option (Text × List Row) → Refused → Type 0
+IsWiderRefusal faults found r = IsMemory r ⊎ (IsFault faults r ⊎ IsStrayRequest faults found r)
+
+-- why there is no request: memory was wanted, or `settings` doesn't take the words and the wider command refuses them
+abbrev pub IsNoRequest : List (String Global) → Refused → Type 0
+IsNoRequest words r = IsMemory r ⊎ (TakesNone words × IsWiderRefusal (wider_faults_in words) (wider_found_in words) r)

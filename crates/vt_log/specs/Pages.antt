@@ -1,0 +1,57 @@
+-- The pages: the 24 lines of the screen before each event that blanks all of it. (EK-VT220-RM: ED, RIS and DECCOLM; that
+-- their lines are written is this profile's)
+use Rattle.std.specs.Prelude.{ℕ, List, [], ◌∷◌, ◌++◌, Bool, false, Option, Some, None, length, codes}
+use Rattle.std.specs.Prelude.{◌==◌, ◌||◌, ◌&&◌, if◌then◌else◌}
+use Rattle.vt_syntax.specs.declared.event.Event.{Event}
+use Rattle.vt_syntax.specs.declared.event.Event.TheVariants.{Print, Control, Escape, Sequence}
+use Rattle.vt_syntax.specs.Held.{events_from}
+use Rattle.vt_glyph.specs.LookUp.{contains}
+use Rattle.vt_screen.specs.Grid.{last_row}
+use Rattle.vt_term.specs.State.{Display, State, last_column}
+use Rattle.vt_term.specs.Parameters.{first}
+use Rattle.vt_term.specs.Functions.{effect, byte}
+use Rattle.vt_term.specs.Text.{grid_text}
+use Rattle.vt_log.specs.Log.{line_off}
+
+-- ED erases every cell: 2; 0 from the first cell; 1 from the last
+abbrev pub erases_all : ℕ → Display → Bool
+erases_all p s =
+    p == 2 || (p == 0 && s.cursor.row == 1 && s.cursor.col == 1)
+    || (p == 1 && s.cursor.row == last_row && s.cursor.col == last_column s)
+
+-- by the marker and the intermediate: ED, and DECCOLM set or reset
+abbrev pub blanks_by : Option ℕ → Option ℕ → List ℕ → ℕ → Display → Bool
+blanks_by None None params last s = last == byte (codes "J") && erases_all (first params) s
+blanks_by (Some marker) None params last s =
+    marker == byte (codes "?") && (last == byte (codes "h") || last == byte (codes "l")) && contains params 3
+blanks_by None (Some inter) params last s = false
+blanks_by (Some marker) (Some inter) params last s = false
+
+-- RIS
+abbrev pub is_reset : Option ℕ → ℕ → Bool
+is_reset None last = last == byte (codes "c")
+is_reset (Some inter) last = false
+
+-- the event blanks the whole screen
+abbrev pub blanks_screen : Event → Display → Bool
+blanks_screen (Print b) s = false
+blanks_screen (Control b) s = false
+blanks_screen (Escape inter last) s = is_reset inter last
+blanks_screen (Sequence marker params inter last) s = blanks_by marker inter params.items last s
+
+-- the 24 lines as they stand, unless all are empty: each has its LF, so these are the 24 bytes
+abbrev pub page : Display → List ℕ
+page s = if length (grid_text s.grid) == last_row then [] else grid_text s.grid
+
+-- what an event takes off the screen: all lines, or line 1
+abbrev pub taken_off : Event → Display → List ℕ
+taken_off event s = if blanks_screen event s then page s else line_off event s
+
+-- the lines of events, each in the state before its event
+abbrev pub pages_off : List Event → Display → List ℕ
+pages_off [] s = []
+pages_off (event ∷ events) s = taken_off event s ++ pages_off events (effect event s)
+
+-- the lines and pages of bytes after what is held
+unfoldable pub pages : State → List ℕ → List ℕ
+pages s bytes = pages_off (events_from s.held bytes) s.display

@@ -1,0 +1,6 @@
+mod Tables
+mod Alone
+mod Witnesses
+mod Acting
+mod TracedBytes
+mod Traces

@@ -1,0 +1,167 @@
+-- Three sound displays: each function changes one of them.
+use Rattle.std.proofs.Common.{◌≡◌, ℕ, Bool, true, false, List, [], ◌∷◌, length, None, refl, ap, arith}
+use Rattle.std.specs.Prelude.{slice_index}
+use Rattle.vt_syntax.specs.declared.event.Event.{Event}
+use Rattle.vt_glyph.specs.declared.set.Set.TheVariants.{German}
+use Rattle.vt_screen.specs.Grid.{blank_grid}
+use Rattle.vt_screen.proofs.SoundGrids.{blank_grid-sound}
+use Rattle.vt_term.specs.State.{Display, display_at_power_up, at_place, full_margins, saved_at_power_up, stops_where}
+use Rattle.vt_term.specs.Tabs.{no_stops}
+use Rattle.vt_term.specs.Sound.{IsSoundDisplay}
+use Rattle.vt_term.specs.Functions.{effect}
+use Rattle.vt_term.specs.Reports.{report}
+use Rattle.vt_trace.specs.Ignored.{HasNoEffect}
+
+-- power-up, with the wrap flag set at the end of line 1
+abbrev pub at_end : Display
+at_end = record display_at_power_up { cursor = record { row = 1; col = 80; wrap = true } }
+
+-- power-up, with no mode and no tab stop set
+abbrev pub all_off : Display
+all_off = record display_at_power_up {
+  stops = no_stops;
+  modes = record {
+    kam = false;
+    irm = false;
+    srm = false;
+    lnm = false;
+    decckm = false;
+    decsclm = false;
+    decscnm = false;
+    decom = false;
+    decawm = false;
+    decarm = false;
+    dectcem = false;
+    keypad_application = false;
+    reports_8bit = false;
+  };
+}
+
+-- 132 columns, a tab stop at the cursor and everywhere, all modes and attributes set, and other sets
+abbrev pub all_on : Display
+all_on = record {
+  grid = blank_grid true;
+  cursor = at_place 1 9;
+  brush = record {
+    rendition = record { bold = true; underline = true; blink = true; reverse = true };
+    protected = true;
+  };
+  sets = record { g = German ∷ German ∷ German ∷ German ∷ []; left = 1; right = 1; pending = None };
+  margins = full_margins;
+  stops = stops_where (λ c. true);
+  modes = record {
+    kam = true;
+    irm = true;
+    srm = true;
+    lnm = true;
+    decckm = true;
+    decsclm = true;
+    decscnm = true;
+    decom = true;
+    decawm = true;
+    decarm = true;
+    dectcem = true;
+    keypad_application = true;
+    reports_8bit = true;
+  };
+  saved = saved_at_power_up;
+}
+
+length-no_stops : length no_stops ≡ 132
+unfolding no_stops
+length-no_stops = refl
+
+-- the event changes a display, or makes it report: it isn't so that it has no effect
+abbrev pub Acts : Event → Type 0
+Acts event = HasNoEffect event → ⊥
+
+module _ (base : IsSoundDisplay display_at_power_up) where
+  pub at_end-sound : IsSoundDisplay at_end
+  at_end-sound = record {
+    grid = base.grid;
+    cursor = record {
+      row_1 = omega arith;
+      row_24 = omega arith;
+      col_1 = omega arith;
+      col_last = omega arith;
+      wrap_last = λ e. refl;
+    };
+    wrap = λ e. refl;
+    origin = λ e. absurd cc;
+    sets = base.sets;
+    margins = base.margins;
+    stops = base.stops;
+    saved = base.saved;
+    saved_sets = base.saved_sets;
+  }
+
+  all_off-sound : IsSoundDisplay all_off
+  all_off-sound = record {
+    grid = base.grid;
+    cursor = base.cursor;
+    wrap = λ e. absurd cc;
+    origin = λ e. absurd cc;
+    sets = base.sets;
+    margins = base.margins;
+    stops = length-no_stops;
+    saved = base.saved;
+    saved_sets = base.saved_sets;
+  }
+
+  pub all_on-sound : IsSoundDisplay all_on
+  all_on-sound = record {
+    grid = blank_grid-sound true;
+    cursor = record {
+      row_1 = omega arith;
+      row_24 = omega arith;
+      col_1 = omega arith;
+      col_last = omega arith;
+      wrap_last = λ e. absurd cc;
+    };
+    wrap = λ e. absurd cc;
+    origin = λ e. (omega arith, omega arith);
+    sets = record {
+      four = refl;
+      left = omega arith;
+      right = (omega arith, omega arith);
+      pending = λ slot e. absurd cc;
+    };
+    margins = base.margins;
+    stops = refl;
+    saved = record {
+      row_1 = omega arith;
+      row_24 = omega arith;
+      col_1 = omega arith;
+      col_last = omega arith;
+      wrap_last = λ e. absurd cc;
+    };
+    saved_sets = base.saved_sets;
+  }
+
+  -- a test that a sound display passes, and that it doesn't pass after the event
+  differs : (test : Display → Bool) (s : Display) → IsSoundDisplay s → (event : Event) → test s ≡ true
+      → test (effect event s) ≡ false → Acts event
+  differs test s sound event before after none =
+      let same : test (effect event s) ≡ test s = ap test (none s sound).same in absurd cc
+
+  pub acts_at_end : (test : Display → Bool) (event : Event) → test at_end ≡ true → test (effect event at_end) ≡ false
+      → Acts event
+  acts_at_end test event = differs test at_end at_end-sound event
+
+  pub acts_all_on : (test : Display → Bool) (event : Event) → test all_on ≡ true → test (effect event all_on) ≡ false
+      → Acts event
+  acts_all_on test event = differs test all_on all_on-sound event
+
+  pub acts_all_off : (test : Display → Bool) (event : Event) → test all_off ≡ true
+      → test (effect event all_off) ≡ false → Acts event
+  acts_all_off test event = differs test all_off all_off-sound event
+
+  -- the wrap flag is reset
+  pub resets_wrap : (event : Event) → (effect event at_end).cursor.wrap ≡ false → Acts event
+  resets_wrap event after = acts_at_end (λ s. s.cursor.wrap) event refl after
+
+  -- something is reported, which begins with ESC
+  pub reports : (event : Event) → slice_index (report event at_end) 0 ≡ 0x1B → Acts event
+  reports event says none =
+      let silent : slice_index (report event at_end) 0 ≡ 0 =
+      ap (λ (bytes : List ℕ). slice_index bytes 0) (none at_end at_end-sound).silent in absurd (omega (arith, silent, says))

@@ -1,0 +1,21 @@
+-- The events that are ignored.
+use Rattle.std.specs.Prelude.{◌≡◌, [], Bool, true, false, Some, None}
+use Rattle.vt_syntax.specs.declared.event.Event.{Event}
+use Rattle.vt_term.specs.State.{Display}
+use Rattle.vt_term.specs.Sound.{IsSoundDisplay}
+use Rattle.vt_term.specs.Functions.{effect}
+use Rattle.vt_term.specs.Reports.{report}
+use Rattle.vt_trace.specs.Names.{name_of}
+
+-- an event without a name
+abbrev pub is_ignored : Event → Bool
+is_ignored event = elim (name_of event) [ None ↦ true | Some name ↦ false ]
+
+-- the event leaves the display as it is, and reports nothing
+pub record LeavesAlone (event : Event) (s : Display) : Type 0 where
+  pub same : effect event s ≡ s
+  pub silent : report event s ≡ []
+
+-- so it is on every sound display
+abbrev pub HasNoEffect : Event → Type 0
+HasNoEffect event = (s : Display) → IsSoundDisplay s → LeavesAlone event s

@@ -1,0 +1,4 @@
+pub mod Names
+pub mod Ignored
+pub mod Lines
+pub mod Trace

@@ -1,0 +1,105 @@
+//! Bytes, numbers and values, into an output that has the capacity.
+ghost use Rattle.std.specs.Prelude.{◌≡◌, ◌+◌, ◌*◌, ◌≤◌, ◌<◌, ◌++◌, Option, length, decimal, vec_len, vec_capacity};
+ghost use Rattle.std.specs.Option.{option_to_list};
+ghost use Rattle.vt_trace.specs.Lines.{hex_digit, shown_byte, shown, joined};
+
+use itoa::Buffer;
+
+/// Appends bytes.
+pub(crate) fn push_bytes(bytes: &[u8], out: &mut Vec<u8>)
+    requires { vec_len out.old + length bytes.now ≤ vec_capacity out.old }
+    ensures items { out.new.items ≡ out.old.items ++ bytes.now }
+    ensures bounded { vec_len out.new ≤ vec_len out.old + length bytes.now }
+    ensures capacity { vec_capacity out.old ≤ vec_capacity out.new }
+{
+    out.extend_from_slice(bytes).unwrap();
+}
+
+/// Appends a number, of at most twenty digits.
+pub(crate) fn push_number(n: u64, out: &mut Vec<u8>)
+    requires { vec_len out.old + 20 ≤ vec_capacity out.old }
+    ensures items { out.new.items ≡ out.old.items ++ decimal n }
+    ensures bounded { vec_len out.new ≤ vec_len out.old + 20 }
+    ensures capacity { vec_capacity out.old ≤ vec_capacity out.new }
+{
+    let mut buffer = Buffer::new();
+    let digits = buffer.format(n);
+    out.extend_from_slice(digits.as_bytes()).unwrap();
+}
+
+/// Appends a value, of at most five digits.
+fn push_value(n: u16, out: &mut Vec<u8>)
+    requires { vec_len out.old + 5 ≤ vec_capacity out.old }
+    ensures items { out.new.items ≡ out.old.items ++ decimal n }
+    ensures bounded { vec_len out.new ≤ vec_len out.old + 5 }
+    ensures capacity { vec_capacity out.old ≤ vec_capacity out.new }
+{
+    let mut buffer = Buffer::new();
+    let digits = buffer.format(n);
+    out.extend_from_slice(digits.as_bytes()).unwrap();
+}
+
+/// Returns a hexadecimal digit.
+fn hex_digit(n: u8) -> u8
+    requires { n < 16 }
+    ensures { result ≡ hex_digit n }
+{
+    if n < 10 { n + b'0' } else { n - 10 + b'A' }
+}
+
+/// Appends a byte as text.
+#[tactic(auto, unfolding(crate::specs::Lines::shown_byte))]
+pub(crate) fn push_shown(b: u8, out: &mut Vec<u8>)
+    requires { vec_len out.old + 4 ≤ vec_capacity out.old }
+    ensures items { out.new.items ≡ out.old.items ++ shown_byte b }
+    ensures bounded { vec_len out.new ≤ vec_len out.old + 4 }
+    ensures capacity { vec_capacity out.old ≤ vec_capacity out.new }
+{
+    if 0x20 <= b && b < 0x7F && b != b'\\' {
+        push_bytes(&[b], out);
+    } else {
+        push_bytes(&[b'\\', b'x', hex_digit(b / 16), hex_digit(b % 16)], out);
+    }
+}
+
+/// Appends a byte, if there is one.
+pub(crate) fn push_option(b: Option<u8>, out: &mut Vec<u8>)
+    requires { vec_len out.old + 1 ≤ vec_capacity out.old }
+    ensures items { out.new.items ≡ out.old.items ++ option_to_list b }
+    ensures bounded { vec_len out.new ≤ vec_len out.old + 1 }
+    ensures capacity { vec_capacity out.old ≤ vec_capacity out.new }
+{
+    if let Some(b) = b {
+        push_bytes(&[b], out);
+    }
+}
+
+/// Appends a byte as text, if there is one.
+pub(crate) fn push_shown_option(b: Option<u8>, out: &mut Vec<u8>)
+    requires { vec_len out.old + 4 ≤ vec_capacity out.old }
+    ensures items { out.new.items ≡ out.old.items ++ shown (option_to_list b) }
+    ensures bounded { vec_len out.new ≤ vec_len out.old + 4 }
+    ensures capacity { vec_capacity out.old ≤ vec_capacity out.new }
+{
+    if let Some(b) = b {
+        push_shown(b, out);
+    }
+}
+
+/// Appends values, at most sixteen.
+pub(crate) fn push_values(values: &[u16], out: &mut Vec<u8>)
+    requires few { length values.now ≤ 16 }
+    requires room { vec_len out.old + 96 ≤ vec_capacity out.old }
+    ensures items { out.new.items ≡ out.old.items ++ joined values.now }
+    ensures bounded { vec_len out.new ≤ vec_len out.old + 96 }
+    ensures capacity { vec_capacity out.old ≤ vec_capacity out.new }
+{
+    let Some((first, others)) = values.split_first() else {
+        return;
+    };
+    push_value(*first, out);
+    for value in others.iter() {
+        push_bytes(b";", out);
+        push_value(*value, out);
+    }
+}

@@ -1,0 +1,13 @@
+//! What the host sent, event by event, and what of it the terminal ignored.
+#![tactic(auto)]
+
+mod bytes;
+pub mod laws;
+mod lines;
+mod names;
+mod sequences;
+mod tracing;
+
+pub use lines::{LINE_LIMIT, push_line};
+pub use names::{is_ignored, name};
+pub use tracing::{TRACE_LIMIT, Tracer, trace_byte, trace_end, trace_reserved};

@@ -18,6 +18,8 @@ void core_close(handle *t);
 uint32_t core_scratch_open(handle *s);
 void core_scratch_close(handle *s);
 size_t core_feed(handle *t, const uint8_t *bytes, size_t len, bool counts, uint8_t *reports, size_t size, size_t *written, size_t *bells);
+size_t core_feed_log(handle *t, handle *s, const uint8_t *bytes, size_t len, bool counts, uint8_t *reports, size_t size, size_t *written,
+                     uint8_t *lines, size_t lines_size, size_t *lines_written, size_t *bells);
 uint32_t core_reset(handle *t);
 uint32_t core_copy(handle *to, handle *from);
 uint32_t core_text(handle *t, handle *s, uint8_t *out, size_t size, size_t *written);
@@ -126,6 +128,27 @@ size_t vt220_feed(vt220 *t, const uint8_t *bytes, size_t len, uint8_t *reports, 
         if (now < part) break;
     }
     *written = filled;
+    return taken;
+}
+
+size_t vt220_feed_log(vt220 *t, vt220_scratch *s, const uint8_t *bytes, size_t len, uint8_t *reports, size_t size, size_t *written,
+                      uint8_t *lines, size_t lines_size, size_t *lines_written) {
+    size_t taken = 0, filled = 0, logged = 0;
+    *written = *lines_written = 0;
+    if (!t->is_open || !s->is_open) return 0;
+    if (reports == NULL) reports = &nothing, size = 0;
+    if (lines == NULL) lines = &nothing, lines_size = 0;
+    while (taken < len) {
+        size_t part = len - taken < BLOCK ? len - taken : BLOCK, sent = 0, off = 0, rung = 0;
+        bool counts = memchr(bytes + taken, BEL, part) != NULL;
+        handle h = own(t), room = {s->room, s->is_open};
+        size_t now = core_feed_log(&h, &room, bytes + taken, part, counts, reports + filled, size - filled, &sent, lines + logged,
+                                   lines_size - logged, &off, &rung);
+        taken += now, filled += sent, logged += off, t->bells += rung;
+        if (now < part) break;
+    }
+    *written = filled;
+    *lines_written = logged;
     return taken;
 }
 

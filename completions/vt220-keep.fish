@@ -2,8 +2,8 @@
 function __vt220_keep_sessions
     vt220-keep list --tsv 2>/dev/null | cut -f 1
 end
-set -l commands new attach detach list text repaint send kill rename help version
-set -l sessions attach detach text repaint send kill rename
+set -l commands new attach detach list text log repaint send kill rename help version
+set -l sessions attach detach text log repaint send kill rename
 complete -c vt220-keep -n "not __fish_seen_subcommand_from $commands" -f -a "$commands"
 complete -c vt220-keep -n "__fish_seen_subcommand_from $sessions" -f -a '(__vt220_keep_sessions)'
 complete -c vt220-keep -n '__fish_seen_subcommand_from new' -s A -d 'Attach to it'

@@ -205,6 +205,23 @@ bool vt220_scratch_is_open(const vt220_scratch *s);
  * Returns 0 on a closed terminal: a loop that ends when all is processed must also end on 0. */
 size_t vt220_feed(vt220 *t, const uint8_t *bytes, size_t len, uint8_t *reports, size_t size, size_t *written);
 
+/* Processes input from the host, as vt220_feed does, and writes the lines that scroll off the top of the screen.
+ * A line scrolls off if a line feed moves the rows between the margins up, and the top margin is row 1. A line feed is LF, VT, FF,
+ * IND or NEL at the bottom margin, or a character that is written there when the wrap flag is set. Nothing else scrolls a line
+ * off. A line is written as by vt220_row_text.
+ *   s                   an open scratch buffer
+ *   bytes, len          the input
+ *   reports, size       the buffer for replies
+ *   written             receives the length of the replies
+ *   lines, lines_size   the buffer for lines
+ *   lines_written       receives the length of the lines
+ * Returns how many bytes were processed. If these are fewer than len, fewer than VT220_REPORT_LIMIT bytes of `reports` or fewer than
+ * VT220_ROW_TEXT_LIMIT bytes of `lines` are free: empty both and call again with the remainder. Buffers of these sizes always take
+ * at least one byte. Buffers of 5 KB and 200 KB cost no speed.
+ * Returns 0 if a handle is closed: a loop that ends when all is processed must also end on 0. */
+size_t vt220_feed_log(vt220 *t, vt220_scratch *s, const uint8_t *bytes, size_t len, uint8_t *reports, size_t size, size_t *written,
+                      uint8_t *lines, size_t lines_size, size_t *lines_written);
+
 /* Returns how often BEL was carried out since vt220_open. A BEL inside a control string isn't. Copies and resets don't change the
  * count. Returns 0 on a closed terminal. */
 uint64_t vt220_bells(const vt220 *t);

@@ -33,6 +33,8 @@ static struct {
     long long pressed;     /* when it was pressed; 0 if it wasn't */
     long long held;        /* since when the beginning of a key waits for its end */
     bool is_read_only;
+    uint8_t version;       /* of the protocol */
+    bool asks;             /* the log is to be asked for */
     bool is_behind;        /* whether there is something new to draw */
     struct termios before; /* how the outer terminal was */
     char why;              /* the frame that ended it; 'k' for the key, 's' for a signal, 'm' if out of memory, '?' if the
@@ -79,11 +81,24 @@ static void hold_signals(sigset_t *open_mask) {
 
 /* --- keys --- */
 
+/* Asks for the log, if the keeper has one. */
+static void scroll(void) {
+    it.keys.scrolls = false;
+    if (it.version < PROTOCOL_LOG) it.keys.rings = true;
+    else it.asks = true;
+}
+
 static void type(const uint8_t *bytes, size_t len) {
-    if (it.is_read_only || len == 0) return;
-    it.typed_len += keys_translate(&it.keys, &it.terminal, bytes, len, it.typed + it.typed_len);
+    if (len == 0) return;
+    if (scroll_is_on()) {
+        it.is_behind |= scroll_type(bytes, len);
+        return;
+    }
+    size_t put = keys_translate(&it.keys, &it.terminal, bytes, len, it.typed + it.typed_len);
     it.held = it.keys.held_len > 0 ? now() : 0;
-    if (it.keys.rings) {
+    if (it.keys.scrolls) scroll();
+    if (!it.is_read_only) it.typed_len += put;
+    if (it.keys.rings && !it.is_read_only) {
         draw_bell();
         it.is_behind = true;
     }
@@ -129,10 +144,19 @@ static void read_keys(void) {
 }
 
 static bool has_keys(void) {
-    return it.frame_at < it.frame_len || it.typed_at < it.typed_len;
+    return it.frame_at < it.frame_len || it.typed_at < it.typed_len || it.asks;
 }
 
 static void begin_frame(void) {
+    if (it.asks) {
+        static const uint8_t frame[FRAME_HEAD] = {FRAME_LOG};
+        memcpy(it.frame, frame, sizeof frame);
+        it.frame_at = 0;
+        it.frame_len = sizeof frame;
+        it.asks = false;
+        scroll_wait();
+        return;
+    }
     uint32_t len = it.typed_len - it.typed_at < KEYS_LIMIT ? (uint32_t)(it.typed_len - it.typed_at) : KEYS_LIMIT;
     it.frame[0] = FRAME_KEYS;
     memcpy(it.frame + 1, &len, sizeof len);
@@ -149,7 +173,7 @@ static void send_keys(void) {
         ssize_t n = send(it.socket, it.frame + it.frame_at, it.frame_len - it.frame_at, MSG_NOSIGNAL | MSG_DONTWAIT);
         if (n < 0 && errno == EINTR) continue;
         if (n < 0 && errno == EAGAIN) return;
-        if (n < 0) it.typed_at = it.typed_len;
+        if (n < 0) it.typed_at = it.typed_len, it.asks = false;
         it.frame_at = n < 0 ? it.frame_len : it.frame_at + (size_t)n;
     }
 }
@@ -168,6 +192,9 @@ static void take_frame(char letter, const uint8_t *bytes, size_t len) {
         it.is_behind = true;
     } else if (letter == FRAME_BELL) {
         draw_bell();
+        it.is_behind = true;
+    } else if (letter == FRAME_SCREEN || letter == FRAME_LINES || letter == FRAME_LOGGED) {
+        scroll_take(letter, bytes, len);
         it.is_behind = true;
     } else {
         if (letter == FRAME_ENDED && len == sizeof it.ending) memcpy(&it.ending, bytes, len);
@@ -237,7 +264,8 @@ static void obey_clock(void) {
     long long time = now();
     if (it.pressed != 0 && time - it.pressed >= TWICE) it.why = 'k';
     if (it.held != 0 && time - it.held >= KEY_PATIENCE) {
-        it.typed_len += keys_flush(&it.keys, it.typed + it.typed_len);
+        size_t put = keys_flush(&it.keys, it.typed + it.typed_len);
+        if (!it.is_read_only) it.typed_len += put;
         it.held = 0;
     }
 }
@@ -261,7 +289,8 @@ static void turn(const sigset_t *open_mask) {
     if (polled[2].revents) draw_on();
     if (it.is_behind && draw_is_done() && it.why == 0) {
         it.is_behind = false;
-        draw(&it.terminal);
+        if (scroll_is_on()) scroll_draw();
+        else draw(&it.terminal);
     }
 }
 
@@ -347,7 +376,10 @@ int attach(int socket, const char *name, bool is_read_only) {
     int result = wire_begin(socket, ASK_ATTACH, is_read_only ? FLAG_READ_ONLY : 0, &hello, why);
     if (result == WIRE_FULL) fail(1, "%s takes no more clients", name);
     if (result != WIRE_OK) fail(1, "%s %s", name, why);
+    it.version = hello.version;
+    it.keys.can_scroll = true;
     int status = hello.is_over ? show_last(name) : follow(name);
+    scroll_leave();
     vt220_close(&it.terminal);
     close(socket);
     return status;

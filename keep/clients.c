@@ -68,6 +68,27 @@ static void put_update(struct client *c) {
     c->changes = the.changes;
 }
 
+/* Begins the log: the text of the screen as it is now. Its lines follow in separate frames. */
+static void put_screen(struct client *c) {
+    uint8_t *room = frame_room(c);
+    size_t len = 0;
+    vt220_text(&the.terminal, &the.scratch, room, FRAME_LIMIT, &len);
+    put_frame(c, FRAME_SCREEN, len);
+    c->log_at = log_begin();
+    c->log_end = log_end();
+    c->wants_log = false;
+    c->is_reading = true;
+}
+
+/* Adds the next lines of the log, or its end. */
+static void put_lines(struct client *c) {
+    uint8_t *room = frame_room(c);
+    size_t len = log_read(&c->log_at, c->log_end, room, FRAME_LIMIT);
+    put_frame(c, len > 0 ? FRAME_LINES : FRAME_LOGGED, len);
+    c->is_reading = len > 0;
+    if (!c->is_reading && c->state == READING) leave(c);
+}
+
 static void put_ending(struct client *c) {
     put(c, FRAME_ENDED, &the.ending, sizeof the.ending);
     c->awaits_seen = true;
@@ -86,9 +107,20 @@ static void send_on(struct client *c) {
     }
 }
 
+/* Sends the log to a client that asked for it, as fast as it reads. A client that reads nothing is dropped after some time. */
+static void send_log(struct client *c, long long time) {
+    while ((c->wants_log || c->is_reading) && is_sent(c) && c->deadline > 0) {
+        if (c->is_reading) put_lines(c);
+        else put_screen(c);
+        if (c->state == READING) c->deadline = time + PATIENCE;
+        send_on(c);
+    }
+}
+
 /* Does what is due for a client at this time. */
 void serve(struct client *c, long long time) {
     send_on(c);
+    send_log(c, time);
     if (c->state == ATTACHED && is_sent(c)) {
         bool is_due = time >= c->due || the.is_over;
         if (is_due && (c->changes != the.changes || c->rings)) {
@@ -197,6 +229,9 @@ static void begin(struct client *c) {
     } else if (c->ask == ASK_SEND) {
         c->state = SENDING;
         c->deadline = LLONG_MAX;
+    } else if (c->ask == ASK_LOG && version >= PROTOCOL_LOG) {
+        c->state = READING;
+        c->wants_log = true;
     } else if (c->ask == ASK_KILL) {
         c->state = WAITING;
         c->deadline = LLONG_MAX;
@@ -236,6 +271,8 @@ static bool take_frame(struct client *c, char letter, const uint8_t *bytes, size
         leave(c);
     } else if (letter == FRAME_NAME && c->state == ASKING && c->ask == ASK_RENAME) {
         take_name(c, bytes, len);
+    } else if (letter == FRAME_LOG && c->state == ATTACHED) {
+        c->wants_log = true;
     } else if (letter == FRAME_SEEN && c->awaits_seen) {
         the.is_seen = true;
     }

@@ -176,6 +176,39 @@ void draw(vt220 *t) {
     draw_on();
 }
 
+size_t draw_rows(void) {
+    return outer.rows;
+}
+
+/* Reads one character of UTF-8 that the terminal itself wrote. */
+static const uint8_t *read_glyph(const uint8_t *at, uint32_t *glyph) {
+    size_t more = *at >= 0xE0 ? 2 : *at >= 0xC0 ? 1 : 0;
+    *glyph = more == 2 ? *at & 0x0F : more == 1 ? *at & 0x1F : *at;
+    for (at++; more > 0 && (*at & 0xC0) == 0x80; at++, more--) *glyph = *glyph << 6 | (*at & 0x3F);
+    return at;
+}
+
+static void draw_text(size_t row, const uint8_t *line) {
+    for (size_t col = 1; col <= outer.cols; col++) {
+        struct place it = {' ', 0};
+        if (line != NULL && *line != '\n') line = read_glyph(line, &it.glyph);
+        if (it.glyph < ' ' || (it.glyph >= 0x7F && it.glyph < 0xA0)) it.glyph = '?'; /* never a control character */
+        draw_place(row, col, hint_or(row, col, it));
+    }
+}
+
+void draw_lines(const uint8_t *const *lines, size_t count, const char *hint) {
+    size_t len = strlen(hint);
+    snprintf(outer.hint, sizeof outer.hint, "%s", outer.cols > len + 1 ? hint : "");
+    outer.hint_row = 1;
+    outer.hint_col = outer.cols - len + 1;
+    if (outer.rings) put("\a");
+    outer.rings = false;
+    for (size_t row = 1; row <= outer.rows; row++) draw_text(row, row <= count ? lines[row - 1] : NULL);
+    show_cursor(false);
+    draw_on();
+}
+
 void draw_bell(void) {
     outer.rings = true;
 }

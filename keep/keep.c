@@ -20,6 +20,7 @@ static const char usage[] =
     "       vt220-keep detach NAME          detach all clients\n"
     "       vt220-keep list [--tsv]         list sessions; --tsv: one line each with tabs, for scripts\n"
     "       vt220-keep text NAME            print the screen as text\n"
+    "       vt220-keep log NAME             print the last 10,000 lines that scrolled off the screen, and the screen\n"
     "       vt220-keep repaint NAME         print the bytes that rebuild the whole terminal\n"
     "       vt220-keep send [-l] NAME [KEY ...]\n"
     "                                       send keys by name (Enter, Up, PF1, ^C ..), other words as text, or standard\n"
@@ -29,6 +30,7 @@ static const char usage[] =
     "       vt220-keep help | --help        print this help\n"
     "       vt220-keep version | --version  print the version\n"
     "Ctrl-\\ detaches; pressed twice, it is sent. KEEP_KEY=^A makes Ctrl-A that key.\n"
+    "PageUp with Shift, Alt or Ctrl scrolls back while attached; PageUp, PageDown, Up, Down, Home and End move, any other key returns.\n"
     "Sockets are in $KEEP_DIR (default /tmp/keep-UID).\n";
 
 noreturn void fail(int status, const char *why, ...) {
@@ -125,6 +127,17 @@ static int do_text(char **words, const struct options *options) {
     return ask(words[0], ASK_TEXT, NULL);
 }
 
+static void print(const uint8_t *bytes, size_t len) {
+    fwrite(bytes, 1, len, stdout);
+}
+
+static int do_log(char **words, const struct options *options) {
+    (void)options;
+    struct folder folder = open_folder();
+    wire_ask_log(existing(&folder, words[0]), words[0], print);
+    return 0;
+}
+
 static int do_repaint(char **words, const struct options *options) {
     (void)options;
     return ask(words[0], ASK_REPAINT, NULL);
@@ -158,7 +171,8 @@ static const struct command {
     int least, most;            /* how many arguments it takes after these */
     int (*run)(char **words, const struct options *options);
 } commands[] = {{"new", "+hA", 2, INT_MAX, do_new},   {"attach", "+hr", 1, 1, do_attach}, {"detach", "+h", 1, 1, do_detach},
-                {"list", "+h", 0, 0, do_list},        {"text", "+h", 1, 1, do_text},      {"repaint", "+h", 1, 1, do_repaint},
+                {"list", "+h", 0, 0, do_list},        {"text", "+h", 1, 1, do_text},      {"log", "+h", 1, 1, do_log},
+                {"repaint", "+h", 1, 1, do_repaint},
                 {"send", "+hl", 1, INT_MAX, do_send}, {"kill", "+h", 1, 1, do_kill},      {"rename", "+h", 2, 2, do_rename},
                 {"help", "+h", 0, 1, do_help},        {"--help", "+h", 0, 0, do_help},    {"-h", "+h", 0, 0, do_help},
                 {"version", "+h", 0, 0, do_version},  {"--version", "+h", 0, 0, do_version}};

@@ -62,6 +62,8 @@ bool wire_receive(int socket, char *letter, uint8_t *bytes, size_t room, size_t 
 void wire_patience(int socket, int seconds);
 /* Sends a request and reads the reply. Ends the program if there is none. `bytes` has FRAME_LIMIT bytes. */
 size_t wire_ask(int socket, const char *name, char ask, const char *argument, uint8_t *bytes);
+/* Asks for the log, and passes it to `take`: the lines, and then the screen. Ends the program if there is none. */
+void wire_ask_log(int socket, const char *name, void (*take)(const uint8_t *bytes, size_t len));
 
 /* --- list.c --- */
 
@@ -82,15 +84,27 @@ void start_session(const struct folder *folder, const struct beginning *beginnin
 struct keys {
     uint8_t held[16]; /* the beginning of a key whose end hasn't come */
     size_t held_len;
-    bool rings; /* something was typed that a VT220 has no key for */
+    bool rings;      /* something was typed that a VT220 has no key for */
+    bool can_scroll; /* PageUp with Shift, Alt or Ctrl isn't sent */
+    bool scrolls;    /* it was typed */
 };
 
 enum { KEYS_GROWTH = 2 /* a key has at most this many times the bytes that were typed */ };
 
 size_t keys_translate(struct keys *keys, vt220 *t, const uint8_t *typed, size_t len, uint8_t *to);
+size_t keys_length(const uint8_t *typed, size_t len);
 size_t keys_flush(struct keys *keys, uint8_t *to); /* what is held isn't the beginning of a key */
 size_t keys_named(vt220 *t, const char *name, uint8_t *to); /* 0 if no key has this name; at most 8 bytes */
 int keys_detach(void); /* the key that detaches, as KEEP_KEY says */
+
+/* --- scroll.c: the log, shown in place of the screen --- */
+
+bool scroll_is_on(void);
+void scroll_wait(void);                              /* the log was asked for */
+void scroll_take(char letter, const uint8_t *bytes, size_t len); /* a frame of the log */
+bool scroll_type(const uint8_t *typed, size_t len);  /* returns whether something else is to be drawn */
+void scroll_draw(void);
+void scroll_leave(void);
 
 /* --- attach.c and send.c --- */
 
@@ -98,12 +112,14 @@ int attach(int socket, const char *name, bool is_read_only);
 void send_keys_to(const struct folder *folder, const char *name, char **keys, bool is_text);
 int shell_status(int ending);
 
-
 /* --- draw.c: draws a terminal on the one that standard output is --- */
 
 bool draw_enter(void);
 bool draw_resize(void);
 void draw(vt220 *t); /* only when all is written that was drawn before */
+size_t draw_rows(void);
+/* Draws lines of UTF-8 from the top, and this hint in a corner. Each line has an LF. */
+void draw_lines(const uint8_t *const *lines, size_t count, const char *hint);
 void draw_bell(void);
 bool draw_is_done(void);
 void draw_on(void);  /* writes as much as the outer terminal takes now */

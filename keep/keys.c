@@ -91,7 +91,8 @@ static size_t character_length(const uint8_t *typed, size_t len) {
     return wanted;
 }
 
-static size_t key_length(const uint8_t *typed, size_t len) {
+/* Returns the length of the key at the front, and 0 if its end hasn't come. */
+size_t keys_length(const uint8_t *typed, size_t len) {
     return *typed == ESC ? function_length(typed, len) : character_length(typed, len);
 }
 
@@ -109,6 +110,11 @@ static size_t put_function(vt220 *t, const uint8_t *typed, size_t len, uint8_t *
     return put_key(t, typed[1] == 'O' ? SS3 : CSI, (const char *)typed + 2, len - 2, to);
 }
 
+/* Returns whether a key is PageUp with Shift, Alt or Ctrl, which a VT220 doesn't have. */
+static bool is_scroll_key(const uint8_t *key, size_t len) {
+    return len == 6 && memcmp(key, "\033[5;", 4) == 0 && key[4] >= '2' && key[4] <= '8' && key[5] == '~';
+}
+
 /* Writes the keys, at most KEYS_GROWTH bytes for each byte that was typed or held, and holds the beginning of one more. */
 size_t keys_translate(struct keys *keys, vt220 *t, const uint8_t *typed, size_t len, uint8_t *to) {
     uint8_t *all = malloc(keys->held_len + len);
@@ -117,9 +123,10 @@ size_t keys_translate(struct keys *keys, vt220 *t, const uint8_t *typed, size_t 
     memcpy(all, keys->held, keys->held_len);
     memcpy(all + keys->held_len, typed, len);
     while (at < all_len) {
-        size_t n = key_length(all + at, all_len - at);
+        size_t n = keys_length(all + at, all_len - at);
         if (n == 0) break;
         if (n == 1) to[put++] = all[at];
+        else if (keys->can_scroll && is_scroll_key(all + at, n)) keys->scrolls = true;
         else if (all[at] == ESC) put += put_function(t, all + at, n, to + put);
         else put += put_character(keys, code_of(all + at, n), to + put);
         at += n;

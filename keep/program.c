@@ -51,13 +51,14 @@ void settle(void) {
     }
 }
 
-/* Plays bytes of the program, and sends the reports. If the queue is full, all reports of a chunk are dropped, since a program that
+/* Plays bytes of the program, sends the reports, and keeps the lines that scroll off. If the queue is full, all reports of a chunk are dropped, since a program that
  * asks and never reads must not stop its own screen. */
 static void feed(const uint8_t *bytes, size_t len) {
-    static uint8_t reports[PIECE * VT220_REPORT_LIMIT];
-    size_t written;
-    vt220_feed(&the.terminal, bytes, len, reports, sizeof reports, &written);
+    static uint8_t reports[PIECE * VT220_REPORT_LIMIT], lines[PIECE * VT220_ROW_TEXT_LIMIT];
+    size_t written, lines_written;
+    vt220_feed_log(&the.terminal, &the.scratch, bytes, len, reports, sizeof reports, &written, lines, sizeof lines, &lines_written);
     add_input(reports, written, true);
+    log_append(lines, lines_written);
 }
 
 /* Plays a chunk. A BEL rings if the terminal carries it out, which it does except inside a control string. One ring for a

@@ -13,13 +13,14 @@
 
 #include "vt220.h"
 
-enum { PROTOCOL_LOWEST = 1, PROTOCOL_HIGHEST = 1 };
+enum { PROTOCOL_LOWEST = 1, PROTOCOL_HIGHEST = 2, PROTOCOL_LOG = 2 /* since this version there is a log */ };
 enum { HELLO_LENGTH = 8, HELLO_MAGIC = 4, HELLO_LOWEST = 4, HELLO_HIGHEST = 5, HELLO_ASK = 6, HELLO_FLAGS = 7 };
 
 enum {
     ASK_ATTACH = 'a',
     ASK_DETACH = 'd',
     ASK_LIST = 'l',
+    ASK_LOG = 'g', /* since version 2 */
     ASK_TEXT = 't',
     ASK_REPAINT = 'r',
     ASK_SEND = 's',  /* frames of keys follow, and FRAME_DONE */
@@ -32,6 +33,7 @@ enum { FLAG_READ_ONLY = 1 };
 enum {
     FRAME_KEYS = 'K', /* for the program; the bytes of one frame stay together */
     FRAME_DONE = 'Q', /* no more keys follow */
+    FRAME_LOG = 'G',  /* since version 2, of an attached client: it wants the log */
     FRAME_NAME = 'N', /* the new name */
     FRAME_SEEN = 'S'  /* the end of the command was shown to somebody */
 };
@@ -41,6 +43,9 @@ enum {
     FRAME_HELLO = 'H',
     FRAME_PLAY = 'P',     /* a repaint first, then updates: the client plays them on its terminal */
     FRAME_BELL = 'B',     /* the program rang the bell */
+    FRAME_SCREEN = 'T',   /* the log begins: the text of the screen, which follows the last line of the log */
+    FRAME_LINES = 'L',    /* whole lines of the log, the oldest first */
+    FRAME_LOGGED = 'Z',   /* the log is complete */
     FRAME_ANSWER = 'A',   /* the reply to a request: a line, the text, the repaint */
     FRAME_REFUSED = 'R',  /* the reason for which a request was refused */
     FRAME_DETACHED = 'D', /* a client asked to detach all */

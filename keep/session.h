@@ -22,11 +22,14 @@ enum {
 
 struct client {
     int socket;
-    enum { ASKING, ATTACHED, SENDING, WAITING, LEAVING } state;
+    enum { ASKING, ATTACHED, SENDING, READING, WAITING, LEAVING } state; /* READING: it asked for the log */
     char ask; /* 0 until it has asked */
     bool is_read_only, rings, awaits_seen;
     vt220 shown;           /* as the client's own terminal is when it has played all of `out` */
     unsigned long changes; /* how many changes of the screen `shown` has */
+    bool wants_log;        /* it asked for the log, and isn't sent it yet */
+    bool is_reading;       /* it is sent the log */
+    uint64_t log_at, log_end; /* which part of the log it still has to be sent */
     long long due;         /* when the next update may go */
     long long deadline;    /* when it is let go, done or not */
     long long came;
@@ -83,6 +86,12 @@ bool add_input(const uint8_t *bytes, size_t len, bool is_report);
 void settle(void);
 void drain_program(void);
 void hang_up(void);
+
+/* log.c */
+void log_append(const uint8_t *lines, size_t len);
+uint64_t log_begin(void);
+uint64_t log_end(void);
+size_t log_read(uint64_t *place, uint64_t end, uint8_t *to, size_t size);
 
 /* session.c */
 void give_up(void);

@@ -78,14 +78,15 @@ int wire_begin(int socket, char ask, uint8_t flags, struct hello *hello, char *w
     return WIRE_OTHER_VERSION;
 }
 
-/* Ends the program unless the keeper will do what it is asked. */
-static void begin(int socket, const char *name, char ask) {
+/* Ends the program unless the keeper will do what it is asked. Returns the version of the protocol. */
+static uint8_t begin(int socket, const char *name, char ask) {
     struct hello hello;
     char why[WHY_LIMIT];
     int result = wire_begin(socket, ask, 0, &hello, why);
     if (result == WIRE_FULL) fail(1, "%s takes no more clients", name);
     if (result == WIRE_OTHER_VERSION) fail(1, "%s %s", name, why);
     if (result != WIRE_OK) fail(1, "%s doesn't answer", name);
+    return hello.version;
 }
 
 size_t wire_ask(int socket, const char *name, char ask, const char *argument, uint8_t *bytes) {
@@ -99,4 +100,18 @@ size_t wire_ask(int socket, const char *name, char ask, const char *argument, ui
     if (letter != FRAME_ANSWER) fail(1, "%s doesn't answer", name);
     close(socket);
     return len;
+}
+
+void wire_ask_log(int socket, const char *name, void (*take)(const uint8_t *bytes, size_t len)) {
+    static uint8_t bytes[FRAME_LIMIT], screen[FRAME_LIMIT];
+    size_t len, screen_len = 0;
+    char letter;
+    if (begin(socket, name, ASK_LOG) < PROTOCOL_LOG) fail(1, "%s is kept by an older vt220-keep, which keeps no log", name);
+    while (wire_receive(socket, &letter, bytes, sizeof bytes, &len) && (letter == FRAME_SCREEN || letter == FRAME_LINES)) {
+        if (letter == FRAME_LINES) take(bytes, len);
+        if (letter == FRAME_SCREEN) memcpy(screen, bytes, screen_len = len);
+    }
+    if (letter != FRAME_LOGGED) fail(1, "%s doesn't answer", name);
+    take(screen, screen_len);
+    close(socket);
 }

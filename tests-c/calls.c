@@ -196,6 +196,78 @@ static void exact_buffers(void) {
 }
 
 /* A null pointer of length 0 is allowed. */
+/* Feeds with a log, in chunks and with free bytes of both buffers as given. Returns the length of the lines. */
+static size_t feed_log(vt220 *t, const char *text, size_t len, size_t chunk, size_t size, size_t lines_size, uint8_t *lines) {
+    uint8_t reports[64];
+    size_t all = 0, written, lines_written;
+    for (size_t at = 0; at < len;) {
+        size_t part = len - at < chunk ? len - at : chunk;
+        size_t taken = vt220_feed_log(t, &s, (const uint8_t *)text + at, part, reports, size, &written, lines + all, lines_size, &lines_written);
+        CHECK(taken >= 1 && taken <= part && (taken == part || size - written < VT220_REPORT_LIMIT || lines_size - lines_written < VT220_ROW_TEXT_LIMIT));
+        if (taken == 0) break;
+        at += taken, all += lines_written;
+    }
+    return all;
+}
+
+/* Which lines scroll off, by docs/SPECIFICATION.md and the manual: at a line feed at the bottom margin, if the top margin is row 1. */
+static void logs(void) {
+    static const struct {
+        const char *bytes, *lines;
+    } rows[] = {
+        {"top\033[24H\n", "top\n"},
+        {"top\033[24H\013\033[24H\014", "top\n\n"},
+        {"a \033[1mb  \033[24H\033D", "a b\n"},
+        {"top\033[24H\033E", "top\n"},
+        {"top\033[23H\n", ""},
+        {"top\033[2r\033[24H\n", ""},
+        {"1\r\n2\r\n3\033[1;3r\033[3H\n\n", "1\n2\n"},
+        {"top\033[24;80Hxy", "top\n"},
+        {"top\033[24;80Hx\032", "top\n"},
+        {"top\033[?7l\033[24;80Hxy", ""},
+        {"top\033[M\033[2J\033c", ""},
+        {"\351\033(0q\033[24H\n\a\n", "\303\251\342\224\200\n\n"},
+        {"top\033[24H\033[\nm\033P\n\033\\\033[6n", "top\n"},
+    };
+    static char many[70000];
+    static uint8_t lines[200000], other[200000];
+    for (size_t i = 0; i < sizeof rows / sizeof rows[0]; i++) {
+        size_t len = strlen(rows[i].bytes), lines_len = strlen(rows[i].lines);
+        for (size_t chunk = 1; chunk < 100; chunk += 33) {
+            vt220 t = opened(""), u = opened("");
+            uint8_t reports[256];
+            size_t written;
+            CHECK(feed_log(&t, rows[i].bytes, len, chunk, 10, VT220_ROW_TEXT_LIMIT, lines) == lines_len && memcmp(lines, rows[i].lines, lines_len) == 0);
+            CHECK(vt220_feed(&u, (const uint8_t *)rows[i].bytes, len, reports, sizeof reports, &written) == len);
+            CHECK(vt220_same_state(&t, &u) && vt220_bells(&t) == vt220_bells(&u));
+            vt220_close(&t);
+            vt220_close(&u);
+        }
+    }
+    /* 875 lines of 80, of which 24 stay on the screen. Bytes after the lines aren't modified. */
+    memset(many, 'x', sizeof many);
+    memset(lines, 0xA5, sizeof lines);
+    vt220 t = opened(""), u = opened("");
+    CHECK(feed_log(&t, many, sizeof many, sizeof many, 64, 100000, lines) == 851 * 81 && lines[851 * 81] == 0xA5);
+    for (size_t i = 0; i < 851 * 81; i++) CHECK(lines[i] == (i % 81 == 80 ? '\n' : 'x'));
+    CHECK(feed_log(&u, many, sizeof many, 1000, 10, 400, other) == 851 * 81 && memcmp(lines, other, 851 * 81) == 0 && vt220_same_state(&t, &u));
+    memset(many, '\a', 600);
+    CHECK(feed_log(&t, many, 600, 600, 10, 397, lines) == 0 && vt220_bells(&t) == 600);
+    /* Nothing is played without free bytes for a report and for a line, or with a closed handle. */
+    uint8_t reports[10];
+    size_t written = 9, lines_written = 9;
+    vt220_scratch closed = VT220_INIT;
+    CHECK(vt220_feed_log(&t, &s, (const uint8_t *)"a", 1, reports, 9, &written, lines, 397, &lines_written) == 0 && written == 0 && lines_written == 0);
+    CHECK(vt220_feed_log(&t, &s, (const uint8_t *)"a", 1, reports, 10, &written, lines, 396, &lines_written) == 0 && written == 0 && lines_written == 0);
+    CHECK(vt220_feed_log(&t, &s, (const uint8_t *)"a", 1, NULL, 0, &written, NULL, 0, &lines_written) == 0 && written == 0 && lines_written == 0);
+    CHECK(vt220_feed_log(&t, &s, NULL, 0, NULL, 0, &written, NULL, 0, &lines_written) == 0 && written == 0 && lines_written == 0);
+    CHECK(vt220_feed_log(&t, &closed, (const uint8_t *)"a", 1, reports, 10, &written, lines, 397, &lines_written) == 0 && lines_written == 0);
+    vt220_close(&t);
+    written = lines_written = 9;
+    CHECK(vt220_feed_log(&t, &s, (const uint8_t *)"a", 1, reports, 10, &written, lines, 397, &lines_written) == 0 && written == 0 && lines_written == 0);
+    vt220_close(&u);
+}
+
 static void null_pointers(void) {
     vt220 t = opened("abc");
     size_t written = 9;
@@ -224,6 +296,7 @@ int main(void) {
     shown_and_drawn();
     changed_cells();
     exact_buffers();
+    logs();
     null_pointers();
     statuses();
     vt220_scratch_close(&s);

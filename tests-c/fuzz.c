@@ -48,6 +48,29 @@ static size_t feed(vt220 *t, const uint8_t *bytes, size_t len, unsigned cut, uin
     return filled;
 }
 
+/* Feeds all bytes with their log, in chunks and with buffers of different sizes. Returns how many bytes of lines came. */
+static size_t feed_log(vt220 *t, const uint8_t *bytes, size_t len, unsigned cut, uint8_t *lines) {
+    size_t at = 0, filled = 0, written, lines_written;
+    unsigned n = cut;
+    while (at < len) {
+        n = n * 1103515245u + 12345;
+        size_t part = cut == 0 ? len - at : 1 + (n >> 16) % (cut + 1);
+        size_t size = VT220_REPORT_LIMIT * (1 + (n >> 20) % 40), lines_size = VT220_ROW_TEXT_LIMIT * (1 + (n >> 22) % 40);
+        if (part > len - at) part = len - at;
+        uint8_t *chunk = (uint8_t *)malloc(part), *room = (uint8_t *)malloc(size), *lines_room = (uint8_t *)malloc(lines_size);
+        if (chunk == NULL || room == NULL || lines_room == NULL) abort();
+        memcpy(chunk, bytes + at, part);
+        size_t taken = vt220_feed_log(t, &s, chunk, part, room, size, &written, lines_room, lines_size, &lines_written);
+        MUST(taken >= 1 && taken <= part && written <= VT220_REPORT_LIMIT * taken && lines_written <= VT220_ROW_TEXT_LIMIT * taken);
+        MUST(taken == part || size - written < VT220_REPORT_LIMIT || lines_size - lines_written < VT220_ROW_TEXT_LIMIT);
+        MUST(lines_written == 0 || lines_room[lines_written - 1] == '\n');
+        memcpy(lines + filled, lines_room, lines_written);
+        at += taken, filled += lines_written;
+        free(chunk), free(room), free(lines_room);
+    }
+    return filled;
+}
+
 typedef uint32_t writer(const vt220 *, vt220_scratch *, uint8_t *, size_t, size_t *);
 
 /* Writes by a call into a buffer of exactly the size that it asks for; one byte less is refused. The caller frees it. */
@@ -187,6 +210,12 @@ int LLVMFuzzerTestOneInput(const uint8_t *data, size_t len) {
     all = feed(&a, bytes, len, 0, reports_a);
     MUST(feed(&b, bytes, len, cut, reports_b) == all && memcmp(reports_a, reports_b, all) == 0 && vt220_same_state(&a, &b));
     MUST(vt220_bells(&a) - bells_a == vt220_bells(&b) - bells_b);
+    /* A log changes nothing of this, and doesn't depend on the cuts either. */
+    static uint8_t lines_a[VT220_ROW_TEXT_LIMIT * LONGEST], lines_b[VT220_ROW_TEXT_LIMIT * LONGEST];
+    MUST(vt220_reset(&c) == VT220_OK && vt220_reset(&b) == VT220_OK);
+    size_t logged = feed_log(&c, bytes, len, 0, lines_a);
+    MUST(feed_log(&b, bytes, len, cut, lines_b) == logged && memcmp(lines_a, lines_b, logged) == 0);
+    MUST(vt220_same_state(&c, &a) && vt220_same_state(&b, &a));
     look(&a);
     look_at_text(&a);
     size_t shown;

@@ -26,6 +26,14 @@ static void *feeds(void *unused) {
     return unused;
 }
 
+static void *logs(void *unused) {
+    static uint8_t lines[100000];
+    size_t lines_written;
+    for (size_t at = 0; at < sizeof input;)
+        at += vt220_feed_log(&b, &s, input + at, sizeof input - at, out, 5120, &written, lines, sizeof lines, &lines_written);
+    return unused;
+}
+
 static void *writes(void *unused) {
     vt220_text(&b, &s, out, sizeof out, &written);
     vt220_row_text(&b, &s, 1, out, sizeof out, &written);
@@ -109,6 +117,7 @@ int main(void) {
     CHECK(empty < STACK / 2);
     measure("open and close", opens, LIMIT, empty);
     measure("feed", feeds, LIMIT, empty);
+    measure("feed with a log", logs, LIMIT, empty);
     /* Updates of all kinds: nothing differs, little, much, the width. */
     static const char *const states[] = {"\030", "a", "\033[5;5H\033[1mb\033[24H\n\n", "\033#8", "\033[?3h", "\033[2J\033[3;20rx\033[?6h", "\033[3g"};
     for (size_t i = 0; i < sizeof states / sizeof states[0]; i++) {

@@ -181,6 +181,24 @@ func (t *Terminal) Feed(bytes []byte) (reports []byte) {
 	return reports
 }
 
+// FeedLog plays all bytes of the host as Feed does. It returns the reports, and the lines that scroll off the top of the screen, each
+// as RowText returns it. It returns ErrClosed if the terminal or the scratch buffer is closed, and has then played nothing.
+func (t *Terminal) FeedLog(bytes []byte, s *Scratch) (reports, lines []byte, err error) {
+	var written, linesWritten C.size_t
+	if !t.IsOpen() || !bool(C.vt220_scratch_is_open(&s.handle)) {
+		return nil, nil, ErrClosed
+	}
+	for len(bytes) > 0 {
+		at := (*C.uint8_t)(&bytes[0])
+		played := C.vt220_feed_log(&t.handle, &s.handle, at, C.size_t(len(bytes)), &t.reports[0], C.size_t(len(t.reports)), &written,
+			&s.out[0], C.size_t(len(s.out)), &linesWritten)
+		reports = append(reports, C.GoBytes(unsafe.Pointer(&t.reports[0]), C.int(written))...)
+		lines = append(lines, C.GoBytes(unsafe.Pointer(&s.out[0]), C.int(linesWritten))...)
+		bytes = bytes[played:]
+	}
+	return reports, lines, nil
+}
+
 // Text returns the screen as text: 24 lines, each without the spaces at its end, and with a line feed.
 func (t *Terminal) Text(s *Scratch) (string, error) {
 	var length C.size_t

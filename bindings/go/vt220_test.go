@@ -177,3 +177,19 @@ func TestParts(t *testing.T) {
 		t.Error("reset")
 	}
 }
+
+func TestLog(t *testing.T) {
+	terminal, s := open(t, "top\x1b[24H"), scratch(t)
+	reports, lines, err := terminal.FeedLog([]byte("\xe9\n\x1b[6n"), s)
+	if err != nil || string(reports) != "\x1b[24;2R" || string(lines) != "top\n" {
+		t.Errorf("%q %q %v", reports, lines, err)
+	}
+	_, lines, err = terminal.FeedLog([]byte(strings.Repeat("\r\nx", 30)), s)
+	if err != nil || string(lines) != strings.Repeat("\n", 22)+"é\n"+"\n"+strings.Repeat("x\n", 6) {
+		t.Errorf("%q %v", lines, err)
+	}
+	s.Close()
+	if _, _, err := terminal.FeedLog([]byte("x"), s); err != ErrClosed {
+		t.Error(err)
+	}
+}

@@ -208,13 +208,13 @@ def frame(letter, content=b""):
 class Raw:
     """A client that speaks to the socket itself. It asks with a letter, or sends `first` as it is."""
 
-    def __init__(self, name, letter, flags=0, first=None):
+    def __init__(self, name, letter, flags=0, first=None, version=1):
         self.socket = socket.socket(socket.AF_UNIX)
         self.socket.settimeout(PATIENCE)
         self.hello = None
         until(lambda: self.socket.connect_ex(str(SOCKETS / name)) == 0)
         with contextlib.suppress(BrokenPipeError):
-            self.socket.send(b"keep\1\1" + letter + bytes([flags]) if first is None else first)
+            self.socket.send(b"keep\1" + bytes([version]) + letter + bytes([flags]) if first is None else first)
         if first is None:
             self.hello = self.frame()
 

@@ -213,3 +213,15 @@ def test_rows_read_twice_are_the_reader_s_own():
 
 def test_the_cell_is_laid_out_as_in_the_header():
     assert ctypes.sizeof(vt220._Cell) == 12
+
+
+def test_lines_that_scroll_off():
+    terminal = vt220.Terminal()
+    assert terminal.feed_log(b"top\x1b[24H\xe9\n\x1b[6n") == (b"\x1b[24;2R", "top\n")
+    reports, lines = terminal.feed_log(b"\r\nx" * 30)
+    assert reports == b"" and lines == "\n" * 22 + "é\n" + "\n" + "x\n" * 6
+    with pytest.raises(TypeError):
+        terminal.feed_log(5)
+    terminal.close()
+    with pytest.raises(vt220.Closed):
+        terminal.feed_log(b"x")

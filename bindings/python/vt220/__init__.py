@@ -237,6 +237,7 @@ def _declare(library: ctypes.PyDLL) -> None:
         ("scratch_close", None, [handle]),
         ("scratch_is_open", boolean, [handle]),
         ("feed", size, [handle, buffer, size, buffer, size, told]),
+        ("feed_log", size, [handle, handle, buffer, size, buffer, size, told, buffer, size, told]),
         ("text", status, [handle, handle, buffer, size, told]),
         ("row_text", status, [handle, handle, size, buffer, size, told]),
         ("show", status, [handle, handle, buffer, size, told]),
@@ -389,6 +390,24 @@ class Terminal:
             if written.value:
                 reports.append(ctypes.string_at(room, written.value))
         return b"".join(reports)
+
+    def feed_log(self, data: Bytes) -> Tuple[bytes, str]:
+        """Plays all bytes of the host. Returns the reports to it, and the lines that scroll off the top of the screen.
+
+        Each line is as row_text() returns it. Raises TypeError if `data` isn't bytes-like.
+        """
+        handle, data, work = self._opened(), bytes(memoryview(data)), _work
+        start = ctypes.cast(ctypes.c_char_p(data), ctypes.c_void_p).value or 0
+        reports, lines, written, logged, at = [], [], ctypes.c_size_t(), ctypes.c_size_t(), 0
+        while at < len(data):
+            played = _library.vt220_feed_log(handle, work.scratch.handle, start + at, len(data) - at, work.reports, len(work.reports),
+                                             written, work.out, PICTURE_LIMIT, logged)
+            if not played:  # another thread has closed the terminal
+                raise Closed()
+            at += played
+            reports.append(ctypes.string_at(work.reports, written.value))
+            lines.append(ctypes.string_at(work.out, logged.value))
+        return b"".join(reports), b"".join(lines).decode()
 
     def feed_until_report(self, data: Bytes) -> Tuple[int, bytes]:
         """Plays bytes of the host up to the first one that asks for a report.

@@ -1,21 +1,27 @@
 //! The scratch buffer in which the calls that write a whole screen work. Many terminals share one.
-ghost use Rattle.std.specs.Prelude.{◌≡◌, ◌↔◌, ◌+◌, ◌*◌, ◌≤◌, IsTrue, true, false, length, take};
+ghost use Rattle.std.specs.Prelude.{◌≡◌, ◌↔◌, ◌⊎◌, ◌+◌, ◌*◌, ◌≤◌, ◌<◌, IsTrue, true, false, length, take};
 ghost use Rattle.std.specs.Str.{IsAscii};
 ghost use Rattle.vt_syntax.specs.declared.held.Held.TheVariants.{Nothing};
+ghost use Rattle.vt_term.specs.Play.{play};
+ghost use Rattle.vt_log.specs.Log.{log};
 ghost use Rattle.vt_paint.specs.Changes.{differing};
 ghost use Rattle.vt_paint.specs.Spoken.{Speaks};
+ghost use Rattle.vt220_c.specs.Bells.{bells};
 ghost use Rattle.vt220_c.specs.Forms.{written_as, CanBe};
 ghost use Rattle.vt220_c.specs.Written.{written_over, UpdatedOver};
 
 use crate::bytes::{Copied, copy_out};
 use crate::form::Form;
-use crate::inner::Inner;
+use crate::inner::{CHUNK, Inner, Logged};
 use std::alloc::{AllocError, Global};
 use std::marker::Model;
+use vt_log::LINE_LIMIT;
 use vt_paint::repaint_reserved;
 use vt_picture::{PICTURE_LIMIT, picture_reserved, show_reserved};
-use vt_term::Terminal;
+use vt_term::{REPORT_LIMIT, Terminal};
 use vt_update::{UPDATE_LIMIT, update_reserved};
+
+const _: () = prove!(LINE_LIMIT * CHUNK <= PICTURE_LIMIT);
 
 /// A buffer for the longest form, a picture, and a terminal on which an update is tried. Only `new` allocates.
 #[derive(Drop)]
@@ -61,6 +67,29 @@ impl Scratch {
             Form::Repaint => repaint_reserved(terminal, &mut self.room),
         }
         copy_out(self.room.as_slice(), out)
+    }
+
+    /// Plays bytes on a terminal with their log, as `Inner::feed_log` does.
+    pub(crate) fn feed_log(
+        &mut self,
+        inner: &mut Inner,
+        piece: &[u8],
+        counts: bool,
+        out: &mut [u8],
+        lines: &mut [u8],
+    ) -> Logged
+        ensures within { result.taken ≤ length piece.now }
+        ensures state { inner.new ≡ (play inner.old (take result.taken piece.now)).state }
+        ensures written { result.written ≡ length (play inner.old (take result.taken piece.now)).reports }
+        ensures out { out.new ≡ written_over (play inner.old (take result.taken piece.now)).reports out.old }
+        ensures lines_written { result.lines_written ≡ length (log inner.old (take result.taken piece.now)) }
+        ensures lines { lines.new ≡ written_over (log inner.old (take result.taken piece.now)) lines.old }
+        ensures all { (result.taken ≡ length piece.now) ⊎ (length out.old < result.written + REPORT_LIMIT)
+            ⊎ (length lines.old < result.lines_written + LINE_LIMIT) }
+        ensures none { counts ≡ false → result.bells ≡ 0 }
+        ensures bells { counts ≡ true → result.bells ≡ bells inner.old.held (take result.taken piece.now) }
+    {
+        inner.feed_log(piece, counts, out, lines, &mut self.room)
     }
 
     /// Writes an update into the front of `out`, if it fits. `shown` is then in the state of `to`, otherwise unchanged.

@@ -172,6 +172,18 @@ extern "C" {
     pub fn vt220_scratch_close(s: *mut vt220_scratch);
     pub fn vt220_scratch_is_open(s: *const vt220_scratch) -> bool;
     pub fn vt220_feed(t: *mut vt220, bytes: *const u8, len: usize, reports: *mut u8, size: usize, written: *mut usize) -> usize;
+    pub fn vt220_feed_log(
+        t: *mut vt220,
+        s: *mut vt220_scratch,
+        bytes: *const u8,
+        len: usize,
+        reports: *mut u8,
+        size: usize,
+        written: *mut usize,
+        lines: *mut u8,
+        lines_size: usize,
+        lines_written: *mut usize,
+    ) -> usize;
     pub fn vt220_bells(t: *const vt220) -> u64;
     pub fn vt220_reset(t: *mut vt220) -> u32;
     pub fn vt220_copy(to: *mut vt220, from: *const vt220) -> u32;

@@ -242,6 +242,25 @@ impl Terminal {
         reports
     }
 
+    /// Processes all bytes of the host. Returns the replies to it, and the lines that scroll off the top of the screen, each as
+    /// `row_text` returns it.
+    pub fn feed_log(&mut self, bytes: &[u8], scratch: &mut Scratch) -> (Vec<u8>, String) {
+        let (mut buffer, mut room) = ([0; 5120], vec![0; 64 * ROW_TEXT_LIMIT]);
+        let (mut reports, mut lines, mut at) = (Vec::new(), Vec::new(), 0);
+        while at < bytes.len() {
+            let (rest, mut written, mut logged) = (&bytes[at..], 0, 0);
+            let (out, size, log, log_size) = (buffer.as_mut_ptr(), buffer.len(), room.as_mut_ptr(), room.len());
+            at += unsafe {
+                sys::vt220_feed_log(
+                    &mut self.0, &mut scratch.0, rest.as_ptr(), rest.len(), out, size, &mut written, log, log_size, &mut logged,
+                )
+            };
+            reports.extend_from_slice(&buffer[..written]);
+            lines.extend_from_slice(&room[..logged]);
+        }
+        (reports, String::from_utf8(lines).expect("lines are UTF-8"))
+    }
+
     /// Returns how often BEL was carried out.
     pub fn bells(&self) -> u64 {
         unsafe { sys::vt220_bells(&self.0) }

@@ -70,6 +70,16 @@ fn readers() {
 }
 
 #[test]
+fn logs() {
+    let (mut terminal, mut scratch) = (Terminal::new().unwrap(), Scratch::new().unwrap());
+    let (reports, lines) = terminal.feed_log(b"top\x1b[24H\xe9\n\x1b[6n", &mut scratch);
+    assert_eq!((reports.as_slice(), lines.as_str()), (&b"\x1b[24;2R"[..], "top\n"));
+    let many = "x".repeat(8000);
+    let (_, lines) = terminal.feed_log(many.as_bytes(), &mut scratch);
+    assert_eq!(lines.lines().filter(|line| *line == "x".repeat(80)).count(), 76);
+}
+
+#[test]
 fn parts() {
     let mut terminal = Terminal::new().unwrap();
     terminal.feed(b"\x1b[3;7H\x1b(A\x1b)0\x0e\x1b[1m\x1b7\x1b[m\x1b[4m\x1bO\x07");

@@ -1,18 +1,21 @@
 -- The table of the brushes, entry by entry, by computing.
-use Rattle.std.proofs.Common.{◌≡◌, ◌+◌, ◌-◌, ◌*◌, ◌≤◌, ◌==◌, ◌∷◌, ℕ, Bool, true, false, List, take, slice_index_or}
+use Rattle.std.proofs.Common.{◌≡◌, ◌+◌, ◌-◌, ◌*◌, ◌≤◌, ◌==◌, ◌∷◌, ◌++◌, [], ℕ, Bool, true, false, List, take, slice_index_or}
 use Rattle.std.proofs.Common.{get_or, nat_le, refl, sym, ap, ◌∙◌, arith}
 use Rattle.std.specs.List.{range_with_len, list_all}
 use Rattle.std.specs.Cmp.Lexicographic.{pointwise, pointwise_decides}
+use Rattle.std.proofs.lemmas.Bool.{leb-true}
 use Rattle.std.proofs.lemmas.Bool.Decides.{Decides-eqb}
 use Rattle.std.proofs.lemmas.List.FromFn.{length-range_with_len, get_or-range_with_len}
 use Rattle.std.proofs.lemmas.List.Sums.{AllPass-from_list_all}
 use borrow.Rule.Slice.PartMut.{mid_of}
 use mir.Val.{bool_byte}
-use Rattle.vt_syntax.specs.Spelling.{spell_events}
+use Rattle.vt_syntax.specs.Spelling.{spell_event, spell_events}
 use Rattle.vt_screen.specs.declared.cell.Brush.{Brush}
 use Rattle.vt_paint.specs.declared.tables.TheConstants.{ROW_PARTS, COLUMN_PARTS, BRUSHES, BRUSH_LENGTHS}
+use Rattle.std.proofs.Common.{append_assoc, append-nil}
+use Rattle.std.specs.Prelude.{decimal}
 use Rattle.std.specs.Fmt.{digits}
-use Rattle.vt_paint.specs.Controls.{brush_events}
+use Rattle.vt_paint.specs.Controls.{brush_events, cursor_position}
 use Rattle.vt_paint.specs.Private.HeaderParts.{row_part, column_part, brush_part, brush_index}
 
 -- ---- brushes
@@ -83,8 +86,8 @@ rows_are = refl
 
 abbrev column_entry : ℕ → List ℕ
 column_entry col =
-    take (2 + bool_byte (nat_le 10 col) + bool_byte (nat_le 100 col))
-    (mid_of (4 * (col - 1)) (4 * (col - 1) + 4 - 4 * (col - 1)) COLUMN_PARTS)
+    take (slice_index_or COLUMN_PARTS (8 * (col - 1) + 8 - 1) 0)
+    (mid_of (8 * (col - 1)) (8 * (col - 1) + 8 - 8 * (col - 1)) COLUMN_PARTS)
 
 columns_are : list_all (λ col. same_bytes (column_entry col) (column_part col)) (range_with_len 1 132) ≡ true
 unfolding digits column_part
@@ -103,7 +106,28 @@ row_at row low high =
     (pointwise_decides Decides-eqb (row_entry row) (row_part row)).0
     (at_number (λ row. same_bytes (row_entry row) (row_part row)) 24 row rows_are low high)
 
+lengths_are : list_all (λ col. nat_le (slice_index_or COLUMN_PARTS (8 * (col - 1) + 8 - 1) 0) 7) (range_with_len 1 132) ≡ true
+lengths_are = refl
+
+pub length_at : (col : ℕ) → 1 ≤ col → col ≤ 132 → slice_index_or COLUMN_PARTS (8 * (col - 1) + 8 - 1) 0 ≤ 7
+length_at col low high =
+    leb-true _ 7 (at_number (λ col. nat_le (slice_index_or COLUMN_PARTS (8 * (col - 1) + 8 - 1) 0) 7) 132 col lengths_are low high)
+
 pub column_at : (col : ℕ) → 1 ≤ col → col ≤ 132 → column_entry col ≡ column_part col
 column_at col low high =
     (pointwise_decides Decides-eqb (column_entry col) (column_part col)).0
     (at_number (λ col. same_bytes (column_entry col) (column_part col)) 132 col columns_are low high)
+
+-- ---- headers
+
+cursor_position_is : (row col : ℕ) → spell_event (cursor_position row col) ≡ row_part row ++ (decimal col ++ 0x48 ∷ [])
+unfolding row_part
+cursor_position_is row col = simp (append_assoc, append-nil)
+
+-- CUP, SGR and DECSCA are the three parts
+pub header_is : (row col : ℕ) (brush : Brush)
+    → spell_events (cursor_position row col ∷ brush_events brush) ≡ row_part row ++ (column_part col ++ brush_part brush)
+unfolding column_part
+header_is row col brush =
+    ap (λ bytes. spell_event (cursor_position row col) ++ bytes) (brush_at brush).1
+    ∙ ap (λ bytes. bytes ++ 0x1B ∷ 0x5B ∷ 0x30 ∷ brush_part brush) (cursor_position_is row col) ∙ simp append_assoc

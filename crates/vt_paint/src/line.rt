@@ -44,35 +44,6 @@ fn put_front(part: &[u8], len: usize, at: usize, line: &mut [u8; LINE]) -> usize
     at + len
 }
 
-/// Writes CUP.
-#[inline(always)]
-fn put_cursor_to(row: usize, col: usize, at: usize, line: &mut [u8; LINE]) -> usize
-    requires row { (1 ≤ row) × (row ≤ ROWS) }
-    requires col { (1 ≤ col) × (col ≤ COLUMNS) }
-    requires room { at + 9 ≤ LINE }
-    ensures items { take result line.new ≡ take at line.old ++ spell_event (cursor_position row col) }
-    ensures bounded { result ≤ at + 9 }
-{
-    let (start, len) = row_part(row);
-    let at = put_front(start, len, at, line);
-    let (end, len) = column_part(col);
-    put_front(end, len, at, line)
-}
-
-/// Writes SGR and DECSCA.
-#[inline(always)]
-fn put_brush(brush: Brush, at: usize, line: &mut [u8; LINE]) -> usize
-    requires { at + 19 ≤ LINE }
-    ensures items { take result line.new ≡ take at line.old ++ spell_events (brush_events brush) }
-    ensures bounded { result ≤ at + 17 }
-{
-    let at = put(0x1B, at, line);
-    let at = put(b'[', at, line);
-    let at = put(b'0', at, line);
-    let (rest, len) = brush_part(brush);
-    put_front(rest, len, at, line)
-}
-
 /// Writes the header of cells: their position and their brush.
 #[inline(always)]
 pub(crate) fn put_header(
@@ -88,8 +59,12 @@ pub(crate) fn put_header(
     ensures items { take result line.new ≡ take at line.old ++ spell_events (cursor_position row col ∷ brush_events brush) }
     ensures bounded { result ≤ at + 26 }
 {
-    let at = put_cursor_to(row, col, at, line);
-    put_brush(brush, at, line)
+    let (start, len) = row_part(row);
+    let at = put_front(start, len, at, line);
+    let (middle, len) = column_part(col);
+    let at = put_front(middle, len, at, line);
+    let (rest, len) = brush_part(brush);
+    put_front(rest, len, at, line)
 }
 
 /// Writes a code after a single shift.

@@ -10,7 +10,7 @@ use vt_screen::{Brush, COLUMNS, Cell, ROWS, Rendition};
 /// The number of bytes of an entry of each table.
 const ROW_LEN: usize = 8;
 
-const COLUMN_LEN: usize = 4;
+const COLUMN_LEN: usize = 8;
 
 const BRUSH_LEN: usize = 16;
 
@@ -20,14 +20,31 @@ const ROW_PARTS: [u8; 192] =
     \x1B[9;    \x1B[10;   \x1B[11;   \x1B[12;   \x1B[13;   \x1B[14;   \x1B[15;   \x1B[16;   \
     \x1B[17;   \x1B[18;   \x1B[19;   \x1B[20;   \x1B[21;   \x1B[22;   \x1B[23;   \x1B[24;   ";
 
-/// The column of CUP and its final byte, for each column.
-const COLUMN_PARTS: [u8; 528] =
-    *b"1H  2H  3H  4H  5H  6H  7H  8H  9H  10H 11H 12H 13H 14H 15H 16H 17H 18H 19H 20H 21H 22H 23H 24H \
-    25H 26H 27H 28H 29H 30H 31H 32H 33H 34H 35H 36H 37H 38H 39H 40H 41H 42H 43H 44H 45H 46H 47H 48H \
-    49H 50H 51H 52H 53H 54H 55H 56H 57H 58H 59H 60H 61H 62H 63H 64H 65H 66H 67H 68H 69H 70H 71H 72H \
-    73H 74H 75H 76H 77H 78H 79H 80H 81H 82H 83H 84H 85H 86H 87H 88H 89H 90H 91H 92H 93H 94H 95H 96H \
-    97H 98H 99H 100H101H102H103H104H105H106H107H108H109H110H111H112H113H114H115H116H117H118H119H120H\
-    121H122H123H124H125H126H127H128H129H130H131H132H";
+/// The column of CUP and its final byte, and SGR up to its 0, for each column. The last byte of an entry is the length of
+/// this.
+const COLUMN_PARTS: [u8; 1056] =
+    *b"1H\x1B[0  \x052H\x1B[0  \x053H\x1B[0  \x054H\x1B[0  \x055H\x1B[0  \x056H\x1B[0  \x05\
+    7H\x1B[0  \x058H\x1B[0  \x059H\x1B[0  \x0510H\x1B[0 \x0611H\x1B[0 \x0612H\x1B[0 \x06\
+    13H\x1B[0 \x0614H\x1B[0 \x0615H\x1B[0 \x0616H\x1B[0 \x0617H\x1B[0 \x0618H\x1B[0 \x06\
+    19H\x1B[0 \x0620H\x1B[0 \x0621H\x1B[0 \x0622H\x1B[0 \x0623H\x1B[0 \x0624H\x1B[0 \x06\
+    25H\x1B[0 \x0626H\x1B[0 \x0627H\x1B[0 \x0628H\x1B[0 \x0629H\x1B[0 \x0630H\x1B[0 \x06\
+    31H\x1B[0 \x0632H\x1B[0 \x0633H\x1B[0 \x0634H\x1B[0 \x0635H\x1B[0 \x0636H\x1B[0 \x06\
+    37H\x1B[0 \x0638H\x1B[0 \x0639H\x1B[0 \x0640H\x1B[0 \x0641H\x1B[0 \x0642H\x1B[0 \x06\
+    43H\x1B[0 \x0644H\x1B[0 \x0645H\x1B[0 \x0646H\x1B[0 \x0647H\x1B[0 \x0648H\x1B[0 \x06\
+    49H\x1B[0 \x0650H\x1B[0 \x0651H\x1B[0 \x0652H\x1B[0 \x0653H\x1B[0 \x0654H\x1B[0 \x06\
+    55H\x1B[0 \x0656H\x1B[0 \x0657H\x1B[0 \x0658H\x1B[0 \x0659H\x1B[0 \x0660H\x1B[0 \x06\
+    61H\x1B[0 \x0662H\x1B[0 \x0663H\x1B[0 \x0664H\x1B[0 \x0665H\x1B[0 \x0666H\x1B[0 \x06\
+    67H\x1B[0 \x0668H\x1B[0 \x0669H\x1B[0 \x0670H\x1B[0 \x0671H\x1B[0 \x0672H\x1B[0 \x06\
+    73H\x1B[0 \x0674H\x1B[0 \x0675H\x1B[0 \x0676H\x1B[0 \x0677H\x1B[0 \x0678H\x1B[0 \x06\
+    79H\x1B[0 \x0680H\x1B[0 \x0681H\x1B[0 \x0682H\x1B[0 \x0683H\x1B[0 \x0684H\x1B[0 \x06\
+    85H\x1B[0 \x0686H\x1B[0 \x0687H\x1B[0 \x0688H\x1B[0 \x0689H\x1B[0 \x0690H\x1B[0 \x06\
+    91H\x1B[0 \x0692H\x1B[0 \x0693H\x1B[0 \x0694H\x1B[0 \x0695H\x1B[0 \x0696H\x1B[0 \x06\
+    97H\x1B[0 \x0698H\x1B[0 \x0699H\x1B[0 \x06100H\x1B[0\x07101H\x1B[0\x07102H\x1B[0\x07\
+    103H\x1B[0\x07104H\x1B[0\x07105H\x1B[0\x07106H\x1B[0\x07107H\x1B[0\x07108H\x1B[0\x07\
+    109H\x1B[0\x07110H\x1B[0\x07111H\x1B[0\x07112H\x1B[0\x07113H\x1B[0\x07114H\x1B[0\x07\
+    115H\x1B[0\x07116H\x1B[0\x07117H\x1B[0\x07118H\x1B[0\x07119H\x1B[0\x07120H\x1B[0\x07\
+    121H\x1B[0\x07122H\x1B[0\x07123H\x1B[0\x07124H\x1B[0\x07125H\x1B[0\x07126H\x1B[0\x07\
+    127H\x1B[0\x07128H\x1B[0\x07129H\x1B[0\x07130H\x1B[0\x07131H\x1B[0\x07132H\x1B[0\x07";
 
 /// SGR after its 0, and DECSCA, for each brush: bold counts 1, underline 2, blink 4, reverse 8 and protection 16.
 const BRUSHES: [u8; 512] =
@@ -58,16 +75,16 @@ pub(crate) fn row_part(row: usize) -> (&'static [u8], usize)
     (&ROW_PARTS[from..from + ROW_LEN], 4 + (row >= 10) as usize)
 }
 
-/// Returns the column of CUP and its final byte, and their length.
+/// Returns the column of CUP and its final byte, and SGR up to its 0, and their length.
 #[inline(always)]
 pub(crate) fn column_part(col: usize) -> (&'static [u8], usize)
     requires { (1 ≤ col) × (col ≤ COLUMNS) }
     ensures value { take result.1 result.0.now ≡ column_part col }
-    ensures filled { length result.0.now ≡ 4 }
-    ensures short { result.1 ≤ 4 }
+    ensures filled { length result.0.now ≡ 8 }
+    ensures short { result.1 ≤ 7 }
 {
     let from = COLUMN_LEN * (col - 1);
-    let len = 2 + (col >= 10) as usize + (col >= 100) as usize;
+    let len = COLUMN_PARTS[from + COLUMN_LEN - 1] as usize;
     (&COLUMN_PARTS[from..from + COLUMN_LEN], len)
 }
 

@@ -7,12 +7,13 @@ use Rattle.vt_screen.specs.declared.cell.Cell.{Cell}
 use Rattle.vt_screen.specs.Cells.{brush_of}
 use Rattle.vt_paint.specs.Controls.{brush_events}
 
--- CUP up to its column, and the rest of it
+-- CUP up to its column
 unfoldable pub row_part : ℕ → List ℕ
 row_part row = 0x1B ∷ 0x5B ∷ (decimal row ++ 0x3B ∷ [])
 
+-- the rest of it, and SGR up to its 0
 unfoldable pub column_part : ℕ → List ℕ
-column_part col = decimal col ++ 0x48 ∷ []
+column_part col = decimal col ++ 0x48 ∷ 0x1B ∷ 0x5B ∷ 0x30 ∷ []
 
 -- SGR after its 0, and DECSCA
 unfoldable pub brush_part : Brush → List ℕ

@@ -1,4 +1,5 @@
 pub mod Fault
+pub mod Moment
 pub mod Run
 pub mod Script
 pub mod Taken

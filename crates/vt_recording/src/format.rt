@@ -9,6 +9,8 @@ pub enum Format {
     Script,
     /// The format of ttyrec: frames, each after a header with its time and its length.
     Ttyrec,
+    /// The format of asciinema, version 2 or 3: a line with an object, and events, one a line.
+    Asciicast,
 }
 
 /// The end of what is wanted of a recording.

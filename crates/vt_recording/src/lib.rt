@@ -2,12 +2,17 @@
 //! any reader and written to any writer.
 #![tactic(auto)]
 
+mod asciicast;
+mod casting;
+mod characters;
 mod content;
 mod engine;
 mod fault;
 mod format;
+mod lines;
 mod moment;
 mod script;
+mod seconds;
 mod taking;
 mod ttyrec;
 

@@ -1,10 +1,11 @@
 //! Takes a recording apart.
-ghost use Rattle.std.specs.Prelude.{◌≡◌, IfOk};
+ghost use Rattle.std.specs.Prelude.{◌≡◌, None, IfOk};
 ghost use Rattle.vt_recording.specs.Script.{IsOfScript};
 ghost use Rattle.vt_recording.specs.Ttyrec.{IsOfTtyrec};
 ghost use Rattle.vt_recording.specs.Taken.{IsTaken, in_recording};
 ghost use Rattle.vt_recording.specs.Moment.{cut};
 
+use crate::casting::asciicast_content;
 use crate::format::{Break, Format, Moment, Part, Taken};
 use crate::moment::{cut, micros_of};
 use crate::script::{end_of, first_line, is_joint};
@@ -17,6 +18,7 @@ use std::alloc::{AllocError, Global};
 /// - of script, at byte 0 if it has no first line
 /// - of script, at the LF before the line between two sessions, if `script -a` appended a session
 /// - of ttyrec, at the first frame that is cut short
+/// - of asciinema, at byte 0 if the first line has no version, and at a line that is no event
 ///
 /// Returns `Err` if allocation fails.
 pub fn take_apart(
@@ -27,15 +29,15 @@ pub fn take_apart(
 ) -> Result<Taken, AllocError>
     ensures { IfOk result (λ t. IsTaken format until bytes.now t.content.items t.broken t.replaced) }
 {
-    let whole = match format {
-        Format::Raw => Whole {
-            content: Vec::from_slice(alloc, bytes)?,
-            broken: None,
-        },
-        Format::Script => script_content(alloc, bytes)?,
-        Format::Ttyrec => ttyrec_content(alloc, bytes, micros_of(until))?,
-    };
-    Ok(taken_of(whole, until))
+    match format {
+        Format::Raw => Ok(taken_of(raw_content(alloc, bytes)?, until)),
+        Format::Script => Ok(taken_of(script_content(alloc, bytes)?, until)),
+        Format::Ttyrec => {
+            let whole = ttyrec_content(alloc, bytes, micros_of(until))?;
+            Ok(taken_of(whole, until))
+        }
+        Format::Asciicast => asciicast_content(alloc, bytes, until),
+    }
 }
 
 /// The content of a recording, and the offset at which it is broken.
@@ -58,8 +60,19 @@ fn taken_of(whole: Whole, until: Option<Moment>) -> Taken
     }
 }
 
+/// Returns the bytes.
+fn raw_content(alloc: Global, bytes: &[u8]) -> Result<Whole, AllocError>
+    ensures content { IfOk result (λ w. w.content.items ≡ bytes.now) }
+    ensures broken { IfOk result (λ w. w.broken ≡ None) }
+{
+    Ok(Whole {
+        content: Vec::from_slice(alloc, bytes)?,
+        broken: None,
+    })
+}
+
 /// Returns the place of an offset in the recording.
-fn in_recording(at: Option<usize>) -> Option<Break>
+pub(crate) fn in_recording(at: Option<usize>) -> Option<Break>
     ensures { result ≡ in_recording at }
 {
     match at {

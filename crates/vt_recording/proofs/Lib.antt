@@ -1,3 +1,7 @@
 mod Pieces
 mod Early
 pub mod Ends
+mod Supplemental
+mod Writing
+mod Texts
+mod Casts

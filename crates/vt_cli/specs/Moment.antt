@@ -3,8 +3,8 @@ use Rattle.std.specs.Prelude.{ℕ, ◌+◌, ◌-◌, ◌*◌, ◌&&◌, List, le
 use Rattle.std.specs.Prelude.{nat_le, nat_lt, ◌^◌, option_map, option_and_then}
 use Rattle.std.specs.Char.{is_ascii_digit}
 use Rattle.std.specs.List.{list_all, position, fold}
-use Rattle.vt_cli.specs.declared.source.Moment.{Moment}
-use Rattle.vt_cli.specs.declared.source.Moment.TheVariants.{Micros, Bytes}
+use Rattle.vt_recording.specs.declared.format.Moment.{Moment}
+use Rattle.vt_recording.specs.declared.format.Moment.TheVariants.{Micros, Bytes}
 
 -- the number that digits write
 abbrev pub value : List ℕ → ℕ

@@ -2,10 +2,10 @@
 use Rattle.std.specs.Prelude.{ℕ, List, [], ◌∷◌, ◌++◌, codes, Bool, true, false, not, ◌&&◌, cond, Option, Some, None, Result, Ok, Err}
 use Rattle.std.specs.Prelude.{bytes_eq, is_some}
 use Rattle.clap.specs.Words.{Row, Text, first_of}
-use Rattle.vt_cli.specs.declared.source.Format.{Format}
-use Rattle.vt_cli.specs.declared.source.Format.TheVariants.{Raw, Script, Ttyrec, Asciicast}
-use Rattle.vt_cli.specs.declared.source.Moment.{Moment}
-use Rattle.vt_cli.specs.declared.source.Moment.TheVariants.{Micros, Bytes}
+use Rattle.vt_recording.specs.declared.format.Format.{Format}
+use Rattle.vt_recording.specs.declared.format.Format.TheVariants.{Raw, Script, Ttyrec, Asciicast}
+use Rattle.vt_recording.specs.declared.format.Moment.{Moment}
+use Rattle.vt_recording.specs.declared.format.Moment.TheVariants.{Micros, Bytes}
 use Rattle.vt_cli.specs.declared.source.Source.{Source}
 use Rattle.vt_cli.specs.declared.source.Complaint.{Complaint}
 use Rattle.vt_cli.specs.declared.source.Complaint.TheVariants.{NoFormat, NoTimingFile, NoMoment, NoTimes}

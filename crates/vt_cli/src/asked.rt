@@ -2,8 +2,8 @@
 
 ghost use Rattle.std.specs.Prelude.{◌≤◌};
 
-use crate::source::{Format, Moment};
 use crate::what::{What, Word};
+use vt_recording::{Format, Moment};
 
 /// What the arguments ask for, if it is a replay. The two numbers are in their ranges, in every value of this type.
 #[derive(Debug, PartialEq, Eq, Drop)]

@@ -4,7 +4,7 @@ ghost use Rattle.std.specs.Char.{is_ascii_digit};
 ghost use Rattle.std.specs.List.{list_all};
 ghost use Rattle.vt_cli.specs.Moment.{number, value, place, sixtieth, with_sixtieth, seconds, micros, scale, moment};
 
-use crate::source::Moment;
+use vt_recording::Moment;
 
 /// Returns the number that the digits write, if there are at least one and at most `most`.
 fn number(most: usize, digits: &[u8]) -> Option<u64>

@@ -13,10 +13,11 @@ use crate::command_line::{
     ABOUT, BAD_COMMAND_LINE, PICTURE, REPAINT, REPORTS, SHOW, STATUS, TEXT, VERSION, file_of,
     options_of, out_of_memory, refusal, refusal_of, settings_in, subcommand, what_of,
 };
-use crate::source::{Format, Source, source_in};
+use crate::source::{Source, source_in};
 use crate::what::Word;
 use clap::{Arg, ArgMatches, Command, Error};
 use std::alloc::{AllocError, Global};
+use vt_recording::Format;
 
 /// What `log` is for.
 const LOG: &str =

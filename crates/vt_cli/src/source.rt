@@ -5,28 +5,7 @@ ghost use Rattle.vt_cli.specs.Source.{format_named, takes_timing, has_times, has
 
 use crate::moment::moment;
 use clap::ArgMatches;
-
-/// How the input was recorded.
-#[derive(Clone, Copy, Debug, PartialEq, Eq)]
-pub enum Format {
-    /// The host's bytes as they are.
-    Raw,
-    /// By script(1).
-    Script,
-    /// By ttyrec.
-    Ttyrec,
-    /// By asciinema.
-    Asciicast,
-}
-
-/// A moment of a recording.
-#[derive(Clone, Copy, Debug, PartialEq, Eq)]
-pub enum Moment {
-    /// So many microseconds after its beginning.
-    Micros(u64),
-    /// After so many bytes of its content.
-    Bytes(u64),
-}
+use vt_recording::{Format, Moment};
 
 /// How the input was recorded, and the moment up to which it is wanted.
 #[derive(Clone, Copy, Debug, PartialEq, Eq)]

@@ -6,3 +6,4 @@ mod glyphs;
 mod recordings;
 mod screen;
 mod syntax;
+mod timings;

@@ -13,15 +13,15 @@ use Rattle.vt_recording.specs.Lines.{lines_of, put_before, front_by, front_line}
 use Rattle.vt_recording.specs.Asciicast.{Cast, after, and_then, time_behind, heard_in, is_silent, event_in, cast_of, cast_by, asciicast, version_in, Event}
 
 -- the place of the first LF, or the length
-abbrev feed_at : List ℕ → ℕ
+abbrev pub feed_at : List ℕ → ℕ
 feed_at xs = position_or_len (λ b. nat_eq b 0x0A) xs
 
 -- the first line and those after it
-abbrev cut_at : Option ℕ → List ℕ → List (List ℕ)
+abbrev pub cut_at : Option ℕ → List ℕ → List (List ℕ)
 cut_at None xs = xs ∷ []
 cut_at (Some n) xs = take n xs ∷ lines_of (drop (n + 1) xs)
 
-abbrev place : (n most : ℕ) → Option ℕ
+abbrev pub place : (n most : ℕ) → Option ℕ
 place n most = cond (nat_lt n most) (Some n) None
 
 put_one : (x : ℕ) (xs : List ℕ) (n most : ℕ) (is : Bool) → nat_lt n most ≡ is
@@ -44,7 +44,7 @@ by_byte x xs true is more =
     rw (is, some) refl
 by_byte x xs false is more = rw (is, more) (put_one x xs (feed_at xs) (length xs) _ refl)
 
-lines_cut : (xs : List ℕ) → lines_of xs ≡ cut_at (place (feed_at xs) (length xs)) xs
+pub lines_cut : (xs : List ℕ) → lines_of xs ≡ cut_at (place (feed_at xs) (length xs)) xs
 unfolding lines_of
 lines_cut [] = refl
 lines_cut (x ∷ xs) = by_byte x xs (nat_eq x 0x0A) refl (lines_cut xs)

@@ -5,3 +5,4 @@ mod Supplemental
 mod Writing
 mod Texts
 mod Casts
+mod Replays

@@ -7,5 +7,7 @@ pub mod Lines
 pub mod Run
 pub mod Seconds
 pub mod Script
+pub mod Steps
 pub mod Taken
+pub mod Timing
 pub mod Ttyrec

@@ -17,12 +17,12 @@ pub record IsCutOff (format : Format) (until : Option Moment) (b w : List ℕ) :
   pub content : List ℕ
   pub broken : Option Break
   pub replaced : ℕ
-  pub taken : IsTaken format until b content broken replaced
+  pub taken : IsTaken format until None b content broken replaced
   pub begins : IsProperBeginning w content
 
 -- w is the content that was taken out of b, which is broken at that place, if it is
 abbrev pub IsContent : Format → (until : Option Moment) → (b w : List ℕ) → (broken : Option Break) → Type 0
-IsContent format until b w broken = (replaced : ℕ) × IsTaken format until b w broken replaced
+IsContent format until b w broken = (replaced : ℕ) × IsTaken format until None b w broken replaced
 
 -- what each result means, b being the bytes read and w the bytes written
 abbrev pub Table : Result (Unit {0}) Fault → Format → (until : Option Moment) → (b w : List ℕ) → Flags → (limit : ℕ)

@@ -1,12 +1,13 @@
 -- What is taken out of a recording. (this profile)
-use Rattle.std.specs.Prelude.{◌≡◌, ℕ, List, Option, None, option_map}
+use Rattle.std.specs.Prelude.{◌≡◌, ℕ, List, Option, Some, None, option_map}
 use Rattle.vt_recording.specs.declared.format.Format.{Format}
 use Rattle.vt_recording.specs.declared.format.Format.TheVariants as format
 use Rattle.vt_recording.specs.declared.format.Moment.{Moment}
 use Rattle.vt_recording.specs.declared.format.Part.TheVariants as part
 use Rattle.vt_recording.specs.declared.format.Break.{Break}
 use Rattle.vt_recording.specs.Moment.{micros_of, cut}
-use Rattle.vt_recording.specs.Script.{IsOfScript}
+use Rattle.vt_recording.specs.Script.{IsOfScript, first_line}
+use Rattle.vt_recording.specs.Timing.{IsTimedAfter}
 use Rattle.vt_recording.specs.Ttyrec.{IsOfTtyrec}
 use Rattle.vt_recording.specs.Lines.{lines_of}
 use Rattle.vt_recording.specs.Asciicast.{Cast, asciicast}
@@ -31,14 +32,23 @@ pub record IsOfCast (cast : Cast) (until : Option Moment) (content : List ℕ) (
   pub wanted : AreWritten (cut until cast.characters) content replaced
   pub breaks : broken ≡ in_recording cast.broken
 
--- the content of a recording in a format up to a moment, and the place at which it breaks that, if it does
-abbrev pub IsTaken : Format → (until : Option Moment) → (bytes content : List ℕ) → (broken : Option Break)
-    → (replaced : ℕ) → Type 0
-IsTaken format.Raw until bytes content broken replaced =
-    (content ≡ cut until bytes) × (broken ≡ None) × (replaced ≡ 0)
-IsTaken format.Script until bytes content broken replaced =
+-- a recording by script(1), without a timing file or with one
+abbrev pub IsOfScriptBy : (timing : Option (List ℕ)) → (until : Option Moment) → (bytes content : List ℕ)
+    → (broken : Option Break) → (replaced : ℕ) → Type 0
+IsOfScriptBy None until bytes content broken replaced =
     IsOfBytes (λ whole at. IsOfScript bytes whole at) until content broken replaced
-IsTaken format.Ttyrec until bytes content broken replaced =
+IsOfScriptBy (Some timing) until bytes content broken replaced =
+    IsTimedAfter (first_line bytes) until bytes timing content broken × (replaced ≡ 0)
+
+-- the content of a recording in a format up to a moment, and the place at which it breaks that, if it does. Only
+-- script(1) has a timing file
+abbrev pub IsTaken : Format → (until : Option Moment) → (timing : Option (List ℕ)) → (bytes content : List ℕ)
+    → (broken : Option Break) → (replaced : ℕ) → Type 0
+IsTaken format.Raw until timing bytes content broken replaced =
+    (content ≡ cut until bytes) × (broken ≡ None) × (replaced ≡ 0)
+IsTaken format.Script until timing bytes content broken replaced =
+    IsOfScriptBy timing until bytes content broken replaced
+IsTaken format.Ttyrec until timing bytes content broken replaced =
     IsOfBytes (λ whole at. IsOfTtyrec (micros_of until) bytes whole at) until content broken replaced
-IsTaken format.Asciicast until bytes content broken replaced =
+IsTaken format.Asciicast until timing bytes content broken replaced =
     IsOfCast (asciicast (micros_of until) (lines_of bytes)) until content broken replaced

@@ -50,7 +50,7 @@ pub fn run<R: Read, W: Write>(
     ensures whole { reader.new.ended ≡ true → IsAtEnd (R.remaining reader.new.device) }
 {
     let bytes = read_recording(alloc, reader, limit)?;
-    let taken = take_apart(alloc, &bytes, format, until)?;
+    let taken = take_apart(alloc, &bytes, None, format, until)?;
     if !write_whole(writer, &taken.content) {
         return Err(Fault::Write);
     }

@@ -14,6 +14,7 @@ mod moment;
 mod script;
 mod seconds;
 mod taking;
+mod timing;
 mod ttyrec;
 
 pub use content::Content;

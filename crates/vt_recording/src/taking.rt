@@ -1,5 +1,5 @@
 //! Takes a recording apart.
-ghost use Rattle.std.specs.Prelude.{◌≡◌, None, IfOk};
+ghost use Rattle.std.specs.Prelude.{◌≡◌, None, IfOk, option_map};
 ghost use Rattle.vt_recording.specs.Script.{IsOfScript};
 ghost use Rattle.vt_recording.specs.Ttyrec.{IsOfTtyrec};
 ghost use Rattle.vt_recording.specs.Taken.{IsTaken, in_recording};
@@ -9,14 +9,17 @@ use crate::casting::asciicast_content;
 use crate::format::{Break, Format, Moment, Part, Taken};
 use crate::moment::{cut, micros_of};
 use crate::script::{end_of, first_line, is_joint};
+use crate::timing::timed_content;
 use crate::ttyrec::{HEADER, header_of, is_due, time_of};
 use std::alloc::{AllocError, Global};
 
 /// Returns the content of a recording up to a moment, and the place at which it breaks its format, if it does. The
-/// content is what came before that place. A recording breaks its format:
+/// content is what came before that place. Only script(1) has a timing file. A recording breaks its format:
 ///
 /// - of script, at byte 0 if it has no first line
 /// - of script, at the LF before the line between two sessions, if `script -a` appended a session
+/// - of script, at a line of the timing file that isn't one
+/// - of script, at the end of its session if the timing file has more bytes
 /// - of ttyrec, at the first frame that is cut short
 /// - of asciinema, at byte 0 if the first line has no version, and at a line that is no event
 ///
@@ -24,14 +27,18 @@ use std::alloc::{AllocError, Global};
 pub fn take_apart(
     alloc: Global,
     bytes: &[u8],
+    timing: Option<&[u8]>,
     format: Format,
     until: Option<Moment>,
 ) -> Result<Taken, AllocError>
-    ensures { IfOk result (λ t. IsTaken format until bytes.now t.content.items t.broken t.replaced) }
+    ensures { IfOk result (λ t. IsTaken format until (option_map (λ b. b.now) timing.entry) bytes.now t.content.items t.broken t.replaced) }
 {
     match format {
         Format::Raw => Ok(taken_of(raw_content(alloc, bytes)?, until)),
-        Format::Script => Ok(taken_of(script_content(alloc, bytes)?, until)),
+        Format::Script => match timing {
+            Some(timing) => timed_content(alloc, bytes, timing, until),
+            None => Ok(taken_of(script_content(alloc, bytes)?, until)),
+        },
         Format::Ttyrec => {
             let whole = ttyrec_content(alloc, bytes, micros_of(until))?;
             Ok(taken_of(whole, until))

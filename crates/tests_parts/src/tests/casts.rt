@@ -163,7 +163,7 @@ fn is_taken_apart(
     alloc: Global,
     (input, until, content, broken, replaced): &Row,
 ) -> Result<bool, Fail> {
-    let taken = take_apart(alloc, input, Format::Asciicast, *until)?;
+    let taken = take_apart(alloc, input, None, Format::Asciicast, *until)?;
     let place = broken.map(|at| Break {
         part: Part::Recording,
         at,

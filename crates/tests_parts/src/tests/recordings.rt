@@ -123,7 +123,7 @@ fn is_taken_apart(
     format: Format,
     (input, until, content, broken): &Row,
 ) -> Result<bool, Fail> {
-    let taken = take_apart(alloc, input, format, *until)?;
+    let taken = take_apart(alloc, input, None, format, *until)?;
     let place = broken.map(|at| Break {
         part: Part::Recording,
         at,

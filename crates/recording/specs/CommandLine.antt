@@ -10,6 +10,8 @@ use Rattle.clap.specs.declared.error.kind.ErrorKind.{ErrorKind}
 use Rattle.clap.specs.declared.error.kind.ErrorKind.TheVariants.{DisplayHelp}
 use Rattle.vt_recording.specs.declared.format.Format.{Format}
 use Rattle.vt_recording.specs.declared.format.Format.TheVariants.{Script, Ttyrec}
+use Rattle.vt_recording.specs.declared.format.Moment.{Moment}
+use Rattle.vt_recording.specs.declared.format.Moment.TheVariants.{Micros}
 use Rattle.recording.specs.Moment.{micros}
 use Rattle.recording.specs.declared.asked.Settings.{Settings}
 use Rattle.recording.specs.declared.asked.Refused.{Refused}
@@ -44,23 +46,23 @@ found_in words = matches_of recording (map (λ w. string_bytes w) words)
 -- ---- the results
 
 -- the format that `--format` names, with the moment of `--until`, which ttyrec alone takes
-abbrev pub format_named : Text → (until : Option Text) → Option Format
+abbrev pub format_named : Text → (until : Option Text) → Option (Format × Option Moment)
 format_named name None =
-    cond (bytes_eq name (codes "script")) (Some Script)
-    (cond (bytes_eq name (codes "ttyrec")) (Some (Ttyrec None)) None)
+    cond (bytes_eq name (codes "script")) (Some (Script, None))
+    (cond (bytes_eq name (codes "ttyrec")) (Some (Ttyrec, None)) None)
 format_named name (Some text) =
-    cond (bytes_eq name (codes "ttyrec")) (option_map (λ n. Ttyrec (Some n)) (micros text)) None
+    cond (bytes_eq name (codes "ttyrec")) (option_map (λ n. (Ttyrec, Some (Micros n))) (micros text)) None
 
-abbrev pub format_of : (format until : Option Text) → Option Format
+abbrev pub format_of : (format until : Option Text) → Option (Format × Option Moment)
 format_of format until = option_and_then (λ name. format_named name until) format
 
 -- the format that the matches ask for
-abbrev pub format_in : List Row → Option Format
+abbrev pub format_in : List Row → Option (Format × Option Moment)
 format_in rows = format_of (first_of (codes "format") rows) (first_of (codes "until") rows)
 
 -- s is what the matches ask for
 pub record AreSettings (rows : List Row) (s : Settings) : Type 0 where
-  pub format : format_in rows ≡ Some s.format
+  pub format : format_in rows ≡ Some (s.format, s.until)
   pub file : option_map (λ f. string_bytes f) s.file ≡ first_of (codes "file") rows
 
 -- the status of a fault of the words: help is none

@@ -1,12 +1,14 @@
 //! The settings that the arguments of a command line give.
 
-use vt_recording::Format;
+use vt_recording::{Format, Moment};
 
 /// The settings.
 #[derive(Debug, PartialEq, Eq, Drop)]
 pub(crate) struct Settings {
-    /// The format of the recording, and the time up to which it is wanted.
+    /// The format of the recording.
     pub(crate) format: Format,
+    /// The time up to which it is wanted, or `None` for all of it.
+    pub(crate) until: Option<Moment>,
     /// The file to read, or `None` for standard input.
     pub(crate) file: Option<String>,
 }

@@ -12,7 +12,7 @@ use crate::moment::micros;
 use clap::error::ErrorKind;
 use clap::{Arg, ArgMatches, Command, Error};
 use std::alloc::{AllocError, Global};
-use vt_recording::Format;
+use vt_recording::{Format, Moment};
 
 /// The message for arguments that clap accepts and that select nothing.
 const BAD_COMMAND_LINE: &str = "recording: bad command line\n";
@@ -136,16 +136,17 @@ fn refusal_of(alloc: Global, error: Error) -> Refused
     }
 }
 
-/// Returns the format that two options give.
-fn format_of(format: Option<&str>, until: Option<&str>) -> Option<Format>
+/// Returns the format and the moment that two options give.
+fn format_of(format: Option<&str>, until: Option<&str>) -> Option<(Format, Option<Moment>)>
     ensures { result ≡ format_of (option_map (λ f. f.now) format.entry) (option_map (λ u. u.now) until.entry) }
 {
     match (format?, until) {
-        ("script", None) => Some(Format::Script),
-        ("ttyrec", None) => Some(Format::Ttyrec { until: None }),
-        ("ttyrec", Some(text)) => Some(Format::Ttyrec {
-            until: Some(micros(text.as_bytes())?),
-        }),
+        ("script", None) => Some((Format::Script, None)),
+        ("ttyrec", None) => Some((Format::Ttyrec, None)),
+        ("ttyrec", Some(text)) => Some((
+            Format::Ttyrec,
+            Some(Moment::Micros(micros(text.as_bytes())?)),
+        )),
         _ => None,
     }
 }
@@ -166,11 +167,15 @@ fn settings_of(alloc: Global, matches: &ArgMatches<'_>) -> Result<Option<Setting
     ensures some { IfOk result (λ o. IfSome o (AreSettings (rows_of (found_of matches.now)))) }
     ensures none { IfOk result (λ o. IfNone o (format_in (rows_of (found_of matches.now)) ≡ None)) }
 {
-    let Some(format) = format_of(matches.get_str("format"), matches.get_str("until")) else {
+    let Some((format, until)) = format_of(matches.get_str("format"), matches.get_str("until")) else {
         return Ok(None);
     };
     let file = file_of(alloc, matches)?;
-    Ok(Some(Settings { format, file }))
+    Ok(Some(Settings {
+        format,
+        until,
+        file,
+    }))
 }
 
 /// Returns the settings that the arguments give. The first argument is the program's name.

@@ -78,6 +78,7 @@ fn write_content<R: Print + AllocGlobal, D: Read + Drop>(
         &mut reader,
         &mut writer,
         settings.format,
+        settings.until,
         INPUT_LIMIT,
     );
     let flushed = writer.into_inner().flush();

@@ -1,7 +1,9 @@
 //! What no clause says of glyphs, of the parser, of the screen and of recordings: worked rows, and each public call
 //! once.
+mod casts;
 mod common;
 mod glyphs;
 mod recordings;
 mod screen;
 mod syntax;
+mod timings;

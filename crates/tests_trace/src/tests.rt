@@ -3,4 +3,5 @@ mod functions;
 mod ignored;
 mod lines;
 mod names;
+mod summaries;
 mod traces;

@@ -1,6 +1,6 @@
 -- Settings and what clap matched.
 use Rattle.std.proofs.Common.{rules, ℕ, ◌≡◌, ◌∙◌, List, ap, sym, Option, Some, None, Result, Ok, Err, IfSome, IfNone, IfOk, IfErr, []}
-use Rattle.std.proofs.Common.{◌≢◌, codes, inl, inr}
+use Rattle.std.proofs.Common.{◌≢◌, codes, inl, inr, refl, is_some, option_map}
 use Rattle.std.specs.Option.{unwrap_or}
 use Rattle.std.specs.Str.Parse.{ParsesUnsigned}
 use Rattle.std.specs.Result.{result_ok}
@@ -92,3 +92,10 @@ pub refused_by_both : (words : List (String Global)) (r : Result Request Refused
     → IfErr r (IsWiderRefusal (wider_faults_in words) (wider_found_in words)) → IfErr r (IsNoRequest words)
 refused_by_both words (Ok request) none refusal = tt
 refused_by_both words (Err refused) none refusal = inr (none, refusal)
+
+-- ---- texts of options
+
+-- a text is there, whatever is taken of it
+pub some_taken : {A B : Type 0} (f : A → B) (o : Option A) → is_some o ≡ is_some (option_map f o)
+some_taken f None = refl
+some_taken f (Some x) = refl

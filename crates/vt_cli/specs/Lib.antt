@@ -1,2 +1,4 @@
 pub mod CommandLine
+pub mod Moment
 pub mod Request
+pub mod Source

@@ -1,16 +1,22 @@
 -- A request: the wider command in clap's terms, and what the answers of `request` say. (this profile)
-use Rattle.std.specs.Prelude.{◌≡◌, ◌⊎◌, ℕ, ◌≤◌, List, [], ◌∷◌, ◌++◌, codes, Option, Some, string_bytes, map}
+use Rattle.std.specs.Prelude.{◌≡◌, ◌⊎◌, ℕ, ◌≤◌, List, [], ◌∷◌, ◌++◌, codes, Option, Some, None, string_bytes, map, true, Ok, Err}
 use Rattle.std.specs.Option.{option_map}
 use Rattle.std.specs.declared.alloc.Global.{Global}
 use Rattle.std.specs.declared.string.String.{String}
-use Rattle.clap.specs.Words.{App, Row, Text, Kinds, with_subcommand, first_of, fault_of, subcommand_of}
+use Rattle.clap.specs.Words.{App, Rule, Row, Text, Kinds, new_app, new_rule, with_rule, with_subcommand, first_of, fault_of}
+use Rattle.clap.specs.Words.{subcommand_of}
+use Rattle.clap.specs.Simple.{on_top}
+use Rattle.vt_cli.specs.declared.what.What.TheVariants as what
 use Rattle.vt_cli.specs.declared.what.Word.{Word}
-use Rattle.vt_cli.specs.declared.what.Word.TheVariants.{Replay, Log}
+use Rattle.vt_cli.specs.declared.what.Word.TheVariants.{Replay, Log, Pages, Trace, Summary, Content}
+use Rattle.vt_recording.specs.declared.format.Format.TheVariants.{Raw}
+use Rattle.vt_cli.specs.declared.source.Complaint.{Complaint}
 use Rattle.vt_cli.specs.declared.asked.Settings.{Settings}
 use Rattle.vt_cli.specs.declared.asked.Request.{Request}
 use Rattle.vt_cli.specs.declared.asked.Refused.{Refused}
-use Rattle.vt_cli.specs.CommandLine.{vt220, subcommand, name_of, faults_in, found_in}
+use Rattle.vt_cli.specs.CommandLine.{subcommand, name_of, faults_in, found_in}
 use Rattle.vt_cli.specs.CommandLine.{IsNumberOf, AreSettings, IsMemory, IsFault}
+use Rattle.vt_cli.specs.Source.{source_in, line_of}
 
 -- ---- the wider command
 
@@ -18,14 +24,48 @@ use Rattle.vt_cli.specs.CommandLine.{IsNumberOf, AreSettings, IsMemory, IsFault}
 abbrev pub word_name : Word → Text
 word_name (Replay what) = name_of what
 word_name Log = codes "log"
+word_name Pages = codes "pages"
+word_name Trace = codes "trace"
+word_name Summary = codes "summary"
+word_name Content = codes "content"
 
--- with the subcommands that are no replay
-abbrev pub with_words : App → App
-with_words a = with_subcommand a (subcommand (codes "log")).top
+-- an option with a text
+abbrev pub text_option : Text → Rule
+text_option name = record (new_rule name) { long = Some name; value_names = 1 }
 
--- the program's command with all its words
+abbrev pub format_option : Rule
+format_option = record (text_option (codes "format")) { defaults = codes "raw" ∷ [] }
+
+-- with the options of a recording
+abbrev pub with_source : App → App
+with_source a =
+    with_rule (with_rule (with_rule a format_option) (text_option (codes "timing"))) (text_option (codes "until"))
+
+-- with a subcommand, which takes the options of `settings` and those of a recording
+abbrev pub with_name : App → Text → App
+with_name a name = with_subcommand a (with_source (subcommand name)).top
+
+abbrev pub with_word : App → Word → App
+with_word a word = with_name a (word_name word)
+
+-- with the subcommands for what the terminal holds and answers
+abbrev pub with_replays : App → App
+with_replays a =
+    with_word (with_word (with_word (with_word a (Replay what.Text)) (Replay what.Reports)) (Replay what.Repaint))
+    (Replay what.Status)
+
+-- with those for the eye, and for the text of a session
+abbrev pub with_lines : App → App
+with_lines a = with_word (with_word (with_word (with_word a (Replay what.Show)) (Replay what.Picture)) Log) Pages
+
+-- with those for what the host sent
+abbrev pub with_events : App → App
+with_events a = with_word (with_word (with_word a Trace) Summary) Content
+
+-- the program's command: one of the eleven subcommands is required, and it has a version
 abbrev pub wider : App
-wider = with_words vt220
+wider = on_top (λ s. record s { subcommand_required = true; has_version = true })
+    (with_events (with_lines (with_replays (new_app (codes "vt220")))))
 
 -- the faults that clap finds in the words of a command line
 abbrev pub wider_faults_in : List (String Global) → Kinds
@@ -46,12 +86,15 @@ pub record Takes (words : List (String Global)) (s : Settings) : Type 0 where
 abbrev pub TakesNone : List (String Global) → Type 0
 TakesNone words = (s : Settings) → Takes words s → ⊥
 
--- r asks for what the settings ask for
+-- r asks for what the settings ask for: a replay of all of the host's bytes
 pub record AsksFor (s : Settings) (r : Request) : Type 0 where
   pub word : r.word ≡ Replay s.what
   pub piece : r.piece ≡ s.piece
   pub limit : r.limit ≡ s.limit
   pub file : r.file ≡ s.file
+  pub format : r.format ≡ Raw
+  pub timing : r.timing ≡ None
+  pub until : r.until ≡ None
 
 -- r is what `settings` gives for the words
 pub record IsPlain (words : List (String Global)) (r : Request) : Type 0 where
@@ -78,6 +121,8 @@ pub record IsFound (found : Option (Text × List Row)) (r : Request) : Type 0 wh
   pub matches : List Row
   pub word : found ≡ Some (word_name r.word, matches)
   pub options : AreOptions matches r.piece r.limit r.file
+  pub source : source_in matches ≡ Ok (record { format = r.format; until = r.until })
+  pub timing : option_map (λ f. string_bytes f) r.timing ≡ first_of (codes "timing") matches
 
 -- `settings` doesn't take the words, and r is what the wider command finds
 pub record IsWider (words : List (String Global)) (r : Request) : Type 0 where
@@ -102,9 +147,20 @@ pub record IsStrayRequest (faults : Kinds) (found : Option (Text × List Row)) (
   pub status : r.status ≡ 2
   pub text : string_bytes r.text ≡ codes "vt220: bad command line" ++ 0x0A ∷ []
 
+-- clap found no fault, but the options of a recording don't fit: the text says what
+pub record IsMisfit (faults : Kinds) (found : Option (Text × List Row)) (r : Refused) : Type 0 where
+  pub none : faults ≡ []
+  pub name : Text
+  pub matches : List Row
+  pub found_is : found ≡ Some (name, matches)
+  pub complaint : Complaint
+  pub why : source_in matches ≡ Err complaint
+  pub status : r.status ≡ 2
+  pub text : string_bytes r.text ≡ line_of complaint
+
 -- why the wider command refuses, by the faults and the subcommand that clap finds
 abbrev pub IsWiderRefusal : Kinds → Option (Text × List Row) → Refused → Type 0
-IsWiderRefusal faults found r = IsMemory r ⊎ (IsFault faults r ⊎ IsStrayRequest faults found r)
+IsWiderRefusal faults found r = IsMemory r ⊎ (IsFault faults r ⊎ (IsMisfit faults found r ⊎ IsStrayRequest faults found r))
 
 -- why there is no request: memory was wanted, or `settings` doesn't take the words and the wider command refuses them
 abbrev pub IsNoRequest : List (String Global) → Refused → Type 0

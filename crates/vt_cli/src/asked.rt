@@ -3,6 +3,7 @@
 ghost use Rattle.std.specs.Prelude.{◌≤◌};
 
 use crate::what::{What, Word};
+use vt_recording::{Format, Moment};
 
 /// What the arguments ask for, if it is a replay. The two numbers are in their ranges, in every value of this type.
 #[derive(Debug, PartialEq, Eq, Drop)]
@@ -43,6 +44,12 @@ pub struct Request {
     pub limit: u64,
     /// The file to read, or none for standard input.
     pub file: Option<String>,
+    /// How the input was recorded.
+    pub format: Format,
+    /// The file with the times of a recording by script(1), if there is one.
+    pub timing: Option<String>,
+    /// The moment up to which the input is wanted, or none for all of it.
+    pub until: Option<Moment>,
     pub ghost piece_in_range: { (1 ≤ piece) × (piece ≤ 65536) },
     pub ghost limit_in_range: { limit ≤ 1099511627776 },
 }

@@ -28,31 +28,33 @@ const LIMIT_MOST: u64 = 1099511627776;
 pub(crate) const BAD_COMMAND_LINE: &str = "vt220: bad command line\n";
 
 /// The version of the program and of all its crates: `vt220 --version` prints it after the name.
-const VERSION: &str = "0.3.0";
+pub(crate) const VERSION: &str = "0.3.0";
 
 /// What the program is for.
-const ABOUT: &str =
+pub(crate) const ABOUT: &str =
     "Plays what a host sent to a VT220 terminal, and writes what the terminal then shows or answers";
 
 /// What `text` is for.
-const TEXT: &str = "The screen: 24 lines of UTF-8, each without the spaces at its end";
+pub(crate) const TEXT: &str = "The screen: 24 lines of UTF-8, each without the spaces at its end";
 
 /// What `reports` is for.
-const REPORTS: &str = "What the terminal answers to the host, chunk by chunk as the input comes";
+pub(crate) const REPORTS: &str =
+    "What the terminal answers to the host, chunk by chunk as the input comes";
 
 /// What `repaint` is for.
-const REPAINT: &str = "The bytes that rebuild the terminal, hidden state included, on any terminal";
+pub(crate) const REPAINT: &str =
+    "The bytes that rebuild the terminal, hidden state included, on any terminal";
 
 /// What `status` is for.
-const STATUS: &str =
+pub(crate) const STATUS: &str =
     "The cursor, the wrap flag, the margins, the unfinished sequence, and how many bytes were answered";
 
 /// What `show` is for.
-const SHOW: &str =
+pub(crate) const SHOW: &str =
     "The screen with its attributes, for a terminal of today or less -R: lines of UTF-8 with SGR";
 
 /// What `picture` is for.
-const PICTURE: &str = "The screen as a picture (SVG)";
+pub(crate) const PICTURE: &str = "The screen as a picture (SVG)";
 
 /// The text below the help.
 const AFTER_HELP: &str = "\
@@ -169,7 +171,7 @@ fn with_views<'a>(alloc: Global, command: Command<'a>) -> Result<Command<'a>, Al
 }
 
 /// Returns the command of a replay.
-pub(crate) fn command<'a>(alloc: Global) -> Result<Command<'a>, AllocError>
+fn command<'a>(alloc: Global) -> Result<Command<'a>, AllocError>
     ensures { IfOk result (λ c. app_of c ≡ vt220) }
 {
     let command = Command::new(alloc, "vt220")
@@ -248,12 +250,16 @@ fn number_of(matches: &ArgMatches<'_>, option: &str) -> Option<u64>
     matches.get_str(option)?.parse::<u64>().ok()
 }
 
-/// Returns the file's name, if there is one.
-fn file_of(alloc: Global, matches: &ArgMatches<'_>) -> Result<Option<String>, AllocError>
+/// Returns the name of a file that an argument gives, if it is there.
+pub(crate) fn file_of(
+    alloc: Global,
+    matches: &ArgMatches<'_>,
+    argument: &str,
+) -> Result<Option<String>, AllocError>
     ensures { IfOk result (λ file. option_map (λ name. string_bytes name) file
-        ≡ first_value (found_of matches.now) (codes "file")) }
+        ≡ first_value (found_of matches.now) argument.now) }
 {
-    match matches.get_str("file") {
+    match matches.get_str(argument) {
         Some(name) => Ok(Some(String::from_str(alloc, name)?)),
         None => Ok(None),
     }
@@ -276,7 +282,7 @@ pub(crate) fn options_of(
     if piece < 1 || PIECE_MOST < piece || LIMIT_MOST < limit {
         return Ok(None);
     }
-    let file = file_of(alloc, matches)?;
+    let file = file_of(alloc, matches, "file")?;
     Ok(Some(Options {
         piece: piece as usize,
         limit,

@@ -3,10 +3,13 @@
 
 mod asked;
 mod command_line;
+mod moment;
 mod requests;
+mod source;
 mod what;
 
 pub use asked::{Refused, Request, Settings};
 pub use command_line::settings;
 pub use requests::request;
+pub use vt_recording::{Format, Moment};
 pub use what::{What, Word};

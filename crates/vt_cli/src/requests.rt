@@ -1,38 +1,169 @@
-//! The program's command line: the words of a replay and all others.
-ghost use Rattle.std.specs.Prelude.{◌≡◌, ◌≢◌, [], IfOk, IfErr, IfSome, IfNone, Some};
-ghost use Rattle.clap.specs.Words.{FailsBy, app_of, found_of, rows_of, subcommand_rows_of};
+//! The program's command line: the words of a replay and all others, and how the input was recorded.
+ghost use Rattle.std.specs.Prelude.{◌≡◌, ◌≢◌, [], IfOk, IfErr, IfSome, IfNone, Some, Ok, codes, option_map, string_bytes, false};
+ghost use Rattle.clap.specs.Words.{FailsBy, app_of, first_value, found_of, rows_of, rule_of, subcommand_rows_of};
+ghost use Rattle.clap.specs.declared.builder.command.Command.TheViews.{out-Command};
 ghost use Rattle.vt_cli.specs.declared.what.Word.{Word};
-ghost use Rattle.vt_cli.specs.Request.{with_words, wider, wider_faults_in, wider_found_in, word_name};
+ghost use Rattle.vt_cli.specs.Source.{source_in};
+ghost use Rattle.vt_cli.specs.Request.{text_option, format_option, with_source, with_name, with_replays, with_lines, with_events};
+ghost use Rattle.vt_cli.specs.Request.{wider, wider_faults_in, wider_found_in, word_name};
 ghost use Rattle.vt_cli.specs.Request.{AsksFor, IsFound, HasNoRequest, IsRequest, IsNoRequest, IsWiderRefusal};
 
 use crate::asked::{Refused, Request, Settings};
 use crate::command_line::{
-    BAD_COMMAND_LINE, command, options_of, out_of_memory, refusal, refusal_of, settings_in,
-    subcommand, what_of,
+    ABOUT, BAD_COMMAND_LINE, PICTURE, REPAINT, REPORTS, SHOW, STATUS, TEXT, VERSION, file_of,
+    options_of, out_of_memory, refusal, refusal_of, settings_in, subcommand, what_of,
 };
+use crate::source::{Source, source_in};
 use crate::what::Word;
-use clap::{ArgMatches, Command, Error};
+use clap::{Arg, ArgMatches, Command, Error};
 use std::alloc::{AllocError, Global};
+use vt_recording::Format;
 
 /// What `log` is for.
 const LOG: &str =
     "The lines that scroll off the top of the screen, as they come, and at the end the screen";
 
+/// What `pages` is for.
+const PAGES: &str =
+    "The log, and the 24 lines of the screen before each event that blanks all of it";
+
+/// What `trace` is for.
+const TRACE: &str = "A line for each event: its place, its name and its values";
+
+/// What `summary` is for.
+const SUMMARY: &str = "The names of the events, each with its count; the ignored ones first";
+
+/// What `content` is for.
+const CONTENT: &str = "The host's bytes of a recording";
+
+/// The text below the help.
+const AFTER_HELP: &str = "\
+Each command but help takes FILE, or standard input if no file is named, and these options:
+  --piece N        the most bytes of one read, 1 to 65536 [default: 4096]
+  --limit N        the most bytes of the input, 0 to 1099511627776 [default: 268435456]
+  --format FORMAT  how FILE was recorded: raw, script, ttyrec or asciicast [default: raw]
+  --timing FILE    the times of a recording by script(1)
+  --until MOMENT   only what came before: seconds, as 12.5 or 12:31, or bytes, as 4096b
+
+Example, with a recording made by script(1):
+  script -q -c 'stty rows 24 cols 80; TERM=vt220 LC_ALL=C top -n 1' /dev/null > top.bin
+  vt220 text top.bin
+  vt220 show top.bin | less -R
+  vt220 picture top.bin > top.svg
+
+Example, the screen as it stood twelve and a half seconds after the start:
+  vt220 text --format ttyrec --until 12.5 demo.tty
+
+Exit status:
+  0  all was written, or the help or the version was asked for
+  1  an allocation failed
+  2  the command line is wrong
+  3  a repaint was asked for, and the input ends inside a sequence
+  4  the input can't be opened or read
+  5  the output can't be written
+  6  the input is longer than the limit
+  7  the recording breaks its format; what came before that was written";
+
 /// The status of a failed allocation.
 const OUT_OF_MEMORY: u8 = 1;
 
-/// Adds the subcommands that are no replay.
-fn with_words<'a>(alloc: Global, command: Command<'a>) -> Result<Command<'a>, AllocError>
-    ensures { IfOk result (λ c. app_of c ≡ with_words (app_of command.entry)) }
+/// Returns an option with a text.
+fn text_option<'a>(alloc: Global, name: &'a str, value: &'a str, help: &'a str) -> Arg<'a>
+    ensures rule { rule_of result ≡ text_option name.entry.now }
+    ensures local { result.global ≡ false }
 {
-    command.subcommand(subcommand(alloc, "log", LOG)?)
+    Arg::new(alloc, name)
+        .long(name)
+        .value_name(value)
+        .help(help)
+}
+
+/// Returns the option for the format.
+fn format_option<'a>(alloc: Global) -> Arg<'a>
+    ensures rule { rule_of result ≡ format_option }
+    ensures local { result.global ≡ false }
+{
+    Arg::new(alloc, "format")
+        .long("format")
+        .value_name("FORMAT")
+        .default_value("raw")
+        .help("How FILE was recorded: raw, script, ttyrec or asciicast")
+}
+
+/// Adds the options of a recording.
+fn with_source<'a>(alloc: Global, command: Command<'a>) -> Result<Command<'a>, AllocError>
+    requires { (out-Command command).has_globals ≡ false }
+    ensures app { IfOk result (λ c. app_of c ≡ with_source (app_of command.entry)) }
+    ensures local { IfOk result (λ c. (out-Command c).has_globals ≡ false) }
+{
+    let timing = text_option(
+        alloc,
+        "timing",
+        "FILE",
+        "The times of a recording by script(1)",
+    );
+    let until = text_option(
+        alloc,
+        "until",
+        "MOMENT",
+        "Only what came before: seconds, as 12.5 or 12:31, or bytes, as 4096b",
+    );
+    command.arg(format_option(alloc))?.arg(timing)?.arg(until)
+}
+
+/// Adds the subcommand of this name.
+fn with_name<'a>(
+    alloc: Global,
+    command: Command<'a>,
+    name: &'a str,
+    about: &'a str,
+) -> Result<Command<'a>, AllocError>
+    ensures { IfOk result (λ c. app_of c ≡ with_name (app_of command.entry) name.entry.now) }
+{
+    let inner = with_source(alloc, subcommand(alloc, name, about)?)?;
+    command.subcommand(inner)
+}
+
+/// Adds the subcommands `text`, `reports`, `repaint` and `status`.
+fn with_replays<'a>(alloc: Global, command: Command<'a>) -> Result<Command<'a>, AllocError>
+    ensures { IfOk result (λ c. app_of c ≡ with_replays (app_of command.entry)) }
+{
+    let command = with_name(alloc, command, "text", TEXT)?;
+    let command = with_name(alloc, command, "reports", REPORTS)?;
+    let command = with_name(alloc, command, "repaint", REPAINT)?;
+    with_name(alloc, command, "status", STATUS)
+}
+
+/// Adds the subcommands `show`, `picture`, `log` and `pages`.
+fn with_lines<'a>(alloc: Global, command: Command<'a>) -> Result<Command<'a>, AllocError>
+    ensures { IfOk result (λ c. app_of c ≡ with_lines (app_of command.entry)) }
+{
+    let command = with_name(alloc, command, "show", SHOW)?;
+    let command = with_name(alloc, command, "picture", PICTURE)?;
+    let command = with_name(alloc, command, "log", LOG)?;
+    with_name(alloc, command, "pages", PAGES)
+}
+
+/// Adds the subcommands `trace`, `summary` and `content`.
+fn with_events<'a>(alloc: Global, command: Command<'a>) -> Result<Command<'a>, AllocError>
+    ensures { IfOk result (λ c. app_of c ≡ with_events (app_of command.entry)) }
+{
+    let command = with_name(alloc, command, "trace", TRACE)?;
+    let command = with_name(alloc, command, "summary", SUMMARY)?;
+    with_name(alloc, command, "content", CONTENT)
 }
 
 /// Returns the program's command.
 fn wider_command<'a>(alloc: Global) -> Result<Command<'a>, AllocError>
     ensures { IfOk result (λ c. app_of c ≡ wider) }
 {
-    with_words(alloc, command(alloc)?)
+    let command = Command::new(alloc, "vt220")
+        .version(VERSION)
+        .about(ABOUT)
+        .after_help(AFTER_HELP)
+        .subcommand_required(true);
+    let command = with_lines(alloc, with_replays(alloc, command)?)?;
+    with_events(alloc, command)
 }
 
 /// Returns what clap matches in the arguments.
@@ -48,10 +179,14 @@ fn word_of(name: &str) -> Option<Word>
     ensures some { IfSome result (λ word. name.now ≡ word_name word) }
     ensures none { IfNone result ((word : Word) → name.now ≢ word_name word) }
 {
-    if name == "log" {
-        return Some(Word::Log);
+    match name {
+        "log" => Some(Word::Log),
+        "pages" => Some(Word::Pages),
+        "trace" => Some(Word::Trace),
+        "summary" => Some(Word::Summary),
+        "content" => Some(Word::Content),
+        _ => Some(Word::Replay(what_of(name)?)),
     }
-    Some(Word::Replay(what_of(name)?))
 }
 
 /// Returns what a subcommand asks for, if its numbers are in their ranges.
@@ -59,7 +194,9 @@ fn request_of(
     alloc: Global,
     name: &str,
     matches: &ArgMatches<'_>,
+    source: Source,
 ) -> Result<Option<Request>, AllocError>
+    requires { source_in (rows_of (found_of matches.now)) ≡ Ok source }
     ensures some { IfOk result (λ o. IfSome o (IsFound (Some (name.now, rows_of (found_of matches.now))))) }
     ensures none { IfOk result (λ o. IfNone o (HasNoRequest (Some (name.now, rows_of (found_of matches.now))))) }
 {
@@ -69,11 +206,15 @@ fn request_of(
     let Some(options) = options_of(alloc, matches)? else {
         return Ok(None);
     };
+    let timing = file_of(alloc, matches, "timing")?;
     Ok(Some(Request {
         word,
         piece: options.piece,
         limit: options.limit,
         file: options.file,
+        format: source.format,
+        timing,
+        until: source.until,
     }))
 }
 
@@ -90,7 +231,11 @@ fn wider_request(alloc: Global, words: &[String]) -> Result<Request, Refused>
     let Some((name, inner)) = matches.subcommand() else {
         return Err(refusal(alloc, 2, BAD_COMMAND_LINE));
     };
-    match request_of(alloc, name, inner) {
+    let source = match source_in(inner) {
+        Ok(source) => source,
+        Err(complaint) => return Err(refusal(alloc, 2, complaint.line())),
+    };
+    match request_of(alloc, name, inner, source) {
         Ok(Some(request)) => Ok(request),
         Ok(None) => Err(refusal(alloc, 2, BAD_COMMAND_LINE)),
         Err(AllocError) => Err(out_of_memory(alloc)),
@@ -106,15 +251,23 @@ fn replay_request(settings: Settings) -> Request
         piece: settings.piece,
         limit: settings.limit,
         file: settings.file,
+        format: Format::Raw,
+        timing: None,
+        until: None,
     }
 }
 
 /// Returns what the arguments ask for; the first argument is the program's name.
 ///
-/// If `settings` takes the arguments, the request is for these settings. Otherwise the arguments are those of the wider
-/// command, which also has the subcommand `log`, with the same options. `Err` is what to end with if there is no request:
-/// the help or the version that was asked for (status 0), a failed allocation (1), or what is wrong with the arguments
-/// (2). (this profile)
+/// If `settings` takes the arguments, the request is for these settings, with the format raw. Otherwise the arguments are
+/// those of the wider command. It also has the subcommands `log`, `pages`, `trace`, `summary` and `content`. Each of its
+/// subcommands also takes `--format FORMAT` (raw, script, ttyrec or asciicast, otherwise raw), `--timing FILE` and `--until
+/// MOMENT`. A moment is seconds (`12.5`), minutes and seconds (`12:31`), hours, minutes and seconds (`1:02:03`), or a number
+/// of bytes (`4096b`). Seconds have up to six decimals.
+///
+/// `Err` is what to end with if there is no request: the help or the version that was asked for (status 0), a failed
+/// allocation (1), or what is wrong with the arguments (2). Such are also `--timing` with a format other than script, and
+/// a moment in seconds with raw, or with script without `--timing`. (this profile)
 pub fn request(alloc: Global, words: Vec<String>) -> Result<Request, Refused>
     ensures ok { IfOk result (IsRequest words.items) }
     ensures err { IfErr result (IsNoRequest words.items) }

@@ -25,4 +25,12 @@ pub enum Word {
     Replay(What),
     /// The lines that scroll off the top of the screen, as they come, and the text of the screen after the whole input.
     Log,
+    /// The log, and before each event that blanks the whole screen its lines.
+    Pages,
+    /// A line for each event, as they come.
+    Trace,
+    /// The names of the events, each with how many there were, after the whole input.
+    Summary,
+    /// The host's bytes.
+    Content,
 }

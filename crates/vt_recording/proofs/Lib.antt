@@ -1,3 +1,8 @@
 mod Pieces
 mod Early
 pub mod Ends
+mod Supplemental
+mod Writing
+mod Texts
+mod Casts
+mod Replays

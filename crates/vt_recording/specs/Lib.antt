@@ -1,5 +1,13 @@
+pub mod Asciicast
+pub mod Characters
+pub mod Events
 pub mod Fault
+pub mod Moment
+pub mod Lines
 pub mod Run
+pub mod Seconds
 pub mod Script
+pub mod Steps
 pub mod Taken
+pub mod Timing
 pub mod Ttyrec

@@ -1,11 +1,54 @@
 -- What is taken out of a recording. (this profile)
-use Rattle.std.specs.Prelude.{ℕ, List, Option}
+use Rattle.std.specs.Prelude.{◌≡◌, ℕ, List, Option, Some, None, option_map}
 use Rattle.vt_recording.specs.declared.format.Format.{Format}
 use Rattle.vt_recording.specs.declared.format.Format.TheVariants as format
-use Rattle.vt_recording.specs.Script.{IsOfScript}
+use Rattle.vt_recording.specs.declared.format.Moment.{Moment}
+use Rattle.vt_recording.specs.declared.format.Part.TheVariants as part
+use Rattle.vt_recording.specs.declared.format.Break.{Break}
+use Rattle.vt_recording.specs.Moment.{micros_of, cut}
+use Rattle.vt_recording.specs.Script.{IsOfScript, first_line}
+use Rattle.vt_recording.specs.Timing.{IsTimedAfter}
 use Rattle.vt_recording.specs.Ttyrec.{IsOfTtyrec}
+use Rattle.vt_recording.specs.Lines.{lines_of}
+use Rattle.vt_recording.specs.Asciicast.{Cast, asciicast}
+use Rattle.vt_recording.specs.Characters.{AreWritten}
 
--- the content of a recording in a format, and the byte at which it breaks that, if it does
-abbrev pub IsTaken : Format → (bytes content : List ℕ) → (broken : Option ℕ) → Type 0
-IsTaken format.Script bytes content broken = IsOfScript bytes content broken
-IsTaken (format.Ttyrec until) bytes content broken = IsOfTtyrec until bytes content broken
+-- the recording is broken at a byte
+abbrev pub in_recording : Option ℕ → Option Break
+in_recording at = option_map (λ n. record { part = part.Recording; at = n }) at
+
+-- the bytes that a format makes of a recording, up to a number of bytes
+pub record IsOfBytes (IsOf : List ℕ → Option ℕ → Type 0) (until : Option Moment) (content : List ℕ)
+    (broken : Option Break) (replaced : ℕ) : Type 0 where
+  pub whole : List ℕ
+  pub at : Option ℕ
+  pub is_of : IsOf whole at
+  pub wanted : content ≡ cut until whole
+  pub breaks : broken ≡ in_recording at
+  pub none_replaced : replaced ≡ 0
+
+-- the bytes of characters, up to a number of bytes
+pub record IsOfCast (cast : Cast) (until : Option Moment) (content : List ℕ) (broken : Option Break) (replaced : ℕ) : Type 0 where
+  pub wanted : AreWritten (cut until cast.characters) content replaced
+  pub breaks : broken ≡ in_recording cast.broken
+
+-- a recording by script(1), without a timing file or with one
+abbrev pub IsOfScriptBy : (timing : Option (List ℕ)) → (until : Option Moment) → (bytes content : List ℕ)
+    → (broken : Option Break) → (replaced : ℕ) → Type 0
+IsOfScriptBy None until bytes content broken replaced =
+    IsOfBytes (λ whole at. IsOfScript bytes whole at) until content broken replaced
+IsOfScriptBy (Some timing) until bytes content broken replaced =
+    IsTimedAfter (first_line bytes) until bytes timing content broken × (replaced ≡ 0)
+
+-- the content of a recording in a format up to a moment, and the place at which it breaks that, if it does. Only
+-- script(1) has a timing file
+abbrev pub IsTaken : Format → (until : Option Moment) → (timing : Option (List ℕ)) → (bytes content : List ℕ)
+    → (broken : Option Break) → (replaced : ℕ) → Type 0
+IsTaken format.Raw until timing bytes content broken replaced =
+    (content ≡ cut until bytes) × (broken ≡ None) × (replaced ≡ 0)
+IsTaken format.Script until timing bytes content broken replaced =
+    IsOfScriptBy timing until bytes content broken replaced
+IsTaken format.Ttyrec until timing bytes content broken replaced =
+    IsOfBytes (λ whole at. IsOfTtyrec (micros_of until) bytes whole at) until content broken replaced
+IsTaken format.Asciicast until timing bytes content broken replaced =
+    IsOfCast (asciicast (micros_of until) (lines_of bytes)) until content broken replaced

@@ -2,6 +2,7 @@
 ghost use Rattle.std.specs.Prelude.{◌≡◌, Some};
 ghost use Rattle.vt_recording.specs.Fault.{status_of, line_of};
 
+use crate::format::{Break, Part};
 use std::alloc::AllocError;
 use std::error::Error;
 use std::fmt;
@@ -11,8 +12,8 @@ use std::fmt;
 pub enum Fault {
     /// Allocation failed. Nothing was written.
     Memory,
-    /// The recording breaks its format at this offset, counted from 0. The content before it was written.
-    Broken(u64),
+    /// The recording breaks its format at this place. The content before it was written.
+    Broken(Break),
     /// A read of the input failed. Nothing was written.
     Read,
     /// A write of the output failed.
@@ -42,7 +43,12 @@ impl fmt::Display for Fault {
     fn fmt<W: fmt::Write>(&self, f: &mut fmt::Formatter<W>) -> fmt::Result {
         match self {
             Fault::Memory => write!(f, "recording: out of memory"),
-            Fault::Broken(at) => write!(f, "recording: broken at byte {at}"),
+            Fault::Broken(place) => match place.part {
+                Part::Recording => write!(f, "recording: broken at byte {}", place.at),
+                Part::Timing => {
+                    write!(f, "recording: timing file is broken at byte {}", place.at)
+                }
+            },
             Fault::Read => write!(f, "recording: read failed"),
             Fault::Write => write!(f, "recording: write failed"),
             Fault::TooLong => write!(f, "recording: input is longer than the limit"),

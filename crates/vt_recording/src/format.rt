@@ -3,13 +3,41 @@
 /// The format of a recording.
 #[derive(Clone, Copy, Debug, PartialEq, Eq)]
 pub enum Format {
+    /// The bytes that the host sent, and nothing else.
+    Raw,
     /// The format of script(1): the bytes as they came, between a first and a last line.
     Script,
     /// The format of ttyrec: frames, each after a header with its time and its length.
-    Ttyrec {
-        /// The latest time of a frame that is wanted, in microseconds after the first frame. `None` means all frames.
-        until: Option<u64>,
-    },
+    Ttyrec,
+    /// The format of asciinema, version 2 or 3: a line with an object, and events, one a line.
+    Asciicast,
+}
+
+/// The end of what is wanted of a recording.
+#[derive(Clone, Copy, Debug, PartialEq, Eq)]
+pub enum Moment {
+    /// Microseconds after the beginning of the recording. In a format without times, everything is wanted.
+    Micros(u64),
+    /// A number of bytes of the content.
+    Bytes(u64),
+}
+
+/// A file of a recording.
+#[derive(Clone, Copy, Debug, PartialEq, Eq)]
+pub enum Part {
+    /// The recording.
+    Recording,
+    /// The timing file of script(1).
+    Timing,
+}
+
+/// The place at which a recording breaks its format.
+#[derive(Clone, Copy, Debug, PartialEq, Eq)]
+pub struct Break {
+    /// The file that is broken.
+    pub part: Part,
+    /// The offset in that file, counted from 0.
+    pub at: u64,
 }
 
 /// The content of a recording.
@@ -17,6 +45,8 @@ pub enum Format {
 pub struct Taken {
     /// The bytes that the host sent, up to the place at which the recording breaks its format.
     pub content: Vec<u8>,
-    /// The offset at which the recording breaks its format, counted from 0, or `None`.
-    pub broken: Option<usize>,
+    /// The place at which the recording breaks its format, or `None`.
+    pub broken: Option<Break>,
+    /// The number of characters that have no byte. SUB is in their place.
+    pub replaced: u64,
 }

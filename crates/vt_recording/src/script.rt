@@ -10,7 +10,7 @@ const FIRST_WORDS: &[u8] = b"Script started on ";
 const LAST_WORDS: &[u8] = b"\nScript done on ";
 
 /// Returns the index of the first LF.
-fn line_feed(bytes: &[u8]) -> Option<usize>
+pub(crate) fn line_feed(bytes: &[u8]) -> Option<usize>
     ensures { result ≡ line_feed bytes.now }
 {
     bytes.iter().position(|b| *b == b'\n')

@@ -1,33 +1,98 @@
 //! Takes a recording apart.
-ghost use Rattle.std.specs.Prelude.{◌≡◌, IfOk};
+ghost use Rattle.std.specs.Prelude.{◌≡◌, None, IfOk, option_map};
 ghost use Rattle.vt_recording.specs.Script.{IsOfScript};
 ghost use Rattle.vt_recording.specs.Ttyrec.{IsOfTtyrec};
-ghost use Rattle.vt_recording.specs.Taken.{IsTaken};
+ghost use Rattle.vt_recording.specs.Taken.{IsTaken, in_recording};
+ghost use Rattle.vt_recording.specs.Moment.{cut};
 
-use crate::format::{Format, Taken};
+use crate::casting::asciicast_content;
+use crate::format::{Break, Format, Moment, Part, Taken};
+use crate::moment::{cut, micros_of};
 use crate::script::{end_of, first_line, is_joint};
+use crate::timing::timed_content;
 use crate::ttyrec::{HEADER, header_of, is_due, time_of};
 use std::alloc::{AllocError, Global};
 
-/// Returns the content of a recording, and the offset at which it breaks its format, if it does. The content is what
-/// came before that offset. A recording breaks its format:
+/// Returns the content of a recording up to a moment, and the place at which it breaks its format, if it does. The
+/// content is what came before that place. Only script(1) has a timing file. A recording breaks its format:
 ///
-/// - at byte 0 if it has no first line
-/// - at the LF before the line between two sessions, if `script -a` appended a session
-/// - at the first frame that is cut short
+/// - of script, at byte 0 if it has no first line
+/// - of script, at the LF before the line between two sessions, if `script -a` appended a session
+/// - of script, at a line of the timing file that isn't one
+/// - of script, at the end of its session if the timing file has more bytes
+/// - of ttyrec, at the first frame that is cut short
+/// - of asciinema, at byte 0 if the first line has no version, and at a line that is no event
 ///
 /// Returns `Err` if allocation fails.
-pub fn take_apart(alloc: Global, bytes: &[u8], format: Format) -> Result<Taken, AllocError>
-    ensures { IfOk result (λ t. IsTaken format bytes.now t.content.items t.broken) }
+pub fn take_apart(
+    alloc: Global,
+    bytes: &[u8],
+    timing: Option<&[u8]>,
+    format: Format,
+    until: Option<Moment>,
+) -> Result<Taken, AllocError>
+    ensures { IfOk result (λ t. IsTaken format until (option_map (λ b. b.now) timing.entry) bytes.now t.content.items t.broken t.replaced) }
 {
     match format {
-        Format::Script => script_content(alloc, bytes),
-        Format::Ttyrec { until } => ttyrec_content(alloc, bytes, until),
+        Format::Raw => Ok(taken_of(raw_content(alloc, bytes)?, until)),
+        Format::Script => match timing {
+            Some(timing) => timed_content(alloc, bytes, timing, until),
+            None => Ok(taken_of(script_content(alloc, bytes)?, until)),
+        },
+        Format::Ttyrec => {
+            let whole = ttyrec_content(alloc, bytes, micros_of(until))?;
+            Ok(taken_of(whole, until))
+        }
+        Format::Asciicast => asciicast_content(alloc, bytes, until),
+    }
+}
+
+/// The content of a recording, and the offset at which it is broken.
+#[derive(Drop)]
+struct Whole {
+    content: Vec<u8>,
+    broken: Option<usize>,
+}
+
+/// Returns what is wanted up to a moment.
+fn taken_of(whole: Whole, until: Option<Moment>) -> Taken
+    ensures content { result.content.items ≡ cut until whole.content.items }
+    ensures broken { result.broken ≡ in_recording whole.broken }
+    ensures replaced { result.replaced ≡ 0 }
+{
+    Taken {
+        content: cut(until, whole.content),
+        broken: in_recording(whole.broken),
+        replaced: 0,
+    }
+}
+
+/// Returns the bytes.
+fn raw_content(alloc: Global, bytes: &[u8]) -> Result<Whole, AllocError>
+    ensures content { IfOk result (λ w. w.content.items ≡ bytes.now) }
+    ensures broken { IfOk result (λ w. w.broken ≡ None) }
+{
+    Ok(Whole {
+        content: Vec::from_slice(alloc, bytes)?,
+        broken: None,
+    })
+}
+
+/// Returns the place of an offset in the recording.
+pub(crate) fn in_recording(at: Option<usize>) -> Option<Break>
+    ensures { result ≡ in_recording at }
+{
+    match at {
+        Some(at) => Some(Break {
+            part: Part::Recording,
+            at: at as u64,
+        }),
+        None => None,
     }
 }
 
 /// Returns the content between the first and the last line.
-fn script_content(alloc: Global, bytes: &[u8]) -> Result<Taken, AllocError>
+fn script_content(alloc: Global, bytes: &[u8]) -> Result<Whole, AllocError>
     ensures { IfOk result (λ t. IsOfScript bytes.now t.content.items t.broken) }
 {
     match first_line(bytes) {
@@ -39,12 +104,12 @@ fn script_content(alloc: Global, bytes: &[u8]) -> Result<Taken, AllocError>
             } else {
                 None
             };
-            Ok(Taken {
+            Ok(Whole {
                 content: Vec::from_slice(alloc, &body[..end])?,
                 broken,
             })
         }
-        None => Ok(Taken {
+        None => Ok(Whole {
             content: Vec::new(alloc),
             broken: Some(0),
         }),
@@ -52,14 +117,14 @@ fn script_content(alloc: Global, bytes: &[u8]) -> Result<Taken, AllocError>
 }
 
 /// Returns the content of the frames up to `until`.
-fn ttyrec_content(alloc: Global, bytes: &[u8], until: Option<u64>) -> Result<Taken, AllocError>
+fn ttyrec_content(alloc: Global, bytes: &[u8], until: Option<u64>) -> Result<Whole, AllocError>
     ensures { IfOk result (λ t. IsOfTtyrec until bytes.now t.content.items t.broken) }
 {
     let mut content = Vec::with_capacity(alloc, bytes.len())?;
     let mut at = 0;
     while at < bytes.len() {
         let Some(piece) = header_of(&bytes[at..]) else {
-            return Ok(Taken {
+            return Ok(Whole {
                 content,
                 broken: Some(at),
             });
@@ -70,7 +135,7 @@ fn ttyrec_content(alloc: Global, bytes: &[u8], until: Option<u64>) -> Result<Tak
             content.extend_from_slice(&bytes[from..at])?;
         }
     }
-    Ok(Taken {
+    Ok(Whole {
         content,
         broken: None,
     })

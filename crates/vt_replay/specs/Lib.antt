@@ -1,5 +1,6 @@
 pub mod Due
 pub mod Fault
 pub mod Log
+pub mod Output
 pub mod Run
 pub mod Status

@@ -6,11 +6,8 @@ use Rattle.vt_term.specs.State.{State, power_up}
 use Rattle.vt_term.specs.Play.{play}
 use Rattle.vt_term.specs.Text.{text}
 use Rattle.vt_log.specs.Log.{log}
-use Rattle.vt_cli.specs.declared.what.Word.{Word}
-use Rattle.vt_cli.specs.declared.what.Word.TheVariants.{Replay, Log}
 use Rattle.vt_replay.specs.declared.fault.Fault.{Fault}
 use Rattle.vt_replay.specs.declared.fault.Fault.TheVariants.{Memory, Partial, Read, Write, TooLong}
-use Rattle.vt_replay.specs.Run.{Table}
 
 -- the lines that scroll off, and after them the screen
 abbrev pub whole_log : List ℕ → List ℕ
@@ -47,11 +44,6 @@ LogTable (Err Read) piece b w f limit = AreFlags f true false false × (length b
 LogTable (Err Write) piece b w f limit = IsCutLog piece b w f × (length b ≤ limit)
 LogTable (Err TooLong) piece b w f limit = AreFlags f false false false × (length b ≡ limit + 1)
     × (w ≡ log power_up (take limit b))
-
--- what each answer says, by the word of the request
-abbrev pub WordTable : Result (Unit {0}) Fault → Word → (piece : ℕ) → (b w : List ℕ) → Flags → (limit : ℕ) → Type 0
-WordTable result (Replay what) piece b w f limit = Table result what piece b w f limit
-WordTable result Log piece b w f limit = LogTable result piece b w f limit
 
 -- ---- the parts of a log
 

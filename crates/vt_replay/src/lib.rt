@@ -5,12 +5,12 @@
 mod engine;
 mod fault;
 mod logging;
-mod requests;
+mod output;
 mod status;
 
 pub use engine::{replay, run};
 pub use fault::Fault;
 pub use logging::write_log;
-pub use requests::carry_out;
-pub use vt_cli::{Refused, Request, Settings, What, Word, request, settings};
+pub use output::{Output, write_output};
+pub use vt_cli::{Format, Moment, Refused, Request, Settings, What, Word, request, settings};
 pub use vt_device::Watched;

@@ -4,3 +4,4 @@ mod Witnesses
 mod Acting
 mod TracedBytes
 mod Traces
+mod Counts

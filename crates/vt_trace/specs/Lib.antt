@@ -2,3 +2,5 @@ pub mod Names
 pub mod Ignored
 pub mod Lines
 pub mod Trace
+pub mod Summary
+pub mod Counted

@@ -1,6 +1,6 @@
 -- The names of events, as docs/SPECIFICATION.md has them. (EK-VT220-RM)
 use Rattle.std.specs.Prelude.{ℕ, List, [], ◌∷◌, ◌++◌, Bool, true, Option, Some, None, option_map, option_and_then}
-use Rattle.std.specs.Prelude.{unwrap_or, codes, min, nat_lt, ◌==◌, ◌&&◌, ◌||◌, if◌then◌else◌}
+use Rattle.std.specs.Prelude.{unwrap_or, codes, min, nat_lt, get_or, ◌==◌, ◌&&◌, ◌||◌, if◌then◌else◌}
 use Rattle.std.specs.List.{list_any}
 use Rattle.vt_syntax.specs.declared.event.Event.{Event}
 use Rattle.vt_syntax.specs.declared.event.Event.TheVariants.{Print, Control, Escape, Sequence}
@@ -210,3 +210,88 @@ name_of (Print b) = print_name b
 name_of (Control b) = control_name b
 name_of (Escape inter last) = escape_name inter last
 name_of (Sequence marker params inter last) = sequence_name marker inter last params.items
+
+-- ---- all names
+
+-- in the order of the summary
+abbrev pub names : List (List ℕ)
+names =
+    codes "text"
+    ∷ codes "BS"
+    ∷ codes "HT"
+    ∷ codes "LF"
+    ∷ codes "VT"
+    ∷ codes "FF"
+    ∷ codes "CR"
+    ∷ codes "SO"
+    ∷ codes "SI"
+    ∷ codes "SUB"
+    ∷ codes "IND"
+    ∷ codes "NEL"
+    ∷ codes "HTS"
+    ∷ codes "RI"
+    ∷ codes "SS2"
+    ∷ codes "SS3"
+    ∷ codes "DECID"
+    ∷ codes "DECSC"
+    ∷ codes "DECRC"
+    ∷ codes "DECKPAM"
+    ∷ codes "DECKPNM"
+    ∷ codes "RIS"
+    ∷ codes "LS2"
+    ∷ codes "LS3"
+    ∷ codes "LS1R"
+    ∷ codes "LS2R"
+    ∷ codes "LS3R"
+    ∷ codes "S7C1T"
+    ∷ codes "S8C1T"
+    ∷ codes "DECALN"
+    ∷ codes "SCS G0 ASCII"
+    ∷ codes "SCS G0 British"
+    ∷ codes "SCS G0 German"
+    ∷ codes "SCS G0 Special Graphics"
+    ∷ codes "SCS G0 Supplemental"
+    ∷ codes "SCS G1 ASCII"
+    ∷ codes "SCS G1 British"
+    ∷ codes "SCS G1 German"
+    ∷ codes "SCS G1 Special Graphics"
+    ∷ codes "SCS G1 Supplemental"
+    ∷ codes "SCS G2 ASCII"
+    ∷ codes "SCS G2 British"
+    ∷ codes "SCS G2 German"
+    ∷ codes "SCS G2 Special Graphics"
+    ∷ codes "SCS G2 Supplemental"
+    ∷ codes "SCS G3 ASCII"
+    ∷ codes "SCS G3 British"
+    ∷ codes "SCS G3 German"
+    ∷ codes "SCS G3 Special Graphics"
+    ∷ codes "SCS G3 Supplemental"
+    ∷ codes "ICH"
+    ∷ codes "CUU"
+    ∷ codes "CUD"
+    ∷ codes "CUF"
+    ∷ codes "CUB"
+    ∷ codes "CUP"
+    ∷ codes "ED"
+    ∷ codes "EL"
+    ∷ codes "IL"
+    ∷ codes "DL"
+    ∷ codes "DCH"
+    ∷ codes "ECH"
+    ∷ codes "DA"
+    ∷ codes "HVP"
+    ∷ codes "TBC"
+    ∷ codes "SM"
+    ∷ codes "RM"
+    ∷ codes "SGR"
+    ∷ codes "DSR"
+    ∷ codes "DECSTBM"
+    ∷ codes "DECSED"
+    ∷ codes "DECSEL"
+    ∷ codes "DECSCL"
+    ∷ codes "DECSCA"
+    ∷ codes "DECSTR"
+    ∷ []
+
+abbrev pub numbered : ℕ → List ℕ
+numbered number = get_or names number []

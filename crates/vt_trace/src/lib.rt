@@ -5,9 +5,12 @@ mod bytes;
 pub mod laws;
 mod lines;
 mod names;
+mod numbers;
 mod sequences;
+mod summary;
 mod tracing;
 
 pub use lines::{LINE_LIMIT, push_line};
 pub use names::{is_ignored, name};
+pub use summary::{SUMMARY_LIMIT, Summary};
 pub use tracing::{TRACE_LIMIT, Tracer, trace_byte, trace_end, trace_reserved};

@@ -1,5 +1,5 @@
 //! The line of an event.
-ghost use Rattle.std.specs.Prelude.{◌≡◌, ◌+◌, ◌≤◌, ◌++◌, length, vec_len, vec_capacity};
+ghost use Rattle.std.specs.Prelude.{◌≡◌, ◌+◌, ◌≤◌, ◌++◌, [], length, vec_len, vec_capacity};
 ghost use Rattle.vt_syntax.specs.Event.{event_of};
 ghost use Rattle.vt_trace.specs.Lines.{values_column, bytes_column, event_line};
 
@@ -80,6 +80,34 @@ fn push_bytes_column(kind: EventKind, values: &[u16], out: &mut Vec<u8>)
             push_bytes(b"\\x1B[", out);
             push_option(marker, out);
             push_values(values, out);
+            push_shown_option(inter, out);
+            push_shown(last, out);
+        }
+    }
+}
+
+/// Appends the bytes of an event without its values as text.
+pub(crate) fn push_kind(kind: EventKind, out: &mut Vec<u8>)
+    requires { vec_len out.old + 14 ≤ vec_capacity out.old }
+    ensures items { out.new.items ≡ out.old.items ++ bytes_column (event_of kind []) }
+    ensures bounded { vec_len out.new ≤ vec_len out.old + 14 }
+    ensures capacity { vec_capacity out.old ≤ vec_capacity out.new }
+{
+    match kind {
+        EventKind::Print(b) => push_shown(b, out),
+        EventKind::Control(b) => push_shown(b, out),
+        EventKind::Escape { inter, last } => {
+            push_bytes(b"\\x1B", out);
+            push_shown_option(inter, out);
+            push_shown(last, out);
+        }
+        EventKind::Sequence {
+            marker,
+            inter,
+            last,
+        } => {
+            push_bytes(b"\\x1B[", out);
+            push_option(marker, out);
             push_shown_option(inter, out);
             push_shown(last, out);
         }

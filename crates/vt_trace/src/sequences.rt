@@ -1,10 +1,12 @@
 //! The names of control sequences: some are functions of certain values only.
-ghost use Rattle.std.specs.Prelude.{◌≡◌, ◌≤◌, length, IfSome, ℕ, List, [], ◌∷◌, Some, None, option_copied, if◌then◌else◌};
+ghost use Rattle.std.specs.Prelude.{◌≡◌, IfSome, ℕ, List, [], ◌∷◌, Some, None, ◌<◌, option_map, if◌then◌else◌};
 ghost use Rattle.std.specs.List.{list_any};
 ghost use Rattle.vt_glyph.specs.LookUp.{contains};
 ghost use Rattle.vt_term.specs.Parameters.{first, second};
 ghost use Rattle.vt_trace.specs.Names.{sequence_name, name_in, plain_names, private_names, greater_names, quote_names};
-ghost use Rattle.vt_trace.specs.Names.{exclamation_names, are_margins, is_level};
+ghost use Rattle.vt_trace.specs.Names.{exclamation_names, are_margins, is_level, numbered};
+
+use crate::numbers::*;
 
 /// Returns the name of a control sequence, if it has a function.
 #[tactic(auto, unfolding(crate::specs::Names::names_of, crate::specs::Names::name_in))]
@@ -13,9 +15,9 @@ pub(crate) fn sequence(
     values: &[u16],
     inter: Option<u8>,
     last: u8,
-) -> Option<&'static str>
-    ensures word { option_copied result ≡ sequence_name marker inter last values.now }
-    ensures short { IfSome result (λ word. length word.now ≤ 23) }
+) -> Option<u8>
+    ensures word { option_map numbered result ≡ sequence_name marker inter last values.now }
+    ensures within { IfSome result (λ number. number < 75) }
 {
     match (marker, inter) {
         (None, None) => plain(last, values),
@@ -27,13 +29,13 @@ pub(crate) fn sequence(
     }
 }
 
-/// Returns a name if the test is passed.
-fn named(test: bool, name: &'static str) -> Option<&'static str>
-    requires { length name.now ≤ 23 }
-    ensures word { option_copied result ≡ if test then Some name.now else None }
-    ensures short { IfSome result (λ word. length word.now ≤ 23) }
+/// Returns a number if the test is passed.
+fn named(test: bool, number: u8) -> Option<u8>
+    requires { number < 75 }
+    ensures word { option_map numbered result ≡ if test then Some (numbered number) else None }
+    ensures within { IfSome result (λ number. number < 75) }
 {
-    if test { Some(name) } else { None }
+    if test { Some(number) } else { None }
 }
 
 /// The first value; one that isn't there is 0.
@@ -52,84 +54,84 @@ fn second(values: &[u16]) -> u16
 
 /// Without marker and intermediate.
 #[tactic(auto, unfolding(crate::specs::Names::name_in))]
-fn plain(last: u8, values: &[u16]) -> Option<&'static str>
-    ensures word { option_copied result ≡ name_in plain_names last values.now }
-    ensures short { IfSome result (λ word. length word.now ≤ 23) }
+fn plain(last: u8, values: &[u16]) -> Option<u8>
+    ensures word { option_map numbered result ≡ name_in plain_names last values.now }
+    ensures within { IfSome result (λ number. number < 75) }
 {
     match last {
-        b'@' => Some("ICH"),
-        b'A' => Some("CUU"),
-        b'B' => Some("CUD"),
-        b'C' => Some("CUF"),
-        b'D' => Some("CUB"),
-        b'H' => Some("CUP"),
-        b'J' => named(first(values) <= 2, "ED"),
-        b'K' => named(first(values) <= 2, "EL"),
-        b'L' => Some("IL"),
-        b'M' => Some("DL"),
-        b'P' => Some("DCH"),
-        b'X' => Some("ECH"),
-        b'c' => named(first(values) == 0, "DA"),
-        b'f' => Some("HVP"),
-        b'g' => named(clears_tabs(first(values)), "TBC"),
-        b'h' => named(has_ansi_mode(values), "SM"),
-        b'l' => named(has_ansi_mode(values), "RM"),
-        b'm' => named(has_attribute(values), "SGR"),
-        b'n' => named(asks_for_status(first(values)), "DSR"),
-        b'r' => named(are_margins(values), "DECSTBM"),
+        b'@' => Some(ICH),
+        b'A' => Some(CUU),
+        b'B' => Some(CUD),
+        b'C' => Some(CUF),
+        b'D' => Some(CUB),
+        b'H' => Some(CUP),
+        b'J' => named(first(values) <= 2, ED),
+        b'K' => named(first(values) <= 2, EL),
+        b'L' => Some(IL),
+        b'M' => Some(DL),
+        b'P' => Some(DCH),
+        b'X' => Some(ECH),
+        b'c' => named(first(values) == 0, DA),
+        b'f' => Some(HVP),
+        b'g' => named(clears_tabs(first(values)), TBC),
+        b'h' => named(has_ansi_mode(values), SM),
+        b'l' => named(has_ansi_mode(values), RM),
+        b'm' => named(has_attribute(values), SGR),
+        b'n' => named(asks_for_status(first(values)), DSR),
+        b'r' => named(are_margins(values), DECSTBM),
         _ => None,
     }
 }
 
 /// After `?`.
 #[tactic(auto, unfolding(crate::specs::Names::name_in))]
-fn private(last: u8, values: &[u16]) -> Option<&'static str>
-    ensures word { option_copied result ≡ name_in private_names last values.now }
-    ensures short { IfSome result (λ word. length word.now ≤ 23) }
+fn private(last: u8, values: &[u16]) -> Option<u8>
+    ensures word { option_map numbered result ≡ name_in private_names last values.now }
+    ensures within { IfSome result (λ number. number < 75) }
 {
     match last {
-        b'J' => named(first(values) <= 2, "DECSED"),
-        b'K' => named(first(values) <= 2, "DECSEL"),
-        b'h' => named(has_private_mode(values), "SM"),
-        b'l' => named(has_private_mode(values), "RM"),
-        b'n' => named(asks_for_private_status(first(values)), "DSR"),
+        b'J' => named(first(values) <= 2, DECSED),
+        b'K' => named(first(values) <= 2, DECSEL),
+        b'h' => named(has_private_mode(values), SM),
+        b'l' => named(has_private_mode(values), RM),
+        b'n' => named(asks_for_private_status(first(values)), DSR),
         _ => None,
     }
 }
 
 /// After `>`.
 #[tactic(auto, unfolding(crate::specs::Names::name_in))]
-fn greater(last: u8, values: &[u16]) -> Option<&'static str>
-    ensures word { option_copied result ≡ name_in greater_names last values.now }
-    ensures short { IfSome result (λ word. length word.now ≤ 23) }
+fn greater(last: u8, values: &[u16]) -> Option<u8>
+    ensures word { option_map numbered result ≡ name_in greater_names last values.now }
+    ensures within { IfSome result (λ number. number < 75) }
 {
     match last {
-        b'c' => named(first(values) == 0, "DA"),
+        b'c' => named(first(values) == 0, DA),
         _ => None,
     }
 }
 
 /// After `"`.
 #[tactic(auto, unfolding(crate::specs::Names::name_in))]
-fn quote(last: u8, values: &[u16]) -> Option<&'static str>
-    ensures word { option_copied result ≡ name_in quote_names last values.now }
-    ensures short { IfSome result (λ word. length word.now ≤ 23) }
+fn quote(last: u8, values: &[u16]) -> Option<u8>
+    ensures word { option_map numbered result ≡ name_in quote_names last values.now }
+    ensures within { IfSome result (λ number. number < 75) }
 {
     match last {
-        b'p' => named(is_level(values), "DECSCL"),
-        b'q' => named(first(values) <= 2, "DECSCA"),
+        b'p' => named(is_level(values), DECSCL),
+        b'q' => named(first(values) <= 2, DECSCA),
         _ => None,
     }
 }
 
 /// After `!`.
 #[tactic(auto, unfolding(crate::specs::Names::name_in))]
-fn exclamation(last: u8) -> Option<&'static str>
-    ensures word { (values : List ℕ) → option_copied result ≡ name_in exclamation_names last values }
-    ensures short { IfSome result (λ word. length word.now ≤ 23) }
+fn exclamation(last: u8) -> Option<u8>
+    ensures word { (values : List ℕ) → option_map numbered result ≡ name_in exclamation_names last values }
+    ensures within { IfSome result (λ number. number < 75) }
 {
     match last {
-        b'p' => Some("DECSTR"),
+        b'p' => Some(DECSTR),
         _ => None,
     }
 }

@@ -11,10 +11,10 @@ returns-in-Ok-None-clause-err c =
     rw c.in-Ok-None.field-0-is at c.in-Ok-None.ensures.none in
     elim c.refusal-in-Ok-None.ensures [
       | inl memory ↦ inl memory
-      | inr refused ↦ inr (inr (record {
+      | inr refused ↦ inr (inr (inr (record {
         none = c.in-Ok.ensures.faults;
         stray = λ r a. no_request r (rw found a);
         status = refused.0;
         text = refused.1;
-      }))
+      })))
     ]

@@ -1,0 +1,14 @@
+use Rattle.std.proofs.Common.{◌≡◌, ◌∙◌, ap, codes, subst, IfOk}
+use Rattle.clap.specs.Words.{App, app_of}
+use Rattle.vt_cli.specs.Request.{with_name}
+use Rattle.vt_cli.proofs.requests.with_replays.Goals as goal
+
+pub returns : goal.returns
+returns c =
+    let text : app_of c.in_ok-command.command ≡ with_name (app_of c.args.command) (codes "text") = c.in_ok-command.ensures in
+    let reports : app_of c.in_ok-command-2.command ≡ with_name (with_name (app_of c.args.command) (codes "text")) (codes "reports") =
+    c.in_ok-command-2.ensures ∙ ap (λ (a : App). with_name a (codes "reports")) text in
+    let repaint : app_of c.in_ok-command-3.command ≡ with_name (with_name (with_name (app_of c.args.command) (codes "text")) (codes "reports")) (codes "repaint") =
+    c.in_ok-command-3.ensures ∙ ap (λ (a : App). with_name a (codes "repaint")) reports in
+    subst (λ (a : App). IfOk c.with_name-4.result (λ r. app_of r ≡ with_name a (codes "status"))) repaint
+    c.with_name-4.ensures

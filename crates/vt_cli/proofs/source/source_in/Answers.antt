@@ -1,0 +1,16 @@
+use Rattle.std.proofs.Common.{ℕ, List, Bor, ◌≡◌, ◌∙◌, ap, codes, Option, is_some}
+use Rattle.clap.specs.Words.{found_of, rows_of, first_of}
+use Rattle.clap.proofs.WalkLemmas.{first_value-rows}
+use Rattle.vt_cli.proofs.Words.{some_taken}
+use Rattle.vt_cli.proofs.source.source_in.Goals as goal
+
+pub returns : goal.returns
+returns c =
+    let rows = rows_of (found_of c.args.matches.now) in
+    let format = c.get_str.ensures ∙ first_value-rows (found_of c.args.matches.now) (codes "format") in
+    let timing = c.get_str-2.ensures ∙ first_value-rows (found_of c.args.matches.now) (codes "timing") in
+    let until = c.get_str-3.ensures ∙ first_value-rows (found_of c.args.matches.now) (codes "until") in
+    let timed : c.is_some.result ≡ is_some (first_of (codes "timing") rows) =
+    c.is_some.ensures ∙ some_taken (λ (s : Bor (List ℕ)). s.now) c.get_str-2.result
+    ∙ ap (λ (o : Option (List ℕ)). is_some o) timing in
+    rw (← format, ← timed, ← until) c.source_of.ensures

@@ -1,0 +1,125 @@
+//! A moment of a recording as text.
+ghost use Rattle.std.specs.Prelude.{◌≡◌, ◌≤◌, ◌<◌, ◌+◌, ◌*◌, ◌^◌, IfSome, Some, length, true};
+ghost use Rattle.std.specs.Char.{is_ascii_digit};
+ghost use Rattle.std.specs.List.{list_all};
+ghost use Rattle.vt_cli.specs.Moment.{number, value, place, sixtieth, with_sixtieth, seconds, micros, scale, moment};
+
+use vt_recording::Moment;
+
+/// Returns the number that the digits write, if there are at least one and at most `most`.
+fn number(most: usize, digits: &[u8]) -> Option<u64>
+    requires { most ≤ 15 }
+    ensures value { result ≡ number most digits.now }
+    ensures small { IfSome result (λ n. n < 10 ^ most) }
+{
+    if digits.is_empty() || most < digits.len() || !are_digits(digits) {
+        return None;
+    }
+    Some(value(digits))
+}
+
+/// Returns whether all bytes are digits.
+fn are_digits(bytes: &[u8]) -> bool
+    ensures { result ≡ list_all (λ b. is_ascii_digit b) bytes.now }
+{
+    bytes.iter().all(|b| b.is_ascii_digit())
+}
+
+/// Returns the number that up to fifteen digits write.
+fn value(digits: &[u8]) -> u64
+    requires few { length digits.now ≤ 15 }
+    requires digits { list_all (λ b. is_ascii_digit b) digits.now ≡ true }
+    ensures value { result ≡ value digits.now }
+    ensures small { result < 10 ^ length digits.now }
+{
+    let mut n = 0u64;
+    for digit in digits {
+        n = 10 * n + (*digit - b'0') as u64;
+    }
+    n
+}
+
+/// Returns the index of the first byte that is this.
+fn place(byte: u8, text: &[u8]) -> Option<usize>
+    ensures value { result ≡ place byte text.now }
+    ensures within { IfSome result (λ at. at < length text.now) }
+{
+    text.iter().position(|b| *b == byte)
+}
+
+/// Returns the minutes of an hour or seconds of a minute that one or two digits write, if they are less than 60.
+fn sixtieth(digits: &[u8]) -> Option<u64>
+    ensures value { result ≡ sixtieth digits.now }
+    ensures small { IfSome result (λ n. n < 60) }
+{
+    let n = number(2, digits)?;
+    if n < 60 { Some(n) } else { None }
+}
+
+/// Returns so many of a greater unit and the sixtieths that digits write, in sixtieths.
+fn with_sixtieth(greater: u64, digits: &[u8]) -> Option<u64>
+    requires { greater < 10 ^ 11 }
+    ensures value { result ≡ with_sixtieth (Some greater) digits.now }
+    ensures small { IfSome result (λ n. n < 60 * greater + 60) }
+{
+    Some(60 * greater + sixtieth(digits)?)
+}
+
+/// Returns the seconds that a text gives: of up to nine digits, or as minutes and seconds, or as hours, minutes and
+/// seconds, with colons between them.
+fn seconds(text: &[u8]) -> Option<u64>
+    ensures value { result ≡ seconds text.now }
+    ensures small { IfSome result (λ n. n < 10 ^ 13) }
+{
+    let Some(at) = place(b':', text) else {
+        return number(9, text);
+    };
+    let greater = number(9, &text[..at])?;
+    let rest = &text[at + 1..];
+    match place(b':', rest) {
+        None => with_sixtieth(greater, rest),
+        Some(at) => with_sixtieth(with_sixtieth(greater, &rest[..at])?, &rest[at + 1..]),
+    }
+}
+
+/// Returns the value of the last of `decimals` decimals, in microseconds.
+fn scale(decimals: usize) -> u64
+    ensures value { result ≡ scale decimals }
+    ensures small { result ≤ 1000000 }
+{
+    match decimals {
+        0 => 1_000_000,
+        1 => 100_000,
+        2 => 10_000,
+        3 => 1_000,
+        4 => 100,
+        5 => 10,
+        _ => 1,
+    }
+}
+
+/// Returns the number of microseconds that a text gives: seconds, and after a point up to six decimals.
+fn micros(text: &[u8]) -> Option<u64>
+    ensures { result ≡ micros text.now }
+{
+    match place(b'.', text) {
+        Some(at) => {
+            let seconds = seconds(&text[..at])?;
+            let decimals = &text[at + 1..];
+            let parts = number(6, decimals)?;
+            Some(1_000_000 * seconds + scale(decimals.len()) * parts)
+        }
+        None => Some(1_000_000 * seconds(text)?),
+    }
+}
+
+/// Returns the moment that a text gives: seconds, as `12.5`, `12:31` or `1:02:03`, or a number of bytes, as `4096b`.
+pub(crate) fn moment(text: &[u8]) -> Option<Moment>
+    ensures { result ≡ moment text.now }
+{
+    match place(b'b', text) {
+        None => Some(Moment::Micros(micros(text)?)),
+        Some(at) if at + 1 == text.len() => Some(Moment::Bytes(number(15, &text[..at])?)),
+        Some(_) => None,
+    }
+}

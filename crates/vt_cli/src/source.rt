@@ -1,0 +1,139 @@
+//! How the input was recorded: its format, and the moment up to which it is wanted.
+ghost use Rattle.std.specs.Prelude.{◌≡◌, option_map};
+ghost use Rattle.clap.specs.Words.{found_of, rows_of};
+ghost use Rattle.vt_cli.specs.Source.{format_named, takes_timing, has_times, has_moment, until_of, source_of, source_in, line_of};
+
+use crate::moment::moment;
+use clap::ArgMatches;
+use vt_recording::{Format, Moment};
+
+/// How the input was recorded, and the moment up to which it is wanted.
+#[derive(Clone, Copy, Debug, PartialEq, Eq)]
+pub(crate) struct Source {
+    /// The format.
+    pub(crate) format: Format,
+    /// The moment, or none for the whole input.
+    pub(crate) until: Option<Moment>,
+}
+
+/// Why the options of a recording are refused.
+#[derive(Clone, Copy, Debug, PartialEq, Eq)]
+pub(crate) enum Complaint {
+    /// `--format` names no format.
+    NoFormat,
+    /// `--timing` is given for a format that has no timing file.
+    NoTimingFile,
+    /// `--until` gives no moment.
+    NoMoment,
+    /// `--until` gives seconds, and the recording has no times.
+    NoTimes,
+}
+
+impl Complaint {
+    /// Returns the line that the program prints.
+    pub(crate) fn line(self) -> &'static str
+        ensures { result.now ≡ line_of self }
+    {
+        match self {
+            Complaint::NoFormat => "vt220: --format is raw, script, ttyrec or asciicast\n",
+            Complaint::NoTimingFile => "vt220: --timing goes with --format script alone\n",
+            Complaint::NoMoment => {
+                "vt220: --until is seconds, as 12.5 or 12:31, or bytes, as 4096b\n"
+            }
+            Complaint::NoTimes => {
+                "vt220: the input has no times; give --until in bytes, as 4096b, or script its --timing FILE\n"
+            }
+        }
+    }
+}
+
+/// Returns the format of a name.
+fn format_named(name: &str) -> Option<Format>
+    ensures { result ≡ format_named name.now }
+{
+    match name {
+        "raw" => Some(Format::Raw),
+        "script" => Some(Format::Script),
+        "ttyrec" => Some(Format::Ttyrec),
+        "asciicast" => Some(Format::Asciicast),
+        _ => None,
+    }
+}
+
+/// Returns whether a format has a timing file.
+fn takes_timing(format: Format) -> bool
+    ensures { result ≡ takes_timing format }
+{
+    match format {
+        Format::Raw => false,
+        Format::Script => true,
+        Format::Ttyrec => false,
+        Format::Asciicast => false,
+    }
+}
+
+/// Returns whether a recording has times.
+fn has_times(format: Format, timed: bool) -> bool
+    ensures { result ≡ has_times format timed }
+{
+    match format {
+        Format::Raw => false,
+        Format::Script => timed,
+        Format::Ttyrec => true,
+        Format::Asciicast => true,
+    }
+}
+
+/// Returns whether a recording has a moment.
+fn has_moment(format: Format, timed: bool, moment: Moment) -> bool
+    ensures { result ≡ has_moment format timed moment }
+{
+    match moment {
+        Moment::Micros(_) => has_times(format, timed),
+        Moment::Bytes(_) => true,
+    }
+}
+
+/// Returns the moment up to which a recording is wanted.
+fn until_of(format: Format, timed: bool, until: Option<&str>) -> Result<Option<Moment>, Complaint>
+    ensures { result ≡ until_of format timed (option_map (λ u. u.now) until.entry) }
+{
+    let Some(text) = until else {
+        return Ok(None);
+    };
+    match moment(text.as_bytes()) {
+        None => Err(Complaint::NoMoment),
+        Some(moment) if has_moment(format, timed, moment) => Ok(Some(moment)),
+        Some(_) => Err(Complaint::NoTimes),
+    }
+}
+
+/// Returns the source that options give: the name of a format, whether there is a timing file, and the text of a moment.
+fn source_of(format: Option<&str>, timed: bool, until: Option<&str>) -> Result<Source, Complaint>
+    ensures { result ≡ source_of (option_map (λ f. f.now) format.entry) timed (option_map (λ u. u.now) until.entry) }
+{
+    let Some(name) = format else {
+        return Err(Complaint::NoFormat);
+    };
+    let Some(format) = format_named(name) else {
+        return Err(Complaint::NoFormat);
+    };
+    if timed && !takes_timing(format) {
+        return Err(Complaint::NoTimingFile);
+    }
+    match until_of(format, timed, until) {
+        Ok(until) => Ok(Source { format, until }),
+        Err(complaint) => Err(complaint),
+    }
+}
+
+/// Returns the source that a subcommand's options give.
+pub(crate) fn source_in(matches: &ArgMatches<'_>) -> Result<Source, Complaint>
+    ensures { result ≡ source_in (rows_of (found_of matches.now)) }
+{
+    source_of(
+        matches.get_str("format"),
+        matches.get_str("timing").is_some(),
+        matches.get_str("until"),
+    )
+}

@@ -1,0 +1,149 @@
+//! The outputs: what each word writes of the host's bytes as they come, and at their end.
+ghost use Rattle.std.specs.Prelude.{◌≡◌, ◌+◌, ◌*◌, ◌/◌, ◌^◌, ◌≤◌, ◌<◌, [], length, take, vec_capacity, IfOk, List, ℕ};
+ghost use Rattle.vt_term.specs.State.{power_up};
+ghost use Rattle.vt_term.specs.Play.{play};
+ghost use Rattle.vt_term.specs.Text.{text};
+ghost use Rattle.vt_log.specs.Pages.{pages};
+ghost use Rattle.vt_trace.specs.Trace.{trace, tracer_all, text_end};
+ghost use Rattle.vt_commands.specs.Words.{tracer_at_start};
+
+use std::alloc::{AllocError, Global};
+use vt_log::laws::pages_cut;
+use vt_log::{PAGE_LIMIT, feed_pages_reserved};
+use vt_replay::Output;
+use vt_term::laws::{cuts, soundness};
+use vt_term::{REPORT_LIMIT, Terminal};
+use vt_trace::laws::cuts as trace_cuts;
+use vt_trace::{TRACE_LIMIT, Tracer, trace_end, trace_reserved};
+
+/// The log with pages.
+#[derive(Drop)]
+pub(crate) struct PageOutput {
+    terminal: Terminal,
+    /// The reports of a chunk, which are dropped.
+    reports: Vec<u8>,
+}
+
+impl PageOutput {
+    /// Returns the output of a new terminal, with memory for chunks of so many bytes. `Err` means that allocation failed.
+    pub(crate) fn new(alloc: Global, piece: usize) -> Result<PageOutput, AllocError>
+        requires { piece ≤ 65536 }
+        ensures terminal { IfOk result (λ o. o.terminal ≡ power_up) }
+        ensures reports { IfOk result (λ o. 10 * piece ≤ vec_capacity o.reports) }
+    {
+        Ok(PageOutput {
+            terminal: Terminal::new(alloc)?,
+            reports: Vec::with_capacity(alloc, REPORT_LIMIT * piece)?,
+        })
+    }
+}
+
+impl Output for PageOutput {
+    ghost written = { λ o bytes. pages o.terminal bytes };
+
+    ghost ending = { λ o bytes. text (play o.terminal bytes).state };
+
+    ghost most = { λ o. vec_capacity o.reports / 10 };
+
+    ghost counted = { λ o. 0 };
+
+    const CAPACITY: usize = 4 * PAGE_LIMIT;
+
+    ghost CAPACITY = { 38112 };
+
+    fn feed(&mut self, chunk: &[u8], out: &mut Vec<u8>) -> usize {
+        let _ = self.terminal.width();
+        cuts();
+        pages_cut();
+        soundness();
+        self.reports.clear();
+        feed_pages_reserved(&mut self.terminal, chunk, &mut self.reports, out)
+    }
+
+    fn end(&self, out: &mut Vec<u8>) {
+        let _ = self.terminal.width();
+        cuts();
+        self.terminal.text_reserved(out)
+    }
+}
+
+/// The trace.
+#[derive(Drop)]
+pub(crate) struct TraceOutput {
+    terminal: Terminal,
+    tracer: Tracer,
+    /// The reports of a chunk, which are dropped: the trace has them.
+    reports: Vec<u8>,
+}
+
+impl TraceOutput {
+    /// Returns the output of a new terminal, with memory for chunks of so many bytes. `Err` means that allocation failed.
+    pub(crate) fn new(alloc: Global, piece: usize) -> Result<TraceOutput, AllocError>
+        requires { piece ≤ 65536 }
+        ensures terminal { IfOk result (λ o. o.terminal ≡ power_up) }
+        ensures tracer { IfOk result (λ o. o.tracer ≡ tracer_at_start) }
+        ensures reports { IfOk result (λ o. 10 * piece ≤ vec_capacity o.reports) }
+    {
+        Ok(TraceOutput {
+            terminal: Terminal::new(alloc)?,
+            tracer: Tracer::new(),
+            reports: Vec::with_capacity(alloc, REPORT_LIMIT * piece)?,
+        })
+    }
+}
+
+impl Output for TraceOutput {
+    ghost written = { λ o bytes. trace o.terminal o.tracer bytes };
+
+    ghost ending = { λ o bytes. text_end (tracer_all o.terminal o.tracer bytes).in_text };
+
+    ghost most = { λ o. vec_capacity o.reports / 10 };
+
+    ghost counted = { λ o. o.tracer.place };
+
+    const CAPACITY: usize = 256 * TRACE_LIMIT;
+
+    ghost CAPACITY = { 61440 };
+
+    fn feed(&mut self, chunk: &[u8], out: &mut Vec<u8>) -> usize {
+        let _ = self.terminal.width();
+        trace_cuts();
+        self.reports.clear();
+        trace_reserved(
+            &mut self.terminal,
+            &mut self.tracer,
+            chunk,
+            &mut self.reports,
+            out,
+        )
+    }
+
+    fn end(&self, out: &mut Vec<u8>) {
+        trace_end(&self.tracer, out)
+    }
+}
+
+/// The host's bytes.
+#[derive(Drop)]
+pub(crate) struct ContentOutput;
+
+impl Output for ContentOutput {
+    ghost written = { λ o bytes. bytes };
+
+    ghost ending = { λ o bytes. [] };
+
+    ghost most = { λ o. 65536 };
+
+    ghost counted = { λ o. 0 };
+
+    const CAPACITY: usize = 65536;
+
+    ghost CAPACITY = { 65536 };
+
+    fn feed(&mut self, chunk: &[u8], out: &mut Vec<u8>) -> usize {
+        out.extend_from_slice(chunk).unwrap();
+        chunk.len()
+    }
+
+    fn end(&self, _out: &mut Vec<u8>) {}
+}

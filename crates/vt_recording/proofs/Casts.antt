@@ -1,0 +1,214 @@
+-- The lines of a recording by asciinema, one after another.
+use Rattle.std.proofs.Common.{◌≡◌, ◌+◌, ◌≤◌, ◌++◌, ◌∷◌, ◌∙◌, [], ℕ, suc, List, length, take, drop, Bool, true, false, Option, Some, None, cond, refl, sym, ap, arith, append-nil, append_assoc, nat_eq, nat_lt}
+use Rattle.std.specs.List.{position_or_len}
+use Rattle.std.proofs.lemmas.List.{length-take-le, take_all, drop_all, drop-drop}
+use Rattle.std.proofs.lemmas.Bool.Decides.{nat_tests}
+use Rattle.vt_recording.specs.declared.format.Moment.{Moment}
+use Rattle.vt_recording.specs.declared.format.Moment.TheVariants.{Micros, Bytes}
+use Rattle.vt_recording.specs.Moment.{cut, micros_of}
+use Rattle.vt_recording.specs.Characters.{AreWritten}
+use Rattle.vt_recording.specs.declared.format.Break.{Break}
+use Rattle.vt_recording.specs.Taken.{IsOfCast, in_recording}
+use Rattle.vt_recording.specs.Lines.{lines_of, put_before, front_by, front_line}
+use Rattle.vt_recording.specs.Asciicast.{Cast, after, and_then, time_behind, heard_in, is_silent, event_in, cast_of, cast_by, asciicast, version_in, Event}
+
+-- the place of the first LF, or the length
+abbrev pub feed_at : List ℕ → ℕ
+feed_at xs = position_or_len (λ b. nat_eq b 0x0A) xs
+
+-- the first line and those after it
+abbrev pub cut_at : Option ℕ → List ℕ → List (List ℕ)
+cut_at None xs = xs ∷ []
+cut_at (Some n) xs = take n xs ∷ lines_of (drop (n + 1) xs)
+
+abbrev pub place : (n most : ℕ) → Option ℕ
+place n most = cond (nat_lt n most) (Some n) None
+
+put_one : (x : ℕ) (xs : List ℕ) (n most : ℕ) (is : Bool) → nat_lt n most ≡ is
+    → put_before x false (cut_at (place n most) xs) ≡ cut_at (place (1 + n) (suc most)) (x ∷ xs)
+put_one x xs n most true is =
+    let f : 1 + n ≡ suc n = omega arith in
+    let more : nat_lt (suc n) (suc most) ≡ true = grind (arith, nat_tests, is) in
+    let g : suc n + 1 ≡ suc (n + 1) = omega arith in
+    rw (f, is, more, g) refl
+put_one x xs n most false is =
+    let f : 1 + n ≡ suc n = omega arith in
+    let more : nat_lt (suc n) (suc most) ≡ false = grind (arith, nat_tests, is) in
+    rw (f, is, more) refl
+
+by_byte : (x : ℕ) (xs : List ℕ) (ends : Bool) → nat_eq x 0x0A ≡ ends
+    → lines_of xs ≡ cut_at (place (feed_at xs) (length xs)) xs
+    → put_before x ends (lines_of xs) ≡ cut_at (place (feed_at (x ∷ xs)) (length (x ∷ xs))) (x ∷ xs)
+by_byte x xs true is more =
+    let some : nat_lt 0 (suc (length xs)) ≡ true = grind (arith, nat_tests) in
+    rw (is, some) refl
+by_byte x xs false is more = rw (is, more) (put_one x xs (feed_at xs) (length xs) _ refl)
+
+pub lines_cut : (xs : List ℕ) → lines_of xs ≡ cut_at (place (feed_at xs) (length xs)) xs
+unfolding lines_of
+lines_cut [] = refl
+lines_cut (x ∷ xs) = by_byte x xs (nat_eq x 0x0A) refl (lines_cut xs)
+
+module _ (version : ℕ) (until : Option ℕ) where
+  -- what comes after a line of n bytes that begins at this byte
+  abbrev behind : (at n : ℕ) → List ℕ → ℕ → Cast
+  behind at n xs now = cast_of version until now (at + (n + 1)) (lines_of (drop (n + 1) xs))
+
+  abbrev of_line : (clock at : ℕ) → List ℕ → (ℕ → Cast) → Cast
+  of_line clock at line rest =
+      and_then (time_behind (is_silent version line) (event_in line) version clock)
+      (heard_in (is_silent version line) (event_in line) version until clock) at rest
+
+  cut_front : (clock at : ℕ) (xs : List ℕ) (n : ℕ) (is : Bool) → nat_lt n (length xs) ≡ is
+      → cast_of version until clock at (cut_at (place n (length xs)) xs)
+      ≡ of_line clock at (front_by (place n (length xs)) xs)
+      (behind at (length (front_by (place n (length xs)) xs)) xs)
+  unfolding cast_of lines_of
+  cut_front clock at xs n false is =
+      let all : drop (length xs + 1) xs ≡ [] = drop_all (length xs + 1) xs (omega arith) in
+      rw is (ap (λ (l : List ℕ). of_line clock at xs (λ now. cast_of version until now (at + (length xs + 1)) (lines_of l)))
+      (sym all))
+  cut_front clock at xs n true is =
+      let small : n ≤ length xs = grind (arith, nat_tests, is) in
+      rw (is, length-take-le n xs small) refl
+
+  -- the first line and then the others
+  of_front : (clock at : ℕ) (xs : List ℕ)
+      → cast_of version until clock at (lines_of xs)
+      ≡ of_line clock at (front_line xs) (behind at (length (front_line xs)) xs)
+  of_front clock at xs =
+      ap (cast_of version until clock at) (lines_cut xs) ∙ cut_front clock at xs (feed_at xs) _ refl
+
+-- a line that breaks the format has no characters
+nothing_heard : (silent : Bool) (event : Option Event) (version : ℕ) (until : Option ℕ) (clock : ℕ)
+    → None ≡ time_behind silent event version clock → heard_in silent event version until clock ≡ []
+nothing_heard true event version until clock t = refl
+nothing_heard false None version until clock t = refl
+nothing_heard false (Some e) version until clock t = grind (arith, t)
+
+pub record Played (version : ℕ) (until : Option Moment) (text : List ℕ) (clock at : ℕ) (whole : Cast) (bytes : List ℕ)
+    (replaced : ℕ) : Type 0 where
+  pub front : List ℕ
+  pub ahead : whole ≡ after front (cast_of version (micros_of until) clock at (lines_of (drop at text)))
+  pub written : AreWritten (cut until front) bytes replaced
+
+after_both : (p q : List ℕ) (cast : Cast) → after p (after q cast) ≡ after (p ++ q) cast
+after_both p q cast =
+    ap (λ (l : List ℕ). record { characters = l; broken = cast.broken }) (sym (append_assoc p q cast.characters))
+
+cut_nothing : (until : Option Moment) → cut until [] ≡ []
+cut_nothing None = refl
+cut_nothing (Some (Micros n)) = refl
+cut_nothing (Some (Bytes n)) = take_all n [] (omega arith)
+
+pub none_played : (version : ℕ) (until : Option Moment) (text : List ℕ) (from : ℕ) (bytes : List ℕ) (n : ℕ)
+    → bytes ≡ [] → n ≡ 0
+    → Played version until text 0 from (cast_of version (micros_of until) 0 from (lines_of (drop from text))) bytes n
+none_played version until text from bytes n e z = record {
+  front = [];
+  ahead = refl;
+  written = rw (e, z, cut_nothing until) (record { bytes_are = refl; replaced_are = refl });
+}
+
+module _ (version : ℕ) (until : Option Moment) (text : List ℕ) (clock at : ℕ) (whole : Cast) (bytes : List ℕ) (n : ℕ)
+    (p : Played version until text clock at whole bytes n) where
+  -- the line at this byte and then the others
+  step : (line : List ℕ) (time : Option ℕ) → line ≡ front_line (drop at text)
+      → time ≡ time_behind (is_silent version line) (event_in line) version clock
+      → cast_of version (micros_of until) clock at (lines_of (drop at text))
+      ≡ and_then time (heard_in (is_silent version line) (event_in line) version (micros_of until) clock) at
+      (behind version (micros_of until) at (length line) (drop at text))
+  step line time e t = rw (t, e) (of_front version (micros_of until) clock at (drop at text))
+
+  pub played_more : (line : List ℕ) (now : ℕ) (more : List ℕ) (m : ℕ) → line ≡ front_line (drop at text)
+      → Some now ≡ time_behind (is_silent version line) (event_in line) version clock
+      → ((front : List ℕ) → AreWritten (cut until front) bytes n
+      → AreWritten (cut until (front ++ heard_in (is_silent version line) (event_in line) version (micros_of until) clock))
+      more m)
+      → Played version until text now (at + (length line + 1)) whole more m
+  played_more line now more m e t w = record {
+    front = p.front ++ heard_in (is_silent version line) (event_in line) version (micros_of until) clock;
+    ahead =
+        p.ahead ∙ ap (after p.front) (step line (Some now) e t)
+        ∙ after_both p.front _ (behind version (micros_of until) at (length line) (drop at text) now)
+        ∙ ap (λ (l : List ℕ). after (p.front ++ heard_in (is_silent version line) (event_in line) version (micros_of until) clock)
+        (cast_of version (micros_of until) now (at + (length line + 1)) (lines_of l))) (drop-drop (length line + 1) at text);
+    written = w p.front p.written;
+  }
+
+  -- nothing more comes
+  ended : (broken : Option ℕ) (more : List ℕ) (m : ℕ)
+      → cast_of version (micros_of until) clock at (lines_of (drop at text))
+      ≡ record { characters = []; broken = broken }
+      → AreWritten (cut until p.front) more m
+      → (whole.broken ≡ broken) × AreWritten (cut until whole.characters) more m
+  ended broken more m e w =
+      let all = p.ahead ∙ ap (after p.front) e in
+      let front : whole.characters ≡ p.front = ap (λ (w : Cast). w.characters) all ∙ append-nil p.front in
+      (ap (λ (w : Cast). w.broken) all, rw front w)
+
+  pub played_break : (line : List ℕ) (more : List ℕ) (m : ℕ) → line ≡ front_line (drop at text)
+      → None ≡ time_behind (is_silent version line) (event_in line) version clock
+      → ((front : List ℕ) → AreWritten (cut until front) bytes n
+      → AreWritten (cut until (front ++ heard_in (is_silent version line) (event_in line) version (micros_of until) clock))
+      more m)
+      → (whole.broken ≡ Some at) × AreWritten (cut until whole.characters) more m
+  played_break line more m e t w =
+      let none = nothing_heard (is_silent version line) (event_in line) version (micros_of until) clock t in
+      ended (Some at) more m (step line None e t)
+      (rw (none, append-nil) at (w p.front p.written))
+
+  pub played_end : length text ≤ at → (whole.broken ≡ None) × AreWritten (cut until whole.characters) bytes n
+  unfolding cast_of lines_of
+  played_end h =
+      ended None bytes n
+      (ap (λ (l : List ℕ). cast_of version (micros_of until) clock at (lines_of l)) (drop_all at text h)) p.written
+
+-- the header and the lines after it
+by_version : (version : Option ℕ) (until : Option ℕ) (at : ℕ)
+    → cast_by version until at [] ≡ cast_by version until at (lines_of [])
+unfolding cast_of lines_of
+by_version None until at = refl
+by_version (Some version) until at = refl
+
+cut_header : (until : Option ℕ) (xs : List ℕ) (n : ℕ) (is : Bool) → nat_lt n (length xs) ≡ is
+    → asciicast until (cut_at (place n (length xs)) xs)
+    ≡ cast_by (version_in (front_by (place n (length xs)) xs)) until (length (front_by (place n (length xs)) xs) + 1)
+    (lines_of (drop (length (front_by (place n (length xs)) xs) + 1) xs))
+cut_header until xs n false is =
+    let all : drop (length xs + 1) xs ≡ [] = drop_all (length xs + 1) xs (omega arith) in
+    rw is (by_version (version_in xs) until (length xs + 1)
+    ∙ ap (λ (l : List ℕ). cast_by (version_in xs) until (length xs + 1) (lines_of l)) (sym all))
+cut_header until xs n true is =
+    let small : n ≤ length xs = grind (arith, nat_tests, is) in
+    rw (is, length-take-le n xs small) refl
+
+pub of_header : (until : Option ℕ) (xs : List ℕ)
+    → asciicast until (lines_of xs)
+    ≡ cast_by (version_in (front_line xs)) until (length (front_line xs) + 1)
+    (lines_of (drop (length (front_line xs) + 1) xs))
+of_header until xs = ap (asciicast until) (lines_cut xs) ∙ cut_header until xs (feed_at xs) _ refl
+
+module _ (until : Option Moment) (text header content : List ℕ) (broken : Option Break) (replaced : ℕ)
+    (is : header ≡ front_line text) where
+  by_header : (version : Option ℕ) → version ≡ version_in header
+      → asciicast (micros_of until) (lines_of text)
+      ≡ cast_by version (micros_of until) (length header + 1) (lines_of (drop (length header + 1) text))
+  by_header version v = rw (v, is) (of_header (micros_of until) text)
+
+  pub taken_none : None ≡ version_in header → content ≡ [] → replaced ≡ 0 → broken ≡ in_recording (Some 0)
+      → IsOfCast (asciicast (micros_of until) (lines_of text)) until content broken replaced
+  taken_none v c r b = rw (by_header None v) (record {
+    wanted = rw (c, r, cut_nothing until) (record { bytes_are = refl; replaced_are = refl });
+    breaks = b;
+  })
+
+  pub taken_some : (version : ℕ) (at : Option ℕ) → Some version ≡ version_in header
+      → at ≡ (cast_of version (micros_of until) 0 (length header + 1) (lines_of (drop (length header + 1) text))).broken
+      → AreWritten (cut until (cast_of version (micros_of until) 0 (length header + 1) (lines_of (drop (length header + 1) text))).characters) content replaced
+      → broken ≡ in_recording at
+      → IsOfCast (asciicast (micros_of until) (lines_of text)) until content broken replaced
+  taken_some version at v b w is_at = rw (by_header (Some version) v) (record {
+    wanted = w;
+    breaks = is_at ∙ ap in_recording b;
+  })

@@ -1,0 +1,9 @@
+use Rattle.std.proofs.Common.{◌≡◌, ◌<◌, ◌^◌, take}
+use Rattle.vt_recording.specs.Seconds.{value}
+use Rattle.vt_recording.proofs.seconds.value.Given as goal
+
+abbrev pub invariant-loop-digit : goal.invariant-loop-digit
+invariant-loop-digit l = record {
+  so_far : l.n ≡ value (take l.digit-index l.digits);
+  small : l.n < 10 ^ l.digit-index;
+}

@@ -1,0 +1,22 @@
+-- What is wanted up to a moment. (this profile)
+use Rattle.std.specs.Prelude.{ℕ, List, take, Bool, false, nat_le, Option, Some, None}
+use Rattle.vt_recording.specs.declared.format.Moment.{Moment}
+use Rattle.vt_recording.specs.declared.format.Moment.TheVariants.{Micros, Bytes}
+
+-- the microseconds of a moment that is a time
+abbrev pub micros_of : Option Moment → Option ℕ
+micros_of (Some (Micros n)) = Some n
+micros_of (Some (Bytes n)) = None
+micros_of None = None
+
+-- the first so many, if the moment is a number of bytes
+abbrev pub cut : Option Moment → List ℕ → List ℕ
+cut (Some (Micros n)) xs = xs
+cut (Some (Bytes n)) xs = take n xs
+cut None xs = xs
+
+-- so many bytes are all that is wanted
+abbrev pub is_full : Option Moment → (count : ℕ) → Bool
+is_full (Some (Micros n)) count = false
+is_full (Some (Bytes n)) count = nat_le n count
+is_full None count = false

@@ -1,0 +1,161 @@
+//! A recording by asciinema.
+ghost use Rattle.std.specs.Prelude.{◌≡◌, ◌≤◌, ◌++◌, [], ℕ, List, length, IfOk, IfErr, option_map, OnOk, IfSome, IfNone, MatchOption};
+ghost use Rattle.json.specs.Lex.{tokens};
+ghost use Rattle.json.specs.Value.{value_view};
+ghost use Rattle.json.specs.Json.{document};
+ghost use Rattle.json.specs.Reads.{token_of};
+ghost use Rattle.vt_recording.specs.Asciicast.{version_of, version_in, event_of, event_in, is_silent, clock_after, in_time};
+ghost use Rattle.vt_recording.specs.Asciicast.{begins_array, ends_array, number_in, string_in, event_from, is_text};
+ghost use Rattle.vt_recording.specs.Events.{event_view};
+
+use crate::seconds::micros_of_number;
+use json::{Error, Reader, Scratch, Token, Value};
+use std::alloc::{AllocError, Global};
+
+/// An event of a recording.
+#[derive(Drop)]
+pub(crate) struct Event<'a> {
+    /// The number of its line, in microseconds.
+    pub(crate) micros: u64,
+    /// Whether it is output.
+    pub(crate) is_output: bool,
+    /// Its text.
+    pub(crate) text: &'a str,
+}
+
+/// Returns the version that an object names, if it is 2 or 3.
+fn version_of(object: &Value<'_>) -> Option<u64>
+    ensures { result ≡ version_of (value_view object.now) }
+{
+    match object.get("version")?.as_number()? {
+        "2" => Some(2),
+        "3" => Some(3),
+        _ => None,
+    }
+}
+
+/// Returns the version in a line, if it is the first line of a recording.
+pub(crate) fn version_in(
+    alloc: Global,
+    line: &[u8],
+    scratch: &mut Scratch,
+) -> Result<Option<u64>, AllocError>
+    ensures { IfOk result (λ version. version ≡ version_in line.now) }
+{
+    let Ok(text) = std::str::from_utf8(line) else {
+        return Ok(None);
+    };
+    match Value::parse(alloc, text, scratch) {
+        Ok(object) => Ok(version_of(&object)),
+        Err(Error::Invalid) => Ok(None),
+        Err(_) => Err(AllocError),
+    }
+}
+
+/// Returns whether an array begins.
+fn begins_array(token: &Token<'_>) -> bool
+    ensures { result ≡ begins_array (token_of token.now) }
+{
+    matches!(token, Token::BeginArray)
+}
+
+/// Returns whether an array ends.
+fn ends_array(token: &Token<'_>) -> bool
+    ensures { result ≡ ends_array (token_of token.now) }
+{
+    matches!(token, Token::EndArray)
+}
+
+/// Returns the text of a number.
+fn number_in<'a>(token: Token<'a>) -> Option<&'a str>
+    ensures { option_map (λ s. s.now) result ≡ number_in (token_of token.entry) }
+{
+    match token {
+        Token::Number(text) => Some(text),
+        _ => None,
+    }
+}
+
+/// Returns a string.
+fn string_in<'a>(token: Token<'a>) -> Option<&'a str>
+    ensures { option_map (λ s. s.now) result ≡ string_in (token_of token.entry) }
+{
+    match token {
+        Token::String(text) => Some(text),
+        _ => None,
+    }
+}
+
+/// Returns the event of a number and two strings.
+fn event_from<'a>(time: Token<'a>, code: Token<'a>, text: Token<'a>) -> Option<Event<'a>>
+    ensures { option_map event_view result
+        ≡ event_from (number_in (token_of time.entry)) (string_in (token_of code.entry)) (string_in (token_of text.entry)) }
+{
+    let micros = micros_of_number(number_in(time)?.as_bytes())?;
+    let code = string_in(code)?;
+    let text = string_in(text)?;
+    Some(Event {
+        micros,
+        is_output: code == "o",
+        text,
+    })
+}
+
+/// Returns the event that the tokens are, if they are one.
+fn event_of<'a>(reader: &mut Reader<'a>) -> Option<Event<'a>>
+    ensures { option_map event_view result ≡ event_of reader.old }
+{
+    let begin = reader.next()?;
+    let time = reader.next()?;
+    let code = reader.next()?;
+    let text = reader.next()?;
+    let end = reader.next()?;
+    if reader.next().is_some() || !begins_array(&begin) || !ends_array(&end) {
+        return None;
+    }
+    event_from(time, code, text)
+}
+
+/// Returns the event in a line, if there is one.
+pub(crate) fn event_in<'a>(
+    line: &'a [u8],
+    scratch: &'a mut Scratch,
+) -> Result<Option<Event<'a>>, AllocError>
+    ensures { IfOk result (λ event. option_map event_view event ≡ event_in line.entry.now) }
+{
+    let Ok(text) = std::str::from_utf8(line) else {
+        return Ok(None);
+    };
+    match Reader::new(text, scratch) {
+        Ok(mut reader) => Ok(event_of(&mut reader)),
+        Err(AllocError) => Err(AllocError),
+    }
+}
+
+/// Returns whether a line has no event: it is empty, or a comment of version 3.
+pub(crate) fn is_silent(version: u64, line: &[u8]) -> bool
+    ensures { result ≡ is_silent version line.now }
+{
+    line.is_empty() || (version == 3 && line.starts_with(b"#"))
+}
+
+/// Returns the time of an event, whose number counts from the event before in version 3.
+pub(crate) fn clock_after(version: u64, clock: u64, micros: u64) -> u64
+    ensures { result ≡ clock_after version clock micros }
+{
+    if version == 3 {
+        clock.saturating_add(micros)
+    } else {
+        micros
+    }
+}
+
+/// Returns whether a time isn't after the moment.
+pub(crate) fn in_time(until: Option<u64>, time: u64) -> bool
+    ensures { result ≡ in_time until time }
+{
+    match until {
+        None => true,
+        Some(until) => time <= until,
+    }
+}

@@ -1,0 +1,113 @@
+//! The content of a recording by asciinema.
+ghost use Rattle.std.specs.Prelude.{◌≡◌, ◌≤◌, ◌+◌, ◌++◌, [], ℕ, List, length, drop, IfOk, OnOk};
+ghost use Rattle.vt_recording.specs.Moment.{cut, micros_of};
+ghost use Rattle.vt_recording.specs.Characters.{AreWritten};
+ghost use Rattle.vt_recording.specs.Lines.{lines_of};
+ghost use Rattle.vt_recording.specs.Asciicast.{is_silent, event_in, time_behind, heard_in, cast_of, asciicast};
+ghost use Rattle.vt_recording.specs.Taken.{IsOfCast, in_recording};
+
+use crate::asciicast::{clock_after, event_in, in_time, is_silent, version_in};
+use crate::characters::Written;
+use crate::format::{Moment, Taken};
+use crate::lines::front_line;
+use crate::moment::micros_of;
+use crate::taking::in_recording;
+use json::Scratch;
+use std::alloc::{AllocError, Global};
+
+/// Writes the characters of a line that are wanted, and returns the time after it. Returns `None` if it isn't an event.
+fn play_line(
+    line: &[u8],
+    version: u64,
+    until: Option<Moment>,
+    clock: u64,
+    scratch: &mut Scratch,
+    written: &mut Written,
+) -> Result<Option<u64>, AllocError>
+    requires { written.old.replaced ≤ length written.old.bytes.items }
+    ensures bound { OnOk result (written.new.replaced ≤ length written.new.bytes.items) }
+    ensures time { IfOk result (λ time. time
+        ≡ time_behind (is_silent version line.now) (event_in line.now) version clock) }
+    ensures written { OnOk result ((front : List ℕ)
+        → AreWritten (cut until front) written.old.bytes.items written.old.replaced
+        → AreWritten (cut until (front ++ heard_in (is_silent version line.now) (event_in line.now) version (micros_of until) clock))
+        written.new.bytes.items written.new.replaced) }
+{
+    if is_silent(version, line) {
+        return Ok(Some(clock));
+    }
+    match event_in(line, scratch) {
+        Ok(Some(event)) => {
+            let now = clock_after(version, clock, event.micros);
+            if event.is_output && in_time(micros_of(until), now) {
+                written.push_text(event.text, until)?;
+            }
+            Ok(Some(now))
+        }
+        Ok(None) => Ok(None),
+        Err(AllocError) => Err(AllocError),
+    }
+}
+
+/// Writes the characters of the lines from an offset on, and returns the offset of a line that isn't an event.
+fn play_lines(
+    bytes: &[u8],
+    from: usize,
+    version: u64,
+    until: Option<Moment>,
+    scratch: &mut Scratch,
+    written: &mut Written,
+) -> Result<Option<usize>, AllocError>
+    requires from_in_range { from ≤ length bytes.now + 1 }
+    requires no_bytes { written.old.bytes.items ≡ [] }
+    requires none_replaced { written.old.replaced ≡ 0 }
+    ensures broken { IfOk result (λ broken. broken
+        ≡ (cast_of version (micros_of until) 0 from (lines_of (drop from bytes.now))).broken) }
+    ensures written { OnOk result
+        (AreWritten (cut until (cast_of version (micros_of until) 0 from (lines_of (drop from bytes.now))).characters)
+        written.new.bytes.items written.new.replaced) }
+{
+    let mut at = from;
+    let mut clock = 0;
+    while at < bytes.len() {
+        let line = front_line(&bytes[at..]);
+        match play_line(line, version, until, clock, scratch, written)? {
+            Some(now) => clock = now,
+            None => return Ok(Some(at)),
+        }
+        at += line.len() + 1;
+    }
+    Ok(None)
+}
+
+/// Returns the content of the events up to `until`.
+pub(crate) fn asciicast_content(
+    alloc: Global,
+    bytes: &[u8],
+    until: Option<Moment>,
+) -> Result<Taken, AllocError>
+    ensures { IfOk result (λ t. IsOfCast (asciicast (micros_of until) (lines_of bytes.now)) until t.content.items t.broken t.replaced) }
+{
+    let mut scratch = Scratch::new(alloc);
+    let mut written = Written::new(alloc);
+    let header = front_line(bytes);
+    let Some(version) = version_in(alloc, header, &mut scratch)? else {
+        return Ok(taken_of(written, Some(0)));
+    };
+    let from = header.len() + 1;
+    let broken = play_lines(bytes, from, version, until, &mut scratch, &mut written)?;
+    Ok(taken_of(written, broken))
+}
+
+/// Returns what was written, and the place of a break.
+fn taken_of(written: Written, broken: Option<usize>) -> Taken
+    ensures content { result.content.items ≡ written.bytes.items }
+    ensures broken { result.broken ≡ in_recording broken }
+    ensures replaced { result.replaced ≡ written.replaced }
+{
+    Taken {
+        content: written.bytes,
+        broken: in_recording(broken),
+        replaced: written.replaced,
+    }
+}

@@ -1,0 +1,26 @@
+//! What is wanted up to a moment.
+ghost use Rattle.std.specs.Prelude.{◌≡◌};
+ghost use Rattle.vt_recording.specs.Moment.{micros_of, cut};
+
+use crate::format::Moment;
+
+/// Returns the time of a moment, if it is one.
+pub(crate) fn micros_of(until: Option<Moment>) -> Option<u64>
+    ensures { result ≡ micros_of until }
+{
+    match until {
+        Some(Moment::Micros(micros)) => Some(micros),
+        Some(Moment::Bytes(_)) => None,
+        None => None,
+    }
+}
+
+/// Returns the bytes up to the moment, if that is a number of bytes. Otherwise it returns all of them.
+pub(crate) fn cut(until: Option<Moment>, mut bytes: Vec<u8>) -> Vec<u8>
+    ensures { result.items ≡ cut until bytes.items }
+{
+    if let Some(Moment::Bytes(count)) = until {
+        bytes.truncate(count as usize);
+    }
+    bytes
+}

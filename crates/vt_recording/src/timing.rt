@@ -1,0 +1,218 @@
+//! The timing file of script(1).
+ghost use Rattle.std.specs.Prelude.{◌≡◌, ◌≤◌, ◌<◌, ◌+◌, ◌++◌, [], length, take, drop, nat_eq, option_map, IfOk, IfNone, IfSome, OnOk};
+ghost use Rattle.std.specs.List.{position};
+ghost use Rattle.vt_recording.specs.Script.{first_line};
+ghost use Rattle.vt_recording.specs.Lines.{lines_of};
+ghost use Rattle.vt_recording.specs.Moment.{micros_of};
+ghost use Rattle.vt_recording.specs.Timing.{space_in, chunk_in, note_in, step_in, break_in, spot_after, played_in, is_empty};
+ghost use Rattle.vt_recording.specs.Timing.{replay_of, start, joint_at, first_break, IsTimedAfter};
+ghost use Rattle.vt_recording.specs.Steps.{step_view, spot_of};
+
+use crate::asciicast::in_time;
+use crate::format::{Break, Moment, Part, Taken};
+use crate::lines::front_line;
+use crate::moment::{cut, micros_of};
+use crate::script::{end_of, first_line, is_joint};
+use crate::seconds::{micros, number};
+use std::alloc::{AllocError, Global};
+
+/// A line of a timing file.
+#[derive(Clone, Copy, Debug, PartialEq, Eq)]
+struct Step {
+    /// The microseconds since the line before.
+    micros: u64,
+    /// Whether it is output.
+    is_output: bool,
+    /// The number of bytes.
+    count: usize,
+}
+
+/// Returns the index of the first space.
+fn space_in(text: &[u8]) -> Option<usize>
+    ensures value { result ≡ space_in text.now }
+    ensures within { IfSome result (λ at. at < length text.now) }
+{
+    text.iter().position(|b| *b == b' ')
+}
+
+/// Returns the step of seconds and a number of bytes.
+fn chunk_in(is_output: bool, text: &[u8]) -> Option<Step>
+    ensures { option_map step_view result ≡ chunk_in is_output text.now }
+{
+    let at = space_in(text)?;
+    let micros = micros(&text[..at])?;
+    let count = number(9, &text[at + 1..])? as usize;
+    Some(Step {
+        micros,
+        is_output,
+        count,
+    })
+}
+
+/// Returns the step of seconds and a text.
+fn note_in(text: &[u8]) -> Option<Step>
+    ensures { option_map step_view result ≡ note_in text.now }
+{
+    let at = space_in(text)?;
+    let micros = micros(&text[..at])?;
+    Some(Step {
+        micros,
+        is_output: false,
+        count: 0,
+    })
+}
+
+/// Returns the step of a line, with a type or without one.
+fn step_in(line: &[u8]) -> Option<Step>
+    ensures { option_map step_view result ≡ step_in line.now }
+{
+    if line.starts_with(b"O ") {
+        chunk_in(true, &line[2..])
+    } else if line.starts_with(b"I ") {
+        chunk_in(false, &line[2..])
+    } else if line.starts_with(b"S ") || line.starts_with(b"H ") {
+        note_in(&line[2..])
+    } else {
+        chunk_in(true, line)
+    }
+}
+
+/// The output of a session so far.
+#[derive(Drop)]
+struct Replay {
+    /// The time, in microseconds.
+    clock: u64,
+    /// The number of bytes of the session that were taken.
+    place: usize,
+    /// The output.
+    content: Vec<u8>,
+}
+
+impl Replay {
+    /// Plays a line that begins at `at`, and returns its break. `stop` is the end of the session in its file.
+    fn play(
+        &mut self,
+        line: &[u8],
+        session: &[u8],
+        until: Option<u64>,
+        stop: u64,
+        at: u64,
+    ) -> Result<Option<Break>, AllocError>
+        requires { self.old.place ≤ length session.now }
+        ensures breaks { IfOk result (λ b. b ≡ break_in (is_empty line.now) (step_in line.now) session.now self.old.place stop at) }
+        ensures content { IfOk result (λ b. IfNone b (self.new.content.items
+            ≡ self.old.content.items ++ played_in (is_empty line.now) (step_in line.now) session.now until (spot_of self.old))) }
+        ensures spot { IfOk result (λ b. IfNone b (spot_of self.new
+            ≡ spot_after (is_empty line.now) (step_in line.now) (spot_of self.old))) }
+        ensures within { IfOk result (λ b. IfNone b (self.new.place ≤ length session.now)) }
+        ensures kept { IfOk result (λ b. IfSome b (λ _. self.new.content.items ≡ self.old.content.items)) }
+    {
+        if line.is_empty() {
+            return Ok(None);
+        }
+        let Some(step) = step_in(line) else {
+            return Ok(Some(Break {
+                part: Part::Timing,
+                at,
+            }));
+        };
+        if session.len() - self.place < step.count {
+            return Ok(Some(Break {
+                part: Part::Recording,
+                at: stop,
+            }));
+        }
+        let from = self.place;
+        self.clock = self.clock.saturating_add(step.micros);
+        self.place += step.count;
+        if step.is_output && in_time(until, self.clock) {
+            self.content.extend_from_slice(&session[from..self.place])?;
+        }
+        Ok(None)
+    }
+}
+
+/// Plays the lines of a timing file, and returns the first break.
+fn play_lines(
+    timing: &[u8],
+    session: &[u8],
+    until: Option<u64>,
+    stop: u64,
+    content: Vec<u8>,
+) -> Result<(Vec<u8>, Option<Break>), AllocError>
+    requires { content.items ≡ [] }
+    ensures content { IfOk result (λ r. r.0.items ≡ (replay_of session.now stop until start 0 (lines_of timing.now)).content) }
+    ensures broken { IfOk result (λ r. r.1 ≡ (replay_of session.now stop until start 0 (lines_of timing.now)).broken) }
+{
+    let mut replay = Replay {
+        clock: 0,
+        place: 0,
+        content,
+    };
+    let mut at = 0;
+    while at < timing.len() {
+        let line = front_line(&timing[at..]);
+        if let Some(place) = replay.play(line, session, until, stop, at as u64)? {
+            return Ok((replay.content, Some(place)));
+        }
+        at += line.len() + 1;
+    }
+    Ok((replay.content, None))
+}
+
+/// Returns the place of a session that `script -a` appended after `end`.
+fn joint_at(body: &[u8], end: usize, stop: u64) -> Option<Break>
+    requires { end ≤ length body.now }
+    ensures { result ≡ joint_at body.now end stop }
+{
+    if is_joint(&body[end..]) {
+        Some(Break {
+            part: Part::Recording,
+            at: stop,
+        })
+    } else {
+        None
+    }
+}
+
+/// Returns the first of two breaks.
+fn first_break(first: Option<Break>, second: Option<Break>) -> Option<Break>
+    ensures { result ≡ first_break first second }
+{
+    match first {
+        None => second,
+        Some(place) => Some(place),
+    }
+}
+
+/// Returns the content that a timing file takes from a recording.
+pub(crate) fn timed_content(
+    alloc: Global,
+    bytes: &[u8],
+    timing: &[u8],
+    until: Option<Moment>,
+) -> Result<Taken, AllocError>
+    ensures taken { IfOk result (λ t. IsTimedAfter (first_line bytes.now) until bytes.now timing.now t.content.items t.broken) }
+    ensures replaced { IfOk result (λ t. t.replaced ≡ 0) }
+{
+    let content = Vec::new(alloc);
+    let Some(line) = first_line(bytes) else {
+        return Ok(Taken {
+            content,
+            broken: Some(Break {
+                part: Part::Recording,
+                at: 0,
+            }),
+            replaced: 0,
+        });
+    };
+    let body = &bytes[line + 1..];
+    let end = end_of(body);
+    let stop = (line + 1 + end) as u64;
+    let (content, broken) = play_lines(timing, &body[..end], micros_of(until), stop, content)?;
+    Ok(Taken {
+        content: cut(until, content),
+        broken: first_break(broken, joint_at(body, end, stop)),
+        replaced: 0,
+    })
+}

@@ -1,0 +1,112 @@
+use Rattle.std.proofs.Common.{◌≡◌, ℕ, ◌≤◌, ◌<◌, List, [], length, take, nat_lt, true, false, ap, refl, ◌∙◌}
+use Rattle.std.proofs.Common.{arith, append-nil, length-append, length-drop}
+use Rattle.std.proofs.lemmas.List.{length-take, take-append-le}
+use Rattle.std.proofs.lemmas.Grind.{common_steps}
+use Rattle.std.proofs.KnownBytes.{Consumes-trans}
+use Rattle.std.proofs.lemmas.Bool.Decides.{nat_tests}
+use Rattle.vt_replay.proofs.Steps.{Moves-step, counted, passed, within-limit}
+use Rattle.vt_replay.proofs.OutputSteps.{then_more, chunk_written, chunk_cut}
+use Rattle.vt_replay.proofs.output.write_coming.Goals as goal
+
+pub loop-left-preserved : goal.loop-left-preserved
+loop-left-preserved g c =
+    let gives = c.if-not-write_chunk.ensures.gives in
+    let long = simp length-take at c.read.auto.buf in
+    let bound : c.in-Ok.count ≤ length c.read.new.buf = c.in-Ok.ensures.bound.0 in
+    let within : c.in-Ok.count ≤ c.loop-left.left = omega (arith, long, bound, c.min-want.ensures) in
+    let after = rw take-append-le at c.if-not-write_chunk.ensures.after in
+    let writes = rw take-append-le at gives.holds.1 in
+    let counts = simp length-take at c.if-not-write_chunk.ensures.counted in
+    record {
+      moved = Moves-step _ _ _ _ _ _ _ _ _ gives.w c.loop-left.invariant.moved c.in-Ok.ensures.bytes.0 gives.given
+          (λ b w h. (
+            counted b _ _ _ _ h.0 bound within,
+            chunk_written (g.O.Output.written c.args.output.now) (g.O.Output.ending c.args.output.now) b _ w gives.w
+                (g.O.Output.written c.loop-left.output) (g.O.Output.ending c.loop-left.output) h.2 h.1 writes,
+            then_more (g.O.Output.written c.args.output.now) (g.O.Output.ending c.args.output.now) b _
+                (g.O.Output.written c.loop-left.output) (g.O.Output.ending c.loop-left.output) _ _ h.2 after,
+          ));
+      within = omega (arith, c.loop-left.invariant.within);
+      reader_works = grind (arith, common_steps, c.in-Ok.ensures);
+      reader_goes_on = grind (arith, common_steps, c.in-Ok.ensures);
+      writer_works = gives.holds.0;
+      most = simp (length-append, length-drop)
+          (omega (
+            arith,
+            long,
+            c.min-want.ensures,
+            c.if-not-write_chunk.ensures.most,
+            c.loop-left.invariant.most,
+          ));
+      counted = omega (arith, counts, within, c.loop-left.invariant.counted, c.loop-left.invariant.within);
+      capacity = omega (arith, c.if-not-write_chunk.ensures.capacity, c.loop-left.invariant.capacity);
+    }
+
+pub returns-then-not-write_chunk-clause-moves : goal.returns-then-not-write_chunk-clause-moves
+returns-then-not-write_chunk-clause-moves g c =
+    let gives = c.if-not-write_chunk.ensures.gives in
+    let long = simp length-take at c.read.auto.buf in
+    let bound : c.in-Ok.count ≤ length c.read.new.buf = c.in-Ok.ensures.bound.0 in
+    let within : c.in-Ok.count ≤ c.loop-left.left = omega (arith, long, bound, c.min-want.ensures) in
+    let part = rw take-append-le at gives.holds.1 in
+    let works : c.read.new.self.failed ≡ false = grind (arith, common_steps, c.in-Ok.ensures) in
+    let goes_on : c.read.new.self.ended ≡ false = grind (arith, common_steps, c.in-Ok.ensures) in
+    let short : length (take c.in-Ok.count c.read.new.buf) ≤ length c.args.buffer.now =
+    rw length-take (omega (arith, long, bound, c.min-want.ensures, c.loop-left.auto.buffer)) in
+    Moves-step _ _ _ _ _ _ _ _ _ gives.w c.loop-left.invariant.moved c.in-Ok.ensures.bytes.0 gives.given
+    (λ b w h.
+    let size = counted b _ _ _ _ h.0 bound within in (
+      record { reader_failed = works; reader_ended = goes_on; writer_failed = gives.holds.0 },
+      omega (arith, size),
+      chunk_cut (g.O.Output.written c.args.output.now) (g.O.Output.ending c.args.output.now)
+          (length c.args.buffer.now) b (take c.in-Ok.count c.read.new.buf) w gives.w
+          (g.O.Output.written c.loop-left.output) (g.O.Output.ending c.loop-left.output) h.2 h.1 short part,
+    ))
+
+pub returns-in-Ok-eq0-clause-moves : goal.returns-in-Ok-eq0-clause-moves
+returns-in-Ok-eq0-clause-moves g c =
+    let works : c.read-2.new.self.failed ≡ false = grind (arith, common_steps, c.in-Ok-eq0.ensures) in
+    let one : 0 < length (take 1 c.loop-left.buffer) =
+    rw length-take (omega (arith, c.requires.some_room, c.loop-left.auto.buffer)) in
+    let asked : nat_lt 0 (length (take 1 c.loop-left.buffer)) ≡ true = grind (arith, nat_tests) in
+    let ended : c.read-2.new.self.ended ≡ true =
+    c.in-Ok-eq0.ensures.ended ∙ rw (c.loop-left.invariant.reader_goes_on, c.in-Ok-eq0.field-0-test, asked) refl in
+    let none = rw c.in-Ok-eq0.field-0-test at c.in-Ok-eq0.ensures.bytes.0 in
+    let moved = c.loop-left.invariant.moved in
+    record {
+      b = moved.b;
+      w = moved.w;
+      taken = rw append-nil at (Consumes-trans _ _ _ moved.b [] moved.taken none);
+      given = moved.given;
+      holds = (
+        record {
+          reader_failed = works;
+          reader_ended = ended;
+          writer_failed = c.loop-left.invariant.writer_works;
+        },
+        omega (arith, moved.holds.0),
+        moved.holds.1,
+        moved.holds.2,
+      );
+    }
+
+pub returns-in-Ok-read-clause-moves : goal.returns-in-Ok-read-clause-moves
+returns-in-Ok-read-clause-moves g c =
+    let long = simp length-take at c.read-2.auto.buf in
+    let works : c.read-2.new.self.failed ≡ false = grind (arith, common_steps, c.in-Ok-read.ensures) in
+    let goes_on : c.read-2.new.self.ended ≡ false =
+    grind (arith, common_steps, c.in-Ok-read.ensures, c.in-Ok-read.field-0-test) in
+    let moved = c.loop-left.invariant.moved in
+    let total : length moved.b ≡ c.args.limit = omega (arith, moved.holds.0) in
+    record {
+      b = _;
+      w = moved.w;
+      taken = Consumes-trans _ _ _ moved.b _ moved.taken c.in-Ok-read.ensures.bytes.0;
+      given = moved.given;
+      holds = (
+        record { reader_failed = works; reader_ended = goes_on; writer_failed = c.loop-left.invariant.writer_works },
+        passed moved.b _ _ _ total c.in-Ok-read.ensures.bound.0 (omega (arith, long)) c.in-Ok-read.field-0-test.1,
+        moved.holds.1
+            ∙ ap (λ (x : List ℕ). g.O.Output.written c.args.output.now x) (within-limit moved.b _ c.args.limit total),
+      );
+    }

@@ -1,0 +1,24 @@
+use Rattle.std.proofs.Common.{◌≡◌, ◌+◌, ◌≤◌, false, length, vec_capacity}
+use Rattle.vt_device.specs.Runs.{Moves}
+use Rattle.vt_replay.specs.Output.{IsAfter}
+use Rattle.vt_replay.proofs.output.write_coming.Given as goal
+
+abbrev pub invariant-loop-left : goal.invariant-loop-left
+invariant-loop-left g l = record {
+  moved : Moves (g.R.Read.remaining l.initial.reader.device) (g.R.Read.remaining l.reader.device)
+      (g.W.Write.contents l.initial.writer.device) (g.W.Write.contents l.writer.device)
+      (λ b w.
+      (length b + l.left ≡ l.limit) × (w ≡ g.O.Output.written l.initial.output b)
+      × IsAfter (g.O.Output.written l.initial.output) (g.O.Output.ending l.initial.output) b
+      (g.O.Output.written l.output) (g.O.Output.ending l.output));
+  within : l.left ≤ l.limit;
+  reader_works : l.reader.failed ≡ false;
+  reader_goes_on : l.reader.ended ≡ false;
+  writer_works : l.writer.failed ≡ false;
+  most : length l.buffer ≤ g.O.Output.most l.output;
+  counted : g.O.Output.counted l.output + l.left ≤ l.limit;
+  capacity : vec_capacity l.initial.out ≤ vec_capacity l.out;
+}
+
+abbrev pub decreases-loop-left : goal.decreases-loop-left
+decreases-loop-left g l = l.left

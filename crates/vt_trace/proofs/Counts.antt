@@ -1,0 +1,272 @@
+-- The counts after one more event.
+use Rattle.std.proofs.Common.{◌≡◌, ◌≢◌, ℕ, zero, suc, ◌+◌, ◌-◌, ◌^◌, ◌<◌, ◌≤◌, ◌⊎◌, List, [], ◌∷◌, ◌++◌, Bool, true, false, ◌&&◌, ◌||◌, not}
+use Rattle.std.proofs.Common.{Option, Some, None, refl, sym, ap, ◌∙◌, inl, inr, arith, length, get_or, set, min, nat_eq, eqb, add-zero, append-nil, append_assoc, take, drop, length-drop, replicate}
+use Rattle.std.proofs.Math.Seq.{take-length, take-add}
+use Rattle.std.proofs.lemmas.List.{length-replicate}
+use Rattle.std.specs.Prelude.{count_by, fold, cond, ◌==◌}
+use Rattle.std.specs.List.{range_with_len, list_all}
+use Rattle.std.specs.Cmp.Lexicographic.{pointwise, bytes_decides}
+use Rattle.std.proofs.lemmas.List.{get_or-set_same, get_or-set_other}
+use Rattle.std.proofs.lemmas.Bool.Decides.{eqb_tells}
+use Rattle.std.proofs.lemmas.Bool.{eqb-true}
+use Rattle.vt_syntax.specs.declared.event.Event.{Event}
+use Rattle.std.specs.List.{flat_map}
+use Rattle.vt_syntax.specs.declared.held.Held.{Held}
+use Rattle.vt_syntax.specs.declared.held.Held.TheVariants.{Nothing}
+use Rattle.vt_syntax.specs.Reading.{events_of}
+use Rattle.vt_syntax.specs.Held.{IsHeldPart, events_from, held_from, held_after}
+use Rattle.vt_syntax.specs.Laws.{SplitLaw}
+use Rattle.vt_glyph.proofs.Lists.{all_in_range}
+use Rattle.vt_trace.specs.Names.{name_of, numbered}
+use Rattle.vt_trace.specs.Summary.{kind_number, has_name, is_ignored_kind, times_named, times_ignored, counted}
+use Rattle.vt_trace.specs.Summary.{ignored_lines, named_lines, named_line, count_line, summary}
+use Rattle.vt_trace.specs.Counted.{AreCounts, HasCounted}
+use Rattle.vt_trace.specs.declared.summary.Summary.{Summary}
+
+-- ---- one more event
+
+pub fold_one : (f : ℕ → Event → ℕ) (a : ℕ) (events : List Event) (e : Event)
+    → fold f a (events ++ e ∷ []) ≡ f (fold f a events) e
+fold_one f a [] e = refl
+fold_one f a (x ∷ events) e = fold_one f (f a x) events e
+
+pub counts_one : (p : Event → Bool) (events : List Event) (e : Event) → p e ≡ true
+    → count_by p (events ++ e ∷ []) ≡ count_by p events + 1
+counts_one p events e h =
+    fold_one (λ a x. a + cond (p x) 1 0) 0 events e ∙ ap (λ (b : Bool). count_by p events + cond b 1 0) h
+
+pub counts_none : (p : Event → Bool) (events : List Event) (e : Event) → p e ≡ false
+    → count_by p (events ++ e ∷ []) ≡ count_by p events
+counts_none p events e h =
+    fold_one (λ a x. a + cond (p x) 1 0) 0 events e ∙ ap (λ (b : Bool). count_by p events + cond b 1 0) h
+    ∙ add-zero (count_by p events)
+
+pub one_more : (n : ℕ) → counted (n + 1) ≡ min (counted n + 1) (2 ^ 64 - 1)
+one_more n = omega arith
+
+-- ---- names
+
+abbrev pub are_apart : ℕ → ℕ → Bool
+are_apart m n = eqb m n || not (pointwise nat_eq (numbered m) (numbered n))
+
+-- no two are the same
+pub apart : (i j : ℕ) → i < 75 → j < 75 → i ≢ j → pointwise nat_eq (numbered i) (numbered j) ≡ false
+apart i j low high other =
+    go (eqb i j) (pointwise nat_eq (numbered i) (numbered j)) refl (all_in_range (are_apart i) 0 75 j
+    (all_in_range (λ m. list_all (are_apart m) (range_with_len 0 75)) 0 75 i refl (omega arith) (omega (arith, low)))
+    (omega arith) (omega (arith, high)))
+  where
+    go : (e b : Bool) → eqb i j ≡ e → e || not b ≡ true → b ≡ false
+    go true b is h = absurd (other (eqb-true i j is))
+    go false true is h = absurd cc
+    go false false is h = refl
+
+-- a name is itself
+pub itself : (name : List ℕ) → pointwise nat_eq name name ≡ true
+itself name = (bytes_decides name name).1 refl
+
+-- ---- what one more event adds
+
+pub named_by : (name word : List ℕ) (e : Event) → name_of e ≡ Some word → has_name name e ≡ pointwise nat_eq name word
+named_by name word e is = ap (λ (o : Option (List ℕ)). elim o [ None ↦ false | Some other ↦ pointwise nat_eq name other ]) is
+
+pub not_ignored : (k : ℕ) (e : Event) (word : List ℕ) → name_of e ≡ Some word → is_ignored_kind k e ≡ false
+not_ignored k e word is =
+    ap (λ (o : Option (List ℕ)). (elim o [ None ↦ true | Some name ↦ false ]) && kind_number e == k) is
+
+pub not_named : (name : List ℕ) (e : Event) → name_of e ≡ None → has_name name e ≡ false
+not_named name e is = ap (λ (o : Option (List ℕ)). elim o [ None ↦ false | Some other ↦ pointwise nat_eq name other ]) is
+
+pub ignored_by : (k : ℕ) (e : Event) → name_of e ≡ None → is_ignored_kind k e ≡ (kind_number e == k)
+ignored_by k e is =
+    ap (λ (o : Option (List ℕ)). (elim o [ None ↦ true | Some name ↦ false ]) && kind_number e == k) is
+
+module _ (events : List Event) (ignored named : List ℕ) (e : Event) (counts : AreCounts events ignored named) where
+  -- an event with a name
+  pub counts-named : (n : ℕ) (more : List ℕ) → name_of e ≡ Some (numbered n) → n < 75 → length named ≡ 75
+      → more ≡ set named n (min (get_or named n 0 + 1) (2 ^ 64 - 1)) → AreCounts (events ++ e ∷ []) ignored more
+  unfolding times_named times_ignored
+  counts-named n more is within len was = record {
+    size = counts.size;
+    of_ignored = λ k. counts.of_ignored k
+        ∙ ap counted (sym (counts_none (is_ignored_kind k) events e (not_ignored k e (numbered n) is)));
+    of_named = λ k low. rw was (go k low (eqb_tells k n));
+  }
+    where
+      go : (k : ℕ) → k < 75 → ((eqb k n ≡ true) × (k ≡ n)) ⊎ ((eqb k n ≡ false) × (k ≢ n))
+          → get_or (set named n (min (get_or named n 0 + 1) (2 ^ 64 - 1))) k 0
+          ≡ counted (count_by (has_name (numbered k)) (events ++ e ∷ []))
+      go k low (inl t) =
+          rw t.1 (get_or-set_same named n _ 0 (omega (arith, within, len))
+          ∙ ap (λ m. min (m + 1) (2 ^ 64 - 1)) (counts.of_named n within)
+          ∙ sym (one_more (count_by (has_name (numbered n)) events))
+          ∙ ap counted (sym (counts_one (has_name (numbered n)) events e
+          (named_by (numbered n) (numbered n) e is ∙ itself (numbered n)))))
+      go k low (inr f) =
+          get_or-set_other named n k _ 0 f.1 ∙ counts.of_named k low
+          ∙ ap counted (sym (counts_none (has_name (numbered k)) events e
+          (named_by (numbered k) (numbered n) e is ∙ apart k n low within f.1)))
+
+  -- an event that is ignored
+  pub counts-ignored : (n : ℕ) (more : List ℕ) → name_of e ≡ None → kind_number e ≡ n
+      → n < 13312 → (n < length ignored → more ≡ set ignored n (min (get_or ignored n 0 + 1) (2 ^ 64 - 1))) → length more ≡ length ignored
+      → AreCounts (events ++ e ∷ []) more named
+  unfolding times_named times_ignored
+  counts-ignored n more is kind within inside len = record {
+    size = len ∙ counts.size;
+    of_ignored = λ k. go k (eqb_tells n k);
+    of_named = λ k low. counts.of_named k low
+        ∙ ap counted (sym (counts_none (has_name (numbered k)) events e (not_named (numbered k) e is)));
+  }
+    where
+      go : (k : ℕ) → ((eqb n k ≡ true) × (n ≡ k)) ⊎ ((eqb n k ≡ false) × (n ≢ k))
+          → get_or more k 0 ≡ counted (count_by (is_ignored_kind k) (events ++ e ∷ []))
+      go k (inl t) =
+          let size : length ignored ≡ 13312 = counts.size in
+          let place : k < length ignored = omega (arith, within, t.1, size) in
+          let set_here : more ≡ set ignored k (min (get_or ignored k 0 + 1) (2 ^ 64 - 1)) = rw t.1 at (inside (rw t.1 place)) in
+          rw set_here (get_or-set_same ignored k _ 0 place
+          ∙ ap (λ m. min (m + 1) (2 ^ 64 - 1)) (counts.of_ignored k)
+          ∙ sym (one_more (count_by (is_ignored_kind k) events))
+          ∙ ap counted (sym (counts_one (is_ignored_kind k) events e
+          (ignored_by k e is ∙ ap (λ m. m == k) kind ∙ t.0))))
+      go k (inr f) =
+          let size : length ignored ≡ 13312 = counts.size in
+          ap (λ (xs : List ℕ). get_or xs k 0) (inside (omega (arith, within, size)))
+          ∙ get_or-set_other ignored n k _ 0 (λ h. f.1 (sym h)) ∙ counts.of_ignored k
+          ∙ ap counted (sym (counts_none (is_ignored_kind k) events e
+          (ignored_by k e is ∙ ap (λ m. m == k) kind ∙ f.0)))
+
+-- ---- bytes
+
+pub nothing-held : IsHeldPart Nothing
+nothing-held = record { rest = None; is_rest = tt; of_rest = refl }
+
+-- the bytes after those counted
+pub events_more : (held : Held) (bytes front : List ℕ) → SplitLaw → held ≡ held_after bytes
+    → events_of (bytes ++ front) ≡ events_of bytes ++ events_from held front
+events_more held bytes front law is =
+    law.events_append Nothing bytes front ∙ ap (λ (h : Held). events_of bytes ++ events_from h front) (sym is)
+
+pub held_more : (held : Held) (bytes front : List ℕ) → SplitLaw → held ≡ held_after bytes
+    → held_after (bytes ++ front) ≡ held_from held front
+held_more held bytes front law is =
+    law.held_append Nothing bytes front ∙ ap (λ (h : Held). held_from h front) (sym is)
+
+-- the part of a chunk from a place on, to its end
+pub rest-of : (chunk : List ℕ) (at : ℕ) → take (length chunk - at) (drop at chunk) ≡ drop at chunk
+rest-of chunk at =
+    let e : length chunk - at ≡ length (drop at chunk) = sym (length-drop at chunk) in rw e (take-length (drop at chunk))
+
+pub counted_more : (s : Summary) (bytes chunk : List ℕ) (at n : ℕ)
+    → HasCounted ((bytes ++ take at chunk) ++ take n (drop at chunk)) s → HasCounted (bytes ++ take (at + n) chunk) s
+counted_more s bytes chunk at n was =
+    rw (take-add at n chunk, sym (append_assoc bytes (take at chunk) (take n (drop at chunk)))) was
+
+abbrev none_at : ℕ → ℕ → ℕ
+none_at n k = get_or (replicate n 0) k 0
+
+zeros : (n k : ℕ) → none_at n k ≡ 0
+zeros zero k = refl
+zeros (suc n) zero = refl
+zeros (suc n) (suc k) = zeros n k
+
+abbrev zeros_of : ℕ → List ℕ
+zeros_of n = replicate n 0
+
+zeros_long : (n : ℕ) → length (zeros_of n) ≡ n
+zeros_long n = length-replicate n zero
+
+-- no events
+pub none_counted : AreCounts [] (replicate 13312 0) (replicate 75 0)
+unfolding times_named times_ignored
+none_counted = record {
+  size = zeros_long 13312;
+  of_ignored = λ k. zeros 13312 k;
+  of_named = λ k low. zeros 75 k;
+}
+
+-- ---- lines
+
+-- one more of a range
+pub flat_range : (f : ℕ → List ℕ) (a n : ℕ)
+    → flat_map f (range_with_len a (n + 1)) ≡ flat_map f (range_with_len a n) ++ f (a + n)
+flat_range f a zero = append-nil (f a) ∙ ap f (sym (add-zero a))
+flat_range f a (suc n) =
+    let e : suc n + 1 ≡ suc (n + 1) = omega arith in
+    let place : a + 1 + n ≡ a + suc n = omega arith in
+    ap (λ m. flat_map f (range_with_len a m)) e
+    ∙ ap (λ (l : List ℕ). f a ++ l) (flat_range f (a + 1) n)
+    ∙ sym (append_assoc (f a) (flat_map f (range_with_len (a + 1) n)) (f (a + 1 + n)))
+    ∙ ap (λ k. (f a ++ flat_map f (range_with_len (a + 1) n)) ++ f k) place
+
+-- what was written of a range, and of its next number
+pub flat_more : (f : ℕ → List ℕ) (a k : ℕ) (before now more : List ℕ) → a ≤ k
+    → now ≡ before ++ flat_map f (range_with_len a (k - a)) → more ≡ now ++ f k
+    → more ≡ before ++ flat_map f (range_with_len a (k + 1 - a))
+flat_more f a k before now more low was then =
+    let n : k + 1 - a ≡ k - a + 1 = omega (arith, low) in
+    let place : a + (k - a) ≡ k = omega (arith, low) in
+    then ∙ ap (λ (l : List ℕ). l ++ f k) was
+    ∙ append_assoc before (flat_map f (range_with_len a (k - a))) (f k)
+    ∙ ap (λ m. before ++ (flat_map f (range_with_len a (k - a)) ++ f m)) (sym place)
+    ∙ ap (λ (l : List ℕ). before ++ l) (sym (flat_range f a (k - a)))
+    ∙ ap (λ m. before ++ flat_map f (range_with_len a m)) (sym n)
+
+-- the whole range
+pub flat_end : (f : ℕ → List ℕ) (a k n : ℕ) (before out : List ℕ) → k - a ≡ n
+    → out ≡ before ++ flat_map f (range_with_len a (k - a)) → out ≡ before ++ flat_map f (range_with_len a n)
+flat_end f a k n before out is was = was ∙ ap (λ m. before ++ flat_map f (range_with_len a m)) is
+
+-- the same after what was written first
+pub flat_end_after : (f : ℕ → List ℕ) (a k n : ℕ) (before first start out : List ℕ) → k - a ≡ n
+    → start ≡ before ++ first → out ≡ start ++ flat_map f (range_with_len a (k - a))
+    → out ≡ before ++ (first ++ flat_map f (range_with_len a n))
+flat_end_after f a k n before first start out is then was =
+    was ∙ ap (λ m. start ++ flat_map f (range_with_len a m)) is
+    ∙ ap (λ (l : List ℕ). l ++ flat_map f (range_with_len a n)) then
+    ∙ append_assoc before first (flat_map f (range_with_len a n))
+
+pub flat_agree : (f g : ℕ → List ℕ) (a n : ℕ) → ((k : ℕ) → a ≤ k → k < a + n → f k ≡ g k)
+    → flat_map f (range_with_len a n) ≡ flat_map g (range_with_len a n)
+flat_agree f g a zero agree = refl
+flat_agree f g a (suc n) agree =
+    let first : f a ≡ g a = agree a (omega arith) (omega arith) in
+    let rest = flat_agree f g (a + 1) n (λ k low high. agree k (omega (arith, low)) (omega (arith, high))) in
+    ap (λ (l : List ℕ). l ++ flat_map f (range_with_len (a + 1) n)) first ∙ ap (λ (l : List ℕ). g a ++ l) rest
+
+-- parts one after another
+pub chain : (before a b c x y z : List ℕ) → x ≡ before ++ a → y ≡ x ++ b → z ≡ y ++ c → z ≡ before ++ (a ++ (b ++ c))
+chain before a b c x y z first second third =
+    third ∙ ap (λ (l : List ℕ). l ++ c) second ∙ append_assoc x b c ∙ ap (λ (l : List ℕ). l ++ (b ++ c)) first
+    ∙ append_assoc before a (b ++ c)
+
+-- ---- the summary
+
+abbrev pub found_at : List ℕ → ℕ → ℕ
+found_at counts number = get_or counts number 0
+
+pub same_ignored : (events : List Event) (ignored named : List ℕ) → AreCounts events ignored named
+    → ignored_lines (found_at ignored) ≡ ignored_lines (λ number. counted (times_ignored number events))
+same_ignored events ignored named counts =
+    let same : found_at ignored ≡ (λ number. counted (times_ignored number events)) = λ i number. counts.of_ignored number i in
+    ap ignored_lines same
+
+pub same_named : (events : List Event) (ignored named : List ℕ) → AreCounts events ignored named
+    → named_lines (found_at named) ≡ named_lines (λ number. counted (times_named (numbered number) events))
+same_named events ignored named counts =
+    flat_agree (named_line (found_at named)) (named_line (λ number. counted (times_named (numbered number) events))) 0 75
+    (λ k low high. ap (λ n. count_line n (numbered k)) (counts.of_named k (omega (arith, high))))
+
+pub summed : (s : Summary) (bytes before first out : List ℕ) → HasCounted bytes s
+    → first ≡ before ++ ignored_lines (found_at s.ignored.items) → out ≡ first ++ named_lines (found_at s.named)
+    → out ≡ before ++ summary bytes
+unfolding summary
+summed s bytes before first out was one two =
+    let events = events_of bytes in
+    two ∙ ap (λ (l : List ℕ). l ++ named_lines (found_at s.named)) one
+    ∙ append_assoc before (ignored_lines (found_at s.ignored.items)) (named_lines (found_at s.named))
+    ∙ ap (λ (l : List ℕ). before ++ (l ++ named_lines (found_at s.named)))
+    (same_ignored events s.ignored.items s.named was.counts)
+    ∙ ap (λ (l : List ℕ). before ++ (ignored_lines (λ number. counted (times_ignored number events)) ++ l))
+    (same_named events s.ignored.items s.named was.counts)

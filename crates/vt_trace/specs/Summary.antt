@@ -1,0 +1,114 @@
+-- The summary of bytes: how often each name occurs among their events. (this profile)
+use Rattle.std.specs.Prelude.{ℕ, ◌+◌, ◌-◌, ◌*◌, ◌^◌, List, [], ◌∷◌, ◌++◌, Bool, false, Option, Some, None, min, codes, decimal}
+use Rattle.std.specs.Prelude.{◌==◌, ◌&&◌, if◌then◌else◌, nat_eq, count_by}
+use Rattle.std.specs.List.{flat_map, range_with_len}
+use Rattle.std.specs.Cmp.Lexicographic.{pointwise}
+use Rattle.vt_syntax.specs.declared.event.Event.{Event}
+use Rattle.vt_syntax.specs.declared.event.Event.TheVariants.{Print, Control, Escape, Sequence}
+use Rattle.vt_syntax.specs.Reading.{events_of}
+use Rattle.vt_trace.specs.Names.{name_of, numbered}
+use Rattle.vt_trace.specs.Ignored.{is_ignored}
+use Rattle.vt_trace.specs.Lines.{bytes_column}
+
+-- ---- kinds
+
+-- none is 0, and 20..2F are 1 to 16
+abbrev pub inter_number : Option ℕ → ℕ
+inter_number None = 0
+inter_number (Some i) = i - 0x1F
+
+-- none is 0, and 3C..3F are 1 to 4
+abbrev pub marker_number : Option ℕ → ℕ
+marker_number None = 0
+marker_number (Some m) = m - 0x3B
+
+-- the number of an event's kind, which is the event without values: single bytes, then escape sequences by intermediate
+-- and final byte, then control sequences by marker, intermediate and final byte
+abbrev pub kind_number : Event → ℕ
+kind_number (Print b) = b
+kind_number (Control b) = b
+kind_number (Escape inter last) = 0x100 + 0x80 * inter_number inter + last
+kind_number (Sequence marker params inter last) =
+    0x100 + 0x80 * (17 + 17 * marker_number marker + inter_number inter) + last
+
+-- ---- counts
+
+-- the event has this name
+abbrev pub has_name : List ℕ → Event → Bool
+has_name name event = elim (name_of event) [ None ↦ false | Some other ↦ pointwise nat_eq name other ]
+
+-- the event is ignored, and its kind has this number
+abbrev pub is_ignored_kind : ℕ → Event → Bool
+is_ignored_kind number event = is_ignored event && kind_number event == number
+
+unfoldable pub times_named : List ℕ → List Event → ℕ
+times_named name events = count_by (has_name name) events
+
+unfoldable pub times_ignored : ℕ → List Event → ℕ
+times_ignored number events = count_by (is_ignored_kind number) events
+
+-- a count stays at the largest 64-bit number
+abbrev pub counted : ℕ → ℕ
+counted n = min n (2 ^ 64 - 1)
+
+-- ---- lines
+
+-- the count in decimal, TAB, the name, LF; nothing if the count is 0
+abbrev pub count_line : ℕ → List ℕ → List ℕ
+count_line n name = if n == 0 then [] else decimal n ++ (0x09 ∷ (name ++ 0x0A ∷ []))
+
+-- the line of ignored events of a kind, with the bytes of the event without values
+abbrev pub ignored_line : (ℕ → ℕ) → Event → List ℕ
+ignored_line times event = count_line (times (kind_number event)) (codes "ignored " ++ bytes_column event)
+
+abbrev pub named_line : (ℕ → ℕ) → ℕ → List ℕ
+named_line times number = count_line (times number) (numbered number)
+
+-- without one, and with each of these
+abbrev pub optionally : List ℕ → (Option ℕ → List ℕ) → List ℕ
+optionally bytes f = f None ++ flat_map (λ b. f (Some b)) bytes
+
+abbrev pub intermediates : List ℕ
+intermediates = range_with_len 0x20 16
+
+abbrev pub markers : List ℕ
+markers = range_with_len 0x3C 4
+
+-- of an escape sequence
+abbrev pub escape_finals : List ℕ
+escape_finals = range_with_len 0x30 79
+
+-- of a control sequence
+abbrev pub finals : List ℕ
+finals = range_with_len 0x40 63
+
+-- the ignored kinds in the order of their numbers
+abbrev pub ignored_bytes : (ℕ → ℕ) → List ℕ
+ignored_bytes times = flat_map (λ b. ignored_line times (Control b)) (range_with_len 0 0x100)
+
+abbrev pub ignored_escapes : (ℕ → ℕ) → Option ℕ → List ℕ
+ignored_escapes times inter = flat_map (λ last. ignored_line times (Escape inter last)) escape_finals
+
+abbrev pub ignored_sequences : (ℕ → ℕ) → Option ℕ → Option ℕ → List ℕ
+ignored_sequences times marker inter =
+    flat_map (λ last. ignored_line times (Sequence marker (record { items = [] }) inter last)) finals
+
+abbrev pub ignored_lines : (ℕ → ℕ) → List ℕ
+ignored_lines times =
+    ignored_bytes times
+    ++ (optionally intermediates (ignored_escapes times)
+    ++ optionally markers (λ marker. optionally intermediates (ignored_sequences times marker)))
+
+-- the names in the order of the list of all names
+abbrev pub named_lines : (ℕ → ℕ) → List ℕ
+named_lines times = flat_map (named_line times) (range_with_len 0 75)
+
+-- the summary of events
+abbrev pub event_summary : List Event → List ℕ
+event_summary events =
+    ignored_lines (λ number. counted (times_ignored number events))
+    ++ named_lines (λ number. counted (times_named (numbered number) events))
+
+-- the summary of a terminal's input
+unfoldable pub summary : List ℕ → List ℕ
+summary bytes = event_summary (events_of bytes)

@@ -5,3 +5,4 @@ mod Acting
 mod TracedBytes
 mod Traces
 mod Counts
+mod Runs

@@ -1,5 +1,7 @@
 -- The trace of bytes in chunks.
-use Rattle.std.proofs.Common.{◌≡◌, ℕ, List, [], ◌∷◌, ◌++◌, sym, ap, ◌∙◌, append_assoc, append-nil}
+use Rattle.std.proofs.Common.{◌≡◌, ℕ, List, [], ◌∷◌, ◌++◌, sym, ap, ◌∙◌, append_assoc, append-nil, ◌+◌, ◌-◌, add-zero, length, take, drop, length-drop, refl, slice_index, ◌≤◌, arith}
+use Rattle.std.proofs.lemmas.List.{take_more}
+use Rattle.std.proofs.Math.Seq.{take-length}
 use Rattle.vt_term.specs.State.{State}
 use Rattle.vt_term.specs.Sound.{IsSound}
 use Rattle.vt_term.specs.Play.{Played, play, both}
@@ -52,41 +54,65 @@ abbrev pub Tracers : Type 0
 Tracers = (s : State) (t : Tracer) (a b : List ℕ) → IsSound s
     → tracer_all s t (a ++ b) ≡ tracer_all (play s a).state (tracer_all s t a) b
 
-pub more-state : Plays → (s u v : State) (front : List ℕ) (b : ℕ) → u ≡ (play s front).state
-    → v ≡ (play u (b ∷ [])).state → v ≡ (play s (front ++ b ∷ [])).state
-more-state plays s u v front b is then =
-    then ∙ ap (λ (w : State). (play w (b ∷ [])).state) is
-    ∙ ap (λ (p : Played). p.state) (sym (plays s front (b ∷ [])))
+pub more-state : Plays → (s u v : State) (front part : List ℕ) → u ≡ (play s front).state
+    → v ≡ (play u part).state → v ≡ (play s (front ++ part)).state
+more-state plays s u v front part is then =
+    then ∙ ap (λ (w : State). (play w part).state) is
+    ∙ ap (λ (p : Played). p.state) (sym (plays s front part))
 
-pub more-reports : Plays → (s u : State) (front before out more : List ℕ) (b : ℕ) → u ≡ (play s front).state
-    → out ≡ before ++ (play s front).reports → more ≡ out ++ (play u (b ∷ [])).reports
-    → more ≡ before ++ (play s (front ++ b ∷ [])).reports
-more-reports plays s u front before out more b is was then =
-    let second : List ℕ = (play (play s front).state (b ∷ [])).reports in
-    then ∙ ap (λ (w : State). out ++ (play w (b ∷ [])).reports) is
+pub more-reports : Plays → (s u : State) (front part before out more : List ℕ) → u ≡ (play s front).state
+    → out ≡ before ++ (play s front).reports → more ≡ out ++ (play u part).reports
+    → more ≡ before ++ (play s (front ++ part)).reports
+more-reports plays s u front part before out more is was then =
+    let second : List ℕ = (play (play s front).state part).reports in
+    then ∙ ap (λ (w : State). out ++ (play w part).reports) is
     ∙ ap (λ (l : List ℕ). l ++ second) was
     ∙ append_assoc before (play s front).reports second
-    ∙ ap (λ (p : Played). before ++ p.reports) (sym (plays s front (b ∷ [])))
+    ∙ ap (λ (p : Played). before ++ p.reports) (sym (plays s front part))
 
-pub more-lines : Lines → (s u : State) (t v : Tracer) (front before out more : List ℕ) (b : ℕ) → IsSound s
+pub more-lines : Lines → (s u : State) (t v : Tracer) (front part before out more : List ℕ) → IsSound s
     → u ≡ (play s front).state → v ≡ tracer_all s t front → out ≡ before ++ trace s t front
-    → more ≡ out ++ traced u v b → more ≡ before ++ trace s t (front ++ b ∷ [])
-unfolding trace
-more-lines lines s u t v front before out more b i is tracer was then =
+    → more ≡ out ++ trace u v part → more ≡ before ++ trace s t (front ++ part)
+more-lines lines s u t v front part before out more i is tracer was then =
     let w : State = (play s front).state in
-    let last : List ℕ = traced w (tracer_all s t front) b in
-    then ∙ ap (λ (x : State). out ++ traced x v b) is
-    ∙ ap (λ (x : Tracer). out ++ traced w x b) tracer
+    let last : List ℕ = trace w (tracer_all s t front) part in
+    then ∙ ap (λ (x : State). out ++ trace x v part) is
+    ∙ ap (λ (x : Tracer). out ++ trace w x part) tracer
     ∙ ap (λ (l : List ℕ). l ++ last) was
     ∙ append_assoc before (trace s t front) last
-    ∙ ap (λ (l : List ℕ). before ++ (trace s t front ++ l)) (sym (append-nil last))
-    ∙ ap (λ (l : List ℕ). before ++ l) (sym (lines s t front (b ∷ []) i))
+    ∙ ap (λ (l : List ℕ). before ++ l) (sym (lines s t front part i))
 
-pub more-tracer : Tracers → (s u : State) (t v w : Tracer) (front : List ℕ) (b : ℕ) → IsSound s
-    → u ≡ (play s front).state → v ≡ tracer_all s t front → w ≡ tracer_after u v b
-    → w ≡ tracer_all s t (front ++ b ∷ [])
+pub more-tracer : Tracers → (s u : State) (t v w : Tracer) (front part : List ℕ) → IsSound s
+    → u ≡ (play s front).state → v ≡ tracer_all s t front → w ≡ tracer_all u v part
+    → w ≡ tracer_all s t (front ++ part)
+more-tracer tracers s u t v w front part i is was then =
+    then ∙ ap (λ (x : State). tracer_all x v part) is
+    ∙ ap (λ (x : Tracer). tracer_all (play s front).state x part) was
+    ∙ sym (tracers s t front part i)
+
+-- ---- one byte
+
+pub byte_lines : (s : State) (t : Tracer) (b : ℕ) → traced s t b ≡ trace s t (b ∷ [])
+unfolding trace
+byte_lines s t b = sym (append-nil (traced s t b))
+
+pub byte_tracer : (s : State) (t : Tracer) (b : ℕ) → tracer_after s t b ≡ tracer_all s t (b ∷ [])
 unfolding tracer_all
-more-tracer tracers s u t v w front b i is was then =
-    then ∙ ap (λ (x : State). tracer_after x v b) is
-    ∙ ap (λ (x : Tracer). tracer_after (play s front).state x b) was
-    ∙ sym (tracers s t front (b ∷ []) i)
+byte_tracer s t b = refl
+
+-- ---- the places
+
+pub place_of_all : (s : State) (t : Tracer) (bytes : List ℕ) → (tracer_all s t bytes).place ≡ t.place + length bytes
+unfolding tracer_all tracer_after
+place_of_all s t [] = sym (add-zero t.place)
+place_of_all s t (b ∷ bytes) =
+    let next : t.place + 1 + length bytes ≡ t.place + length (b ∷ bytes) = omega arith in
+    place_of_all (play s (b ∷ [])).state (tracer_after s t b) bytes ∙ next
+
+-- the part of a chunk from a place on, to its end
+pub rest-of : (chunk : List ℕ) (at : ℕ) → take (length chunk - at) (drop at chunk) ≡ drop at chunk
+rest-of chunk at =
+    let e : length chunk - at ≡ length (drop at chunk) = sym (length-drop at chunk) in rw e (take-length (drop at chunk))
+
+pub first_of : (chunk : List ℕ) → 1 ≤ length chunk → take 1 chunk ≡ slice_index chunk 0 ∷ []
+first_of chunk some = take_more chunk 0 0 (omega (arith, some))

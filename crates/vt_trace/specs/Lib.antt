@@ -4,3 +4,4 @@ pub mod Lines
 pub mod Trace
 pub mod Summary
 pub mod Counted
+pub mod Runs

@@ -46,10 +46,13 @@ is_text (Sequence marker params inter last) = false
 abbrev pub text_end : Bool → List ℕ
 text_end in_text = if in_text then 0x0A ∷ [] else []
 
+-- the line of a text begins, unless the text goes on
+abbrev pub text_begin : Bool → ℕ → List ℕ
+text_begin in_text place = if in_text then [] else decimal place ++ (0x09 ∷ (codes "text" ++ 0x09 ∷ []))
+
 -- a character goes on the text before it, or begins one
 abbrev pub text_of : Bool → ℕ → ℕ → List ℕ
-text_of in_text place b =
-    (if in_text then [] else decimal place ++ (0x09 ∷ (codes "text" ++ 0x09 ∷ []))) ++ shown_byte b
+text_of in_text place b = text_begin in_text place ++ shown_byte b
 
 -- a report is a line of its own, after that of its request
 abbrev pub report_line : ℕ → List ℕ → List ℕ

@@ -2,6 +2,7 @@
 #![tactic(auto)]
 
 mod bytes;
+mod fronts;
 pub mod laws;
 mod lines;
 mod names;

@@ -13,6 +13,7 @@ ghost use Rattle.vt_term.specs.State.{Display};
 ghost use Rattle.vt_term.specs.Play.{reports_of};
 
 use crate::bytes::{push_bytes, push_number, push_shown};
+use crate::fronts::trace_front;
 use crate::laws::cuts;
 use crate::lines::push_line;
 use vt_syntax::{EventKind, Held, Values};
@@ -57,7 +58,7 @@ fn begins(held: &Held, b: u8) -> bool
 }
 
 /// Returns the place of an event that a byte completes.
-fn place_of(place: u64, begin: u64, b: u8, kind: EventKind) -> u64
+pub(crate) fn place_of(place: u64, begin: u64, b: u8, kind: EventKind) -> u64
     ensures { (values : List ℕ) → result ≡ place_of place begin b (event_of kind values) }
 {
     match kind {
@@ -149,8 +150,7 @@ pub fn trace_reserved(
     let mut values = Values::new();
     let mut at = 0;
     while at < chunk.len() && out.capacity() - out.len() >= TRACE_LIMIT {
-        trace_byte(terminal, tracer, chunk[at], &mut values, reports, out);
-        at += 1;
+        at += trace_front(terminal, tracer, &chunk[at..], &mut values, reports, out);
     }
     at
 }
@@ -206,7 +206,7 @@ fn push_events(
 }
 
 /// Returns whether an event is a character.
-fn is_text(kind: EventKind) -> bool
+pub(crate) fn is_text(kind: EventKind) -> bool
     ensures { (values : List ℕ) → result ≡ is_text (event_of kind values) }
 {
     match kind {
@@ -225,7 +225,7 @@ fn has_glyph(b: u8) -> bool
 }
 
 /// Appends what is to be written of an event with its report.
-fn push_event(
+pub(crate) fn push_event(
     in_text: bool,
     place: u64,
     kind: EventKind,

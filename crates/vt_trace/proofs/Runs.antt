@@ -1,0 +1,441 @@
+-- The trace of bytes that are taken at once.
+use Rattle.std.proofs.Common.{◌≡◌, ◌≢◌, ℕ, suc, ◌+◌, ◌-◌, ◌%◌, cond, ◌≤◌, ◌<◌, List, [], ◌∷◌, ◌++◌, Bool, true, false, not, ◌||◌}
+use Rattle.std.proofs.Common.{refl, sym, ap, ◌∙◌, arith, length, map, append-nil, append_assoc, drop, take, add-zero, Option, Some, None, eqb, length-take}
+use Rattle.std.proofs.lemmas.List.{take_more}
+use Rattle.std.proofs.Math.Seq.{take-length, take-take}
+use Rattle.std.specs.Prelude.{All, slice_index}
+use Rattle.std.proofs.lemmas.Bool.Decides.{nat_tests}
+use Rattle.std.proofs.lemmas.List.Elements.{All-cons, All-append}
+use Rattle.vt_syntax.specs.declared.event.Event.{Event}
+use Rattle.vt_syntax.specs.declared.event.Event.TheVariants.{Print, Control, Escape, Sequence}
+use Rattle.vt_syntax.specs.declared.held.Held.{Held}
+use Rattle.vt_syntax.specs.declared.held.Held.TheVariants.{Nothing}
+use Rattle.vt_syntax.specs.declared.held.Held.TheVariants as held
+use Rattle.vt_syntax.specs.Class.{IsPlain}
+use Rattle.vt_syntax.specs.Held.{events_from, held_from}
+use Rattle.vt_syntax.specs.Laws.{SplitLaw, SpellingLaw}
+use Rattle.vt_glyph.specs.Invocation.{has_no_glyph}
+use Rattle.vt_term.specs.State.{Display, State}
+use Rattle.vt_term.specs.Reports.{report, control_report, sequence_report}
+use Rattle.vt_term.specs.Parameters.{first}
+use Rattle.vt_term.specs.Play.{play, after_events}
+use Rattle.vt_trace.specs.declared.tracing.Tracer.{Tracer}
+use Rattle.vt_trace.specs.Lines.{shown_byte, event_line}
+use Rattle.vt_trace.specs.Trace.{begins, item_place, place_of, is_text, text_of, text_begin, text_end, written, written_all, text_after}
+use Rattle.vt_trace.specs.Trace.{traced, tracer_after, trace, tracer_all}
+use Rattle.vt_trace.specs.Runs.{IsShown, IsOne, is_graphic, is_request}
+
+abbrev tracer_at : Tracer → ℕ → Bool → Tracer
+tracer_at t n v = record { place = t.place + 1; begin = n; in_text = v }
+
+abbrev made : ℕ → ℕ → Bool → Tracer
+made n m v = record { place = m; begin = n; in_text = v }
+
+same_tracer : (a b c d : ℕ) (v : Bool) → a ≡ b → c ≡ d → made a c v ≡ made b d v
+same_tracer a b c d v e f = ap (λ n. made n c v) e ∙ ap (λ m. made b m v) f
+
+tail_of_all : (b : ℕ) (run : List ℕ) → All IsShown (b ∷ run) → All IsShown run
+tail_of_all b run all = λ k d low. all (suc k) d (omega (arith, low))
+
+tail_of_plain : (b : ℕ) (run : List ℕ) → All IsPlain (b ∷ run) → All IsPlain run
+tail_of_plain b run all = λ k d low. all (suc k) d (omega (arith, low))
+
+-- ---- texts
+
+pub shown-itself : (b : ℕ) → IsShown b → shown_byte b ≡ b ∷ []
+unfolding shown_byte
+shown-itself b i = grind (arith, nat_tests)
+
+pub shown-glyph : (b : ℕ) → IsShown b → has_no_glyph b ≡ false
+shown-glyph b i =
+    let low : 0x20 ≤ b = i.0 in
+    let high : b ≤ 0x7E = i.1 in
+    let same : b % 0x80 ≡ b = omega (arith, high) in
+    rw same (grind (arith, nat_tests, low, high))
+
+none_plain : All IsPlain []
+none_plain k d low = absurd (omega (arith, low))
+
+one_plain : (b : ℕ) → IsPlain b → All IsPlain (b ∷ [])
+one_plain b i = All-cons IsPlain b [] i none_plain
+
+-- plain bytes between sequences
+pub plain_events : SpellingLaw → (b : ℕ) → IsPlain b → events_from Nothing (b ∷ []) ≡ Print b ∷ []
+plain_events law b i = law.all_plain (b ∷ []) (one_plain b i)
+
+pub plain_held : SpellingLaw → (b : ℕ) → IsPlain b → held_from Nothing (b ∷ []) ≡ Nothing
+plain_held law b i = law.all_plain_held (b ∷ []) (one_plain b i)
+
+-- the state after a plain byte
+pub still_nothing : SpellingLaw → (s : State) (b : ℕ) → s.held ≡ Nothing → IsPlain b → (play s (b ∷ [])).state.held ≡ Nothing
+unfolding play
+still_nothing law s b nothing i = ap (λ (h : Held). held_from h (b ∷ [])) nothing ∙ plain_held law b i
+
+shown-text : (in_text : Bool) (b : ℕ) → IsShown b → text_after in_text (Print b ∷ []) ≡ true
+shown-text in_text b i = ap not (shown-glyph b i)
+
+text_written : (in_text : Bool) (place b : ℕ) (s : Display) (at : Event → ℕ) → IsShown b → at (Print b) ≡ place
+    → written_all in_text at (Print b ∷ []) s ≡ text_of in_text place b
+text_written in_text place b s at i here =
+    ap (λ n. written in_text n (Print b) (report (Print b) s) ++ []) here
+    ∙ append-nil (written in_text place (Print b) (report (Print b) s))
+    ∙ ap (λ (v : Bool). cond v (text_end in_text ++ event_line place (Print b)) (text_of in_text place b)) (shown-glyph b i)
+
+module _ (law : SpellingLaw) where
+  shown_events : (s : State) (b : ℕ) → s.held ≡ Nothing → IsShown b → events_from s.held (b ∷ []) ≡ Print b ∷ []
+  shown_events s b nothing i = ap (λ (h : Held). events_from h (b ∷ [])) nothing ∙ plain_events law b (i.0, i.1)
+
+  pub traced_shown : (s : State) (t : Tracer) (b : ℕ) → s.held ≡ Nothing → IsShown b
+      → traced s t b ≡ text_of t.in_text t.place b
+  unfolding traced
+  traced_shown s t b nothing i =
+      ap (λ (es : List Event). written_all t.in_text (place_of t.place (item_place t s.held b) b) es s.display)
+      (shown_events s b nothing i)
+      ∙ text_written t.in_text t.place b s.display (place_of t.place (item_place t s.held b) b) i refl
+
+  pub tracer_shown : (s : State) (t : Tracer) (b : ℕ) → s.held ≡ Nothing → IsShown b
+      → tracer_after s t b ≡ record { place = t.place + 1; begin = t.place; in_text = true }
+  unfolding tracer_after
+  tracer_shown s t b nothing i =
+      ap (λ (h : Held). tracer_at t (item_place t h b) (text_after t.in_text (events_from s.held (b ∷ [])))) nothing
+      ∙ ap (λ (es : List Event). tracer_at t t.place (text_after t.in_text es)) (shown_events s b nothing i)
+      ∙ ap (λ (v : Bool). tracer_at t t.place v) (shown-text t.in_text b i)
+
+  -- a text
+  pub tracer_text : (s : State) (t : Tracer) (b : ℕ) (run : List ℕ) → s.held ≡ Nothing → All IsShown (b ∷ run)
+      → tracer_all s t (b ∷ run) ≡ record { place = t.place + length run + 1; begin = t.place + length run; in_text = true }
+  unfolding tracer_all
+  tracer_text s t b [] nothing all =
+      tracer_shown s t b nothing (all 0 0 (omega arith)) ∙ same_tracer t.place (t.place + 0) (t.place + 1) (t.place + 0 + 1) true
+      (omega arith) (omega arith)
+  tracer_text s t b (c ∷ run) nothing all =
+      let first : IsShown b = all 0 0 (omega arith) in
+      let u : Tracer = record { place = t.place + 1; begin = t.place; in_text = true } in
+      ap (λ (u : Tracer). tracer_all (play s (b ∷ [])).state u (c ∷ run)) (tracer_shown s t b nothing first)
+      ∙ tracer_text (play s (b ∷ [])).state u c run (still_nothing law s b nothing (first.0, first.1)) (tail_of_all b (c ∷ run) all)
+      ∙ same_tracer (t.place + 1 + length run) (t.place + length (c ∷ run)) (t.place + 1 + length run + 1)
+      (t.place + length (c ∷ run) + 1) true (omega arith) (omega arith)
+
+  -- on a text that goes on
+  trace_on : (s : State) (t : Tracer) (run : List ℕ) → s.held ≡ Nothing → t.in_text ≡ true → All IsShown run
+      → trace s t run ≡ run
+  unfolding trace
+  trace_on s t [] nothing text all = refl
+  trace_on s t (b ∷ run) nothing text all =
+      let first : IsShown b = all 0 0 (omega arith) in
+      let u : Tracer = record { place = t.place + 1; begin = t.place; in_text = true } in
+      ap (λ (l : List ℕ). l ++ trace (play s (b ∷ [])).state (tracer_after s t b) run)
+      (traced_shown s t b nothing first ∙ ap (λ (v : Bool). text_of v t.place b) text ∙ shown-itself b first)
+      ∙ ap (λ (u : Tracer). b ∷ trace (play s (b ∷ [])).state u run) (tracer_shown s t b nothing first)
+      ∙ ap (λ (l : List ℕ). b ∷ l)
+      (trace_on (play s (b ∷ [])).state u run (still_nothing law s b nothing (first.0, first.1)) refl (tail_of_all b run all))
+
+  pub trace_text : (s : State) (t : Tracer) (b : ℕ) (run : List ℕ) → s.held ≡ Nothing → All IsShown (b ∷ run)
+      → trace s t (b ∷ run) ≡ text_begin t.in_text t.place ++ b ∷ run
+  unfolding trace
+  trace_text s t b run nothing all =
+      let first : IsShown b = all 0 0 (omega arith) in
+      let u : Tracer = record { place = t.place + 1; begin = t.place; in_text = true } in
+      ap (λ (l : List ℕ). l ++ trace (play s (b ∷ [])).state (tracer_after s t b) run)
+      (traced_shown s t b nothing first ∙ ap (λ (l : List ℕ). text_begin t.in_text t.place ++ l) (shown-itself b first))
+      ∙ ap (λ (u : Tracer). (text_begin t.in_text t.place ++ b ∷ []) ++ trace (play s (b ∷ [])).state u run)
+      (tracer_shown s t b nothing first)
+      ∙ ap (λ (l : List ℕ). (text_begin t.in_text t.place ++ b ∷ []) ++ l)
+      (trace_on (play s (b ∷ [])).state u run (still_nothing law s b nothing (first.0, first.1)) refl (tail_of_all b run all))
+      ∙ append_assoc (text_begin t.in_text t.place) (b ∷ []) run
+
+-- ---- events
+
+no_bytes : (es fs : List Event) → es ++ fs ≡ [] → es ≡ []
+no_bytes [] fs h = refl
+no_bytes (e ∷ es) fs h = absurd cc
+
+no_more : (es fs : List Event) → es ++ fs ≡ [] → fs ≡ []
+no_more [] fs h = h
+no_more (e ∷ es) fs h = absurd cc
+
+first_graphic : List Event → Bool
+first_graphic [] = false
+first_graphic (e ∷ es) = is_graphic e
+
+graphic_first : (front : List ℕ) (last : ℕ) → first_graphic (map Print (front ++ last ∷ [])) ≡ true
+unfolding first_graphic
+graphic_first [] last = refl
+graphic_first (b ∷ front) last = refl
+
+no_true : true ≡ false → ⊥
+no_true h = cc
+
+not_begins : (h : Held) (b : ℕ) → h ≢ Nothing → IsPlain b → begins h b ≡ false
+not_begins held.Nothing b other i = absurd (other refl)
+not_begins (held.Text osc) b other i = let low : 0x20 ≤ b = i.0 in grind (arith, nat_tests, low)
+not_begins (held.Escape inters) b other i =
+    let low : 0x20 ≤ b = i.0 in let high : b ≤ 0x7E = i.1 in grind (arith, nat_tests, low, high)
+not_begins (held.Control marker params full phase) b other i =
+    let low : 0x20 ≤ b = i.0 in let high : b ≤ 0x7E = i.1 in grind (arith, nat_tests, low, high)
+not_begins held.Spoilt b other i =
+    let low : 0x20 ≤ b = i.0 in let high : b ≤ 0x7E = i.1 in grind (arith, nat_tests, low, high)
+
+abbrev one_written : State → Tracer → ℕ → ℕ → ℕ → Event → List ℕ
+one_written s t place begin last e = written t.in_text (place_of place begin last e) e (report e s.display)
+
+module _ (law : SpellingLaw) (split : SplitLaw) where
+  -- plain bytes that give another event than a character aren't read between sequences
+  not_between : (front : List ℕ) (last : ℕ) (e : Event) (h : Held) → All IsPlain (front ++ last ∷ []) → is_graphic e ≡ false
+      → events_from h (front ++ last ∷ []) ≡ e ∷ [] → h ≢ Nothing
+  unfolding first_graphic
+  not_between front last e h all other events is =
+      let printed = law.all_plain (front ++ last ∷ []) all in
+      let first : first_graphic (map Print (front ++ last ∷ [])) ≡ is_graphic e =
+      ap first_graphic (sym printed ∙ ap (λ (k : Held). events_from k (front ++ last ∷ [])) (sym is) ∙ events) in
+      no_true (sym (graphic_first front last) ∙ first ∙ other)
+
+  -- a byte without an event
+  quiet_traced : (s : State) (t : Tracer) (b : ℕ) → events_from s.held (b ∷ []) ≡ [] → traced s t b ≡ []
+  unfolding traced
+  quiet_traced s t b none =
+      ap (λ (es : List Event). written_all t.in_text (place_of t.place (item_place t s.held b) b) es s.display) none
+
+  quiet_tracer : (s : State) (t : Tracer) (b : ℕ) → events_from s.held (b ∷ []) ≡ []
+      → tracer_after s t b ≡ made (item_place t s.held b) (t.place + 1) t.in_text
+  unfolding tracer_after
+  quiet_tracer s t b none =
+      ap (λ (es : List Event). made (item_place t s.held b) (t.place + 1) (text_after t.in_text es)) none
+
+  quiet_display : (s : State) (b : ℕ) → events_from s.held (b ∷ []) ≡ [] → (play s (b ∷ [])).state.display ≡ s.display
+  unfolding play
+  quiet_display s b none = ap (λ (es : List Event). after_events es s.display) none
+
+  -- the byte that completes an event
+  last_traced : (s : State) (t : Tracer) (b begin : ℕ) (e : Event) → events_from s.held (b ∷ []) ≡ e ∷ []
+      → item_place t s.held b ≡ begin → trace s t (b ∷ []) ≡ one_written s t t.place begin b e
+  unfolding trace traced
+  last_traced s t b begin e events at =
+      append-nil (written_all t.in_text (place_of t.place (item_place t s.held b) b) (events_from s.held (b ∷ [])) s.display)
+      ∙ ap (λ n. written_all t.in_text (place_of t.place n b) (events_from s.held (b ∷ [])) s.display) at
+      ∙ ap (λ (es : List Event). written_all t.in_text (place_of t.place begin b) es s.display) events
+      ∙ append-nil (one_written s t t.place begin b e)
+
+  last_tracer : (s : State) (t : Tracer) (b begin : ℕ) (e : Event) → events_from s.held (b ∷ []) ≡ e ∷ []
+      → item_place t s.held b ≡ begin → tracer_all s t (b ∷ []) ≡ made begin (t.place + 1) (is_text e)
+  unfolding tracer_all tracer_after
+  last_tracer s t b begin e events at =
+      ap (λ n. made n (t.place + 1) (text_after t.in_text (events_from s.held (b ∷ [])))) at
+      ∙ ap (λ (es : List Event). made begin (t.place + 1) (text_after t.in_text es)) events
+
+  -- bytes inside a sequence, up to its last
+  pub inside_traced : (front : List ℕ) (last : ℕ) (e : Event) (s : State) (t : Tracer) → All IsPlain (front ++ last ∷ [])
+      → is_graphic e ≡ false → events_from s.held front ≡ [] → events_from s.held (front ++ last ∷ []) ≡ e ∷ []
+      → trace s t (front ++ last ∷ []) ≡ one_written s t (t.place + length front) t.begin last e
+  unfolding trace play
+  inside_traced [] last e s t all other none events =
+      last_traced s t last t.begin e events (ap (λ (v : Bool). cond v t.place t.begin)
+      (not_begins s.held last (not_between [] last e s.held all other events) (all 0 0 (omega arith))))
+      ∙ ap (λ n. one_written s t n t.begin last e) (sym (add-zero t.place))
+  inside_traced (b ∷ front) last e s t all other none events =
+      let next : State = (play s (b ∷ [])).state in
+      let parts = sym (split.events_append s.held (b ∷ []) front) ∙ none in
+      let here = no_bytes (events_from s.held (b ∷ [])) (events_from next.held front) parts in
+      let there = no_more (events_from s.held (b ∷ [])) (events_from next.held front) parts in
+      let whole : events_from next.held (front ++ last ∷ []) ≡ e ∷ [] =
+      ap (λ (es : List Event). es ++ events_from next.held (front ++ last ∷ [])) (sym here)
+      ∙ sym (split.events_append s.held (b ∷ []) (front ++ last ∷ [])) ∙ events in
+      let outside = not_begins s.held b (not_between (b ∷ front) last e s.held all other events) (all 0 0 (omega arith)) in
+      let u : Tracer = made t.begin (t.place + 1) t.in_text in
+      let place : t.place + 1 + length front ≡ t.place + length (b ∷ front) = omega arith in
+      ap (λ (l : List ℕ). l ++ trace next (tracer_after s t b) (front ++ last ∷ [])) (quiet_traced s t b here)
+      ∙ ap (λ (v : Tracer). trace next v (front ++ last ∷ []))
+      (quiet_tracer s t b here ∙ ap (λ (v : Bool). made (cond v t.place t.begin) (t.place + 1) t.in_text) outside)
+      ∙ inside_traced front last e next u (tail_of_plain b (front ++ last ∷ []) all) other there whole
+      ∙ ap (λ (d : Display). written t.in_text (place_of (t.place + 1 + length front) t.begin last e) e (report e d))
+      (quiet_display s b here)
+      ∙ ap (λ n. one_written s t n t.begin last e) place
+
+  pub inside_tracer : (front : List ℕ) (last : ℕ) (e : Event) (s : State) (t : Tracer) → All IsPlain (front ++ last ∷ [])
+      → is_graphic e ≡ false → events_from s.held front ≡ [] → events_from s.held (front ++ last ∷ []) ≡ e ∷ []
+      → tracer_all s t (front ++ last ∷ []) ≡ made t.begin (t.place + length front + 1) (is_text e)
+  unfolding tracer_all play
+  inside_tracer [] last e s t all other none events =
+      last_tracer s t last t.begin e events (ap (λ (v : Bool). cond v t.place t.begin)
+      (not_begins s.held last (not_between [] last e s.held all other events) (all 0 0 (omega arith))))
+      ∙ ap (λ n. made t.begin (n + 1) (is_text e)) (sym (add-zero t.place))
+  inside_tracer (b ∷ front) last e s t all other none events =
+      let next : State = (play s (b ∷ [])).state in
+      let parts = sym (split.events_append s.held (b ∷ []) front) ∙ none in
+      let here = no_bytes (events_from s.held (b ∷ [])) (events_from next.held front) parts in
+      let there = no_more (events_from s.held (b ∷ [])) (events_from next.held front) parts in
+      let whole : events_from next.held (front ++ last ∷ []) ≡ e ∷ [] =
+      ap (λ (es : List Event). es ++ events_from next.held (front ++ last ∷ [])) (sym here)
+      ∙ sym (split.events_append s.held (b ∷ []) (front ++ last ∷ [])) ∙ events in
+      let outside = not_begins s.held b (not_between (b ∷ front) last e s.held all other events) (all 0 0 (omega arith)) in
+      let u : Tracer = made t.begin (t.place + 1) t.in_text in
+      let place : t.place + 1 + length front ≡ t.place + length (b ∷ front) = omega arith in
+      ap (λ (v : Tracer). tracer_all next v (front ++ last ∷ []))
+      (quiet_tracer s t b here ∙ ap (λ (v : Bool). made (cond v t.place t.begin) (t.place + 1) t.in_text) outside)
+      ∙ inside_tracer front last e next u (tail_of_plain b (front ++ last ∷ []) all) other there whole
+      ∙ ap (λ n. made t.begin (n + 1) (is_text e)) place
+
+  -- an event between sequences: its first byte, and plain ones
+  pub one_traced : (front : List ℕ) (last : ℕ) (e : Event) (s : State) (t : Tracer) → s.held ≡ Nothing
+      → All IsPlain (drop 1 (front ++ last ∷ [])) → IsOne front last e
+      → trace s t (front ++ last ∷ []) ≡ one_written s t (t.place + length front) t.place last e
+  unfolding trace play
+  one_traced [] last e s t nothing all one =
+      last_traced s t last t.place e (ap (λ (h : Held). events_from h (last ∷ [])) nothing ∙ one.events)
+      (ap (λ (h : Held). item_place t h last) nothing)
+      ∙ ap (λ n. one_written s t n t.place last e) (sym (add-zero t.place))
+  one_traced (b ∷ front) last e s t nothing all one =
+      let next : State = (play s (b ∷ [])).state in
+      let none = ap (λ (h : Held). events_from h (b ∷ front)) nothing ∙ one.silent in
+      let events = ap (λ (h : Held). events_from h (b ∷ (front ++ last ∷ []))) nothing ∙ one.events in
+      let parts = sym (split.events_append s.held (b ∷ []) front) ∙ none in
+      let here = no_bytes (events_from s.held (b ∷ [])) (events_from next.held front) parts in
+      let there = no_more (events_from s.held (b ∷ [])) (events_from next.held front) parts in
+      let whole : events_from next.held (front ++ last ∷ []) ≡ e ∷ [] =
+      ap (λ (es : List Event). es ++ events_from next.held (front ++ last ∷ [])) (sym here)
+      ∙ sym (split.events_append s.held (b ∷ []) (front ++ last ∷ [])) ∙ events in
+      let u : Tracer = made t.place (t.place + 1) t.in_text in
+      let place : t.place + 1 + length front ≡ t.place + length (b ∷ front) = omega arith in
+      ap (λ (l : List ℕ). l ++ trace next (tracer_after s t b) (front ++ last ∷ [])) (quiet_traced s t b here)
+      ∙ ap (λ (v : Tracer). trace next v (front ++ last ∷ []))
+      (quiet_tracer s t b here ∙ ap (λ (h : Held). made (item_place t h b) (t.place + 1) t.in_text) nothing)
+      ∙ inside_traced front last e next u all one.other there whole
+      ∙ ap (λ (d : Display). written t.in_text (place_of (t.place + 1 + length front) t.place last e) e (report e d))
+      (quiet_display s b here)
+      ∙ ap (λ n. one_written s t n t.place last e) place
+
+  pub one_tracer : (front : List ℕ) (last : ℕ) (e : Event) (s : State) (t : Tracer) → s.held ≡ Nothing
+      → All IsPlain (drop 1 (front ++ last ∷ [])) → IsOne front last e
+      → tracer_all s t (front ++ last ∷ []) ≡ made t.place (t.place + length front + 1) (is_text e)
+  unfolding tracer_all play
+  one_tracer [] last e s t nothing all one =
+      last_tracer s t last t.place e (ap (λ (h : Held). events_from h (last ∷ [])) nothing ∙ one.events)
+      (ap (λ (h : Held). item_place t h last) nothing)
+      ∙ ap (λ n. made t.place (n + 1) (is_text e)) (sym (add-zero t.place))
+  one_tracer (b ∷ front) last e s t nothing all one =
+      let next : State = (play s (b ∷ [])).state in
+      let none = ap (λ (h : Held). events_from h (b ∷ front)) nothing ∙ one.silent in
+      let events = ap (λ (h : Held). events_from h (b ∷ (front ++ last ∷ []))) nothing ∙ one.events in
+      let parts = sym (split.events_append s.held (b ∷ []) front) ∙ none in
+      let here = no_bytes (events_from s.held (b ∷ [])) (events_from next.held front) parts in
+      let there = no_more (events_from s.held (b ∷ [])) (events_from next.held front) parts in
+      let whole : events_from next.held (front ++ last ∷ []) ≡ e ∷ [] =
+      ap (λ (es : List Event). es ++ events_from next.held (front ++ last ∷ [])) (sym here)
+      ∙ sym (split.events_append s.held (b ∷ []) (front ++ last ∷ [])) ∙ events in
+      let u : Tracer = made t.place (t.place + 1) t.in_text in
+      let place : t.place + 1 + length front ≡ t.place + length (b ∷ front) = omega arith in
+      ap (λ (v : Tracer). tracer_all next v (front ++ last ∷ []))
+      (quiet_tracer s t b here ∙ ap (λ (h : Held). made (item_place t h b) (t.place + 1) t.in_text) nothing)
+      ∙ inside_tracer front last e next u all one.other there whole
+      ∙ ap (λ n. made t.place (n + 1) (is_text e)) place
+
+-- ---- requests
+
+quiet_control : (b : ℕ) (s : Display) → eqb b 0x9A ≡ false → control_report b s ≡ []
+unfolding control_report
+quiet_control b s other = rw other refl
+
+quiet_sequence : (marker inter : Option ℕ) (last p : ℕ) (s : Display) → eqb last 0x63 ≡ false → eqb last 0x6E ≡ false
+    → sequence_report marker inter last p s ≡ []
+unfolding sequence_report
+quiet_sequence None None last p s c n = rw (c, n) refl
+quiet_sequence (Some marker) None last p s c n = go (eqb marker 0x3F) (eqb marker 0x3E) refl refl
+  where
+    go : (x y : Bool) → eqb marker 0x3F ≡ x → eqb marker 0x3E ≡ y → sequence_report (Some marker) None last p s ≡ []
+    go true y is also = rw (is, n) refl
+    go false true is also = rw (is, also, c) refl
+    go false false is also = rw (is, also) refl
+quiet_sequence None (Some inter) last p s c n = refl
+quiet_sequence (Some marker) (Some inter) last p s c n = refl
+
+neither : (a b : Bool) → a || b ≡ false → (a ≡ false) × (b ≡ false)
+neither true b h = absurd cc
+neither false b h = (refl, h)
+
+pub quiet_event : (e : Event) (s : Display) → is_request e ≡ false → report e s ≡ []
+quiet_event (Print b) s h = refl
+quiet_event (Control b) s h = quiet_control b s h
+quiet_event (Escape inter last) s h = refl
+quiet_event (Sequence marker params inter last) s h =
+    let both = neither (eqb last 0x63) (eqb last 0x6E) h in
+    quiet_sequence marker inter last (first params.items) s both.0 both.1
+
+-- ---- slices
+
+pub all_more : (xs : List ℕ) (n : ℕ) → n < length xs → IsShown (slice_index xs n) → All IsShown (take n xs)
+    → All IsShown (take (n + 1) xs)
+all_more xs n low here all =
+    rw (take_more xs n 0 low) (All-append IsShown (take n xs) (slice_index xs n ∷ []) all
+    (All-cons IsShown (slice_index xs n) [] here none_shown))
+  where
+    none_shown : All IsShown []
+    none_shown k d low = absurd (omega (arith, low))
+
+pub last_apart : (xs : List ℕ) → 1 ≤ length xs → take (length xs - 1) xs ++ slice_index xs (length xs - 1) ∷ [] ≡ xs
+last_apart xs some =
+    let n : length xs - 1 + 1 ≡ length xs = omega (arith, some) in
+    sym (take_more xs (length xs - 1) 0 (omega (arith, some))) ∙ ap (λ k. take k xs) n ∙ take-length xs
+
+pub front_long : (xs : List ℕ) → 1 ≤ length xs → length (take (length xs - 1) xs) ≡ length xs - 1
+front_long xs some = length-take (length xs - 1) xs ∙ omega (arith, some)
+
+pub part_of : (n : ℕ) (xs : List ℕ) → 1 ≤ n → n ≤ length xs → take (length (take n xs) - 1) (take n xs) ≡ take (n - 1) xs
+part_of n xs some within =
+    let len : length (take n xs) ≡ n = length-take n xs ∙ omega (arith, within) in
+    ap (λ k. take (k - 1) (take n xs)) len ∙ take-take (n - 1) n xs (omega arith)
+
+-- ---- functions
+
+pub text_lines : SpellingLaw → (s : State) (t : Tracer) (run old one two : List ℕ) → s.held ≡ Nothing → 1 ≤ length run
+    → All IsShown run → one ≡ old ++ text_begin t.in_text t.place → two ≡ one ++ run → two ≡ old ++ trace s t run
+text_lines law s t [] old one two nothing some all is then = absurd (omega (arith, some))
+text_lines law s t (b ∷ run) old one two nothing some all is then =
+    then ∙ ap (λ (l : List ℕ). l ++ b ∷ run) is ∙ append_assoc old (text_begin t.in_text t.place) (b ∷ run)
+    ∙ ap (λ (l : List ℕ). old ++ l) (sym (trace_text law s t b run nothing all))
+
+pub text_tracer : SpellingLaw → (s : State) (t : Tracer) (run : List ℕ) → s.held ≡ Nothing → 1 ≤ length run → All IsShown run
+    → made (t.place + (length run - 1)) (t.place + (length run - 1) + 1) true ≡ tracer_all s t run
+text_tracer law s t [] nothing some all = absurd (omega (arith, some))
+text_tracer law s t (b ∷ run) nothing some all =
+    same_tracer (t.place + (length (b ∷ run) - 1)) (t.place + length run) (t.place + (length (b ∷ run) - 1) + 1)
+    (t.place + length run + 1) true (omega arith) (omega arith)
+    ∙ sym (tracer_text law s t b run nothing all)
+
+module _ (law : SpellingLaw) (split : SplitLaw) (s : State) (t : Tracer) (item : List ℕ) (e : Event)
+    (nothing : s.held ≡ Nothing) (some : 1 ≤ length item) (events : events_from Nothing item ≡ e ∷ [])
+    (silent : events_from Nothing (take (length item - 1) item) ≡ []) (other : is_graphic e ≡ false)
+    (plain : All IsPlain (drop 1 item)) where
+  abbrev front : List ℕ
+  front = take (length item - 1) item
+
+  abbrev last : ℕ
+  last = slice_index item (length item - 1)
+
+  one_item : IsOne front last e
+  one_item = record {
+    other = other;
+    events = ap (λ (l : List ℕ). events_from Nothing l) (last_apart item some) ∙ events;
+    silent = silent;
+  }
+
+  plain_item : All IsPlain (drop 1 (front ++ last ∷ []))
+  plain_item = rw (last_apart item some) plain
+
+  pub event_lines : (place : ℕ) (old more : List ℕ) → is_request e ≡ false
+      → place ≡ place_of (t.place + (length item - 1)) t.place last e → more ≡ old ++ written t.in_text place e []
+      → more ≡ old ++ trace s t item
+  event_lines place old more quiet at then =
+      then ∙ ap (λ n. old ++ written t.in_text n e []) at
+      ∙ ap (λ n. old ++ written t.in_text (place_of (t.place + n) t.place last e) e []) (sym (front_long item some))
+      ∙ ap (λ (r : List ℕ). old ++ written t.in_text (place_of (t.place + length front) t.place last e) e r)
+      (sym (quiet_event e s.display quiet))
+      ∙ ap (λ (l : List ℕ). old ++ l) (sym (one_traced law split front last e s t nothing plain_item one_item))
+      ∙ ap (λ (l : List ℕ). old ++ trace s t l) (last_apart item some)
+
+  pub event_tracer : (v : Bool) → v ≡ is_text e
+      → made t.place (t.place + (length item - 1) + 1) v ≡ tracer_all s t item
+  event_tracer v text =
+      ap (λ (w : Bool). made t.place (t.place + (length item - 1) + 1) w) text
+      ∙ ap (λ n. made t.place (t.place + n + 1) (is_text e)) (sym (front_long item some))
+      ∙ sym (one_tracer law split front last e s t nothing plain_item one_item)
+      ∙ ap (λ (l : List ℕ). tracer_all s t l) (last_apart item some)

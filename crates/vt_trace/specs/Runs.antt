@@ -1,0 +1,29 @@
+-- Bytes that are traced at once. Contracts of private functions cite this, and no public clause does.
+use Rattle.std.specs.Prelude.{◌≡◌, ◌≢◌, ◌≤◌, ℕ, List, [], ◌∷◌, ◌++◌, Bool, true, false, ◌==◌, ◌||◌}
+use Rattle.vt_syntax.specs.declared.event.Event.{Event}
+use Rattle.vt_syntax.specs.declared.event.Event.TheVariants.{Print, Control, Escape, Sequence}
+use Rattle.vt_syntax.specs.declared.held.Held.TheVariants.{Nothing}
+use Rattle.vt_syntax.specs.Held.{events_from}
+
+-- a plain byte that a text shows as itself
+abbrev pub IsShown : ℕ → Type 0
+IsShown b = (0x20 ≤ b) × (b ≤ 0x7E) × (b ≢ 0x5C)
+
+abbrev pub is_graphic : Event → Bool
+is_graphic (Print b) = true
+is_graphic (Control b) = false
+is_graphic (Escape inter last) = false
+is_graphic (Sequence marker params inter last) = false
+
+-- an event that can be a request for a report: DECID, DA and DSR
+abbrev pub is_request : Event → Bool
+is_request (Print b) = false
+is_request (Control b) = b == 0x9A
+is_request (Escape inter last) = false
+is_request (Sequence marker params inter last) = last == 0x63 || last == 0x6E
+
+-- between sequences the bytes are this one event, which isn't a graphic byte and which the last of them completes
+pub record IsOne (front : List ℕ) (last : ℕ) (event : Event) : Type 0 where
+  pub other : is_graphic event ≡ false
+  pub events : events_from Nothing (front ++ last ∷ []) ≡ event ∷ []
+  pub silent : events_from Nothing front ≡ []

@@ -89,7 +89,7 @@ pub(crate) fn asciicast_content(
     ensures { IfOk result (λ t. IsOfCast (asciicast (micros_of until) (lines_of bytes.now)) until t.content.items t.broken t.replaced) }
 {
     let mut scratch = Scratch::new(alloc);
-    let mut written = Written::new(alloc);
+    let mut written = Written::with_capacity(alloc, bytes.len())?;
     let header = front_line(bytes);
     let Some(version) = version_in(alloc, header, &mut scratch)? else {
         return Ok(taken_of(written, Some(0)));

@@ -1,5 +1,5 @@
 //! The bytes of characters.
-ghost use Rattle.std.specs.Prelude.{◌≡◌, ◌≤◌, ◌++◌, ◌∷◌, [], ℕ, List, length, OnOk, chars};
+ghost use Rattle.std.specs.Prelude.{◌≡◌, ◌≤◌, ◌++◌, ◌∷◌, [], ℕ, List, length, IfOk, OnOk, chars};
 ghost use Rattle.vt_recording.specs.Moment.{cut};
 ghost use Rattle.vt_recording.specs.Moment as moment;
 ghost use Rattle.vt_recording.specs.Characters.{byte_of, AreWritten};
@@ -44,15 +44,15 @@ pub(crate) struct Written {
 }
 
 impl Written {
-    /// Returns no bytes.
-    pub(crate) fn new(alloc: Global) -> Written
-        ensures bytes { result.bytes.items ≡ [] }
-        ensures replaced { result.replaced ≡ 0 }
+    /// Returns no bytes, with the capacity for so many. Returns `Err` if allocation fails.
+    pub(crate) fn with_capacity(alloc: Global, capacity: usize) -> Result<Written, AllocError>
+        ensures bytes { IfOk result (λ w. w.bytes.items ≡ []) }
+        ensures replaced { IfOk result (λ w. w.replaced ≡ 0) }
     {
-        Written {
-            bytes: Vec::new(alloc),
+        Ok(Written {
+            bytes: Vec::with_capacity(alloc, capacity)?,
             replaced: 0,
-        }
+        })
     }
 
     /// Appends a character, if it is wanted.

@@ -195,10 +195,9 @@ pub(crate) fn timed_content(
     ensures taken { IfOk result (λ t. IsTimedAfter (first_line bytes.now) until bytes.now timing.now t.content.items t.broken) }
     ensures replaced { IfOk result (λ t. t.replaced ≡ 0) }
 {
-    let content = Vec::new(alloc);
     let Some(line) = first_line(bytes) else {
         return Ok(Taken {
-            content,
+            content: Vec::new(alloc),
             broken: Some(Break {
                 part: Part::Recording,
                 at: 0,
@@ -209,6 +208,7 @@ pub(crate) fn timed_content(
     let body = &bytes[line + 1..];
     let end = end_of(body);
     let stop = (line + 1 + end) as u64;
+    let content = Vec::with_capacity(alloc, end)?;
     let (content, broken) = play_lines(timing, &body[..end], micros_of(until), stop, content)?;
     Ok(Taken {
         content: cut(until, content),

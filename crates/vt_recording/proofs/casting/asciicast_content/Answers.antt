@@ -5,8 +5,8 @@ use Rattle.vt_recording.proofs.casting.asciicast_content.Goals as goal
 pub returns-in_default : goal.returns-in_default
 returns-in_default c =
     taken_none _ _ _ _ _ _ c.front_line-header.ensures.line (sym c.in_default.is ∙ c.in_ok-version.ensures)
-    (c.taken_of.ensures.content ∙ c.new-written.ensures.bytes)
-    (c.taken_of.ensures.replaced ∙ c.new-written.ensures.replaced) c.taken_of.ensures.broken
+    (c.taken_of.ensures.content ∙ c.in_ok-written.ensures.bytes)
+    (c.taken_of.ensures.replaced ∙ c.in_ok-written.ensures.replaced) c.taken_of.ensures.broken
 
 pub returns : goal.returns
 returns c =

@@ -2,7 +2,7 @@
 use Rattle.std.proofs.Common.{◌≡◌, ◌≢◌, ℕ, suc, ◌+◌, ◌-◌, ◌%◌, cond, ◌≤◌, ◌<◌, List, [], ◌∷◌, ◌++◌, Bool, true, false, not, ◌||◌}
 use Rattle.std.proofs.Common.{refl, sym, ap, ◌∙◌, arith, length, map, append-nil, append_assoc, drop, take, add-zero, Option, Some, None, eqb, length-take}
 use Rattle.std.proofs.lemmas.List.{take_more}
-use Rattle.std.proofs.Math.Seq.{take-length, take-take}
+use Rattle.std.proofs.Math.Seq.{take-length, take-take, take-add}
 use Rattle.std.specs.Prelude.{All, slice_index}
 use Rattle.std.proofs.lemmas.Bool.Decides.{nat_tests}
 use Rattle.std.proofs.lemmas.List.Elements.{All-cons, All-append}
@@ -18,12 +18,14 @@ use Rattle.vt_glyph.specs.Invocation.{has_no_glyph}
 use Rattle.vt_term.specs.State.{Display, State}
 use Rattle.vt_term.specs.Reports.{report, control_report, sequence_report}
 use Rattle.vt_term.specs.Parameters.{first}
-use Rattle.vt_term.specs.Play.{play, after_events}
+use Rattle.vt_term.specs.Play.{play, Played, after_events}
 use Rattle.vt_trace.specs.declared.tracing.Tracer.{Tracer}
 use Rattle.vt_trace.specs.Lines.{shown_byte, event_line}
 use Rattle.vt_trace.specs.Trace.{begins, item_place, place_of, is_text, text_of, text_begin, text_end, written, written_all, text_after}
 use Rattle.vt_trace.specs.Trace.{traced, tracer_after, trace, tracer_all}
-use Rattle.vt_trace.specs.Runs.{IsShown, IsOne, is_graphic, is_request}
+use Rattle.vt_trace.proofs.Counts.{nothing-held}
+use Rattle.vt_trace.proofs.Traces.{Plays, Keeps, Lines, Tracers, more-lines, more-tracer}
+use Rattle.vt_trace.specs.Runs.{IsShown, IsOne, Traces, is_graphic, is_request}
 
 abbrev tracer_at : Tracer → ℕ → Bool → Tracer
 tracer_at t n v = record { place = t.place + 1; begin = n; in_text = v }
@@ -439,3 +441,46 @@ module _ (law : SpellingLaw) (split : SplitLaw) (s : State) (t : Tracer) (item :
       ∙ ap (λ n. made t.place (t.place + n + 1) (is_text e)) (sym (front_long item some))
       ∙ sym (one_tracer law split front last e s t nothing plain_item one_item)
       ∙ ap (λ (l : List ℕ). tracer_all s t l) (last_apart item some)
+
+-- ---- what is appended of a run and of an event
+
+pub held_leads : (bytes : List ℕ) → held_from Nothing bytes ≡ Nothing → (s : State) → s.held ≡ Nothing
+    → (play s bytes).state.held ≡ Nothing
+unfolding play
+held_leads bytes between s nothing = ap (λ (h : Held). held_from h bytes) nothing ∙ between
+
+plain_of : (run : List ℕ) → All IsShown run → All IsPlain run
+plain_of run all = λ k d low. let i = all k d low in (i.0, i.1)
+
+pub run_traces : SpellingLaw → (t : Tracer) (run old one two : List ℕ) → 1 ≤ length run → All IsShown run
+    → one ≡ old ++ text_begin t.in_text t.place → two ≡ one ++ run
+    → Traces t (made (t.place + (length run - 1)) (t.place + (length run - 1) + 1) true) run old two
+run_traces law t run old one two some all is then = record {
+  lines = λ s sound nothing. text_lines law s t run old one two nothing some all is then;
+  tracer = λ s sound nothing. text_tracer law s t run nothing some all;
+  between = held_leads run (law.all_plain_held run (plain_of run all));
+}
+
+pub nothing_traced : SplitLaw → (t : Tracer) (old : List ℕ) → Traces t t [] old old
+unfolding trace tracer_all
+nothing_traced split t old = record {
+  lines = λ s sound nothing. sym (append-nil old);
+  tracer = λ s sound nothing. refl;
+  between = held_leads [] (split.held_nil Nothing nothing-held);
+}
+
+pub traces_more : Plays → Keeps → Lines → Tracers → (t u v : Tracer) (piece old out more : List ℕ) (at n : ℕ)
+    → Traces t u (take at piece) old out → Traces u v (take n (drop at piece)) out more
+    → Traces t v (take (at + n) piece) old more
+traces_more plays keeps lines tracers t u v piece old out more at n first second =
+    let front = take at piece in
+    let part = take n (drop at piece) in
+    rw (take-add at n piece) (record {
+      lines = λ s sound nothing. more-lines lines s (play s front).state t u front part old out more sound refl
+          (first.tracer s sound nothing) (first.lines s sound nothing)
+          (second.lines (play s front).state (keeps s front sound) (first.between s nothing));
+      tracer = λ s sound nothing. more-tracer tracers s (play s front).state t u v front part sound refl
+          (first.tracer s sound nothing) (second.tracer (play s front).state (keeps s front sound) (first.between s nothing));
+      between = λ s nothing. ap (λ (p : Played). p.state.held) (plays s front part)
+          ∙ second.between (play s front).state (first.between s nothing);
+    })

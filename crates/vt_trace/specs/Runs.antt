@@ -4,6 +4,11 @@ use Rattle.vt_syntax.specs.declared.event.Event.{Event}
 use Rattle.vt_syntax.specs.declared.event.Event.TheVariants.{Print, Control, Escape, Sequence}
 use Rattle.vt_syntax.specs.declared.held.Held.TheVariants.{Nothing}
 use Rattle.vt_syntax.specs.Held.{events_from}
+use Rattle.vt_term.specs.State.{State}
+use Rattle.vt_term.specs.Sound.{IsSound}
+use Rattle.vt_term.specs.Play.{play}
+use Rattle.vt_trace.specs.declared.tracing.Tracer.{Tracer}
+use Rattle.vt_trace.specs.Trace.{trace, tracer_all}
 
 -- a plain byte that a text shows as itself
 abbrev pub IsShown : ℕ → Type 0
@@ -27,3 +32,9 @@ pub record IsOne (front : List ℕ) (last : ℕ) (event : Event) : Type 0 where
   pub other : is_graphic event ≡ false
   pub events : events_from Nothing (front ++ last ∷ []) ≡ event ∷ []
   pub silent : events_from Nothing front ≡ []
+
+-- between sequences the bytes lead from a tracer to another, with what is appended, whatever the display is
+pub record Traces (before after : Tracer) (bytes old new : List ℕ) : Type 0 where
+  pub lines : (s : State) → IsSound s → s.held ≡ Nothing → new ≡ old ++ trace s before bytes
+  pub tracer : (s : State) → IsSound s → s.held ≡ Nothing → after ≡ tracer_all s before bytes
+  pub between : (s : State) → s.held ≡ Nothing → (play s bytes).state.held ≡ Nothing

@@ -5,16 +5,18 @@ ghost use Rattle.std.specs.Bool.{OnTrue};
 ghost use Rattle.vt_syntax.specs.declared.held.Held.TheVariants.{Nothing};
 ghost use Rattle.vt_syntax.specs.Class.{IsPlain};
 ghost use Rattle.vt_syntax.specs.Event.{event_of, event_in};
-ghost use Rattle.vt_syntax.specs.Held.{events_from};
+ghost use Rattle.vt_syntax.specs.Held.{events_from, held_from};
 ghost use Rattle.vt_term.specs.Play.{play};
 ghost use Rattle.vt_trace.specs.Trace.{text_begin, trace, tracer_all};
-ghost use Rattle.vt_trace.specs.Runs.{IsShown, is_graphic, is_request};
+ghost use Rattle.vt_trace.specs.Runs.{IsShown, Traces, is_graphic, is_request};
 
 use crate::bytes::{push_bytes, push_number};
+use crate::laws::cuts;
 use crate::tracing::{TRACE_LIMIT, Tracer, is_text, place_of, push_event, trace_byte};
 use vt_syntax::laws::{one_split, spelled};
 use vt_syntax::{EventKind, Parser, Values, plain_run};
 use vt_term::Terminal;
+use vt_term::laws::{cuts as play_cuts, soundness};
 
 /// Plays the front of a chunk that isn't empty, and appends its reports and its trace. Returns how many bytes it played.
 pub(crate) fn trace_front(
@@ -40,30 +42,90 @@ pub(crate) fn trace_front(
     ensures reports_capacity { vec_capacity reports.old ≤ vec_capacity reports.new }
     ensures capacity { vec_capacity out.old ≤ vec_capacity out.new }
 {
-    if terminal.is_between() {
-        let run = shown_run(piece).min(out.capacity() - out.len() - 30);
-        if run > 0 {
-            trace_text(terminal, tracer, &piece[..run], reports, out);
-            return run;
-        }
-        let taken = Parser::new().next(piece, values);
-        if let Some(kind) = taken.event {
-            if is_alone(kind, &piece[..taken.bytes]) {
-                trace_event(
-                    terminal,
-                    tracer,
-                    &piece[..taken.bytes],
-                    kind,
-                    values.as_slice(),
-                    reports,
-                    out,
-                );
-                return taken.bytes;
-            }
-        }
+    let mut after = *tracer;
+    let bytes = push_between(terminal, &mut after, piece, values, out);
+    if bytes > 0 {
+        terminal.feed_reserved(&piece[..bytes], reports);
+        *tracer = after;
+        return bytes;
     }
     trace_byte(terminal, tracer, piece[0], values, reports, out);
     1
+}
+
+/// Appends the trace of texts and of whole events at the front of a chunk, and plays nothing. Returns how many bytes they
+/// are, or 0 inside a sequence.
+fn push_between(
+    terminal: &Terminal,
+    tracer: &mut Tracer,
+    piece: &[u8],
+    values: &mut Values,
+    out: &mut Vec<u8>,
+) -> usize
+    requires { tracer.old.place + length piece.now < 2 ^ 64 }
+    ensures within { result ≤ length piece.now }
+    ensures lines { out.new.items ≡ out.old.items ++ trace terminal.now tracer.old (take result piece.now) }
+    ensures tracer { tracer.new ≡ tracer_all terminal.now tracer.old (take result piece.now) }
+    ensures bounded { vec_len out.new ≤ vec_len out.old + TRACE_LIMIT * result }
+    ensures capacity { vec_capacity out.old ≤ vec_capacity out.new }
+{
+    let _ = terminal.width();
+    if !terminal.is_between() {
+        return 0;
+    }
+    push_fronts(tracer, piece, values, out)
+}
+
+/// Appends the trace of texts and of whole events at the front of a chunk, between sequences. Returns how many bytes they
+/// are. None of them is a request for a report, so what is written doesn't depend on the state.
+fn push_fronts(tracer: &mut Tracer, piece: &[u8], values: &mut Values, out: &mut Vec<u8>) -> usize
+    requires { tracer.old.place + length piece.now < 2 ^ 64 }
+    ensures within { result ≤ length piece.now }
+    ensures traces { Traces tracer.old tracer.new (take result piece.now) out.old.items out.new.items }
+    ensures bounded { vec_len out.new ≤ vec_len out.old + TRACE_LIMIT * result }
+    ensures capacity { vec_capacity out.old ≤ vec_capacity out.new }
+{
+    one_split();
+    play_cuts();
+    soundness();
+    cuts();
+    let mut at = 0;
+    while at < piece.len() && out.capacity() - out.len() >= TRACE_LIMIT {
+        let bytes = push_one(tracer, &piece[at..], values, out);
+        if bytes == 0 {
+            return at;
+        }
+        at += bytes;
+    }
+    at
+}
+
+/// Appends the trace of a text or of a whole event at the front of a chunk, between sequences. Returns how many bytes it
+/// has, or 0 if neither is there.
+fn push_one(tracer: &mut Tracer, piece: &[u8], values: &mut Values, out: &mut Vec<u8>) -> usize
+    requires place { tracer.old.place + length piece.now < 2 ^ 64 }
+    requires room { vec_len out.old + TRACE_LIMIT ≤ vec_capacity out.old }
+    ensures within { result ≤ length piece.now }
+    ensures traces { Traces tracer.old tracer.new (take result piece.now) out.old.items out.new.items }
+    ensures place { tracer.new.place ≡ tracer.old.place + result }
+    ensures bounded { vec_len out.new ≤ vec_len out.old + TRACE_LIMIT * result }
+    ensures capacity { vec_capacity out.old ≤ vec_capacity out.new }
+{
+    one_split();
+    let run = shown_run(piece).min(out.capacity() - out.len() - 30);
+    if run > 0 {
+        push_run(tracer, &piece[..run], out);
+        return run;
+    }
+    let mut parser = Parser::new();
+    let taken = parser.next(piece, values);
+    if let Some(kind) = taken.event {
+        if parser.is_between() && is_alone(kind, &piece[..taken.bytes]) {
+            push_alone(tracer, &piece[..taken.bytes], kind, values.as_slice(), out);
+            return taken.bytes;
+        }
+    }
+    0
 }
 
 /// Returns how many bytes at the front of a piece a text shows as themselves.
@@ -120,33 +182,20 @@ fn is_request(kind: EventKind) -> bool
     }
 }
 
-/// Plays plain bytes between sequences, and appends the text.
-fn trace_text(
-    terminal: &mut Terminal,
-    tracer: &mut Tracer,
-    run: &[u8],
-    reports: &mut Vec<u8>,
-    out: &mut Vec<u8>,
-)
+/// Appends the trace of plain bytes between sequences.
+fn push_run(tracer: &mut Tracer, run: &[u8], out: &mut Vec<u8>)
     requires some { 1 ≤ length run.now }
     requires shown { All IsShown run.now }
-    requires between { terminal.old.held ≡ Nothing }
     requires place { tracer.old.place + length run.now < 2 ^ 64 }
-    requires reports_room { vec_len reports.old + 10 * length run.now ≤ vec_capacity reports.old }
     requires room { vec_len out.old + 30 + length run.now ≤ vec_capacity out.old }
-    ensures state { terminal.new ≡ (play terminal.old run.now).state }
-    ensures reports { reports.new.items ≡ reports.old.items ++ (play terminal.old run.now).reports }
-    ensures lines { out.new.items ≡ out.old.items ++ trace terminal.old tracer.old run.now }
-    ensures tracer { tracer.new ≡ tracer_all terminal.old tracer.old run.now }
-    ensures reports_bounded { vec_len reports.new ≤ vec_len reports.old + 10 * length run.now }
+    ensures traces { Traces tracer.old tracer.new run.now out.old.items out.new.items }
+    ensures place { tracer.new.place ≡ tracer.old.place + length run.now }
     ensures bounded { vec_len out.new ≤ vec_len out.old + 30 + length run.now }
-    ensures reports_capacity { vec_capacity reports.old ≤ vec_capacity reports.new }
     ensures capacity { vec_capacity out.old ≤ vec_capacity out.new }
 {
     spelled();
     push_text_begin(tracer, out);
     push_bytes(run, out);
-    terminal.feed_reserved(run, reports);
     let begin = tracer.place + (run.len() as u64 - 1);
     *tracer = Tracer {
         place: begin + 1,
@@ -168,39 +217,25 @@ fn push_text_begin(tracer: &Tracer, out: &mut Vec<u8>)
     }
 }
 
-/// Plays an event between sequences, and appends its line. It is no request for a report.
-fn trace_event(
-    terminal: &mut Terminal,
-    tracer: &mut Tracer,
-    item: &[u8],
-    kind: EventKind,
-    values: &[u16],
-    reports: &mut Vec<u8>,
-    out: &mut Vec<u8>,
-)
+/// Appends the line of an event between sequences, which is no request for a report.
+fn push_alone(tracer: &mut Tracer, item: &[u8], kind: EventKind, values: &[u16], out: &mut Vec<u8>)
     requires some { 1 ≤ length item.now }
     requires few { length values.now ≤ 16 }
     requires event { events_from Nothing item.now ≡ event_of kind values.now ∷ [] }
     requires silent { events_from Nothing (take (length item.now - 1) item.now) ≡ [] }
+    requires between { held_from Nothing item.now ≡ Nothing }
     requires other { is_graphic (event_of kind values.now) ≡ false }
     requires no_request { is_request (event_of kind values.now) ≡ false }
     requires plain { All IsPlain (drop 1 item.now) }
-    requires between { terminal.old.held ≡ Nothing }
     requires place { tracer.old.place + length item.now < 2 ^ 64 }
-    requires reports_room { vec_len reports.old + 10 * length item.now ≤ vec_capacity reports.old }
     requires room { vec_len out.old + TRACE_LIMIT ≤ vec_capacity out.old }
-    ensures state { terminal.new ≡ (play terminal.old item.now).state }
-    ensures reports { reports.new.items ≡ reports.old.items ++ (play terminal.old item.now).reports }
-    ensures lines { out.new.items ≡ out.old.items ++ trace terminal.old tracer.old item.now }
-    ensures tracer { tracer.new ≡ tracer_all terminal.old tracer.old item.now }
-    ensures reports_bounded { vec_len reports.new ≤ vec_len reports.old + 10 * length item.now }
+    ensures traces { Traces tracer.old tracer.new item.now out.old.items out.new.items }
+    ensures place { tracer.new.place ≡ tracer.old.place + length item.now }
     ensures bounded { vec_len out.new ≤ vec_len out.old + TRACE_LIMIT }
-    ensures reports_capacity { vec_capacity reports.old ≤ vec_capacity reports.new }
     ensures capacity { vec_capacity out.old ≤ vec_capacity out.new }
 {
     one_split();
     spelled();
-    terminal.feed_reserved(item, reports);
     let begin = tracer.place;
     let last = begin + (item.len() as u64 - 1);
     let place = place_of(last, begin, item[item.len() - 1], kind);

@@ -1,13 +1,19 @@
-use Rattle.std.proofs.Common.{ℕ, List, ◌++◌, slice_index, sym, ap, ◌∙◌}
-use Rattle.vt_trace.specs.Trace.{trace, tracer_all}
+use Rattle.std.proofs.Common.{◌≡◌, ℕ, List, ◌++◌, take, slice_index, sym, ap, ◌∙◌, append-nil, arith}
+use Rattle.vt_trace.specs.Trace.{trace, tracer_all, traced}
 use Rattle.vt_trace.proofs.Traces.{byte_lines, byte_tracer, first_of}
 use Rattle.vt_trace.proofs.fronts.trace_front.Goals as goal
 
 pub returns-clause-lines : goal.returns-clause-lines
+unfolding trace
 returns-clause-lines c =
     let s = c.args.terminal.now in
     let t = c.args.tracer.now in
+    let none : c.push_between-bytes.result ≡ 0 = omega (arith, c.if-bytes-gt0.false) in
+    let same : c.push_between-bytes.new.out.items ≡ c.args.out.now.items =
+    c.push_between-bytes.ensures.lines
+    ∙ ap (λ n. c.args.out.now.items ++ trace s t (take n c.args.piece.now)) none ∙ append-nil c.args.out.now.items in
     c.trace_byte.ensures.lines
+    ∙ ap (λ (l : List ℕ). l ++ traced s t (slice_index c.args.piece.now 0)) same
     ∙ ap (λ (l : List ℕ). c.args.out.now.items ++ l) (byte_lines s t (slice_index c.args.piece.now 0)
     ∙ ap (trace s t) (sym (first_of c.args.piece.now c.requires.some)))
 

@@ -6,3 +6,4 @@ mod TracedBytes
 mod Traces
 mod Counts
 mod Runs
+mod Digits

@@ -6,6 +6,7 @@ ghost use Rattle.vt_trace.specs.Lines.{hex_digit, shown_byte, shown, joined};
 use itoa::Buffer;
 
 /// Appends bytes.
+#[inline(always)]
 pub(crate) fn push_bytes(bytes: &[u8], out: &mut Vec<u8>)
     requires { vec_len out.old + length bytes.now ≤ vec_capacity out.old }
     ensures items { out.new.items ≡ out.old.items ++ bytes.now }
@@ -16,6 +17,7 @@ pub(crate) fn push_bytes(bytes: &[u8], out: &mut Vec<u8>)
 }
 
 /// Appends a number, of at most twenty digits.
+#[inline(always)]
 pub(crate) fn push_number(n: u64, out: &mut Vec<u8>)
     requires { vec_len out.old + 20 ≤ vec_capacity out.old }
     ensures items { out.new.items ≡ out.old.items ++ decimal n }
@@ -27,8 +29,26 @@ pub(crate) fn push_number(n: u64, out: &mut Vec<u8>)
     out.extend_from_slice(digits.as_bytes()).unwrap();
 }
 
-/// Appends a value, of at most five digits.
+/// Appends a value, of at most five digits. Speed: most values have one digit or two.
+#[inline(always)]
 fn push_value(n: u16, out: &mut Vec<u8>)
+    requires { vec_len out.old + 5 ≤ vec_capacity out.old }
+    ensures items { out.new.items ≡ out.old.items ++ decimal n }
+    ensures bounded { vec_len out.new ≤ vec_len out.old + 5 }
+    ensures capacity { vec_capacity out.old ≤ vec_capacity out.new }
+{
+    if n < 10 {
+        push_bytes(&[b'0' + n as u8], out);
+    } else if n < 100 {
+        push_bytes(&[b'0' + (n / 10) as u8, b'0' + (n % 10) as u8], out);
+    } else {
+        push_long_value(n, out);
+    }
+}
+
+/// Appends a value, of at most five digits.
+#[inline(never)]
+fn push_long_value(n: u16, out: &mut Vec<u8>)
     requires { vec_len out.old + 5 ≤ vec_capacity out.old }
     ensures items { out.new.items ≡ out.old.items ++ decimal n }
     ensures bounded { vec_len out.new ≤ vec_len out.old + 5 }
@@ -49,6 +69,7 @@ fn hex_digit(n: u8) -> u8
 
 /// Appends a byte as text.
 #[tactic(auto, unfolding(crate::specs::Lines::shown_byte))]
+#[inline(always)]
 pub(crate) fn push_shown(b: u8, out: &mut Vec<u8>)
     requires { vec_len out.old + 4 ≤ vec_capacity out.old }
     ensures items { out.new.items ≡ out.old.items ++ shown_byte b }
@@ -63,6 +84,7 @@ pub(crate) fn push_shown(b: u8, out: &mut Vec<u8>)
 }
 
 /// Appends a byte, if there is one.
+#[inline(always)]
 pub(crate) fn push_option(b: Option<u8>, out: &mut Vec<u8>)
     requires { vec_len out.old + 1 ≤ vec_capacity out.old }
     ensures items { out.new.items ≡ out.old.items ++ option_to_list b }
@@ -75,6 +97,7 @@ pub(crate) fn push_option(b: Option<u8>, out: &mut Vec<u8>)
 }
 
 /// Appends a byte as text, if there is one.
+#[inline(always)]
 pub(crate) fn push_shown_option(b: Option<u8>, out: &mut Vec<u8>)
     requires { vec_len out.old + 4 ≤ vec_capacity out.old }
     ensures items { out.new.items ≡ out.old.items ++ shown (option_to_list b) }
@@ -87,6 +110,7 @@ pub(crate) fn push_shown_option(b: Option<u8>, out: &mut Vec<u8>)
 }
 
 /// Appends values, at most sixteen.
+#[inline(always)]
 pub(crate) fn push_values(values: &[u16], out: &mut Vec<u8>)
     requires few { length values.now ≤ 16 }
     requires room { vec_len out.old + 96 ≤ vec_capacity out.old }

@@ -14,7 +14,7 @@ use crate::bytes::{push_bytes, push_number};
 use crate::laws::cuts;
 use crate::tracing::{TRACE_LIMIT, Tracer, is_text, place_of, push_event, trace_byte};
 use vt_syntax::laws::{one_split, spelled};
-use vt_syntax::{EventKind, Parser, Values, plain_run};
+use vt_syntax::{EventKind, Parser, Values};
 use vt_term::Terminal;
 use vt_term::laws::{cuts as play_cuts, soundness};
 
@@ -102,6 +102,7 @@ fn push_fronts(tracer: &mut Tracer, piece: &[u8], values: &mut Values, out: &mut
 
 /// Appends the trace of a text or of a whole event at the front of a chunk, between sequences. Returns how many bytes it
 /// has, or 0 if neither is there.
+#[inline(always)]
 fn push_one(tracer: &mut Tracer, piece: &[u8], values: &mut Values, out: &mut Vec<u8>) -> usize
     requires place { tracer.old.place + length piece.now < 2 ^ 64 }
     requires room { vec_len out.old + TRACE_LIMIT ≤ vec_capacity out.old }
@@ -129,6 +130,7 @@ fn push_one(tracer: &mut Tracer, piece: &[u8], values: &mut Values, out: &mut Ve
 }
 
 /// Returns how many bytes at the front of a piece a text shows as themselves.
+#[inline(always)]
 fn shown_run(piece: &[u8]) -> usize
     ensures within { result ≤ length piece.now }
     ensures shown { All IsShown (take result piece.now) }
@@ -141,6 +143,7 @@ fn shown_run(piece: &[u8]) -> usize
 }
 
 /// Returns whether a text shows a byte as itself.
+#[inline(always)]
 fn is_shown(b: u8) -> bool
     ensures { OnTrue result (IsShown b) }
 {
@@ -148,6 +151,7 @@ fn is_shown(b: u8) -> bool
 }
 
 /// Returns whether an event is no graphic byte and no request, and its bytes after the first are plain.
+#[inline(always)]
 fn is_alone(kind: EventKind, item: &[u8]) -> bool
     requires { 1 ≤ length item.now }
     ensures other { OnTrue result ((values : List ℕ) → is_graphic (event_of kind values) ≡ false) }
@@ -155,10 +159,24 @@ fn is_alone(kind: EventKind, item: &[u8]) -> bool
     ensures plain { OnTrue result (All IsPlain (drop 1 item.now)) }
 {
     let after = &item[1..];
-    !is_print(kind) && !is_request(kind) && plain_run(after) == after.len()
+    !is_print(kind) && !is_request(kind) && are_plain(after)
+}
+
+/// Returns whether all bytes are plain. (Speed: they are few.)
+#[inline(always)]
+fn are_plain(bytes: &[u8]) -> bool
+    ensures { OnTrue result (All IsPlain bytes.now) }
+{
+    for b in bytes.iter() {
+        if *b < 0x20 || *b > 0x7E {
+            return false;
+        }
+    }
+    true
 }
 
 /// Returns whether an event is a graphic byte.
+#[inline(always)]
 fn is_print(kind: EventKind) -> bool
     ensures { (values : List ℕ) → result ≡ is_graphic (event_of kind values) }
 {
@@ -171,6 +189,7 @@ fn is_print(kind: EventKind) -> bool
 }
 
 /// Returns whether an event can be a request for a report.
+#[inline(always)]
 fn is_request(kind: EventKind) -> bool
     ensures { (values : List ℕ) → result ≡ is_request (event_of kind values) }
 {
@@ -183,6 +202,7 @@ fn is_request(kind: EventKind) -> bool
 }
 
 /// Appends the trace of plain bytes between sequences.
+#[inline(always)]
 fn push_run(tracer: &mut Tracer, run: &[u8], out: &mut Vec<u8>)
     requires some { 1 ≤ length run.now }
     requires shown { All IsShown run.now }
@@ -205,6 +225,7 @@ fn push_run(tracer: &mut Tracer, run: &[u8], out: &mut Vec<u8>)
 }
 
 /// Appends the beginning of a text's line, unless the text goes on.
+#[inline(always)]
 fn push_text_begin(tracer: &Tracer, out: &mut Vec<u8>)
     requires { vec_len out.old + 30 ≤ vec_capacity out.old }
     ensures items { out.new.items ≡ out.old.items ++ text_begin tracer.now.in_text tracer.now.place }
@@ -218,6 +239,7 @@ fn push_text_begin(tracer: &Tracer, out: &mut Vec<u8>)
 }
 
 /// Appends the line of an event between sequences, which is no request for a report.
+#[inline(always)]
 fn push_alone(tracer: &mut Tracer, item: &[u8], kind: EventKind, values: &[u16], out: &mut Vec<u8>)
     requires some { 1 ≤ length item.now }
     requires few { length values.now ≤ 16 }

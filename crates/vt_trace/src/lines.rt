@@ -38,6 +38,7 @@ pub fn push_line(place: u64, kind: EventKind, values: &[u16], out: &mut Vec<u8>)
 }
 
 /// Appends the marker and the values of a control sequence, or a graphic byte.
+#[inline(always)]
 fn push_values_column(kind: EventKind, values: &[u16], out: &mut Vec<u8>)
     requires few { length values.now ≤ 16 }
     requires room { vec_len out.old + 97 ≤ vec_capacity out.old }

@@ -58,6 +58,7 @@ fn begins(held: &Held, b: u8) -> bool
 }
 
 /// Returns the place of an event that a byte completes.
+#[inline(always)]
 pub(crate) fn place_of(place: u64, begin: u64, b: u8, kind: EventKind) -> u64
     ensures { (values : List ℕ) → result ≡ place_of place begin b (event_of kind values) }
 {
@@ -206,6 +207,7 @@ fn push_events(
 }
 
 /// Returns whether an event is a character.
+#[inline(always)]
 pub(crate) fn is_text(kind: EventKind) -> bool
     ensures { (values : List ℕ) → result ≡ is_text (event_of kind values) }
 {
@@ -225,6 +227,7 @@ fn has_glyph(b: u8) -> bool
 }
 
 /// Appends what is to be written of an event with its report.
+#[inline(always)]
 pub(crate) fn push_event(
     in_text: bool,
     place: u64,
@@ -265,6 +268,7 @@ fn push_print(in_text: bool, place: u64, b: u8, out: &mut Vec<u8>)
 }
 
 /// Appends the end of a text, the line of an event and that of its report.
+#[inline(always)]
 fn push_other(
     in_text: bool,
     place: u64,
@@ -287,6 +291,7 @@ fn push_other(
 }
 
 /// Appends the end of a text, if the last line is one.
+#[inline(always)]
 fn push_end(in_text: bool, out: &mut Vec<u8>)
     requires { vec_len out.old + 1 ≤ vec_capacity out.old }
     ensures items { out.new.items ≡ out.old.items ++ text_end in_text }
@@ -313,6 +318,7 @@ fn push_text(in_text: bool, place: u64, b: u8, out: &mut Vec<u8>)
 }
 
 /// Appends the line of a report, if there is one.
+#[inline(always)]
 fn push_report(place: u64, report: &[u8], out: &mut Vec<u8>)
     requires short { length report.now ≤ 10 }
     requires room { vec_len out.old + 70 ≤ vec_capacity out.old }

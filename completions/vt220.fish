@@ -1,5 +1,5 @@
 # Completions of vt220 for fish.
-set -l commands text reports repaint status show picture log
+set -l commands text reports repaint status show picture log pages trace summary content
 complete -c vt220 -n "not __fish_seen_subcommand_from $commands help" -f
 complete -c vt220 -n "not __fish_seen_subcommand_from $commands help" -a text -d 'The screen as text'
 complete -c vt220 -n "not __fish_seen_subcommand_from $commands help" -a reports -d 'What the terminal answers to the host'
@@ -8,9 +8,16 @@ complete -c vt220 -n "not __fish_seen_subcommand_from $commands help" -a status 
 complete -c vt220 -n "not __fish_seen_subcommand_from $commands help" -a show -d 'The screen with its attributes'
 complete -c vt220 -n "not __fish_seen_subcommand_from $commands help" -a picture -d 'The screen as SVG'
 complete -c vt220 -n "not __fish_seen_subcommand_from $commands help" -a log -d 'The lines that scroll off, and then the screen'
+complete -c vt220 -n "not __fish_seen_subcommand_from $commands help" -a pages -d 'The log, and each screen before it is blanked'
+complete -c vt220 -n "not __fish_seen_subcommand_from $commands help" -a trace -d 'A line for each event'
+complete -c vt220 -n "not __fish_seen_subcommand_from $commands help" -a summary -d 'How often each event occurs'
+complete -c vt220 -n "not __fish_seen_subcommand_from $commands help" -a content -d 'The bytes of the host'
 complete -c vt220 -n "not __fish_seen_subcommand_from $commands help" -a help -d 'Help on a command'
 complete -c vt220 -n "not __fish_seen_subcommand_from $commands help" -l version -d 'Print the version'
 complete -c vt220 -n "__fish_seen_subcommand_from $commands" -l piece -x -d 'The most bytes of one read'
 complete -c vt220 -n "__fish_seen_subcommand_from $commands" -l limit -x -d 'The most bytes of the input'
+complete -c vt220 -n "__fish_seen_subcommand_from $commands" -l format -x -a 'raw script ttyrec asciicast' -d 'How the input was recorded'
+complete -c vt220 -n "__fish_seen_subcommand_from $commands" -l timing -r -d 'The times of a recording by script'
+complete -c vt220 -n "__fish_seen_subcommand_from $commands" -l until -x -d 'Only what came before'
 complete -c vt220 -n "__fish_seen_subcommand_from help" -f -a "$commands"
 complete -c vt220 -l help -d 'Print the help'

@@ -1,2 +1,3 @@
+mod Outcomes
 mod Readings
 mod Tracers

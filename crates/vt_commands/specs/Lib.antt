@@ -1,2 +1,4 @@
 pub mod Counting
+pub mod Fault
+pub mod Request
 pub mod Words

@@ -2,10 +2,13 @@
 #![tactic(auto)]
 
 mod counting;
+mod fault;
 mod outputs;
 mod requests;
 
-pub use requests::carry_out;
+pub use fault::Fault;
+pub use requests::{Outcome, carry_out, read_timing};
+pub use vt_recording::{Break, Part};
 pub use vt_replay::{
-    Fault, Format, Moment, Refused, Request, Settings, Watched, What, Word, request, settings,
+    Format, Moment, Refused, Request, Settings, Watched, What, Word, request, settings,
 };

@@ -1,18 +1,23 @@
 //! A request, carried out by its word.
-ghost use Rattle.std.specs.Prelude.{◌≡◌, ◌≤◌, true, false};
+ghost use Rattle.std.specs.Prelude.{◌≡◌, ◌≤◌, true, false, Err, option_map};
 ghost use Rattle.std.specs.Io.KnownBytes.{IsAtEnd};
-ghost use Rattle.vt_device.specs.Runs.{Moves};
+ghost use Rattle.vt_device.specs.Runs.{Moves, Takes};
+ghost use Rattle.vt_device.specs.Writing.{Gives};
 ghost use Rattle.vt_replay.specs.Output.{OutputTable};
 ghost use Rattle.vt_commands.specs.Words.{WordTable, pages_written, screen, trace_written, trace_ending, all, nothing};
+ghost use Rattle.vt_commands.specs.declared.fault.Fault.TheVariants.{Replay};
+ghost use Rattle.vt_commands.specs.Request.{is_streamed, unread_fault, ended_of, IsStreamed, IsPlayed, OutcomeTable, TimingTable};
 
 use crate::counting::write_summary;
+use crate::fault::Fault;
 use crate::outputs::{ContentOutput, PageOutput, TraceOutput};
-use std::alloc::Global;
+use std::alloc::{AllocError, Global};
 use std::io::{Read, Write};
-use vt_cli::{Request, Word};
+use vt_cli::{Format, Moment, Request, Word};
 use vt_device::Watched;
 use vt_log::laws::pages_cut;
-use vt_replay::{Fault, run, write_log, write_output};
+use vt_recording::{Break, Content, Taken, read_recording, take_apart};
+use vt_replay::{run, write_log, write_output};
 use vt_term::laws::soundness;
 
 /// Plays the reader's bytes on a new terminal, and writes its log with pages.
@@ -22,7 +27,7 @@ fn write_pages<R: Read, W: Write>(
     writer: &mut Watched<W>,
     piece: usize,
     limit: u64,
-) -> Result<(), Fault>
+) -> Result<(), vt_replay::Fault>
     requires reader_works { reader.old.failed ≡ false }
     requires reader_goes_on { reader.old.ended ≡ false }
     requires writer_works { writer.old.failed ≡ false }
@@ -46,7 +51,7 @@ fn write_trace<R: Read, W: Write>(
     writer: &mut Watched<W>,
     piece: usize,
     limit: u64,
-) -> Result<(), Fault>
+) -> Result<(), vt_replay::Fault>
     requires reader_works { reader.old.failed ≡ false }
     requires reader_goes_on { reader.old.ended ≡ false }
     requires writer_works { writer.old.failed ≡ false }
@@ -68,7 +73,7 @@ fn write_content<R: Read, W: Write>(
     writer: &mut Watched<W>,
     piece: usize,
     limit: u64,
-) -> Result<(), Fault>
+) -> Result<(), vt_replay::Fault>
     requires reader_works { reader.old.failed ≡ false }
     requires reader_goes_on { reader.old.ended ≡ false }
     requires writer_works { writer.old.failed ≡ false }
@@ -83,30 +88,199 @@ fn write_content<R: Read, W: Write>(
     write_output(alloc, &mut output, reader, writer, piece, limit)
 }
 
-/// Carries out the word of a request on the reader's bytes. It doesn't look at the request's file: the caller opens it as the
-/// reader. Neither device has failed before, and the reader hasn't ended.
-///
-/// `Err` is what `run`, `write_log` or `write_output` returns.
-pub fn carry_out<R: Read, W: Write>(
+/// Carries out a word on the reader's bytes. Neither device has failed before, and the reader hasn't ended.
+fn carry_out_word<R: Read, W: Write>(
     alloc: Global,
     reader: &mut Watched<R>,
     writer: &mut Watched<W>,
+    word: Word,
+    piece: usize,
+    limit: u64,
+) -> Result<(), vt_replay::Fault>
+    requires reader_works { reader.old.failed ≡ false }
+    requires reader_goes_on { reader.old.ended ≡ false }
+    requires writer_works { writer.old.failed ≡ false }
+    requires piece_in_range { (1 ≤ piece) × (piece ≤ 65536) }
+    requires limit_in_range { limit ≤ 1099511627776 }
+    ensures answer { Moves (R.remaining reader.old.device) (R.remaining reader.new.device) (W.contents writer.old.device)
+        (W.contents writer.new.device)
+        (λ b w. WordTable result word piece b w (record { reader_failed = reader.new.failed; reader_ended = reader.new.ended; writer_failed = writer.new.failed }) limit) }
+    ensures whole { reader.new.ended ≡ true → IsAtEnd (R.remaining reader.new.device) }
+{
+    match word {
+        Word::Replay(what) => run(alloc, reader, writer, what, piece, limit),
+        Word::Log => write_log(alloc, reader, writer, piece, limit),
+        Word::Pages => write_pages(alloc, reader, writer, piece, limit),
+        Word::Trace => write_trace(alloc, reader, writer, piece, limit),
+        Word::Summary => write_summary(alloc, reader, writer, piece, limit),
+        Word::Content => write_content(alloc, reader, writer, piece, limit),
+    }
+}
+
+/// How a request ended.
+#[derive(Clone, Copy, Debug, PartialEq, Eq)]
+pub struct Outcome {
+    /// How many characters of the recording have no byte: SUB was played in their place.
+    pub replaced: u64,
+    /// Why the request ended early, if it did.
+    pub ended: Result<(), Fault>,
+}
+
+/// Returns whether the input is played as it comes.
+fn is_streamed(format: Format, until: Option<Moment>) -> bool
+    ensures { result ≡ is_streamed format until }
+{
+    match format {
+        Format::Raw => until.is_none(),
+        Format::Script => false,
+        Format::Ttyrec => false,
+        Format::Asciicast => false,
+    }
+}
+
+/// Returns the fault of a replay for one of the reading.
+fn unread_fault(fault: vt_recording::Fault) -> vt_replay::Fault
+    ensures { result ≡ unread_fault fault }
+{
+    match fault {
+        vt_recording::Fault::Memory => vt_replay::Fault::Memory,
+        vt_recording::Fault::Broken(_) => vt_replay::Fault::Read,
+        vt_recording::Fault::Read => vt_replay::Fault::Read,
+        vt_recording::Fault::Write => vt_replay::Fault::Read,
+        vt_recording::Fault::TooLong => vt_replay::Fault::TooLong,
+    }
+}
+
+/// Reads a timing file whole, of at most `limit` bytes (up to 2 to the 40th). The reader hasn't failed or ended before.
+///
+/// `Err` is `Memory` if allocation fails, `Read` if the reader failed, and `TooLong` if it has more than `limit` bytes.
+pub fn read_timing<R: Read>(
+    alloc: Global,
+    reader: &mut Watched<R>,
+    limit: u64,
+) -> Result<Vec<u8>, Fault>
+    requires works { reader.old.failed ≡ false }
+    requires goes_on { reader.old.ended ≡ false }
+    requires limit_in_range { limit ≤ 1099511627776 }
+    ensures takes { Takes (R.remaining reader.old.device) (R.remaining reader.new.device)
+        (λ b. TimingTable result b reader.new.failed reader.new.ended limit) }
+{
+    match read_recording(alloc, reader, limit as usize) {
+        Ok(bytes) => Ok(bytes),
+        Err(fault) => Err(Fault::Replay(unread_fault(fault))),
+    }
+}
+
+/// Returns how a request ends whose word ended so, on a recording that is broken there.
+fn ended_of(broken: Option<Break>, played: Result<(), vt_replay::Fault>) -> Result<(), Fault>
+    ensures { result ≡ ended_of broken played }
+{
+    match played {
+        Ok(()) => match broken {
+            None => Ok(()),
+            Some(place) => Err(Fault::Broken(place)),
+        },
+        Err(fault) => Err(Fault::Replay(fault)),
+    }
+}
+
+/// Returns the outcome of a request whose input wasn't read whole or taken apart.
+fn unread(fault: vt_replay::Fault) -> Outcome
+    ensures ended { result.ended ≡ Err (Replay fault) }
+    ensures none_replaced { result.replaced ≡ 0 }
+{
+    Outcome {
+        replaced: 0,
+        ended: Err(Fault::Replay(fault)),
+    }
+}
+
+/// Carries out a request on the reader's bytes, and writes what is due. It doesn't look at the request's files: the caller
+/// opens its file as the reader, and reads its timing file. Neither device has failed before, and the reader hasn't ended.
+///
+/// If the format is raw and all of the input is wanted, the word is carried out on the bytes as they come. Otherwise the
+/// input is read whole, and the word is carried out on its content up to the moment. If the recording is broken, that is
+/// the fault, after what came before was played and written.
+pub fn carry_out<R: Read, W: Write>(
+    alloc: Global,
+    reader: &mut Watched<R>,
+    timing: Option<&[u8]>,
+    writer: &mut Watched<W>,
     request: &Request,
-) -> Result<(), Fault>
+) -> Outcome
     requires reader_works { reader.old.failed ≡ false }
     requires reader_goes_on { reader.old.ended ≡ false }
     requires writer_works { writer.old.failed ≡ false }
     ensures answer { Moves (R.remaining reader.old.device) (R.remaining reader.new.device) (W.contents writer.old.device)
         (W.contents writer.new.device)
-        (λ b w. WordTable result request.now.word request.now.piece b w (record { reader_failed = reader.new.failed; reader_ended = reader.new.ended; writer_failed = writer.new.failed }) request.now.limit) }
+        (λ b w. OutcomeTable result request.now (option_map (λ t. t.now) timing.entry) b w (record { reader_failed = reader.new.failed; reader_ended = reader.new.ended; writer_failed = writer.new.failed })) }
     ensures whole { reader.new.ended ≡ true → IsAtEnd (R.remaining reader.new.device) }
 {
-    match request.word {
-        Word::Replay(what) => run(alloc, reader, writer, what, request.piece, request.limit),
-        Word::Log => write_log(alloc, reader, writer, request.piece, request.limit),
-        Word::Pages => write_pages(alloc, reader, writer, request.piece, request.limit),
-        Word::Trace => write_trace(alloc, reader, writer, request.piece, request.limit),
-        Word::Summary => write_summary(alloc, reader, writer, request.piece, request.limit),
-        Word::Content => write_content(alloc, reader, writer, request.piece, request.limit),
+    if is_streamed(request.format, request.until) {
+        return stream(alloc, reader, writer, request);
+    }
+    match read_recording(alloc, reader, request.limit as usize) {
+        Ok(bytes) => match take_apart(alloc, &bytes, timing, request.format, request.until) {
+            Ok(taken) => play_taken(alloc, taken, writer, request),
+            Err(AllocError) => unread(vt_replay::Fault::Memory),
+        },
+        Err(fault) => unread(unread_fault(fault)),
+    }
+}
+
+/// Carries out the request's word on the reader's bytes as they come.
+fn stream<R: Read, W: Write>(
+    alloc: Global,
+    reader: &mut Watched<R>,
+    writer: &mut Watched<W>,
+    request: &Request,
+) -> Outcome
+    requires reader_works { reader.old.failed ≡ false }
+    requires reader_goes_on { reader.old.ended ≡ false }
+    requires writer_works { writer.old.failed ≡ false }
+    ensures answer { Moves (R.remaining reader.old.device) (R.remaining reader.new.device) (W.contents writer.old.device)
+        (W.contents writer.new.device)
+        (λ b w. IsStreamed result request.now b w (record { reader_failed = reader.new.failed; reader_ended = reader.new.ended; writer_failed = writer.new.failed })) }
+    ensures whole { reader.new.ended ≡ true → IsAtEnd (R.remaining reader.new.device) }
+{
+    let played = carry_out_word(
+        alloc,
+        reader,
+        writer,
+        request.word,
+        request.piece,
+        request.limit,
+    );
+    Outcome {
+        replaced: 0,
+        ended: ended_of(None, played),
+    }
+}
+
+/// Carries out the request's word on the content of a recording.
+fn play_taken<W: Write>(
+    alloc: Global,
+    taken: Taken,
+    writer: &mut Watched<W>,
+    request: &Request,
+) -> Outcome
+    requires writer_works { writer.old.failed ≡ false }
+    ensures { Gives (W.contents writer.old.device) (W.contents writer.new.device)
+        (λ w. IsPlayed result request.now taken.content.items taken.broken taken.replaced w writer.new.failed) }
+{
+    let broken = taken.broken;
+    let replaced = taken.replaced;
+    let mut content = Watched::new(Content::new(taken.content));
+    let played = carry_out_word(
+        alloc,
+        &mut content,
+        writer,
+        request.word,
+        request.piece,
+        request.limit,
+    );
+    Outcome {
+        replaced,
+        ended: ended_of(broken, played),
     }
 }

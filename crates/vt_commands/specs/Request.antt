@@ -1,0 +1,105 @@
+-- What a request takes from its reader and gives to its writer. (this profile)
+use Rattle.std.specs.Prelude.{◌≡◌, ◌⊎◌, ℕ, ◌≤◌, ◌+◌, ◌++◌, List, [], length, Bool, true, false, Option, Some, None, Result, Ok, Err}
+use Rattle.std.specs.declared.alloc.Global.{Global}
+use Rattle.std.specs.declared.vec.Vec.{Vec}
+use Rattle.vt_device.specs.Runs.{Flags}
+use Rattle.vt_cli.specs.declared.asked.Request.{Request}
+use Rattle.vt_recording.specs.declared.format.Format.{Format}
+use Rattle.vt_recording.specs.declared.format.Format.TheVariants as format
+use Rattle.vt_recording.specs.declared.format.Moment.{Moment}
+use Rattle.vt_recording.specs.declared.format.Break.{Break}
+use Rattle.vt_recording.specs.Taken.{IsTaken}
+use Rattle.vt_recording.specs.declared.fault.Fault.TheVariants as unread
+use Rattle.vt_recording.specs.declared.fault.Fault.{Fault as Unread}
+use Rattle.vt_replay.specs.declared.fault.Fault.{Fault as ReplayFault}
+use Rattle.vt_replay.specs.declared.fault.Fault.TheVariants as replay
+use Rattle.vt_commands.specs.declared.fault.Fault.{Fault}
+use Rattle.vt_commands.specs.declared.fault.Fault.TheVariants.{Replay, Broken}
+use Rattle.vt_commands.specs.declared.requests.Outcome.{Outcome}
+use Rattle.vt_commands.specs.Words.{WordTable}
+
+-- the input is played as it comes: it is the host's bytes, and all of them are wanted
+abbrev pub is_streamed : Format → Option Moment → Bool
+is_streamed format.Raw None = true
+is_streamed format.Raw (Some m) = false
+is_streamed format.Script until = false
+is_streamed format.Ttyrec until = false
+is_streamed format.Asciicast until = false
+
+-- how a request ends: a fault of the replay comes first, then that the recording is broken
+abbrev pub ended_of : (broken : Option Break) → Result (Unit {0}) ReplayFault → Result (Unit {0}) Fault
+ended_of None (Ok u) = Ok u
+ended_of (Some place) (Ok u) = Err (Broken place)
+ended_of broken (Err fault) = Err (Replay fault)
+
+-- the word was carried out on the input as it came
+pub record IsStreamed (o : Outcome) (r : Request) (b w : List ℕ) (f : Flags) : Type 0 where
+  pub played : Result (Unit {0}) ReplayFault
+  pub table : WordTable played r.word r.piece b w f r.limit
+  pub ended : o.ended ≡ ended_of None played
+  pub none_replaced : o.replaced ≡ 0
+
+-- the word was carried out on the content of a recording, of which c was read
+pub record IsPlayed (o : Outcome) (r : Request) (content : List ℕ) (broken : Option Break) (replaced : ℕ) (w : List ℕ)
+    (writer_failed : Bool) : Type 0 where
+  pub c : List ℕ
+  pub rest : List ℕ
+  pub joined : content ≡ c ++ rest
+  pub inner : Flags
+  pub all : inner.reader_ended ≡ true → rest ≡ []
+  pub played : Result (Unit {0}) ReplayFault
+  pub table : WordTable played r.word r.piece c w inner r.limit
+  pub writer : writer_failed ≡ inner.writer_failed
+  pub ended : o.ended ≡ ended_of broken played
+  pub replaces : o.replaced ≡ replaced
+
+-- the input was read whole and taken apart, and the word was carried out on its content
+pub record IsTakenApart (o : Outcome) (r : Request) (timing : Option (List ℕ)) (b w : List ℕ) (f : Flags) : Type 0 where
+  pub reader_failed : f.reader_failed ≡ false
+  pub reader_ended : f.reader_ended ≡ true
+  pub within : length b ≤ r.limit
+  pub content : List ℕ
+  pub broken : Option Break
+  pub replaced : ℕ
+  pub taken : IsTaken r.format r.until timing b content broken replaced
+  pub played : IsPlayed o r content broken replaced w f.writer_failed
+
+-- why an input wasn't read whole or taken apart
+abbrev pub UnreadTable : ReplayFault → (b : List ℕ) → (failed ended : Bool) → (limit : ℕ) → Type 0
+UnreadTable replay.Memory b failed ended limit = (failed ≡ false) × (length b ≤ limit + 1)
+UnreadTable replay.Partial b failed ended limit = ⊥
+UnreadTable replay.Read b failed ended limit = (failed ≡ true) × (ended ≡ false) × (length b ≤ limit)
+UnreadTable replay.Write b failed ended limit = ⊥
+UnreadTable replay.TooLong b failed ended limit = (failed ≡ false) × (ended ≡ false) × (length b ≡ limit + 1)
+
+-- what each answer of the reading of a timing file says, b being the bytes read
+abbrev pub TimingTable : Result (Vec ℕ Global) Fault → (b : List ℕ) → (failed ended : Bool) → (limit : ℕ) → Type 0
+TimingTable (Ok bytes) b failed ended limit = (failed ≡ false) × (ended ≡ true) × (length b ≤ limit)
+    × (bytes.items ≡ b)
+TimingTable (Err (Replay fault)) b failed ended limit = UnreadTable fault b failed ended limit
+TimingTable (Err (Broken place)) b failed ended limit = ⊥
+
+-- the input wasn't read whole or taken apart, and nothing was written
+pub record IsUnread (o : Outcome) (r : Request) (b w : List ℕ) (f : Flags) : Type 0 where
+  pub fault : ReplayFault
+  pub why : UnreadTable fault b f.reader_failed f.reader_ended r.limit
+  pub ended : o.ended ≡ Err (Replay fault)
+  pub none_replaced : o.replaced ≡ 0
+  pub nothing : w ≡ []
+  pub writer_works : f.writer_failed ≡ false
+
+abbrev pub OutcomeBy : (streamed : Bool) → Outcome → Request → (timing : Option (List ℕ)) → (b w : List ℕ) → Flags → Type 0
+OutcomeBy true o r timing b w f = IsStreamed o r b w f
+OutcomeBy false o r timing b w f = IsTakenApart o r timing b w f ⊎ IsUnread o r b w f
+
+-- what an outcome says, b being the bytes read and w the bytes written
+abbrev pub OutcomeTable : Outcome → Request → (timing : Option (List ℕ)) → (b w : List ℕ) → Flags → Type 0
+OutcomeTable o r timing b w f = OutcomeBy (is_streamed r.format r.until) o r timing b w f
+
+-- the fault of a replay for one of the reading; private contracts alone speak of this
+abbrev pub unread_fault : Unread → ReplayFault
+unread_fault unread.Memory = replay.Memory
+unread_fault (unread.Broken place) = replay.Read
+unread_fault unread.Read = replay.Read
+unread_fault unread.Write = replay.Read
+unread_fault unread.TooLong = replay.TooLong

@@ -3,8 +3,8 @@ use Rattle.std.proofs.Common.{rules, ◌≡◌, ℕ, List, Bool, true, false, Op
 use Rattle.vt_device.specs.Runs.{Flags}
 use Rattle.vt_cli.specs.declared.asked.Request.{Request}
 use Rattle.vt_recording.specs.declared.fault.Fault.{Fault as Unread}
-use Rattle.vt_recording.specs.declared.fault.Fault.TheVariants.{Memory, Broken, Read, Write, TooLong}
-use Rattle.vt_recording.specs.Run.{ReadTable}
+use Rattle.vt_recording.specs.declared.fault.Fault.TheVariants.{Memory, Read, TooLong}
+use Rattle.vt_recording.specs.Reading.{ReadTable}
 use Rattle.vt_commands.specs.declared.requests.Outcome.{Outcome}
 use Rattle.vt_commands.specs.Request.{UnreadTable, IsUnread, OutcomeBy, unread_fault}
 
@@ -12,9 +12,7 @@ use Rattle.vt_commands.specs.Request.{UnreadTable, IsUnread, OutcomeBy, unread_f
 pub unread_why : (fault : Unread) (b : List ℕ) (failed ended : Bool) (limit : ℕ)
     → ReadTable (Err fault) b failed ended limit → UnreadTable (unread_fault fault) b failed ended limit
 unread_why Memory b failed ended limit t = t
-unread_why (Broken place) b failed ended limit t = absurd t
 unread_why Read b failed ended limit t = t
-unread_why Write b failed ended limit t = absurd t
 unread_why TooLong b failed ended limit t = t
 
 -- an input that isn't played as it comes

@@ -99,7 +99,5 @@ OutcomeTable o r timing b w f = OutcomeBy (is_streamed r.format r.until) o r tim
 -- the fault of a replay for one of the reading; private contracts alone speak of this
 abbrev pub unread_fault : Unread → ReplayFault
 unread_fault unread.Memory = replay.Memory
-unread_fault (unread.Broken place) = replay.Read
 unread_fault unread.Read = replay.Read
-unread_fault unread.Write = replay.Read
 unread_fault unread.TooLong = replay.TooLong

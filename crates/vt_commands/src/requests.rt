@@ -144,9 +144,7 @@ fn unread_fault(fault: vt_recording::Fault) -> vt_replay::Fault
 {
     match fault {
         vt_recording::Fault::Memory => vt_replay::Fault::Memory,
-        vt_recording::Fault::Broken(_) => vt_replay::Fault::Read,
         vt_recording::Fault::Read => vt_replay::Fault::Read,
-        vt_recording::Fault::Write => vt_replay::Fault::Read,
         vt_recording::Fault::TooLong => vt_replay::Fault::TooLong,
     }
 }

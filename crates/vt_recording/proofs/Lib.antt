@@ -1,5 +1,4 @@
 mod Pieces
-mod Early
 pub mod Ends
 mod Supplemental
 mod Writing

@@ -1,10 +1,9 @@
 pub mod Asciicast
 pub mod Characters
 pub mod Events
-pub mod Fault
 pub mod Moment
 pub mod Lines
-pub mod Run
+pub mod Reading
 pub mod Seconds
 pub mod Script
 pub mod Steps

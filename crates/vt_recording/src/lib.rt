@@ -1,16 +1,16 @@
-//! Recordings of terminal sessions: their content, without what script(1) and ttyrec write around it. It is read from
-//! any reader and written to any writer.
+//! Recordings of terminal sessions by script(1), ttyrec and asciinema: their content, without what these write around it. It
+//! is read from any reader, and is a reader itself.
 #![tactic(auto)]
 
 mod asciicast;
 mod casting;
 mod characters;
 mod content;
-mod engine;
 mod fault;
 mod format;
 mod lines;
 mod moment;
+mod reading;
 mod script;
 mod seconds;
 mod taking;
@@ -18,8 +18,8 @@ mod timing;
 mod ttyrec;
 
 pub use content::Content;
-pub use engine::{INPUT_LIMIT, read_recording, run};
 pub use fault::Fault;
 pub use format::{Break, Format, Moment, Part, Taken};
+pub use reading::read_recording;
 pub use taking::take_apart;
 pub use vt_device::Watched;

@@ -4,7 +4,7 @@ use std::alloc::Global;
 use std::io::Read;
 use std::test::Fail;
 use vt_recording::{
-    Break, Content, Fault, Format, Moment, Part, Watched, read_recording, run, take_apart,
+    Break, Content, Fault, Format, Moment, Part, Watched, read_recording, take_apart,
 };
 
 /// Pieces at 1000.9 s, 1001.0 s (none of its bytes), 1001.4 s and 1001.400001 s.
@@ -193,62 +193,5 @@ fn reads(alloc: Global, limit: usize, whole: bool) -> Result<bool, Fail> {
 fn recordings_are_read_to_their_end(rt: HostRuntime) -> Result<(), Fail> {
     holds(&rt, "the limit", reads(rt.alloc(), 3, true)?);
     holds(&rt, "above the limit", reads(rt.alloc(), 2, false)?);
-    Ok(())
-}
-
-/// What a run answers, and what it has written.
-fn written(
-    alloc: Global,
-    input: &[u8],
-    limit: usize,
-) -> Result<(Result<(), Fault>, Vec<u8>), Fail> {
-    let mut reader = Watched::new(input);
-    let mut writer = Watched::new(Vec::new(alloc));
-    let answer = run(
-        alloc,
-        &mut reader,
-        &mut writer,
-        Format::Ttyrec,
-        None,
-        limit.min(1000),
-    );
-    Ok((answer, writer.into_inner()))
-}
-
-/// Whether a run answers this, and has written this.
-fn leaves(
-    alloc: Global,
-    input: &[u8],
-    limit: usize,
-    answer: Result<(), Fault>,
-    content: &[u8],
-) -> Result<bool, Fail> {
-    let (ended, bytes) = written(alloc, input, limit)?;
-    Ok(ended == answer && bytes.as_slice() == content)
-}
-
-#[test]
-fn runs_from_end_to_end(rt: HostRuntime) -> Result<(), Fail> {
-    let alloc = rt.alloc();
-    let all = b"one\r\ntwo\r\nlate\r\n";
-    let broken = Err(Fault::Broken(BREAK));
-    holds(&rt, "all", leaves(alloc, PIECES, 1000, Ok(()), all)?);
-    holds(&rt, "the limit", leaves(alloc, PIECES, 64, Ok(()), all)?);
-    let above = leaves(alloc, PIECES, 63, Err(Fault::TooLong), b"")?;
-    holds(&rt, "above the limit", above);
-    let cut = leaves(alloc, &PIECES[..60], 1000, broken, b"one\r\ntwo\r\n")?;
-    holds(&rt, "cut", cut);
-    Ok(())
-}
-
-/// Whether a fault says where the recording is broken.
-fn says_where(alloc: Global) -> Result<bool, Fail> {
-    let line = Fault::Broken(BREAK).to_string(alloc)?;
-    Ok(line.as_str() == "recording: broken at byte 46")
-}
-
-#[test]
-fn faults_say_where(rt: HostRuntime) -> Result<(), Fail> {
-    holds(&rt, "a line", says_where(rt.alloc())?);
     Ok(())
 }

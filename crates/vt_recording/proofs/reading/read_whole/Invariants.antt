@@ -1,6 +1,6 @@
 use Rattle.std.proofs.Common.{◌≡◌, ◌+◌, false, length}
 use Rattle.std.specs.Io.KnownBytes.{Consumes}
-use Rattle.vt_recording.proofs.engine.read_whole.Given as goal
+use Rattle.vt_recording.proofs.reading.read_whole.Given as goal
 
 abbrev pub invariant-loop-left : goal.invariant-loop-left
 invariant-loop-left g l = record {

@@ -1,64 +1,16 @@
-//! Reads a whole recording, takes it apart, and writes its content.
+//! Reads a whole recording.
 ghost use Rattle.std.specs.Prelude.{◌≡◌, ◌≤◌, ◌+◌, ℕ, true, false, length};
 ghost use Rattle.std.specs.Io.KnownBytes.{IsAtEnd};
-ghost use Rattle.vt_device.specs.Runs.{Moves, Takes};
-ghost use Rattle.vt_recording.specs.Run.{Table, ReadTable};
+ghost use Rattle.vt_device.specs.Runs.{Takes};
+ghost use Rattle.vt_recording.specs.Reading.{ReadTable};
 
 use crate::fault::Fault;
-use crate::format::{Format, Moment};
-use crate::taking::take_apart;
 use std::alloc::Global;
-use std::io::{Read, Write};
-use vt_device::{Watched, write_whole};
-
-/// The most bytes of a recording that the program reads.
-pub const INPUT_LIMIT: usize = 268_435_456;
-
-const _: () = prove!(INPUT_LIMIT == 268435456);
+use std::io::Read;
+use vt_device::Watched;
 
 /// The most bytes of one read.
 const PIECE: usize = 65536;
-
-/// Reads a recording to its end, and writes the content up to a moment, that `take_apart` returns. Neither device has failed before,
-/// and the reader hasn't ended.
-///
-/// It reads at most `limit` bytes (up to 2 to the 40th), and one more to see whether the input continues. It writes
-/// nothing before the input has ended, and allocates nothing after the first write. After an error it doesn't call that
-/// device again. If the reader has ended, none of its `remaining` bytes is left.
-///
-/// # Errors
-///
-/// - `Memory` if allocation fails
-/// - `Read` or `Write` if that device failed
-/// - `TooLong` if the input has more than `limit` bytes
-/// - `Broken` if the recording breaks its format. All content before that was written
-pub fn run<R: Read, W: Write>(
-    alloc: Global,
-    reader: &mut Watched<R>,
-    writer: &mut Watched<W>,
-    format: Format,
-    until: Option<Moment>,
-    limit: usize,
-) -> Result<(), Fault>
-    requires reader_works { reader.old.failed ≡ false }
-    requires reader_goes_on { reader.old.ended ≡ false }
-    requires writer_works { writer.old.failed ≡ false }
-    requires limit_in_range { limit ≤ 1099511627776 }
-    ensures answer { Moves (R.remaining reader.old.device) (R.remaining reader.new.device) (W.contents writer.old.device)
-        (W.contents writer.new.device)
-        (λ b w. Table result format until b w (record { reader_failed = reader.new.failed; reader_ended = reader.new.ended; writer_failed = writer.new.failed }) limit) }
-    ensures whole { reader.new.ended ≡ true → IsAtEnd (R.remaining reader.new.device) }
-{
-    let bytes = read_recording(alloc, reader, limit)?;
-    let taken = take_apart(alloc, &bytes, None, format, until)?;
-    if !write_whole(writer, &taken.content) {
-        return Err(Fault::Write);
-    }
-    match taken.broken {
-        Some(place) => Err(Fault::Broken(place)),
-        None => Ok(()),
-    }
-}
 
 /// Reads a recording to its end, and returns its bytes. The reader hasn't failed before, and hasn't ended.
 ///

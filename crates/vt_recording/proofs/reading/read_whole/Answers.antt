@@ -3,7 +3,7 @@ use Rattle.std.proofs.lemmas.List.{length-take}
 use Rattle.std.proofs.lemmas.Grind.{common_steps}
 use Rattle.std.proofs.lemmas.Result.{err_from_is_err_and}
 use Rattle.std.proofs.KnownBytes.{Consumes-trans}
-use Rattle.vt_recording.proofs.engine.read_whole.Goals as goal
+use Rattle.vt_recording.proofs.reading.read_whole.Goals as goal
 
 pub returns-in_err-extend_from_slice-clause-takes : goal.returns-in_err-extend_from_slice-clause-takes
 returns-in_err-extend_from_slice-clause-takes g c =

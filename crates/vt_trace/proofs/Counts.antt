@@ -1,7 +1,7 @@
 -- The counts after one more event.
 use Rattle.std.proofs.Common.{◌≡◌, ◌≢◌, ℕ, zero, suc, ◌+◌, ◌-◌, ◌^◌, ◌<◌, ◌≤◌, ◌⊎◌, List, [], ◌∷◌, ◌++◌, Bool, true, false, ◌&&◌, ◌||◌, not}
-use Rattle.std.proofs.Common.{Option, Some, None, refl, sym, ap, ◌∙◌, inl, inr, arith, length, get_or, set, min, nat_eq, eqb, add-zero, append-nil, append_assoc, take, drop, length-drop, replicate}
-use Rattle.std.proofs.Math.Seq.{take-length, take-add}
+use Rattle.std.proofs.Common.{Option, Some, None, refl, sym, ap, ◌∙◌, inl, inr, arith, length, get_or, set, min, nat_eq, eqb, add-zero, append-nil, append_assoc, take, drop, replicate}
+use Rattle.std.proofs.Math.Seq.{take-add}
 use Rattle.std.proofs.lemmas.List.{length-replicate}
 use Rattle.std.specs.Prelude.{count_by, fold, cond, ◌==◌}
 use Rattle.std.specs.List.{range_with_len, list_all}
@@ -152,11 +152,6 @@ pub held_more : (held : Held) (bytes front : List ℕ) → SplitLaw → held ≡
     → held_after (bytes ++ front) ≡ held_from held front
 held_more held bytes front law is =
     law.held_append Nothing bytes front ∙ ap (λ (h : Held). held_from h front) (sym is)
-
--- the part of a chunk from a place on, to its end
-pub rest-of : (chunk : List ℕ) (at : ℕ) → take (length chunk - at) (drop at chunk) ≡ drop at chunk
-rest-of chunk at =
-    let e : length chunk - at ≡ length (drop at chunk) = sym (length-drop at chunk) in rw e (take-length (drop at chunk))
 
 pub counted_more : (s : Summary) (bytes chunk : List ℕ) (at n : ℕ)
     → HasCounted ((bytes ++ take at chunk) ++ take n (drop at chunk)) s → HasCounted (bytes ++ take (at + n) chunk) s

@@ -12,7 +12,10 @@ type Row = (&'static [u8], &'static [u8]);
 const SUMMARIES: [Row; 5] = [
     (b"", b""),
     // Names come in the order of the list, text first.
-    (b"Hi\r\n\x1b[6nB\x1b[J", b"3\ttext\n1\tLF\n1\tCR\n1\tED\n1\tDSR\n"),
+    (
+        b"Hi\r\n\x1b[6nB\x1b[J",
+        b"3\ttext\n1\tLF\n1\tCR\n1\tED\n1\tDSR\n",
+    ),
     // Ignored events come first: single bytes, escape sequences, control sequences.
     (
         b"A\x1b[>5;6u\x1b[?12z\x1b[?9z\x1b[ q\x1b[9m\x1b(Z\x1bZ\x1b\x3c\xff\x05",

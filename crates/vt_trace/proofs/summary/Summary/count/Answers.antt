@@ -1,6 +1,7 @@
 -- One more event is counted.
 use Rattle.std.proofs.Common.{◌++◌, take, arith, length-drop}
-use Rattle.vt_trace.proofs.Counts.{counted_more, rest-of}
+use Rattle.vt_trace.proofs.Counts.{counted_more}
+use Rattle.vt_trace.proofs.Traces.{rest-of}
 use Rattle.vt_trace.proofs.summary.Summary.count.Goals as goal
 
 pub loop-at-preserved : goal.loop-at-preserved

@@ -4,3 +4,4 @@ mod log;
 mod program;
 mod settings;
 mod short_devices;
+mod words;

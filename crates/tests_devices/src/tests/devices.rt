@@ -3,8 +3,9 @@ ghost use Rattle.std.specs.Prelude.{◌≤◌};
 
 use std::alloc::Global;
 use std::test::Fail;
-use vt_log::feed_log;
-use vt_replay::{Fault, Request, Watched, What, Word, carry_out};
+use vt_commands::{Fault, carry_out};
+use vt_log::{feed_log, feed_pages};
+use vt_replay::{Format, Request, Watched, What, Word};
 use vt_term::Terminal;
 use vt_vectors::{ShortReader, ShortWriter, vector, vector_count};
 
@@ -15,6 +16,14 @@ const LIMIT: u64 = 268435456;
 const REQUESTS: &[u8] = b"\x1b G\x1b[c\x1b[>c";
 
 const ANSWERS: &[u8] = b"\x9b?62;1;6c\x9b>1;10;0c";
+
+const READ: Fault = Fault::Replay(vt_replay::Fault::Read);
+
+const WRITE: Fault = Fault::Replay(vt_replay::Fault::Write);
+
+const TOO_LONG: Fault = Fault::Replay(vt_replay::Fault::TooLong);
+
+const PARTIAL: Fault = Fault::Replay(vt_replay::Fault::Partial);
 
 /// More bytes than any replay here writes.
 const ROOM: usize = 100_000;
@@ -83,8 +92,11 @@ fn replayed(
         piece: 1,
         limit: replay.bounds.limit,
         file: None,
+        format: Format::Raw,
+        timing: None,
+        until: None,
     };
-    let answer = carry_out(alloc, &mut reader, &mut writer, &request);
+    let answer = carry_out(alloc, &mut reader, None, &mut writer, &request).ended;
     let written = Vec::from_slice(alloc, writer.into_inner().taken())?;
     Ok((answer, written))
 }
@@ -97,7 +109,7 @@ fn table() -> [(Replay, Result<(), Fault>, usize); 11] {
                 failing_read: Some(7),
                 ..REPORTS
             },
-            Err(Fault::Read),
+            Err(READ),
             9,
         ),
         (
@@ -106,7 +118,7 @@ fn table() -> [(Replay, Result<(), Fault>, usize); 11] {
                 failing_read: Some(7),
                 ..REPORTS
             },
-            Err(Fault::Read),
+            Err(READ),
             0,
         ),
         // six writes, so that a seventh can't fail
@@ -125,7 +137,7 @@ fn table() -> [(Replay, Result<(), Fault>, usize); 11] {
                 failing_write: Some(6),
                 ..REPORTS
             },
-            Err(Fault::Write),
+            Err(WRITE),
             15,
         ),
         (
@@ -134,7 +146,7 @@ fn table() -> [(Replay, Result<(), Fault>, usize); 11] {
                 failing_write: Some(2),
                 ..REPORTS
             },
-            Err(Fault::Write),
+            Err(WRITE),
             3,
         ),
         (
@@ -143,7 +155,7 @@ fn table() -> [(Replay, Result<(), Fault>, usize); 11] {
                 room: 5,
                 ..REPORTS
             },
-            Err(Fault::Write),
+            Err(WRITE),
             5,
         ),
         (
@@ -154,7 +166,7 @@ fn table() -> [(Replay, Result<(), Fault>, usize); 11] {
                 },
                 ..REPORTS
             },
-            Err(Fault::TooLong),
+            Err(TOO_LONG),
             0,
         ),
         (
@@ -165,7 +177,7 @@ fn table() -> [(Replay, Result<(), Fault>, usize); 11] {
                 },
                 ..REPORTS
             },
-            Err(Fault::TooLong),
+            Err(TOO_LONG),
             9,
         ),
         (
@@ -188,7 +200,7 @@ fn table() -> [(Replay, Result<(), Fault>, usize); 11] {
                 failing_read: Some(11),
                 ..REPORTS
             },
-            Err(Fault::Read),
+            Err(READ),
             18,
         ),
         (REPORTS, Ok(()), 18),
@@ -217,12 +229,13 @@ fn the_table_of_devices_holds(rt: HostRuntime) -> Result<(), Fail> {
 }
 
 /// What is asked for in turn.
-const WORDS: [Word; 5] = [
+const WORDS: [Word; 6] = [
     Word::Replay(What::Text),
     Word::Replay(What::Reports),
     Word::Replay(What::Repaint),
     Word::Replay(What::Status),
     Word::Log,
+    Word::Pages,
 ];
 
 /// A replay whose read of this number fails.
@@ -239,7 +252,7 @@ fn ends_before(alloc: Global, input: &[u8], word: Word, is_between: bool) -> Res
     let replay = with_failing_read(word, input.len().saturating_add(2));
     let (answer, _written) = replayed(alloc, input, replay)?;
     Ok(if word == Word::Replay(What::Repaint) && !is_between {
-        answer == Err(Fault::Partial)
+        answer == Err(PARTIAL)
     } else {
         answer == Ok(())
     })
@@ -254,15 +267,19 @@ fn each_read_fails(alloc: Global, input: &[u8], word: Word) -> Result<bool, Fail
     for call in 0..input.len() + 1 {
         let due = match word {
             Word::Replay(What::Reports) => reports.as_slice(),
-            Word::Log => lines.as_slice(),
+            Word::Log | Word::Pages => lines.as_slice(),
             _ => b"",
         };
         let replay = with_failing_read(word, call + 1);
-        if !leaves(alloc, input, replay, Err(Fault::Read), due)? {
+        if !leaves(alloc, input, replay, Err(READ), due)? {
             return Ok(false);
         }
         if let Some(byte) = input.get(call..call + 1) {
-            feed_log(&mut terminal, byte, &mut reports, &mut lines)?;
+            if word == Word::Pages {
+                feed_pages(&mut terminal, byte, &mut reports, &mut lines)?;
+            } else {
+                feed_log(&mut terminal, byte, &mut reports, &mut lines)?;
+            }
         }
     }
     ends_before(alloc, input, word, terminal.is_between())
@@ -283,7 +300,7 @@ fn each_write_fails(alloc: Global, input: &[u8], word: Word) -> Result<bool, Fai
     let (answered, due) = replayed(alloc, input, with_failing_write(word, None))?;
     for call in 0..due.len() {
         let replay = with_failing_write(word, Some(call + 1));
-        if !leaves(alloc, input, replay, Err(Fault::Write), &due[..call])? {
+        if !leaves(alloc, input, replay, Err(WRITE), &due[..call])? {
             return Ok(false);
         }
     }

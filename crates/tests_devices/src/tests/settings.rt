@@ -1,7 +1,8 @@
 //! What the words ask for, at work: the piece, the limit and the kind; and a read that is passed on whole.
 use std::alloc::Global;
 use std::test::Fail;
-use vt_replay::{Fault, Watched, carry_out, replay, request, settings};
+use vt_commands::carry_out;
+use vt_replay::{Fault, Watched, replay, request, settings};
 use vt_vectors::ShortReader;
 
 /// A line of words, a call of the reader that fails, the answer, and the first line that is written.
@@ -64,7 +65,12 @@ fn carried_out(
     let asked = request(alloc, words_of(alloc, line)?).map_err(|_| "refused words")?;
     let mut reader = Watched::new(ShortReader::new(b"ABCDE", 100, failing_read));
     let mut writer = Watched::new(Vec::new(alloc));
-    let answer = carry_out(alloc, &mut reader, &mut writer, &asked);
+    let outcome = carry_out(alloc, &mut reader, None, &mut writer, &asked);
+    let answer = match outcome.ended {
+        Ok(()) => Ok(()),
+        Err(vt_commands::Fault::Replay(fault)) => Err(fault),
+        Err(vt_commands::Fault::Broken(_)) => return Err(Fail::new("broken")),
+    };
     Ok((answer, writer.into_inner()))
 }
 

@@ -2,7 +2,7 @@
 use super::common::holds;
 use std::alloc::{AllocError, Global};
 use std::test::Fail;
-use vt_replay::{Request, Settings, What, Word, request, settings};
+use vt_replay::{Format, Moment, Request, Settings, What, Word, request, settings};
 
 /// The words of a line, cut at each space.
 pub(super) fn words_of(alloc: Global, line: &str) -> Result<Vec<String>, AllocError> {
@@ -149,6 +149,143 @@ fn words_ask_for_a_log(rt: HostRuntime) -> Result<(), Fail> {
             row.0,
             is_refused(rt.alloc(), row.0, 2, "error: unrecognized subcommand 'log'")?,
         );
+    }
+    Ok(())
+}
+
+/// A line of the wider command, its word, its format, its timing file, and the moment.
+type Recorded = (
+    &'static str,
+    Word,
+    Format,
+    Option<&'static str>,
+    Option<Moment>,
+);
+
+const RECORDED: [Recorded; 12] = [
+    ("vt220 pages a", Word::Pages, Format::Raw, None, None),
+    ("vt220 trace a", Word::Trace, Format::Raw, None, None),
+    ("vt220 summary a", Word::Summary, Format::Raw, None, None),
+    ("vt220 content a", Word::Content, Format::Raw, None, None),
+    (
+        "vt220 text --format raw",
+        Word::Replay(What::Text),
+        Format::Raw,
+        None,
+        None,
+    ),
+    (
+        "vt220 log --format script a",
+        Word::Log,
+        Format::Script,
+        None,
+        None,
+    ),
+    (
+        "vt220 show --format ttyrec --until 12.5 a",
+        Word::Replay(What::Show),
+        Format::Ttyrec,
+        None,
+        Some(Moment::Micros(12500000)),
+    ),
+    (
+        "vt220 show --until=12:31 a --format=asciicast",
+        Word::Replay(What::Show),
+        Format::Asciicast,
+        None,
+        Some(Moment::Micros(751000000)),
+    ),
+    (
+        "vt220 trace --format asciicast --until 1:02:03.000004",
+        Word::Trace,
+        Format::Asciicast,
+        None,
+        Some(Moment::Micros(3723000004)),
+    ),
+    (
+        "vt220 content --format script --timing t --until 0",
+        Word::Content,
+        Format::Script,
+        Some("t"),
+        Some(Moment::Micros(0)),
+    ),
+    (
+        "vt220 status --until 4096b",
+        Word::Replay(What::Status),
+        Format::Raw,
+        None,
+        Some(Moment::Bytes(4096)),
+    ),
+    (
+        "vt220 picture --format script --until 0b",
+        Word::Replay(What::Picture),
+        Format::Script,
+        None,
+        Some(Moment::Bytes(0)),
+    ),
+];
+
+/// Returns whether the line of a row asks for its recording.
+fn is_recorded(
+    alloc: Global,
+    (line, word, format, timing, until): &Recorded,
+) -> Result<bool, Fail> {
+    let asked = request(alloc, words_of(alloc, line)?);
+    Ok(match &asked {
+        Ok(found) => {
+            found.word == *word
+                && found.format == *format
+                && found.timing.as_ref().map(|name| name.as_str()) == *timing
+                && found.until == *until
+        }
+        Err(_) => false,
+    })
+}
+
+#[test]
+fn words_ask_for_recordings(rt: HostRuntime) -> Result<(), Fail> {
+    for row in &RECORDED {
+        holds(&rt, row.0, is_recorded(rt.alloc(), row)?);
+    }
+    Ok(())
+}
+
+/// A line of the wider command that is refused, and the sentence that says why.
+const MISFITS: [(&str, &str); 14] = [
+    (
+        "vt220 text --format cast",
+        "vt220: --format is raw, script, ttyrec or asciicast\n",
+    ),
+    (
+        "vt220 text --timing t",
+        "vt220: --timing goes with --format script alone\n",
+    ),
+    (
+        "vt220 log --format ttyrec --timing t",
+        "vt220: --timing goes with --format script alone\n",
+    ),
+    ("vt220 text --until 5", NO_TIMES),
+    ("vt220 pages --format script --until 0:05", NO_TIMES),
+    ("vt220 text --until 5s", NO_MOMENT),
+    ("vt220 text --until b", NO_MOMENT),
+    ("vt220 text --until 1.5b", NO_MOMENT),
+    ("vt220 text --format ttyrec --until 1.", NO_MOMENT),
+    ("vt220 text --format ttyrec --until 1.0000001", NO_MOMENT),
+    ("vt220 text --format ttyrec --until 1:60", NO_MOMENT),
+    ("vt220 text --format ttyrec --until 1:2:3:4", NO_MOMENT),
+    ("vt220 text --format ttyrec --until :5", NO_MOMENT),
+    ("vt220 text --format ttyrec --until 1000000000", NO_MOMENT),
+];
+
+const NO_MOMENT: &str = "vt220: --until is seconds, as 12.5 or 12:31, or bytes, as 4096b\n";
+
+const NO_TIMES: &str =
+    "vt220: the input has no times; give --until in bytes, as 4096b, or script its --timing FILE\n";
+
+#[test]
+fn options_that_do_not_fit_are_refused(rt: HostRuntime) -> Result<(), Fail> {
+    for (line, text) in &MISFITS {
+        holds(&rt, line, has_no_request(rt.alloc(), line, 2, text)?);
     }
     Ok(())
 }

@@ -6,9 +6,10 @@ use super::common::{LIMIT, Played, holds, holds_at, replayed};
 use super::scarce::{BLOCKS, Scarce};
 use std::alloc::{AllocError, Global};
 use std::test::Fail;
+use vt_commands::{Fault, carry_out};
 use vt_paint::{PAINT_LIMIT, PaintError, repaint, repaint_reserved};
 use vt_picture::{PICTURE_LIMIT, SHOW_LIMIT, picture, picture_reserved, show, show_reserved};
-use vt_replay::{Fault, Refused, Request, Watched, What, Word, carry_out, request};
+use vt_replay::{Format, Refused, Request, Watched, What, Word, request};
 use vt_term::{ROW_TEXT_LIMIT, ROWS, TEXT_LIMIT, Terminal};
 use vt_vectors::{Mismatch, Vector, check, vector, vector_count};
 
@@ -264,7 +265,10 @@ fn calls_with_room_take_no_memory(rt: HostRuntime) -> Result<(), Fail> {
     Ok(())
 }
 
-/// `carry_out`, and with it `run` and `write_log`.
+/// What a request returns if allocation fails.
+const MEMORY: Result<(), Fault> = Err(Fault::Replay(vt_replay::Fault::Memory));
+
+/// `carry_out`, and with it `run`, `write_log` and `write_output`.
 #[derive(Drop)]
 struct Running<'a> {
     alloc: Global,
@@ -279,13 +283,15 @@ impl Growing for Running<'_> {
         if self.reader.failed() || self.reader.ended() || self.writer.failed() {
             return true;
         }
-        self.answered = carry_out(
+        let outcome = carry_out(
             self.alloc,
             &mut self.reader,
+            None,
             &mut self.writer,
             &self.request,
         );
-        self.answered != Err(Fault::Memory)
+        self.answered = outcome.ended;
+        self.answered != MEMORY
     }
 
     fn is_unchanged(&self) -> bool {
@@ -305,8 +311,11 @@ fn request_is_refused(alloc: Global, input: &[u8], word: Word, what: What) -> Re
             piece: 4096,
             limit: LIMIT,
             file: None,
+            format: Format::Raw,
+            timing: None,
+            until: None,
         },
-        answered: Err(Fault::Memory),
+        answered: MEMORY,
     };
     let (refused, changed) = refusals(alloc, &mut running)?;
     let expected = replayed(alloc, input, what, 4096)?;
@@ -338,6 +347,11 @@ fn each_growth_of_a_request_is_refused(rt: HostRuntime) -> Result<(), Fail> {
             &rt,
             i,
             request_is_refused(rt.alloc(), input, Word::Log, What::Text)?,
+        );
+        holds_at(
+            &rt,
+            i,
+            request_is_refused(rt.alloc(), input, Word::Pages, What::Text)?,
         );
     }
     Ok(())

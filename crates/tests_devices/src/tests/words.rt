@@ -1,0 +1,168 @@
+//! The words that no replay has, and recordings, from devices over memory.
+ghost use Rattle.std.specs.Prelude.{◌≤◌};
+
+use std::alloc::Global;
+use std::test::Fail;
+use vt_commands::{Break, Fault, Outcome, Part, carry_out};
+use vt_replay::{Format, Moment, Request, Watched, Word};
+
+/// What a request asks for, besides its piece.
+#[derive(Clone, Copy)]
+struct Asked {
+    word: Word,
+    format: Format,
+    timing: Option<&'static [u8]>,
+    until: Option<Moment>,
+}
+
+/// The outcome of a request that reads so many bytes at a time, and what was written.
+fn carried_out(
+    alloc: Global,
+    input: &[u8],
+    asked: Asked,
+    piece: usize,
+) -> Result<(Outcome, Vec<u8>), Fail>
+    requires { (1 ≤ piece) × (piece ≤ 65536) }
+{
+    let mut reader = Watched::new(input);
+    let mut writer = Watched::new(Vec::new(alloc));
+    let request = Request {
+        word: asked.word,
+        piece,
+        limit: 268435456,
+        file: None,
+        format: asked.format,
+        timing: None,
+        until: asked.until,
+    };
+    let outcome = carry_out(alloc, &mut reader, asked.timing, &mut writer, &request);
+    Ok((outcome, writer.into_inner()))
+}
+
+/// A name, an input, what is asked for, the outcome, and what is written.
+type Row = (&'static str, &'static [u8], Asked, Outcome, &'static [u8]);
+
+/// A word on the host's bytes.
+const fn of_raw(word: Word) -> Asked {
+    Asked {
+        word,
+        format: Format::Raw,
+        timing: None,
+        until: None,
+    }
+}
+
+/// All was written.
+const DONE: Outcome = Outcome {
+    replaced: 0,
+    ended: Ok(()),
+};
+
+/// The recording is broken at this byte.
+const fn broken_at(at: u64) -> Outcome {
+    Outcome {
+        replaced: 0,
+        ended: Err(Fault::Broken(Break {
+            part: Part::Recording,
+            at,
+        })),
+    }
+}
+
+/// The content of a recording in a format.
+const fn content_of(format: Format, until: Option<Moment>) -> Asked {
+    Asked {
+        word: Word::Content,
+        format,
+        timing: None,
+        until,
+    }
+}
+
+/// Rows by hand, from docs/TRACE.md and the formats.
+fn rows() -> [Row; 9] {
+    [
+        (
+            "a page before ED, and the screen",
+            b"A\x1b[H\x1b[2JB",
+            of_raw(Word::Pages),
+            DONE,
+            b"A\n\n\n\n\n\n\n\n\n\n\n\n\n\n\n\n\n\n\n\n\n\n\n\nB\n\n\n\n\n\n\n\n\n\n\n\n\n\n\n\n\n\n\n\n\n\n\n\n",
+        ),
+        (
+            "a trace, with the end of its last text",
+            b"Hi\r\n\x1b[6nB",
+            of_raw(Word::Trace),
+            DONE,
+            b"0\ttext\tHi\n2\tCR\t\n3\tLF\t\n4\tDSR\t6\n4\treport\t\\x1B[2;1R\n8\ttext\tB\n",
+        ),
+        (
+            "a summary, ignored events first",
+            b"A\x1b[?1049hB\r",
+            of_raw(Word::Summary),
+            DONE,
+            b"1\tignored \\x1B[?h\n2\ttext\n1\tCR\n",
+        ),
+        (
+            "the host's bytes",
+            b"A\x00\xffB",
+            of_raw(Word::Content),
+            DONE,
+            b"A\x00\xffB",
+        ),
+        (
+            "the first bytes",
+            b"ABCDE",
+            content_of(Format::Raw, Some(Moment::Bytes(3))),
+            DONE,
+            b"ABC",
+        ),
+        (
+            "what script(1) recorded",
+            b"Script started on x\nAB\nCD",
+            content_of(Format::Script, None),
+            DONE,
+            b"AB\nCD",
+        ),
+        (
+            "no recording by script(1)",
+            b"AB\nCD",
+            content_of(Format::Script, None),
+            broken_at(0),
+            b"",
+        ),
+        (
+            "the frames of ttyrec up to a second",
+            b"\x01\x00\x00\x00\x00\x00\x00\x00\x02\x00\x00\x00AB\x03\x00\x00\x00\x00\x00\x00\x00\x01\x00\x00\x00C",
+            content_of(Format::Ttyrec, Some(Moment::Micros(1000000))),
+            DONE,
+            b"AB",
+        ),
+        (
+            "a frame that is cut short",
+            b"\x01\x00\x00\x00\x00\x00\x00\x00\x02\x00\x00\x00AB\x03\x00",
+            content_of(Format::Ttyrec, None),
+            broken_at(14),
+            b"AB",
+        ),
+    ]
+}
+
+/// Returns whether a request is carried out as its row says, in chunks of so many bytes.
+fn is_due(alloc: Global, row: &Row, piece: usize) -> Result<bool, Fail>
+    requires { (1 ≤ piece) × (piece ≤ 65536) }
+{
+    let (outcome, written) = carried_out(alloc, row.1, row.2, piece)?;
+    Ok(outcome == row.3 && written.as_slice() == row.4)
+}
+
+#[test]
+fn words_are_carried_out(rt: HostRuntime) -> Result<(), Fail> {
+    for row in &rows() {
+        let name = row.0;
+        assert!(rt; is_due(rt.alloc(), row, 1)?, "{name}");
+        assert!(rt; is_due(rt.alloc(), row, 7)?, "{name}");
+        assert!(rt; is_due(rt.alloc(), row, 4096)?, "{name}");
+    }
+    Ok(())
+}

@@ -211,10 +211,8 @@ size_t vt220_feed(vt220 *t, const uint8_t *bytes, size_t len, uint8_t *reports, 
  * off. A line is written as by vt220_row_text.
  *   s                   an open scratch buffer
  *   bytes, len          the input
- *   reports, size       the buffer for replies
- *   written             receives the length of the replies
- *   lines, lines_size   the buffer for lines
- *   lines_written       receives the length of the lines
+ *   reports, size       the buffer for replies; *written receives their length
+ *   lines, lines_size   the buffer for lines; *lines_written receives their length
  * Returns how many bytes were processed. If these are fewer than len, fewer than VT220_REPORT_LIMIT bytes of `reports` or fewer than
  * VT220_ROW_TEXT_LIMIT bytes of `lines` are free: empty both and call again with the remainder. Buffers of these sizes always take
  * at least one byte. Buffers of 5 KB and 200 KB cost no speed.

@@ -6,3 +6,4 @@ mod Writing
 mod Texts
 mod Casts
 mod Replays
+mod Values

@@ -5,3 +5,4 @@ mod Writing
 mod Texts
 mod Casts
 mod Replays
+mod Values

@@ -1,7 +1,8 @@
 -- The timing file of script(1): one chunk of the recording a line. (script(1) and scriptreplay(1) of util-linux: the
 -- classic form, and the one with types)
 use Rattle.std.specs.Prelude.{◌≡◌, ℕ, ◌+◌, ◌-◌, ◌^◌, ◌&&◌, ◌||◌, ◌∷◌, [], ◌++◌, min, List, length, take, drop, Bool, true, false, cond, codes}
-use Rattle.std.specs.Prelude.{Option, Some, None, option_map, option_and_then, nat_eq, nat_le}
+use Rattle.std.specs.Prelude.{Option, Some, None, option_map, option_and_then, nat_eq, nat_le, bytes_eq, not}
+use Rattle.std.specs.Option.{option_or}
 use Rattle.std.specs.List.{position}
 use Rattle.vt_recording.specs.declared.format.Break.{Break}
 use Rattle.vt_recording.specs.declared.format.Part.TheVariants as part
@@ -38,12 +39,40 @@ chunk_in output text = chunk_at (space_in text) output text
 abbrev pub note_in : List ℕ → Option Step
 note_in text = note_at (space_in text) text
 
+-- input, of which no byte is in the session if it was recorded apart
+abbrev pub input_in : (apart : Bool) → List ℕ → Option Step
+input_in apart text = option_map (λ (s : Step). (s.0, s.1, cond apart 0 s.2)) (chunk_in false text)
+
 -- `O` is output, `I` input, `S` a signal and `H` a fact of the session. Without a type it is output
-abbrev pub step_in : List ℕ → Option Step
-step_in line =
+abbrev pub step_in : (apart : Bool) → List ℕ → Option Step
+step_in apart line =
     cond (begins_with (codes "O ") line) (chunk_in true (drop 2 line))
-    (cond (begins_with (codes "I ") line) (chunk_in false (drop 2 line))
+    (cond (begins_with (codes "I ") line) (input_in apart (drop 2 line))
     (cond (begins_with (codes "S ") line || begins_with (codes "H ") line) (note_in (drop 2 line)) (chunk_in true line)))
+
+-- ---- the files that output and input were recorded into
+
+-- the value of a fact: what follows its name, which ends with a space and follows the space after the seconds
+abbrev pub value_at : Option ℕ → (name text : List ℕ) → Option (List ℕ)
+value_at None name text = None
+value_at (Some at) name text =
+    cond (begins_with name (drop (at + 1) text)) (Some (drop (length name) (drop (at + 1) text))) None
+
+abbrev pub value_in : (name line : List ℕ) → Option (List ℕ)
+value_in name line = cond (begins_with (codes "H ") line) (value_at (space_in (drop 2 line)) name (drop 2 line)) None
+
+-- the value in the first line with this fact
+unfoldable pub value_of : (name : List ℕ) → List (List ℕ) → Option (List ℕ)
+value_of name [] = None
+value_of name (line ∷ lines) = option_or (value_in name line) (value_of name lines)
+
+abbrev pub differ : Option (List ℕ) → Option (List ℕ) → Bool
+differ (Some a) (Some b) = not (bytes_eq a b)
+differ _ _ = false
+
+-- the facts name two files: input was recorded apart from output
+abbrev pub is_apart : List (List ℕ) → Bool
+is_apart lines = differ (value_of (codes "OUTPUT_LOG ") lines) (value_of (codes "INPUT_LOG ") lines)
 
 -- ---- the lines, one after another
 
@@ -90,15 +119,19 @@ unless (Some place) bytes replay = record { content = []; broken = Some place }
 abbrev pub is_empty : List ℕ → Bool
 is_empty line = nat_eq (length line) 0
 
-unfoldable pub replay_of : (session : List ℕ) (stop : ℕ) (until : Option ℕ) (spot : Spot) (at : ℕ) → List (List ℕ) → Replay
-replay_of session stop until spot at [] = record { content = []; broken = None }
-replay_of session stop until spot at (line ∷ lines) =
-    unless (break_in (is_empty line) (step_in line) session spot.place stop at)
-    (played_in (is_empty line) (step_in line) session until spot)
-    (replay_of session stop until (spot_after (is_empty line) (step_in line) spot) (at + (length line + 1)) lines)
+unfoldable pub replay_of : (apart : Bool) (session : List ℕ) (stop : ℕ) (until : Option ℕ) (spot : Spot) (at : ℕ) → List (List ℕ) → Replay
+replay_of apart session stop until spot at [] = record { content = []; broken = None }
+replay_of apart session stop until spot at (line ∷ lines) =
+    unless (break_in (is_empty line) (step_in apart line) session spot.place stop at)
+    (played_in (is_empty line) (step_in apart line) session until spot)
+    (replay_of apart session stop until (spot_after (is_empty line) (step_in apart line) spot) (at + (length line + 1)) lines)
 
 abbrev pub start : Spot
 start = record { clock = 0; place = 0 }
+
+-- all the lines
+abbrev pub replay : (session : List ℕ) (stop : ℕ) (until : Option ℕ) → List (List ℕ) → Replay
+replay session stop until lines = replay_of (is_apart lines) session stop until start 0 lines
 
 -- ---- a recording with its timing file
 
@@ -117,9 +150,9 @@ pub record IsReplayed (until : Option Moment) (body timing : List ℕ) (from : �
   pub end : ℕ
   pub ends : EndsAt body end
   pub wanted : content
-      ≡ cut until (replay_of (take end body) (from + end) (micros_of until) start 0 (lines_of timing)).content
+      ≡ cut until (replay (take end body) (from + end) (micros_of until) (lines_of timing)).content
   pub breaks : broken
-      ≡ first_break (replay_of (take end body) (from + end) (micros_of until) start 0 (lines_of timing)).broken
+      ≡ first_break (replay (take end body) (from + end) (micros_of until) (lines_of timing)).broken
       (joint_at body end (from + end))
 
 -- by the place of the LF of the first line

@@ -4,8 +4,9 @@ ghost use Rattle.std.specs.List.{position};
 ghost use Rattle.vt_recording.specs.Script.{first_line};
 ghost use Rattle.vt_recording.specs.Lines.{lines_of};
 ghost use Rattle.vt_recording.specs.Moment.{micros_of};
-ghost use Rattle.vt_recording.specs.Timing.{space_in, chunk_in, note_in, step_in, break_in, spot_after, played_in, is_empty};
-ghost use Rattle.vt_recording.specs.Timing.{replay_of, start, joint_at, first_break, IsTimedAfter};
+ghost use Rattle.vt_recording.specs.Timing.{space_in, chunk_in, note_in, input_in, step_in, break_in, spot_after, played_in};
+ghost use Rattle.vt_recording.specs.Timing.{is_empty, value_in, value_of, is_apart, replay, joint_at, first_break};
+ghost use Rattle.vt_recording.specs.Timing.{IsTimedAfter};
 ghost use Rattle.vt_recording.specs.Steps.{step_view, spot_of};
 
 use crate::asciicast::in_time;
@@ -23,7 +24,7 @@ struct Step {
     micros: u64,
     /// Whether it is output.
     is_output: bool,
-    /// The number of bytes.
+    /// The number of its bytes in the session.
     count: usize,
 }
 
@@ -62,18 +63,73 @@ fn note_in(text: &[u8]) -> Option<Step>
     })
 }
 
+/// Returns the step of input, of which no byte is in the session if it was recorded apart.
+fn input_in(is_apart: bool, text: &[u8]) -> Option<Step>
+    ensures { option_map step_view result ≡ input_in is_apart text.now }
+{
+    let step = chunk_in(false, text)?;
+    Some(Step {
+        count: if is_apart { 0 } else { step.count },
+        ..step
+    })
+}
+
 /// Returns the step of a line, with a type or without one.
-fn step_in(line: &[u8]) -> Option<Step>
-    ensures { option_map step_view result ≡ step_in line.now }
+fn step_in(is_apart: bool, line: &[u8]) -> Option<Step>
+    ensures { option_map step_view result ≡ step_in is_apart line.now }
 {
     if line.starts_with(b"O ") {
         chunk_in(true, &line[2..])
     } else if line.starts_with(b"I ") {
-        chunk_in(false, &line[2..])
+        input_in(is_apart, &line[2..])
     } else if line.starts_with(b"S ") || line.starts_with(b"H ") {
         note_in(&line[2..])
     } else {
         chunk_in(true, line)
+    }
+}
+
+/// Returns the value of a fact, if the line has it. The name ends with a space.
+fn value_in<'a>(name: &[u8], line: &'a [u8]) -> Option<&'a [u8]>
+    ensures { option_map (λ s. s.now) result ≡ value_in name.now line.now }
+{
+    if !line.starts_with(b"H ") {
+        return None;
+    }
+    let text = &line[2..];
+    let fact = &text[space_in(text)? + 1..];
+    if fact.starts_with(name) {
+        Some(&fact[name.len()..])
+    } else {
+        None
+    }
+}
+
+/// Returns the value of a fact in the first line that has it. The name ends with a space.
+fn value_of<'a>(name: &[u8], timing: &'a [u8]) -> Option<&'a [u8]>
+    ensures { option_map (λ s. s.now) result ≡ value_of name.now (lines_of timing.now) }
+{
+    let mut at = 0;
+    while at < timing.len() {
+        let line = front_line(&timing[at..]);
+        if let Some(value) = value_in(name, line) {
+            return Some(value);
+        }
+        at += line.len() + 1;
+    }
+    None
+}
+
+/// Returns whether input was recorded apart: into another file than output.
+fn is_apart(timing: &[u8]) -> bool
+    ensures { result ≡ is_apart (lines_of timing.now) }
+{
+    match (
+        value_of(b"OUTPUT_LOG ", timing),
+        value_of(b"INPUT_LOG ", timing),
+    ) {
+        (Some(output), Some(input)) => output != input,
+        _ => false,
     }
 }
 
@@ -89,28 +145,30 @@ struct Replay {
 }
 
 impl Replay {
-    /// Plays a line that begins at `at`, and returns its break. `stop` is the end of the session in its file.
+    /// Plays a line that begins at `at`, and returns its break. `is_apart` says whether input was recorded apart. `stop` is
+    /// the end of the session in its file.
     fn play(
         &mut self,
         line: &[u8],
+        is_apart: bool,
         session: &[u8],
         until: Option<u64>,
         stop: u64,
         at: u64,
     ) -> Result<Option<Break>, AllocError>
         requires { self.old.place ≤ length session.now }
-        ensures breaks { IfOk result (λ b. b ≡ break_in (is_empty line.now) (step_in line.now) session.now self.old.place stop at) }
+        ensures breaks { IfOk result (λ b. b ≡ break_in (is_empty line.now) (step_in is_apart line.now) session.now self.old.place stop at) }
         ensures content { IfOk result (λ b. IfNone b (self.new.content.items
-            ≡ self.old.content.items ++ played_in (is_empty line.now) (step_in line.now) session.now until (spot_of self.old))) }
+            ≡ self.old.content.items ++ played_in (is_empty line.now) (step_in is_apart line.now) session.now until (spot_of self.old))) }
         ensures spot { IfOk result (λ b. IfNone b (spot_of self.new
-            ≡ spot_after (is_empty line.now) (step_in line.now) (spot_of self.old))) }
+            ≡ spot_after (is_empty line.now) (step_in is_apart line.now) (spot_of self.old))) }
         ensures within { IfOk result (λ b. IfNone b (self.new.place ≤ length session.now)) }
         ensures kept { IfOk result (λ b. IfSome b (λ _. self.new.content.items ≡ self.old.content.items)) }
     {
         if line.is_empty() {
             return Ok(None);
         }
-        let Some(step) = step_in(line) else {
+        let Some(step) = step_in(is_apart, line) else {
             return Ok(Some(Break {
                 part: Part::Timing,
                 at,
@@ -141,9 +199,10 @@ fn play_lines(
     content: Vec<u8>,
 ) -> Result<(Vec<u8>, Option<Break>), AllocError>
     requires { content.items ≡ [] }
-    ensures content { IfOk result (λ r. r.0.items ≡ (replay_of session.now stop until start 0 (lines_of timing.now)).content) }
-    ensures broken { IfOk result (λ r. r.1 ≡ (replay_of session.now stop until start 0 (lines_of timing.now)).broken) }
+    ensures content { IfOk result (λ r. r.0.items ≡ (replay session.now stop until (lines_of timing.now)).content) }
+    ensures broken { IfOk result (λ r. r.1 ≡ (replay session.now stop until (lines_of timing.now)).broken) }
 {
+    let is_apart = is_apart(timing);
     let mut replay = Replay {
         clock: 0,
         place: 0,
@@ -152,7 +211,7 @@ fn play_lines(
     let mut at = 0;
     while at < timing.len() {
         let line = front_line(&timing[at..]);
-        if let Some(place) = replay.play(line, session, until, stop, at as u64)? {
+        if let Some(place) = replay.play(line, is_apart, session, until, stop, at as u64)? {
             return Ok((replay.content, Some(place)));
         }
         at += line.len() + 1;

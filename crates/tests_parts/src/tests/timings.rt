@@ -36,6 +36,40 @@ O 0.102034 3\n\
 H 0.000000 DURATION 0.413244\n\
 H 0.000000 EXIT_CODE 0\n";
 
+/// The output of a session whose input is in a file of its own, and its timing file, as `script -I in -O out` of
+/// util-linux 2.38.1 wrote them.
+const APART: &[u8] =
+    b"Script started on 2026-11-24 22:48:43+00:00 [COMMAND=\"sh\" <not executed on terminal>]\n\
+hi\r\ngot hi\r\n\n\
+Script done on 2026-11-24 22:48:43+00:00 [COMMAND_EXIT_CODE=\"0\"]\n";
+
+const APART_TIMING: &[u8] = b"H 0.000000 START_TIME 2026-11-24 22:48:43+00:00\n\
+H 0.000000 SHELL /bin/bash\n\
+H 0.000000 TIMING_LOG t\n\
+H 0.000000 OUTPUT_LOG out\n\
+H 0.000000 INPUT_LOG in\n\
+I 0.300312 3\n\
+O 0.000592 12\n\
+H 0.000000 DURATION 0.311107\n\
+H 0.000000 EXIT_CODE 0\n";
+
+/// The same session with both in one file, as `script -B io` wrote them.
+const TOGETHER: &[u8] =
+    b"Script started on 2026-11-24 22:48:44+00:00 [COMMAND=\"sh\" <not executed on terminal>]\n\
+hi\nhi\r\ngot hi\r\n\n\
+Script done on 2026-11-24 22:48:44+00:00 [COMMAND_EXIT_CODE=\"0\"]\n";
+
+const TOGETHER_TIMING: &[u8] = b"H 0.000000 START_TIME 2026-11-24 22:48:44+00:00\n\
+H 0.000000 SHELL /bin/bash\n\
+H 0.000000 TIMING_LOG t\n\
+H 0.000000 OUTPUT_LOG io\n\
+H 0.000000 INPUT_LOG io\n\
+I 0.301863 3\n\
+O 0.004010 4\n\
+O 0.000422 8\n\
+H 0.000000 DURATION 0.316455\n\
+H 0.000000 EXIT_CODE 0\n";
+
 /// Two sessions, the second one appended.
 const APPENDED: &[u8] =
     b"Script started on x\na\nScript done on y\nScript started on z\nb\nScript done on z\n";
@@ -71,7 +105,7 @@ fn timing(at: u64) -> Option<Break> {
     })
 }
 
-fn sessions() -> [Row; 13] {
+fn sessions() -> [Row; 17] {
     [
         (SESSION, CLASSIC, None, b"one\r\ntwo\r\n", None),
         (SESSION, CLASSIC, until(99_999), b"", None),
@@ -90,6 +124,17 @@ fn sessions() -> [Row; 13] {
         // The time of the input counts.
         (LOG_IO, LOG_IO_TIMING, until(300_818), b"", None),
         (LOG_IO, LOG_IO_TIMING, until(300_819), b"hello\r\n", None),
+        (APART, APART_TIMING, None, b"hi\r\ngot hi\r\n", None),
+        (APART, APART_TIMING, until(300_903), b"", None),
+        (TOGETHER, TOGETHER_TIMING, None, b"hi\r\ngot hi\r\n", None),
+        // A fact about the output alone.
+        (
+            SESSION,
+            b"H 0 OUTPUT_LOG a\nI 0.1 5\nO 0.1 5\n",
+            None,
+            b"two\r\n",
+            None,
+        ),
         // Without the last LF, with an empty line, and with no lines.
         (SESSION, b"0.1 5", None, b"one\r\n", None),
         (SESSION, b"0.1 5\n\n0.1 5\n", None, b"one\r\ntwo\r\n", None),
@@ -97,7 +142,7 @@ fn sessions() -> [Row; 13] {
     ]
 }
 
-fn breaks() -> [Row; 12] {
+fn breaks() -> [Row; 13] {
     [
         (SESSION, b"0.1 5\nx\n0.1 5\n", None, b"one\r\n", timing(6)),
         (SESSION, b"0.1 5\nx\n0.1 5\n", bytes(1), b"o", timing(6)),
@@ -105,6 +150,14 @@ fn breaks() -> [Row; 12] {
         (SESSION, b"0.1 5 \n", None, b"", timing(0)),
         (SESSION, b"-0.1 5\n", None, b"", timing(0)),
         (SESSION, b"Q 0.1 5\n", None, b"", timing(0)),
+        // The count of input that is apart has to be a number.
+        (
+            SESSION,
+            b"H 0 OUTPUT_LOG a\nH 0 INPUT_LOG b\nI 0.1 x\n",
+            None,
+            b"",
+            timing(33),
+        ),
         // More bytes than the session has, which hasn't the LF before its last line.
         (SESSION, b"0.1 5\n0.1 6\n", None, b"one\r\n", recording(30)),
         (

@@ -1,5 +1,5 @@
 -- Numbers of one digit and of two.
-use Rattle.std.proofs.Common.{◌≡◌, ℕ, ◌+◌, ◌≤◌, ◌<◌, ◌/◌, ◌%◌, [], ◌∷◌, ◌++◌, List, refl, sym, ap, ◌∙◌, arith, decimal, nat_eq, Bool}
+use Rattle.std.proofs.Common.{◌≡◌, ℕ, ◌+◌, ◌≤◌, ◌<◌, ◌/◌, ◌%◌, [], ◌∷◌, ◌++◌, List, refl, sym, ap, ◌∙◌, arith, decimal, nat_eq, append_assoc, Bool}
 use Rattle.std.specs.Fmt.{digits}
 use Rattle.std.specs.Cmp.Lexicographic.{pointwise, bytes_decides}
 use Rattle.vt_glyph.proofs.Lists.{all_in_range}
@@ -27,3 +27,9 @@ pushed_one n old more low is = is ∙ ap (λ (l : List ℕ). old ++ l) (sym (one
 pub pushed_two : (n : ℕ) (old more : List ℕ) → 10 ≤ n → n < 100 → more ≡ old ++ ((48 + n / 10) ∷ (48 + n % 10) ∷ [])
     → more ≡ old ++ decimal n
 pushed_two n old more low high is = is ∙ ap (λ (l : List ℕ). old ++ l) (sym (two_digits n low high))
+
+pub put_two : (n : ℕ) (old mid more : List ℕ) → 10 ≤ n → n < 100 → mid ≡ old ++ ((48 + n / 10) ∷ [])
+    → more ≡ mid ++ ((48 + n % 10) ∷ []) → more ≡ old ++ decimal n
+put_two n old mid more low high first second =
+    pushed_two n old more low high (second ∙ ap (λ (l : List ℕ). l ++ ((48 + n % 10) ∷ [])) first
+    ∙ append_assoc old ((48 + n / 10) ∷ []) ((48 + n % 10) ∷ []))

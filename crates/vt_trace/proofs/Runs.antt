@@ -484,3 +484,27 @@ traces_more plays keeps lines tracers t u v piece old out more at n first second
       between = λ s nothing. ap (λ (p : Played). p.state.held) (plays s front part)
           ∙ second.between (play s front).state (first.between s nothing);
     })
+
+pub traces_appended : (t u : Tracer) (bytes made old more : List ℕ) → Traces t u bytes [] made → more ≡ old ++ made
+    → Traces t u bytes old more
+traces_appended t u bytes made old more of then = record {
+  lines = λ s sound nothing. then ∙ ap (λ (l : List ℕ). old ++ l) (of.lines s sound nothing);
+  tracer = of.tracer;
+  between = of.between;
+}
+
+-- an event that isn't a graphic byte has its line alone behind the end of a text
+written_other : (v : Bool) (place : ℕ) (e : Event) → is_graphic e ≡ false
+    → text_end v ++ event_line place e ≡ written v place e []
+written_other v place (Print b) other = absurd cc
+written_other v place (Control b) other = ap (λ (l : List ℕ). text_end v ++ l) (sym (append-nil (event_line place (Control b))))
+written_other v place (Escape inter final) other =
+    ap (λ (l : List ℕ). text_end v ++ l) (sym (append-nil (event_line place (Escape inter final))))
+written_other v place (Sequence marker params inter final) other =
+    ap (λ (l : List ℕ). text_end v ++ l) (sym (append-nil (event_line place (Sequence marker params inter final))))
+
+pub put_other : (v : Bool) (place : ℕ) (e : Event) (old one two : List ℕ) → is_graphic e ≡ false
+    → one ≡ old ++ text_end v → two ≡ one ++ event_line place e → two ≡ old ++ written v place e []
+put_other v place e old one two other is then =
+    then ∙ ap (λ (l : List ℕ). l ++ event_line place e) is ∙ append_assoc old (text_end v) (event_line place e)
+    ∙ ap (λ (l : List ℕ). old ++ l) (written_other v place e other)

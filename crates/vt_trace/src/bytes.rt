@@ -1,7 +1,7 @@
-//! Bytes, numbers and values, into an output that has the capacity.
-ghost use Rattle.std.specs.Prelude.{◌≡◌, ◌+◌, ◌*◌, ◌≤◌, ◌<◌, ◌++◌, Option, length, decimal, vec_len, vec_capacity};
+//! Bytes and numbers, into an output that has the capacity.
+ghost use Rattle.std.specs.Prelude.{◌≡◌, ◌+◌, ◌≤◌, ◌<◌, ◌++◌, Option, length, decimal, vec_len, vec_capacity};
 ghost use Rattle.std.specs.Option.{option_to_list};
-ghost use Rattle.vt_trace.specs.Lines.{hex_digit, shown_byte, shown, joined};
+ghost use Rattle.vt_trace.specs.Lines.{hex_digit, shown_byte, shown};
 
 use itoa::Buffer;
 
@@ -29,38 +29,8 @@ pub(crate) fn push_number(n: u64, out: &mut Vec<u8>)
     out.extend_from_slice(digits.as_bytes()).unwrap();
 }
 
-/// Appends a value, of at most five digits. Speed: most values have one digit or two.
-#[inline(always)]
-fn push_value(n: u16, out: &mut Vec<u8>)
-    requires { vec_len out.old + 5 ≤ vec_capacity out.old }
-    ensures items { out.new.items ≡ out.old.items ++ decimal n }
-    ensures bounded { vec_len out.new ≤ vec_len out.old + 5 }
-    ensures capacity { vec_capacity out.old ≤ vec_capacity out.new }
-{
-    if n < 10 {
-        push_bytes(&[b'0' + n as u8], out);
-    } else if n < 100 {
-        push_bytes(&[b'0' + (n / 10) as u8, b'0' + (n % 10) as u8], out);
-    } else {
-        push_long_value(n, out);
-    }
-}
-
-/// Appends a value, of at most five digits.
-#[inline(never)]
-fn push_long_value(n: u16, out: &mut Vec<u8>)
-    requires { vec_len out.old + 5 ≤ vec_capacity out.old }
-    ensures items { out.new.items ≡ out.old.items ++ decimal n }
-    ensures bounded { vec_len out.new ≤ vec_len out.old + 5 }
-    ensures capacity { vec_capacity out.old ≤ vec_capacity out.new }
-{
-    let mut buffer = Buffer::new();
-    let digits = buffer.format(n);
-    out.extend_from_slice(digits.as_bytes()).unwrap();
-}
-
 /// Returns a hexadecimal digit.
-fn hex_digit(n: u8) -> u8
+pub(crate) fn hex_digit(n: u8) -> u8
     requires { n < 16 }
     ensures { result ≡ hex_digit n }
 {
@@ -106,24 +76,5 @@ pub(crate) fn push_shown_option(b: Option<u8>, out: &mut Vec<u8>)
 {
     if let Some(b) = b {
         push_shown(b, out);
-    }
-}
-
-/// Appends values, at most sixteen.
-#[inline(always)]
-pub(crate) fn push_values(values: &[u16], out: &mut Vec<u8>)
-    requires few { length values.now ≤ 16 }
-    requires room { vec_len out.old + 96 ≤ vec_capacity out.old }
-    ensures items { out.new.items ≡ out.old.items ++ joined values.now }
-    ensures bounded { vec_len out.new ≤ vec_len out.old + 96 }
-    ensures capacity { vec_capacity out.old ≤ vec_capacity out.new }
-{
-    let Some((first, others)) = values.split_first() else {
-        return;
-    };
-    push_value(*first, out);
-    for value in others.iter() {
-        push_bytes(b";", out);
-        push_value(*value, out);
     }
 }

@@ -7,12 +7,14 @@ ghost use Rattle.vt_syntax.specs.Class.{IsPlain};
 ghost use Rattle.vt_syntax.specs.Event.{event_of, event_in};
 ghost use Rattle.vt_syntax.specs.Held.{events_from, held_from};
 ghost use Rattle.vt_term.specs.Play.{play};
-ghost use Rattle.vt_trace.specs.Trace.{text_begin, trace, tracer_all};
+ghost use Rattle.vt_trace.specs.Trace.{text_begin, text_end, written, trace, tracer_all};
 ghost use Rattle.vt_trace.specs.Runs.{IsShown, Traces, is_graphic, is_request};
 
-use crate::bytes::{push_bytes, push_number};
+use crate::buffer::{BUFFER, put, put_bytes, put_number};
+use crate::bytes::push_bytes;
 use crate::laws::cuts;
-use crate::tracing::{TRACE_LIMIT, Tracer, is_text, place_of, push_event, trace_byte};
+use crate::lines::put_line;
+use crate::tracing::{TRACE_LIMIT, Tracer, is_text, place_of, trace_byte};
 use vt_syntax::laws::{one_split, spelled};
 use vt_syntax::{EventKind, Parser, Values};
 use vt_term::Terminal;
@@ -24,6 +26,7 @@ pub(crate) fn trace_front(
     tracer: &mut Tracer,
     piece: &[u8],
     values: &mut Values,
+    buffer: &mut [u8; BUFFER],
     reports: &mut Vec<u8>,
     out: &mut Vec<u8>,
 ) -> usize
@@ -43,7 +46,7 @@ pub(crate) fn trace_front(
     ensures capacity { vec_capacity out.old ≤ vec_capacity out.new }
 {
     let mut after = *tracer;
-    let bytes = push_between(terminal, &mut after, piece, values, out);
+    let bytes = push_between(terminal, &mut after, piece, values, buffer, out);
     if bytes > 0 {
         terminal.feed_reserved(&piece[..bytes], reports);
         *tracer = after;
@@ -60,6 +63,7 @@ fn push_between(
     tracer: &mut Tracer,
     piece: &[u8],
     values: &mut Values,
+    buffer: &mut [u8; BUFFER],
     out: &mut Vec<u8>,
 ) -> usize
     requires { tracer.old.place + length piece.now < 2 ^ 64 }
@@ -73,60 +77,99 @@ fn push_between(
     if !terminal.is_between() {
         return 0;
     }
-    push_fronts(tracer, piece, values, out)
+    push_fronts(tracer, piece, values, buffer, out)
 }
 
 /// Appends the trace of texts and of whole events at the front of a chunk, between sequences. Returns how many bytes they
 /// are. None of them is a request for a report, so what is written doesn't depend on the state.
-fn push_fronts(tracer: &mut Tracer, piece: &[u8], values: &mut Values, out: &mut Vec<u8>) -> usize
+fn push_fronts(
+    tracer: &mut Tracer,
+    piece: &[u8],
+    values: &mut Values,
+    buffer: &mut [u8; BUFFER],
+    out: &mut Vec<u8>,
+) -> usize
     requires { tracer.old.place + length piece.now < 2 ^ 64 }
     ensures within { result ≤ length piece.now }
     ensures traces { Traces tracer.old tracer.new (take result piece.now) out.old.items out.new.items }
     ensures bounded { vec_len out.new ≤ vec_len out.old + TRACE_LIMIT * result }
     ensures capacity { vec_capacity out.old ≤ vec_capacity out.new }
 {
+    let room = (out.capacity() - out.len()).min(BUFFER);
+    let (bytes, end) = put_fronts(tracer, piece, values, room, buffer);
+    push_bytes(&buffer[..end], out);
+    bytes
+}
+
+/// Writes the trace of texts and of whole events at the front of a chunk, between sequences, within `room` bytes. Returns
+/// how many bytes of the chunk they are, and how many it wrote.
+fn put_fronts(
+    tracer: &mut Tracer,
+    piece: &[u8],
+    values: &mut Values,
+    room: usize,
+    buffer: &mut [u8; BUFFER],
+) -> (usize, usize)
+    requires place { tracer.old.place + length piece.now < 2 ^ 64 }
+    requires room { room ≤ BUFFER }
+    ensures within { result.0 ≤ length piece.now }
+    ensures traces { Traces tracer.old tracer.new (take result.0 piece.now) [] (take result.1 buffer.new) }
+    ensures bounded { result.1 ≤ TRACE_LIMIT * result.0 }
+    ensures room { result.1 ≤ room }
+{
     one_split();
     play_cuts();
     soundness();
     cuts();
     let mut at = 0;
-    while at < piece.len() && out.capacity() - out.len() >= TRACE_LIMIT {
-        let bytes = push_one(tracer, &piece[at..], values, out);
+    let mut end = 0;
+    while at < piece.len() && room - end >= TRACE_LIMIT {
+        let (bytes, next) = put_one(tracer, &piece[at..], values, room, end, buffer);
         if bytes == 0 {
-            return at;
+            return (at, end);
         }
         at += bytes;
+        end = next;
     }
-    at
+    (at, end)
 }
 
-/// Appends the trace of a text or of a whole event at the front of a chunk, between sequences. Returns how many bytes it
-/// has, or 0 if neither is there.
+/// Writes the trace of a text or of a whole event at the front of a chunk, between sequences, at a place of the buffer.
+/// Returns how many bytes of the chunk it has and the place after what it wrote, or 0 if neither is there.
 #[inline(always)]
-fn push_one(tracer: &mut Tracer, piece: &[u8], values: &mut Values, out: &mut Vec<u8>) -> usize
+fn put_one(
+    tracer: &mut Tracer,
+    piece: &[u8],
+    values: &mut Values,
+    room: usize,
+    at: usize,
+    buffer: &mut [u8; BUFFER],
+) -> (usize, usize)
     requires place { tracer.old.place + length piece.now < 2 ^ 64 }
-    requires room { vec_len out.old + TRACE_LIMIT ≤ vec_capacity out.old }
-    ensures within { result ≤ length piece.now }
-    ensures traces { Traces tracer.old tracer.new (take result piece.now) out.old.items out.new.items }
-    ensures place { tracer.new.place ≡ tracer.old.place + result }
-    ensures bounded { vec_len out.new ≤ vec_len out.old + TRACE_LIMIT * result }
-    ensures capacity { vec_capacity out.old ≤ vec_capacity out.new }
+    requires at { at + TRACE_LIMIT ≤ room }
+    requires room { room ≤ BUFFER }
+    ensures within { result.0 ≤ length piece.now }
+    ensures traces { Traces tracer.old tracer.new (take result.0 piece.now) (take at buffer.old) (take result.1 buffer.new) }
+    ensures place { tracer.new.place ≡ tracer.old.place + result.0 }
+    ensures bounded { result.1 ≤ at + TRACE_LIMIT * result.0 }
+    ensures room { result.1 ≤ room }
+    ensures none { result.0 ≡ 0 → (tracer.new ≡ tracer.old) × (take at buffer.new ≡ take at buffer.old) }
 {
     one_split();
-    let run = shown_run(piece).min(out.capacity() - out.len() - 30);
+    let run = shown_run(piece).min(room - at - 30);
     if run > 0 {
-        push_run(tracer, &piece[..run], out);
-        return run;
+        return (run, put_run(tracer, &piece[..run], at, buffer));
     }
     let mut parser = Parser::new();
     let taken = parser.next(piece, values);
     if let Some(kind) = taken.event {
         if parser.is_between() && is_alone(kind, &piece[..taken.bytes]) {
-            push_alone(tracer, &piece[..taken.bytes], kind, values.as_slice(), out);
-            return taken.bytes;
+            let item = &piece[..taken.bytes];
+            let next = put_alone(tracer, item, kind, values.as_slice(), at, buffer);
+            return (taken.bytes, next);
         }
     }
-    0
+    (0, at)
 }
 
 /// Returns how many bytes at the front of a piece a text shows as themselves.
@@ -201,46 +244,53 @@ fn is_request(kind: EventKind) -> bool
     }
 }
 
-/// Appends the trace of plain bytes between sequences.
+/// Writes the trace of plain bytes between sequences.
 #[inline(always)]
-fn push_run(tracer: &mut Tracer, run: &[u8], out: &mut Vec<u8>)
+fn put_run(tracer: &mut Tracer, run: &[u8], at: usize, buffer: &mut [u8; BUFFER]) -> usize
     requires some { 1 ≤ length run.now }
     requires shown { All IsShown run.now }
     requires place { tracer.old.place + length run.now < 2 ^ 64 }
-    requires room { vec_len out.old + 30 + length run.now ≤ vec_capacity out.old }
-    ensures traces { Traces tracer.old tracer.new run.now out.old.items out.new.items }
+    requires room { at + 30 + length run.now ≤ BUFFER }
+    ensures traces { Traces tracer.old tracer.new run.now (take at buffer.old) (take result buffer.new) }
     ensures place { tracer.new.place ≡ tracer.old.place + length run.now }
-    ensures bounded { vec_len out.new ≤ vec_len out.old + 30 + length run.now }
-    ensures capacity { vec_capacity out.old ≤ vec_capacity out.new }
+    ensures bounded { result ≤ at + 30 + length run.now }
 {
     spelled();
-    push_text_begin(tracer, out);
-    push_bytes(run, out);
+    let at = put_text_begin(tracer, at, buffer);
+    let end = put_bytes(run, at, buffer);
     let begin = tracer.place + (run.len() as u64 - 1);
     *tracer = Tracer {
         place: begin + 1,
         begin,
         in_text: true,
     };
+    end
 }
 
-/// Appends the beginning of a text's line, unless the text goes on.
+/// Writes the beginning of a text's line, unless the text goes on.
 #[inline(always)]
-fn push_text_begin(tracer: &Tracer, out: &mut Vec<u8>)
-    requires { vec_len out.old + 30 ≤ vec_capacity out.old }
-    ensures items { out.new.items ≡ out.old.items ++ text_begin tracer.now.in_text tracer.now.place }
-    ensures bounded { vec_len out.new ≤ vec_len out.old + 30 }
-    ensures capacity { vec_capacity out.old ≤ vec_capacity out.new }
+fn put_text_begin(tracer: &Tracer, at: usize, buffer: &mut [u8; BUFFER]) -> usize
+    requires { at + 30 ≤ BUFFER }
+    ensures items { take result buffer.new ≡ take at buffer.old ++ text_begin tracer.now.in_text tracer.now.place }
+    ensures bounded { result ≤ at + 30 }
 {
-    if !tracer.in_text {
-        push_number(tracer.place, out);
-        push_bytes(b"\ttext\t", out);
+    if tracer.in_text {
+        return at;
     }
+    let at = put_number(tracer.place, at, buffer);
+    put_bytes(b"\ttext\t", at, buffer)
 }
 
-/// Appends the line of an event between sequences, which is no request for a report.
+/// Writes the line of an event between sequences, which is no request for a report.
 #[inline(always)]
-fn push_alone(tracer: &mut Tracer, item: &[u8], kind: EventKind, values: &[u16], out: &mut Vec<u8>)
+fn put_alone(
+    tracer: &mut Tracer,
+    item: &[u8],
+    kind: EventKind,
+    values: &[u16],
+    at: usize,
+    buffer: &mut [u8; BUFFER],
+) -> usize
     requires some { 1 ≤ length item.now }
     requires few { length values.now ≤ 16 }
     requires event { events_from Nothing item.now ≡ event_of kind values.now ∷ [] }
@@ -250,21 +300,54 @@ fn push_alone(tracer: &mut Tracer, item: &[u8], kind: EventKind, values: &[u16],
     requires no_request { is_request (event_of kind values.now) ≡ false }
     requires plain { All IsPlain (drop 1 item.now) }
     requires place { tracer.old.place + length item.now < 2 ^ 64 }
-    requires room { vec_len out.old + TRACE_LIMIT ≤ vec_capacity out.old }
-    ensures traces { Traces tracer.old tracer.new item.now out.old.items out.new.items }
+    requires room { at + TRACE_LIMIT ≤ BUFFER }
+    ensures traces { Traces tracer.old tracer.new item.now (take at buffer.old) (take result buffer.new) }
     ensures place { tracer.new.place ≡ tracer.old.place + length item.now }
-    ensures bounded { vec_len out.new ≤ vec_len out.old + TRACE_LIMIT }
-    ensures capacity { vec_capacity out.old ≤ vec_capacity out.new }
+    ensures bounded { result ≤ at + TRACE_LIMIT }
 {
     one_split();
     spelled();
     let begin = tracer.place;
     let last = begin + (item.len() as u64 - 1);
     let place = place_of(last, begin, item[item.len() - 1], kind);
-    push_event(tracer.in_text, place, kind, values, &[], out);
+    let end = put_event(tracer.in_text, place, kind, values, at, buffer);
     *tracer = Tracer {
         place: last + 1,
         begin,
         in_text: is_text(kind),
     };
+    end
+}
+
+/// Writes the end of a text and the line of an event that isn't a graphic byte and has no report.
+#[inline(always)]
+fn put_event(
+    in_text: bool,
+    place: u64,
+    kind: EventKind,
+    values: &[u16],
+    at: usize,
+    buffer: &mut [u8; BUFFER],
+) -> usize
+    requires few { length values.now ≤ 16 }
+    requires other { is_graphic (event_of kind values.now) ≡ false }
+    requires room { at + TRACE_LIMIT ≤ BUFFER }
+    ensures items { take result buffer.new ≡ take at buffer.old ++ written in_text place (event_of kind values.now) [] }
+    ensures bounded { result ≤ at + TRACE_LIMIT }
+{
+    let at = put_end(in_text, at, buffer);
+    put_line(place, kind, values, at, buffer)
+}
+
+/// Writes the end of a text, if the last line is one.
+#[inline(always)]
+fn put_end(in_text: bool, at: usize, buffer: &mut [u8; BUFFER]) -> usize
+    requires { at + 1 ≤ BUFFER }
+    ensures items { take result buffer.new ≡ take at buffer.old ++ text_end in_text }
+    ensures bounded { result ≤ at + 1 }
+{
+    if in_text {
+        return put(b'\n', at, buffer);
+    }
+    at
 }

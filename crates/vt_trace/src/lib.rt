@@ -1,6 +1,7 @@
 //! What the host sent, event by event, and what of it the terminal ignored.
 #![tactic(auto)]
 
+mod buffer;
 mod bytes;
 mod fronts;
 pub mod laws;

@@ -1,11 +1,12 @@
 //! The line of an event.
-ghost use Rattle.std.specs.Prelude.{◌≡◌, ◌+◌, ◌≤◌, ◌++◌, [], length, vec_len, vec_capacity};
+ghost use Rattle.std.specs.Prelude.{◌≡◌, ◌+◌, ◌≤◌, ◌++◌, [], take, length, vec_len, vec_capacity};
 ghost use Rattle.vt_syntax.specs.Event.{event_of};
 ghost use Rattle.vt_trace.specs.Lines.{values_column, bytes_column, event_line};
 
-use crate::bytes::{
-    push_bytes, push_number, push_option, push_shown, push_shown_option, push_values,
+use crate::buffer::{
+    BUFFER, put, put_bytes, put_number, put_option, put_shown, put_shown_option, put_values,
 };
+use crate::bytes::{push_bytes, push_option, push_shown, push_shown_option};
 use crate::names::name;
 use vt_syntax::EventKind;
 
@@ -13,7 +14,6 @@ use vt_syntax::EventKind;
 pub const LINE_LIMIT: usize = 160;
 
 /// Appends the line of an event that begins at a place, in existing capacity. `values` are those of a control sequence.
-#[tactic(auto, unfolding(crate::specs::Lines::event_line))]
 pub fn push_line(place: u64, kind: EventKind, values: &[u16], out: &mut Vec<u8>)
     requires few { length values.now ≤ 16 }
     requires room { vec_len out.old + LINE_LIMIT ≤ vec_capacity out.old }
@@ -21,68 +21,85 @@ pub fn push_line(place: u64, kind: EventKind, values: &[u16], out: &mut Vec<u8>)
     ensures bounded { vec_len out.new ≤ vec_len out.old + LINE_LIMIT }
     ensures capacity { vec_capacity out.old ≤ vec_capacity out.new }
 {
-    push_number(place, out);
-    push_bytes(b"\t", out);
-    match name(kind, values) {
+    let mut buffer = [0; BUFFER];
+    let end = put_line(place, kind, values, 0, &mut buffer);
+    push_bytes(&buffer[..end], out);
+}
+
+/// Writes the line of an event that begins at a place.
+#[tactic(auto, unfolding(crate::specs::Lines::event_line))]
+pub(crate) fn put_line(
+    place: u64,
+    kind: EventKind,
+    values: &[u16],
+    at: usize,
+    buffer: &mut [u8; BUFFER],
+) -> usize
+    requires few { length values.now ≤ 16 }
+    requires room { at + 200 ≤ BUFFER }
+    ensures items { take result buffer.new ≡ take at buffer.old ++ event_line place (event_of kind values.now) }
+    ensures bounded { result ≤ at + LINE_LIMIT }
+{
+    let at = put_number(place, at, buffer);
+    let at = put(b'\t', at, buffer);
+    let at = match name(kind, values) {
         Some(word) => {
-            push_bytes(word.as_bytes(), out);
-            push_bytes(b"\t", out);
-            push_values_column(kind, values, out);
+            let at = put_bytes(word.as_bytes(), at, buffer);
+            let at = put(b'\t', at, buffer);
+            put_values_column(kind, values, at, buffer)
         }
         None => {
-            push_bytes(b"ignored\t", out);
-            push_bytes_column(kind, values, out);
+            let at = put_bytes(b"ignored\t", at, buffer);
+            put_bytes_column(kind, values, at, buffer)
         }
-    }
-    push_bytes(b"\n", out);
+    };
+    put(b'\n', at, buffer)
 }
 
-/// Appends the marker and the values of a control sequence, or a graphic byte.
+/// Writes the marker and the values of a control sequence, or a graphic byte.
 #[inline(always)]
-fn push_values_column(kind: EventKind, values: &[u16], out: &mut Vec<u8>)
+fn put_values_column(kind: EventKind, values: &[u16], at: usize, buffer: &mut [u8; BUFFER]) -> usize
     requires few { length values.now ≤ 16 }
-    requires room { vec_len out.old + 97 ≤ vec_capacity out.old }
-    ensures items { out.new.items ≡ out.old.items ++ values_column (event_of kind values.now) }
-    ensures bounded { vec_len out.new ≤ vec_len out.old + 97 }
-    ensures capacity { vec_capacity out.old ≤ vec_capacity out.new }
+    requires room { at + 120 ≤ BUFFER }
+    ensures items { take result buffer.new ≡ take at buffer.old ++ values_column (event_of kind values.now) }
+    ensures bounded { result ≤ at + 97 }
 {
     match kind {
-        EventKind::Print(b) => push_shown(b, out),
-        EventKind::Control(_) => {}
-        EventKind::Escape { .. } => {}
+        EventKind::Print(b) => put_shown(b, at, buffer),
+        EventKind::Control(_) => at,
+        EventKind::Escape { .. } => at,
         EventKind::Sequence { marker, .. } => {
-            push_option(marker, out);
-            push_values(values, out);
+            let at = put_option(marker, at, buffer);
+            put_values(values, at, buffer)
         }
     }
 }
 
-/// Appends the bytes of an event as text.
-fn push_bytes_column(kind: EventKind, values: &[u16], out: &mut Vec<u8>)
+/// Writes the bytes of an event as text.
+fn put_bytes_column(kind: EventKind, values: &[u16], at: usize, buffer: &mut [u8; BUFFER]) -> usize
     requires few { length values.now ≤ 16 }
-    requires room { vec_len out.old + 110 ≤ vec_capacity out.old }
-    ensures items { out.new.items ≡ out.old.items ++ bytes_column (event_of kind values.now) }
-    ensures bounded { vec_len out.new ≤ vec_len out.old + 110 }
-    ensures capacity { vec_capacity out.old ≤ vec_capacity out.new }
+    requires room { at + 140 ≤ BUFFER }
+    ensures items { take result buffer.new ≡ take at buffer.old ++ bytes_column (event_of kind values.now) }
+    ensures bounded { result ≤ at + 110 }
 {
     match kind {
-        EventKind::Print(b) => push_shown(b, out),
-        EventKind::Control(b) => push_shown(b, out),
+        EventKind::Print(b) => put_shown(b, at, buffer),
+        EventKind::Control(b) => put_shown(b, at, buffer),
         EventKind::Escape { inter, last } => {
-            push_bytes(b"\\x1B", out);
-            push_shown_option(inter, out);
-            push_shown(last, out);
+            let at = put_bytes(b"\\x1B", at, buffer);
+            let at = put_shown_option(inter, at, buffer);
+            put_shown(last, at, buffer)
         }
         EventKind::Sequence {
             marker,
             inter,
             last,
         } => {
-            push_bytes(b"\\x1B[", out);
-            push_option(marker, out);
-            push_values(values, out);
-            push_shown_option(inter, out);
-            push_shown(last, out);
+            let at = put_bytes(b"\\x1B[", at, buffer);
+            let at = put_option(marker, at, buffer);
+            let at = put_values(values, at, buffer);
+            let at = put_shown_option(inter, at, buffer);
+            put_shown(last, at, buffer)
         }
     }
 }

@@ -12,6 +12,7 @@ ghost use Rattle.vt_syntax.specs.declared.event.Event.TheVariants.{Print};
 ghost use Rattle.vt_term.specs.State.{Display};
 ghost use Rattle.vt_term.specs.Play.{reports_of};
 
+use crate::buffer::BUFFER;
 use crate::bytes::{push_bytes, push_number, push_shown};
 use crate::fronts::trace_front;
 use crate::laws::cuts;
@@ -149,9 +150,19 @@ pub fn trace_reserved(
     play_cuts();
     cuts();
     let mut values = Values::new();
+    let mut buffer = [0; BUFFER];
     let mut at = 0;
     while at < chunk.len() && out.capacity() - out.len() >= TRACE_LIMIT {
-        at += trace_front(terminal, tracer, &chunk[at..], &mut values, reports, out);
+        let piece = &chunk[at..];
+        at += trace_front(
+            terminal,
+            tracer,
+            piece,
+            &mut values,
+            &mut buffer,
+            reports,
+            out,
+        );
     }
     at
 }

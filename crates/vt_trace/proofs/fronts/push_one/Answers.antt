@@ -1,8 +1,0 @@
-use Rattle.vt_trace.proofs.Runs.{nothing_traced}
-use Rattle.vt_trace.proofs.fronts.push_one.Goals as goal
-
-pub returns-else-is_between-clause-traces : goal.returns-else-is_between-clause-traces
-returns-else-is_between-clause-traces c = nothing_traced c.one_split.ensures c.args.tracer.now c.args.out.now.items
-
-pub returns-in_default-clause-traces : goal.returns-in_default-clause-traces
-returns-in_default-clause-traces c = nothing_traced c.one_split.ensures c.args.tracer.now c.args.out.now.items

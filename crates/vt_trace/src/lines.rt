@@ -28,6 +28,7 @@ pub fn push_line(place: u64, kind: EventKind, values: &[u16], out: &mut Vec<u8>)
 
 /// Writes the line of an event that begins at a place.
 #[tactic(auto, unfolding(crate::specs::Lines::event_line))]
+#[inline(always)]
 pub(crate) fn put_line(
     place: u64,
     kind: EventKind,

@@ -9,6 +9,7 @@ use crate::sequences::sequence;
 use vt_syntax::EventKind;
 
 /// Returns the name of an event, and `None` if it is ignored. `values` are those of a control sequence.
+#[inline(always)]
 pub fn name(kind: EventKind, values: &[u16]) -> Option<&'static str>
     ensures word { option_copied result ≡ name_of (event_of kind values.now) }
     ensures short { IfSome result (λ word. length word.now ≤ 23) }
@@ -27,6 +28,7 @@ pub fn is_ignored(kind: EventKind, values: &[u16]) -> bool
 }
 
 /// Returns the number of an event's name, and `None` if it is ignored.
+#[inline(always)]
 pub(crate) fn number(kind: EventKind, values: &[u16]) -> Option<u8>
     ensures word { option_map numbered result ≡ name_of (event_of kind values.now) }
     ensures within { IfSome result (λ number. number < 75) }

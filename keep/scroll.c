@@ -40,6 +40,7 @@ static size_t last_top(void) {
 
 /* Adds bytes to the log. If allocation fails, it is given up. */
 static void append(const uint8_t *bytes, size_t len) {
+    if (len == 0) return;
     if (it.len + len > it.room) {
         size_t room = 2 * (it.len + len);
         uint8_t *more = realloc(it.bytes, room);
@@ -57,7 +58,8 @@ static void append(const uint8_t *bytes, size_t len) {
 /* Finds the lines. The view begins one page above the screen. */
 static void begin(void) {
     append(it.screen, it.screen_len);
-    if (it.state == OFF || it.len == 0) return;
+    if (it.len == 0) scroll_leave();
+    if (it.state == OFF) return;
     for (size_t at = 0; at < it.len; at++) it.count += it.bytes[at] == '\n';
     it.lines = malloc((it.count + 1) * sizeof *it.lines);
     if (it.lines == NULL) {

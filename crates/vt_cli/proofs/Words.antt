@@ -1,6 +1,7 @@
 -- Settings and what clap matched.
 use Rattle.std.proofs.Common.{rules, ℕ, ◌≡◌, ◌∙◌, List, ap, sym, Option, Some, None, Result, Ok, Err, IfSome, IfNone, IfOk, IfErr, []}
-use Rattle.std.proofs.Common.{◌≢◌, codes, inl, inr, refl, is_some, option_map}
+use Rattle.std.proofs.Common.{◌≢◌, codes, inl, inr, refl, is_some, option_map, ◌<◌, ◌+◌, length, take, fold, get_or}
+use Rattle.std.proofs.lemmas.List.Sums.{fold_more}
 use Rattle.std.specs.Option.{unwrap_or}
 use Rattle.std.specs.Str.Parse.{ParsesUnsigned}
 use Rattle.std.specs.Result.{result_ok}
@@ -99,3 +100,12 @@ refused_by_both words (Err refused) none refusal = inr (none, refusal)
 pub some_taken : {A B : Type 0} (f : A → B) (o : Option A) → is_some o ≡ is_some (option_map f o)
 some_taken f None = refl
 some_taken f (Some x) = refl
+
+-- ---- tables
+
+-- one row more is added
+pub row_added : {X A : Type 0} (add : A → X → A) (start now next : A) (rows : List X) (k : ℕ) (row : X)
+    → k < length rows → now ≡ fold add start (take k rows) → next ≡ add now (get_or rows k row)
+    → next ≡ fold add start (take (k + 1) rows)
+row_added add start now next rows k row there so_far is =
+    is ∙ ap (λ a. add a (get_or rows k row)) so_far ∙ sym (fold_more add start rows k row there)

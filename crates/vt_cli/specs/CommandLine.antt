@@ -35,9 +35,13 @@ limit_option = number_option (codes "limit") 0 1099511627776 (codes "268435456")
 abbrev pub file_argument : Rule
 file_argument = record (new_rule (codes "file")) { value_names = 1 }
 
+-- with the options that have a number
+abbrev pub with_numbers : App → App
+with_numbers a = with_rule (with_rule a piece_option) limit_option
+
 -- one of the six subcommands
 abbrev pub subcommand : Text → App
-subcommand name = with_rule (with_rule (with_rule (new_app name) piece_option) limit_option) file_argument
+subcommand name = with_rule (with_numbers (new_app name)) file_argument
 
 abbrev pub name_of : What → Text
 name_of what.Text = codes "text"
@@ -61,10 +65,13 @@ with_answers a =
 abbrev pub with_views : App → App
 with_views a = with_subcommand_for (with_subcommand_for a what.Show) what.Picture
 
--- the program's command: one of the six subcommands is required, and it has a version
+-- a subcommand is required, and it has a version
+abbrev pub as_program : App → App
+as_program a = on_top (λ s. record s { subcommand_required = true; has_version = true }) a
+
+-- the program's command, with the six subcommands
 abbrev pub vt220 : App
-vt220 = on_top (λ s. record s { subcommand_required = true; has_version = true })
-    (with_views (with_answers (new_app (codes "vt220"))))
+vt220 = as_program (with_views (with_answers (new_app (codes "vt220"))))
 
 -- the faults that clap finds in the words, the first of which is the program's name
 abbrev pub faults_in : List (String Global) → Kinds

@@ -1,11 +1,10 @@
 -- A request: the wider command in clap's terms, and what the answers of `request` say. (this profile)
-use Rattle.std.specs.Prelude.{◌≡◌, ◌⊎◌, ℕ, ◌≤◌, List, [], ◌∷◌, ◌++◌, codes, Option, Some, None, string_bytes, map, true, Ok, Err}
+use Rattle.std.specs.Prelude.{◌≡◌, ◌⊎◌, ℕ, ◌≤◌, List, [], ◌∷◌, ◌++◌, codes, Option, Some, None, string_bytes, map, Ok, Err}
 use Rattle.std.specs.Option.{option_map}
 use Rattle.std.specs.declared.alloc.Global.{Global}
 use Rattle.std.specs.declared.string.String.{String}
 use Rattle.clap.specs.Words.{App, Rule, Row, Text, Kinds, new_app, new_rule, with_rule, with_subcommand, first_of, fault_of}
 use Rattle.clap.specs.Words.{subcommand_of}
-use Rattle.clap.specs.Simple.{on_top}
 use Rattle.vt_cli.specs.declared.what.What.TheVariants as what
 use Rattle.vt_cli.specs.declared.what.Word.{Word}
 use Rattle.vt_cli.specs.declared.what.Word.TheVariants.{Replay, Log, Pages, Trace, Summary, Content}
@@ -14,7 +13,7 @@ use Rattle.vt_cli.specs.declared.source.Complaint.{Complaint}
 use Rattle.vt_cli.specs.declared.asked.Settings.{Settings}
 use Rattle.vt_cli.specs.declared.asked.Request.{Request}
 use Rattle.vt_cli.specs.declared.asked.Refused.{Refused}
-use Rattle.vt_cli.specs.CommandLine.{subcommand, name_of, faults_in, found_in}
+use Rattle.vt_cli.specs.CommandLine.{subcommand, as_program, name_of, faults_in, found_in}
 use Rattle.vt_cli.specs.CommandLine.{IsNumberOf, AreSettings, IsMemory, IsFault}
 use Rattle.vt_cli.specs.Source.{source_in, line_of}
 
@@ -36,10 +35,13 @@ text_option name = record (new_rule name) { long = Some name; value_names = 1 }
 abbrev pub format_option : Rule
 format_option = record (text_option (codes "format")) { defaults = codes "raw" ∷ [] }
 
+-- with the options for the format and the timing file
+abbrev pub with_format : App → App
+with_format a = with_rule (with_rule a format_option) (text_option (codes "timing"))
+
 -- with the options of a recording
 abbrev pub with_source : App → App
-with_source a =
-    with_rule (with_rule (with_rule a format_option) (text_option (codes "timing"))) (text_option (codes "until"))
+with_source a = with_rule (with_format a) (text_option (codes "until"))
 
 -- with a subcommand, which takes the options of `settings` and those of a recording
 abbrev pub with_name : App → Text → App
@@ -62,10 +64,9 @@ with_lines a = with_word (with_word (with_word (with_word a (Replay what.Show)) 
 abbrev pub with_events : App → App
 with_events a = with_word (with_word (with_word a Trace) Summary) Content
 
--- the program's command: one of the eleven subcommands is required, and it has a version
+-- the program's command, with the eleven subcommands
 abbrev pub wider : App
-wider = on_top (λ s. record s { subcommand_required = true; has_version = true })
-    (with_events (with_lines (with_replays (new_app (codes "vt220")))))
+wider = as_program (with_events (with_lines (with_replays (new_app (codes "vt220")))))
 
 -- the faults that clap finds in the words of a command line
 abbrev pub wider_faults_in : List (String Global) → Kinds

@@ -1,11 +1,12 @@
 //! The command line of a replay: which arguments it takes, and what they ask for.
 ghost use Rattle.std.specs.Prelude.{◌≡◌, ◌≢◌, ◌⊎◌, ℕ, [], IfOk, IfErr, IfSome, IfNone, Some, option_map, string_bytes};
-ghost use Rattle.std.specs.Prelude.{codes, false};
-ghost use Rattle.clap.specs.Words.{FailsBy, app_of, first_value, found_of, kind_of, rows_of, rule_of};
+ghost use Rattle.std.specs.Prelude.{codes, false, fold};
+ghost use Rattle.clap.specs.Words.{FailsBy, app_of, first_value, found_of, kind_of, new_app, rows_of, rule_of};
 ghost use Rattle.clap.specs.Words.{subcommand_rows_of};
 ghost use Rattle.clap.specs.declared.builder.command.Command.TheViews.{out-Command};
 ghost use Rattle.vt_cli.specs.declared.what.What.{What};
-ghost use Rattle.vt_cli.specs.CommandLine.{number_option, subcommand, with_answers, with_subcommand_for, with_views};
+ghost use Rattle.vt_cli.specs.CommandLine.{number_option, piece_option, limit_option, file_argument, with_numbers};
+ghost use Rattle.vt_cli.specs.CommandLine.{subcommand, as_program, with_subcommand_for};
 ghost use Rattle.vt_cli.specs.CommandLine.{vt220, faults_in, found_in, name_of, status_for};
 ghost use Rattle.vt_cli.specs.CommandLine.{IsNumberOf, AreSettings, IsMemory, IsFault, IsStray, IsRefusal};
 ghost use Rattle.vt_cli.specs.CommandLine.{HasNoSettings};
@@ -28,10 +29,10 @@ const LIMIT_MOST: u64 = 1099511627776;
 pub(crate) const BAD_COMMAND_LINE: &str = "vt220: bad command line\n";
 
 /// The version of the program and of all its crates: `vt220 --version` prints it after the name.
-pub(crate) const VERSION: &str = "0.3.0";
+const VERSION: &str = "0.3.0";
 
 /// What the program is for.
-pub(crate) const ABOUT: &str =
+const ABOUT: &str =
     "Plays what a host sent to a VT220 terminal, and writes what the terminal then shows or answers";
 
 /// What `text` is for.
@@ -55,6 +56,16 @@ pub(crate) const SHOW: &str =
 
 /// What `picture` is for.
 pub(crate) const PICTURE: &str = "The screen as a picture (SVG)";
+
+/// The subcommands, each by what it writes and what it is for.
+const SUBCOMMANDS: [(What, &str); 6] = [
+    (What::Text, TEXT),
+    (What::Reports, REPORTS),
+    (What::Repaint, REPAINT),
+    (What::Status, STATUS),
+    (What::Show, SHOW),
+    (What::Picture, PICTURE),
+];
 
 /// The text below the help.
 const AFTER_HELP: &str = "\
@@ -97,6 +108,44 @@ fn number<'a>(
         .help(help)
 }
 
+/// Returns the option for the greatest number of bytes of one read.
+fn piece_option<'a>(alloc: Global) -> Arg<'a>
+    ensures rule { rule_of result ≡ piece_option }
+    ensures local { result.global ≡ false }
+{
+    let help = "The most bytes of one read, 1 to 65536";
+    number(alloc, "piece", 1, PIECE_MOST, "4096", help)
+}
+
+/// Returns the option for the greatest number of bytes of the input.
+fn limit_option<'a>(alloc: Global) -> Arg<'a>
+    ensures rule { rule_of result ≡ limit_option }
+    ensures local { result.global ≡ false }
+{
+    let help = "The most bytes of the input, 0 to 1099511627776";
+    number(alloc, "limit", 0, LIMIT_MOST, "268435456", help)
+}
+
+/// Returns the argument for the file.
+fn file_argument<'a>(alloc: Global) -> Arg<'a>
+    ensures rule { rule_of result ≡ file_argument }
+    ensures local { result.global ≡ false }
+{
+    Arg::new(alloc, "file")
+        .value_name("FILE")
+        .help("What the host sent; standard input if no file is named")
+}
+
+/// Adds the options with a number.
+fn with_numbers<'a>(alloc: Global, command: Command<'a>) -> Result<Command<'a>, AllocError>
+    requires { (out-Command command).has_globals ≡ false }
+    ensures app { IfOk result (λ c. app_of c ≡ with_numbers (app_of command.entry)) }
+    ensures local { IfOk result (λ c. (out-Command c).has_globals ≡ false) }
+{
+    let command = command.arg(piece_option(alloc))?;
+    command.arg(limit_option(alloc))
+}
+
 /// Returns a subcommand with the options and the file.
 pub(crate) fn subcommand<'a>(
     alloc: Global,
@@ -106,30 +155,8 @@ pub(crate) fn subcommand<'a>(
     ensures app { IfOk result (λ c. app_of c ≡ subcommand name.entry.now) }
     ensures local { IfOk result (λ c. (out-Command c).has_globals ≡ false) }
 {
-    let piece = number(
-        alloc,
-        "piece",
-        1,
-        PIECE_MOST,
-        "4096",
-        "The most bytes of one read, 1 to 65536",
-    );
-    let limit = number(
-        alloc,
-        "limit",
-        0,
-        LIMIT_MOST,
-        "268435456",
-        "The most bytes of the input, 0 to 1099511627776",
-    );
-    let file = Arg::new(alloc, "file")
-        .value_name("FILE")
-        .help("What the host sent; standard input if no file is named");
-    Command::new(alloc, name)
-        .about(about)
-        .arg(piece)?
-        .arg(limit)?
-        .arg(file)
+    let command = with_numbers(alloc, Command::new(alloc, name).about(about))?;
+    command.arg(file_argument(alloc))
 }
 
 /// Adds the subcommand for one kind of output.
@@ -152,34 +179,37 @@ fn with_subcommand<'a>(
     command.subcommand(subcommand(alloc, name, about)?)
 }
 
-/// Adds the subcommands `text`, `reports`, `repaint` and `status`.
-fn with_answers<'a>(alloc: Global, command: Command<'a>) -> Result<Command<'a>, AllocError>
-    ensures { IfOk result (λ c. app_of c ≡ with_answers (app_of command.entry)) }
+/// Adds subcommands, each by what it writes and what it is for.
+fn with_subcommands<'a>(
+    alloc: Global,
+    command: Command<'a>,
+    rows: &[(What, &'a str)],
+) -> Result<Command<'a>, AllocError>
+    ensures { IfOk result (λ c. app_of c ≡ fold (λ a row. with_subcommand_for a row.0) (app_of command.entry) rows.now) }
 {
-    let command = with_subcommand(alloc, command, What::Text, TEXT)?;
-    let command = with_subcommand(alloc, command, What::Reports, REPORTS)?;
-    let command = with_subcommand(alloc, command, What::Repaint, REPAINT)?;
-    with_subcommand(alloc, command, What::Status, STATUS)
+    let mut command = command;
+    for (what, about) in rows {
+        command = with_subcommand(alloc, command, *what, about)?;
+    }
+    Ok(command)
 }
 
-/// Adds the subcommands `show` and `picture`.
-fn with_views<'a>(alloc: Global, command: Command<'a>) -> Result<Command<'a>, AllocError>
-    ensures { IfOk result (λ c. app_of c ≡ with_views (app_of command.entry)) }
+/// Returns the program's command without its subcommands.
+pub(crate) fn program<'a>(alloc: Global, after_help: &'a str) -> Command<'a>
+    ensures { app_of result ≡ as_program (new_app (codes "vt220")) }
 {
-    let command = with_subcommand(alloc, command, What::Show, SHOW)?;
-    with_subcommand(alloc, command, What::Picture, PICTURE)
+    Command::new(alloc, "vt220")
+        .version(VERSION)
+        .about(ABOUT)
+        .after_help(after_help)
+        .subcommand_required(true)
 }
 
 /// Returns the command of a replay.
 fn command<'a>(alloc: Global) -> Result<Command<'a>, AllocError>
     ensures { IfOk result (λ c. app_of c ≡ vt220) }
 {
-    let command = Command::new(alloc, "vt220")
-        .version(VERSION)
-        .about(ABOUT)
-        .after_help(AFTER_HELP)
-        .subcommand_required(true);
-    with_views(alloc, with_answers(alloc, command)?)
+    with_subcommands(alloc, program(alloc, AFTER_HELP), &SUBCOMMANDS)
 }
 
 /// Returns what clap matches in the arguments.

@@ -1,17 +1,18 @@
 //! The program's command line: the words of a replay and all others, and how the input was recorded.
-ghost use Rattle.std.specs.Prelude.{◌≡◌, ◌≢◌, [], IfOk, IfErr, IfSome, IfNone, Some, Ok, codes, option_map, string_bytes, false};
+ghost use Rattle.std.specs.Prelude.{◌≡◌, ◌≢◌, [], IfOk, IfErr, IfSome, IfNone, Some, Ok, codes, option_map, string_bytes, false, fold};
 ghost use Rattle.clap.specs.Words.{FailsBy, app_of, first_value, found_of, rows_of, rule_of, subcommand_rows_of};
 ghost use Rattle.clap.specs.declared.builder.command.Command.TheViews.{out-Command};
 ghost use Rattle.vt_cli.specs.declared.what.Word.{Word};
+ghost use Rattle.vt_cli.specs.CommandLine.{subcommand};
 ghost use Rattle.vt_cli.specs.Source.{source_in};
-ghost use Rattle.vt_cli.specs.Request.{text_option, format_option, with_source, with_name, with_replays, with_lines, with_events};
+ghost use Rattle.vt_cli.specs.Request.{text_option, format_option, with_format, with_source, with_name};
 ghost use Rattle.vt_cli.specs.Request.{wider, wider_faults_in, wider_found_in, word_name};
 ghost use Rattle.vt_cli.specs.Request.{AsksFor, IsFound, HasNoRequest, IsRequest, IsNoRequest, IsWiderRefusal};
 
 use crate::asked::{Refused, Request, Settings};
 use crate::command_line::{
-    ABOUT, BAD_COMMAND_LINE, PICTURE, REPAINT, REPORTS, SHOW, STATUS, TEXT, VERSION, file_of,
-    options_of, out_of_memory, refusal, refusal_of, settings_in, subcommand, what_of,
+    BAD_COMMAND_LINE, PICTURE, REPAINT, REPORTS, SHOW, STATUS, TEXT, file_of, options_of,
+    out_of_memory, program, refusal, refusal_of, settings_in, subcommand, what_of,
 };
 use crate::source::{Source, source_in};
 use crate::what::Word;
@@ -35,6 +36,21 @@ const SUMMARY: &str = "The names of the events, each with its count; the ignored
 
 /// What `content` is for.
 const CONTENT: &str = "The host's bytes of a recording";
+
+/// The subcommands, each by its name and what it is for.
+const SUBCOMMANDS: [(&str, &str); 11] = [
+    ("text", TEXT),
+    ("reports", REPORTS),
+    ("repaint", REPAINT),
+    ("status", STATUS),
+    ("show", SHOW),
+    ("picture", PICTURE),
+    ("log", LOG),
+    ("pages", PAGES),
+    ("trace", TRACE),
+    ("summary", SUMMARY),
+    ("content", CONTENT),
+];
 
 /// The text below the help.
 const AFTER_HELP: &str = "\
@@ -90,25 +106,50 @@ fn format_option<'a>(alloc: Global) -> Arg<'a>
         .help("How FILE was recorded: raw, script, ttyrec or asciicast")
 }
 
+/// Returns the option for the timing file.
+fn timing_option<'a>(alloc: Global) -> Arg<'a>
+    ensures rule { rule_of result ≡ text_option (codes "timing") }
+    ensures local { result.global ≡ false }
+{
+    let help = "The times of a recording by script(1)";
+    text_option(alloc, "timing", "FILE", help)
+}
+
+/// Returns the option for the moment.
+fn until_option<'a>(alloc: Global) -> Arg<'a>
+    ensures rule { rule_of result ≡ text_option (codes "until") }
+    ensures local { result.global ≡ false }
+{
+    let help = "Only what came before: seconds, as 12.5 or 12:31, or bytes, as 4096b";
+    text_option(alloc, "until", "MOMENT", help)
+}
+
+/// Adds the options for the format and the timing file.
+fn with_format<'a>(alloc: Global, command: Command<'a>) -> Result<Command<'a>, AllocError>
+    requires { (out-Command command).has_globals ≡ false }
+    ensures app { IfOk result (λ c. app_of c ≡ with_format (app_of command.entry)) }
+    ensures local { IfOk result (λ c. (out-Command c).has_globals ≡ false) }
+{
+    let command = command.arg(format_option(alloc))?;
+    command.arg(timing_option(alloc))
+}
+
 /// Adds the options of a recording.
 fn with_source<'a>(alloc: Global, command: Command<'a>) -> Result<Command<'a>, AllocError>
     requires { (out-Command command).has_globals ≡ false }
     ensures app { IfOk result (λ c. app_of c ≡ with_source (app_of command.entry)) }
     ensures local { IfOk result (λ c. (out-Command c).has_globals ≡ false) }
 {
-    let timing = text_option(
-        alloc,
-        "timing",
-        "FILE",
-        "The times of a recording by script(1)",
-    );
-    let until = text_option(
-        alloc,
-        "until",
-        "MOMENT",
-        "Only what came before: seconds, as 12.5 or 12:31, or bytes, as 4096b",
-    );
-    command.arg(format_option(alloc))?.arg(timing)?.arg(until)
+    let command = with_format(alloc, command)?;
+    command.arg(until_option(alloc))
+}
+
+/// Returns a subcommand with its options, those of a recording and the file.
+fn named<'a>(alloc: Global, name: &'a str, about: &'a str) -> Result<Command<'a>, AllocError>
+    ensures app { IfOk result (λ c. app_of c ≡ with_source (subcommand name.entry.now)) }
+    ensures local { IfOk result (λ c. (out-Command c).has_globals ≡ false) }
+{
+    with_source(alloc, subcommand(alloc, name, about)?)
 }
 
 /// Adds the subcommand of this name.
@@ -120,50 +161,30 @@ fn with_name<'a>(
 ) -> Result<Command<'a>, AllocError>
     ensures { IfOk result (λ c. app_of c ≡ with_name (app_of command.entry) name.entry.now) }
 {
-    let inner = with_source(alloc, subcommand(alloc, name, about)?)?;
+    let inner = named(alloc, name, about)?;
     command.subcommand(inner)
 }
 
-/// Adds the subcommands `text`, `reports`, `repaint` and `status`.
-fn with_replays<'a>(alloc: Global, command: Command<'a>) -> Result<Command<'a>, AllocError>
-    ensures { IfOk result (λ c. app_of c ≡ with_replays (app_of command.entry)) }
+/// Adds subcommands, each by its name and what it is for.
+fn with_names<'a>(
+    alloc: Global,
+    command: Command<'a>,
+    rows: &[(&'a str, &'a str)],
+) -> Result<Command<'a>, AllocError>
+    ensures { IfOk result (λ c. app_of c ≡ fold (λ a row. with_name a row.0.now) (app_of command.entry) rows.now) }
 {
-    let command = with_name(alloc, command, "text", TEXT)?;
-    let command = with_name(alloc, command, "reports", REPORTS)?;
-    let command = with_name(alloc, command, "repaint", REPAINT)?;
-    with_name(alloc, command, "status", STATUS)
-}
-
-/// Adds the subcommands `show`, `picture`, `log` and `pages`.
-fn with_lines<'a>(alloc: Global, command: Command<'a>) -> Result<Command<'a>, AllocError>
-    ensures { IfOk result (λ c. app_of c ≡ with_lines (app_of command.entry)) }
-{
-    let command = with_name(alloc, command, "show", SHOW)?;
-    let command = with_name(alloc, command, "picture", PICTURE)?;
-    let command = with_name(alloc, command, "log", LOG)?;
-    with_name(alloc, command, "pages", PAGES)
-}
-
-/// Adds the subcommands `trace`, `summary` and `content`.
-fn with_events<'a>(alloc: Global, command: Command<'a>) -> Result<Command<'a>, AllocError>
-    ensures { IfOk result (λ c. app_of c ≡ with_events (app_of command.entry)) }
-{
-    let command = with_name(alloc, command, "trace", TRACE)?;
-    let command = with_name(alloc, command, "summary", SUMMARY)?;
-    with_name(alloc, command, "content", CONTENT)
+    let mut command = command;
+    for (name, about) in rows {
+        command = with_name(alloc, command, name, about)?;
+    }
+    Ok(command)
 }
 
 /// Returns the program's command.
 fn wider_command<'a>(alloc: Global) -> Result<Command<'a>, AllocError>
     ensures { IfOk result (λ c. app_of c ≡ wider) }
 {
-    let command = Command::new(alloc, "vt220")
-        .version(VERSION)
-        .about(ABOUT)
-        .after_help(AFTER_HELP)
-        .subcommand_required(true);
-    let command = with_lines(alloc, with_replays(alloc, command)?)?;
-    with_events(alloc, command)
+    with_names(alloc, program(alloc, AFTER_HELP), &SUBCOMMANDS)
 }
 
 /// Returns what clap matches in the arguments.

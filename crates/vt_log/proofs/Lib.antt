@@ -1,3 +1,3 @@
 mod Lines
-mod Silence
+mod Fronts
 mod PageLines

@@ -1,42 +1,46 @@
 -- The lines of bytes in pieces.
-use Rattle.std.proofs.Common.{◌≡◌, ℕ, ◌+◌, ◌-◌, List, [], ◌∷◌, ◌++◌, take, drop, length, refl, sym, ap, ◌∙◌}
-use Rattle.std.proofs.Common.{append_assoc, length-drop}
+use Rattle.std.proofs.Common.{◌≡◌, ℕ, ◌+◌, ◌-◌, List, [], ◌∷◌, ◌++◌, take, drop, length, sym, ap, ◌∙◌}
+use Rattle.std.proofs.Common.{append_assoc, append-nil, length-drop}
 use Rattle.std.proofs.Math.Seq.{take-add, take-length}
-use Rattle.vt_syntax.specs.declared.event.Event.{Event}
-use Rattle.vt_syntax.specs.Held.{events_from}
-use Rattle.vt_syntax.specs.Laws.{SplitLaw}
-use Rattle.vt_term.specs.State.{Display, State}
+use Rattle.std.specs.List.{flat_map}
+use Rattle.std.proofs.lemmas.Grind.{flat_map-append}
+use Rattle.vt_screen.specs.declared.cell.Cell.{Cell}
+use Rattle.vt_term.specs.State.{State}
 use Rattle.vt_term.specs.Sound.{IsSound}
-use Rattle.vt_term.specs.Functions.{effect}
-use Rattle.vt_term.specs.Play.{Played, play, both, after_events}
-use Rattle.vt_log.specs.Log.{line_off, lines_off, log}
+use Rattle.vt_term.specs.Play.{Played, play, both}
+use Rattle.vt_term.specs.Scrolling.{scrolled_off}
+use Rattle.vt_term.specs.Text.{line_text}
+use Rattle.vt_log.specs.Log.{log}
 
-lines_off-append : (xs ys : List Event) (s : Display)
-    → lines_off (xs ++ ys) s ≡ lines_off xs s ++ lines_off ys (after_events xs s)
-lines_off-append [] ys s = refl
-lines_off-append (x ∷ xs) ys s =
-    ap (λ (t : List ℕ). line_off x s ++ t) (lines_off-append xs ys (effect x s))
-    ∙ sym (append_assoc (line_off x s) (lines_off xs (effect x s)) (lines_off ys (after_events xs (effect x s))))
+-- the law of cuts of the lines as cells
+abbrev pub Cuts : Type 0
+Cuts = (s : State) (a b : List ℕ) → scrolled_off s (a ++ b) ≡ scrolled_off s a ++ scrolled_off (play s a).state b
 
 -- ---- the law of cuts
 
-pub log-append : SplitLaw → (s : State) (a b : List ℕ) → log s (a ++ b) ≡ log s a ++ log (play s a).state b
-unfolding log play
-log-append split s a b =
-    ap (λ (es : List Event). lines_off es s.display) (split.events_append s.held a b)
-    ∙ lines_off-append (events_from s.held a) (events_from (play s a).state.held b) s.display
-
-pub log-nothing : SplitLaw → (s : State) → IsSound s → log s [] ≡ []
+pub log-append : Cuts → (s : State) (a b : List ℕ) → log s (a ++ b) ≡ log s a ++ log (play s a).state b
 unfolding log
-log-nothing split s sound = ap (λ (es : List Event). lines_off es s.display) (split.events_nil s.held sound.held)
+log-append cuts s a b =
+    ap (λ (rows : List (List Cell)). flat_map line_text rows) (cuts s a b)
+    ∙ flat_map-append line_text (scrolled_off s a) (scrolled_off (play s a).state b)
+
+pub log-nothing : ((s : State) → IsSound s → scrolled_off s [] ≡ []) → (s : State) → IsSound s → log s [] ≡ []
+unfolding log
+log-nothing none s sound = ap (λ (rows : List (List Cell)). flat_map line_text rows) (none s sound)
 
 -- ---- feeding
 
--- bytes that are events
-pub log-of : (s : State) (bytes : List ℕ) (events : List Event) → events ≡ events_from s.held bytes
-    → lines_off events s.display ≡ log s bytes
+-- bytes that scroll no line off
+pub log-none : (s : State) (bytes : List ℕ) → scrolled_off s bytes ≡ [] → log s bytes ≡ []
 unfolding log
-log-of s bytes events are = ap (λ (es : List Event). lines_off es s.display) are
+log-none s bytes none = ap (λ (rows : List (List Cell)). flat_map line_text rows) none
+
+-- bytes that scroll one off
+pub log-one : (s : State) (bytes : List ℕ) (row : List Cell) → scrolled_off s bytes ≡ row ∷ []
+    → log s bytes ≡ line_text row
+unfolding log
+log-one s bytes row one =
+    ap (λ (rows : List (List Cell)). flat_map line_text rows) one ∙ append-nil (line_text row)
 
 -- the part of a piece from a place on, to its end
 pub rest-of : (piece : List ℕ) (at : ℕ) → take (length piece - at) (drop at piece) ≡ drop at piece

@@ -18,10 +18,14 @@ use Rattle.vt_term.specs.State.{Display, State}
 use Rattle.vt_term.specs.Sound.{IsSound}
 use Rattle.vt_term.specs.Functions.{effect}
 use Rattle.vt_term.specs.Play.{play, after_events}
-use Rattle.vt_log.specs.Log.{line_off, lines_off, log}
+use Rattle.std.specs.List.{flat_map}
+use Rattle.std.proofs.lemmas.Grind.{flat_map-append}
+use Rattle.vt_term.specs.Text.{line_text}
+use Rattle.vt_term.specs.Scrolling.{line_off, lines_off, scrolled_off}
+use Rattle.vt_log.specs.Log.{log}
 use Rattle.vt_log.specs.Pages.{taken_off, pages_off, pages, blanks_screen}
 use Rattle.vt_log.specs.Calm.{IsCalm, AreCalm}
-use Rattle.vt_log.proofs.Silence.{nothing, run-events, run-held, return-opens, line-feed-opens, first-byte}
+use Rattle.vt_log.proofs.Fronts.{nothing, run-events, run-held, return-opens, line-feed-opens, first-byte}
 
 pages_off-append : (xs ys : List Event) (s : Display)
     → pages_off (xs ++ ys) s ≡ pages_off xs s ++ pages_off ys (after_events xs s)
@@ -67,14 +71,16 @@ more-pages law s t piece before out more at n is was then =
 
 -- ---- calm bytes
 
-calm-lines : (events : List Event) (s : Display) → All IsCalm events → pages_off events s ≡ lines_off events s
+calm-lines : (events : List Event) (s : Display) → All IsCalm events
+    → pages_off events s ≡ flat_map line_text (lines_off events s)
 calm-lines [] s calm = refl
 calm-lines (event ∷ events) s calm =
     let none : blanks_screen event s ≡ false = All-head IsCalm event events calm s in
-    let one : taken_off event s ≡ line_off event s = rw none refl in
+    let one : taken_off event s ≡ flat_map line_text (line_off event s) = rw none refl in
     ap (λ (t : List ℕ). t ++ pages_off events (effect event s)) one
-    ∙ ap (λ (t : List ℕ). line_off event s ++ t)
+    ∙ ap (λ (t : List ℕ). flat_map line_text (line_off event s) ++ t)
     (calm-lines events (effect event s) (All-tail IsCalm event events calm))
+    ∙ sym (flat_map-append line_text (line_off event s) (lines_off events (effect event s)))
 
 calm-left : (xs ys : List Event) → All IsCalm (xs ++ ys) → All IsCalm xs
 calm-left [] ys calm = λ k d below. absurd (omega (arith, below))
@@ -84,7 +90,7 @@ calm-left (x ∷ xs) ys calm =
 -- a front of them
 pub calm-pages : SplitLaw → (bytes : List ℕ) (n : ℕ) (s : State) → AreCalm bytes → s.held ≡ Nothing
     → pages s (take n bytes) ≡ log s (take n bytes)
-unfolding pages log
+unfolding pages log scrolled_off
 calm-pages split bytes n s calm between =
     let front : All IsCalm (events_from Nothing (take n bytes)) =
     calm-left (events_from Nothing (take n bytes)) (events_from (held_from Nothing (take n bytes)) (drop n bytes))

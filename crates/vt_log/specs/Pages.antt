@@ -1,7 +1,7 @@
 -- The pages: the 24 lines of the screen before each event that blanks all of it. (EK-VT220-RM: ED, RIS and DECCOLM; that
 -- their lines are written is this profile's)
 use Rattle.std.specs.Prelude.{ℕ, List, [], ◌∷◌, ◌++◌, Bool, false, Option, Some, None, length, codes}
-use Rattle.std.specs.Prelude.{◌==◌, ◌||◌, ◌&&◌, if◌then◌else◌}
+use Rattle.std.specs.Prelude.{◌==◌, ◌||◌, ◌&&◌, if◌then◌else◌, flat_map}
 use Rattle.vt_syntax.specs.declared.event.Event.{Event}
 use Rattle.vt_syntax.specs.declared.event.Event.TheVariants.{Print, Control, Escape, Sequence}
 use Rattle.vt_syntax.specs.Held.{events_from}
@@ -10,8 +10,8 @@ use Rattle.vt_screen.specs.Grid.{last_row}
 use Rattle.vt_term.specs.State.{Display, State, last_column}
 use Rattle.vt_term.specs.Parameters.{first}
 use Rattle.vt_term.specs.Functions.{effect, byte}
-use Rattle.vt_term.specs.Text.{grid_text}
-use Rattle.vt_log.specs.Log.{line_off}
+use Rattle.vt_term.specs.Text.{grid_text, line_text}
+use Rattle.vt_term.specs.Scrolling.{line_off}
 
 -- ED erases every cell: 2; 0 from the first cell; 1 from the last
 abbrev pub erases_all : ℕ → Display → Bool
@@ -45,7 +45,7 @@ page s = if length (grid_text s.grid) == last_row then [] else grid_text s.grid
 
 -- what an event takes off the screen: all lines, or line 1
 abbrev pub taken_off : Event → Display → List ℕ
-taken_off event s = if blanks_screen event s then page s else line_off event s
+taken_off event s = if blanks_screen event s then page s else flat_map line_text (line_off event s)
 
 -- the lines of events, each in the state before its event
 abbrev pub pages_off : List Event → Display → List ℕ

@@ -5,7 +5,6 @@ ghost use Rattle.vt_glyph.specs.LookUp.{contains};
 ghost use Rattle.vt_term.specs.Parameters.{first};
 ghost use Rattle.vt_log.specs.Pages.{erases_all, blanks_by, is_reset, blanks_screen, page, pages_off};
 
-use crate::events::push_line_off;
 use vt_syntax::EventKind;
 use vt_term::{ROWS, TEXT_LIMIT, Terminal};
 
@@ -112,8 +111,8 @@ pub(crate) fn push_taken_off(
     if let Some(kind) = event {
         if blanks_screen(terminal, kind, values) {
             push_page(terminal, lines);
-        } else {
-            push_line_off(terminal, event, lines);
+        } else if terminal.scrolls_off(kind) {
+            terminal.row_text_reserved(1, lines);
         }
     }
 }

@@ -7,13 +7,14 @@ ghost use Rattle.vt_log.specs.Log.{log};
 ghost use Rattle.vt_log.specs.Pages.{pages};
 
 use vt_syntax::laws::one_split;
+use vt_term::laws::cuts as played_cuts;
 
 /// Bytes may be cut anywhere: the lines of pieces in turn are those of the pieces joined.
 pub fn cuts()
     ensures none { (s : State) → IsSound s → log s [] ≡ [] }
     ensures two { (s : State) (a b : List ℕ) → log s (a ++ b) ≡ log s a ++ log (play s a).state b }
 {
-    one_split();
+    played_cuts();
 }
 
 /// Bytes may be cut anywhere: the lines and pages of pieces in turn are those of the pieces joined.

@@ -3,11 +3,9 @@
 
 mod blanks;
 mod calm;
-mod events;
 mod feeding;
 pub mod laws;
 mod pages;
-mod quiet;
 
 pub use feeding::{LINE_LIMIT, feed_log, feed_log_reserved};
 pub use pages::{PAGE_LIMIT, feed_pages, feed_pages_reserved};

@@ -12,55 +12,34 @@ use Rattle.vt_screen.specs.declared.cell.Rendition.{Rendition}
 use Rattle.vt_screen.specs.declared.cell.Brush.{Brush}
 use Rattle.vt_term.specs.State.{Display}
 use Rattle.vt_term.specs.Rendition.{with_attribute, with_attributes}
-use Rattle.vt_term.specs.Functions.{control, plain_escape, escape_with, sequence_in, sequences_of, effect, designate}
-use Rattle.vt_term.specs.Functions.{designate_to}
+use Rattle.vt_term.specs.Functions.{control, plain_escape, escape_with, sequence_in, sequences_of, effect}
 use Rattle.vt_paint.specs.Controls.{spelling_sets_events, rendition_values, brush_events, left_event, right_event}
 use Rattle.vt_paint.specs.Controls.{sets_events}
-use Rattle.vt_paint.proofs.AfterEvents.{display_after}
+use Rattle.vt_paint.proofs.AfterEvents.{display_after, Makes}
+use Rattle.vt_screen.specs.Same.{same_rendition}
+use Rattle.vt_paint.proofs.Equality.{same_rendition-is}
+use Rattle.vt_paint.proofs.Tests.{both_pass, all_brushes, at_brush}
 
 -- ---- the brush
 
-attributes_four : (b u k r : Bool) (old : Rendition)
-    → with_attributes (rendition_values (record { bold = b; underline = u; blink = k; reverse = r })) old
-    ≡ record { bold = b; underline = u; blink = k; reverse = r }
-unfolding with_attribute
-attributes_four false false false false old = refl
-attributes_four true false false false old = refl
-attributes_four false true false false old = refl
-attributes_four true true false false old = refl
-attributes_four false false true false old = refl
-attributes_four true false true false old = refl
-attributes_four false true true false old = refl
-attributes_four true true true false old = refl
-attributes_four false false false true old = refl
-attributes_four true false false true old = refl
-attributes_four false true false true old = refl
-attributes_four true true false true old = refl
-attributes_four false false true true old = refl
-attributes_four true false true true old = refl
-attributes_four false true true true old = refl
-attributes_four true true true true old = refl
+attributes_made : (brush : Brush) (old : Rendition)
+    → with_attributes (rendition_values brush.rendition) old ≡ brush.rendition
+unfolding with_attribute all_brushes both_pass
+attributes_made brush old =
+    same_rendition-is _ brush.rendition
+    (at_brush (λ brush. same_rendition (with_attributes (rendition_values brush.rendition) old) brush.rendition) refl brush)
 
-pub brush_leaves : (x : Display) (brush : Brush) → display_after x (brush_events brush) ≡ record x { brush = brush }
+pub brush_leaves : (x : Display) (brush : Brush) → Makes (brush_events brush) x (record x { brush = brush })
 unfolding display_after brush_events sequence_in sequences_of
-brush_leaves x brush = go brush.protected refl
+brush_leaves x brush = record { is = go brush.protected refl }
   where
-    old : Rendition
-    old = with_attributes (rendition_values brush.rendition) x.brush.rendition
-
     made : Rendition → Bool → Display
     made r p = record x { brush = record { rendition = r; protected = p } }
 
     go : (p : Bool) → brush.protected ≡ p → display_after x (brush_events brush) ≡ record x { brush = brush }
-    go true e =
-        rw e (ap (λ r. made r true)
-        (attributes_four brush.rendition.bold brush.rendition.underline brush.rendition.blink brush.rendition.reverse
-        x.brush.rendition))
+    go true e = rw e (ap (λ r. made r true) (attributes_made brush x.brush.rendition))
         ∙ ap (λ p. made brush.rendition p) (sym e)
-    go false e =
-        rw e (ap (λ r. made r false)
-        (attributes_four brush.rendition.bold brush.rendition.underline brush.rendition.blink brush.rendition.reverse
-        x.brush.rendition))
+    go false e = rw e (ap (λ r. made r false) (attributes_made brush x.brush.rendition))
         ∙ ap (λ p. made brush.rendition p) (sym e)
 
 -- ---- the sets
@@ -73,7 +52,7 @@ final_names Special = refl
 final_names Supplemental = refl
 
 -- the four sets of a list of four
-pub record AreFour (g : List Set) : Type 0 where
+record AreFour (g : List Set) : Type 0 where
   pub a : Set
   pub b : Set
   pub c : Set
@@ -110,10 +89,6 @@ right_leaves x (suc (suc zero)) l h = refl
 right_leaves x (suc (suc (suc zero))) l h = refl
 right_leaves x (suc (suc (suc (suc n)))) l h = absurd (omega arith)
 
-designate_leaves : (slot : ℕ) (set : Set) (x : Display)
-    → designate slot (final_of set) x ≡ record x { sets = designated slot set x.sets }
-designate_leaves slot set x = ap (λ o. designate_to slot o x) (final_names set)
-
 -- four designations make the list
 four_designated : (g t : List Set) → length g ≡ 4 → length t ≡ 4
     → slice_set (slice_set (slice_set (slice_set g 0 (slice_index_or t 0 Ascii)) 1 (slice_index_or t 1 Ascii)) 2
@@ -124,34 +99,29 @@ four_designated g t four_g four_t =
     rw (p.is, q.is) refl
 
 pub sets_leaves : (x : Display) (t : GraphicSets) → length x.sets.g ≡ 4 → AreSoundSets t
-    → display_after x (sets_events t) ≡ with_sets x t.g t.left t.right
+    → Makes (sets_events t) x (with_sets x t.g t.left t.right)
 unfolding display_after sets_events escape_with
 sets_leaves x t four sound =
-    let last : Display → Display = λ y. effect (right_event t.right) (effect (left_event t.left) y) in
-    let x1 : Display = record x { sets = designated 0 (set_at t 0) x.sets } in
-    let x2 : Display = record x { sets = designated 1 (set_at t 1) x1.sets } in
-    let x3 : Display = record x { sets = designated 2 (set_at t 2) x2.sets } in
-    let x4 : Display = record x { sets = designated 3 (set_at t 3) x3.sets } in
-    ap (λ y. last
-    (designate 3 (final_of (set_at t 3))
-    (designate 2 (final_of (set_at t 2)) (designate 1 (final_of (set_at t 1)) y))))
-    (designate_leaves 0 (set_at t 0) x)
-    ∙ ap (λ y. last (designate 3 (final_of (set_at t 3)) (designate 2 (final_of (set_at t 2)) y)))
-    (designate_leaves 1 (set_at t 1) x1)
-    ∙ ap (λ y. last (designate 3 (final_of (set_at t 3)) y)) (designate_leaves 2 (set_at t 2) x2)
-    ∙ ap (λ y. last y) (designate_leaves 3 (set_at t 3) x3)
-    ∙ ap (λ y. effect (right_event t.right) y) (left_leaves x4 t.left sound.left)
-    ∙ right_leaves (with_sets x x4.sets.g t.left x.sets.right) t.right sound.right.0 sound.right.1
-    ∙ ap (λ g. with_sets x g t.left t.right) (four_designated x.sets.g t.g four sound.four)
+    let put : ℕ → GraphicSets → Display = λ slot y. record x { sets = designated slot (set_at t slot) y } in
+    let y1 = designated 0 (set_at t 0) x.sets in
+    let y2 = designated 1 (set_at t 1) y1 in
+    let y3 = designated 2 (set_at t 2) y2 in
+    let x4 = put 3 y3 in
+    record {
+      is =
+          rw (final_names (set_at t 0), final_names (set_at t 1), final_names (set_at t 2), final_names (set_at t 3))
+          (ap (λ y. effect (right_event t.right) y) (left_leaves x4 t.left sound.left)
+          ∙ right_leaves (with_sets x x4.sets.g t.left x.sets.right) t.right sound.right.0 sound.right.1
+          ∙ ap (λ g. with_sets x g t.left t.right) (four_designated x.sets.g t.g four sound.four));
+    }
 
 -- the sets that the spellings are for
 pub spelling_sets : GraphicSets → GraphicSets
 spelling_sets t = record t { g = slice_set (slice_set (slice_set t.g 0 Ascii) 2 Supplemental) 3 Special; left = 0 }
 
-pub spelling_sets_leaves : (x : Display) → display_after x spelling_sets_events
-    ≡ record x { sets = spelling_sets x.sets }
+pub spelling_sets_leaves : (x : Display) → Makes spelling_sets_events x (record x { sets = spelling_sets x.sets })
 unfolding display_after spelling_sets escape_with control
-spelling_sets_leaves x = refl
+spelling_sets_leaves x = record { is = refl }
 
 pub spelling_sets_are : (t : GraphicSets) → length t.g ≡ 4 → t.pending ≡ None → AreSpellingSets (spelling_sets t)
 unfolding spelling_sets

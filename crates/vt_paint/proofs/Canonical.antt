@@ -1,7 +1,6 @@
 -- Equal repaints are of equal states.
-use Rattle.std.proofs.Common.{◌≡◌, ◌↔◌, ℕ, List, sym, ap, subst, ◌∙◌}
+use Rattle.std.proofs.Common.{◌≡◌, ◌↔◌, ℕ, List, sym, ap, subst, ◌∙◌, arith}
 use Rattle.vt_syntax.specs.declared.held.Held.TheVariants.{Nothing}
-use Rattle.std.proofs.Common.{arith}
 use Rattle.std.proofs.lemmas.List.{get_or_default}
 use Rattle.std.specs.Str.{IsAscii}
 use Rattle.vt_term.specs.State.{State, power_up}

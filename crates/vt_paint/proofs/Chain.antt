@@ -1,40 +1,45 @@
--- From the cells on, item by item.
-use Rattle.std.proofs.Common.{◌≡◌, Bool, true, false, not, cond, ◌&&◌, ℕ, ◌+◌, ◌-◌, ◌≤◌, ◌<◌, min, max, List, [], ◌∷◌}
-use Rattle.std.proofs.Common.{◌++◌, length, get_or, None, arith, refl, sym, ap, ◌∙◌, eqb, ltb}
-use Rattle.std.specs.List.{range_with_len, list_all}
-use Rattle.std.proofs.lemmas.Bool.{eqb-true, lt-ltb, le-ltb, ne_eqb}
-use Rattle.std.proofs.lemmas.List.Sums.{AllPass-from_list_all}
-use Rattle.std.proofs.lemmas.List.FromFn.{get_or-range_with_len, length-range_with_len}
+-- From power-up on, item by item.
+use Rattle.std.proofs.Common.{◌≡◌, Bool, true, false, not, cond, ◌&&◌, ℕ, ◌+◌, ◌-◌, ◌≤◌, min, max, List, [], ◌∷◌}
+use Rattle.std.proofs.Common.{◌++◌, length, None, arith, refl, sym, ap, ◌∙◌, eqb, ltb}
+use Rattle.vt_screen.proofs.Places.{grid_of-same, grid_of-cell_at, cell_at-grid_of, IsGrid-grid_of}
+use Rattle.std.proofs.lemmas.Bool.{eqb-true, lt-ltb, ne_eqb, and_parts}
 use Rattle.vt_glyph.specs.GraphicSets.{GraphicSets, AreSoundSets}
 use Rattle.vt_glyph.specs.Spell.{AreSpellingSets}
 use Rattle.vt_screen.specs.declared.cell.Brush.{Brush}
 use Rattle.vt_screen.specs.declared.cell.Cell.{Cell}
-use Rattle.vt_screen.specs.Cells.{blank, brush_of}
-use Rattle.vt_screen.specs.Grid.{Grid, IsGrid, cell_at, row_of, grid_of, blank_grid, columns}
+use Rattle.vt_screen.specs.Cells.{blank, brush_of, plain_brush}
+use Rattle.vt_screen.specs.Grid.{Grid, IsGrid, cell_at, grid_of, blank_grid, columns}
 use Rattle.vt_term.specs.declared.state.Cursor.{Cursor}
 use Rattle.vt_term.specs.declared.state.Margins.{Margins}
 use Rattle.vt_term.specs.declared.state.Modes.{Modes}
-use Rattle.vt_term.specs.State.{Display, at_place, full_margins, modes_at_power_up, saved_sets}
-use Rattle.vt_term.specs.Moving.{home}
-use Rattle.vt_term.specs.Sound.{AreSoundMargins, IsSoundDisplay}
+use Rattle.vt_term.specs.State.{Display, at_place, full_margins, modes_at_power_up, saved_sets, saved_at_power_up}
+use Rattle.vt_term.specs.Sound.{AreSoundMargins, IsSoundDisplay, IsPlace}
 use Rattle.vt_term.specs.Modes.{with_mode}
-use Rattle.vt_term.specs.Functions.{sequence_in, sequences_of}
+use Rattle.vt_term.specs.Functions.{sequence_in, sequences_of, plain_escape, effect}
 use Rattle.vt_term.specs.Reports.{line_of_cursor}
-use Rattle.vt_paint.specs.Same.{is_blank}
-use Rattle.vt_paint.specs.Controls.{margins_to, brush_events, sets_events, spelling_sets_events}
+use Rattle.vt_paint.specs.Same.{same_saved}
+use Rattle.vt_paint.specs.Controls.{margins_to, brush_events, sets_events, spelling_sets_events, private_mode}
+use Rattle.vt_paint.specs.Controls.{cursor_position, save_cursor}
 use Rattle.vt_paint.specs.Pieces.{glyph_events, pieces, is_blank_grid}
-use Rattle.vt_paint.specs.Items.{cells_item, margins_item, origin_item, position_item, wrap_item, modes_item}
-use Rattle.vt_paint.specs.Items.{shift_item, last_items}
-use Rattle.vt_paint.proofs.LowerLaws.{GridLaws, GlyphLaws}
-use Rattle.vt_paint.proofs.AfterEvents.{display_after, display_after-append, display_after-then}
-use Rattle.vt_paint.proofs.Equality.{and_true, not_true, is_blank-is}
-use Rattle.vt_paint.proofs.Grids.{painted, all_blank, painted_none, put_same}
+use Rattle.vt_paint.specs.Items.{cells_item, margins_item, origin_item, position_item, wrap_item, last_items}
+use Rattle.vt_paint.specs.Items.{saved_events, saved_item}
+use Rattle.vt_paint.proofs.AfterEvents.{display_after, display_after-append, Makes, MakesSome, then_makes, one_makes}
+use Rattle.vt_paint.proofs.AfterEvents.{none_makes}
+use Rattle.vt_paint.proofs.Tests.{not_true}
+use Rattle.vt_paint.proofs.Equality.{is_blank-is, same_saved-is}
+use Rattle.vt_paint.proofs.Painting.{painted, all_blank, painted_none, glyph_leaves, shown, IsReady, behind}
+use Rattle.vt_paint.proofs.Painting.{AreGlyphs, pieces_leaves, cursor_leaves, put_again}
 use Rattle.vt_paint.proofs.Brushes.{brush_leaves, with_sets, sets_leaves, spelling_sets, spelling_sets_leaves}
 use Rattle.vt_paint.proofs.Brushes.{spelling_sets_are, spelling_sets_four, spelling_sets_none}
-use Rattle.vt_paint.proofs.Glyphs.{glyph_leaves}
-use Rattle.vt_paint.proofs.Walk.{shown}
-use Rattle.vt_paint.proofs.Painting.{IsReady, behind, AreGlyphs, pieces_leaves, write_glyph_leaves}
-use Rattle.vt_paint.proofs.SavedRecord.{with_saved}
+use Rattle.vt_paint.proofs.Stops.{with_stops}
+use Rattle.vt_paint.proofs.Pushing.{blank_at}
+use Rattle.vt_syntax.specs.declared.event.Event.{Event}
+use Rattle.vt_syntax.specs.declared.event.Event.TheVariants.{Print}
+use Rattle.vt_glyph.specs.Tables.{space}
+use Rattle.vt_glyph.specs.Invocation.{glyph_read, after_read, sets_at_power_up}
+use Rattle.vt_screen.specs.Same.{when}
+use Rattle.vt_term.specs.declared.state.Saved.{Saved}
+use Rattle.vt_paint.specs.Private.ChangeEvents.{saved_cursor}
 use Rattle.vt_paint.proofs.ModeItems.{modes_leave, shift_leaves}
 
 -- s with these parts, and with some modes but for the origin
@@ -47,151 +52,51 @@ part s modes cursor brush sets margins origin = record s {
   modes = record modes { decom = origin };
 }
 
--- ---- the cells
-
-pub record HasCells (s x : Display) : Type 0 where
-  pub cursor : Cursor
-  pub brush : Brush
-  pub sets : GraphicSets
-  pub is : x ≡ part s modes_at_power_up cursor brush sets full_margins false
-  pub four : length sets.g ≡ 4
-  pub none : sets.pending ≡ None
-  pub spells : s.cursor.wrap ≡ true → AreSpellingSets sets
-
-all_pass : {A : Type 0} (p : A → Bool) (xs : List A) (k : ℕ) (d : A) → k < length xs → list_all p xs ≡ true
-    → p (get_or xs k d) ≡ true
-all_pass p xs k d h e = AllPass-from_list_all p xs e k d h
-
-module _ (grids : GridLaws) where
-  -- a blank grid's cells are blank
-  blank_cell : (g : Grid) (r c : ℕ) → is_blank_grid g ≡ true → 1 ≤ r → r ≤ 24 → 1 ≤ c → c ≤ g.width
-      → cell_at g r c ≡ blank
-  unfolding is_blank_grid
-  blank_cell g r c h r1 r24 c1 cw =
-      let row = all_pass (λ r. list_all is_blank (row_of g r)) (range_with_len 1 24) (r - 1) 0
-      (omega (arith, length-range_with_len 1 24)) h in
-      let at : get_or (range_with_len 1 24) (r - 1) 0 ≡ r =
-      get_or-range_with_len 1 24 (r - 1) 0 (omega arith) ∙ omega arith in
-      let here : list_all is_blank (row_of g r) ≡ true = ap (λ r. list_all is_blank (row_of g r)) (sym at) ∙ row in
-      is_blank-is (cell_at g r c) (ap (λ cell. is_blank cell) (sym (grids.rows.cell g r c blank c1 cw))
-      ∙ all_pass is_blank (row_of g r) (c - 1) blank (omega (arith, grids.rows.len g r)) here)
-
-  blank_grid-is : (wide : Bool) (g : Grid) → g.width ≡ columns wide → IsGrid g → is_blank_grid g ≡ true
-      → blank_grid wide ≡ g
-  blank_grid-is wide g w is h =
-      ap (λ n. grid_of n (λ r c. blank)) (sym w)
-      ∙ grids.places.same_formulas g.width (λ r c. blank) (cell_at g)
-      (λ r c r1 r24 c1 cw. sym (blank_cell g r c h r1 r24 c1 cw))
-      ∙ grids.places.own_cells g is
-
-  blank_painted : (wide : Bool) (g : Grid) → g.width ≡ columns wide → blank_grid wide ≡ painted all_blank g 1 1
-  blank_painted wide g w = ap (λ n. grid_of n all_blank) (sym w) ∙ painted_none grids all_blank g
-
-module _ (grids : GridLaws) (glyphs : GlyphLaws) where
-  pub cells_leaves : (wide : Bool) (s : Display) (cursor : Cursor) → s.grid.width ≡ columns wide → IsGrid s.grid
-      → AreGlyphs s.grid → AreSoundSets (saved_sets s.saved)
-      → HasCells s (display_after (record (with_saved wide s.stops s.saved cursor) { saved = s.saved })
-      (cells_item s.grid s.cursor.wrap))
-  unfolding display_after cells_item
-  cells_leaves wide s cursor w is are sets = go (is_blank_grid s.grid && not s.cursor.wrap) refl
-    where
-      x0 : Display
-      x0 = with_saved wide s.stops s.saved cursor
-
-      t : GraphicSets
-      t = spelling_sets (saved_sets s.saved)
-
-      base : Display
-      base = record x0 { sets = t }
-
-      go : (b : Bool) → is_blank_grid s.grid && not s.cursor.wrap ≡ b
-          → HasCells s (display_after x0 (cond b [] (spelling_sets_events ++ pieces s.grid)))
-      go true e =
-          let p = and_true (is_blank_grid s.grid) (not s.cursor.wrap) e in
-          record {
-            cursor = cursor;
-            brush = s.saved.brush;
-            sets = saved_sets s.saved;
-            is = ap (λ g. record x0 { grid = g }) (blank_grid-is grids wide s.grid w is p.0);
-            four = sets.four;
-            none = refl;
-            spells = λ h. absurd (cc (h, not_true s.cursor.wrap p.1));
-          }
-      go false e =
-          let ready : IsReady base =
-          record {
-            sets = spelling_sets_are (saved_sets s.saved) sets.four refl;
-            irm = refl;
-            decawm = refl;
-            decom =
-                refl;
-          } in
-          let painted_is =
-          spelling_sets_leaves x0
-          ∙ ap (λ g. shown base g cursor s.saved.brush) (blank_painted grids wide s.grid w) in
-          let v = pieces_leaves grids glyphs base s.grid (display_after x0 spelling_sets_events) cursor s.saved.brush
-          ready is are painted_is in
-          record {
-            cursor = v.cursor;
-            brush = v.brush;
-            sets = t;
-            is = display_after-append x0 spelling_sets_events (pieces s.grid) ∙ v.is;
-            four = spelling_sets_four (saved_sets s.saved) sets.four;
-            none = spelling_sets_none (saved_sets s.saved) refl;
-            spells = λ h. ready.sets;
-          }
-
 -- ---- margins and origin
-
-pub record HasMargins (s : Display) (modes : Modes) (brush : Brush) (sets : GraphicSets) (margins : Margins)
-    (origin : Bool) (x : Display) : Type 0 where
-  pub cursor : Cursor
-  pub is : x ≡ part s modes cursor brush sets margins origin
 
 margins_leaves : (s : Display) (modes : Modes) (cursor : Cursor) (brush : Brush) (sets : GraphicSets) (m : Margins)
     (origin : Bool) → AreSoundMargins m
-    → HasMargins s modes brush sets m origin
-    (display_after (part s modes cursor brush sets full_margins origin) (margins_item m))
+    → MakesSome (margins_item m) (part s modes cursor brush sets full_margins origin)
+    (λ cursor. part s modes cursor brush sets m origin)
 unfolding display_after margins_item sequence_in sequences_of
 margins_leaves s modes cursor brush sets m origin sound = go (eqb m.top 1 && eqb m.bottom 24) refl
   where
-    x : Display
-    x = part s modes cursor brush sets full_margins origin
+    made : ℕ → ℕ → Margins
+    made t b = record { top = t; bottom = b }
 
     go : (b : Bool) → eqb m.top 1 && eqb m.bottom 24 ≡ b
-        → HasMargins s modes brush sets m origin (display_after x (cond b [] (margins_to m.top m.bottom ∷ [])))
+        → MakesSome (cond b [] (margins_to m.top m.bottom ∷ [])) (part s modes cursor brush sets full_margins origin)
+        (λ cursor. part s modes cursor brush sets m origin)
     go true e =
-        let a = and_true (eqb m.top 1) (eqb m.bottom 24) e in
-        let mk : ℕ → ℕ → Margins = λ t b. record { top = t; bottom = b } in
-        let is : full_margins ≡ m =
-        sym (ap (λ t. mk t m.bottom) (eqb-true m.top 1 a.0) ∙ ap (λ b. mk 1 b) (eqb-true m.bottom 24 a.1)) in
-        record { cursor = cursor; is = ap (λ y. part s modes cursor brush sets y origin) is }
+        let a = and_parts (eqb m.top 1) (eqb m.bottom 24) e in
+        let top : 1 ≡ m.top = sym (eqb-true m.top 1 a.0) in
+        let bottom : 24 ≡ m.bottom = sym (eqb-true m.bottom 24 a.1) in
+        record {
+          some = cursor;
+          makes = record {
+            is = ap (λ t. part s modes cursor brush sets (made t 24) origin) top
+                ∙ ap (λ b. part s modes cursor brush sets (made m.top b) origin) bottom;
+          };
+        }
     go false e =
         let top : max m.top 1 ≡ m.top = omega (arith, sound) in
         let none : eqb m.bottom 0 ≡ false = ne_eqb m.bottom 0 (omega (arith, sound)) in
         let bottom : min m.bottom 24 ≡ m.bottom = omega (arith, sound) in
         let less : ltb m.top m.bottom ≡ true = lt-ltb m.top m.bottom sound.two_rows in
-        let done : ℕ → ℕ → Bool → Display =
-        λ t b l. cond l (home (record x { margins = record { top = t; bottom = b } })) x in
-        record {
-          cursor = at_place (cond origin m.top 1) 1;
-          is =
-              ap (λ t. done t (cond (eqb m.bottom 0) 24 (min m.bottom 24))
-              (ltb t (cond (eqb m.bottom 0) 24 (min m.bottom 24)))) top
-              ∙ ap (λ b. done m.top (cond b 24 (min m.bottom 24)) (ltb m.top (cond b 24 (min m.bottom 24)))) none
-              ∙ ap (λ b. done m.top b (ltb m.top b)) bottom
-              ∙ ap (λ l. done m.top m.bottom l) less;
-        }
+        record { some = at_place (cond origin m.top 1) 1; makes = record { is = rw (top, none, bottom, less) refl } }
 
-pub origin_leaves : (known : Bool) (s : Display) (modes : Modes) (cursor : Cursor) (brush : Brush) (sets : GraphicSets)
+origin_leaves : (known : Bool) (s : Display) (modes : Modes) (cursor : Cursor) (brush : Brush) (sets : GraphicSets)
     (m : Margins) (now on : Bool) → (known ≡ true → now ≡ false)
-    → HasMargins s modes brush sets m on (display_after (part s modes cursor brush sets m now) (origin_item known on))
+    → MakesSome (origin_item known on) (part s modes cursor brush sets m now)
+    (λ cursor. part s modes cursor brush sets m on)
 unfolding display_after origin_item sequence_in sequences_of with_mode
-origin_leaves true s modes cursor brush sets m now true h = record { cursor = at_place m.top 1; is = refl }
-origin_leaves false s modes cursor brush sets m now true h = record { cursor = at_place m.top 1; is = refl }
-origin_leaves true s modes cursor brush sets m now false h =
-    record { cursor = cursor; is = ap (λ b. part s modes cursor brush sets m b) (h refl) }
-origin_leaves false s modes cursor brush sets m now false h = record { cursor = at_place 1 1; is = refl }
+origin_leaves true s modes cursor brush sets m now true h = record { some = at_place m.top 1; makes = record { is = refl } }
+origin_leaves false s modes cursor brush sets m now true h = record { some = at_place m.top 1; makes = record { is = refl } }
+origin_leaves true s modes cursor brush sets m now false h = record {
+  some = cursor;
+  makes = record { is = ap (λ b. part s modes cursor brush sets m b) (h refl) };
+}
+origin_leaves false s modes cursor brush sets m now false h = record { some = at_place 1 1; makes = record { is = refl } }
 
 -- ---- the cursor
 
@@ -206,109 +111,252 @@ line_back s i = go s.modes.decom refl
     go true e = let o = i.origin e in omega (arith, o)
     go false e = omega (arith, i.cursor.row_1, i.cursor.row_24)
 
-pub position_leaves : (s : Display) (modes : Modes) (cursor : Cursor) (brush : Brush) (sets : GraphicSets)
+position_leaves : (s : Display) (modes : Modes) (cursor : Cursor) (brush : Brush) (sets : GraphicSets)
     → IsSoundDisplay s
-    → display_after (part s modes cursor brush sets s.margins s.modes.decom) (position_item s)
-    ≡ part s modes (at_place s.cursor.row s.cursor.col) brush sets s.margins s.modes.decom
-unfolding display_after sequence_in sequences_of
+    → Makes (position_item s) (part s modes cursor brush sets s.margins s.modes.decom)
+    (part s modes (at_place s.cursor.row s.cursor.col) brush sets s.margins s.modes.decom)
 position_leaves s modes cursor brush sets i =
-    let col : min (max s.cursor.col 1) s.grid.width ≡ s.cursor.col = omega (arith, i.cursor.col_1, i.cursor.col_last) in
-    ap (λ r. part s modes (at_place r (min (max s.cursor.col 1) s.grid.width)) brush sets s.margins s.modes.decom)
-    (line_back s i)
-    ∙ ap (λ k. part s modes (at_place s.cursor.row k) brush sets s.margins s.modes.decom) col
+    one_makes (cursor_leaves (part s modes cursor brush sets s.margins s.modes.decom) (line_of_cursor s) s.cursor.row
+    s.cursor.col i.cursor.col_1 i.cursor.col_last (line_back s i))
 
-pub record HasCursor (s : Display) (modes : Modes) (x : Display) : Type 0 where
+pub wrap_leaves : (s : Display) (modes : Modes) (brush : Brush) (sets : GraphicSets) → modes.irm ≡ false
+    → modes.decawm ≡ true → IsGrid s.grid → (s.cursor.wrap ≡ true → s.cursor.col ≡ s.grid.width) → AreGlyphs s.grid
+    → (s.cursor.wrap ≡ true → AreSpellingSets sets)
+    → MakesSome (wrap_item s.grid s.cursor)
+    (part s modes (at_place s.cursor.row s.cursor.col) brush sets s.margins s.modes.decom)
+    (λ brush. part s modes s.cursor brush sets s.margins s.modes.decom)
+unfolding display_after wrap_item
+wrap_leaves s modes brush sets irm decawm is last are spells = go s.cursor.wrap refl
+  where
+    r : ℕ
+    r = s.cursor.row
+
+    c : ℕ
+    c = s.cursor.col
+
+    shape : Bool → Brush → Display
+    shape w b = part s modes (record { row = r; col = c; wrap = w }) b sets s.margins s.modes.decom
+
+    cell : Cell
+    cell = cell_at s.grid r c
+
+    go : (b : Bool) → s.cursor.wrap ≡ b
+        → MakesSome (cond b (brush_events (brush_of cell) ++ glyph_events cell) []) (shape false brush)
+        (λ brush. shape s.cursor.wrap brush)
+    go false e = record { some = brush; makes = none_makes (ap (λ w. shape w brush) (sym e)) }
+    go true e = record {
+      some = brush_of cell;
+      makes = then_makes (brush_leaves (shape false brush) (brush_of cell)) (record {
+        is = glyph_leaves (shape false (brush_of cell)) cell (spells e) (are r c)
+            ∙ put_again (shape false (brush_of cell)) r c cell refl (last e) is irm decawm
+            ∙ ap (λ w. shape w (brush_of cell)) (sym e);
+      });
+    }
+
+-- ---- the saved record: all that is saved is made, and saved
+
+-- what is to be saved, as a display
+abbrev pub recorded : Display → Modes → Display
+recorded s modes = record s {
+  cursor = saved_cursor s.saved;
+  brush = s.saved.brush;
+  sets = saved_sets s.saved;
+  margins = full_margins;
+  modes = record modes { decom = s.saved.origin };
+  saved = saved_at_power_up;
+}
+
+line_on : (origin : Bool) (r : ℕ) → 1 ≤ r → r ≤ 24 → cond origin (min (1 + max r 1 - 1) 24) (min (max r 1) 24) ≡ r
+line_on true r h k = omega arith
+line_on false r h k = omega arith
+
+save_leaves : (s : Display) (modes : Modes) (sets : GraphicSets)
+    → effect save_cursor (with_sets (part (recorded s modes) modes (saved_cursor s.saved) s.saved.brush sets
+    full_margins s.saved.origin) s.saved.g s.saved.gl s.saved.gr)
+    ≡ part s modes (saved_cursor s.saved) s.saved.brush
+    (record sets { g = s.saved.g; left = s.saved.gl; right = s.saved.gr }) full_margins s.saved.origin
+unfolding plain_escape
+save_leaves s modes sets = refl
+
+-- by the events of its wrap flag, and then some others
+pub record_leaves : (s z : Display) (modes : Modes) (cursor : Cursor) (brush made : Brush) (sets : GraphicSets)
+    (wraps rest : List Event)
+    → IsPlace s.grid.width s.saved.row s.saved.col s.saved.wrap → AreSoundSets (saved_sets s.saved) → length sets.g ≡ 4
+    → Makes wraps
+    (part (recorded s modes) modes (at_place s.saved.row s.saved.col) brush sets full_margins s.saved.origin)
+    (part (recorded s modes) modes (saved_cursor s.saved) made sets full_margins s.saved.origin)
+    → Makes rest (part s modes (saved_cursor s.saved) s.saved.brush
+    (record sets { g = s.saved.g; left = s.saved.gl; right = s.saved.gr }) full_margins s.saved.origin) z
+    → Makes (origin_item true s.saved.origin
+    ++ (cursor_position s.saved.row s.saved.col ∷ (wraps ++ (brush_events s.saved.brush
+    ++ (sets_events (saved_sets s.saved) ++ save_cursor ∷ rest)))))
+    (part (recorded s modes) modes cursor brush sets full_margins false) z
+record_leaves s z modes cursor brush made sets wraps rest place sound four wrapped behind =
+    let d = recorded s modes in
+    let origin = s.saved.origin in
+    let w = origin_leaves true d modes cursor brush sets full_margins false origin (λ e. refl) in
+    then_makes w.makes (then_makes (one_makes (cursor_leaves (part d modes w.some brush sets full_margins origin)
+    s.saved.row s.saved.row s.saved.col place.col_1 place.col_last (line_on origin s.saved.row place.row_1 place.row_24)))
+    (then_makes wrapped (then_makes (brush_leaves _ s.saved.brush)
+    (then_makes (sets_leaves (part d modes (saved_cursor s.saved) s.saved.brush sets full_margins origin)
+    (saved_sets s.saved) four sound) (then_makes (one_makes (save_leaves s modes sets)) behind)))))
+
+-- power-up with this width, these stops, this saved record with its brush and its sets, and this cursor
+abbrev pub with_saved : Bool → List Bool → Saved → Cursor → Display
+with_saved wide stops saved cursor = record (with_stops wide stops cursor) {
+  saved = saved;
+  brush = saved.brush;
+  sets = saved_sets saved;
+}
+
+-- a space in the last column of a blank grid leaves a blank cell, and the wrap flag
+space_leaves : (wide : Bool) (s : Display) → IsPlace (columns wide) s.saved.row s.saved.col s.saved.wrap
+    → s.grid ≡ blank_grid wide
+    → Makes (when s.saved.wrap (Print space ∷ []))
+    (part (recorded s modes_at_power_up) modes_at_power_up (at_place s.saved.row s.saved.col) plain_brush sets_at_power_up
+    full_margins s.saved.origin)
+    (part (recorded s modes_at_power_up) modes_at_power_up (saved_cursor s.saved) plain_brush sets_at_power_up
+    full_margins s.saved.origin)
+unfolding display_after glyph_read after_read
+space_leaves wide s place on_blank = go s.saved.wrap refl
+  where
+    shape : Bool → Display
+    shape w = part (recorded s modes_at_power_up) modes_at_power_up
+        (record { row = s.saved.row; col = s.saved.col; wrap = w }) plain_brush sets_at_power_up full_margins
+        s.saved.origin
+
+    go : (b : Bool) → s.saved.wrap ≡ b → Makes (when b (Print space ∷ [])) (shape false) (shape s.saved.wrap)
+    go false e = none_makes (ap shape (sym e))
+    go true e =
+        let here : blank ≡ cell_at s.grid s.saved.row s.saved.col =
+        rw on_blank (sym (cell_at-grid_of (columns wide) (λ r c. blank) s.saved.row s.saved.col place.row_1
+        place.row_24 place.col_1 place.col_last)) in
+        let last : s.saved.col ≡ s.grid.width = rw on_blank (place.wrap_last e) in
+        let is : IsGrid s.grid = rw on_blank (IsGrid-grid_of (columns wide) _ (wide, refl)) in
+        record {
+          is = put_again (shape false) s.saved.row s.saved.col blank here last is refl refl ∙ ap shape (sym e);
+        }
+
+-- DECOM reset again
+off_leaves : (wide : Bool) (s : Display) (origin : Bool)
+    → MakesSome (when origin (private_mode 6 false ∷ []))
+    (record (with_saved wide s.stops s.saved (saved_cursor s.saved)) { modes = record modes_at_power_up { decom = origin } })
+    (with_saved wide s.stops s.saved)
+unfolding display_after sequence_in sequences_of with_mode
+off_leaves wide s true = record { some = at_place 1 1; makes = record { is = refl } }
+off_leaves wide s false = record { some = saved_cursor s.saved; makes = record { is = refl } }
+
+origin_when : (origin : Bool) → origin_item true origin ≡ when origin (private_mode 6 true ∷ [])
+unfolding origin_item
+origin_when true = refl
+origin_when false = refl
+
+pub saved_leaves : (wide : Bool) (s : Display) (cursor : Cursor)
+    → IsPlace (columns wide) s.saved.row s.saved.col s.saved.wrap → AreSoundSets (saved_sets s.saved)
+    → MakesSome (saved_item s.saved) (with_stops wide s.stops cursor) (with_saved wide s.stops s.saved)
+unfolding saved_item saved_events
+saved_leaves wide s cursor place sets = go (same_saved s.saved saved_at_power_up) refl
+  where
+    on_blank : Display
+    on_blank = record s { grid = blank_grid wide }
+
+    go : (b : Bool) → same_saved s.saved saved_at_power_up ≡ b
+        → MakesSome (when (not b) (saved_events s.saved)) (with_stops wide s.stops cursor) (with_saved wide s.stops s.saved)
+    go true e = record {
+      some = cursor;
+      makes = none_makes (ap (λ s'. with_saved wide s.stops s' cursor) (sym (same_saved-is s.saved saved_at_power_up e)));
+    }
+    go false e =
+        let w = off_leaves wide s s.saved.origin in
+        record {
+          some = w.some;
+          makes =
+              rw (← origin_when s.saved.origin) (record_leaves on_blank _ modes_at_power_up cursor plain_brush plain_brush
+              sets_at_power_up _ _ place sets refl (space_leaves wide on_blank place refl) w.makes);
+        }
+
+-- ---- the cells
+
+pub record HasCells (s x : Display) : Type 0 where
+  pub cursor : Cursor
   pub brush : Brush
   pub sets : GraphicSets
-  pub is : x ≡ part s modes s.cursor brush sets s.margins s.modes.decom
+  pub is : x ≡ part s modes_at_power_up cursor brush sets full_margins false
   pub four : length sets.g ≡ 4
   pub none : sets.pending ≡ None
+  pub spells : s.cursor.wrap ≡ true → AreSpellingSets sets
 
-module _ (grids : GridLaws) (glyphs : GlyphLaws) where
-  pub wrap_leaves : (s : Display) (modes : Modes) (brush : Brush) (sets : GraphicSets) → modes.irm ≡ false
-      → modes.decawm ≡ true → IsSoundDisplay s → AreGlyphs s.grid → length sets.g ≡ 4 → sets.pending ≡ None
-      → (s.cursor.wrap ≡ true → AreSpellingSets sets)
-      → HasCursor s modes
-      (display_after (part s modes (at_place s.cursor.row s.cursor.col) brush sets s.margins s.modes.decom)
-      (wrap_item s.grid s.cursor))
-  unfolding display_after wrap_item
-  wrap_leaves s modes brush sets irm decawm i are four none spells = go s.cursor.wrap refl
-    where
-      cell : Cell
-      cell = cell_at s.grid s.cursor.row s.cursor.col
+blank_grid-is : (wide : Bool) (g : Grid) → g.width ≡ columns wide → IsGrid g → is_blank_grid g ≡ true
+    → blank_grid wide ≡ g
+unfolding is_blank_grid
+blank_grid-is wide g w is h =
+    ap (λ n. grid_of n (λ r c. blank)) (sym w)
+    ∙ grid_of-same g.width (λ r c. blank) (cell_at g)
+    (λ r c r1 r24 c1 cw. sym (is_blank-is (cell_at g r c) (blank_at g 24 r c h r1 (omega arith) c1 cw)))
+    ∙ grid_of-cell_at g is.cells
 
-      at : Bool → Cursor
-      at w = record { row = s.cursor.row; col = s.cursor.col; wrap = w }
+pub cells_leaves : (wide : Bool) (s : Display) (cursor : Cursor) → s.grid.width ≡ columns wide → IsGrid s.grid
+    → AreGlyphs s.grid → AreSoundSets (saved_sets s.saved)
+    → HasCells s (display_after (with_saved wide s.stops s.saved cursor) (cells_item s.grid s.cursor.wrap))
+unfolding display_after cells_item
+cells_leaves wide s cursor w is are sets = go (is_blank_grid s.grid && not s.cursor.wrap) refl
+  where
+    x0 : Display
+    x0 = with_saved wide s.stops s.saved cursor
 
-      shape : Cursor → Brush → Display
-      shape c b = part s modes c b sets s.margins s.modes.decom
+    t : GraphicSets
+    t = spelling_sets (saved_sets s.saved)
 
-      go : (b : Bool) → s.cursor.wrap ≡ b
-          → HasCursor s modes
-          (display_after (shape (at_place s.cursor.row s.cursor.col) brush)
-          (cond b (brush_events (brush_of cell) ++ glyph_events cell) []))
-      go false e = record {
-        brush = brush;
-        sets = sets;
-        is = ap (λ w. shape (at w) brush) (sym e);
-        four = four;
-        none =
-            none;
-      }
-      go true e =
-          let last = i.cursor.wrap_last e in
-          let here = at_place s.cursor.row s.cursor.col in
-          record {
-            brush = brush_of cell;
-            sets = sets;
-            is =
-                display_after-append (shape here brush) (brush_events (brush_of cell)) (glyph_events cell)
-                ∙ ap (λ y. display_after y (glyph_events cell)) (brush_leaves (shape here brush) (brush_of cell))
-                ∙ glyph_leaves glyphs (shape here (brush_of cell)) cell (spells e) (are s.cursor.row s.cursor.col)
-                ∙ write_glyph_leaves (shape here (brush_of cell)) s.cursor.row s.cursor.col cell irm decawm
-                ∙ ap (λ g. record (shape (behind s.grid.width s.cursor.row s.cursor.col) (brush_of cell)) { grid = g })
-                (put_same grids s.grid s.cursor.row s.cursor.col i.grid.shape)
-                ∙ ap (λ b. shape (cond b (at_place s.cursor.row (s.cursor.col + 1)) (at true)) (brush_of cell))
-                (le-ltb s.cursor.col s.grid.width (omega (arith, last)))
-                ∙ ap (λ w. shape (at w) (brush_of cell)) (sym e);
-            four = four;
-            none = none;
-          }
+    base : Display
+    base = record x0 { sets = t }
 
-  -- ---- the last items
+    go : (b : Bool) → is_blank_grid s.grid && not s.cursor.wrap ≡ b
+        → HasCells s (display_after x0 (cond b [] (spelling_sets_events ++ pieces s.grid)))
+    go true e =
+        let p = and_parts (is_blank_grid s.grid) (not s.cursor.wrap) e in
+        record {
+          cursor = cursor;
+          brush = s.saved.brush;
+          sets = saved_sets s.saved;
+          is = ap (λ g. record x0 { grid = g }) (blank_grid-is wide s.grid w is p.0);
+          four = sets.four;
+          none = refl;
+          spells = λ h. absurd (cc (h, not_true s.cursor.wrap p.1));
+        }
+    go false e =
+        let spells = spelling_sets_are (saved_sets s.saved) sets.four refl in
+        let ready : IsReady base = record { sets = spells; irm = refl; decawm = refl; decom = refl } in
+        let on_blank : blank_grid wide ≡ painted all_blank s.grid 1 1 =
+        ap (λ n. grid_of n all_blank) (sym w) ∙ painted_none all_blank s.grid in
+        let painted_is = (spelling_sets_leaves x0).is ∙ ap (λ g. shown base g cursor s.saved.brush) on_blank in
+        let v = pieces_leaves base s.grid (display_after x0 spelling_sets_events) cursor s.saved.brush
+        ready is are painted_is in
+        record {
+          cursor = v.cursor;
+          brush = v.brush;
+          sets = t;
+          is = display_after-append x0 spelling_sets_events (pieces s.grid) ∙ v.is;
+          four = spelling_sets_four (saved_sets s.saved) sets.four;
+          none = spelling_sets_none (saved_sets s.saved) refl;
+          spells = λ h. spells;
+        }
 
-  pub last_leaves : (known : Bool) (s : Display) (modes : Modes) (cursor : Cursor) (brush : Brush) (sets : GraphicSets)
-      (origin : Bool)
-      → (known ≡ true → modes ≡ modes_at_power_up) → (known ≡ true → origin ≡ false)
-      → modes.irm ≡ false → modes.decawm ≡ true → IsSoundDisplay s → AreGlyphs s.grid
-      → length sets.g ≡ 4 → sets.pending ≡ None → (s.cursor.wrap ≡ true → AreSpellingSets sets)
-      → display_after (part s modes cursor brush sets full_margins origin) (last_items known s) ≡ s
-  unfolding last_items
-  last_leaves known s modes cursor brush sets origin is_known was irm decawm i are four none spells =
-      let place = at_place s.cursor.row s.cursor.col in
-      let o7 = modes_item known s.modes ++ shift_item s.sets.pending in
-      let o6 = sets_events s.sets ++ o7 in
-      let o5 = brush_events s.brush ++ o6 in
-      let o4 = wrap_item s.grid s.cursor ++ o5 in
-      let o3 = position_item s ++ o4 in
-      let o2 = origin_item known s.modes.decom ++ o3 in
-      let w1 = margins_leaves s modes cursor brush sets s.margins origin i.margins in
-      let w2 = origin_leaves known s modes w1.cursor brush sets s.margins origin s.modes.decom was in
-      let w4 = wrap_leaves s modes brush sets irm decawm i are four none spells in
-      let x0 = part s modes cursor brush sets full_margins origin in
-      let x1 = part s modes w1.cursor brush sets s.margins origin in
-      let x2 = part s modes w2.cursor brush sets s.margins s.modes.decom in
-      let x3 = part s modes place brush sets s.margins s.modes.decom in
-      let x4 = part s modes s.cursor w4.brush w4.sets s.margins s.modes.decom in
-      let x5 = part s modes s.cursor s.brush w4.sets s.margins s.modes.decom in
-      let x6 = with_sets x5 s.sets.g s.sets.left s.sets.right in
-      let x7 : Display = record x6 { modes = s.modes } in
-      display_after-then x0 x1 s (margins_item s.margins) o2 w1.is
-      (display_after-then x1 x2 s (origin_item known s.modes.decom) o3 w2.is
-      (display_after-then x2 x3 s (position_item s) o4 (position_leaves s modes w2.cursor brush sets i)
-      (display_after-then x3 x4 s (wrap_item s.grid s.cursor) o5 w4.is
-      (display_after-then x4 x5 s (brush_events s.brush) o6 (brush_leaves x4 s.brush)
-      (display_after-then x5 x6 s (sets_events s.sets) o7 (sets_leaves x5 s.sets w4.four i.sets)
-      (display_after-then x6 x7 s (modes_item known s.modes) (shift_item s.sets.pending)
-      (modes_leave known x6 modes s.modes is_known i.wrap)
-      (shift_leaves x7 s.sets.pending i.sets.pending w4.none)))))))
+-- ---- the last items
+
+pub last_leaves : (known : Bool) (s : Display) (modes : Modes) (cursor : Cursor) (brush : Brush) (sets : GraphicSets)
+    (origin : Bool)
+    → (known ≡ true → modes ≡ modes_at_power_up) → (known ≡ true → origin ≡ false)
+    → modes.irm ≡ false → modes.decawm ≡ true → IsSoundDisplay s → AreGlyphs s.grid
+    → length sets.g ≡ 4 → sets.pending ≡ None → (s.cursor.wrap ≡ true → AreSpellingSets sets)
+    → Makes (last_items known s) (part s modes cursor brush sets full_margins origin) s
+unfolding last_items
+last_leaves known s modes cursor brush sets origin is_known was irm decawm i are four none spells =
+    let w1 = margins_leaves s modes cursor brush sets s.margins origin i.margins in
+    let w2 = origin_leaves known s modes w1.some brush sets s.margins origin s.modes.decom was in
+    let w4 = wrap_leaves s modes brush sets irm decawm i.grid.shape i.cursor.wrap_last are spells in
+    let x5 = part s modes s.cursor s.brush sets s.margins s.modes.decom in
+    let x6 = with_sets x5 s.sets.g s.sets.left s.sets.right in
+    then_makes w1.makes (then_makes w2.makes (then_makes (position_leaves s modes w2.some brush sets i)
+    (then_makes w4.makes (then_makes (brush_leaves _ s.brush) (then_makes (sets_leaves x5 s.sets four i.sets)
+    (then_makes (modes_leave known x6 modes s.modes is_known i.wrap)
+    (shift_leaves (record x6 { modes = s.modes }) s.sets.pending i.sets.pending none)))))))

@@ -1,81 +1,80 @@
--- The table of the brushes, entry by entry, by computing.
-use Rattle.std.proofs.Common.{◌≡◌, ◌+◌, ◌-◌, ◌*◌, ◌≤◌, ◌==◌, ◌∷◌, ◌++◌, [], ℕ, Bool, true, false, List, take, slice_index_or}
-use Rattle.std.proofs.Common.{get_or, nat_le, refl, sym, ap, ◌∙◌, arith}
-use Rattle.std.specs.List.{range_with_len, list_all}
+-- The spelling of some control functions, and the tables of parts of headers, by computing.
+use Rattle.std.proofs.Common.{◌≡◌, cond, append_assoc, append-nil, ap, ◌∙◌, ℕ, List, [], ◌∷◌, ◌++◌, refl, ◌+◌, ◌-◌}
+use Rattle.std.proofs.Common.{◌*◌, ◌≤◌, ◌==◌, Bool, true, take, slice_index_or, nat_le, arith}
+use Rattle.std.specs.Prelude.{decimal, ◌==◌}
+use Rattle.std.specs.Fmt.{digits}
 use Rattle.std.specs.Cmp.Lexicographic.{pointwise, pointwise_decides}
-use Rattle.std.proofs.lemmas.Bool.{leb-true}
 use Rattle.std.proofs.lemmas.Bool.Decides.{Decides-eqb}
-use Rattle.std.proofs.lemmas.List.FromFn.{length-range_with_len, get_or-range_with_len}
-use Rattle.std.proofs.lemmas.List.Sums.{AllPass-from_list_all}
+use Rattle.vt_paint.proofs.Tests.{both_pass, all_brushes, at_brush}
+use Rattle.vt_syntax.specs.Spelling.{spell_events, spell_event}
+use Rattle.vt_screen.specs.declared.cell.Brush.{Brush}
+use Rattle.vt_paint.specs.Controls.{cursor_position, brush_events, clear_all_tabs, set_tab}
+use Rattle.vt_paint.specs.Private.ChangeEvents.{has_all, short_brush_events, start_item}
+use Rattle.std.specs.List.{range_with_len, list_all}
+use Rattle.std.proofs.lemmas.Bool.{leb-true}
+use Rattle.vt_glyph.proofs.Lists.{all_in_range}
 use borrow.Rule.Slice.PartMut.{mid_of}
 use mir.Val.{bool_byte}
-use Rattle.vt_syntax.specs.Spelling.{spell_event, spell_events}
-use Rattle.vt_screen.specs.declared.cell.Brush.{Brush}
 use Rattle.vt_paint.specs.declared.tables.TheConstants.{ROW_PARTS, COLUMN_PARTS, BRUSHES, BRUSH_LENGTHS}
-use Rattle.std.proofs.Common.{append_assoc, append-nil}
-use Rattle.std.specs.Prelude.{decimal}
-use Rattle.std.specs.Fmt.{digits}
-use Rattle.vt_paint.specs.Controls.{brush_events, cursor_position}
 use Rattle.vt_paint.specs.Private.HeaderParts.{row_part, column_part, brush_part, brush_index}
+
+pub clear_spelled : spell_events (clear_all_tabs ∷ []) ≡ (0x1B ∷ 0x5B ∷ 0x33 ∷ 0x67 ∷ [])
+unfolding digits
+clear_spelled = refl
+
+first_row : decimal 1 ≡ 0x31 ∷ []
+unfolding digits
+first_row = refl
+
+behind_column : (d : List ℕ) → ((d ++ []) ++ (0x48 ∷ [])) ++ (0x1B ∷ 0x48 ∷ []) ≡ d ++ (0x48 ∷ 0x1B ∷ 0x48 ∷ [])
+behind_column d = ap (λ x. (x ++ (0x48 ∷ [])) ++ (0x1B ∷ 0x48 ∷ [])) (append-nil d)
+    ∙ append_assoc d (0x48 ∷ []) (0x1B ∷ 0x48 ∷ [])
+
+-- a stop: CUP in the first row, and HTS
+pub stop_spelled : (c : ℕ) → spell_events (cursor_position 1 c ∷ set_tab ∷ []) ≡ (0x1B ∷ 0x5B ∷ 0x31 ∷ 0x3B ∷ [])
+    ++ (decimal c ++ (0x48 ∷ 0x1B ∷ 0x48 ∷ []))
+stop_spelled c =
+    rw first_row (ap (λ (x : List ℕ). let all : List ℕ = 0x1B ∷ 0x5B ∷ 0x31 ∷ 0x3B ∷ x in
+    all) (behind_column (decimal c)))
+
+-- DECSTR, and DECAWM set
+pub start_spelled : spell_events start_item ≡ (0x1B ∷ 0x5B ∷ 0x30 ∷ 0x21 ∷ 0x70 ∷ 0x1B ∷ 0x5B ∷ 0x3F ∷ 0x37 ∷ 0x68 ∷ [])
+unfolding start_item digits
+start_spelled = refl
+
+-- SGR without the 0 if every attribute is set, and DECSCA
+pub short_spelled : (brush : Brush) → spell_events (short_brush_events brush)
+    ≡ cond (has_all brush.rendition) (0x1B ∷ 0x5B ∷ 0x31 ∷ 0x3B ∷ 0x34 ∷ 0x3B ∷ 0x35 ∷ 0x3B ∷ 0x37 ∷ 0x6D ∷ 0x1B ∷ 0x5B
+    ∷ cond brush.protected 0x31 0x30 ∷ 0x22 ∷ 0x71 ∷ []) (spell_events (brush_events brush))
+unfolding brush_events short_brush_events digits all_brushes both_pass
+short_spelled brush =
+    (pointwise_decides Decides-eqb _ _).0 (at_brush (λ brush. pointwise (λ a b. a == b) (spell_events (short_brush_events brush))
+    (cond (has_all brush.rendition) (0x1B ∷ 0x5B ∷ 0x31 ∷ 0x3B ∷ 0x34 ∷ 0x3B ∷ 0x35 ∷ 0x3B ∷ 0x37 ∷ 0x6D ∷ 0x1B ∷ 0x5B
+    ∷ cond brush.protected 0x31 0x30 ∷ 0x22 ∷ 0x71 ∷ []) (spell_events (brush_events brush)))) refl brush)
+
+-- bytes are equal, by a test
+abbrev same_bytes : List ℕ → List ℕ → Bool
+same_bytes = pointwise (λ a b. a == b)
 
 -- ---- brushes
 
-abbrev pub brush_entry : ℕ → List ℕ
+abbrev brush_entry : ℕ → List ℕ
 brush_entry n = take (slice_index_or BRUSH_LENGTHS n 0) (mid_of (16 * n) (16 * n + 16 - 16 * n) BRUSHES)
 
-abbrev brush_with : Bool → Bool → Bool → Bool → Bool → Brush
-brush_with b u k r p = record { rendition = record { bold = b; underline = u; blink = k; reverse = r }; protected = p }
-
 -- the entry is that of the brush, which is spelled from `ESC [ 0` on
-abbrev IsEntry : Brush → Type 0
-IsEntry brush = (brush_entry (brush_index brush) ≡ brush_part brush)
-    × (spell_events (brush_events brush) ≡ 0x1B ∷ 0x5B ∷ 0x30 ∷ brush_part brush)
-
-entry_is : (b u k r p : Bool) → IsEntry (brush_with b u k r p)
-unfolding digits brush_events brush_part
-entry_is false false false false false = (refl, refl)
-entry_is true false false false false = (refl, refl)
-entry_is false true false false false = (refl, refl)
-entry_is true true false false false = (refl, refl)
-entry_is false false true false false = (refl, refl)
-entry_is true false true false false = (refl, refl)
-entry_is false true true false false = (refl, refl)
-entry_is true true true false false = (refl, refl)
-entry_is false false false true false = (refl, refl)
-entry_is true false false true false = (refl, refl)
-entry_is false true false true false = (refl, refl)
-entry_is true true false true false = (refl, refl)
-entry_is false false true true false = (refl, refl)
-entry_is true false true true false = (refl, refl)
-entry_is false true true true false = (refl, refl)
-entry_is true true true true false = (refl, refl)
-entry_is false false false false true = (refl, refl)
-entry_is true false false false true = (refl, refl)
-entry_is false true false false true = (refl, refl)
-entry_is true true false false true = (refl, refl)
-entry_is false false true false true = (refl, refl)
-entry_is true false true false true = (refl, refl)
-entry_is false true true false true = (refl, refl)
-entry_is true true true false true = (refl, refl)
-entry_is false false false true true = (refl, refl)
-entry_is true false false true true = (refl, refl)
-entry_is false true false true true = (refl, refl)
-entry_is true true false true true = (refl, refl)
-entry_is false false true true true = (refl, refl)
-entry_is true false true true true = (refl, refl)
-entry_is false true true true true = (refl, refl)
-entry_is true true true true true = (refl, refl)
-
-pub brush_at : (brush : Brush) → IsEntry brush
+pub brush_at : (brush : Brush) → brush_entry (brush_index brush) ≡ brush_part brush
+unfolding brush_events brush_part all_brushes both_pass digits
 brush_at brush =
-    entry_is brush.rendition.bold brush.rendition.underline brush.rendition.blink brush.rendition.reverse
-    brush.protected
+    (pointwise_decides Decides-eqb _ (brush_part brush)).0
+    (at_brush (λ brush. same_bytes (brush_entry (brush_index brush)) (brush_part brush)) refl brush)
+
+pub brush_spelled : (brush : Brush) → spell_events (brush_events brush) ≡ 0x1B ∷ 0x5B ∷ 0x30 ∷ brush_part brush
+unfolding brush_events brush_part all_brushes both_pass digits
+brush_spelled brush =
+    (pointwise_decides Decides-eqb _ (0x1B ∷ 0x5B ∷ 0x30 ∷ brush_part brush)).0
+    (at_brush (λ brush. same_bytes (spell_events (brush_events brush)) (0x1B ∷ 0x5B ∷ 0x30 ∷ brush_part brush)) refl brush)
 
 -- ---- rows and columns
-
--- the parts are equal, by a test
-abbrev same_bytes : List ℕ → List ℕ → Bool
-same_bytes = pointwise (λ a b. a == b)
 
 abbrev row_entry : ℕ → List ℕ
 row_entry row = take (4 + bool_byte (nat_le 10 row)) (mid_of (8 * (row - 1)) (8 * (row - 1) + 8 - 8 * (row - 1)) ROW_PARTS)
@@ -93,30 +92,23 @@ columns_are : list_all (λ col. same_bytes (column_entry col) (column_part col))
 unfolding digits column_part
 columns_are = refl
 
--- a test of a range, at a number of it
-at_number : (p : ℕ → Bool) (n k : ℕ) → list_all p (range_with_len 1 n) ≡ true → 1 ≤ k → k ≤ n → p k ≡ true
-at_number p n k all low high =
-    let here : get_or (range_with_len 1 n) (k - 1) 0 ≡ k =
-    get_or-range_with_len 1 n (k - 1) 0 (omega arith) ∙ omega arith in
-    ap p (sym here)
-    ∙ AllPass-from_list_all p (range_with_len 1 n) all (k - 1) 0 (omega (arith, length-range_with_len 1 n))
-
 pub row_at : (row : ℕ) → 1 ≤ row → row ≤ 24 → row_entry row ≡ row_part row
 row_at row low high =
     (pointwise_decides Decides-eqb (row_entry row) (row_part row)).0
-    (at_number (λ row. same_bytes (row_entry row) (row_part row)) 24 row rows_are low high)
+    (all_in_range (λ row. same_bytes (row_entry row) (row_part row)) 1 24 row rows_are low (omega arith))
 
 lengths_are : list_all (λ col. nat_le (slice_index_or COLUMN_PARTS (8 * (col - 1) + 8 - 1) 0) 7) (range_with_len 1 132) ≡ true
 lengths_are = refl
 
 pub length_at : (col : ℕ) → 1 ≤ col → col ≤ 132 → slice_index_or COLUMN_PARTS (8 * (col - 1) + 8 - 1) 0 ≤ 7
 length_at col low high =
-    leb-true _ 7 (at_number (λ col. nat_le (slice_index_or COLUMN_PARTS (8 * (col - 1) + 8 - 1) 0) 7) 132 col lengths_are low high)
+    leb-true _ 7 (all_in_range (λ col. nat_le (slice_index_or COLUMN_PARTS (8 * (col - 1) + 8 - 1) 0) 7) 1 132 col
+    lengths_are low (omega arith))
 
 pub column_at : (col : ℕ) → 1 ≤ col → col ≤ 132 → column_entry col ≡ column_part col
 column_at col low high =
     (pointwise_decides Decides-eqb (column_entry col) (column_part col)).0
-    (at_number (λ col. same_bytes (column_entry col) (column_part col)) 132 col columns_are low high)
+    (all_in_range (λ col. same_bytes (column_entry col) (column_part col)) 1 132 col columns_are low (omega arith))
 
 -- ---- headers
 
@@ -129,5 +121,5 @@ pub header_is : (row col : ℕ) (brush : Brush)
     → spell_events (cursor_position row col ∷ brush_events brush) ≡ row_part row ++ (column_part col ++ brush_part brush)
 unfolding column_part
 header_is row col brush =
-    ap (λ bytes. spell_event (cursor_position row col) ++ bytes) (brush_at brush).1
+    ap (λ bytes. spell_event (cursor_position row col) ++ bytes) (brush_spelled brush)
     ∙ ap (λ bytes. bytes ++ 0x1B ∷ 0x5B ∷ 0x30 ∷ brush_part brush) (cursor_position_is row col) ∙ simp append_assoc

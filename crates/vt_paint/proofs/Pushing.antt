@@ -1,12 +1,15 @@
 -- One more piece, one more row, one more stop.
 use Rattle.std.proofs.Common.{length, ◌≡◌, ◌≤◌, ◌<◌, ◌+◌, ◌-◌, ℕ, zero, suc, Bool, true, false, List, [], ◌∷◌, ◌++◌}
-use Rattle.std.proofs.Common.{get_or, None, refl, sym, ap, ◌∙◌, arith, append-nil, append_assoc, ◌||◌, ◌&&◌, not, cond}
+use Rattle.std.proofs.Common.{get_or, None, refl, sym, ap, ◌∙◌, arith, append-nil, append_assoc, ◌||◌, ◌&&◌, not}
+use Rattle.std.proofs.Common.{cond}
 use Rattle.std.specs.List.{range_with_len, flat_map, list_all}
 use Rattle.std.proofs.lemmas.Grind.{flat_map-append}
 use Rattle.std.proofs.lemmas.List.Folds.{list_all-append}
 use Rattle.std.proofs.lemmas.List.Sums.{AllPass-from_list_all}
+use Rattle.vt_glyph.proofs.Lists.{all_in_range}
+use Rattle.vt_paint.proofs.Equality.{or_false, not_false}
 use Rattle.vt_screen.specs.Cells.{blank}
-use Rattle.std.proofs.lemmas.List.FromFn.{length-range_with_len, get_or-range_with_len}
+use Rattle.vt_screen.proofs.Places.{get_or-row_of, length-row_of}
 use Rattle.vt_syntax.specs.declared.event.Event.{Event}
 use Rattle.vt_syntax.specs.Spelling.{spell_event, spell_events}
 use Rattle.vt_glyph.specs.declared.set.Set.{Set}
@@ -14,64 +17,32 @@ use Rattle.vt_glyph.specs.GraphicSets.{GraphicSets}
 use Rattle.vt_paint.specs.Same.{is_blank}
 use Rattle.vt_screen.specs.Same.{when}
 use Rattle.vt_paint.specs.Controls.{sets_events}
-use Rattle.vt_paint.specs.Pieces.{left_of, header, glyph_events, piece_of, pieces_from, row_pieces, rows_from}
+use Rattle.vt_paint.specs.Pieces.{left_of, piece_of, pieces_from, row_pieces, rows_from}
 use Rattle.vt_screen.specs.declared.cell.Cell.{Cell}
 use Rattle.vt_screen.specs.Grid.{Grid, cell_at, row_of}
 
 -- one more number of a range
-range-suc : (a n : ℕ) → range_with_len a (suc n) ≡ range_with_len a n ++ (a + n) ∷ []
-range-suc a zero = let e : a ≡ a + 0 = omega arith in ap (λ (m : ℕ). let ms : List ℕ = m ∷ [] in ms) e
-range-suc a (suc n) =
-    let e : a + 1 + n ≡ a + suc n = omega arith in
-    ap (λ (ms : List ℕ). let all : List ℕ = a ∷ ms in
-    all) (range-suc (a + 1) n ∙ ap (λ m. range_with_len (a + 1) n ++ m ∷ []) e)
+range-suc : (n a m : ℕ) → a + n ≡ m → range_with_len a (suc n) ≡ range_with_len a n ++ m ∷ []
+range-suc zero a m e = let same : a ≡ m = omega arith in rw same refl
+range-suc (suc n) a m e = rw (← range-suc n (a + 1) m (omega arith)) refl
 
-pub range-more : (a n : ℕ) → range_with_len a (n + 1) ≡ range_with_len a n ++ (a + n) ∷ []
-range-more a n = let e : n + 1 ≡ suc n = omega arith in ap (λ m. range_with_len a m) e ∙ range-suc a n
+pub range-more : (a n m : ℕ) → a + n ≡ m → range_with_len a (n + 1) ≡ range_with_len a n ++ m ∷ []
+range-more a n m e = let more : n + 1 ≡ suc n = omega arith in rw more (range-suc n a m e)
 
--- events of the numbers of a range, spelled
-abbrev spelled_from : (ℕ → List Event) → ℕ → ℕ → List ℕ
-spelled_from f a n = spell_events (flat_map f (range_with_len a n))
-
-spelled_from-more : (f : ℕ → List Event) (a n m : ℕ) → a + n ≡ m
-    → spelled_from f a (n + 1) ≡ spelled_from f a n ++ spell_events (f m)
-spelled_from-more f a n m e =
-    ap (λ ms. spell_events (flat_map f ms)) (range-more a n ∙ ap (λ k. range_with_len a n ++ k ∷ []) e)
-    ∙ ap (λ es. spell_events es) (flat_map-append f (range_with_len a n) (m ∷ []))
-    ∙ flat_map-append spell_event (flat_map f (range_with_len a n)) (f m ++ [])
-    ∙ ap (λ es. spelled_from f a n ++ spell_events es) (append-nil (f m))
-
--- the events of one more number are appended
-pub appended-more : (f : ℕ → List Event) (a n m : ℕ) (es : List Event) (old before after : List ℕ) → a + n ≡ m
-    → before ≡ old ++ spelled_from f a n → after ≡ before ++ spell_events es → es ≡ f m
-    → after ≡ old ++ spelled_from f a (n + 1)
-appended-more f a n m es old before after e h k is =
-    k
-    ∙ ap (λ (xs : List ℕ). xs ++ spell_events es) h
-    ∙ append_assoc old (spelled_from f a n) (spell_events es)
-    ∙ ap (λ (xs : List Event). old ++ (spelled_from f a n ++ spell_events xs)) is
-    ∙ ap (λ (xs : List ℕ). old ++ xs) (sym (spelled_from-more f a n m e))
-
-and_true : (b : Bool) → (b && true) ≡ b
-and_true true = refl
-and_true false = refl
-
-all-suc : (p : ℕ → Bool) (a n m : ℕ) → a + n ≡ m → list_all p (range_with_len a (n + 1))
-    ≡ (list_all p (range_with_len a n) && p m)
-all-suc p a n m e =
-    ap (λ ms. list_all p ms) (range-more a n ∙ ap (λ k. range_with_len a n ++ k ∷ []) e)
-    ∙ list_all-append p (range_with_len a n) (m ∷ [])
-    ∙ ap (λ b. list_all p (range_with_len a n) && b) (and_true (p m))
+-- the events of one more number of a range are appended
+pub appended-more : (f : ℕ → List Event) (a n m k : ℕ) (es : List Event) (old before after : List ℕ) → a + n ≡ m
+    → n + 1 ≡ k → before ≡ old ++ spell_events (flat_map f (range_with_len a n)) → after ≡ before ++ spell_events es
+    → es ≡ f m → after ≡ old ++ spell_events (flat_map f (range_with_len a k))
+appended-more f a n m k es old before after e next h l is =
+    rw (l, h, is, ← next, range-more a n m e) (simp (flat_map-append, append_assoc, append-nil))
 
 -- a cell of a row
-pub cell-is : ((g : Grid) (r c : ℕ) (d : Cell) → 1 ≤ c → c ≤ g.width → get_or (row_of g r) (c - 1) d ≡ cell_at g r c)
-    → ((g : Grid) (r : ℕ) → length (row_of g r) ≡ g.width)
-    → (g : Grid) (r i : ℕ) (cells : List Cell) (x : Cell) → cells ≡ row_of g r → i < length cells
+pub cell-is : (g : Grid) (r i : ℕ) (cells : List Cell) (x : Cell) → cells ≡ row_of g r → i < length cells
     → x ≡ get_or cells i x → x ≡ cell_at g r (i + 1)
-cell-is law long g r i cells x h l is =
+cell-is g r i cells x h l is =
     let back : i ≡ i + 1 - 1 = omega arith in
     is ∙ ap (λ xs. get_or xs i x) h ∙ ap (λ n. get_or (row_of g r) n x) back
-    ∙ law g r (i + 1) x (omega arith) (omega (arith, long g r, ap length h))
+    ∙ get_or-row_of g r (i + 1) x (omega arith) (omega (arith, length-row_of g r, ap length h))
 
 -- ---- one item after another
 
@@ -87,6 +58,23 @@ then_events {old} {mid} {new} {es} {fs} h k = record {
       ∙ ap (λ (xs : List ℕ). xs ++ spell_events fs) h.is
       ∙ append_assoc old (spell_events es) (spell_events fs)
       ∙ ap (λ (xs : List ℕ). old ++ xs) (sym (flat_map-append spell_event es fs));
+}
+
+-- the items of a list were appended
+pub record AppendsEach {A : Type 0} (item : A → List Event) (old new : List ℕ) (xs : List A) : Type 0 where
+  is : new ≡ old ++ spell_events (flat_map item xs)
+
+pub each_appended : {A : Type 0} {old new : List ℕ} (item : A → List Event) (xs : List A) → AppendsEach item old new xs
+    → new ≡ old ++ spell_events (flat_map item xs)
+each_appended item xs h = h.is
+
+pub none_appended : {A : Type 0} {item : A → List Event} {old : List ℕ} → AppendsEach item old old []
+none_appended {old} = record { is = sym (append-nil old) }
+
+pub one_appended : {A : Type 0} {item : A → List Event} {old mid new : List ℕ} {x : A} {xs : List A}
+    → mid ≡ old ++ spell_events (item x) → AppendsEach item mid new xs → AppendsEach item old new (x ∷ xs)
+one_appended {item} {old} {mid} {new} {x} {xs} h k = record {
+  is = (then_events {es = item x} {fs = flat_map item xs} (record { is = h }) (record { is = k.is })).is;
 }
 
 -- two items were appended at once
@@ -132,31 +120,15 @@ row_shown : (before after is_row_blank : Bool) (old mid new : List ℕ) (sets ro
     → mid ≡ old ++ spell_events (when before (sets ++ rows))
     → new ≡ mid ++ spell_events (when after (when (not before) sets ++ row))
     → new ≡ old ++ spell_events (when after (sets ++ (rows ++ row)))
-row_shown true after is_row_blank old mid new sets rows row e none h k =
-    k
-    ∙ ap (λ b. mid ++ spell_events (when b row)) e
-    ∙ ap (λ (xs : List ℕ). xs ++ spell_events row) h
-    ∙ append_assoc old (spell_events (sets ++ rows)) (spell_events row)
-    ∙ ap (λ (xs : List ℕ). old ++ xs) (sym (flat_map-append spell_event (sets ++ rows) row)
-    ∙ ap (λ (es : List Event). spell_events es) (append_assoc sets rows row))
-    ∙ ap (λ b. old ++ spell_events (when b (sets ++ (rows ++ row)))) (sym e)
-row_shown false after true old mid new sets rows row e none h k =
-    k
-    ∙ ap (λ b. mid ++ spell_events (when b (sets ++ row))) e
-    ∙ append-nil mid
-    ∙ h
-    ∙ ap (λ b. old ++ spell_events (when b (sets ++ (rows ++ row)))) (sym e)
+row_shown true after is_row_blank old mid new sets rows row e none h k = rw (k, h, e) (simp (flat_map-append, append_assoc))
+row_shown false after true old mid new sets rows row e none h k = rw (k, h, e) (simp append-nil)
 row_shown false after false old mid new sets rows row e none h k =
-    k
-    ∙ ap (λ b. mid ++ spell_events (when b (sets ++ row))) e
-    ∙ ap (λ (xs : List ℕ). xs ++ spell_events (sets ++ row)) (h ∙ append-nil old)
-    ∙ ap (λ (rs : List Event). old ++ spell_events (sets ++ (rs ++ row))) (sym (none refl))
-    ∙ ap (λ b. old ++ spell_events (when b (sets ++ (rows ++ row)))) (sym e)
+    rw (k, h, e, none refl) (simp (flat_map-append, append-nil))
 
 -- the pieces of blank cells are empty
-blank_piece : (r c : ℕ) (left cell : Cell) → is_blank cell ≡ true → piece_of r c left cell ≡ []
+pub blank_piece : (r c : ℕ) (left cell : Cell) → is_blank cell ≡ true → piece_of r c left cell ≡ []
 unfolding piece_of
-blank_piece r c left cell h = ap (λ b. when (not b) (header r c left cell ++ glyph_events cell)) h
+blank_piece r c left cell h = rw h refl
 
 blank_pieces : (g : Grid) (r n c : ℕ) → ((j : ℕ) → c ≤ j → j < c + n → is_blank (cell_at g r j) ≡ true)
     → pieces_from g r c n ≡ []
@@ -174,69 +146,51 @@ blank_rows g (suc n) r h =
     ap (λ es. es ++ rows_from g (r + 1) n) (blank_pieces g r g.width 1 (λ j l k. h r j (omega arith) (omega arith) l k))
     ∙ blank_rows g n (r + 1) (λ i j a b l k. h i j (omega arith) (omega arith) l k)
 
-rows-more : (g : Grid) (n r : ℕ) → 1 + n ≡ r → rows_from g 1 n ++ row_pieces g r ≡ rows_from g 1 (n + 1)
-rows-more g n r e =
-    sym (ap (λ ms. flat_map (λ r. row_pieces g r) ms) (range-more 1 n ∙ ap (λ k. range_with_len 1 n ++ k ∷ []) e)
-    ∙ flat_map-append (λ r. row_pieces g r) (range_with_len 1 n) (r ∷ [])
-    ∙ ap (λ es. rows_from g 1 n ++ es) (append-nil (row_pieces g r)))
-
-or_false : (a b : Bool) → (a || b) ≡ false → b ≡ false
-or_false true b h = absurd cc
-or_false false b h = h
-
-not_false : (b : Bool) → not b ≡ false → b ≡ true
-not_false true h = refl
-not_false false h = absurd cc
-
-more_shown : (w l b s : Bool) → s ≡ (w || not l) → (s || not b) ≡ (w || not (l && b))
-more_shown true l b s h = ap (λ x. x || not b) h
-more_shown false true b s h = ap (λ x. x || not b) h
-more_shown false false b s h = ap (λ x. x || not b) h
+more_shown : (w l b s : Bool) → s ≡ (w || not l) → (s || not b) ≡ (w || not (l && (b && true)))
+more_shown true l b s h = rw h refl
+more_shown false true true s h = rw h refl
+more_shown false true false s h = rw h refl
+more_shown false false b s h = rw h refl
 
 -- what the rows up to the n-th show
 abbrev pub are_blank : Grid → ℕ → Bool
 are_blank g n = list_all (λ r. list_all is_blank (row_of g r)) (range_with_len 1 n)
 
-pub shown-more : (g : Grid) (w before after : Bool) (n r : ℕ) → 1 + n ≡ r → before ≡ (w || not (are_blank g n))
-    → after ≡ (before || not (list_all is_blank (row_of g r))) → after ≡ (w || not (are_blank g (n + 1)))
-shown-more g w before after n r e h k =
-    k ∙ more_shown w (are_blank g n) (list_all is_blank (row_of g r)) before h
-    ∙ ap (λ b. w || not b) (sym (all-suc (λ r. list_all is_blank (row_of g r)) 1 n r e))
+pub shown-more : (g : Grid) (w before after : Bool) (n r k : ℕ) → 1 + n ≡ r → n + 1 ≡ k
+    → before ≡ (w || not (are_blank g n))
+    → after ≡ (before || not (list_all is_blank (row_of g r))) → after ≡ (w || not (are_blank g k))
+shown-more g w before after n r k e next h l =
+    rw (l, ← next, range-more 1 n r e, list_all-append (λ r. list_all is_blank (row_of g r)) (range_with_len 1 n) (r ∷ []))
+    (more_shown w (are_blank g n) (list_all is_blank (row_of g r)) before h)
 
-all_pass : {A : Type 0} (p : A → Bool) (xs : List A) (k : ℕ) (d : A) → k < length xs → list_all p xs ≡ true
-    → p (get_or xs k d) ≡ true
-all_pass p xs k d h e = AllPass-from_list_all p xs e k d h
+-- a row's cell passes the test that all of its cells pass
+row_passes : (p : Cell → Bool) (g : Grid) (r c : ℕ) → list_all p (row_of g r) ≡ true → 1 ≤ c → c ≤ g.width
+    → p (cell_at g r c) ≡ true
+row_passes p g r c h c1 cw =
+    rw (← get_or-row_of g r c blank c1 cw)
+    (AllPass-from_list_all p (row_of g r) h (c - 1) blank (omega (arith, length-row_of g r)))
 
-module _ (row_cell : (g : Grid) (r c : ℕ) (d : Cell) → 1 ≤ c → c ≤ g.width
-    → get_or (row_of g r) (c - 1) d ≡ cell_at g r c) (row_length : (g : Grid) (r : ℕ)
-    → length (row_of g r) ≡ g.width) where
-  blank_at : (g : Grid) (n i j : ℕ) → are_blank g n ≡ true → 1 ≤ i → i < 1 + n → 1 ≤ j → j < 1 + g.width
-      → is_blank (cell_at g i j) ≡ true
-  blank_at g n i j h i1 inn j1 jw =
-      let row = all_pass (λ r. list_all is_blank (row_of g r)) (range_with_len 1 n) (i - 1) 0
-      (omega (arith, length-range_with_len 1 n)) h in
-      let at : get_or (range_with_len 1 n) (i - 1) 0 ≡ i =
-      get_or-range_with_len 1 n (i - 1) 0 (omega arith) ∙ omega arith in
-      let here : list_all is_blank (row_of g i) ≡ true = ap (λ r. list_all is_blank (row_of g r)) (sym at) ∙ row in
-      ap (λ cell. is_blank cell) (sym (row_cell g i j blank j1 (omega arith)))
-      ∙ all_pass is_blank (row_of g i) (j - 1) blank (omega (arith, row_length g i)) here
+pub blank_at : (g : Grid) (n i j : ℕ) → are_blank g n ≡ true → 1 ≤ i → i < 1 + n → 1 ≤ j → j ≤ g.width
+    → is_blank (cell_at g i j) ≡ true
+blank_at g n i j h i1 inn j1 jw =
+    row_passes is_blank g i j (all_in_range (λ r. list_all is_blank (row_of g r)) 1 n i h i1 inn) j1 jw
 
-  -- where nothing is shown, the pieces are empty
-  nothing_shown : (g : Grid) (w before : Bool) (n : ℕ) → before ≡ (w || not (are_blank g n)) → before ≡ false
-      → rows_from g 1 n ≡ []
-  nothing_shown g w before n h none =
-      let all = not_false (are_blank g n) (or_false w (not (are_blank g n)) (sym h ∙ none)) in
-      blank_rows g n 1 (λ i j a b l k. blank_at g n i j all a b l k)
+-- where nothing is shown, the pieces are empty
+nothing_shown : (g : Grid) (w before : Bool) (n : ℕ) → before ≡ (w || not (are_blank g n)) → before ≡ false
+    → rows_from g 1 n ≡ []
+nothing_shown g w before n h none =
+    let all = not_false (are_blank g n) (or_false w (not (are_blank g n)) (sym h ∙ none)).1 in
+    blank_rows g n 1 (λ i j a b l k. blank_at g n i j all a b l (omega arith))
 
-  pub rows_shown : (g : Grid) (w before after : Bool) (n r : ℕ) (old mid new : List ℕ) (sets : List Event) → 1 + n ≡ r
-      → before ≡ (w || not (are_blank g n)) → after ≡ (before || not (list_all is_blank (row_of g r)))
-      → mid ≡ old ++ spell_events (when before (sets ++ rows_from g 1 n))
-      → new ≡ mid ++ spell_events (when after (when (not before) sets ++ row_pieces g r))
-      → new ≡ old ++ spell_events (when after (sets ++ rows_from g 1 (n + 1)))
-  rows_shown g w before after n r old mid new sets e h k before_is after_is =
-      row_shown before after (list_all is_blank (row_of g r)) old mid new sets (rows_from g 1 n) (row_pieces g r) k
-      (nothing_shown g w before n h) before_is after_is
-      ∙ ap (λ es. old ++ spell_events (when after (sets ++ es))) (rows-more g n r e)
+pub rows_shown : (g : Grid) (w before after : Bool) (n r k : ℕ) (old mid new : List ℕ) (sets : List Event) → 1 + n ≡ r
+    → n + 1 ≡ k → before ≡ (w || not (are_blank g n)) → after ≡ (before || not (list_all is_blank (row_of g r)))
+    → mid ≡ old ++ spell_events (when before (sets ++ rows_from g 1 n))
+    → new ≡ mid ++ spell_events (when after (when (not before) sets ++ row_pieces g r))
+    → new ≡ old ++ spell_events (when after (sets ++ rows_from g 1 k))
+rows_shown g w before after n r k old mid new sets e next h l before_is after_is =
+    row_shown before after (list_all is_blank (row_of g r)) old mid new sets (rows_from g 1 n) (row_pieces g r) l
+    (nothing_shown g w before n h) before_is after_is
+    ∙ rw (← next, range-more 1 n r e) (simp (flat_map-append, append-nil))
 
 pub shown-unless : (w b : Bool) (es : List Event) → when (w || not b) es ≡ cond (b && not w) [] es
 shown-unless true true es = refl

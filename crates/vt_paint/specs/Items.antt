@@ -13,6 +13,7 @@ use Rattle.vt_term.specs.declared.state.Margins.{Margins}
 use Rattle.vt_term.specs.declared.state.Modes.{Modes}
 use Rattle.vt_term.specs.declared.state.Saved.{Saved}
 use Rattle.vt_term.specs.State.{Display, has_stop_at, stops_at_power_up, saved_sets, saved_at_power_up}
+use Rattle.vt_term.specs.State.{modes_at_power_up}
 use Rattle.vt_term.specs.Reports.{line_of_cursor}
 use Rattle.vt_screen.specs.Same.{same_bool, when}
 use Rattle.vt_paint.specs.Same.{same_saved}
@@ -87,21 +88,23 @@ wrap_item g cursor =
 
 -- 8. The brush: brush_events. 9. The sets: sets_events.
 
--- 10. The modes, the ANSI ones first; then the keypad and the form of reports.
+-- 10. The modes, each by what sets or resets it and by its value: the ANSI ones first; then the keypad and the form of
+-- reports.
+abbrev pub ModeRow : Type 0
+ModeRow = (Bool → Event) × (Modes → Bool)
+
+abbrev pub mode_rows : List ModeRow
+mode_rows =
+    (ansi_mode 2, λ m. m.kam) ∷ (ansi_mode 4, λ m. m.irm) ∷ (ansi_mode 12, λ m. m.srm) ∷ (ansi_mode 20, λ m. m.lnm)
+    ∷ (private_mode 1, λ m. m.decckm) ∷ (private_mode 4, λ m. m.decsclm) ∷ (private_mode 5, λ m. m.decscnm)
+    ∷ (private_mode 7, λ m. m.decawm) ∷ (private_mode 8, λ m. m.decarm) ∷ (private_mode 25, λ m. m.dectcem)
+    ∷ (keypad, λ m. m.keypad_application) ∷ (report_form, λ m. m.reports_8bit) ∷ []
+
+abbrev pub row_item : Bool → Modes → ModeRow → List Event
+row_item known m row = mode_item known (row.1 modes_at_power_up) row.0 (row.1 m)
+
 unfoldable pub modes_item : Bool → Modes → List Event
-modes_item known m =
-    mode_item known false (ansi_mode 2) m.kam
-    ++ (mode_item known false (ansi_mode 4) m.irm
-    ++ (mode_item known true (ansi_mode 12) m.srm
-    ++ (mode_item known false (ansi_mode 20) m.lnm
-    ++ (mode_item known false (private_mode 1) m.decckm
-    ++ (mode_item known false (private_mode 4) m.decsclm
-    ++ (mode_item known false (private_mode 5) m.decscnm
-    ++ (mode_item known true (private_mode 7) m.decawm
-    ++ (mode_item known true (private_mode 8) m.decarm
-    ++ (mode_item known true (private_mode 25) m.dectcem
-    ++ (mode_item known false keypad m.keypad_application
-    ++ mode_item known false report_form m.reports_8bit))))))))))
+modes_item known m = flat_map (row_item known m) mode_rows
 
 -- 11. A pending single shift.
 unfoldable pub shift_item : Option ℕ → List Event

@@ -40,6 +40,7 @@ pub(crate) fn row_cell(t: &Terminal, row: usize, col: usize) -> &Cell
 }
 
 /// Returns whether a cell is blank.
+#[tactic(auto, using(crate::proofs::Equality::blank_word))]
 #[inline(always)]
 fn is_blank(cell: &Cell) -> bool
     ensures { result ≡ is_blank_cell cell.now }
@@ -83,6 +84,7 @@ impl Run {
     }
 
     /// Returns whether a cell isn't blank and is written with the run's brush.
+    #[tactic(auto, using(crate::proofs::Equality::blank_word, crate::proofs::Equality::with_brush))]
     #[inline(always)]
     fn goes_on(&self, cell: &Cell) -> bool
         ensures { (brush : Brush) → self.now.number ≡ brush_number brush

@@ -20,10 +20,8 @@ use crate::items::{DECOM, push_private_mode_item};
 use crate::line::ROW_LIMIT;
 use crate::paint::{push_last, push_wrap};
 use crate::room::push_bytes;
-use vt_glyph::laws::{glyphs, spelling};
-use vt_screen::laws::{places, rows, tests};
+use vt_screen::laws::rows;
 use vt_screen::{Brush, COLUMNS, Cell, Rendition};
-use vt_syntax::laws::spelled;
 use vt_term::{Cursor, ROWS, STOPS, Saved, Terminal};
 
 /// DECSTR, and DECAWM set.
@@ -39,7 +37,7 @@ fn has_all(attributes: Rendition) -> bool
 }
 
 /// Appends SGR and DECSCA, in at most 15 bytes: without the 0 of SGR if every attribute is set.
-#[tactic(auto, unfolding(crate::specs::Private::ChangeEvents::short_brush_events))]
+#[tactic(auto, using(crate::proofs::Entries::short_spelled))]
 fn push_short_brush(brush: Brush, out: &mut Vec<u8>)
     requires { vec_len out.old + 17 ≤ vec_capacity out.old }
     ensures items { out.new.items ≡ out.old.items ++ spell_events (short_brush_events brush) }
@@ -141,14 +139,7 @@ fn changes_lead()
     ensures speaks { (marks : List (List Bool)) (s t : State) (before : List ℕ) → IsSound t
         → AreChanges marks s.display t.display
         → Speaks (drop (length before) (before ++ spell_events (change_events marks t.display))) }
-{
-    spelled();
-    spelling();
-    glyphs();
-    places();
-    rows();
-    tests();
-}
+{}
 
 /// Appends all changes.
 fn push_changes(marks: &[[bool; STOPS]; ROWS], t: &Terminal, out: &mut Vec<u8>)

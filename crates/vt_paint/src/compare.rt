@@ -5,7 +5,6 @@ ghost use Rattle.vt_screen.specs.Grid.{Grid, row_of};
 ghost use Rattle.vt_paint.specs.Changes.{same_cell, differing_from, differing, AreMarked, AreCounted};
 
 use crate::tables::cell_word;
-use vt_screen::laws::rows;
 use vt_screen::{COLUMNS, Cell, same_cells};
 use vt_term::{ROWS, STOPS, Terminal};
 
@@ -25,7 +24,6 @@ fn differing_in_row(a: &[Cell], b: &[Cell]) -> usize
         → result ≡ differing_from g h r 1 (length b.now) }
     ensures bounded { result ≤ COLUMNS }
 {
-    rows();
     let mut count = 0;
     for (i, cell) in b.iter().enumerate() {
         count += differ(&a[i], cell) as usize;
@@ -57,7 +55,6 @@ fn changed_in_row(a: &[Cell], b: &[Cell]) -> ([bool; STOPS], usize)
         → result.1 ≡ differing_from g h r 1 (length b.now) }
     ensures bounded { result.1 ≤ COLUMNS }
 {
-    rows();
     let mut marks = [false; STOPS];
     if same_cells(a, b) {
         return (marks, 0);
@@ -87,7 +84,6 @@ pub fn changed_places(
     ensures count { result ≡ differing a.now.display.grid b.now.display.grid }
     ensures bounded { result ≤ ROWS * COLUMNS }
 {
-    rows();
     let mut all = 0;
     for row in 1..ROWS + 1 {
         let (places, count) = changed_in_row(a.row(row), b.row(row));

@@ -9,23 +9,13 @@ ghost use Rattle.vt_paint.specs.Repaint.{paint, IsRebuilt, AreBytes};
 ghost use Rattle.vt_paint.specs.Spoken.{Speaks};
 
 use crate::PAINT_LIMIT;
-use vt_glyph::laws::{glyphs, spelling};
-use vt_screen::laws::{places, rows, tests};
-use vt_syntax::laws::spelled;
 use vt_term::laws::soundness;
 
 /// States that the repaint of a state between sequences rebuilds that state on every terminal, and gives no report. The
 /// terminal may be in any state.
 pub fn rebuilds()
     ensures { (s : State) → IsSound s → s.held ≡ Nothing → IsRebuilt s }
-{
-    spelled();
-    spelling();
-    glyphs();
-    places();
-    rows();
-    tests();
-}
+{}
 
 /// States that states between sequences are equal if and only if their repaints are. After a repaint is played, the new
 /// state has the same repaint.
@@ -47,23 +37,11 @@ pub fn canonical()
 pub fn bounded()
     ensures len { (s : State) → IsSound s → length (paint s) ≤ PAINT_LIMIT }
     ensures ascii { (s : State) → IsSound s → IsAscii (paint s) }
-{
-    spelling();
-    glyphs();
-    places();
-    rows();
-    tests();
-}
+{}
 
 /// States that a repaint consists of graphic characters and of the control functions that `Spoken` names, in their
 /// 7-bit forms. All bytes of that kind are ASCII.
 pub fn spoken()
     ensures repaint { (s : State) → IsSound s → Speaks (paint s) }
     ensures ascii { (bytes : List ℕ) → Speaks bytes → IsAscii bytes }
-{
-    spelling();
-    glyphs();
-    places();
-    rows();
-    tests();
-}
+{}

@@ -64,6 +64,7 @@ const BRUSH_LENGTHS: [u8; 32] = [
 ];
 
 /// Returns CUP up to the column, and its length.
+#[tactic(auto, using(crate::proofs::Entries::row_at))]
 #[inline(always)]
 pub(crate) fn row_part(row: usize) -> (&'static [u8], usize)
     requires { (1 ≤ row) × (row ≤ ROWS) }
@@ -76,6 +77,7 @@ pub(crate) fn row_part(row: usize) -> (&'static [u8], usize)
 }
 
 /// Returns the column of CUP and its final byte, and SGR up to its 0, and their length.
+#[tactic(auto, using(crate::proofs::Entries::column_at, crate::proofs::Entries::length_at))]
 #[inline(always)]
 pub(crate) fn column_part(col: usize) -> (&'static [u8], usize)
     requires { (1 ≤ col) × (col ≤ COLUMNS) }
@@ -138,6 +140,7 @@ fn index_of(brush: Brush) -> usize
 }
 
 /// Returns SGR after its 0, and DECSCA, and their length.
+#[tactic(auto, using(crate::proofs::Entries::brush_at))]
 #[inline(always)]
 pub(crate) fn brush_part(brush: Brush) -> (&'static [u8], usize)
     ensures value { take result.1 result.0.now ≡ brush_part brush }

@@ -1,7 +1,6 @@
 -- How cells look. (this profile)
 use Rattle.std.specs.Prelude.{List, [], ◌∷◌, Bool, ◌==◌, ◌&&◌, if◌then◌else◌}
 use Rattle.vt_glyph.specs.Tables.{space}
-use Rattle.vt_screen.specs.declared.cell.Rendition.{Rendition}
 use Rattle.vt_screen.specs.declared.cell.Cell.{Cell}
 use Rattle.vt_screen.specs.Cells.{plain}
 use Rattle.vt_screen.specs.Same.{same_rendition}

@@ -8,6 +8,7 @@ use Rattle.vt_screen.specs.declared.cell.Cell.{Cell}
 use Rattle.vt_screen.specs.Cells.{blank}
 use Rattle.vt_screen.specs.Grid.{Grid, row_of, last_row}
 use Rattle.vt_term.specs.State.{Display, State}
+use Rattle.vt_term.specs.Modes.{private_values, is_set}
 use Rattle.vt_screen.specs.Same.{when, same_rendition}
 use Rattle.vt_picture.specs.Looks.{is_blank, trimmed}
 
@@ -148,13 +149,14 @@ paper = codes "<rect class='p' width='100%' height='100%'/>" ++ line_feed
 
 -- the cursor's outline, if DECTCEM is set
 abbrev pub cursor_picture : Display → List ℕ
-cursor_picture s = when s.modes.dectcem (rectangle (codes "c") s.cursor.row s.cursor.col 1)
+cursor_picture s = when (is_set private_values 25 s.modes) (rectangle (codes "c") s.cursor.row s.cursor.col 1)
 
+-- the screen is dark on light if DECSCNM is set
 unfoldable pub picture_of : Display → List ℕ
 picture_of s =
     document_start s.grid.width
     ++ alternative last_row s.grid
-    ++ style s.modes.decscnm
+    ++ style (is_set private_values 5 s.modes)
     ++ paper
     ++ rows_picture last_row s.grid
     ++ cursor_picture s

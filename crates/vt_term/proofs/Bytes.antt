@@ -110,7 +110,7 @@ rest-reports cuts s t piece rest before out more n within fits is so_far was the
     ∙ ap (λ (at : ℕ). before ++ (play s (take at piece)).reports) (sym (taken-more piece rest n within fits))
 
 -- an event that is spelled by one byte, between sequences
-one-event : SpellingLaw → SplitLaw → (event : Event) (byte : ℕ) → IsEvent event → spell_event event ≡ byte ∷ []
+pub one-event : SpellingLaw → SplitLaw → (event : Event) (byte : ℕ) → IsEvent event → spell_event event ≡ byte ∷ []
     → event ∷ [] ≡ events_from Nothing (byte ∷ [])
 one-event spelling split event byte is spelled =
     sym (ap (λ (bytes : List ℕ). events_of (bytes ++ [])) (sym spelled) ∙ spelling.event event [] is

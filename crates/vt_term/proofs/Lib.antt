@@ -9,3 +9,4 @@ mod GlyphSizes
 mod Equal
 mod SoundEffects
 mod SoundPlay
+mod Scrolled

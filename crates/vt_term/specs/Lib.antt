@@ -14,3 +14,5 @@ pub mod Functions
 pub mod Reports
 pub mod Play
 pub mod Text
+pub mod Scrolling
+pub mod ScrollSteps

@@ -60,6 +60,20 @@ private_modes =
     ∷ (25, λ on. with_modes (λ m. record m { dectcem = on }))
     ∷ []
 
+-- the values of KAM, IRM, SRM and LNM
+abbrev pub ansi_values : List (ℕ × (Modes → Bool))
+ansi_values = (2, λ m. m.kam) ∷ (4, λ m. m.irm) ∷ (12, λ m. m.srm) ∷ (20, λ m. m.lnm) ∷ []
+
+-- those of DECCKM, DECSCLM, DECSCNM, DECOM, DECAWM, DECARM and DECTCEM; that of DECCOLM is the width
+abbrev pub private_values : List (ℕ × (Modes → Bool))
+private_values =
+    (1, λ m. m.decckm) ∷ (4, λ m. m.decsclm) ∷ (5, λ m. m.decscnm) ∷ (6, λ m. m.decom) ∷ (7, λ m. m.decawm)
+    ∷ (8, λ m. m.decarm) ∷ (25, λ m. m.dectcem) ∷ []
+
+-- whether a mode is set; a number that isn't in the table isn't
+abbrev pub is_set : List (ℕ × (Modes → Bool)) → ℕ → Modes → Bool
+is_set values p m = unwrap_or (look_up values p) (λ m. false) m
+
 -- one mode; a number that isn't in the table does nothing
 unfoldable pub with_mode : List (ℕ × (Bool → Display → Display)) → Bool → ℕ → Display → Display
 with_mode table on p = unwrap_or (look_up table p) (λ on s. s) on

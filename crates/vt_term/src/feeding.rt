@@ -1,5 +1,5 @@
 //! Feeding: a host's bytes change the state, and give report bytes.
-ghost use Rattle.std.specs.Prelude.{◌≡◌, ◌+◌, ◌*◌, ◌≤◌, ◌<◌, ◌++◌, ◌∷◌, [], ℕ, List, All, false, length, take};
+ghost use Rattle.std.specs.Prelude.{◌≡◌, ◌+◌, ◌*◌, ◌≤◌, ◌<◌, ◌++◌, ◌∷◌, [], ℕ, List, All, true, false, length, take};
 ghost use Rattle.std.specs.Prelude.{slice_index, vec_len, vec_capacity, OnOk, OnErr, IsOk};
 ghost use Rattle.std.specs.Bool.{OnTrue};
 ghost use Rattle.vt_glyph.specs.Invocation.{HasGlyph};
@@ -10,6 +10,8 @@ ghost use Rattle.vt_syntax.specs.Front.{IsFront};
 ghost use Rattle.vt_syntax.specs.Spelling.{IsEvent, IsGraphic};
 ghost use Rattle.vt_term.specs.Play.{play};
 ghost use Rattle.vt_term.specs.Runs.{WritesAscii};
+ghost use Rattle.vt_term.specs.Scrolling.{scrolled_off, next_scrolls_off};
+ghost use Rattle.vt_screen.specs.Grid.{row_of};
 
 use crate::laws::cuts;
 use crate::terminal::{REPORT_LIMIT, Terminal};
@@ -207,7 +209,7 @@ impl Terminal {
     /// Carries out an event that is whole at the front of a chunk, between sequences. Speed: it is inlined in each
     /// caller, so a known kind costs no dispatch.
     #[inline(always)]
-    fn carry_out_front(&mut self, kind: EventKind, values: &[u16], out: &mut Vec<u8>)
+    pub(crate) fn carry_out_front(&mut self, kind: EventKind, values: &[u16], out: &mut Vec<u8>)
         requires event { IsEvent (event_of kind values.now) }
         requires room { vec_len out.old + 10 ≤ vec_capacity out.old }
         requires between { self.old.held ≡ Nothing }
@@ -228,7 +230,7 @@ impl Terminal {
     /// Speed: if GL is ASCII, plain bytes are their own glyphs, and need no chart. Without this, `feed_graphics` does
     /// the same.
     #[inline(always)]
-    fn feed_ascii(&mut self, piece: &[u8]) -> usize
+    pub(crate) fn feed_ascii(&mut self, piece: &[u8]) -> usize
         requires some { 1 ≤ length piece.now }
         requires plain { IsPlain (slice_index piece.now 0) }
         requires between { self.old.held ≡ Nothing }
@@ -237,6 +239,7 @@ impl Terminal {
         ensures between { self.new.held ≡ Nothing }
         ensures state { self.new ≡ (play self.old (take result piece.now)).state }
         ensures reports { (play self.old (take result piece.now)).reports ≡ [] }
+        ensures graphic { All HasGlyph (take result piece.now) }
     {
         if self.display.writes_over() && self.display.sets.reads_ascii() {
             let run = plain_run(piece);
@@ -251,7 +254,7 @@ impl Terminal {
     /// Plays graphic bytes at the front of a chunk, between sequences. It plays a run if it may be written at once,
     /// otherwise the first byte. Returns how many bytes it played.
     #[inline(always)]
-    fn feed_graphics(&mut self, piece: &[u8]) -> usize
+    pub(crate) fn feed_graphics(&mut self, piece: &[u8]) -> usize
         requires some { 1 ≤ length piece.now }
         requires graphic { HasGlyph (slice_index piece.now 0) }
         requires between { self.old.held ≡ Nothing }
@@ -260,6 +263,7 @@ impl Terminal {
         ensures between { self.new.held ≡ Nothing }
         ensures state { self.new ≡ (play self.old (take result piece.now)).state }
         ensures reports { (play self.old (take result piece.now)).reports ≡ [] }
+        ensures graphic { All HasGlyph (take result piece.now) }
     {
         if !self.display.writes_over() {
             self.print_between(piece[0]);
@@ -307,7 +311,7 @@ impl Terminal {
 
     /// Carries out a C0 control that changes the display, between sequences.
     #[inline(always)]
-    fn control_between(&mut self, byte: u8)
+    pub(crate) fn control_between(&mut self, byte: u8)
         requires control { (0x08 ≤ byte) × (byte ≤ 0x0D) }
         requires between { self.old.held ≡ Nothing }
         ensures between { self.new.held ≡ Nothing }
@@ -322,7 +326,12 @@ impl Terminal {
     /// Plays the front of a chunk that isn't empty up to the first event, by the parser. Returns how many bytes it
     /// played.
     #[inline(never)]
-    fn feed_by_parser(&mut self, piece: &[u8], values: &mut Values, out: &mut Vec<u8>) -> usize
+    pub(crate) fn feed_by_parser(
+        &mut self,
+        piece: &[u8],
+        values: &mut Values,
+        out: &mut Vec<u8>,
+    ) -> usize
         requires some { 1 ≤ length piece.now }
         requires room { vec_len out.old + 10 ≤ vec_capacity out.old }
         ensures some { 1 ≤ result }
@@ -331,7 +340,10 @@ impl Terminal {
         ensures reports { out.new.items ≡ out.old.items ++ (play self.old (take result piece.now)).reports }
         ensures bounded { vec_len out.new ≤ vec_len out.old + 10 }
         ensures capacity { vec_capacity out.old ≤ vec_capacity out.new }
+        ensures scrolls { next_scrolls_off self.old piece.now ≡ true
+            → scrolled_off self.old (take result piece.now) ≡ row_of self.old.display.grid 1 ∷ [] }
     {
+        one_split();
         let Taken { bytes, event } = self.parser.next(piece, values);
         if let Some(kind) = event {
             self.display.carry_out(kind, values.as_slice(), out);

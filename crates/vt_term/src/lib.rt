@@ -16,6 +16,7 @@ mod reports;
 mod resets;
 mod same;
 mod saving;
+mod scrolling;
 mod state;
 mod tabs;
 mod terminal;

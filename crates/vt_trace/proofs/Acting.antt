@@ -1,6 +1,6 @@
 -- What has a name changes a sound display, or makes it report.
 use Rattle.std.proofs.Common.{◌≡◌, ℕ, Bool, true, false, ◌&&◌, ◌||◌, not, List, [], ◌∷◌, Option, Some, None, refl, ap}
-use Rattle.std.proofs.Common.{◌∙◌, eqb, arith, codes, inl, inr, map, get_or}
+use Rattle.std.proofs.Common.{◌∙◌, eqb, arith, codes, inl, inr, map, get_or, rules}
 use Rattle.std.specs.Prelude.{if◌then◌else◌, unwrap_or, option_map, option_and_then, ◌==◌, ◌⊎◌, ◌≢◌, slice_index, is_some}
 use Rattle.std.specs.List.{list_any}
 use Rattle.std.proofs.lemmas.Bool.Decides.{nat_tests, eqb_tells}
@@ -14,11 +14,12 @@ use Rattle.vt_glyph.specs.GraphicSets.{pending_number}
 use Rattle.vt_glyph.specs.Invocation.{designated, has_no_glyph, glyph_read, after_read, set_at}
 use Rattle.vt_screen.specs.declared.cell.Rendition.{Rendition}
 use Rattle.vt_screen.specs.Same.{same_bool}
+use Rattle.vt_term.specs.declared.state.Modes.{Modes}
 use Rattle.vt_term.specs.State.{Display, display_at_power_up, has_stop_at}
 use Rattle.vt_term.specs.Sound.{IsSoundDisplay}
 use Rattle.vt_term.specs.Parameters.{first, second}
 use Rattle.vt_term.specs.Editing.{names_area}
-use Rattle.vt_term.specs.Modes.{with_mode, change_modes, ansi_modes, private_modes}
+use Rattle.vt_term.specs.Modes.{with_mode, change_modes, ansi_modes, private_modes, ansi_values, private_values}
 use Rattle.vt_term.specs.Rendition.{rendition_changes, with_attribute, with_attributes, select_character_attribute}
 use Rattle.vt_term.specs.Resets.{asked_form, soft_reset_to}
 use Rattle.vt_term.specs.Tabs.{clear_tabs, no_stops}
@@ -30,7 +31,7 @@ use Rattle.vt_trace.specs.Names.{space_escape_names, number_sign_escape_names, d
 use Rattle.vt_trace.specs.Names.{escape_with_name, print_name, Function, FunctionTable, name_with, name_in, names_of}
 use Rattle.vt_trace.specs.Names.{plain_names, marker_names, intermediate_names, private_names, greater_names}
 use Rattle.vt_trace.specs.Names.{quote_names, exclamation_names, is_level, are_margins, name_of}
-use Rattle.vt_trace.proofs.Tables.{AllRows, row_found, no_some, key_absent, one_true, one_comes}
+use Rattle.vt_trace.proofs.Tables.{AllRows, row_found, no_some, has_key, key_absent, looked_true, one_true, one_comes}
 use Rattle.vt_trace.proofs.Witnesses.{at_end, all_off, all_on, Acts, acts_at_end, acts_all_on, acts_all_off, resets_wrap}
 use Rattle.vt_trace.proofs.Witnesses.{reports, at_end-sound, all_on-sound}
 
@@ -165,98 +166,99 @@ module _ (base : IsSoundDisplay display_at_power_up) (values : List ℕ) where
 
   -- ---- modes
 
-  -- the modes and the width of a wide screen, that are set
-  on_flags : Display → List Bool
-  on_flags s =
-      s.modes.kam ∷ s.modes.irm ∷ s.modes.srm ∷ s.modes.lnm ∷ s.modes.decckm ∷ s.modes.decsclm ∷ s.modes.decscnm
-      ∷ s.modes.decom ∷ s.modes.decawm ∷ s.modes.decarm ∷ s.modes.dectcem ∷ eqb s.grid.width 132 ∷ []
+  -- the values of the modes of a table, read from a display
+  abbrev flags_in : List (ℕ × (Modes → Bool)) → List (ℕ × (Display → Bool))
+  flags_in table = map (λ row. (row.0, λ s. row.1 s.modes)) table
 
-  -- those that are reset
-  off_flags : Display → List Bool
-  off_flags s = map not (on_flags s)
+  -- that of DECCOLM is the width
+  abbrev private_flags : List (ℕ × (Display → Bool))
+  private_flags = (3, λ s. eqb s.grid.width 132) ∷ flags_in private_values
 
-  some_of : (Display → List Bool) → Display → Display → Bool
-  some_of flags a b = list_any (λ b. b) (flags a)
+  -- a flag has this value
+  abbrev has_value : Bool → Display → (Display → Bool) → Bool
+  has_value on s flag = same_bool on (flag s)
 
-  -- the mode sets one of the flags
-  Sets : (Display → List Bool) → Bool → ℕ → (Bool → Display → Display) → Type 0
-  Sets flags on p mode = (k : ℕ) × ((s : Display) → get_or (flags (mode on s)) k false ≡ true)
+  -- one of the flags has it
+  abbrev one_has : List (ℕ × (Display → Bool)) → Bool → Display → Display → Bool
+  one_has flags on a b = list_any (λ row. has_value on a row.1) flags
 
-  ansi_on : AllRows (Sets on_flags true) ansi_modes
-  unfolding AllRows Sets on_flags
-  ansi_on = ((0, λ s. refl), ((1, λ s. refl), ((2, λ s. refl), ((3, λ s. refl), tt))))
+  -- the mode of a number gives this value to the flag of the number
+  abbrev Gives : Bool → List (ℕ × (Display → Bool)) → ℕ → (Bool → Display → Display) → Type 0
+  Gives on flags p mode =
+      (s : Display) → unwrap_or (option_map (has_value on (mode on s)) (look_up flags p)) false ≡ true
 
-  ansi_off : AllRows (Sets off_flags false) ansi_modes
-  unfolding AllRows Sets off_flags on_flags
-  ansi_off = ((0, λ s. refl), ((1, λ s. refl), ((2, λ s. refl), ((3, λ s. refl), tt))))
+  GivesBoth : List (ℕ × (Display → Bool)) → ℕ → (Bool → Display → Display) → Type 0
+  GivesBoth flags p mode = Gives true flags p mode × Gives false flags p mode
 
-  private_on : AllRows (Sets on_flags true) private_modes
-  unfolding AllRows Sets on_flags
-  private_on = ((4, λ s. refl), ((11, λ s. refl), ((5, λ s. refl), ((6, λ s. refl), ((7, λ s. refl), ((8, λ s. refl), ((9, λ s. refl), ((10, λ s. refl), tt))))))))
+  ansi_mode_rows : AllRows (GivesBoth (flags_in ansi_values)) ansi_modes
+  unfolding AllRows GivesBoth
+  ansi_mode_rows = search rules
 
-  private_off : AllRows (Sets off_flags false) private_modes
-  unfolding AllRows Sets off_flags on_flags
-  private_off = ((4, λ s. refl), ((11, λ s. refl), ((5, λ s. refl), ((6, λ s. refl), ((7, λ s. refl), ((8, λ s. refl), ((9, λ s. refl), ((10, λ s. refl), tt))))))))
+  private_mode_rows : AllRows (GivesBoth private_flags) private_modes
+  unfolding AllRows GivesBoth
+  private_mode_rows = search rules
 
-  -- every known value sets a flag, and every other value leaves them
-  module _ (flags : Display → List Bool) (on : Bool) (numbers : List ℕ)
-      (table : List (ℕ × (Bool → Display → Display))) (rows : AllRows (Sets flags on) table)
-      (keys : (p : ℕ) → contains numbers p ≡ list_any (λ row. eqb row.0 p) table) where
-    mode_stays : (p : ℕ) (a b : Display) → some_of flags a b ≡ true
-        → some_of flags (with_mode table on p a) (with_mode table on p b) ≡ true
-    unfolding with_mode Sets some_of
-    mode_stays p a b h = go (look_up table p) refl
-      where
-        go : (o : Option (Bool → Display → Display)) → look_up table p ≡ o
-            → some_of flags (unwrap_or o (λ on s. s) on a) (unwrap_or o (λ on s. s) on b) ≡ true
-        go None is = h
-        go (Some mode) is =
-            let set = row_found (Sets flags on) table rows p mode is in one_true (flags (mode on a)) set.0 (set.1 a)
+  -- each number of a table gives the value to a flag, and every other number leaves all flags
+  module _ (flags : List (ℕ × (Display → Bool))) (modes : List (ℕ × (Bool → Display → Display)))
+      (rows : AllRows (GivesBoth flags) modes) where
+    given : (on : Bool) (p : ℕ) (mode : Bool → Display → Display) → look_up modes p ≡ Some mode → (s : Display)
+        → list_any (λ row. has_value on (mode on s) row.1) flags ≡ true
+    unfolding GivesBoth
+    given true p mode is s =
+        looked_true (has_value true (mode true s)) flags p ((row_found (GivesBoth flags) modes rows p mode is).0 s)
+    given false p mode is s =
+        looked_true (has_value false (mode false s)) flags p ((row_found (GivesBoth flags) modes rows p mode is).1 s)
 
-    mode_comes : (p : ℕ) (a b : Display) → contains numbers p ≡ true
-        → some_of flags (with_mode table on p a) (with_mode table on p b) ≡ true
-    unfolding with_mode Sets some_of
-    mode_comes p a b h = go (look_up table p) refl
-      where
-        go : (o : Option (Bool → Display → Display)) → look_up table p ≡ o
-            → some_of flags (unwrap_or o (λ on s. s) on a) (unwrap_or o (λ on s. s) on b) ≡ true
-        go None is =
-            let absent : contains numbers p ≡ false = keys p ∙ key_absent table p is in absurd cc
-        go (Some mode) is =
-            let set = row_found (Sets flags on) table rows p mode is in one_true (flags (mode on a)) set.0 (set.1 a)
+    module _ (on : Bool) where
+      mode_stays : (p : ℕ) (a b : Display) → one_has flags on a b ≡ true
+          → one_has flags on (with_mode modes on p a) (with_mode modes on p b) ≡ true
+      unfolding with_mode
+      mode_stays p a b h = go (look_up modes p) refl
+        where
+          go : (o : Option (Bool → Display → Display)) → look_up modes p ≡ o
+              → one_has flags on (unwrap_or o (λ on s. s) on a) (unwrap_or o (λ on s. s) on b) ≡ true
+          go None is = h
+          go (Some mode) is = given on p mode is a
 
-    modes_set : list_any (contains numbers) values ≡ true → (s : Display)
-        → some_of flags (change_modes table on values s) (change_modes table on values s) ≡ true
-    modes_set h s =
-        one_comes (λ s p. with_mode table on p s) (some_of flags) (contains numbers) mode_stays mode_comes values s s h
+      mode_comes : (p : ℕ) (a b : Display) → has_key modes p ≡ true
+          → one_has flags on (with_mode modes on p a) (with_mode modes on p b) ≡ true
+      unfolding with_mode
+      mode_comes p a b h = go (look_up modes p) refl
+        where
+          go : (o : Option (Bool → Display → Display)) → look_up modes p ≡ o
+              → one_has flags on (unwrap_or o (λ on s. s) on a) (unwrap_or o (λ on s. s) on b) ≡ true
+          go None is =
+              let absent : has_key modes p ≡ false = key_absent modes p is in absurd cc
+          go (Some mode) is = given on p mode is a
 
-  sm : list_any (contains (2 ∷ 4 ∷ 12 ∷ 20 ∷ [])) values ≡ true → Acts (sequence None None 0x68)
-  unfolding sequence sequences_of sequence_in some_of on_flags
+      modes_changed : list_any (has_key modes) values ≡ true → (s : Display)
+          → one_has flags on (change_modes modes on values s) (change_modes modes on values s) ≡ true
+      modes_changed h s =
+          one_comes (λ s p. with_mode modes on p s) (one_has flags on) (has_key modes) mode_stays mode_comes values s s h
+
+  sm : list_any (has_key ansi_modes) values ≡ true → Acts (sequence None None 0x68)
+  unfolding sequence sequences_of sequence_in
   sm h =
-      acts_all_off base (λ s. not (some_of on_flags s s)) (sequence None None 0x68) refl
-      (ap not (modes_set on_flags true (2 ∷ 4 ∷ 12 ∷ 20 ∷ []) ansi_modes ansi_on (λ p. refl) h all_off))
+      acts_all_off base (λ s. not (one_has (flags_in ansi_values) true s s)) (sequence None None 0x68) refl
+      (ap not (modes_changed (flags_in ansi_values) ansi_modes ansi_mode_rows true h all_off))
 
-  rm : list_any (contains (2 ∷ 4 ∷ 12 ∷ 20 ∷ [])) values ≡ true → Acts (sequence None None 0x6C)
-  unfolding sequence sequences_of sequence_in some_of off_flags on_flags
+  rm : list_any (has_key ansi_modes) values ≡ true → Acts (sequence None None 0x6C)
+  unfolding sequence sequences_of sequence_in
   rm h =
-      acts_all_on base (λ s. not (some_of off_flags s s)) (sequence None None 0x6C) refl
-      (ap not (modes_set off_flags false (2 ∷ 4 ∷ 12 ∷ 20 ∷ []) ansi_modes ansi_off (λ p. refl) h all_on))
+      acts_all_on base (λ s. not (one_has (flags_in ansi_values) false s s)) (sequence None None 0x6C) refl
+      (ap not (modes_changed (flags_in ansi_values) ansi_modes ansi_mode_rows false h all_on))
 
-  private_sm : list_any (contains (1 ∷ 3 ∷ 4 ∷ 5 ∷ 6 ∷ 7 ∷ 8 ∷ 25 ∷ [])) values ≡ true
-      → Acts (sequence (Some 0x3F) None 0x68)
-  unfolding sequence sequences_of sequence_in some_of on_flags
+  private_sm : list_any (has_key private_modes) values ≡ true → Acts (sequence (Some 0x3F) None 0x68)
+  unfolding sequence sequences_of sequence_in
   private_sm h =
-      acts_all_off base (λ s. not (some_of on_flags s s)) (sequence (Some 0x3F) None 0x68) refl
-      (ap not (modes_set on_flags true (1 ∷ 3 ∷ 4 ∷ 5 ∷ 6 ∷ 7 ∷ 8 ∷ 25 ∷ []) private_modes private_on (λ p. refl)
-      h all_off))
+      acts_all_off base (λ s. not (one_has private_flags true s s)) (sequence (Some 0x3F) None 0x68) refl
+      (ap not (modes_changed private_flags private_modes private_mode_rows true h all_off))
 
-  private_rm : list_any (contains (1 ∷ 3 ∷ 4 ∷ 5 ∷ 6 ∷ 7 ∷ 8 ∷ 25 ∷ [])) values ≡ true
-      → Acts (sequence (Some 0x3F) None 0x6C)
-  unfolding sequence sequences_of sequence_in some_of off_flags on_flags
+  private_rm : list_any (has_key private_modes) values ≡ true → Acts (sequence (Some 0x3F) None 0x6C)
+  unfolding sequence sequences_of sequence_in
   private_rm h =
-      acts_all_on base (λ s. not (some_of off_flags s s)) (sequence (Some 0x3F) None 0x6C) refl
-      (ap not (modes_set off_flags false (1 ∷ 3 ∷ 4 ∷ 5 ∷ 6 ∷ 7 ∷ 8 ∷ 25 ∷ []) private_modes private_off (λ p. refl)
-      h all_on))
+      acts_all_on base (λ s. not (one_has private_flags false s s)) (sequence (Some 0x3F) None 0x6C) refl
+      (ap not (modes_changed private_flags private_modes private_mode_rows false h all_on))
 
   -- ---- attributes
 

@@ -1,6 +1,6 @@
 -- What has no name leaves every display as it is, and reports nothing.
 use Rattle.std.proofs.Common.{◌≡◌, ℕ, Bool, true, false, ◌&&◌, ◌||◌, List, [], ◌∷◌, Option, Some, None, refl, sym, ap, ◌∙◌}
-use Rattle.std.proofs.Common.{arith, codes}
+use Rattle.std.proofs.Common.{arith, codes, map}
 use Rattle.std.specs.Prelude.{if◌then◌else◌, unwrap_or, option_map, option_and_then, ◌==◌}
 use Rattle.std.specs.List.{list_all, list_any}
 use Rattle.std.proofs.lemmas.Bool.Decides.{nat_tests}
@@ -109,6 +109,10 @@ escape_alone inter last h s = record { same = go (look_up escape_names inter) re
 
 -- ---- control sequences
 
+-- the numbers of a table
+abbrev numbers_of : {X : Type 0} → List (ℕ × X) → List ℕ
+numbers_of rows = map (λ row. row.0) rows
+
 -- without one of the known values nothing is changed
 modes_alone : (numbers : List ℕ) (table : List (ℕ × (Bool → Display → Display))) (on : Bool)
     → list_all (λ row. contains numbers row.0) table ≡ true → (values : List ℕ)
@@ -153,13 +157,13 @@ module _ (values : List ℕ) (s : Display) where
   takes_all : (e : Event) → true ≡ false → LeavesAlone e s
   takes_all e h = absurd cc
 
-  no_mode : (on : Bool) → list_any (contains (2 ∷ 4 ∷ 12 ∷ 20 ∷ [])) values ≡ false
+  no_mode : (on : Bool) → list_any (contains (numbers_of ansi_modes)) values ≡ false
       → change_modes ansi_modes on values s ≡ s
-  no_mode on h = modes_alone (2 ∷ 4 ∷ 12 ∷ 20 ∷ []) ansi_modes on refl values h s
+  no_mode on h = modes_alone (numbers_of ansi_modes) ansi_modes on refl values h s
 
-  no_private_mode : (on : Bool) → list_any (contains (1 ∷ 3 ∷ 4 ∷ 5 ∷ 6 ∷ 7 ∷ 8 ∷ 25 ∷ [])) values ≡ false
+  no_private_mode : (on : Bool) → list_any (contains (numbers_of private_modes)) values ≡ false
       → change_modes private_modes on values s ≡ s
-  no_private_mode on h = modes_alone (1 ∷ 3 ∷ 4 ∷ 5 ∷ 6 ∷ 7 ∷ 8 ∷ 25 ∷ []) private_modes on refl values h s
+  no_private_mode on h = modes_alone (numbers_of private_modes) private_modes on refl values h s
 
   no_answer : (numbers : List ℕ) (answers : List (ℕ × (Display → List ℕ)))
       → list_all (λ row. contains numbers row.0) answers ≡ true
@@ -207,14 +211,14 @@ module _ (values : List ℕ) (s : Display) where
     silent = refl;
   }
 
-  sm : list_any (contains (2 ∷ 4 ∷ 12 ∷ 20 ∷ [])) values ≡ false → LeavesAlone (event None None 0x68) s
+  sm : list_any (contains (numbers_of ansi_modes)) values ≡ false → LeavesAlone (event None None 0x68) s
   unfolding event sequences_of sequence_in sequence_report
   sm h = record {
     same = no_mode true h;
     silent = refl;
   }
 
-  rm : list_any (contains (2 ∷ 4 ∷ 12 ∷ 20 ∷ [])) values ≡ false → LeavesAlone (event None None 0x6C) s
+  rm : list_any (contains (numbers_of ansi_modes)) values ≡ false → LeavesAlone (event None None 0x6C) s
   unfolding event sequences_of sequence_in sequence_report
   rm h = record {
     same = no_mode false h;
@@ -257,14 +261,14 @@ module _ (values : List ℕ) (s : Display) where
     silent = refl;
   }
 
-  private_sm : list_any (contains (1 ∷ 3 ∷ 4 ∷ 5 ∷ 6 ∷ 7 ∷ 8 ∷ 25 ∷ [])) values ≡ false → LeavesAlone (event (Some 0x3F) None 0x68) s
+  private_sm : list_any (contains (numbers_of private_modes)) values ≡ false → LeavesAlone (event (Some 0x3F) None 0x68) s
   unfolding event sequences_of sequence_in sequence_report
   private_sm h = record {
     same = no_private_mode true h;
     silent = refl;
   }
 
-  private_rm : list_any (contains (1 ∷ 3 ∷ 4 ∷ 5 ∷ 6 ∷ 7 ∷ 8 ∷ 25 ∷ [])) values ≡ false → LeavesAlone (event (Some 0x3F) None 0x6C) s
+  private_rm : list_any (contains (numbers_of private_modes)) values ≡ false → LeavesAlone (event (Some 0x3F) None 0x6C) s
   unfolding event sequences_of sequence_in sequence_report
   private_rm h = record {
     same = no_private_mode false h;

@@ -1,7 +1,7 @@
 -- What holds of each row of a table holds of the one that is looked up.
 use Rattle.std.proofs.Common.{◌≡◌, ℕ, Bool, true, false, ◌&&◌, ◌||◌, List, [], ◌∷◌, Some, None, refl, sym, ap, subst, ◌∙◌}
 use Rattle.std.proofs.Common.{eqb, inl, inr, arith, zero, suc, get_or}
-use Rattle.std.specs.Prelude.{if◌then◌else◌, ◌⊎◌, ◌≢◌, fold}
+use Rattle.std.specs.Prelude.{if◌then◌else◌, ◌⊎◌, ◌≢◌, fold, unwrap_or, option_map}
 use Rattle.std.specs.List.{list_all, list_any}
 use Rattle.std.proofs.lemmas.Bool.Decides.{eqb_tells, nat_tests}
 use Rattle.vt_glyph.specs.LookUp.{look_up, contains}
@@ -32,23 +32,26 @@ module _ {X : Type 0} (holds : ℕ → X → Type 0) where
           subst (λ k. holds k x) (sym t.1) (subst (holds row.0) value all.0)
       go (inr f) rest = rest (rw f.0 at h)
 
+-- a table has the key
+abbrev pub has_key : {X : Type 0} → List (ℕ × X) → ℕ → Bool
+has_key rows key = list_any (λ row. eqb row.0 key) rows
+
 -- the keys of a table are among those of another
 abbrev pub covers : {X Y : Type 0} → List (ℕ × X) → List (ℕ × Y) → Bool
-covers rows others = list_all (λ other. list_any (λ row. eqb row.0 other.0) rows) others
+covers rows others = list_all (λ other. has_key rows other.0) others
 
 and_true : (a b : Bool) → (a && b) ≡ true → (a ≡ true) × (b ≡ true)
 and_true true b h = (refl, h)
 and_true false b h = absurd cc
 
 -- a key that a table hasn't, none of its rows has
-pub key_absent : {X : Type 0} (rows : List (ℕ × X)) (key : ℕ) → look_up rows key ≡ None
-    → list_any (λ row. eqb row.0 key) rows ≡ false
+pub key_absent : {X : Type 0} (rows : List (ℕ × X)) (key : ℕ) → look_up rows key ≡ None → has_key rows key ≡ false
 key_absent [] key h = refl
 key_absent (row ∷ rows) key h = go (eqb_tells key row.0) (λ k. key_absent rows key k)
   where
     go : ((eqb key row.0 ≡ true) × (key ≡ row.0)) ⊎ ((eqb key row.0 ≡ false) × (key ≢ row.0))
-        → (look_up rows key ≡ None → list_any (λ row. eqb row.0 key) rows ≡ false)
-        → (eqb row.0 key || list_any (λ row. eqb row.0 key) rows) ≡ false
+        → (look_up rows key ≡ None → has_key rows key ≡ false)
+        → (eqb row.0 key || has_key rows key) ≡ false
     go (inl t) rest = absurd (no_none row.1 (rw t.0 at h))
     go (inr f) rest = grind (arith, nat_tests, f.1, rest (rw f.0 at h))
 
@@ -57,17 +60,15 @@ pub also_absent : {X Y : Type 0} (rows : List (ℕ × X)) (others : List (ℕ ×
     → look_up rows key ≡ None → look_up others key ≡ None
 also_absent rows [] key c h = refl
 also_absent rows (other ∷ others) key c h =
-    let two = and_true (list_any (λ row. eqb row.0 other.0) rows)
-    (list_all (λ other. list_any (λ row. eqb row.0 other.0) rows) others) c in
+    let two = and_true (has_key rows other.0) (covers rows others) c in
     go two.0 (key_absent rows key h) (also_absent rows others key two.1 h) (eqb_tells key other.0)
   where
-    go : list_any (λ row. eqb row.0 other.0) rows ≡ true → list_any (λ row. eqb row.0 key) rows ≡ false
+    go : has_key rows other.0 ≡ true → has_key rows key ≡ false
         → look_up others key ≡ None
         → ((eqb key other.0 ≡ true) × (key ≡ other.0)) ⊎ ((eqb key other.0 ≡ false) × (key ≢ other.0))
         → (if eqb key other.0 then Some other.1 else look_up others key) ≡ None
     go here lacks rest (inl t) =
-        let there : list_any (λ row. eqb row.0 key) rows ≡ true =
-        ap (λ k. list_any (λ row. eqb row.0 k) rows) t.1 ∙ here in absurd cc
+        let there : has_key rows key ≡ true = ap (has_key rows) t.1 ∙ here in absurd cc
     go here lacks rest (inr f) = rw f.0 rest
 
 -- a number that isn't in a list is no key of a table whose keys are
@@ -88,6 +89,22 @@ not_among numbers (row ∷ rows) p c h =
 pub both_false : (a b : Bool) → (a || b) ≡ false → (a ≡ false) × (b ≡ false)
 both_false false b h = (refl, h)
 both_false true b h = absurd cc
+
+-- the entry of a key passes a test: one of the entries does
+pub looked_true : {X : Type 0} (test : X → Bool) (rows : List (ℕ × X)) (key : ℕ)
+    → unwrap_or (option_map test (look_up rows key)) false ≡ true → list_any (λ row. test row.1) rows ≡ true
+looked_true test [] key h = absurd cc
+looked_true test (row ∷ rows) key h = go (eqb key row.0) h (λ k. looked_true test rows key k)
+  where
+    or_right : {b : Bool} (a : Bool) → b ≡ true → (a || b) ≡ true
+    or_right true h = refl
+    or_right false h = h
+
+    go : (t : Bool) → unwrap_or (option_map test (if t then Some row.1 else look_up rows key)) false ≡ true
+        → (unwrap_or (option_map test (look_up rows key)) false ≡ true → list_any (λ row. test row.1) rows ≡ true)
+        → (test row.1 || list_any (λ row. test row.1) rows) ≡ true
+    go true k rest = rw k refl
+    go false k rest = or_right (test row.1) (rest k)
 
 -- ---- values one after another
 

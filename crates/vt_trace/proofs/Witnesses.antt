@@ -1,12 +1,14 @@
 -- Three sound displays: each function changes one of them.
 use Rattle.std.proofs.Common.{◌≡◌, ℕ, Bool, true, false, List, [], ◌∷◌, length, None, refl, ap, arith}
-use Rattle.std.specs.Prelude.{slice_index}
+use Rattle.std.specs.Prelude.{slice_index, fold}
 use Rattle.vt_syntax.specs.declared.event.Event.{Event}
 use Rattle.vt_glyph.specs.declared.set.Set.TheVariants.{German}
 use Rattle.vt_screen.specs.Grid.{blank_grid}
 use Rattle.vt_screen.proofs.SoundGrids.{blank_grid-sound}
+use Rattle.vt_term.specs.declared.state.Modes.{Modes}
 use Rattle.vt_term.specs.State.{Display, display_at_power_up, at_place, full_margins, saved_at_power_up, stops_where}
 use Rattle.vt_term.specs.Tabs.{no_stops}
+use Rattle.vt_term.specs.Modes.{ansi_modes, private_modes, keypad_mode, report_form}
 use Rattle.vt_term.specs.Sound.{IsSoundDisplay}
 use Rattle.vt_term.specs.Functions.{effect}
 use Rattle.vt_term.specs.Reports.{report}
@@ -16,26 +18,17 @@ use Rattle.vt_trace.specs.Ignored.{HasNoEffect}
 abbrev pub at_end : Display
 at_end = record display_at_power_up { cursor = record { row = 1; col = 80; wrap = true } }
 
+-- the modes, all set or all reset
+abbrev all_modes : Bool → Modes
+all_modes on =
+    (report_form on (keypad_mode on (change_all ansi_modes (change_all private_modes display_at_power_up)))).modes
+  where
+    change_all : List (ℕ × (Bool → Display → Display)) → Display → Display
+    change_all modes s = fold (λ s mode. mode.1 on s) s modes
+
 -- power-up, with no mode and no tab stop set
 abbrev pub all_off : Display
-all_off = record display_at_power_up {
-  stops = no_stops;
-  modes = record {
-    kam = false;
-    irm = false;
-    srm = false;
-    lnm = false;
-    decckm = false;
-    decsclm = false;
-    decscnm = false;
-    decom = false;
-    decawm = false;
-    decarm = false;
-    dectcem = false;
-    keypad_application = false;
-    reports_8bit = false;
-  };
-}
+all_off = record display_at_power_up { stops = no_stops; modes = all_modes false }
 
 -- 132 columns, a tab stop at the cursor and everywhere, all modes and attributes set, and other sets
 abbrev pub all_on : Display
@@ -49,21 +42,7 @@ all_on = record {
   sets = record { g = German ∷ German ∷ German ∷ German ∷ []; left = 1; right = 1; pending = None };
   margins = full_margins;
   stops = stops_where (λ c. true);
-  modes = record {
-    kam = true;
-    irm = true;
-    srm = true;
-    lnm = true;
-    decckm = true;
-    decsclm = true;
-    decscnm = true;
-    decom = true;
-    decawm = true;
-    decarm = true;
-    dectcem = true;
-    keypad_application = true;
-    reports_8bit = true;
-  };
+  modes = all_modes true;
   saved = saved_at_power_up;
 }
 

@@ -5,6 +5,7 @@ use super::common::{holds, logged};
 use std::alloc::Global;
 use std::test::Fail;
 use vt_log::{LINE_LIMIT, feed_log_reserved};
+use vt_syntax::EventKind;
 use vt_term::Terminal;
 
 /// Numbered lines with an end each.
@@ -74,5 +75,50 @@ fn is_same_by_lines(alloc: Global) -> Result<bool, Fail> {
 #[test]
 fn lines_wait_for_room(rt: HostRuntime) -> Result<(), Fail> {
     holds(&rt, "one line at a time", is_same_by_lines(rt.alloc())?);
+    Ok(())
+}
+
+/// Returns the first line that scrolls off, read before the event that scrolls it off, and how many bytes were played up to
+/// that event and up to the next one.
+fn first_line(alloc: Global, input: &[u8]) -> Result<(Vec<u8>, usize, usize), Fail> {
+    let piece = &input[..input.len().min(4096)];
+    let mut terminal = Terminal::new(alloc)?;
+    let mut reports = Vec::with_capacity(alloc, 40960)?;
+    let mut line = Vec::with_capacity(alloc, LINE_LIMIT)?;
+    let first = terminal.feed_to_scroll(piece, &mut reports);
+    if first == piece.len() {
+        return Ok((line, first, 0));
+    }
+    terminal.row_text_reserved(1, &mut line);
+    let (_played, rest) = piece.split_at(first);
+    let second = terminal.feed_past_scroll(rest, &mut reports);
+    Ok((line, first, second))
+}
+
+/// Returns whether the first of 30 lines scrolls off at the LF of the 24th, behind 373 bytes. Ten of these lines have 15 bytes
+/// each and the others 16, so the next one scrolls off 16 bytes later.
+fn is_read_in_time(alloc: Global) -> Result<bool, Fail> {
+    let (line, first, second) = first_line(alloc, &numbered(alloc, 30, b"\r\n")?)?;
+    Ok(line.as_slice() == b"line number 0\n".as_slice() && first == 373 && second == 16)
+}
+
+#[test]
+fn a_line_is_read_before_it_scrolls_off(rt: HostRuntime) -> Result<(), Fail> {
+    holds(&rt, "the first line", is_read_in_time(rt.alloc())?);
+    Ok(())
+}
+
+/// Returns whether LF scrolls a line off in the last row, and not in the first.
+fn is_told_by_the_row(alloc: Global) -> Result<bool, Fail> {
+    let mut terminal = Terminal::new(alloc)?;
+    let mut reports = Vec::new(alloc);
+    let first = terminal.scrolls_off(EventKind::Control(b'\n'));
+    terminal.feed(b"\x1b[24H", &mut reports)?;
+    Ok(!first && terminal.scrolls_off(EventKind::Control(b'\n')))
+}
+
+#[test]
+fn a_line_feed_scrolls_in_the_last_row(rt: HostRuntime) -> Result<(), Fail> {
+    holds(&rt, "LF", is_told_by_the_row(rt.alloc())?);
     Ok(())
 }

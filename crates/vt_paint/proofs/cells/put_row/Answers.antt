@@ -1,6 +1,4 @@
-use Rattle.std.proofs.Common.{◌≡◌, ◌+◌, ◌++◌, take, false, true, arith, refl, sym, ap, ◌∙◌}
-use Rattle.vt_syntax.specs.Spelling.{spell_events}
-use Rattle.vt_screen.specs.declared.cell.Cell.{Cell}
+use Rattle.std.proofs.Common.{◌≡◌, ◌+◌, false, true, arith, refl, sym, ap, ◌∙◌}
 use Rattle.vt_screen.specs.Cells.{brush_of}
 use Rattle.vt_screen.specs.Grid.{Grid, row_of, cell_at}
 use Rattle.vt_paint.specs.Same.{is_blank}
@@ -27,7 +25,7 @@ loop-i-preserved c =
     let r = c.args.row in
     let i = c.loop-i.i in
     let cell_is =
-    λ (g : Grid) (e : c.args.cells.now ≡ row_of g r). cell-is c.rows.ensures.cell c.rows.ensures.len g r i
+    λ (g : Grid) (e : c.args.cells.now ≡ row_of g r). cell-is g r i
     c.args.cells.now c.index-cells-i.result e (omega arith) c.index-cells-i.is in
     let shown : is_blank c.index-cells-i.result ≡ true = sym c.is_blank.ensures ∙ c.if-not-is_blank.false in
     record {
@@ -48,7 +46,7 @@ loop-i-then-not-is_blank-init c =
     let i = c.loop-i.i in
     let cell = c.index-cells-i.result in
     let cell_is =
-    λ (g : Grid) (e : c.args.cells.now ≡ row_of g r). cell-is c.rows.ensures.cell c.rows.ensures.len g r i
+    λ (g : Grid) (e : c.args.cells.now ≡ row_of g r). cell-is g r i
     c.args.cells.now cell e (omega arith) c.index-cells-i.is in
     let shown : is_blank cell ≡ false = sym c.is_blank.ensures ∙ c.if-not-is_blank.true in
     record {
@@ -87,7 +85,7 @@ loop-i-preserved-else-goes_on c =
     record {
       items = run.invariant.items;
       fresh = λ g e l.
-          let here = cell-is c.rows.ensures.cell c.rows.ensures.len g r run.i c.args.cells.now next.result e
+          let here = cell-is g r run.i c.args.cells.now next.result e
           (omega arith) next.is in
           let on = c.goes_on.ensures (brush_of (cell_at g r run.i)) (run.invariant.left g e).1 in
           run_fresh g r run.i run.invariant.on.0 (ap (λ x. goes_on (cell_at g r run.i) x) (sym here) ∙ sym on
@@ -108,10 +106,10 @@ loop-i-then-not-is_blank-preserved c =
     let same = c.index-cells-i-in-loop-i-then-not-is_blank-2 in
     let written = c.put_next-at.ensures in
     let cell_is =
-    λ (g : Grid) (e : c.args.cells.now ≡ row_of g r). cell-is c.rows.ensures.cell c.rows.ensures.len g r run.i
+    λ (g : Grid) (e : c.args.cells.now ≡ row_of g r). cell-is g r run.i
     c.args.cells.now cell.result e (omega arith) cell.is in
     let same_is =
-    λ (g : Grid) (e : c.args.cells.now ≡ row_of g r). cell-is c.rows.ensures.cell c.rows.ensures.len g r run.i
+    λ (g : Grid) (e : c.args.cells.now ≡ row_of g r). cell-is g r run.i
     c.args.cells.now same.result e (omega arith) same.is in
     let on = λ (g : Grid) (e : c.args.cells.now ≡ row_of g r). sym
     (c.goes_on.ensures (brush_of (cell_at g r run.i)) (run.invariant.left g e).1) ∙ c.if-goes_on.true in

@@ -1,7 +1,6 @@
-use Rattle.std.proofs.Common.{◌≡◌, ◌+◌, ◌-◌, ◌++◌, [], refl, ap, ◌∙◌, arith}
+use Rattle.std.proofs.Common.{◌≡◌, ◌+◌, ◌-◌, [], refl, arith}
 use Rattle.std.proofs.lemmas.List.{get_or_default}
-use Rattle.vt_syntax.specs.Spelling.{spell_events}
-use Rattle.vt_paint.specs.Private.ChangeEvents.{changed_row, changed_rows, changed_cells}
+use Rattle.vt_paint.specs.Private.ChangeEvents.{changed_row, changed_cells}
 use Rattle.vt_paint.proofs.Pushing.{appended-more}
 use Rattle.vt_paint.proofs.changes.push_changed_cells.Goals as goal
 
@@ -11,15 +10,13 @@ loop-row-preserved c =
     let marks = c.args.marks.now in
     let r = c.loop-row.row in
     let old = c.args.out.now.items in
-    let more : r - 1 + 1 ≡ r + 1 - 1 = omega arith in
     let step = c.push_changed_row.ensures in
     record {
       items =
-          appended-more (λ r. changed_row marks g r) 1 (r - 1) r (changed_row marks g r) old c.loop-row.out.items
-          c.push_changed_row.new.out.items (omega arith)
+          appended-more (λ r. changed_row marks g r) 1 (r - 1) r (r + 1 - 1) (changed_row marks g r) old c.loop-row.out.items
+          c.push_changed_row.new.out.items (omega arith) (omega arith)
           c.loop-row.invariant.items (step.items g marks c.row.ensures.cells
-          (get_or_default marks (r - 1) _ [] (omega (arith, c.told-marks)))) refl
-          ∙ ap (λ n. old ++ spell_events (changed_rows marks g 1 n)) more;
+          (get_or_default marks (r - 1) _ [] (omega (arith, c.told-marks)))) refl;
       bounded = omega (arith, c.loop-row.invariant.bounded, step.bounded);
       capacity = omega (arith, c.loop-row.invariant.capacity, step.capacity);
     }
@@ -28,5 +25,4 @@ pub returns-clause-items : goal.returns-clause-items
 unfolding changed_cells
 returns-clause-items c =
     let all : c.loop-row.row - 1 ≡ 24 = omega arith in
-    c.loop-row.invariant.items
-    ∙ ap (λ n. c.args.out.now.items ++ spell_events (changed_rows c.args.marks.now c.args.t.now.display.grid 1 n)) all
+    rw all at c.loop-row.invariant.items

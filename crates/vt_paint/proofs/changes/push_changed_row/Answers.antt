@@ -13,13 +13,13 @@ loop-i-preserved c =
     let back : i ≡ i + 1 - 1 = omega arith in
     record {
       items = λ g all e m.
-          appended-more (λ c. change all g r c) 1 i (i + 1) (change_of r (i + 1) (get_or marks i false) cell)
-          c.args.out.now.items c.loop-i.out.items c.push_change.new.out.items (omega arith)
+          appended-more (λ c. change all g r c) 1 i (i + 1) (i + 1) (change_of r (i + 1) (get_or marks i false) cell)
+          c.args.out.now.items c.loop-i.out.items c.push_change.new.out.items (omega arith) (omega arith)
           (c.loop-i.invariant.items g all e m) c.push_change.ensures.items
           (ap (λ n. change_of r (i + 1) (get_or marks n false) cell) back
           ∙ ap (λ (row : List Bool). change_of r (i + 1) (get_or row (i + 1 - 1) false) cell) m
           ∙ ap (λ (x : Cell). change_of r (i + 1) (get_or (get_or all (r - 1) []) (i + 1 - 1) false) x)
-          (cell-is c.rows.ensures.cell c.rows.ensures.len g r i c.args.cells.now cell e c.loop-i-test.true
+          (cell-is g r i c.args.cells.now cell e c.loop-i-test.true
           c.index-cells-i.is));
       bounded = omega (arith, c.loop-i.invariant.bounded, c.push_change.ensures.bounded);
       capacity = omega (arith, c.loop-i.invariant.capacity, c.push_change.ensures.capacity);

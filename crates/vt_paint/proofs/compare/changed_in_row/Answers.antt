@@ -1,15 +1,12 @@
 use Rattle.std.proofs.Common.{rules, arith, ◌∙◌}
 use Rattle.std.proofs.Math.ListN.{length-set}
 use Rattle.vt_paint.proofs.Pushing.{cell-is}
-use Rattle.vt_paint.proofs.Differing.{place_more, none_differ, as_number-small}
-use Rattle.vt_paint.proofs.Marks.{mark_more, unmarked}
+use Rattle.vt_paint.proofs.Differing.{place_more, none_differ, as_number-small, mark_more, unmarked}
 use Rattle.vt_paint.proofs.compare.changed_in_row.Goals as goal
 
 pub loop-i-preserved : goal.loop-i-preserved
 loop-i-preserved c =
     let i = c.loop-i.i in
-    let cell = c.rows.ensures.cell in
-    let len = c.rows.ensures.len in
     record {
       marked = mark_more c.args.a.now c.args.b.now c.loop-i.marks i c.index-a-i.result c.index-b-i.result
           c.differ-differs.result
@@ -18,8 +15,8 @@ loop-i-preserved c =
       len = length-set c.loop-i.marks i c.differ-differs.result ∙ c.loop-i.invariant.len;
       count = λ g h r e f.
           place_more g h r i c.loop-i.count c.index-a-i.result c.index-b-i.result c.differ-differs.result
-          (cell-is cell len g r i c.args.a.now c.index-a-i.result e (omega (arith, c.requires.len)) c.index-a-i.is)
-          (cell-is cell len h r i c.args.b.now c.index-b-i.result f c.loop-i-test.true c.index-b-i.is)
+          (cell-is g r i c.args.a.now c.index-a-i.result e (omega (arith, c.requires.len)) c.index-a-i.is)
+          (cell-is h r i c.args.b.now c.index-b-i.result f c.loop-i-test.true c.index-b-i.is)
           c.differ-differs.ensures (c.loop-i.invariant.count g h r e f);
       bounded = omega (arith, c.loop-i.invariant.bounded, as_number-small c.differ-differs.result);
     }
@@ -31,5 +28,5 @@ returns-then-same_cells-clause-marked c =
 
 pub returns-then-same_cells-clause-count : goal.returns-then-same_cells-clause-count
 returns-then-same_cells-clause-count c =
-    λ g h r e f. none_differ c.rows.ensures.cell c.rows.ensures.len g h r c.args.a.now c.args.b.now
+    λ g h r e f. none_differ g h r c.args.a.now c.args.b.now
     (c.if-same_cells.ensures.0 (search rules)) e f

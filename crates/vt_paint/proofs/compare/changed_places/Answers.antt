@@ -1,8 +1,7 @@
 use Rattle.std.proofs.Common.{◌≡◌, ◌+◌, arith, ap, ◌-◌, ◌∙◌}
 use Rattle.std.proofs.Math.ListN.{length-set}
-use Rattle.vt_paint.specs.Changes.{differing_from, differing_rows, differing}
-use Rattle.vt_paint.proofs.Differing.{row_more, counts_more}
-use Rattle.vt_paint.proofs.Marks.{marks_more}
+use Rattle.vt_paint.specs.Changes.{differing_from, differing}
+use Rattle.vt_paint.proofs.Differing.{row_more, counts_more, marks_more}
 use Rattle.vt_paint.proofs.compare.changed_places.Goals as goal
 
 pub loop-row-preserved : goal.loop-row-preserved
@@ -10,14 +9,13 @@ loop-row-preserved c =
     let g = c.args.a.now.display.grid in
     let h = c.args.b.now.display.grid in
     let r = c.loop-row.row in
-    let more : r - 1 + 1 ≡ r + 1 - 1 = omega arith in
     let step = c.changed_in_row-count.ensures in
     let places = c.changed_in_row-count.result.0 in
     let count = c.changed_in_row-count.result.1 in
     let is = step.count g h r c.row.ensures.cells c.row-in-loop-row.ensures.cells
     ∙ ap (λ n. differing_from g h r 1 n) c.row-in-loop-row.ensures.len in
     record {
-      marked = marks_more c.rows.ensures.cell g h c.loop-row.marks r places c.row.result.now
+      marked = marks_more g h c.loop-row.marks r places c.row.result.now
           c.row-in-loop-row.result.now c.requires (omega arith) (omega (arith, c.loop-row.invariant.len))
           c.row.ensures.cells c.row-in-loop-row.ensures.cells c.row-in-loop-row.ensures.len step.marked
           c.loop-row.invariant.marked;
@@ -25,8 +23,8 @@ loop-row-preserved c =
       counted = counts_more g h c.loop-row.counts r count (omega arith) (omega (arith, c.loop-row.invariant.many)) is
           c.loop-row.invariant.counted;
       many = length-set c.loop-row.counts (r - 1) count ∙ c.loop-row.invariant.many;
-      count = row_more g h (r - 1) r c.loop-row.all count (omega arith) c.loop-row.invariant.count is
-          ∙ ap (λ n. differing_rows g h 1 n) more;
+      count = row_more g h (r - 1) r (r + 1 - 1) c.loop-row.all count (omega arith) (omega arith)
+          c.loop-row.invariant.count is;
       bounded = omega (arith, c.loop-row.invariant.bounded, step.bounded);
     }
 
@@ -34,4 +32,4 @@ pub returns-clause-count : goal.returns-clause-count
 unfolding differing
 returns-clause-count c =
     let all : c.loop-row.row - 1 ≡ 24 = omega arith in
-    c.loop-row.invariant.count ∙ ap (λ n. differing_rows c.args.a.now.display.grid c.args.b.now.display.grid 1 n) all
+    rw all at c.loop-row.invariant.count

@@ -1,5 +1,5 @@
 use Rattle.std.proofs.Common.{◌≡◌, ◌+◌, ◌-◌, arith, ap, ◌∙◌}
-use Rattle.vt_paint.specs.Changes.{differing_from, differing_rows, differing}
+use Rattle.vt_paint.specs.Changes.{differing_from, differing}
 use Rattle.vt_paint.proofs.Differing.{row_more}
 use Rattle.vt_paint.proofs.compare.differing_cells.Goals as goal
 
@@ -8,14 +8,12 @@ loop-row-preserved c =
     let g = c.args.a.now.display.grid in
     let h = c.args.b.now.display.grid in
     let r = c.loop-row.row in
-    let more : r - 1 + 1 ≡ r + 1 - 1 = omega arith in
     let step = c.differing_in_row-count in
     record {
-      count =
-          row_more g h (r - 1) r c.loop-row.count step.result (omega arith) c.loop-row.invariant.count
+      count = row_more g h (r - 1) r (r + 1 - 1) c.loop-row.count step.result (omega arith) (omega arith)
+          c.loop-row.invariant.count
           (step.ensures.count g h r c.row.ensures.cells c.row-in-loop-row.ensures.cells
-          ∙ ap (λ n. differing_from g h r 1 n) c.row-in-loop-row.ensures.len)
-          ∙ ap (λ n. differing_rows g h 1 n) more;
+          ∙ ap (λ n. differing_from g h r 1 n) c.row-in-loop-row.ensures.len);
       bounded = omega (arith, c.loop-row.invariant.bounded, step.ensures.bounded);
     }
 
@@ -23,4 +21,4 @@ pub returns-clause-count : goal.returns-clause-count
 unfolding differing
 returns-clause-count c =
     let all : c.loop-row.row - 1 ≡ 24 = omega arith in
-    c.loop-row.invariant.count ∙ ap (λ n. differing_rows c.args.a.now.display.grid c.args.b.now.display.grid 1 n) all
+    rw all at c.loop-row.invariant.count

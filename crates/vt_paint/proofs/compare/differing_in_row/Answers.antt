@@ -6,13 +6,11 @@ use Rattle.vt_paint.proofs.compare.differing_in_row.Goals as goal
 pub loop-i-preserved : goal.loop-i-preserved
 loop-i-preserved c =
     let i = c.loop-i.i in
-    let cell = c.rows.ensures.cell in
-    let len = c.rows.ensures.len in
     record {
       count = λ g h r e f.
           place_more g h r i c.loop-i.count c.index-a-i.result c.index-b-i.result c.differ.result
-          (cell-is cell len g r i c.args.a.now c.index-a-i.result e (omega (arith, c.requires.len)) c.index-a-i.is)
-          (cell-is cell len h r i c.args.b.now c.index-b-i.result f c.loop-i-test.true c.index-b-i.is)
+          (cell-is g r i c.args.a.now c.index-a-i.result e (omega (arith, c.requires.len)) c.index-a-i.is)
+          (cell-is h r i c.args.b.now c.index-b-i.result f c.loop-i-test.true c.index-b-i.is)
           c.differ.ensures (c.loop-i.invariant.count g h r e f);
       bounded = omega (arith, c.loop-i.invariant.bounded, as_number-small c.differ.result);
     }

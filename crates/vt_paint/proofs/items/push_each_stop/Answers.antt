@@ -13,9 +13,9 @@ loop-i-preserved c =
     let back : i ≡ i + 1 - 1 = omega arith in
     record {
       items =
-          appended-more (λ c. stop_events stops c) 1 i (i + 1)
+          appended-more (λ c. stop_events stops c) 1 i (i + 1) (i + 1)
           (when (get_or stops i false) (cursor_position 1 (i + 1) ∷ set_tab ∷ [])) c.args.out.now.items
-          c.loop-i.out.items c.push_stop.new.out.items (omega arith)
+          c.loop-i.out.items c.push_stop.new.out.items (omega arith) (omega arith)
           c.loop-i.invariant.items c.push_stop.ensures.items
           (ap (λ n. when (get_or stops n false) (cursor_position 1 (i + 1) ∷ set_tab ∷ [])) back);
       bounded = omega (arith, c.loop-i.invariant.bounded, c.push_stop.ensures.bounded);

@@ -2,7 +2,7 @@ use Rattle.std.proofs.Common.{◌∷◌, [], true, false, not}
 use Rattle.vt_screen.specs.Same.{when}
 use Rattle.vt_paint.specs.Controls.{private_mode, clear_all_tabs}
 use Rattle.vt_paint.specs.Items.{stops_from, made_stops}
-use Rattle.vt_paint.proofs.Spelled.{clear_spelled}
+use Rattle.vt_paint.proofs.Entries.{clear_spelled}
 use Rattle.vt_paint.proofs.Pushing.{then_events, events, event, bytes_of}
 use Rattle.vt_paint.proofs.items.push_made_stops.Goals as goal
 

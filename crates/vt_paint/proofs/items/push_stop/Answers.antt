@@ -1,5 +1,5 @@
 use Rattle.std.proofs.Common.{append_assoc}
-use Rattle.vt_paint.proofs.Spelled.{stop_spelled}
+use Rattle.vt_paint.proofs.Entries.{stop_spelled}
 use Rattle.vt_paint.proofs.items.push_stop.Goals as goal
 
 pub returns-then-stop-clause-items : goal.returns-then-stop-clause-items

@@ -1,9 +1,5 @@
-use Rattle.vt_paint.proofs.LowerLaws.{GridLaws, GlyphLaws}
 use Rattle.vt_paint.proofs.Whole.{short, ascii}
 use Rattle.vt_paint.proofs.laws.bounded.Goals as goal
 
 pub returns : goal.returns
-returns c =
-    let grids : GridLaws = record { places = c.places.ensures; rows = c.rows.ensures; tests = c.tests.ensures } in
-    let glyphs : GlyphLaws = record { glyphs = c.glyphs.ensures; spellings = c.spelling.ensures } in
-    record { len = short grids glyphs; ascii = ascii grids glyphs }
+returns c = record { len = short; ascii = ascii }

@@ -1,5 +1,5 @@
 use Rattle.std.proofs.Common.{sym, ◌∙◌}
-use Rattle.vt_paint.proofs.CellWords.{blank_word, above_lowest}
+use Rattle.vt_paint.proofs.Equality.{blank_word, above_lowest}
 use Rattle.vt_paint.proofs.cells.Run.is_plain.Goals as goal
 
 pub returns-clause-blank : goal.returns-clause-blank

@@ -6,6 +6,7 @@ import time
 
 from harness import Source, check, key, keys, played, raises, session, stores, until, wanted, worker, compare
 import vt220
+from fleet import frames
 from fleet.host import Host
 from fleet.program import Program
 from fleet.view import Viewer
@@ -141,17 +142,23 @@ def viewers_join_late(url, data):
 
     check(until(lambda: is_there(viewer), one), name, "a repaint")
     is_there(slow)
+    steps = 0
     for at in range(third, len(data), 50):
         source.send(data[at : at + 50])
         one.frames.shown = 0.0
+        viewer.ask()  # else nobody looks any more, if the turns take seconds
         one.turn(0.01)
         viewer.follow(0.001)
+        steps = max(steps, viewer.step)
     source.send(b"\030")
     check(until(lambda: is_there(viewer), one), name, "updates")
-    check(viewer.step > 0, name, "updates, not repaints")
+    check(steps > 0, name, "updates, not repaints")
+    while viewer.step in (0, frames.STEPS):  # the last frame and the next one are updates
+        source.send(b"y")
+        check(until(lambda: is_there(viewer), one), name, "one more")
     source.store.xtrim(source.part("view"), maxlen=1, approximate=False)
     source.send(b"x")
-    until(lambda: is_there(viewer), one)
+    check(until(lambda: is_there(viewer), one), name, "an update after it")
     slow.follow(0.001)
     check(not slow.terminal.same_state(viewer.terminal), name, "who missed an update plays none on the wrong state")
     one.kept[source.incarnation].shown = None

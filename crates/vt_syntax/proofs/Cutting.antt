@@ -1,9 +1,7 @@
 -- What the split reads is what one step after another does; so the laws of the syntax are laws of steps.
-use Rattle.std.proofs.Common.{◌≡◌, ℕ, List, [], ◌∷◌, ◌++◌, Option, Some, None, false, refl, sym, ap, subst, ◌∙◌, append_assoc}
-use Rattle.std.proofs.Common.{append-nil}
-use Rattle.std.specs.Prelude.{All, IfSome}
-use Rattle.std.specs.List.{flat_map}
-use Rattle.std.specs.Option.{option_to_list}
+use Rattle.std.proofs.Common.{◌≡◌, ℕ, List, [], ◌∷◌, ◌++◌, Option, Some, None, false, refl, sym, ap, ◌∙◌, append_assoc}
+use Rattle.std.proofs.Common.{append-nil, arith, flat_map, All, IfSome, option_to_list}
+use Rattle.std.proofs.lemmas.Bool.Decides.{nat_tests}
 use Rattle.std.proofs.lemmas.List.Concat.{flat_map-append}
 use Rattle.std.proofs.lemmas.List.Elements.{All-head, All-same}
 use Rattle.vt_syntax.specs.declared.event.Event.{Event}
@@ -14,16 +12,15 @@ use Rattle.vt_syntax.specs.Class.{is_opener}
 use Rattle.vt_syntax.specs.Event.{event_of, event_in}
 use Rattle.vt_syntax.specs.Items.{Beginning, rest_bytes, IsRest}
 use Rattle.vt_syntax.specs.Spelling.{IsEvent}
-use Rattle.vt_syntax.specs.Split.{Parts, split_one, split_after, split_of}
-use Rattle.vt_syntax.specs.Reading.{single_function, reading, rest_reading, parts_reading, events_of}
+use Rattle.vt_syntax.specs.Split.{split_one, split_after, split_of}
+use Rattle.vt_syntax.specs.Reading.{single_function, reading, rest_reading, events_of}
 use Rattle.vt_syntax.specs.Held.{held_of, held_after, IsHeldPart, spell, events_from, held_from}
 use Rattle.vt_syntax.specs.Steps.{Step, step_to, step_of, steps}
-use Rattle.vt_syntax.proofs.Splits.{last_is_rest}
-use Rattle.vt_syntax.proofs.Steps.{steps_append, steps_then, steps_one}
-use Rattle.vt_syntax.proofs.OneSplit.{split_only}
+use Rattle.vt_syntax.proofs.Splits.{last_is_rest, split_only}
+use Rattle.vt_syntax.proofs.Steps.{steps_append, steps_one, same_events}
 use Rattle.vt_syntax.proofs.OneByte.{Matches, byte_matches}
 use Rattle.vt_syntax.proofs.Ranges.{InRange, steps_range}
-use Rattle.vt_syntax.proofs.Spelled.{spelled_steps, single_step, escape_step}
+use Rattle.vt_syntax.proofs.Spelled.{spelled_steps, escape_step}
 
 runs : (bytes : List ℕ) (rest : Option Beginning)
     → Matches (rest_reading rest) (split_after rest bytes) (steps (held_of rest) bytes)
@@ -33,37 +30,24 @@ runs (b ∷ bytes) rest =
     let now = split_one rest b in
     let m = byte_matches rest b in
     let ih = runs bytes now.rest in
-    let t = step_of (held_of rest) b in
-    let later = split_after now.rest bytes in
-    subst (λ (h : Held). Matches (rest_reading rest) (split_after rest (b ∷ bytes))
-    (step_to (steps h bytes).held (t.events ++ (steps h bytes).events))) m.held
-    (record {
+    rw (← m.held) (record {
       held = ih.held;
       events =
-          ap (λ (e : List Event). e ++ rest_reading later.rest) (flat_map-append reading now.items later.items)
-          ∙ append_assoc (flat_map reading now.items) (flat_map reading later.items) (rest_reading later.rest)
-          ∙ ap (λ (e : List Event). flat_map reading now.items ++ e) ih.events
-          ∙ sym (append_assoc (flat_map reading now.items) (rest_reading now.rest)
-          (steps (held_of now.rest) bytes).events)
-          ∙ ap (λ (e : List Event). e ++ (steps (held_of now.rest) bytes).events) m.events
-          ∙ append_assoc (rest_reading rest) t.events (steps (held_of now.rest) bytes).events;
+          rw (flat_map-append, append_assoc, ih.events)
+          (rw (← append_assoc (flat_map reading now.items), m.events, append_assoc) refl);
     })
 
 -- ---- bytes, as one step
 
 pub read : (bytes : List ℕ) → step_to (held_after bytes) (events_of bytes) ≡ steps Nothing bytes
-read bytes =
-    let m = runs bytes None in
-    ap (λ (h : Held). step_to h (events_of bytes)) m.held
-    ∙ ap (λ (events : List Event). step_to (steps Nothing bytes).held events) m.events
+read bytes = let m = runs bytes None in rw (m.held, m.events) refl
 
 -- the bytes of a rest
 rest_steps : (rest : Option Beginning) → IsRest rest
     → steps Nothing (rest_bytes rest) ≡ step_to (held_of rest) (rest_reading rest)
 rest_steps rest h =
-    sym (read (rest_bytes rest))
-    ∙ ap (λ (p : Parts). step_to (held_of p.rest) (parts_reading p))
-    (split_only (rest_bytes rest) [] rest (record { joined = refl; each = h }))
+    let split = split_only (rest_bytes rest) [] rest (record { joined = refl; each = h }) in
+    sym (read (rest_bytes rest)) ∙ rw split refl
 
 -- all that bytes ask for are events
 pub are_events : (bytes : List ℕ) → All IsEvent (events_of bytes)
@@ -87,13 +71,19 @@ part_range held i =
 pub read_from : (held : Held) (bytes : List ℕ) → IsHeldPart held
     → step_to (held_from held bytes) (events_from held bytes) ≡ steps held bytes
 read_from held bytes i =
-    read (spell held ++ bytes) ∙ steps_then Nothing held (spell held) bytes (spelled_steps held (part_range held i))
+    read (spell held ++ bytes) ∙ rw (steps_append, spelled_steps held (part_range held i)) refl
 
 -- one byte
 pub read_step : (held : Held) (b : ℕ) → IsHeldPart held
     → step_to (held_from held (b ∷ [])) (events_from held (b ∷ [])) ≡ step_of held b
 read_step held b i =
-    read_from held (b ∷ []) i ∙ steps_one held (step_of held b).held b (step_of held b).events refl
+    read_from held (b ∷ []) i ∙ steps_one held b
+
+-- bytes that give no event by steps have none
+pub none_before : (held : Held) (bytes : List ℕ) (event : Option EventKind) → IsHeldPart held
+    → IfSome event (λ kind. (steps held bytes).events ≡ []) → IfSome event (λ kind. events_from held bytes ≡ [])
+none_before held bytes None part silent = tt
+none_before held bytes (Some kind) part silent = same_events (read_from held bytes part) ∙ silent
 
 -- what bytes leave is a held part
 pub held_part : (bytes : List ℕ) → IsHeldPart (held_after bytes)
@@ -115,9 +105,11 @@ pub same : (rest : Option Beginning) (more : List ℕ) → IsRest rest
     ≡ step_to (held_from (held_of rest) more) (rest_reading rest ++ events_from (held_of rest) more)
 same rest more h =
     read (rest_bytes rest ++ more)
-    ∙ steps_append Nothing (rest_bytes rest) more
-    ∙ rw (rest_steps rest h) (ap (λ (t : Step). step_to t.held (rest_reading rest ++ t.events))
-    (sym (read_from (held_of rest) more (record { rest = rest; is_rest = h; of_rest = refl }))))
+    ∙ rw (
+      steps_append,
+      rest_steps rest h,
+      ← read_from (held_of rest) more (record { rest = rest; is_rest = h; of_rest = refl }),
+    ) refl
 
 -- bytes and more bytes
 pub append : (held : Held) (first second : List ℕ)
@@ -126,26 +118,21 @@ pub append : (held : Held) (first second : List ℕ)
     (events_from held first ++ events_from (held_from held first) second)
 append held first second =
     let bytes = spell held ++ first in
-    ap (λ (t : List ℕ). step_to (held_after t) (events_of t)) (sym (append_assoc (spell held) first second))
-    ∙ read (bytes ++ second)
-    ∙ steps_append Nothing bytes second
-    ∙ ap (λ (t : Step). step_to (steps t.held second).held (t.events ++ (steps t.held second).events)) (sym (read bytes))
-    ∙ ap (λ (t : Step). step_to t.held (events_of bytes ++ t.events))
-    (sym (read_from (held_after bytes) second (held_part bytes)))
+    rw (← append_assoc (spell held) first second) (read (bytes ++ second)
+    ∙ rw (steps_append, ← read bytes, ← read_from (held_after bytes) second (held_part bytes)) refl)
 
 -- bytes that ask for events and leave nothing, and then more
 pub read_as : (bytes more : List ℕ) (events : List Event) → steps Nothing bytes ≡ step_to Nothing events
     → step_to (held_after (bytes ++ more)) (events_of (bytes ++ more))
     ≡ step_to (held_after more) (events ++ events_of more)
 read_as bytes more events e =
-    read (bytes ++ more)
-    ∙ steps_append Nothing bytes more
-    ∙ rw e (ap (λ (t : Step). step_to t.held (events ++ t.events)) (sym (read more)))
+    read (bytes ++ more) ∙ rw (steps_append, e, ← read more) refl
 
 -- a byte between sequences that opens nothing
 pub single : (b : ℕ) → is_opener b ≡ false
     → step_to (held_after (b ∷ [])) (events_of (b ∷ [])) ≡ step_to Nothing (single_function b)
-single b e = read (b ∷ []) ∙ steps_one Nothing Nothing b (single_function b) (single_step b e)
+unfolding step_of
+single b e = read (b ∷ []) ∙ steps_one Nothing b ∙ grind (arith, nat_tests)
 
 -- ESC after what is held
 pub escape : (held : Held) (more : List ℕ) → IsHeldPart held

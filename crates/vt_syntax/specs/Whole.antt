@@ -1,19 +1,10 @@
--- A sequence that is whole in a chunk, by steps. Only contracts of private functions cite this.
-use Rattle.std.specs.Prelude.{◌≡◌, ◌≤◌, ◌-◌, ℕ, List, [], ◌∷◌, length, take, Option, Some, None, false}
-use Rattle.vt_syntax.specs.declared.event.EventKind.{EventKind}
+-- A control sequence that is read in a chunk, by steps. Only contracts of private functions cite this.
+use Rattle.std.specs.Prelude.{◌≡◌, ◌≤◌, ℕ, List, [], ◌∷◌, length, take, Option, Some, None, false}
 use Rattle.vt_syntax.specs.declared.held.Held.{Held}
 use Rattle.vt_syntax.specs.declared.held.Held.TheVariants.{Nothing, Control}
 use Rattle.vt_syntax.specs.declared.held.Phase.{Phase}
 use Rattle.vt_syntax.specs.declared.held.Phase.TheVariants.{Start, Values}
-use Rattle.vt_syntax.specs.Event.{event_of}
 use Rattle.vt_syntax.specs.Steps.{step_to, IsEarly, steps}
-
--- these bytes at the front of the chunk are one event, which the last of them completes, and nothing is held after it
-pub record IsWhole (piece values : List ℕ) (bytes : ℕ) (kind : EventKind) : Type 0 where
-  pub some : 1 ≤ bytes
-  pub within : bytes ≤ length piece
-  pub reads : steps Nothing (take bytes piece) ≡ step_to Nothing (event_of kind values ∷ [])
-  pub silent : (steps Nothing (take (bytes - 1) piece)).events ≡ []
 
 -- the phase after the introducer, or a marker
 abbrev pub marker_phase : Option ℕ → Phase

@@ -22,7 +22,7 @@ pub enum Class {
 }
 
 /// Returns the class of a byte.
-#[tactic(auto, using(crate::proofs::Classes::class_tests), unfolding(crate::specs::Class::class_of))]
+#[tactic(auto, using(std::proofs::lemmas::Bool::Decides::nat_tests), unfolding(crate::specs::Class::class_of))]
 pub fn class_of(b: u8) -> Class
     ensures { result ≡ byte_class b }
 {

@@ -1,5 +1,5 @@
 //! Speed: the content of strings, searched by vectors of bytes.
-ghost use Rattle.std.specs.Prelude.{◌≡◌, ◌≤◌, Bool, [], length, take};
+ghost use Rattle.std.specs.Prelude.{◌≡◌, ◌≤◌, Bool, [], length, take, not};
 ghost use Rattle.vt_syntax.specs.declared.held.Held.TheVariants.{Text};
 ghost use Rattle.vt_syntax.specs.Content.{goes_on};
 ghost use Rattle.vt_syntax.specs.Steps.{step_to, steps};
@@ -11,7 +11,7 @@ use std::simd::prelude::*;
 struct Content;
 
 impl ByteClass for Content {
-    ghost test = { goes_on };
+    ghost ends = { λ b. not (goes_on b) };
 
     #[inline(always)]
     fn has(byte: u8) -> bool {
@@ -37,6 +37,7 @@ impl ByteClass for Content {
 }
 
 /// Returns how many bytes at the front of a chunk can't end a string of any kind. They give no event.
+#[tactic(auto, using(crate::proofs::Runs::content_run))]
 pub(crate) fn content_len(piece: &[u8]) -> usize
     ensures within { result ≤ length piece.now }
     ensures content { (osc : Bool) → steps (Text osc) (take result piece.now) ≡ step_to (Text osc) [] }

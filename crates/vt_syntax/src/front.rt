@@ -15,7 +15,7 @@ ghost use Rattle.vt_syntax.specs.Front.{Begins, IsFront, IsControl, IsFinal, Beg
 ghost use Rattle.vt_syntax.specs.Front.{front_list, AreFirst};
 ghost use Rattle.vt_syntax.specs.Held.{IsEnding, ended_by};
 ghost use Rattle.vt_syntax.specs.Steps.{step_to, step_between, opened_by, steps};
-ghost use Rattle.vt_syntax.specs.Whole.{IsWhole, AreRead, begun};
+ghost use Rattle.vt_syntax.specs.Whole.{AreRead, begun};
 
 use crate::event::EventKind;
 use crate::values::Values;
@@ -61,6 +61,7 @@ pub struct FrontValues {
 impl Front {
     /// Returns what a chunk begins with.
     #[inline(always)]
+    #[tactic(auto, using(crate::proofs::Fronts::front_single))]
     pub fn of(piece: &[u8]) -> Front
         requires some { 1 ≤ length piece.now }
         ensures begins { Begins result piece.now }
@@ -153,6 +154,7 @@ pub fn is_final(b: u8) -> bool
 /// Returns the intermediate and the final byte of an escape sequence of three bytes. Returns `None` if and only if no
 /// such sequence is whole at the front.
 #[inline(always)]
+#[tactic(auto, using(crate::proofs::Fronts::front_with))]
 pub fn front_escape(piece: &[u8]) -> Option<(u8, u8)>
     ensures front { IfSome result (λ t. IsFront piece.now 3 (event.Escape (Some t.0) t.1)) }
     ensures exact { IsSome result ↔ BeginsWithEscape piece.now }
@@ -171,6 +173,7 @@ pub fn front_escape(piece: &[u8]) -> Option<(u8, u8)>
 /// Returns the event of an escape sequence of two bytes, which may be the 7-bit form of a C1 control. Returns `None` if
 /// and only if no such sequence is whole at the front.
 #[inline(always)]
+#[tactic(auto, using(crate::proofs::Fronts::front_short))]
 pub fn front_short_escape(piece: &[u8]) -> Option<EventKind>
     ensures front { IfSome result (λ kind. (values : List ℕ) → IsFront piece.now 2 (event_of kind values)) }
     ensures exact { IsSome result ↔ BeginsWithShortEscape piece.now }
@@ -183,7 +186,7 @@ pub fn front_short_escape(piece: &[u8]) -> Option<EventKind>
 
 /// Returns whether a byte between sequences is a control by itself.
 #[inline(always)]
-#[tactic(auto, using(crate::proofs::Classes::class_tests), unfolding(crate::specs::Class::opens_string))]
+#[tactic(auto, using(std::proofs::lemmas::Bool::Decides::nat_tests), unfolding(crate::specs::Class::opens_string))]
 fn is_single_control(b: u8) -> bool
     ensures step { OnTrue result (step_between b ≡ step_to Nothing (event.Control b ∷ [])) }
     ensures exact { IsTrue result ↔ IsControl b }
@@ -200,8 +203,9 @@ fn is_single_control(b: u8) -> bool
 /// Returns `None` if there is none, and for rare forms: more than 16 values, a value of four digits, or a control
 /// inside. It also returns `None` if fewer than four bytes remain.
 #[inline(always)]
+#[tactic(auto, using(crate::proofs::Fronts::front_events))]
 pub(crate) fn front_event(piece: &[u8], values: &mut Values) -> Option<(usize, EventKind)>
-    ensures { IfSome result (λ t. IsWhole piece.now values.new t.0 t.1) }
+    ensures { IfSome result (λ t. IsFront piece.now t.0 (event_of t.1 values.new)) }
 {
     if piece.len() < 2 {
         return None;
@@ -229,10 +233,11 @@ fn is_introducer(first: u8, second: u8) -> bool
 
 /// Reads a control sequence whose introducer ends at `from`.
 #[inline(always)]
+#[tactic(auto, using(crate::proofs::Fronts::front_control))]
 fn front_sequence(piece: &[u8], from: usize, values: &mut Values) -> Option<(usize, EventKind)>
     requires within { from ≤ length piece.now }
     requires introduced { steps Nothing (take from piece.now) ≡ step_to (opened_by 0x9B) [] }
-    ensures { IfSome result (λ t. IsWhole piece.now values.new t.0 t.1) }
+    ensures { IfSome result (λ t. IsFront piece.now t.0 (event_of t.1 values.new)) }
 {
     let (marker, start) = marker_at(piece, from);
     let at = read_values(piece, start, marker, values)?;
@@ -260,7 +265,7 @@ fn front_sequence_with(
     values: &Values,
 ) -> Option<(usize, EventKind)>
     requires { AreRead piece.now at marker values.now }
-    ensures { IfSome result (λ t. IsWhole piece.now values.now t.0 t.1) }
+    ensures { IfSome result (λ t. IsFront piece.now t.0 (event_of t.1 values.now)) }
 {
     if at + 2 > piece.len() || piece[at] < 0x20 || 0x30 <= piece[at] {
         return None;
@@ -282,6 +287,7 @@ fn front_sequence_with(
 
 /// Returns the marker at `from`, if there is one, and the position after it.
 #[inline(always)]
+#[tactic(auto, using(crate::proofs::Fronts::steps_marker))]
 fn marker_at(piece: &[u8], from: usize) -> (Option<u8>, usize)
     requires { from ≤ length piece.now }
     ensures within { result.1 ≤ length piece.now }
@@ -310,6 +316,7 @@ fn read_values(piece: &[u8], start: usize, marker: Option<u8>, values: &mut Valu
 
 /// Reads values into the front of a list, and returns how many there are. (Speed: they are counted in a register.)
 #[inline(always)]
+#[tactic(auto, using(crate::proofs::Fronts::read_none))]
 fn read_list(
     piece: &[u8],
     start: usize,
@@ -337,6 +344,7 @@ fn read_list(
 
 /// Reads a value of at most three digits, and returns it and the position after it.
 #[inline(always)]
+#[tactic(auto, using(crate::proofs::Fronts::digits))]
 fn read_value(piece: &[u8], at: usize) -> (u16, usize)
     requires { at + 4 ≤ length piece.now }
     ensures low { at ≤ result.1 }
@@ -367,9 +375,10 @@ fn digit(b: u8) -> Option<u32>
 
 /// Reads the sequence that begins with the ESC at the front of a chunk.
 #[inline(always)]
+#[tactic(auto, using(crate::proofs::Fronts::front_events))]
 fn front_after_escape(piece: &[u8], values: &mut Values) -> Option<(usize, EventKind)>
     requires long { 2 ≤ length piece.now }
-    ensures { IfSome result (λ t. IsWhole piece.now values.new t.0 t.1) }
+    ensures { IfSome result (λ t. IsFront piece.now t.0 (event_of t.1 values.new)) }
 {
     if is_introducer(piece[0], piece[1]) {
         return front_sequence(piece, 2, values);
@@ -385,7 +394,7 @@ fn front_after_escape(piece: &[u8], values: &mut Values) -> Option<(usize, Event
 /// Returns whether a byte after ESC ends an escape sequence: a final byte, except the letters of the C1 controls that
 /// open something.
 #[inline(always)]
-#[tactic(auto, using(crate::proofs::Classes::class_tests), unfolding(crate::specs::Class::opens_string))]
+#[tactic(auto, using(std::proofs::lemmas::Bool::Decides::nat_tests), unfolding(crate::specs::Class::opens_string))]
 pub(crate) fn ends_escape(b: u8) -> bool
     ensures ends { OnTrue result (IsEnding (Escape Zero) b) }
     ensures exact { IsTrue result ↔ IsEnding (Escape Zero) b }

@@ -1,5 +1,5 @@
 //! Speed: runs of bytes of the graphic areas, searched by vectors of bytes.
-ghost use Rattle.std.specs.Prelude.{◌≡◌, ◌<◌, ◌≤◌, length, take, slice_index, All};
+ghost use Rattle.std.specs.Prelude.{◌≡◌, ◌<◌, ◌≤◌, length, take, slice_index, All, not};
 ghost use Rattle.std.specs.Bool.{OnTrue};
 ghost use Rattle.vt_syntax.specs.Class.{is_in_areas, IsInAreas};
 
@@ -10,7 +10,7 @@ use std::simd::prelude::*;
 struct Graphic;
 
 impl ByteClass for Graphic {
-    ghost test = { is_in_areas };
+    ghost ends = { λ b. not (is_in_areas b) };
 
     #[inline(always)]
     fn has(byte: u8) -> bool {
@@ -45,6 +45,7 @@ fn is_in_areas(byte: u8) -> bool
 
 /// Returns how many bytes at the front of `piece` are of the graphic areas, 20..7E or A1..FE.
 #[inline(always)]
+#[tactic(auto, using(crate::proofs::Runs::run_tests))]
 pub fn graphic_run(piece: &[u8]) -> usize
     ensures within { result ≤ length piece.now }
     ensures graphic { All IsInAreas (take result piece.now) }

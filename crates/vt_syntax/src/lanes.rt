@@ -6,28 +6,28 @@ ghost use Rattle.std.specs.Simd.Lanes.{mask_l};
 
 use std::simd::prelude::*;
 
-/// A class of bytes, by its test of one byte, and of each lane of a vector.
+/// A class of bytes, by its test of one byte, and of each lane of a vector. The other bytes end a run.
 pub(crate) trait ByteClass {
-    ghost test: { ℕ → Bool };
+    ghost ends: { ℕ → Bool };
 
     /// Returns whether a byte is of the class.
     fn has(byte: u8) -> bool
-        ensures { result ≡ test byte };
+        ensures { result ≡ not (ends byte) };
 
     /// Returns a bit for each lane that isn't of the class.
     fn ends_16(lanes: u8x16) -> u64
-        ensures { result ≡ mask_l (map (λ b. not (test b)) lanes) };
+        ensures { result ≡ mask_l (map ends lanes) };
 
     /// Returns a bit for each lane that isn't of the class.
     fn ends_8(lanes: u8x8) -> u64
-        ensures { result ≡ mask_l (map (λ b. not (test b)) lanes) };
+        ensures { result ≡ mask_l (map ends lanes) };
 }
 
 /// Returns the position of the first byte that isn't of the class, or the length. Searches 16 bytes at a time. (Most
 /// runs end in the first vector, so it comes before the loop.)
 #[inline(always)]
 pub(crate) fn end_of<C: ByteClass>(piece: &[u8]) -> usize
-    ensures { result ≡ prefix_len C.test piece.now }
+    ensures { result ≡ prefix_len (λ b. not (C.ends b)) piece.now }
 {
     if piece.len() < 16 {
         return end_of_8::<C>(piece, 0);
@@ -43,7 +43,7 @@ pub(crate) fn end_of<C: ByteClass>(piece: &[u8]) -> usize
 #[inline(always)]
 fn end_from<C: ByteClass>(piece: &[u8], from: usize) -> usize
     requires { from ≤ length piece.now }
-    ensures { result ≡ from + prefix_len C.test (drop from piece.now) }
+    ensures { result ≡ from + prefix_len (λ b. not (C.ends b)) (drop from piece.now) }
 {
     let mut at = from;
     while at + 16 <= piece.len() {
@@ -60,7 +60,7 @@ fn end_from<C: ByteClass>(piece: &[u8], from: usize) -> usize
 #[inline(always)]
 fn end_of_8<C: ByteClass>(piece: &[u8], at: usize) -> usize
     requires { at ≤ length piece.now }
-    ensures { result ≡ at + prefix_len C.test (drop at piece.now) }
+    ensures { result ≡ at + prefix_len (λ b. not (C.ends b)) (drop at piece.now) }
 {
     if piece.len() - at < 8 {
         return end_of_slowly::<C>(piece, at);
@@ -76,7 +76,7 @@ fn end_of_8<C: ByteClass>(piece: &[u8], at: usize) -> usize
 #[inline(always)]
 fn end_of_slowly<C: ByteClass>(piece: &[u8], from: usize) -> usize
     requires { from ≤ length piece.now }
-    ensures { result ≡ from + prefix_len C.test (drop from piece.now) }
+    ensures { result ≡ from + prefix_len (λ b. not (C.ends b)) (drop from piece.now) }
 {
     let mut at = from;
     while at < piece.len() && C::has(piece[at]) {

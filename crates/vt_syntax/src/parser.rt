@@ -47,6 +47,7 @@ impl Parser {
     ///
     /// The event and the new held part are those of the split of the held part's spelling and the byte.
     #[inline(always)]
+    #[tactic(auto, using(crate::proofs::Cutting::read_step))]
     pub fn push(&mut self, b: u8) -> Option<Event>
         ensures event { option_to_list result ≡ events_from self.old (b ∷ []) }
         ensures held { self.new ≡ held_from self.old (b ∷ []) }
@@ -100,11 +101,14 @@ impl Parser {
 
 /// Reads the front of a chunk up to the first event: a sequence that is whole in it, or bytes one by one.
 #[inline(always)]
+#[tactic(auto, using(crate::proofs::Cutting::read_from))]
 fn next_event(held: &mut Held, piece: &[u8], values: &mut Values) -> Taken
+    requires { IsHeldPart held.old }
     ensures some { 1 ≤ length piece.now → 1 ≤ result.bytes }
     ensures within { result.bytes ≤ length piece.now }
-    ensures reads { steps held.old (take result.bytes piece.now) ≡ step_to held.new (event_in result.event values.new) }
-    ensures silent { IfSome result.event (λ _. (steps held.old (take (result.bytes - 1) piece.now)).events ≡ []) }
+    ensures event { event_in result.event values.new ≡ events_from held.old (take result.bytes piece.now) }
+    ensures held { held.new ≡ held_from held.old (take result.bytes piece.now) }
+    ensures last { IfSome result.event (λ _. events_from held.old (take (result.bytes - 1) piece.now) ≡ []) }
     ensures all { IfNone result.event (result.bytes ≡ length piece.now) }
 {
     if matches!(held, Held::Nothing) {
@@ -120,6 +124,7 @@ fn next_event(held: &mut Held, piece: &[u8], values: &mut Values) -> Taken
 
 /// Reads the front of a chunk up to the first event, byte by byte.
 #[inline(never)]
+#[tactic(auto, using(crate::proofs::Steps::steps_nil))]
 fn next_held(held: &mut Held, piece: &[u8], values: &mut Values) -> Taken
     ensures some { 1 ≤ length piece.now → 1 ≤ result.bytes }
     ensures within { result.bytes ≤ length piece.now }

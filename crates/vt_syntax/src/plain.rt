@@ -1,5 +1,5 @@
 //! Speed: runs of plain bytes, searched by vectors of bytes.
-ghost use Rattle.std.specs.Prelude.{◌≡◌, ◌<◌, ◌≤◌, length, take, slice_index, All};
+ghost use Rattle.std.specs.Prelude.{◌≡◌, ◌<◌, ◌≤◌, length, take, slice_index, All, not};
 ghost use Rattle.vt_syntax.specs.Class.{is_plain, IsPlain};
 
 use crate::lanes::{ByteClass, end_of};
@@ -9,7 +9,7 @@ use std::simd::prelude::*;
 struct Plain;
 
 impl ByteClass for Plain {
-    ghost test = { is_plain };
+    ghost ends = { λ b. not (is_plain b) };
 
     #[inline(always)]
     fn has(byte: u8) -> bool {
@@ -33,6 +33,7 @@ impl ByteClass for Plain {
 }
 
 /// Returns how many bytes at the front of `piece` are plain, 20..7E.
+#[tactic(auto, using(crate::proofs::Runs::run_tests))]
 pub fn plain_run(piece: &[u8]) -> usize
     ensures within { result ≤ length piece.now }
     ensures plain { All IsPlain (take result piece.now) }

@@ -85,7 +85,7 @@ pub(crate) fn hold_content(held: &Held, piece: &[u8]) -> usize
 }
 
 /// Reads a byte between sequences, or one that cuts a sequence off: it opens something, or is read by itself.
-#[tactic(auto, using(crate::proofs::Classes::class_tests), unfolding(crate::specs::Class::opens_string))]
+#[tactic(auto, using(std::proofs::lemmas::Bool::Decides::nat_tests), unfolding(crate::specs::Class::opens_string))]
 fn step_between(held: &mut Held, b: u8) -> Option<EventKind>
     ensures { (values : List ℕ) → between b ≡ step_to held.new (event_in result values) }
 {
@@ -101,7 +101,7 @@ fn step_between(held: &mut Held, b: u8) -> Option<EventKind>
 }
 
 /// Returns the held part after a C1 control that opens something.
-#[tactic(auto, using(crate::proofs::Classes::class_tests), unfolding(crate::specs::Class::opens_string))]
+#[tactic(auto, using(std::proofs::lemmas::Bool::Decides::nat_tests), unfolding(crate::specs::Class::opens_string))]
 fn opened_by(code: u8) -> Held
     ensures { result ≡ opened_part code }
 {
@@ -127,7 +127,7 @@ fn zero() -> ArrayVec<u16, 16>
 }
 
 /// Returns the event of a byte by itself. CAN and DEL have none.
-#[tactic(auto, using(crate::proofs::Classes::class_tests))]
+#[tactic(auto, using(std::proofs::lemmas::Bool::Decides::nat_tests))]
 fn single_function(b: u8) -> Option<EventKind>
     ensures { (values : List ℕ) → event_in result values ≡ function_of_single b }
 {
@@ -139,7 +139,7 @@ fn single_function(b: u8) -> Option<EventKind>
 }
 
 /// Returns the event of a quiet byte in a sequence. DEL has none.
-#[tactic(auto, using(crate::proofs::Classes::class_tests))]
+#[tactic(auto, using(std::proofs::lemmas::Bool::Decides::nat_tests))]
 fn quiet_control(b: u8) -> Option<EventKind>
     requires { byte_class b ≡ Class.Quiet }
     ensures { (values : List ℕ) → event_in result values ≡ control_of_quiet b }
@@ -152,7 +152,7 @@ fn quiet_control(b: u8) -> Option<EventKind>
 }
 
 /// Ends the held part at CAN or SUB. SUB is an event.
-#[tactic(auto, using(crate::proofs::Classes::class_tests))]
+#[tactic(auto, using(std::proofs::lemmas::Bool::Decides::nat_tests))]
 fn cancel(held: &mut Held, b: u8) -> Option<EventKind>
     ensures holds { held.new ≡ Held.Nothing }
     ensures tells { (values : List ℕ) → event_in result values ≡ cancel_function b }
@@ -166,7 +166,7 @@ fn cancel(held: &mut Held, b: u8) -> Option<EventKind>
 }
 
 /// Reads a byte in a string.
-#[tactic(auto, using(crate::proofs::Classes::class_tests), unfolding(crate::specs::Items::ends_string))]
+#[tactic(auto, using(std::proofs::lemmas::Bool::Decides::nat_tests), unfolding(crate::specs::Items::ends_string))]
 fn step_string(held: &mut Held, osc: bool, b: u8) -> Option<EventKind>
     requires { held.old ≡ Held.Text osc }
     ensures { (values : List ℕ) → in_string osc b ≡ step_to held.new (event_in result values) }
@@ -181,7 +181,7 @@ fn step_string(held: &mut Held, osc: bool, b: u8) -> Option<EventKind>
 }
 
 /// Reads a byte after ESC and intermediates.
-#[tactic(auto, using(crate::proofs::Steps::byte_ranges))]
+#[tactic(auto, using(std::proofs::lemmas::Bool::Decides::nat_tests), unfolding(crate::specs::Class::class_of))]
 fn step_escape(held: &mut Held, inters: Inters, b: u8) -> Option<EventKind>
     requires { held.old ≡ Held.Escape inters }
     ensures { (values : List ℕ) → in_escape inters (byte_class b) b ≡ step_to held.new (event_in result values) }
@@ -209,7 +209,7 @@ fn step_escape(held: &mut Held, inters: Inters, b: u8) -> Option<EventKind>
 }
 
 /// Returns whether a final byte after ESC is the 7-bit form of a C1 control that opens something.
-#[tactic(auto, using(crate::proofs::Classes::class_tests), unfolding(crate::specs::Class::opens_string))]
+#[tactic(auto, using(std::proofs::lemmas::Bool::Decides::nat_tests), unfolding(crate::specs::Class::opens_string))]
 fn introduces(inters: Inters, b: u8) -> bool
     requires { b < 0x80 }
     ensures { result ≡ introduces_after inters b }
@@ -221,7 +221,7 @@ fn introduces(inters: Inters, b: u8) -> bool
 }
 
 /// Returns the event of an escape sequence. If it has two or more intermediates, it has none.
-#[tactic(auto, using(crate::proofs::Steps::escape_ended))]
+#[tactic(auto, using(std::proofs::lemmas::Bool::Decides::nat_tests))]
 fn escape_function(inters: Inters, last: u8) -> Option<EventKind>
     requires { last < 0x80 }
     ensures { (values : List ℕ) → event_in result values ≡ function_of_escape inters last }
@@ -271,7 +271,7 @@ fn intermediate(phase: &mut Phase, b: u8) -> bool
 
 /// Reads a parameter byte in a control sequence. Returns whether the sequence may still have a function. It may if no
 /// intermediate has come, and the byte is a digit, `;`, or a marker that is first.
-#[tactic(auto, using(crate::proofs::Steps::byte_ranges))]
+#[tactic(auto, using(std::proofs::lemmas::Bool::Decides::nat_tests), unfolding(crate::specs::Class::class_of))]
 fn parameter(
     marker: &mut Option<u8>,
     params: &mut ArrayVec<u16, 16>,

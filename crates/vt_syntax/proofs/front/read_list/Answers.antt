@@ -1,14 +1,7 @@
 use Rattle.std.proofs.Common.{take, arith, length-take}
 use Rattle.std.proofs.lemmas.List.{take_more_set}
-use Rattle.vt_syntax.proofs.WholeSequences.{read_none, read_separator}
+use Rattle.vt_syntax.proofs.Fronts.{read_separator}
 use Rattle.vt_syntax.proofs.front.read_list.Goals as goal
-
-pub loop-at-init : goal.loop-at-init
-loop-at-init c = record {
-  within = c.requires.within;
-  few = omega arith;
-  reads = λ few. read_none c.args.piece.now c.args.start c.args.marker c.requires.within c.requires.begun;
-}
 
 pub loop-at-preserved : goal.loop-at-preserved
 loop-at-preserved c =

@@ -1,6 +1,5 @@
 -- The laws are lemmas.
-use Rattle.vt_syntax.proofs.Splits.{split_of_split}
-use Rattle.vt_syntax.proofs.OneSplit.{split_only}
+use Rattle.vt_syntax.proofs.Splits.{split_of_split, split_only}
 use Rattle.vt_syntax.proofs.Steps.{same_held, same_events}
 use Rattle.vt_syntax.proofs.Cutting.{held_part, spelled, nil, same, append}
 use Rattle.vt_syntax.proofs.laws.one_split.Goals as goal

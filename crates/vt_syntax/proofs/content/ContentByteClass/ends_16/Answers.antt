@@ -1,7 +1,7 @@
 -- The lanes are bytes.
 use Rattle.std.proofs.Common.{arith}
-use Rattle.vt_syntax.proofs.ContentRuns.{stops_mask}
+use Rattle.vt_syntax.proofs.Runs.{content_mask}
 use Rattle.vt_syntax.proofs.content.ContentByteClass.ends_16.Goals as goal
 
 pub returns : goal.returns
-returns c = stops_mask 16 c.args.lanes c.fits-lanes.0 (omega arith) c.fits-lanes.1
+returns c = content_mask 16 c.args.lanes c.fits-lanes.0 (omega arith) c.fits-lanes.1

@@ -1,7 +1,7 @@
 -- The lanes are bytes.
 use Rattle.std.proofs.Common.{arith}
-use Rattle.vt_syntax.proofs.PlainRuns.{stops_mask}
+use Rattle.vt_syntax.proofs.Runs.{plain_mask}
 use Rattle.vt_syntax.proofs.plain.PlainByteClass.ends_8.Goals as goal
 
 pub returns : goal.returns
-returns c = stops_mask 8 c.args.lanes c.fits-lanes.0 (omega arith) c.fits-lanes.1
+returns c = plain_mask 8 c.args.lanes c.fits-lanes.0 (omega arith) c.fits-lanes.1

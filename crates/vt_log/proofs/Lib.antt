@@ -1,3 +1,2 @@
 mod Lines
-mod Fronts
 mod PageLines

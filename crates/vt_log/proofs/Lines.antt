@@ -1,6 +1,6 @@
 -- The lines of bytes in pieces.
-use Rattle.std.proofs.Common.{◌≡◌, ℕ, ◌+◌, ◌-◌, List, [], ◌∷◌, ◌++◌, take, drop, length, sym, ap, ◌∙◌}
-use Rattle.std.proofs.Common.{append_assoc, append-nil, length-drop}
+use Rattle.std.proofs.Common.{◌≡◌, ℕ, ◌+◌, ◌-◌, List, [], ◌++◌, take, drop, length, sym, ap, ◌∙◌}
+use Rattle.std.proofs.Common.{append_assoc, length-drop}
 use Rattle.std.proofs.Math.Seq.{take-add, take-length}
 use Rattle.std.specs.List.{flat_map}
 use Rattle.std.proofs.lemmas.Grind.{flat_map-append}
@@ -30,18 +30,6 @@ log-nothing none s sound = ap (λ (rows : List (List Cell)). flat_map line_text 
 
 -- ---- feeding
 
--- bytes that scroll no line off
-pub log-none : (s : State) (bytes : List ℕ) → scrolled_off s bytes ≡ [] → log s bytes ≡ []
-unfolding log
-log-none s bytes none = ap (λ (rows : List (List Cell)). flat_map line_text rows) none
-
--- bytes that scroll one off
-pub log-one : (s : State) (bytes : List ℕ) (row : List Cell) → scrolled_off s bytes ≡ row ∷ []
-    → log s bytes ≡ line_text row
-unfolding log
-log-one s bytes row one =
-    ap (λ (rows : List (List Cell)). flat_map line_text rows) one ∙ append-nil (line_text row)
-
 -- the part of a piece from a place on, to its end
 pub rest-of : (piece : List ℕ) (at : ℕ) → take (length piece - at) (drop at piece) ≡ drop at piece
 rest-of piece at =
@@ -50,9 +38,6 @@ rest-of piece at =
 
 abbrev pub Plays : Type 0
 Plays = (s : State) (a b : List ℕ) → play s (a ++ b) ≡ both (play s a) (play (play s a).state b)
-
-abbrev pub Logs : Type 0
-Logs = (s : State) (a b : List ℕ) → log s (a ++ b) ≡ log s a ++ log (play s a).state b
 
 -- one more front of what is left of a piece
 pub more-state : Plays → (s t u : State) (piece : List ℕ) (at n : ℕ) → t ≡ (play s (take at piece)).state
@@ -75,17 +60,3 @@ more-reports plays s t piece before out more at n is was then =
     ∙ ap (λ (t : List ℕ). before ++ t)
     (sym (ap (λ (bytes : List ℕ). (play s bytes).reports) (take-add at n piece)
     ∙ ap (λ (p : Played). p.reports) (plays s (take at piece) (take n (drop at piece)))))
-
-pub more-lines : Logs → (s t : State) (piece before out more : List ℕ) (at n : ℕ)
-    → t ≡ (play s (take at piece)).state
-    → out ≡ before ++ log s (take at piece) → more ≡ out ++ log t (take n (drop at piece))
-    → more ≡ before ++ log s (take (at + n) piece)
-more-lines logs s t piece before out more at n is was then =
-    let first : List ℕ = log s (take at piece) in
-    let second : List ℕ = log (play s (take at piece)).state (take n (drop at piece)) in
-    then ∙ ap (λ (v : State). out ++ log v (take n (drop at piece))) is
-    ∙ ap (λ (t : List ℕ). t ++ second) was
-    ∙ append_assoc before first second
-    ∙ ap (λ (t : List ℕ). before ++ t)
-    (sym (ap (λ (bytes : List ℕ). log s bytes) (take-add at n piece)
-    ∙ logs s (take at piece) (take n (drop at piece))))

@@ -9,9 +9,8 @@ use Rattle.vt_syntax.specs.declared.event.Event.{Event}
 use Rattle.vt_syntax.specs.declared.event.Event.TheVariants.{Print, Control}
 use Rattle.vt_syntax.specs.declared.held.Held.{Held}
 use Rattle.vt_syntax.specs.declared.held.Held.TheVariants.{Nothing}
-use Rattle.vt_syntax.specs.Class.{IsInAreas, is_opener}
+use Rattle.vt_syntax.specs.Class.{IsInAreas}
 use Rattle.vt_syntax.specs.Held.{events_from, held_from}
-use Rattle.vt_syntax.specs.Reading.{single_function}
 use Rattle.vt_syntax.specs.Front.{IsFront}
 use Rattle.vt_syntax.specs.Laws.{SplitLaw, SpellingLaw}
 use Rattle.vt_term.specs.State.{Display, State}
@@ -25,7 +24,7 @@ use Rattle.vt_term.specs.Scrolling.{line_off, lines_off, scrolled_off}
 use Rattle.vt_log.specs.Log.{log}
 use Rattle.vt_log.specs.Pages.{taken_off, pages_off, pages, blanks_screen}
 use Rattle.vt_log.specs.Calm.{IsCalm, AreCalm}
-use Rattle.vt_log.proofs.Fronts.{nothing, run-events, run-held, return-opens, line-feed-opens, first-byte}
+use Rattle.vt_term.proofs.Bytes.{nothing-held, graphic-events, graphic-held, return-front, feed-front}
 
 pages_off-append : (xs ys : List Event) (s : Display)
     → pages_off (xs ++ ys) s ≡ pages_off xs s ++ pages_off ys (after_events xs s)
@@ -100,8 +99,8 @@ calm-pages split bytes n s calm between =
 
 pub calm-nothing : SplitLaw → AreCalm []
 calm-nothing split = record {
-  events = rw (split.events_nil Nothing nothing) (λ k d below. absurd (omega (arith, below)));
-  between = split.held_nil Nothing nothing;
+  events = rw (split.events_nil Nothing nothing-held) (λ k d below. absurd (omega (arith, below)));
+  between = split.held_nil Nothing nothing-held;
 }
 
 calm-append : SplitLaw → (a b : List ℕ) → AreCalm a → AreCalm b → AreCalm (a ++ b)
@@ -126,23 +125,13 @@ calm-front piece n event front calm = record {
 -- graphic bytes
 pub calm-run : SpellingLaw → (bytes : List ℕ) → All IsInAreas bytes → AreCalm bytes
 calm-run spelling bytes are = record {
-  events = subst (All IsCalm) (sym (run-events spelling bytes are)) (All-map IsCalm Print bytes (λ k d h s. refl));
-  between = run-held spelling bytes are;
+  events = subst (All IsCalm) (sym (graphic-events spelling bytes are)) (All-map IsCalm Print bytes (λ k d h s. refl));
+  between = graphic-held spelling bytes are;
 }
 
 -- CR and LF
-calm-control : SpellingLaw → (b : ℕ) → is_opener b ≡ false → single_function b ≡ Control b ∷ [] → AreCalm (b ∷ [])
-calm-control spelling b opens is = record {
-  events = subst (All IsCalm) (sym (spelling.single b opens ∙ is))
-      (All-cons IsCalm (Control b) [] (λ s. refl) (λ k d below. absurd (omega (arith, below))));
-  between = spelling.single_held b opens;
-}
+pub calm-return : (piece : List ℕ) → 1 ≤ length piece → slice_index piece 0 ≡ 0x0D → AreCalm (take 1 piece)
+calm-return piece some is = calm-front piece 1 (Control 0x0D) (return-front piece some is) (λ s. refl)
 
-pub calm-return : SpellingLaw → (piece : List ℕ) → 1 ≤ length piece → slice_index piece 0 ≡ 0x0D
-    → AreCalm (take 1 piece)
-calm-return spelling piece some is =
-    rw (first-byte piece 0x0D some is) (calm-control spelling 0x0D return-opens refl)
-
-pub calm-feed : SpellingLaw → (piece : List ℕ) → 1 ≤ length piece → slice_index piece 0 ≡ 0x0A → AreCalm (take 1 piece)
-calm-feed spelling piece some is =
-    rw (first-byte piece 0x0A some is) (calm-control spelling 0x0A line-feed-opens refl)
+pub calm-feed : (piece : List ℕ) → 1 ≤ length piece → slice_index piece 0 ≡ 0x0A → AreCalm (take 1 piece)
+calm-feed piece some is = calm-front piece 1 (Control 0x0A) (feed-front piece some is) (λ s. refl)

@@ -5,7 +5,6 @@ ghost use Rattle.vt_term.specs.Play.{play};
 ghost use Rattle.vt_log.specs.Log.{log};
 
 use std::alloc::AllocError;
-use vt_term::laws::cuts;
 use vt_term::{REPORT_LIMIT, ROW_TEXT_LIMIT, Terminal};
 
 /// The most bytes of lines for each byte of a piece: one line.
@@ -54,6 +53,7 @@ pub fn feed_log(
 /// It stops before a line that scrolls off if `lines` has no capacity for it, `LINE_LIMIT` bytes. With capacity for a line
 /// for each byte, it plays the whole chunk. `reports` has capacity for ten bytes for each byte of the chunk. It never fails,
 /// and it allocates nothing.
+#[tactic(auto, unfolding(crate::specs::Log::log))]
 pub fn feed_log_reserved(
     terminal: &mut Terminal,
     piece: &[u8],
@@ -71,11 +71,5 @@ pub fn feed_log_reserved(
     ensures reports_capacity { vec_capacity reports.old ≤ vec_capacity reports.new }
     ensures lines_capacity { vec_capacity lines.old ≤ vec_capacity lines.new }
 {
-    cuts();
-    let mut at = terminal.feed_to_scroll(piece, reports);
-    while at < piece.len() && lines.capacity() - lines.len() >= LINE_LIMIT {
-        terminal.row_text_reserved(1, lines);
-        at += terminal.feed_past_scroll(&piece[at..], reports);
-    }
-    at
+    terminal.feed_lines_reserved(piece, reports, lines)
 }

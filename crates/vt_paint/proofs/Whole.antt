@@ -5,7 +5,7 @@ use Rattle.vt_glyph.specs.GraphicSets.{GraphicSets}
 use Rattle.vt_glyph.specs.Invocation.{sets_at_power_up}
 use Rattle.vt_screen.specs.Cells.{plain_brush}
 use Rattle.vt_term.specs.declared.state.Modes.{Modes}
-use Rattle.vt_term.specs.State.{Display, full_margins, saved_sets, saved_at_power_up, display_at_power_up, State}
+use Rattle.vt_term.specs.State.{Display, full_margins, saved_at_power_up, display_at_power_up, State}
 use Rattle.vt_term.specs.State.{modes_at_power_up}
 use Rattle.vt_term.specs.Sound.{IsSoundDisplay, IsPlace, IsSound}
 use Rattle.vt_term.specs.Resets.{soft_reset}

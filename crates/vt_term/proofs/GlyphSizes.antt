@@ -1,72 +1,37 @@
--- A glyph's character takes at most three bytes of UTF-8.
-use Rattle.std.proofs.Common.{◌≡◌, inl, inr, ℕ, ◌≤◌, ◌<◌, List, [], ◌∷◌, Bool, true, false, cond, ◌&&◌, ◌||◌, ◌==◌}
-use Rattle.std.proofs.Common.{nat_lt, refl, arith}
-use Rattle.std.specs.List.{list_any, list_all}
+-- A glyph's character takes at most three bytes of UTF-8, and a number below 1000 three digits.
+use Rattle.std.proofs.Common.{◌≡◌, ℕ, ◌≤◌, ◌<◌, Bool, true, length, nat_le, ◌==◌, refl, arith}
 use Rattle.std.specs.Char.{len_utf8}
-use Rattle.std.proofs.lemmas.Bool.Decides.{eqb_tells, nat_tests}
+use Rattle.std.specs.Fmt.{decimal}
+use Rattle.std.proofs.lemmas.Bool.Decides.{nat_tests}
+use Rattle.std.proofs.lemmas.Bool.{eqb-true}
+use Rattle.std.proofs.lemmas.Fmt.{length-decimal-le}
+use Rattle.vt_glyph.specs.declared.set.Set.{Set}
 use Rattle.vt_glyph.specs.declared.set.Set.TheVariants.{Ascii, British, German, Special, Supplemental}
 use Rattle.vt_glyph.specs.Tables.{IsGlyph, is_glyph, glyph_of, set_codes, shows, space}
+use Rattle.vt_glyph.proofs.Lists.{either, all_taken}
 
-and-left : (a b : Bool) → a && b ≡ true → a ≡ true
-and-left true b h = refl
-and-left false b h = absurd cc
+abbrev is_short : ℕ → Bool
+is_short n = nat_le (len_utf8 n) 3
 
-and-right : (a b : Bool) → a && b ≡ true → b ≡ true
-and-right true b h = h
-and-right false b h = absurd cc
-
--- a glyph that some code shows is small, if what each code shows is
-any-small : (f : ℕ → ℕ) (codes : List ℕ) (n bound : ℕ) → list_all (λ c. nat_lt (f c) bound) codes ≡ true
-    → list_any (λ c. f c == n) codes ≡ true → n < bound
-any-small f [] n bound all any = absurd cc
-any-small f (c ∷ cs) n bound all any = elim (eqb_tells (f c) n) [
-  | inl e ↦
-      let here : nat_lt (f c) bound ≡ true =
-      and-left (nat_lt (f c) bound) (list_all (λ c. nat_lt (f c) bound) cs) all in
-      grind (arith, nat_tests, e)
-  | inr e ↦ any-small f cs n bound (and-right (nat_lt (f c) bound) (list_all (λ c. nat_lt (f c) bound) cs) all)
-      (rw e.0 at any)
-]
-
-ascii-small : (n : ℕ) → shows Ascii n ≡ true → n < 0x3000
+shown_short : (set : Set) (n : ℕ) → shows set n ≡ true → is_short n ≡ true
 unfolding glyph_of
-ascii-small n any = any-small (λ c. glyph_of Ascii c) set_codes n 0x3000 refl any
+shown_short Ascii n = all_taken is_short (glyph_of Ascii) set_codes n refl
+shown_short British n = all_taken is_short (glyph_of British) set_codes n refl
+shown_short German n = all_taken is_short (glyph_of German) set_codes n refl
+shown_short Special n = all_taken is_short (glyph_of Special) set_codes n refl
+shown_short Supplemental n = all_taken is_short (glyph_of Supplemental) set_codes n refl
 
-special-small : (n : ℕ) → shows Special n ≡ true → n < 0x3000
-unfolding glyph_of
-special-small n any = any-small (λ c. glyph_of Special c) set_codes n 0x3000 refl any
-
-supplemental-small : (n : ℕ) → shows Supplemental n ≡ true → n < 0x3000
-unfolding glyph_of
-supplemental-small n any = any-small (λ c. glyph_of Supplemental c) set_codes n 0x3000 refl any
-
-british-small : (n : ℕ) → shows British n ≡ true → n < 0x3000
-unfolding glyph_of
-british-small n any = any-small (λ c. glyph_of British c) set_codes n 0x3000 refl any
-
-german-small : (n : ℕ) → shows German n ≡ true → n < 0x3000
-unfolding glyph_of
-german-small n any = any-small (λ c. glyph_of German c) set_codes n 0x3000 refl any
-
-either : (a b : Bool) (P : Type 0) → (a ≡ true → P) → (b ≡ true → P) → a || b ≡ true → P
-either true b P f g e = f refl
-either false b P f g e = g e
-
-pub glyph-small : (n : ℕ) → IsGlyph n → n < 0x3000
+pub glyph_short : (n : ℕ) → IsGlyph n → len_utf8 n ≤ 3
 unfolding is_glyph
-glyph-small n is =
-    either (n == space) _ (n < 0x3000) (λ e. grind (arith, nat_tests))
-    (either (shows Ascii n) _ (n < 0x3000) (ascii-small n)
-    (either (shows British n) _ (n < 0x3000) (british-small n)
-    (either (shows German n) _ (n < 0x3000) (german-small n)
-    (either (shows Special n) (shows Supplemental n) (n < 0x3000) (special-small n) (supplemental-small n))))) is
+glyph_short n is =
+    let Goal : Type 0 = is_short n ≡ true in
+    let test : Goal =
+    either Goal (n == space) _ is (λ e. rw (eqb-true n space e) refl) (λ a.
+    either Goal _ _ a (shown_short Ascii n) (λ b.
+    either Goal _ _ b (shown_short British n) (λ c.
+    either Goal _ _ c (shown_short German n) (λ d.
+    either Goal _ _ d (shown_short Special n) (shown_short Supplemental n))))) in
+    grind (arith, nat_tests, test)
 
-pub len-small : (n : ℕ) → n < 0x3000 → len_utf8 n ≤ 3
-len-small n h =
-    let three : nat_lt n 0x10000 ≡ true = grind (arith, nat_tests) in
-    rw three (go (nat_lt n 0x80) (nat_lt n 0x800))
-  where
-    go : (a b : Bool) → cond a 1 (cond b 2 (cond true 3 4)) ≤ 3
-    go true b = omega arith
-    go false true = omega arith
-    go false false = omega arith
+pub decimal_short : (n : ℕ) → n < 1000 → length (decimal n) ≤ 3
+decimal_short n small = length-decimal-le 3 n (omega arith) (omega (arith, small)) (omega (arith, small))

@@ -4,9 +4,10 @@ mod PowerUp
 mod Cuts
 mod Lines
 mod Runs
-mod Bytes
+pub mod Bytes
 mod GlyphSizes
 mod Equal
 mod SoundEffects
 mod SoundPlay
+mod Playing
 mod Scrolled

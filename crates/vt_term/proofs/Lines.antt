@@ -1,25 +1,19 @@
 -- The text of a row.
 use Rattle.std.proofs.Common.{◌≡◌, ◌≢◌, inl, inr, ℕ, zero, suc, ◌<◌, List, [], ◌∷◌, ◌++◌, length, take, get_or}
-use Rattle.std.proofs.Common.{◌+◌, ◌≤◌, All, set, subst, refl, sym, ap, ◌∙◌, arith, add-one, append-nil}
-use Rattle.std.specs.List.{range_with_len, flat_map}
+use Rattle.std.proofs.Common.{◌+◌, ◌≤◌, All, set, subst, refl, sym, ap, ◌∙◌, arith, add-one}
 use Rattle.std.proofs.Math.Seq.{take-suc}
-use Rattle.std.proofs.lemmas.Grind.{flat_map-append}
 use Rattle.std.proofs.lemmas.Bool.Decides.{eqb_tells, nat_tests}
 use Rattle.std.proofs.lemmas.Grind.{same_number_lists}
-use Rattle.std.proofs.lemmas.List.{length-take-le, get_or-take, take_more_set, take-take}
+use Rattle.std.proofs.lemmas.List.{length-take-le, length-map, get_or-map, get_or-take, take_more_set, take-take}
 use Rattle.std.proofs.lemmas.List.Elements.{All-get_or, All-head, All-tail, All-take}
 use Rattle.std.proofs.lemmas.Str.{encode_ascii}
 use Rattle.vt_syntax.specs.Class.{IsPlain}
 use Rattle.vt_glyph.specs.Encoding.{encoded_glyph}
 use Rattle.vt_screen.specs.Cells.{blank}
 use Rattle.vt_glyph.specs.Tables.{space, glyph_of}
-use Rattle.vt_screen.specs.Grid.{Grid, row_of}
-use Rattle.vt_term.specs.Text.{trimmed, before_trimmed, lines_text, line_text, glyphs_of}
+use Rattle.vt_term.specs.Text.{trimmed, before_trimmed, line_text, glyphs_of}
 use Rattle.vt_screen.specs.declared.cell.Cell.{Cell}
 use Rattle.std.specs.Prelude.{encode_utf8_all, encode_utf8}
-use Rattle.std.proofs.lemmas.Str.{encodes-append}
-use Rattle.std.proofs.lemmas.List.{map-append}
-use Rattle.vt_term.proofs.Stops.{range-more}
 
 -- a glyph that is no space keeps what is before it
 trimmed-glyph : (xs : List ℕ) (x : ℕ) → x ≢ space → trimmed (xs ++ x ∷ []) ≡ xs ++ x ∷ []
@@ -32,68 +26,27 @@ trimmed-space : (xs : List ℕ) (x : ℕ) → x ≡ space → trimmed (xs ++ x �
 trimmed-space [] x is = rw is refl
 trimmed-space (y ∷ ys) x is = ap (λ (t : List ℕ). before_trimmed y t) (trimmed-space ys x is)
 
--- a front that ends with a space
-pub trimmed-take-space : (xs : List ℕ) (n : ℕ) → n < length xs → get_or xs n 0 ≡ space
-    → trimmed (take (n + 1) xs) ≡ trimmed (take n xs)
-trimmed-take-space xs n below is =
-    ap trimmed (ap (λ k. take k xs) (add-one n) ∙ take-suc xs n 0 below) ∙ trimmed-space (take n xs) (get_or xs n 0) is
+module _ (xs : List ℕ) (n end : ℕ) (next : n + 1 ≡ end) (below : n < length xs) where
+  front : take end xs ≡ take n xs ++ get_or xs n 0 ∷ []
+  front = ap (λ k. take k xs) (sym next ∙ add-one n) ∙ take-suc xs n 0 below
 
--- a front that ends with another glyph
-pub trimmed-take-glyph : (xs : List ℕ) (n : ℕ) → n < length xs → get_or xs n 0 ≢ space
-    → trimmed (take (n + 1) xs) ≡ take (n + 1) xs
-trimmed-take-glyph xs n below ne =
-    let front : take (n + 1) xs ≡ take n xs ++ get_or xs n 0 ∷ [] =
-    ap (λ k. take k xs) (add-one n) ∙ take-suc xs n 0 below in
-    ap trimmed front ∙ trimmed-glyph (take n xs) (get_or xs n 0) ne ∙ sym front
+  -- a front that ends with a space
+  pub trimmed-take-space : get_or xs n 0 ≡ space → trimmed (take end xs) ≡ trimmed (take n xs)
+  trimmed-take-space is = ap trimmed front ∙ trimmed-space (take n xs) (get_or xs n 0) is
+
+  -- a front that ends with another glyph
+  pub trimmed-take-glyph : get_or xs n 0 ≢ space → trimmed (take end xs) ≡ take end xs
+  trimmed-take-glyph ne = ap trimmed front ∙ trimmed-glyph (take n xs) (get_or xs n 0) ne ∙ sym front
 
 -- a front that ends with so many spaces
-pub trimmed-take-spaces : (xs : List ℕ) (n k : ℕ) → n + k ≤ length xs
-    → ((i : ℕ) → n ≤ i → i < n + k → get_or xs i 0 ≡ space) → trimmed (take (n + k) xs) ≡ trimmed (take n xs)
-trimmed-take-spaces xs n zero within are =
-    let none : n + 0 ≡ n = omega arith in
+pub trimmed-take-spaces : (xs : List ℕ) (n k end : ℕ) → n + k ≡ end → end ≤ length xs
+    → ((i : ℕ) → n ≤ i → i < n + k → get_or xs i 0 ≡ space) → trimmed (take end xs) ≡ trimmed (take n xs)
+trimmed-take-spaces xs n zero end is within are =
+    let none : end ≡ n = omega arith in
     ap (λ m. trimmed (take m xs)) none
-trimmed-take-spaces xs n (suc k) within are =
-    let last : n + suc k ≡ n + k + 1 = omega arith in
-    ap (λ m. trimmed (take m xs)) last
-    ∙ trimmed-take-space xs (n + k) (omega (arith, within)) (are (n + k) (omega arith) (omega arith))
-    ∙ trimmed-take-spaces xs n k (omega (arith, within)) (λ i above below. are i above (omega (arith, below)))
-
--- one more line
-pub lines_text-more : (n : ℕ) (g : Grid) → lines_text (n + 1) g ≡ lines_text n g ++ line_text (row_of g (n + 1))
-unfolding lines_text
-lines_text-more n g =
-    ap (λ (rows : List ℕ). flat_map (λ r. line_text (row_of g r)) rows) (range-more 1 n (n + 1) (omega arith))
-    ∙ flat_map-append (λ r. line_text (row_of g r)) (range_with_len 1 n) ((n + 1) ∷ [])
-    ∙ ap (λ (t : List ℕ). lines_text n g ++ t) (append-nil (line_text (row_of g (n + 1))))
-
--- no line
-pub lines_text-none : (g : Grid) → lines_text 0 g ≡ []
-unfolding lines_text
-lines_text-none g = refl
-
--- ---- what cells show
-
-pub length-glyphs : (cells : List Cell) → length (glyphs_of cells) ≡ length cells
-length-glyphs [] = refl
-length-glyphs (cell ∷ cells) = ap (λ n. suc n) (length-glyphs cells)
-
-pub glyph-at : (cells : List Cell) (n : ℕ) (d : Cell) → n < length cells
-    → get_or (glyphs_of cells) n 0 ≡ (get_or cells n d).glyph
-glyph-at [] n d below = absurd (omega arith)
-glyph-at (cell ∷ cells) zero d below = refl
-glyph-at (cell ∷ cells) (suc n) d below = glyph-at cells n d (omega arith)
-
--- one more cell
-pub encoded-more : (cells : List Cell) (n : ℕ) (d : Cell) → n < length cells
-    → encode_utf8_all (glyphs_of (take (n + 1) cells)) ≡ encode_utf8_all (glyphs_of (take n cells))
-    ++ encode_utf8 (get_or cells n d).glyph
-encoded-more cells n d below =
-    ap (λ (k : ℕ). encode_utf8_all (glyphs_of (take k cells))) (add-one n)
-    ∙ ap (λ (front : List Cell). encode_utf8_all (glyphs_of front)) (take-suc cells n d below)
-    ∙ ap encode_utf8_all (map-append (λ (cell : Cell). cell.glyph) (take n cells) (get_or cells n d ∷ []))
-    ∙ encodes-append (glyphs_of (take n cells)) ((get_or cells n d).glyph ∷ [])
-    ∙ ap (λ (t : List ℕ). encode_utf8_all (glyphs_of (take n cells)) ++ t)
-    (append-nil (encode_utf8 (get_or cells n d).glyph))
+trimmed-take-spaces xs n (suc k) end is within are =
+    trimmed-take-space xs (n + k) end (omega arith) (omega arith) (are (n + k) (omega arith) (omega arith))
+    ∙ trimmed-take-spaces xs n k (n + k) refl (omega arith) (λ i above below. are i above (omega arith))
 
 -- ---- rows of ASCII glyphs
 
@@ -109,12 +62,12 @@ pub plain-codes : (cells : List Cell) (line : List ℕ) → length cells ≤ len
     → take (length cells) line ≡ glyphs_of cells
 plain-codes cells line within plain are =
     same_number_lists (take (length cells) line) (glyphs_of cells)
-    (length-take-le (length cells) line within ∙ sym (length-glyphs cells))
+    (length-take-le (length cells) line within ∙ sym (length-map cells (λ (cell : Cell). cell.glyph)))
     (λ k below.
     let inside : k < length cells = omega (arith, below, length-take-le (length cells) line within) in
     let here : get_or (take (length cells) line) k 0 ≡ get_or line k 0 = get_or-take (length cells) line k 0 inside in
     let code : IsPlain (get_or line k 0) = subst IsPlain here (All-get_or IsPlain (take (length cells) line) k 0 below plain) in
-    here ∙ sym (plain-glyph (get_or line k 0) code) ∙ are k inside ∙ sym (glyph-at cells k blank inside))
+    here ∙ sym (plain-glyph (get_or line k 0) code) ∙ are k inside ∙ sym (get_or-map (λ (cell : Cell). cell.glyph) cells k blank 0 inside))
 
 -- plain codes are their own UTF-8
 pub plain-encoded : (xs : List ℕ) → All IsPlain xs → encode_utf8_all xs ≡ xs

@@ -1,20 +1,18 @@
 -- A run of graphic bytes is written as its bytes are, one after another.
-use Rattle.std.proofs.lemmas.List.{length-take, length-map, map-append, get_or-take, get_or-drop}
+use Rattle.std.proofs.lemmas.List.{length-take, map-append, get_or-take, get_or-drop}
 use Rattle.std.proofs.Math.Seq.{take-add}
 use Rattle.vt_term.proofs.Cuts.{after_events-append}
-use Rattle.vt_term.specs.Moving.{next_line}
 use Rattle.std.proofs.Common.{length-drop, take, drop, get_or, ◌≡◌, inl, inr, ℕ, suc, ◌+◌, ◌-◌, ◌≤◌, ◌<◌, List, [], ◌∷◌}
-use Rattle.std.proofs.Common.{◌++◌, length, map, All, Bool, true, false, cond, refl, sym, ap, ◌∙◌, arith, if◌then◌else◌}
-use Rattle.std.proofs.Common.{nat_le, nat_lt}
+use Rattle.std.proofs.Common.{◌++◌, length, map, All, true, false, refl, sym, ap, ◌∙◌, arith, rules}
+use Rattle.std.proofs.Common.{nat_lt}
 use Rattle.std.proofs.lemmas.Bool.Decides.{leb_tells, nat_tests}
 use Rattle.vt_syntax.specs.declared.event.Event.{Event}
 use Rattle.vt_syntax.specs.declared.event.Event.TheVariants.{Print}
 use Rattle.vt_glyph.specs.Tables.{space}
 use Rattle.vt_screen.specs.declared.cell.Cell.{Cell}
 use Rattle.vt_screen.specs.Cells.{cell_of}
-use Rattle.vt_screen.specs.Grid.{Grid, put, put_run}
+use Rattle.vt_screen.specs.Grid.{put, put_run}
 use Rattle.vt_screen.specs.Laws.{RunLaws}
-use Rattle.vt_term.specs.declared.state.Cursor.{Cursor}
 use Rattle.vt_term.specs.State.{Display, last_column, at_place}
 use Rattle.vt_term.specs.Writing.{print, write_glyph, put_glyph, after_wrap, next_place}
 use Rattle.vt_term.specs.Runs.{WritesOver, advanced_by, with_run}
@@ -61,72 +59,39 @@ pub prints-run : RunLaws → (Kind : ℕ → Type 0) (glyph : ℕ → ℕ) (byte
     → after_events (map Print bytes) s ≡ with_run (map glyph bytes) s
 prints-run runs Kind glyph [] s writes all off some room = absurd (omega arith)
 prints-run runs Kind glyph (b ∷ []) s writes all off some room =
-    let is = all 0 0 (omega arith) in
-    print-step Kind glyph s b writes is off
-    ∙ ap (λ (g : Grid). record s { grid = g; cursor = next_place s })
-    (sym (runs.one s.grid s.cursor.row s.cursor.col (glyph b) (cell_of space s.brush)))
-    ∙ ap (λ (c : Cursor). record s {
-      grid =
-          put_run s.grid s.cursor.row s.cursor.col (glyph b ∷ []) (cell_of space s.brush);
-      cursor = c;
-    })
-    (next_place-one s (omega arith))
+    print-step Kind glyph s b writes (all 0 0 (omega arith)) off
+    ∙ rw (
+      runs.one s.grid s.cursor.row s.cursor.col (glyph b) (cell_of space s.brush),
+      next_place-one s (omega arith),
+    ) refl
 prints-run runs Kind glyph (b ∷ next ∷ rest) s writes all off some room =
-    let is = all 0 0 (omega arith) in
+    let like : Cell = cell_of space s.brush in
+    let glyphs : List ℕ = map glyph (next ∷ rest) in
     let t : Display = record s {
       grid = put s.grid s.cursor.row s.cursor.col (cell_of (glyph b) s.brush);
       cursor =
           at_place s.cursor.row (s.cursor.col + 1);
     } in
     let first : print b s ≡ t =
-    print-step Kind glyph s b writes is off
-    ∙ ap (λ (c : Cursor). record s {
-      grid = put s.grid s.cursor.row s.cursor.col (cell_of (glyph b) s.brush);
-      cursor =
-          c;
-    }) (next_place-near s (omega arith)) in
-    let later : All Kind (next ∷ rest) = λ k d h. all (suc k) d (omega arith) in
-    let goes_on =
+    print-step Kind glyph s b writes (all 0 0 (omega arith)) off ∙ rw (next_place-near s (omega arith)) refl in
+    let goes_on : after_events (map Print (next ∷ rest)) t ≡ with_run glyphs t =
     prints-run runs Kind glyph (next ∷ rest) t
-    (record { glyph = writes.glyph; sets = writes.sets; replaces = writes.replaces }) later refl (omega arith)
-    (omega arith) in
-    let count : length (map glyph rest) ≡ length rest = length-map rest glyph in
-    let column : s.cursor.col + 1 + length (map glyph (next ∷ rest))
-    ≡ s.cursor.col + length (map glyph (b ∷ next ∷ rest)) = omega arith in
-    let like : Cell = cell_of space s.brush in
-    let grid : put_run t.grid s.cursor.row (s.cursor.col + 1) (map glyph (next ∷ rest)) like
-    ≡ put_run s.grid s.cursor.row s.cursor.col (map glyph (b ∷ next ∷ rest)) like =
-    ap (λ (g : Grid). put_run g s.cursor.row (s.cursor.col + 1) (map glyph (next ∷ rest)) like)
-    (sym (runs.one s.grid s.cursor.row s.cursor.col (glyph b) like))
-    ∙ sym (runs.append s.grid s.cursor.row s.cursor.col (glyph b ∷ []) (map glyph (next ∷ rest)) like) in
-    ap (λ (u : Display). after_events (map Print (next ∷ rest)) u) first
-    ∙ goes_on
-    ∙ ap (λ (g : Grid). record s { grid = g; cursor = advanced_by (length (map glyph (next ∷ rest))) t }) grid
-    ∙ ap (λ (n : ℕ). record s {
-      grid = put_run s.grid s.cursor.row s.cursor.col (map glyph (b ∷ next ∷ rest)) like;
-      cursor = if nat_le n (last_column s) then at_place s.cursor.row n else record {
-        row = s.cursor.row;
-        col =
-            last_column s;
-        wrap = s.modes.decawm;
-      };
-    }) column
+    (record { glyph = writes.glyph; sets = writes.sets; replaces = writes.replaces }) (λ k d h. all (suc k) d (omega arith))
+    refl (omega arith) (omega arith) in
+    let column : s.cursor.col + 1 + length glyphs ≡ s.cursor.col + length (glyph b ∷ glyphs) = omega arith in
+    let grid : put_run t.grid s.cursor.row (s.cursor.col + 1) glyphs like
+    ≡ put_run s.grid s.cursor.row s.cursor.col (glyph b ∷ glyphs) like =
+    rw (← runs.one s.grid s.cursor.row s.cursor.col (glyph b) like)
+    (sym (runs.append s.grid s.cursor.row s.cursor.col (glyph b ∷ []) glyphs like)) in
+    ap (λ (u : Display). after_events (map Print (next ∷ rest)) u) first ∙ goes_on ∙ rw (grid, column) refl
 
 -- the display behind a wrap
 after_wrap-off : (s : Display) → (after_wrap s).cursor.wrap ≡ false
-after_wrap-off s = go s.cursor.wrap refl
-  where
-    go : (b : Bool) → s.cursor.wrap ≡ b → (cond b (next_line s) s).cursor.wrap ≡ false
-    go true e = refl
-    go false e = e
+after_wrap-off s = grind arith
 
 pub after_wrap-writes : (Kind : ℕ → Type 0) (glyph : ℕ → ℕ) (s : Display) → WritesOver Kind glyph s
     → WritesOver Kind glyph (after_wrap s)
-after_wrap-writes Kind glyph s writes = go s.cursor.wrap
-  where
-    go : (b : Bool) → WritesOver Kind glyph (cond b (next_line s) s)
-    go true = record { glyph = writes.glyph; sets = writes.sets; replaces = writes.replaces }
-    go false = writes
+after_wrap-writes Kind glyph s writes = search rules
 
 -- a byte that is written carries the wrap out itself
 print-after_wrap : (Kind : ℕ → Type 0) (glyph : ℕ → ℕ) (s : Display) (b : ℕ) → WritesOver Kind glyph s → Kind b
@@ -148,19 +113,14 @@ prints-line runs Kind glyph (b ∷ bytes) s writes all some room =
     (after_wrap-off s) some room)
     ∙ ap (λ (t : Display). after_events (map Print bytes) t) (print-after_wrap Kind glyph s b writes is)
 
--- what was written leaves the sets and IRM
-pub with_run-writes : (Kind : ℕ → Type 0) (glyph : ℕ → ℕ) (glyphs : List ℕ) (s : Display) → WritesOver Kind glyph s
-    → WritesOver Kind glyph (with_run glyphs s)
-with_run-writes Kind glyph glyphs s writes =
-    record { glyph = writes.glyph; sets = writes.sets; replaces = writes.replaces }
-
--- runs line of a run
-pub line-of-run : RunLaws → (Kind : ℕ → Type 0) (glyph : ℕ → ℕ) (run : List ℕ) (at end : ℕ) (s t : Display)
+-- a line of a run: what is written is what its bytes write, and the next line may be written so
+pub line-of-run : RunLaws → (Kind : ℕ → Type 0) (glyph : ℕ → ℕ) (run : List ℕ) (at end : ℕ) (s t u v : Display)
     → All Kind run → at < end → end ≤ length run
     → t ≡ after_events (map Print (take at run)) s → WritesOver Kind glyph t
-    → (after_wrap t).cursor.col + (end - at) ≤ last_column (after_wrap t) + 1
-    → with_run (map glyph (take (end - at) (drop at run))) (after_wrap t) ≡ after_events (map Print (take end run)) s
-line-of-run runs Kind glyph run at end s t all below fits is writes room =
+    → u ≡ after_wrap t → u.cursor.col + (end - at) ≤ last_column u + 1
+    → v ≡ with_run (map glyph (take (end - at) (drop at run))) u
+    → (v ≡ after_events (map Print (take end run)) s) × WritesOver Kind glyph v
+line-of-run runs Kind glyph run at end s t u v all below fits is writes wrapped room written =
     let line : List ℕ = take (end - at) (drop at run) in
     let long : length line ≡ end - at = rw (length-take, length-drop) (omega arith) in
     let front : take at run ++ line ≡ take end run =
@@ -171,8 +131,12 @@ line-of-run runs Kind glyph run at end s t all below fits is writes room =
     let here : get_or line k d ≡ get_or run (at + k) d =
     get_or-take (end - at) (drop at run) k d (omega (arith, long)) ∙ get_or-drop at run k d in
     rw here (all (at + k) d inside) in
-    prints-line runs Kind glyph line t writes bytes (omega (arith, long)) (rw long room)
-    ∙ ap (λ (u : Display). after_events (map Print line) u) is
-    ∙ sym (after_events-append (map Print (take at run)) (map Print line) s)
-    ∙ ap (λ (es : List Event). after_events es s) (sym (map-append Print (take at run) line))
-    ∙ ap (λ (codes : List ℕ). after_events (map Print codes) s) front
+    let after : WritesOver Kind glyph (after_wrap t) = after_wrap-writes Kind glyph t writes in (
+      written ∙ ap (λ (d : Display). with_run (map glyph line) d) wrapped
+          ∙ prints-line runs Kind glyph line t writes bytes (omega (arith, long)) (rw (long, ← wrapped) room)
+          ∙ ap (λ (d : Display). after_events (map Print line) d) is
+          ∙ sym (after_events-append (map Print (take at run)) (map Print line) s)
+          ∙ ap (λ (es : List Event). after_events es s) (sym (map-append Print (take at run) line))
+          ∙ ap (λ (codes : List ℕ). after_events (map Print codes) s) front,
+      rw (written, wrapped) (record { glyph = after.glyph; sets = after.sets; replaces = after.replaces }),
+    )

@@ -7,7 +7,7 @@ use Rattle.vt_glyph.specs.Tables.{IsGlyph, is_glyph, glyph_of}
 use Rattle.vt_screen.specs.Cells.{cell_of, plain_brush}
 use Rattle.vt_term.specs.State.{Display, last_column, has_stop_at}
 use Rattle.vt_term.specs.Sound.{IsSoundDisplay}
-use Rattle.vt_term.specs.Moving.{home, backspace, carriage_return, cursor_up, cursor_down, cursor_forward}
+use Rattle.vt_term.specs.Moving.{backspace, carriage_return, cursor_up, cursor_down, cursor_forward}
 use Rattle.vt_term.specs.Moving.{cursor_backward, cursor_position, index, reverse_index, next_line, line_feed}
 use Rattle.vt_term.specs.Moving.{set_margins}
 use Rattle.vt_term.specs.Tabs.{horizontal_tab, set_tab, clear_tabs, next_stop_of, no_stops}
@@ -53,9 +53,6 @@ Keeps f = (s : Display) → IsSoundDisplay s → IsSoundDisplay (f s)
 length-no_stops : length no_stops ≡ 132
 unfolding no_stops
 length-no_stops = refl
-
-pub home-keeps : Keeps home
-home-keeps s i = search rules
 
 pub backspace-keeps : Keeps backspace
 backspace-keeps s i = search rules
@@ -178,3 +175,42 @@ soft_reset-keeps s i = search rules
 
 pub set_conformance_level-keeps : (p1 : ℕ) → (p2 : ℕ) → Keeps (set_conformance_level p1 p2)
 set_conformance_level-keeps p1 p2 s i = search rules
+
+-- what each function by itself needs; a new function's rule stands here
+pub ruleset keeping = (
+  backspace-keeps,
+  horizontal_tab-keeps,
+  line_feed-keeps,
+  carriage_return-keeps,
+  index-keeps,
+  next_line-keeps,
+  set_tab-keeps,
+  reverse_index-keeps,
+  save_cursor-keeps,
+  restore_cursor-keeps,
+  keypad_mode-keeps,
+  reset_to_initial_state-keeps,
+  report_form-keeps,
+  screen_alignment-keeps,
+  insert_character-keeps,
+  cursor_up-keeps,
+  cursor_down-keeps,
+  cursor_forward-keeps,
+  cursor_backward-keeps,
+  cursor_position-keeps,
+  erase_in_display-keeps,
+  erase_in_line-keeps,
+  insert_line-keeps,
+  delete_line-keeps,
+  delete_character-keeps,
+  erase_character-keeps,
+  clear_tabs-keeps,
+  select_graphic_rendition-keeps,
+  set_margins-keeps,
+  set_conformance_level-keeps,
+  select_character_attribute-keeps,
+  soft_reset-keeps,
+  column_mode-keeps,
+  origin_mode-keeps,
+  autowrap_mode-keeps,
+)

@@ -1,7 +1,6 @@
 -- The tab stops, and ranges of numbers.
-use Rattle.std.proofs.lemmas.Bool.Decides.{eqb_tells}
-use Rattle.std.proofs.Common.{◌≡◌, inl, inr, set, get_or-set_same, get_or-set_other, ℕ, ◌+◌, ◌<◌, ◌≤◌, ◌-◌, List, []}
-use Rattle.std.proofs.Common.{◌∷◌, ◌++◌, zero, suc, Bool, false, length, get_or, refl, sym, ap, ◌∙◌, arith}
+use Rattle.std.proofs.Common.{◌≡◌, set, get_or-set_same, get_or-set_other, ℕ, ◌+◌, ◌<◌, ◌≤◌, ◌-◌, List}
+use Rattle.std.proofs.Common.{suc, Bool, false, length, get_or, refl, sym, ◌∙◌, arith}
 use Rattle.std.specs.List.{range_with_len, find}
 use Rattle.std.proofs.lemmas.List.FromFn.{get_or-map-range_with_len, length-map-range_with_len, fill_by_all}
 use Rattle.vt_term.specs.State.{stops_where}
@@ -29,17 +28,5 @@ pub one_more_stop : (f : ℕ → Bool) (stops : List Bool) (col : ℕ) (stop : B
     → stop ≡ f col
     → ((k : ℕ) → k + 1 < col → get_or stops k false ≡ f (k + 1)) → (k : ℕ) → k + 1 < col + 1
     → get_or (set stops (col - 1) stop) k false ≡ f (k + 1)
-one_more_stop f stops col stop col1 fits is done k below = elim (eqb_tells k (col - 1)) [
-  | inl e ↦
-      let here : k ≡ col - 1 = e.1 in
-      let next : col - 1 + 1 ≡ col = omega arith in
-      rw here (get_or-set_same stops (col - 1) stop false (omega arith) ∙ is ∙ ap f (sym next))
-  | inr e ↦ get_or-set_other stops (col - 1) k stop false e.1 ∙ done k (omega (arith, e))
-]
-
--- one more number at the end of a range
-pub range-more : (a n b : ℕ) → a + n ≡ b → range_with_len a (n + 1) ≡ range_with_len a n ++ b ∷ []
-range-more a zero b is = let same : a ≡ b = omega arith in rw same refl
-range-more a (suc n) b is =
-    let more : suc n + 1 ≡ suc (n + 1) = omega arith in
-    rw more (ap (λ (t : List ℕ). a ∷ t) (range-more (a + 1) n b (omega arith)))
+one_more_stop f stops col stop col1 fits is done k below =
+    grind (arith, get_or-set_same, get_or-set_other, done k)

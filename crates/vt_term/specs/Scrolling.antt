@@ -39,11 +39,3 @@ lines_off (event ∷ events) s = line_off event s ++ lines_off events (effect ev
 -- the lines of bytes after what is held
 unfoldable pub scrolled_off : State → List ℕ → List (List Cell)
 scrolled_off s bytes = lines_off (events_from s.held bytes) s.display
-
-abbrev pub first_scrolls_off : List Event → Display → Bool
-first_scrolls_off [] s = false
-first_scrolls_off (event ∷ events) s = scrolls_off event s
-
--- the first event of the bytes moves a line off
-unfoldable pub next_scrolls_off : State → List ℕ → Bool
-next_scrolls_off s bytes = first_scrolls_off (events_from s.held bytes) s.display

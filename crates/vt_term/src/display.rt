@@ -96,6 +96,7 @@ impl Display {
     }
 
     /// States that the display is sound, for proofs. It does nothing when it runs.
+    #[inline(always)]
     pub(crate) fn soundness(&self)
         ensures { IsSoundDisplay self.now }
     {

@@ -13,6 +13,7 @@ ghost use Rattle.vt_term.specs.Functions.{shift_once, sequence, sequence_in, pla
 ghost use Rattle.vt_term.specs.Functions.{quote_sequences, exclamation_sequences};
 ghost use Rattle.vt_term.specs.Reports.{report, sequence_report};
 
+use crate::codes::{BS, CR, FF, HT, HTS, IND, LF, NEL, RI, SI, SO, SS2, SS3, SUB, VT};
 use crate::display::Display;
 use vt_glyph::{Glyph, Set};
 use vt_syntax::{EventKind, FrontValues, is_final};
@@ -111,21 +112,21 @@ impl Display {
         ensures { self.new ≡ control b self.old }
     {
         match b {
-            0x08 => self.backspace(),
-            0x09 => self.horizontal_tab(),
-            0x0A => self.line_feed(),
-            0x0B => self.line_feed(),
-            0x0C => self.line_feed(),
-            0x0D => self.carriage_return(),
-            0x0E => self.lock_left(1),
-            0x0F => self.lock_left(0),
-            0x1A => self.write_substitute(),
-            0x84 => self.index(),
-            0x85 => self.next_line(),
-            0x88 => self.set_tab(),
-            0x8D => self.reverse_index(),
-            0x8E => self.shift_once(2),
-            0x8F => self.shift_once(3),
+            BS => self.backspace(),
+            HT => self.horizontal_tab(),
+            LF => self.line_feed(),
+            VT => self.line_feed(),
+            FF => self.line_feed(),
+            CR => self.carriage_return(),
+            SO => self.lock_left(1),
+            SI => self.lock_left(0),
+            SUB => self.write_substitute(),
+            IND => self.index(),
+            NEL => self.next_line(),
+            HTS => self.set_tab(),
+            RI => self.reverse_index(),
+            SS2 => self.shift_once(2),
+            SS3 => self.shift_once(3),
             _ => {}
         }
     }

@@ -2,6 +2,7 @@
 #![tactic(auto)]
 
 mod ascii_text;
+mod codes;
 mod copying;
 mod cursor;
 mod display;

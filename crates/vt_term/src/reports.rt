@@ -2,6 +2,7 @@
 ghost use Rattle.std.specs.Prelude.{◌≡◌, ◌+◌, ◌≤◌, ◌<◌, ◌++◌, Some, None, length, decimal, vec_len, vec_capacity};
 ghost use Rattle.vt_term.specs.Reports.{answer, cursor_report, control_report, sequence_report};
 
+use crate::codes::{CSI, DECID};
 use crate::display::Display;
 use itoa::Buffer;
 
@@ -15,7 +16,7 @@ impl Display {
         ensures bounded { vec_len out.new ≤ vec_len out.old + 10 }
         ensures capacity { vec_capacity out.old ≤ vec_capacity out.new }
     {
-        if b == 0x9A {
+        if b == DECID {
             self.answer(b"?62;1;6c", out);
         }
     }
@@ -75,7 +76,7 @@ impl Display {
         ensures capacity { vec_capacity out.old ≤ vec_capacity out.new }
     {
         if self.modes.reports_8bit {
-            out.push(0x9B).unwrap();
+            out.push(CSI).unwrap();
         } else {
             out.extend_from_slice(b"\x1B[").unwrap();
         }
@@ -103,6 +104,7 @@ impl Display {
 }
 
 /// Appends a number of at most three digits.
+#[tactic(auto, using(crate::proofs::GlyphSizes::decimal_short))]
 fn push_number(n: u16, out: &mut Vec<u8>)
     requires small { n < 1000 }
     requires room { vec_len out.old + 3 ≤ vec_capacity out.old }

@@ -1,29 +1,37 @@
-//! Feeding up to a line that scrolls off the top of the screen, so that a caller can read that line before it is lost.
-ghost use Rattle.std.specs.Prelude.{◌≡◌, ◌+◌, ◌*◌, ◌≤◌, ◌<◌, ◌++◌, ◌∷◌, [], ℕ, List, All, true, false, length, take, drop};
-ghost use Rattle.std.specs.Prelude.{slice_index, vec_len, vec_capacity};
-ghost use Rattle.std.specs.Bool.{OnTrue};
-ghost use Rattle.vt_glyph.specs.Invocation.{HasGlyph, has_no_glyph};
+//! Feeding with the lines that scroll off the top of the screen.
+ghost use Rattle.std.specs.Prelude.{◌≡◌, ◌+◌, ◌*◌, ◌≤◌, ◌<◌, ◌++◌, ◌∷◌, ◌&&◌, ◌==◌, [], ℕ, List, true, false, length, take};
+ghost use Rattle.std.specs.Prelude.{flat_map};
+ghost use Rattle.std.specs.Prelude.{vec_len, vec_capacity};
+ghost use Rattle.std.specs.Bool.{OnTrue, OnFalse};
+ghost use Rattle.vt_glyph.specs.Invocation.{has_no_glyph};
 ghost use Rattle.vt_screen.specs.Grid.{row_of};
 ghost use Rattle.vt_syntax.specs.declared.held.Held.TheVariants.{Nothing};
-ghost use Rattle.vt_syntax.specs.Class.{IsPlain};
 ghost use Rattle.vt_syntax.specs.Event.{event_of};
 ghost use Rattle.vt_syntax.specs.Front.{IsFront};
-ghost use Rattle.vt_syntax.specs.Spelling.{IsEvent};
 ghost use Rattle.vt_term.specs.Play.{play};
-ghost use Rattle.vt_term.specs.Scrolling.{is_at_end, is_line_feed, feeds_line, scrolls_off, scrolled_off, next_scrolls_off};
-ghost use Rattle.vt_term.specs.ScrollSteps.{Fits};
+ghost use Rattle.vt_term.specs.Scrolling.{is_at_end, is_line_feed, feeds_line, scrolls_off, scrolled_off};
+ghost use Rattle.vt_term.specs.ScrollSteps.{Feeds, Stops, Fits, next_scrolls_off};
+ghost use Rattle.vt_term.specs.Text.{line_text};
 
-use crate::laws::cuts;
-use crate::terminal::Terminal;
-use vt_syntax::laws::{one_split, spelled};
-use vt_syntax::{EventKind, Front, Taken, Values, front_escape, front_short_escape, front_values};
+use crate::codes::{FF, HALF, IND, LF, NEL, SUB, VT};
+use crate::terminal::{ROW_TEXT_LIMIT, Terminal};
+use vt_syntax::laws::one_split;
+use vt_syntax::{EventKind, Parser, Values};
+
+/// Returns whether playing so many bytes says that it stops: it is none.
+#[inline(always)]
+pub(crate) fn is_stop<const STOPS: bool>(bytes: usize) -> bool
+    ensures { result ≡ (STOPS && (bytes == 0)) }
+{
+    STOPS && bytes == 0
+}
 
 /// Returns whether a control is a line feed.
 #[inline(always)]
 fn is_line_feed(b: u8) -> bool
     ensures { result ≡ is_line_feed b }
 {
-    b == 0x0A || b == 0x0B || b == 0x0C || b == 0x84 || b == 0x85
+    b == LF || b == VT || b == FF || b == IND || b == NEL
 }
 
 /// Returns whether a graphic byte is no character: A0 and FF.
@@ -31,51 +39,82 @@ fn is_line_feed(b: u8) -> bool
 fn has_no_glyph(b: u8) -> bool
     ensures { result ≡ has_no_glyph b }
 {
-    b != 0x20 && (b % 0x80 < 0x21 || b % 0x80 > 0x7E)
+    b != b' ' && (b % HALF < b'!' || b % HALF > b'~')
 }
 
 impl Terminal {
-    /// Plays the front of a chunk of the host's bytes, up to the first event that scrolls a line off the top of the
-    /// screen. Appends the reports to `out`. Returns how many bytes it played: all of them if no event does.
+    /// Plays the front of a chunk of the host's bytes. Appends the reports to `out`, and the text of each line that scrolls
+    /// off the top of the screen to `lines`. Returns how many bytes it played.
     ///
-    /// That line is then row 1, and [`Terminal::feed_past_scroll`] goes on. `out` has capacity for ten more bytes for
-    /// each byte of the chunk. It never fails and allocates nothing.
-    pub fn feed_to_scroll(&mut self, piece: &[u8], out: &mut Vec<u8>) -> usize
+    /// It stops before a line that scrolls off if `lines` has no capacity for it, `ROW_TEXT_LIMIT` bytes. With capacity for a
+    /// line for each byte, it plays the whole chunk. `out` has capacity for ten more bytes for each byte of the chunk. It
+    /// never fails and allocates nothing.
+    pub fn feed_lines_reserved(
+        &mut self,
+        piece: &[u8],
+        out: &mut Vec<u8>,
+        lines: &mut Vec<u8>,
+    ) -> usize
         requires { vec_len out.old + 10 * length piece.now ≤ vec_capacity out.old }
         ensures within { result ≤ length piece.now }
+        ensures all { result < length piece.now → vec_capacity lines.new < vec_len lines.new + ROW_TEXT_LIMIT }
         ensures state { self.new ≡ (play self.old (take result piece.now)).state }
         ensures reports { out.new.items ≡ out.old.items ++ (play self.old (take result piece.now)).reports }
-        ensures none { scrolled_off self.old (take result piece.now) ≡ [] }
-        ensures next { result < length piece.now → next_scrolls_off self.new (drop result piece.now) ≡ true }
+        ensures lines { lines.new.items
+            ≡ lines.old.items ++ flat_map line_text (scrolled_off self.old (take result piece.now)) }
         ensures bounded { vec_len out.new ≤ vec_len out.old + 10 * result }
+        ensures lines_bounded { vec_len lines.new ≤ vec_len lines.old + ROW_TEXT_LIMIT * result }
         ensures capacity { vec_capacity out.old ≤ vec_capacity out.new }
-    {
-        let mut values = Values::new();
-        self.go_to_scroll(piece, &mut values, out)
-    }
-
-    /// Plays the first event of a chunk, which scrolls a line off the top of the screen, and then up to the next event
-    /// that does. Appends the reports to `out`. Returns how many bytes it played: all of them if no other event does.
-    ///
-    /// `out` has capacity for ten more bytes for each byte of the chunk. It never fails and allocates nothing.
-    pub fn feed_past_scroll(&mut self, piece: &[u8], out: &mut Vec<u8>) -> usize
-        requires room { vec_len out.old + 10 * length piece.now ≤ vec_capacity out.old }
-        requires next { next_scrolls_off self.old piece.now ≡ true }
-        ensures some { 1 ≤ result }
-        ensures within { result ≤ length piece.now }
-        ensures state { self.new ≡ (play self.old (take result piece.now)).state }
-        ensures reports { out.new.items ≡ out.old.items ++ (play self.old (take result piece.now)).reports }
-        ensures one { scrolled_off self.old (take result piece.now) ≡ row_of self.old.display.grid 1 ∷ [] }
-        ensures next { result < length piece.now → next_scrolls_off self.new (drop result piece.now) ≡ true }
-        ensures bounded { vec_len out.new ≤ vec_len out.old + 10 * result }
-        ensures capacity { vec_capacity out.old ≤ vec_capacity out.new }
+        ensures lines_capacity { vec_capacity lines.old ≤ vec_capacity lines.new }
     {
         self.soundness();
-        cuts();
         one_split();
         let mut values = Values::new();
-        let first = self.feed_scroll(piece, &mut values, out);
-        first + self.go_to_scroll(&piece[first..], &mut values, out)
+        let mut at = 0;
+        let mut is_full = false;
+        while at < piece.len() && !is_full {
+            let (bytes, stops) = self.lines_first(&piece[at..], &mut values, out, lines);
+            at += bytes;
+            is_full = stops;
+        }
+        at
+    }
+
+    /// Plays the front of a chunk that isn't empty, up to the first event that scrolls a line off, and that event. Appends
+    /// the line's text to `lines`. Returns how many bytes it played, and whether it stopped before the event since `lines`
+    /// has no capacity for the line.
+    #[inline(always)]
+    fn lines_first(
+        &mut self,
+        piece: &[u8],
+        values: &mut Values,
+        out: &mut Vec<u8>,
+        lines: &mut Vec<u8>,
+    ) -> (usize, bool)
+        requires some { 1 ≤ length piece.now }
+        requires room { vec_len out.old + 10 * length piece.now ≤ vec_capacity out.old }
+        ensures some { result.1 ≡ false → 1 ≤ result.0 }
+        ensures within { result.0 ≤ length piece.now }
+        ensures full { OnTrue result.1 (vec_capacity lines.new < vec_len lines.new + ROW_TEXT_LIMIT) }
+        ensures fed { Feeds false self.old (take result.0 piece.now) self.new out.old.items out.new.items }
+        ensures lines { lines.new.items
+            ≡ lines.old.items ++ flat_map line_text (scrolled_off self.old (take result.0 piece.now)) }
+        ensures bounded { vec_len out.new ≤ vec_len out.old + 10 * result.0 }
+        ensures lines_bounded { vec_len lines.new ≤ vec_len lines.old + ROW_TEXT_LIMIT * result.0 }
+        ensures capacity { vec_capacity out.old ≤ vec_capacity out.new }
+        ensures lines_capacity { vec_capacity lines.old ≤ vec_capacity lines.new }
+    {
+        one_split();
+        let bytes = self.feed_until::<true>(piece, values, out);
+        if bytes == piece.len() {
+            return (bytes, false);
+        }
+        if lines.capacity() - lines.len() < ROW_TEXT_LIMIT {
+            return (bytes, true);
+        }
+        self.row_text_reserved(1, lines);
+        let scroll = self.scroll_first(&piece[bytes..], values, out);
+        (bytes + scroll, false)
     }
 
     /// Returns whether an event scrolls line 1 off the top of the screen. It does if it is a line feed at the bottom
@@ -95,7 +134,7 @@ impl Terminal {
         let cursor = self.cursor();
         match kind {
             EventKind::Print(b) => cursor.wrap && !has_no_glyph(b),
-            EventKind::Control(b) => is_line_feed(b) || (b == 0x1A && cursor.wrap),
+            EventKind::Control(b) => is_line_feed(b) || (b == SUB && cursor.wrap),
             EventKind::Escape { .. } => false,
             EventKind::Sequence { .. } => false,
         }
@@ -111,338 +150,82 @@ impl Terminal {
         margins.top == 1 && cursor.row == margins.bottom
     }
 
-    /// Plays the front of a chunk up to the first event that scrolls a line off. Returns how many bytes it played.
-    ///
-    /// Speed: it has the only call of `front_to_scroll`, which is then inlined.
-    #[inline(never)]
-    fn go_to_scroll(&mut self, piece: &[u8], values: &mut Values, out: &mut Vec<u8>) -> usize
-        requires { vec_len out.old + 10 * length piece.now ≤ vec_capacity out.old }
-        ensures within { result ≤ length piece.now }
-        ensures state { self.new ≡ (play self.old (take result piece.now)).state }
-        ensures reports { out.new.items ≡ out.old.items ++ (play self.old (take result piece.now)).reports }
-        ensures none { scrolled_off self.old (take result piece.now) ≡ [] }
-        ensures next { result < length piece.now → next_scrolls_off self.new (drop result piece.now) ≡ true }
-        ensures bounded { vec_len out.new ≤ vec_len out.old + 10 * result }
-        ensures capacity { vec_capacity out.old ≤ vec_capacity out.new }
+    /// Returns whether playing stops before an event, since it scrolls a line off.
+    #[inline(always)]
+    pub(crate) fn stops_before<const STOPS: bool>(&self, kind: EventKind) -> bool
+        ensures { (values : List ℕ) → result ≡ (STOPS && scrolls_off (event_of kind values) self.now.display) }
     {
-        self.soundness();
-        cuts();
-        one_split();
-        let mut at = 0;
-        let mut stops = false;
-        while at < piece.len() && !stops {
-            let (bytes, ends) = self.step_to_scroll(&piece[at..], values, out);
-            at += bytes;
-            stops = ends;
-        }
-        at
+        STOPS && self.scrolls_off(kind)
     }
 
-    /// Plays some of a chunk that isn't empty, up to the first event that scrolls a line off. Returns how many bytes it
-    /// played, and whether the next event scrolls a line off.
+    /// Returns whether playing stops before an event that is whole at the front of a chunk, between sequences.
     #[inline(always)]
-    fn step_to_scroll(
-        &mut self,
-        piece: &[u8],
-        values: &mut Values,
-        out: &mut Vec<u8>,
-    ) -> (usize, bool)
-        requires some { 1 ≤ length piece.now }
-        requires room { vec_len out.old + 10 * length piece.now ≤ vec_capacity out.old }
-        ensures some { result.1 ≡ false → 1 ≤ result.0 }
-        ensures within { result.0 ≤ length piece.now }
-        ensures state { self.new ≡ (play self.old (take result.0 piece.now)).state }
-        ensures reports { out.new.items ≡ out.old.items ++ (play self.old (take result.0 piece.now)).reports }
-        ensures none { scrolled_off self.old (take result.0 piece.now) ≡ [] }
-        ensures next { OnTrue result.1 (next_scrolls_off self.new (drop result.0 piece.now) ≡ true) }
-        ensures bounded { vec_len out.new ≤ vec_len out.old + 10 * result.0 }
-        ensures capacity { vec_capacity out.old ≤ vec_capacity out.new }
-    {
-        if self.is_between() {
-            self.front_to_scroll(piece, values, out)
-        } else {
-            self.event_to_scroll(piece, values, out)
-        }
-    }
-
-    /// Does so between sequences, by the kind of the front.
-    ///
-    /// Speed: without this, `event_to_scroll` does the same.
-    #[inline(always)]
-    fn front_to_scroll(
-        &mut self,
-        piece: &[u8],
-        values: &mut Values,
-        out: &mut Vec<u8>,
-    ) -> (usize, bool)
-        requires some { 1 ≤ length piece.now }
-        requires room { vec_len out.old + 10 * length piece.now ≤ vec_capacity out.old }
-        requires between { self.old.held ≡ Nothing }
-        ensures some { result.1 ≡ false → 1 ≤ result.0 }
-        ensures within { result.0 ≤ length piece.now }
-        ensures state { self.new ≡ (play self.old (take result.0 piece.now)).state }
-        ensures reports { out.new.items ≡ out.old.items ++ (play self.old (take result.0 piece.now)).reports }
-        ensures none { scrolled_off self.old (take result.0 piece.now) ≡ [] }
-        ensures next { OnTrue result.1 (next_scrolls_off self.new (drop result.0 piece.now) ≡ true) }
-        ensures bounded { vec_len out.new ≤ vec_len out.old + 10 * result.0 }
-        ensures capacity { vec_capacity out.old ≤ vec_capacity out.new }
-    {
-        match Front::of(piece) {
-            Front::Escape => self.escape_to_scroll(piece, values, out),
-            Front::Plain => self.plain_to_scroll(piece),
-            Front::CarriageReturn => self.return_to_scroll(piece),
-            Front::Right => self.graphics_to_scroll(piece),
-            Front::Control(control) => self.whole_to_scroll(
-                piece,
-                1,
-                EventKind::Control(control),
-                out,
-            ),
-            Front::Empty => self.event_to_scroll(piece, values, out),
-            Front::Introducer => self.event_to_scroll(piece, values, out),
-            Front::Other => self.event_to_scroll(piece, values, out),
-        }
-    }
-
-    /// Does so at ESC: up to the first event.
-    #[inline(always)]
-    fn escape_to_scroll(
-        &mut self,
-        piece: &[u8],
-        values: &mut Values,
-        out: &mut Vec<u8>,
-    ) -> (usize, bool)
-        requires some { 1 ≤ length piece.now }
-        requires room { vec_len out.old + 10 * length piece.now ≤ vec_capacity out.old }
-        requires between { self.old.held ≡ Nothing }
-        ensures some { result.1 ≡ false → 1 ≤ result.0 }
-        ensures within { result.0 ≤ length piece.now }
-        ensures state { self.new ≡ (play self.old (take result.0 piece.now)).state }
-        ensures reports { out.new.items ≡ out.old.items ++ (play self.old (take result.0 piece.now)).reports }
-        ensures none { scrolled_off self.old (take result.0 piece.now) ≡ [] }
-        ensures next { OnTrue result.1 (next_scrolls_off self.new (drop result.0 piece.now) ≡ true) }
-        ensures bounded { vec_len out.new ≤ vec_len out.old + 10 * result.0 }
-        ensures capacity { vec_capacity out.old ≤ vec_capacity out.new }
-    {
-        if let Some(front) = front_values(piece) {
-            if self.display.carry_out_values(&front, out) {
-                return (front.bytes, false);
-            }
-        }
-        self.other_escape_to_scroll(piece, values, out)
-    }
-
-    /// Does so at a sequence that begins with ESC and that `front_values` doesn't read.
-    #[inline(always)]
-    fn other_escape_to_scroll(
-        &mut self,
-        piece: &[u8],
-        values: &mut Values,
-        out: &mut Vec<u8>,
-    ) -> (usize, bool)
-        requires some { 1 ≤ length piece.now }
-        requires room { vec_len out.old + 10 * length piece.now ≤ vec_capacity out.old }
-        requires between { self.old.held ≡ Nothing }
-        ensures some { result.1 ≡ false → 1 ≤ result.0 }
-        ensures within { result.0 ≤ length piece.now }
-        ensures state { self.new ≡ (play self.old (take result.0 piece.now)).state }
-        ensures reports { out.new.items ≡ out.old.items ++ (play self.old (take result.0 piece.now)).reports }
-        ensures none { scrolled_off self.old (take result.0 piece.now) ≡ [] }
-        ensures next { OnTrue result.1 (next_scrolls_off self.new (drop result.0 piece.now) ≡ true) }
-        ensures bounded { vec_len out.new ≤ vec_len out.old + 10 * result.0 }
-        ensures capacity { vec_capacity out.old ≤ vec_capacity out.new }
-    {
-        if let Some((inter, last)) = front_escape(piece) {
-            let inter = Some(inter);
-            return self.whole_to_scroll(piece, 3, EventKind::Escape { inter, last }, out);
-        }
-        if let Some(kind) = front_short_escape(piece) {
-            return self.whole_to_scroll(piece, 2, kind, out);
-        }
-        self.event_to_scroll(piece, values, out)
-    }
-
-    /// Carries out an event that is whole at the front of a chunk, between sequences, unless it scrolls a line off.
-    /// Returns as `step_to_scroll` does.
-    #[inline(always)]
-    fn whole_to_scroll(
-        &mut self,
+    pub(crate) fn stops_at<const STOPS: bool>(
+        &self,
         piece: &[u8],
         bytes: usize,
         kind: EventKind,
-        out: &mut Vec<u8>,
-    ) -> (usize, bool)
+    ) -> bool
         requires front { IsFront piece.now bytes (event_of kind []) }
-        requires room { vec_len out.old + 10 ≤ vec_capacity out.old }
-        requires between { self.old.held ≡ Nothing }
-        ensures some { result.1 ≡ false → 1 ≤ result.0 }
-        ensures within { result.0 ≤ length piece.now }
-        ensures state { self.new ≡ (play self.old (take result.0 piece.now)).state }
-        ensures reports { out.new.items ≡ out.old.items ++ (play self.old (take result.0 piece.now)).reports }
-        ensures none { scrolled_off self.old (take result.0 piece.now) ≡ [] }
-        ensures next { OnTrue result.1 (next_scrolls_off self.new (drop result.0 piece.now) ≡ true) }
-        ensures bounded { vec_len out.new ≤ vec_len out.old + 10 * result.0 }
-        ensures capacity { vec_capacity out.old ≤ vec_capacity out.new }
-    {
-        if self.scrolls_off(kind) {
-            self.soundness();
-            cuts();
-            one_split();
-            return (0, true);
-        }
-        self.carry_out_front(kind, &[], out);
-        (bytes, false)
-    }
-
-    /// Plays the front of a chunk up to the first event, by the parser, unless it scrolls a line off. Returns as
-    /// `step_to_scroll` does.
-    #[inline(never)]
-    fn event_to_scroll(
-        &mut self,
-        piece: &[u8],
-        values: &mut Values,
-        out: &mut Vec<u8>,
-    ) -> (usize, bool)
-        requires some { 1 ≤ length piece.now }
-        requires room { vec_len out.old + 10 * length piece.now ≤ vec_capacity out.old }
-        ensures some { result.1 ≡ false → 1 ≤ result.0 }
-        ensures within { result.0 ≤ length piece.now }
-        ensures state { self.new ≡ (play self.old (take result.0 piece.now)).state }
-        ensures reports { out.new.items ≡ out.old.items ++ (play self.old (take result.0 piece.now)).reports }
-        ensures none { scrolled_off self.old (take result.0 piece.now) ≡ [] }
-        ensures next { OnTrue result.1 (next_scrolls_off self.new (drop result.0 piece.now) ≡ true) }
-        ensures bounded { vec_len out.new ≤ vec_len out.old + 10 * result.0 }
-        ensures capacity { vec_capacity out.old ≤ vec_capacity out.new }
+        requires between { self.now.held ≡ Nothing }
+        ensures stops { OnTrue result (Stops STOPS self.now piece.now) }
+        ensures stays { OnFalse result (STOPS ≡ true → scrolls_off (event_of kind []) self.now.display ≡ false) }
+        ensures nothing { (out : List ℕ) → Feeds STOPS self.now [] self.now out out }
     {
         self.soundness();
-        cuts();
         one_split();
-        let mut parser = self.parser.copied();
-        let Taken { bytes, event } = parser.next(piece, values);
-        if let Some(kind) = event {
-            if self.scrolls_off(kind) {
-                return (0, true);
-            }
-            self.parser = parser;
-            self.display.carry_out(kind, values.as_slice(), out);
+        self.stops_before::<STOPS>(kind)
+    }
+
+    /// Returns the parser if playing may stop, so that it may be put back.
+    #[inline(always)]
+    pub(crate) fn parser_before<const STOPS: bool>(&self) -> Parser
+        ensures { STOPS ≡ true → result ≡ self.now.held }
+    {
+        if STOPS {
+            self.parser.copied()
         } else {
-            self.parser = parser;
+            Parser::new()
         }
-        (bytes, false)
+    }
+
+    /// Returns how many bytes at the front of a chunk, which are characters, may be written before one may scroll a
+    /// line off. The first one doesn't. It is the whole chunk if playing doesn't stop.
+    #[inline(always)]
+    pub(crate) fn row_first<const STOPS: bool>(&self, piece: &[u8]) -> usize
+        requires some { 1 ≤ length piece.now }
+        requires stays { STOPS ≡ true → (self.now.display.cursor.wrap && is_at_end self.now.display) ≡ false }
+        ensures some { 1 ≤ result }
+        ensures within { result ≤ length piece.now }
+        ensures fits { STOPS ≡ true → Fits result self.now.display }
+    {
+        if !STOPS {
+            return piece.len();
+        }
+        let cursor = self.cursor();
+        if cursor.wrap {
+            return 1;
+        }
+        piece.len().min(self.width() + 1 - cursor.col)
     }
 
     /// Plays the first event of a chunk, which scrolls a line off. Returns how many bytes it played.
     #[inline(always)]
-    fn feed_scroll(&mut self, piece: &[u8], values: &mut Values, out: &mut Vec<u8>) -> usize
+    fn scroll_first(&mut self, piece: &[u8], values: &mut Values, out: &mut Vec<u8>) -> usize
         requires some { 1 ≤ length piece.now }
         requires room { vec_len out.old + 10 * length piece.now ≤ vec_capacity out.old }
         requires next { next_scrolls_off self.old piece.now ≡ true }
         ensures some { 1 ≤ result }
         ensures within { result ≤ length piece.now }
-        ensures state { self.new ≡ (play self.old (take result piece.now)).state }
-        ensures reports { out.new.items ≡ out.old.items ++ (play self.old (take result piece.now)).reports }
-        ensures one { scrolled_off self.old (take result piece.now) ≡ row_of self.old.display.grid 1 ∷ [] }
+        ensures fed { Feeds false self.old (take result piece.now) self.new out.old.items out.new.items }
+        ensures line { scrolled_off self.old (take result piece.now) ≡ row_of self.old.display.grid 1 ∷ [] }
         ensures bounded { vec_len out.new ≤ vec_len out.old + 10 * result }
         ensures capacity { vec_capacity out.old ≤ vec_capacity out.new }
     {
-        self.soundness();
-        one_split();
-        spelled();
-        if self.is_between() && piece[0] == 0x0A {
-            self.control_between(piece[0]);
+        if self.is_between() && piece[0] == LF {
+            self.carry_out_front::<false>(piece, 1, EventKind::Control(LF), out);
             return 1;
         }
-        self.feed_by_parser(piece, values, out)
-    }
-
-    /// Returns how many characters may be written before one scrolls a line off, as far as the cursor's row tells. It
-    /// returns 0 if and only if the next one does.
-    #[inline(always)]
-    fn characters_to_scroll(&self) -> usize
-        ensures fits { Fits result self.now.display }
-        ensures next { result ≡ 0 → (self.now.display.cursor.wrap ≡ true) × (is_at_end self.now.display ≡ true) }
-    {
-        let cursor = self.cursor();
-        if cursor.wrap {
-            return if self.is_at_end() { 0 } else { 1 };
-        }
-        self.width() + 1 - cursor.col
-    }
-
-    /// Plays graphic bytes at the front of a chunk that begins with a plain one, between sequences, up to one that may
-    /// scroll a line off. Returns as `step_to_scroll` does.
-    #[inline(always)]
-    fn plain_to_scroll(&mut self, piece: &[u8]) -> (usize, bool)
-        requires some { 1 ≤ length piece.now }
-        requires plain { IsPlain (slice_index piece.now 0) }
-        requires between { self.old.held ≡ Nothing }
-        ensures some { result.1 ≡ false → 1 ≤ result.0 }
-        ensures within { result.0 ≤ length piece.now }
-        ensures state { self.new ≡ (play self.old (take result.0 piece.now)).state }
-        ensures reports { (play self.old (take result.0 piece.now)).reports ≡ [] }
-        ensures none { scrolled_off self.old (take result.0 piece.now) ≡ [] }
-        ensures next { OnTrue result.1 (next_scrolls_off self.new (drop result.0 piece.now) ≡ true) }
-    {
-        self.soundness();
-        cuts();
-        one_split();
-        spelled();
-        let bytes = self.characters_to_scroll().min(piece.len());
-        if bytes == 0 {
-            return (0, true);
-        }
-        (self.feed_ascii(&piece[..bytes]), false)
-    }
-
-    /// Does so if the chunk begins with any graphic byte.
-    #[inline(always)]
-    fn graphics_to_scroll(&mut self, piece: &[u8]) -> (usize, bool)
-        requires some { 1 ≤ length piece.now }
-        requires graphic { HasGlyph (slice_index piece.now 0) }
-        requires between { self.old.held ≡ Nothing }
-        ensures some { result.1 ≡ false → 1 ≤ result.0 }
-        ensures within { result.0 ≤ length piece.now }
-        ensures state { self.new ≡ (play self.old (take result.0 piece.now)).state }
-        ensures reports { (play self.old (take result.0 piece.now)).reports ≡ [] }
-        ensures none { scrolled_off self.old (take result.0 piece.now) ≡ [] }
-        ensures next { OnTrue result.1 (next_scrolls_off self.new (drop result.0 piece.now) ≡ true) }
-    {
-        self.soundness();
-        cuts();
-        one_split();
-        spelled();
-        let bytes = self.characters_to_scroll().min(piece.len());
-        if bytes == 0 {
-            return (0, true);
-        }
-        (self.feed_graphics(&piece[..bytes]), false)
-    }
-
-    /// Plays CR at the front of a chunk, and LF if it follows and scrolls no line off. Returns as
-    /// `step_to_scroll` does.
-    #[inline(always)]
-    fn return_to_scroll(&mut self, piece: &[u8]) -> (usize, bool)
-        requires some { 1 ≤ length piece.now }
-        requires carriage_return { slice_index piece.now 0 ≡ 0x0D }
-        requires between { self.old.held ≡ Nothing }
-        ensures some { result.1 ≡ false → 1 ≤ result.0 }
-        ensures within { result.0 ≤ length piece.now }
-        ensures state { self.new ≡ (play self.old (take result.0 piece.now)).state }
-        ensures reports { (play self.old (take result.0 piece.now)).reports ≡ [] }
-        ensures next { OnTrue result.1 (next_scrolls_off self.new (drop result.0 piece.now) ≡ true) }
-        ensures none { scrolled_off self.old (take result.0 piece.now) ≡ [] }
-    {
-        one_split();
-        spelled();
-        self.control_between(piece[0]);
-        if piece.len() < 2 || piece[1] != 0x0A {
-            return (1, false);
-        }
-        if self.is_at_end() {
-            return (1, true);
-        }
-        cuts();
-        self.control_between(piece[1]);
-        (2, false)
+        self.feed_by_parser::<false>(piece, values, out)
     }
 }

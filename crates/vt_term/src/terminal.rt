@@ -51,6 +51,7 @@ impl Terminal {
     }
 
     /// States that the terminal is sound, for proofs. It does nothing when it runs.
+    #[inline(always)]
     pub(crate) fn soundness(&self)
         ensures { IsSound self.now }
     {

@@ -69,13 +69,17 @@ fn without_trailing_spaces(cells: &[Cell]) -> &[Cell]
     ensures shorter { length result.now ≤ length cells.now }
 {
     let mut end = cells.len();
-    while end > 0 && shows_space(&cells[end - 1]) {
+    while end > 0 {
+        if !shows_space(&cells[end - 1]) {
+            return &cells[..end];
+        }
         end -= 1;
     }
-    &cells[..end]
+    &cells[..0]
 }
 
 /// Appends a glyph's character in UTF-8, at most three bytes, for which `out` has capacity.
+#[tactic(auto, using(crate::proofs::GlyphSizes::glyph_short))]
 fn push_glyph(glyph: Glyph, out: &mut Vec<u8>)
     requires { vec_len out.old + 3 ≤ vec_capacity out.old }
     ensures items { out.new.items ≡ out.old.items ++ encode_utf8 glyph }

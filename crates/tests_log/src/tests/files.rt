@@ -78,28 +78,28 @@ fn lines_wait_for_room(rt: HostRuntime) -> Result<(), Fail> {
     Ok(())
 }
 
-/// Returns the first line that scrolls off, read before the event that scrolls it off, and how many bytes were played up to
-/// that event and up to the next one.
-fn first_line(alloc: Global, input: &[u8]) -> Result<(Vec<u8>, usize, usize), Fail> {
+/// Returns the lines that scroll off as far as they fit, and how many bytes were played.
+fn fitting_lines(alloc: Global, input: &[u8], capacity: usize) -> Result<(Vec<u8>, usize), Fail> {
     let piece = &input[..input.len().min(4096)];
     let mut terminal = Terminal::new(alloc)?;
     let mut reports = Vec::with_capacity(alloc, 40960)?;
-    let mut line = Vec::with_capacity(alloc, LINE_LIMIT)?;
-    let first = terminal.feed_to_scroll(piece, &mut reports);
-    if first == piece.len() {
-        return Ok((line, first, 0));
-    }
-    terminal.row_text_reserved(1, &mut line);
-    let (_played, rest) = piece.split_at(first);
-    let second = terminal.feed_past_scroll(rest, &mut reports);
-    Ok((line, first, second))
+    let mut lines = Vec::with_capacity(alloc, capacity)?;
+    let played = terminal.feed_lines_reserved(piece, &mut reports, &mut lines);
+    Ok((lines, played))
 }
 
 /// Returns whether the first of 30 lines scrolls off at the LF of the 24th, behind 373 bytes. Ten of these lines have 15 bytes
 /// each and the others 16, so the next one scrolls off 16 bytes later.
 fn is_read_in_time(alloc: Global) -> Result<bool, Fail> {
-    let (line, first, second) = first_line(alloc, &numbered(alloc, 30, b"\r\n")?)?;
-    Ok(line.as_slice() == b"line number 0\n".as_slice() && first == 373 && second == 16)
+    let input = numbered(alloc, 30, b"\r\n")?;
+    let (none, first) = fitting_lines(alloc, &input, 0)?;
+    let (line, second) = fitting_lines(alloc, &input, LINE_LIMIT)?;
+    Ok(
+        none.is_empty()
+            && first == 373
+            && line.as_slice() == b"line number 0\n".as_slice()
+            && second == 389,
+    )
 }
 
 #[test]

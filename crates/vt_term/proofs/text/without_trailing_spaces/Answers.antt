@@ -1,47 +1,34 @@
-use Rattle.std.proofs.Common.{◌≡◌, ◌≢◌, ◌∙◌, ◌-◌, ◌+◌, ◌<◌, ℕ, List, length, get_or, take, ap, arith, sym}
+use Rattle.std.proofs.Common.{◌∙◌, ◌-◌, ◌<◌, length, ap, arith, sym}
 use Rattle.std.specs.List.{take-map}
-use Rattle.vt_glyph.specs.Tables.{space}
 use Rattle.vt_screen.specs.declared.cell.Cell.{Cell}
-use Rattle.vt_term.specs.Text.{trimmed, glyphs_of}
-use Rattle.vt_term.proofs.Lines.{trimmed-take-space, trimmed-take-glyph, glyph-at, length-glyphs}
+use Rattle.vt_term.specs.Text.{glyphs_of}
+use Rattle.std.proofs.lemmas.List.{length-map, get_or-map}
+use Rattle.vt_term.proofs.Lines.{trimmed-take-space, trimmed-take-glyph}
 use Rattle.vt_term.proofs.text.without_trailing_spaces.Goals as goal
-use Rattle.vt_term.proofs.text.without_trailing_spaces.Goals.{then-loop-end-test+else-shows_space, else-loop-end-test}
 
 pub loop-end-preserved : goal.loop-end-preserved
 loop-end-preserved c =
-    let cells : List Cell = c.args.cells.now in
-    let last : ℕ = c.loop-end.end - 1 in
-    let end : last + 1 ≡ c.loop-end.end = omega arith in
-    let below : last < length cells = omega (arith, c.loop-end.invariant.within) in
-    let shown : get_or (glyphs_of cells) last 0 ≡ space =
-    glyph-at cells last c.index-cells-end.result below ∙ ap (λ (cell : Cell). cell.glyph) (sym c.index-cells-end.is)
-    ∙ c.shows_space.ensures.0 c.if-shows_space.true in
+    let cells = c.args.cells.now in
+    let end = c.loop-end.end in
+    let below : end - 1 < length cells = omega (arith, c.loop-end-test.true, c.loop-end.invariant.within) in
+    let place = get_or-map (λ (cell : Cell). cell.glyph) cells (end - 1) c.index-cells-end.result 0 below
+    ∙ ap (λ (cell : Cell). cell.glyph) (sym c.index-cells-end.is) in
     record {
       within = omega (arith, c.loop-end.invariant.within);
       same = c.loop-end.invariant.same
-          ∙ ap (λ n. trimmed (take n (glyphs_of cells))) (sym end)
-          ∙ trimmed-take-space (glyphs_of cells) last (omega (arith, length-glyphs cells)) shown;
+          ∙ trimmed-take-space (glyphs_of cells) (end - 1) end (omega (arith, c.loop-end-test.true))
+          (omega (arith, length-map cells (λ (cell : Cell). cell.glyph), below)) (place ∙ c.shows_space.ensures.0 c.if-not-shows_space.false);
     }
 
-pub returns-clause-value : goal.returns-clause-value
-returns-clause-value c =
-    let cells : List Cell = c.args.cells.now in
-    sym (take-map (λ (cell : Cell). cell.glyph) c.loop-end.end cells) ∙ elim c.loop-end-test.branch [
-      | then-loop-end-test+else-shows_space w ↦
-          let last : ℕ = c.loop-end.end - 1 in
-          let end : last + 1 ≡ c.loop-end.end = omega arith in
-          let below : last < length cells = omega (arith, c.loop-end.invariant.within) in
-          let place =
-          glyph-at cells last w.index-cells-end.result below
-          ∙ ap (λ (cell : Cell). cell.glyph) (sym w.index-cells-end.is) in
-          let shown : get_or (glyphs_of cells) last 0 ≢ space =
-          λ e. absurd (cc (w.shows_space.ensures.1 (sym place ∙ e), w.if-shows_space.false)) in
-          sym (c.loop-end.invariant.same
-          ∙ ap (λ n. trimmed (take n (glyphs_of cells))) (sym end)
-          ∙ trimmed-take-glyph (glyphs_of cells) last (omega (arith, length-glyphs cells)) shown
-          ∙ ap (λ n. take n (glyphs_of cells)) end)
-      | else-loop-end-test w ↦
-          let none : c.loop-end.end ≡ 0 = omega (arith, w.loop-end-test.false) in
-          ap (λ n. take n (glyphs_of cells)) none
-          ∙ sym (c.loop-end.invariant.same ∙ ap (λ n. trimmed (take n (glyphs_of cells))) none)
-    ]
+pub returns-then-not-shows_space-clause-value : goal.returns-then-not-shows_space-clause-value
+returns-then-not-shows_space-clause-value c =
+    let cells = c.args.cells.now in
+    let end = c.loop-end.end in
+    let below : end - 1 < length cells = omega (arith, c.loop-end-test.true, c.loop-end.invariant.within) in
+    let place = get_or-map (λ (cell : Cell). cell.glyph) cells (end - 1) c.index-cells-end.result 0 below
+    ∙ ap (λ (cell : Cell). cell.glyph) (sym c.index-cells-end.is) in
+    sym (c.loop-end.invariant.same
+    ∙ trimmed-take-glyph (glyphs_of cells) (end - 1) end (omega (arith, c.loop-end-test.true))
+    (omega (arith, length-map cells (λ (cell : Cell). cell.glyph), below))
+    (λ e. absurd (cc (c.shows_space.ensures.1 (sym place ∙ e), c.if-not-shows_space.true)))
+    ∙ take-map (λ (cell : Cell). cell.glyph) end cells)

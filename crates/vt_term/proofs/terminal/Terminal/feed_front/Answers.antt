@@ -1,7 +1,7 @@
+use Rattle.std.proofs.Common.{arith, inr}
+use Rattle.vt_term.proofs.Bytes.{graphic-front}
 use Rattle.vt_term.proofs.terminal.Terminal.feed_front.Goals as goal
 
-pub returns-in-Control-clause-state : goal.returns-in-Control-clause-state
-returns-in-Control-clause-state c = c.carry_out_front.ensures.state c.args.piece.now 1 c.in-Control.ensures.begins
-
-pub returns-in-Control-clause-reports : goal.returns-in-Control-clause-reports
-returns-in-Control-clause-reports c = c.carry_out_front.ensures.reports c.args.piece.now 1 c.in-Control.ensures.begins
+pub event_first-requires-in-Empty-clause-front : goal.event_first-requires-in-Empty-clause-front
+event_first-requires-in-Empty-clause-front g c =
+    graphic-front c.args.piece.now c.requires.some (inr (omega (arith, c.in-Empty.ensures.begins)))

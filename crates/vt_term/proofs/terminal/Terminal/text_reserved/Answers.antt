@@ -1,30 +1,24 @@
-use Rattle.std.proofs.Common.{◌≡◌, ◌∙◌, ◌-◌, ◌+◌, ◌++◌, ℕ, List, ap, append-nil, append_assoc, arith, refl, sym}
-use Rattle.vt_screen.specs.Grid.{Grid, row_of}
+use Rattle.std.proofs.Common.{◌≡◌, ◌∙◌, ◌-◌, ◌+◌, ◌++◌, ℕ, suc, List, ap, append_assoc, arith, refl}
+use Rattle.std.specs.List.{range_with_len, flat_map}
+use Rattle.vt_screen.specs.Grid.{row_of}
 use Rattle.vt_term.specs.Text.{lines_text, line_text}
-use Rattle.vt_term.proofs.Lines.{lines_text-more, lines_text-none}
 use Rattle.vt_term.proofs.terminal.Terminal.text_reserved.Goals as goal
 
 pub loop-row-init : goal.loop-row-init
-loop-row-init c = record {
-  items = rw (lines_text-none c.args.self.now.display.grid, append-nil) refl;
-  bounded = omega arith;
-  capacity = omega arith;
-}
+unfolding lines_text
+loop-row-init c = record { items = refl; bounded = omega arith; capacity = omega arith }
 
 pub loop-row-preserved : goal.loop-row-preserved
 loop-row-preserved c =
-    let grid : Grid = c.args.self.now.display.grid in
     let row : ℕ = c.loop-row.row in
-    let next : row + 1 - 1 ≡ row - 1 + 1 = omega arith in
-    let here : row - 1 + 1 ≡ row = omega arith in
-    let more : lines_text (row + 1 - 1) grid ≡ lines_text (row - 1) grid ++ line_text c.row.result.now =
-    rw (next, c.row.ensures.cells) (lines_text-more (row - 1) grid
-    ∙ ap (λ r. lines_text (row - 1) grid ++ line_text (row_of grid r)) here) in
+    let line : List ℕ = line_text c.row.result.now in
+    let rest : List ℕ =
+    flat_map (λ r. line_text (row_of c.args.self.now.display.grid r)) (range_with_len (row + 1) (25 - (row + 1))) in
+    let more : 25 - row ≡ suc (25 - (row + 1)) = omega arith in
     record {
-      items = c.push_line.ensures.items
-          ∙ ap (λ (t : List ℕ). t ++ line_text c.row.result.now) c.loop-row.invariant.items
-          ∙ append_assoc c.args.out.now.items (lines_text (row - 1) grid) (line_text c.row.result.now)
-          ∙ ap (λ (t : List ℕ). c.args.out.now.items ++ t) (sym more);
+      items = ap (λ (t : List ℕ). t ++ rest) c.push_line.ensures.items
+          ∙ append_assoc c.loop-row.out.items line rest
+          ∙ rw c.row.ensures.cells (rw more at c.loop-row.invariant.items);
       bounded = omega (arith, c.row.ensures.width);
       capacity = omega arith;
     }

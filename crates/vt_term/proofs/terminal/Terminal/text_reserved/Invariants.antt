@@ -1,10 +1,14 @@
 use Rattle.std.proofs.Common.{◌≡◌, ◌+◌, ◌-◌, ◌*◌, ◌≤◌, ◌++◌, vec_len, vec_capacity}
-use Rattle.vt_term.specs.Text.{lines_text}
+use Rattle.std.specs.List.{range_with_len, flat_map}
+use Rattle.vt_screen.specs.Grid.{row_of}
+use Rattle.vt_term.specs.Text.{text, line_text}
 use Rattle.vt_term.proofs.terminal.Terminal.text_reserved.Given as goal
 
+-- what is appended, and the lines of the rows from this one on
 abbrev pub invariant-loop-row : goal.invariant-loop-row
 invariant-loop-row l = record {
-  items : l.out.items ≡ l.initial.out.items ++ lines_text (l.row - 1) l.self.display.grid;
+  items : l.out.items ++ flat_map (λ r. line_text (row_of l.self.display.grid r)) (range_with_len l.row (25 - l.row))
+      ≡ l.initial.out.items ++ text l.self;
   bounded : vec_len l.out ≤ vec_len l.initial.out + 397 * (l.row - 1);
   capacity : vec_capacity l.initial.out ≤ vec_capacity l.out;
 }

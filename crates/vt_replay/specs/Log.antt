@@ -2,7 +2,7 @@
 use Rattle.std.specs.Prelude.{◌≡◌, ◌⊎◌, ℕ, ◌≤◌, ◌+◌, ◌++◌, List, [], length, take, true, false, Result, Ok, Err}
 use Rattle.vt_device.specs.Runs.{Flags, AreFlags}
 use Rattle.vt_device.specs.Writing.{IsProperBeginning}
-use Rattle.vt_term.specs.State.{State, power_up}
+use Rattle.vt_term.specs.State.{power_up}
 use Rattle.vt_term.specs.Play.{play}
 use Rattle.vt_term.specs.Text.{text}
 use Rattle.vt_log.specs.Log.{log}
@@ -43,21 +43,4 @@ LogTable (Err Partial) piece b w f limit = ⊥
 LogTable (Err Read) piece b w f limit = AreFlags f true false false × (length b ≤ limit) × (w ≡ log power_up b)
 LogTable (Err Write) piece b w f limit = IsCutLog piece b w f × (length b ≤ limit)
 LogTable (Err TooLong) piece b w f limit = AreFlags f false false false × (length b ≡ limit + 1)
-    × (w ≡ log power_up (take limit b))
-
--- ---- the parts of a log
-
--- the bytes were played, and their lines written
-pub record IsLogged (t : State) (b w : List ℕ) : Type 0 where
-  pub state : t ≡ (play power_up b).state
-  pub lines : w ≡ log power_up b
-
--- what each answer of the reading part says
-abbrev pub LinesTable : Result (Unit {0}) Fault → (t : State) → (piece : ℕ) → (b w : List ℕ) → Flags → (limit : ℕ) → Type 0
-LinesTable (Ok u) t piece b w f limit = AreFlags f false true false × (length b ≤ limit) × IsLogged t b w
-LinesTable (Err Memory) t piece b w f limit = ⊥
-LinesTable (Err Partial) t piece b w f limit = ⊥
-LinesTable (Err Read) t piece b w f limit = AreFlags f true false false × (length b ≤ limit) × (w ≡ log power_up b)
-LinesTable (Err Write) t piece b w f limit = AreFlags f false false true × (length b ≤ limit) × IsCutInLines piece b w
-LinesTable (Err TooLong) t piece b w f limit = AreFlags f false false false × (length b ≡ limit + 1)
     × (w ≡ log power_up (take limit b))

@@ -1,6 +1,6 @@
 //! The replay of an input: it allocates all memory first, and its loops allocate none.
 ghost use Rattle.std.specs.Prelude.{◌≡◌, ◌≢◌, IsTrue, ◌+◌, ◌*◌, ◌≤◌, ◌<◌, ◌++◌, [], true, false, length, vec_len};
-ghost use Rattle.std.specs.Prelude.{vec_capacity, IfOk, IfErr};
+ghost use Rattle.std.specs.Prelude.{vec_capacity, IfOk};
 ghost use Rattle.std.specs.Io.KnownBytes.{IsAtEnd};
 ghost use Rattle.vt_term.specs.State.{power_up};
 ghost use Rattle.vt_syntax.specs.declared.held.Held.TheVariants.{Nothing};
@@ -11,7 +11,7 @@ ghost use Rattle.vt_replay.specs.Run.{Table, ReadTable};
 
 use crate::fault::Fault;
 use crate::status::{STATUS_LIMIT, push_status};
-use std::alloc::Global;
+use std::alloc::{AllocError, Global};
 use std::io::{Read, Write};
 use vt_cli::{Settings, What};
 use vt_device::{Watched, write_whole};
@@ -76,14 +76,13 @@ struct Room {
 
 impl Room {
     /// Allocates the memory for chunks of so many bytes and for what is due at the end, with a terminal as at power-up.
-    /// `Err` is `Memory`.
-    fn new(alloc: Global, what: What, piece: usize) -> Result<Room, Fault>
+    /// `Err` means that allocation failed.
+    fn new(alloc: Global, what: What, piece: usize) -> Result<Room, AllocError>
         requires { piece ≤ 65536 }
         ensures terminal { IfOk result (λ room. room.terminal ≡ power_up) }
         ensures buffer { IfOk result (λ room. length room.buffer.items ≡ piece) }
         ensures reports { IfOk result (λ room. 10 * piece ≤ vec_capacity room.out) }
         ensures at_end { IfOk result (λ room. room_for what ≤ vec_capacity room.out) }
-        ensures memory { IfErr result (λ fault. fault ≡ Fault.Memory) }
     {
         Ok(Room {
             terminal: Terminal::new(alloc)?,

@@ -1,5 +1,5 @@
 //! An output: what is written of the host's bytes as they come, and at their end.
-ghost use Rattle.std.specs.Prelude.{◌≡◌, ◌+◌, ◌*◌, ◌^◌, ◌≤◌, ◌<◌, ◌++◌, [], true, false, length, take, vec_capacity, IfOk, IfErr, List, ℕ};
+ghost use Rattle.std.specs.Prelude.{◌≡◌, ◌+◌, ◌*◌, ◌^◌, ◌≤◌, ◌<◌, ◌++◌, [], true, false, length, take, vec_capacity, IfOk, List, ℕ};
 ghost use Rattle.std.specs.Bool.{OnTrue};
 ghost use Rattle.std.specs.Io.KnownBytes.{IsAtEnd};
 ghost use Rattle.vt_device.specs.Runs.{Moves};
@@ -7,7 +7,7 @@ ghost use Rattle.vt_device.specs.Writing.{Gives, WriteTable};
 ghost use Rattle.vt_replay.specs.Output.{IsAfter, OutputTable, ComingTable};
 
 use crate::fault::Fault;
-use std::alloc::Global;
+use std::alloc::{AllocError, Global};
 use std::io::{Read, Write};
 use vt_device::{Watched, write_whole};
 
@@ -105,11 +105,10 @@ struct Room {
 }
 
 impl Room {
-    /// Allocates the memory for chunks of so many bytes, and for so many bytes at once. `Err` is `Memory`.
-    fn new(alloc: Global, piece: usize, capacity: usize) -> Result<Room, Fault>
+    /// Allocates the memory for chunks of so many bytes, and for so many bytes at once. `Err` means that allocation failed.
+    fn new(alloc: Global, piece: usize, capacity: usize) -> Result<Room, AllocError>
         ensures buffer { IfOk result (λ room. length room.buffer.items ≡ piece) }
         ensures out { IfOk result (λ room. capacity ≤ vec_capacity room.out) }
-        ensures memory { IfErr result (λ fault. fault ≡ Fault.Memory) }
     {
         Ok(Room {
             buffer: vec![in alloc; 0u8; piece]?,

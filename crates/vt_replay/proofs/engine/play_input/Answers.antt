@@ -1,5 +1,5 @@
-use Rattle.std.proofs.Common.{◌≡◌, ℕ, ◌*◌, ◌≤◌, ◌<◌, List, [], length, take, nat_lt, true, false, ap, sym, refl, ◌∙◌}
-use Rattle.std.proofs.Common.{arith, append-nil, length-append, length-drop}
+use Rattle.std.proofs.Common.{◌≡◌, ℕ, ◌*◌, ◌≤◌, ◌<◌, List, length, take, nat_lt, true, false, ap, sym, refl, ◌∙◌}
+use Rattle.std.proofs.Common.{arith, length-append, length-drop}
 use Rattle.std.proofs.lemmas.List.{length-take, take-append-le}
 use Rattle.std.proofs.lemmas.Grind.{common_steps}
 use Rattle.std.proofs.KnownBytes.{Consumes-trans}
@@ -7,8 +7,8 @@ use Rattle.std.proofs.lemmas.Bool.Decides.{nat_tests}
 use Rattle.vt_replay.specs.Due.{sent, sent_for}
 use Rattle.vt_cli.specs.declared.what.What.{What}
 use Rattle.vt_device.specs.Writing.{IsProperBeginning}
-use Rattle.vt_replay.proofs.Steps.{Moves-step, counted, passed, played-more, within-limit, cut-short, earlier-reports}
-use Rattle.vt_replay.proofs.Steps.{sent-failed}
+use Rattle.vt_replay.proofs.Steps.{Moves-step, Moves-end, counted, passed, played-more, within-limit, cut-short}
+use Rattle.vt_replay.proofs.Steps.{earlier-reports, sent-failed}
 use Rattle.vt_replay.proofs.engine.play_input.Goals as goal
 
 pub loop-left-preserved : goal.loop-left-preserved
@@ -85,23 +85,11 @@ returns-in-Ok-eq0-clause-moves g c =
     let ended : c.read-2.new.self.ended ≡ true =
     c.in-Ok-eq0.ensures.ended ∙ rw (c.loop-left.invariant.reader_goes_on, c.in-Ok-eq0.field-0-test, asked) refl in
     let none = rw c.in-Ok-eq0.field-0-test at c.in-Ok-eq0.ensures.bytes.0 in
-    let moved = c.loop-left.invariant.moved in
-    record {
-      b = moved.b;
-      w = moved.w;
-      taken = rw append-nil at (Consumes-trans _ _ _ moved.b [] moved.taken none);
-      given = moved.given;
-      holds = (
-        record {
-          reader_failed = works;
-          reader_ended = ended;
-          writer_failed =
-              c.loop-left.invariant.writer_works;
-        },
-        omega (arith, moved.holds.0),
-        moved.holds.1,
-      );
-    }
+    Moves-end _ _ _ _ _ _ _ c.loop-left.invariant.moved none (λ b w h. (
+      record { reader_failed = works; reader_ended = ended; writer_failed = c.loop-left.invariant.writer_works },
+      omega (arith, h.0),
+      h.1,
+    ))
 
 pub returns-in-Ok-read-clause-moves : goal.returns-in-Ok-read-clause-moves
 returns-in-Ok-read-clause-moves g c =

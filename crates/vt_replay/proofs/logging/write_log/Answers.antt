@@ -1,23 +1,13 @@
-use Rattle.std.proofs.Common.{[], refl}
-use Rattle.std.proofs.lemmas.Result.{err_from_is_err_and}
-use Rattle.std.proofs.KnownBytes.{Consumes-nil, Appends-nil}
+use Rattle.vt_replay.proofs.LogTables.{log-table}
 use Rattle.vt_replay.proofs.logging.write_log.Goals as goal
 
-pub returns-in_err-room-clause-answer : goal.returns-in_err-room-clause-answer
-returns-in_err-room-clause-answer g c =
-    let fault = err_from_is_err_and c.from_residual.result c.from_residual.ensures.1 in
-    rw (fault.1, fault.2, c.in_err-room.ensures.memory) (record {
-      b = [];
-      w = [];
-      taken = Consumes-nil _;
-      given = Appends-nil _;
-      holds = (
-        record {
-          reader_failed = c.requires.reader_works;
-          reader_ended = c.requires.reader_goes_on;
-          writer_failed = c.requires.writer_works;
-        },
-        refl,
-        refl,
-      );
-    })
+pub returns-clause-answer : goal.returns-clause-answer
+returns-clause-answer g c =
+    let moves = rw c.in_ok-output.ensures.terminal at c.write_output.ensures.answer in
+    record {
+      b = moves.b;
+      w = moves.w;
+      taken = moves.taken;
+      given = moves.given;
+      holds = log-table c.cuts.ensures.two c.write_output.result _ _ _ _ _ moves.holds;
+    }

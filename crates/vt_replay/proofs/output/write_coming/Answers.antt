@@ -1,10 +1,10 @@
-use Rattle.std.proofs.Common.{◌≡◌, ℕ, ◌≤◌, ◌<◌, List, [], length, take, nat_lt, true, false, ap, refl, ◌∙◌}
-use Rattle.std.proofs.Common.{arith, append-nil, length-append, length-drop}
+use Rattle.std.proofs.Common.{◌≡◌, ℕ, ◌≤◌, ◌<◌, List, length, take, nat_lt, true, false, ap, refl, ◌∙◌}
+use Rattle.std.proofs.Common.{arith, length-append, length-drop}
 use Rattle.std.proofs.lemmas.List.{length-take, take-append-le}
 use Rattle.std.proofs.lemmas.Grind.{common_steps}
 use Rattle.std.proofs.KnownBytes.{Consumes-trans}
 use Rattle.std.proofs.lemmas.Bool.Decides.{nat_tests}
-use Rattle.vt_replay.proofs.Steps.{Moves-step, counted, passed, within-limit}
+use Rattle.vt_replay.proofs.Steps.{Moves-step, Moves-end, counted, passed, within-limit}
 use Rattle.vt_replay.proofs.OutputSteps.{then_more, chunk_written, chunk_cut}
 use Rattle.vt_replay.proofs.output.write_coming.Goals as goal
 
@@ -21,10 +21,8 @@ loop-left-preserved g c =
       moved = Moves-step _ _ _ _ _ _ _ _ _ gives.w c.loop-left.invariant.moved c.in-Ok.ensures.bytes.0 gives.given
           (λ b w h. (
             counted b _ _ _ _ h.0 bound within,
-            chunk_written (g.O.Output.written c.args.output.now) (g.O.Output.ending c.args.output.now) b _ w gives.w
-                (g.O.Output.written c.loop-left.output) (g.O.Output.ending c.loop-left.output) h.2 h.1 writes,
-            then_more (g.O.Output.written c.args.output.now) (g.O.Output.ending c.args.output.now) b _
-                (g.O.Output.written c.loop-left.output) (g.O.Output.ending c.loop-left.output) _ _ h.2 after,
+            chunk_written _ _ b _ w _ _ _ h.2 h.1 writes,
+            then_more _ _ b _ _ _ _ _ h.2 after,
           ));
       within = omega (arith, c.loop-left.invariant.within);
       reader_works = grind (arith, common_steps, c.in-Ok.ensures);
@@ -58,9 +56,7 @@ returns-then-not-write_chunk-clause-moves g c =
     let size = counted b _ _ _ _ h.0 bound within in (
       record { reader_failed = works; reader_ended = goes_on; writer_failed = gives.holds.0 },
       omega (arith, size),
-      chunk_cut (g.O.Output.written c.args.output.now) (g.O.Output.ending c.args.output.now)
-          (length c.args.buffer.now) b (take c.in-Ok.count c.read.new.buf) w gives.w
-          (g.O.Output.written c.loop-left.output) (g.O.Output.ending c.loop-left.output) h.2 h.1 short part,
+      chunk_cut _ _ _ b _ w _ _ _ h.2 h.1 short part,
     ))
 
 pub returns-in-Ok-eq0-clause-moves : goal.returns-in-Ok-eq0-clause-moves
@@ -72,23 +68,12 @@ returns-in-Ok-eq0-clause-moves g c =
     let ended : c.read-2.new.self.ended ≡ true =
     c.in-Ok-eq0.ensures.ended ∙ rw (c.loop-left.invariant.reader_goes_on, c.in-Ok-eq0.field-0-test, asked) refl in
     let none = rw c.in-Ok-eq0.field-0-test at c.in-Ok-eq0.ensures.bytes.0 in
-    let moved = c.loop-left.invariant.moved in
-    record {
-      b = moved.b;
-      w = moved.w;
-      taken = rw append-nil at (Consumes-trans _ _ _ moved.b [] moved.taken none);
-      given = moved.given;
-      holds = (
-        record {
-          reader_failed = works;
-          reader_ended = ended;
-          writer_failed = c.loop-left.invariant.writer_works;
-        },
-        omega (arith, moved.holds.0),
-        moved.holds.1,
-        moved.holds.2,
-      );
-    }
+    Moves-end _ _ _ _ _ _ _ c.loop-left.invariant.moved none (λ b w h. (
+      record { reader_failed = works; reader_ended = ended; writer_failed = c.loop-left.invariant.writer_works },
+      omega (arith, h.0),
+      h.1,
+      h.2,
+    ))
 
 pub returns-in-Ok-read-clause-moves : goal.returns-in-Ok-read-clause-moves
 returns-in-Ok-read-clause-moves g c =

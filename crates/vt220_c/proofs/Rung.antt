@@ -1,50 +1,17 @@
 -- How often the bell rings in bytes that are played in parts.
-use Rattle.std.proofs.Common.{◌≡◌, ◌≢◌, ap, List, ℕ, zero, suc, [], ◌∷◌, ◌++◌, ◌+◌, ◌≤◌, ◌<◌, take, drop, refl, arith}
-use Rattle.std.proofs.Common.{get_or, length, ◌∙◌, Bool, true, false, eqb, sym, subst}
-use Rattle.std.proofs.lemmas.Bool.{eqb-true, eqb-false}
+use Rattle.std.proofs.Common.{◌≡◌, ◌≢◌, refl, ap, List, ℕ, zero, suc, [], ◌∷◌, ◌++◌, ◌+◌, ◌≤◌, ◌<◌, take, drop, arith}
+use Rattle.std.proofs.Common.{get_or, length, ◌∙◌}
 use Rattle.std.specs.Prelude.{count_by, cond}
 use Rattle.std.proofs.Math.Seq.{take-add}
 use Rattle.std.proofs.lemmas.List.Sums.{sum_by-append}
 use Rattle.vt_syntax.specs.declared.event.Event.{Event}
 use Rattle.vt_syntax.specs.declared.held.Held.{Held}
-use Rattle.vt_syntax.specs.declared.held.Held.TheVariants.{Text}
 use Rattle.vt_syntax.specs.Event.{is_control}
 use Rattle.vt_syntax.specs.Held.{events_from, held_from, spell, IsHeldPart}
 use Rattle.vt_syntax.specs.Laws.{SplitLaw, ControlLaw}
 use Rattle.vt_term.specs.State.{State}
 use Rattle.vt_term.specs.Play.{play}
 use Rattle.vt220_c.specs.Bells.{bells}
-
--- ---- one byte
-
--- no control string is held
-abbrev pub IsOutside : Held → Type 0
-IsOutside (Text osc) = ⊥
-IsOutside _ = Unit {0}
-
-not_text : (held : Held) (osc : Bool) → IsOutside held → held ≢ Text osc
-not_text held osc outside e = rw e at outside
-
-pub silent_text : ControlLaw → (held : Held) (osc : Bool) (b : ℕ) → IsHeldPart held → held ≡ Text osc
-    → 0 ≡ bells held (b ∷ [])
-silent_text controls held osc b is e = go (eqb b 7) refl
-  where
-    part : IsHeldPart (Text osc)
-    part = subst (λ (h : Held). IsHeldPart h) e is
-
-    go : (t : Bool) → eqb b 7 ≡ t → 0 ≡ bells held (b ∷ [])
-    go true is_bell = rw (e, eqb-true b 7 is_bell) (sym (controls.in_string osc 7 part (omega arith)))
-    go false other = sym (controls.by_no_other held b 7 is (omega arith) (eqb-false b 7 other))
-
-pub ring : ControlLaw → (held : Held) (b : ℕ) → IsHeldPart held → IsOutside held
-    → mir.Val.bool_byte (eqb b 7) ≡ bells held (b ∷ [])
-ring controls held b is outside = go (eqb b 7) refl
-  where
-    go : (t : Bool) → eqb b 7 ≡ t → mir.Val.bool_byte t ≡ bells held (b ∷ [])
-    go true is_bell = rw (eqb-true b 7 is_bell) (sym (controls.carried_out held 7 is (omega arith) (λ osc. not_text held osc outside)))
-    go false other = sym (controls.by_no_other held b 7 is (omega arith) (eqb-false b 7 other))
-
--- ---- bytes that are played in parts
 
 module _ (law : SplitLaw) where
   pub bells-append : (held : Held) (first second : List ℕ)
@@ -92,11 +59,4 @@ module _ (law : SplitLaw) where
       → so_far + rung ≡ bells s.held (take (at + n) piece)
   unfolding play
   more-bells s t piece at n so_far rung then before now =
-      let all : bells s.held (take (at + n) piece) ≡ bells s.held (take at piece ++ take n (drop at piece)) =
-      ap (λ (bytes : List ℕ). bells s.held bytes) (take-add at n piece) in
-      let apart : bells s.held (take at piece ++ take n (drop at piece))
-      ≡ bells s.held (take at piece) + bells (held_from s.held (take at piece)) (take n (drop at piece)) =
-      bells-append s.held (take at piece) (take n (drop at piece)) in
-      let after : bells t.held (take n (drop at piece)) ≡ bells (held_from s.held (take at piece)) (take n (drop at piece)) =
-      ap (λ (u : State). bells u.held (take n (drop at piece))) then in
-      omega (arith, all, apart, after, before, now)
+      rw (take-add at n piece, bells-append s.held (take at piece) (take n (drop at piece)), before, ← now, then) refl

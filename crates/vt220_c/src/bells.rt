@@ -34,9 +34,11 @@ pub(crate) fn rings(held: &Held, b: u8) -> usize
     ensures few { result ≤ 1 }
 {
     controls();
+    if b != BEL {
+        return 0;
+    }
     match held {
         Held::Text { .. } => 0,
-        Held::Nothing | Held::Escape(_) | Held::Control { .. } | Held::Spoilt => (b
-            == BEL) as usize,
+        Held::Nothing | Held::Escape(_) | Held::Control { .. } | Held::Spoilt => 1,
     }
 }

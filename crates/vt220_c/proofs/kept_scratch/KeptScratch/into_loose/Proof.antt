@@ -1,61 +1,8 @@
--- A kept pointer is a scratch room's again.
-use Rattle.std.proofs.Common.{◌≡◌, List, [], ◌∷◌, ◌++◌, refl, sym, subst}
-use mir.Val.{Val, vptr}
-use base.Logic.{SProp, ent, emp, id⊢}
-use prog.Wp.{WpFn}
-use types.Kit.{‵, raw, ◌⊛◌, ◌$◌, ◌∵◌, !, qed, by, move, keep, split, fsplit, fjoin, suffices, use0}
-use types.Run.{stop, fld, of_opd, no_more, and_then, returns, enter}
-use types.ByLocal.{alloc_all, pass_all, free_all, look_at, get, get_in, sets}
-use types.Part.{agg, sub, whole}
-use contract.Monad.{fact, fact_i}
-use contract.Running.{tables}
-use denote.RattleType.{owns}
-use denote.RawPtr.{block_ptr}
-use denote.Signature.{types_at, plain}
-use denote.Steps.{nothing, heard}
-use denote.Triple.Entry.{alive}
-use denote.Triple.Walked.{Stays, stay_dropped, walk_of}
-use Rattle.std.proofs.alloc.Calls.{Goes-blank}
-use Rattle.std.proofs.raw_atomic.Walks.{proved_at, leaves}
-use Rattle.std.specs.declared.option.Option.TheVariants.{None, Some}
-use Rattle.vt220_c.proofs.Values.{both, loose_good, loose_in}
-use Rattle.vt220_c.proofs.KeptScratchValues.{R, Z, LZ, Kept, kept_out}
-use Rattle.std.specs.contracts.impls.GlobalAllocator.TheImpl.{ghosts}
-use Rattle.std.specs.Prelude.{IsSome}
-use Rattle.std.proofs.lemmas.Bool.{false≢true}
-use Rattle.std.specs.declared.option.Option.{Option}
-use Rattle.vt220_c.specs.contracts.kept_scratch.KeptScratch.into_loose.{ended, clauses}
+-- A kept pointer is a scratch buffer's again.
+use Rattle.vt220_c.proofs.Keepers.{buffer, kept_out}
 use Rattle.vt220_c.specs.contracts.kept_scratch.KeptScratch.into_loose.Key.{name as #self}
 use Rattle.vt220_c.proofs.kept_scratch.KeptScratch.into_loose.Statement.{statement}
 use Rattle.vt220_c.proofs.kept_scratch.KeptScratch.into_loose.Code as code
 
-some : (o : Option (Unit {0})) → IsSome o → (s : Unit {0}) × (o ≡ Some s)
-some None is = absurd (false≢true is)
-some (Some s) is = (s, refl)
-
 pub into_loose_spec : {M : Type 1} → statement M
-into_loose_spec 𝓤 𝓛 𝓜 𝓡 wired =
-    let H = 𝓛.H in let 𝓣 = tables 𝓤 H 𝓜 𝓡 𝓡.env in let c = clauses 𝓛 𝓜.mem 𝓡.returns in let fn = code.function in
-    let hs : Stays ended.signature.params ended.kept = (stay_dropped (plain (λ _. Kept)) ended.kept.0, tt) in
-    proved_at 𝓛 ended hs c 𝓜 𝓡 (Goes-blank 𝓛 0 (plain (λ _. Kept)) ended.kept.0 (λ κs x f. tt), tt) #self fn
-    (code.unfolded 𝓤 H 𝓜 𝓡 wired) (λ z are.
-    let v = z.0.3.0 in let a = v.alloc in let Post : Val → SProp 𝓤 = (walk_of 𝓛 ended hs c).post z in
-    let Run : List Val → SProp 𝓤 = λ ws. WpFn 𝓤 H 𝓣.C 𝓣.Λ fn ws Post in
-    qed 𝓛 ((raw (alive 𝓛 ended.signature z.0.0 z.0.1) ⊛ ‵ (owns (types_at ended.signature.params z.0.0) z.0.3 z.0.4))
-    ∷ raw (fact 𝓤 (IsSome v.inside)) ∷ []) ∵ move ! (1 ∷ []) $ heard ! (IsSome v.inside) (λ is.
-    let full = some v.inside is in
-    split ! $ move ! (1 ∷ []) $ fsplit ! $ kept_out ! v full.0 z.0.4.0 full.1 (λ b o h e ws fits.
-    -- [the block; the allocator's handle; nothing; the tokens]
-    let w : Val = both (vptr b o) h in let typed = loose_good R Z LZ ghosts b o h fits in
-    suffices ! (Run (w ∷ []))
-    (subst (λ (us : List Val). ent 𝓤 (Run (w ∷ [])) (Run us)) (sym (λ i. ws i ++ [])) (id⊢ 𝓤 (Run (w ∷ [])))) $
-    enter ! 𝓣.C 𝓣.Λ fn (w ∷ []) Post $ alloc_all ! (λ l. pass_all ! refl (typed, tt) $
-    sets ! (of_opd ! (get_in ! (fld ! refl (stop !)) (sub ! 0 refl (whole !)))) refl (tt, tt) $
-    sets ! (of_opd ! (get_in ! (fld ! refl (stop !)) (sub ! 1 refl (whole !)))) refl fits $
-    sets ! (of_opd ! (get ! refl)) refl (tt, tt) $
-    sets ! (agg ! (and_then ! (get ! refl) (and_then ! (get ! refl) (no_more !)))) refl typed $
-    loose_in R Z LZ ghosts ! b o h a full.0 $
-    use0 𝓛 (raw (fact 𝓤 (v.inside ≡ Some full.0))) (fact_i 𝓤 (v.inside ≡ Some full.0) (emp 𝓤) full.1) $ nothing ! $
-    nothing ! $ fjoin ! $
-    returns ! (look_at ! 0 refl) $ free_all ! refl $ keep ! (4 ∷ 0 ∷ 2 ∷ 1 ∷ []) $
-    by ! (leaves 𝓛 ended hs c z w (record { at = block_ptr b o; alloc = a; value = full.0 }) (tt, tt) (tt, tt))))))
+into_loose_spec 𝓤 𝓛 𝓜 𝓡 wired = kept_out buffer 𝓛 𝓜 𝓡 #self (code.unfolded 𝓤 𝓛.H 𝓜 𝓡 wired)

@@ -1,3 +1,3 @@
-pub mod Calm
 pub mod Log
 pub mod Pages
+pub mod PageCuts

@@ -1,9 +1,10 @@
 //! Which events blank the whole screen, and what is written before one.
 ghost use Rattle.std.specs.Prelude.{◌≡◌, ◌+◌, ◌≤◌, ◌++◌, List, ℕ, vec_len, vec_capacity};
-ghost use Rattle.vt_syntax.specs.Event.{event_of, event_in};
+ghost use Rattle.vt_syntax.specs.Event.{event_of};
 ghost use Rattle.vt_glyph.specs.LookUp.{contains};
 ghost use Rattle.vt_term.specs.Parameters.{first};
-ghost use Rattle.vt_log.specs.Pages.{erases_all, blanks_by, is_reset, blanks_screen, page, pages_off};
+ghost use Rattle.vt_log.specs.Pages.{erases_all, blanks_by, is_reset, blanks_screen, page};
+ghost use Rattle.vt_log.specs.PageCuts.{takes_off};
 
 use vt_syntax::EventKind;
 use vt_term::{ROWS, TEXT_LIMIT, Terminal};
@@ -67,7 +68,7 @@ fn is_reset(inter: Option<u8>, last: u8) -> bool
 }
 
 /// Returns whether an event blanks the whole screen.
-fn blanks_screen(terminal: &Terminal, kind: EventKind, values: &[u16]) -> bool
+pub(crate) fn blanks_screen(terminal: &Terminal, kind: EventKind, values: &[u16]) -> bool
     ensures { result ≡ blanks_screen (event_of kind values.now) terminal.now.display }
 {
     match kind {
@@ -82,8 +83,16 @@ fn blanks_screen(terminal: &Terminal, kind: EventKind, values: &[u16]) -> bool
     }
 }
 
+/// Returns whether an event takes lines off the screen: all of them, or line 1.
+#[inline(always)]
+pub(crate) fn takes_off(terminal: &Terminal, kind: EventKind, values: &[u16]) -> bool
+    ensures { result ≡ takes_off (event_of kind values.now) terminal.now.display }
+{
+    blanks_screen(terminal, kind, values) || terminal.scrolls_off(kind)
+}
+
 /// Appends the 24 lines of the screen to `lines`, which has capacity for them, unless all are empty.
-fn push_page(terminal: &Terminal, lines: &mut Vec<u8>)
+pub(crate) fn push_page(terminal: &Terminal, lines: &mut Vec<u8>)
     requires { vec_len lines.old + TEXT_LIMIT ≤ vec_capacity lines.old }
     ensures items { lines.new.items ≡ lines.old.items ++ page terminal.now.display }
     ensures bounded { vec_len lines.new ≤ vec_len lines.old + TEXT_LIMIT }
@@ -93,26 +102,5 @@ fn push_page(terminal: &Terminal, lines: &mut Vec<u8>)
     terminal.text_reserved(lines);
     if lines.len() - before == ROWS {
         lines.truncate(before);
-    }
-}
-
-/// Appends what an event takes off the screen to `lines`, which has capacity for it. The event isn't yet played.
-pub(crate) fn push_taken_off(
-    terminal: &Terminal,
-    event: Option<EventKind>,
-    values: &[u16],
-    lines: &mut Vec<u8>,
-)
-    requires { vec_len lines.old + TEXT_LIMIT ≤ vec_capacity lines.old }
-    ensures items { lines.new.items ≡ lines.old.items ++ pages_off (event_in event values.now) terminal.now.display }
-    ensures bounded { vec_len lines.new ≤ vec_len lines.old + TEXT_LIMIT }
-    ensures capacity { vec_capacity lines.old ≤ vec_capacity lines.new }
-{
-    if let Some(kind) = event {
-        if blanks_screen(terminal, kind, values) {
-            push_page(terminal, lines);
-        } else if terminal.scrolls_off(kind) {
-            terminal.row_text_reserved(1, lines);
-        }
     }
 }

@@ -2,7 +2,6 @@
 #![tactic(auto)]
 
 mod blanks;
-mod calm;
 mod feeding;
 pub mod laws;
 mod pages;

@@ -1,18 +1,17 @@
 //! Feeding with a log and pages: as `feeding`, and the 24 lines of the screen before each event that blanks all of it.
-ghost use Rattle.std.specs.Prelude.{◌≡◌, ◌+◌, ◌*◌, ◌≤◌, ◌<◌, ◌++◌, length, take};
+ghost use Rattle.std.specs.Prelude.{◌≡◌, ◌+◌, ◌*◌, ◌≤◌, ◌<◌, ◌++◌, true, length, take};
 ghost use Rattle.std.specs.Prelude.{vec_len, vec_capacity, OnOk, OnErr, IsOk};
 ghost use Rattle.vt_term.specs.Play.{play};
-ghost use Rattle.vt_log.specs.Pages.{pages};
+ghost use Rattle.std.specs.Bool.{OnTrue, OnFalse};
+ghost use Rattle.vt_syntax.specs.Event.{event_of};
+ghost use Rattle.vt_log.specs.Pages.{pages, taken_off};
+ghost use Rattle.vt_log.specs.PageCuts.{takes_off};
 
-use crate::blanks::push_taken_off;
-use crate::calm::calm_run;
-use crate::feeding::feed_log_reserved;
-use crate::laws::pages_cut;
+use crate::blanks::{blanks_screen, push_page, takes_off};
 use std::alloc::AllocError;
-use vt_syntax::laws::one_split;
-use vt_syntax::{Taken, Values};
-use vt_term::laws::cuts;
-use vt_term::{REPORT_LIMIT, TEXT_LIMIT, Terminal};
+use vt_syntax::EventKind;
+use vt_syntax::laws::spelled;
+use vt_term::{Observer, REPORT_LIMIT, TEXT_LIMIT, Terminal};
 
 /// The most bytes of lines for each byte of a piece: the 24 lines of the screen.
 pub const PAGE_LIMIT: usize = TEXT_LIMIT;
@@ -58,9 +57,9 @@ pub fn feed_pages(
 /// Plays the front of a piece of the host's bytes, and appends the reports to `reports`, and to `lines` the lines that
 /// scroll off and the 24 lines of the screen before each event that blanks all of it. Returns how many bytes it played.
 ///
-/// It plays while `lines` has capacity for one more page, `PAGE_LIMIT` bytes. With capacity for a page for each byte, it
-/// plays the whole chunk. `reports` has capacity for ten bytes for each byte of the piece. It never fails, and it allocates
-/// nothing.
+/// It stops before an event that takes lines off the screen if `lines` has no capacity for a page, `PAGE_LIMIT` bytes. With
+/// capacity for a page for each byte, it plays the whole chunk. `reports` has capacity for ten bytes for each byte of the
+/// chunk. It never fails, and it allocates nothing.
 pub fn feed_pages_reserved(
     terminal: &mut Terminal,
     piece: &[u8],
@@ -78,75 +77,95 @@ pub fn feed_pages_reserved(
     ensures reports_capacity { vec_capacity reports.old ≤ vec_capacity reports.new }
     ensures lines_capacity { vec_capacity lines.old ≤ vec_capacity lines.new }
 {
-    let _ = terminal.width();
-    cuts();
-    pages_cut();
-    let mut values = Values::new();
-    let mut at = 0;
-    while at < piece.len() && lines.capacity() - lines.len() >= PAGE_LIMIT {
-        at += feed_page_front(terminal, &piece[at..], &mut values, reports, lines);
-    }
-    at
+    let mut observer = Pages { lines };
+    terminal.feed_observed(piece, &mut observer, reports)
 }
 
-/// Plays the front of a piece that isn't empty: bytes that blank no screen, or the first event. Returns how many bytes it
-/// played.
-///
-/// Speed: without the bytes that are played at once, `feed_page_event` does the same.
-fn feed_page_front(
-    terminal: &mut Terminal,
-    piece: &[u8],
-    values: &mut Values,
-    reports: &mut Vec<u8>,
-    lines: &mut Vec<u8>,
-) -> usize
-    requires some { 1 ≤ length piece.now }
-    requires reports_room { vec_len reports.old + 10 * length piece.now ≤ vec_capacity reports.old }
-    requires lines_room { vec_len lines.old + TEXT_LIMIT ≤ vec_capacity lines.old }
-    ensures some { 1 ≤ result }
-    ensures within { result ≤ length piece.now }
-    ensures state { terminal.new ≡ (play terminal.old (take result piece.now)).state }
-    ensures reports { reports.new.items ≡ reports.old.items ++ (play terminal.old (take result piece.now)).reports }
-    ensures lines { lines.new.items ≡ lines.old.items ++ pages terminal.old (take result piece.now) }
-    ensures reports_bounded { vec_len reports.new ≤ vec_len reports.old + 10 * result }
-    ensures lines_bounded { vec_len lines.new ≤ vec_len lines.old + TEXT_LIMIT * result }
-    ensures reports_capacity { vec_capacity reports.old ≤ vec_capacity reports.new }
-    ensures lines_capacity { vec_capacity lines.old ≤ vec_capacity lines.new }
-{
-    if terminal.is_between() {
-        one_split();
-        let calm = calm_run(piece);
-        if calm > 0 {
-            return feed_log_reserved(terminal, &piece[..calm], reports, lines);
+/// The observer that keeps the lines that scroll off, and the lines of the screen before each event that blanks all of it.
+/// It stops the feed before an event that takes lines off the screen if there is no capacity for a page.
+#[derive(Drop)]
+struct Pages<'a> {
+    lines: &'a mut Vec<u8>,
+}
+
+impl Pages<'_> {
+    /// Returns whether there is capacity for a page.
+    #[inline(always)]
+    fn has_room(&self) -> bool
+        ensures room { OnTrue result (vec_len self.now.lines.now + PAGE_LIMIT ≤ vec_capacity self.now.lines.now) }
+        ensures full { OnFalse result (vec_capacity self.now.lines.now < vec_len self.now.lines.now + PAGE_LIMIT) }
+    {
+        self.lines.capacity() - self.lines.len() >= PAGE_LIMIT
+    }
+
+    /// Appends what an event takes off the screen.
+    #[inline(always)]
+    fn keep(&mut self, terminal: &Terminal, kind: EventKind, values: &[u16])
+        requires { takes_off (event_of kind values.now) terminal.now.display ≡ true
+            → vec_len self.old.lines.now + PAGE_LIMIT ≤ vec_capacity self.old.lines.now }
+        ensures same_reference { self.new.lines.ghost_name ≡ self.old.lines.ghost_name }
+        ensures lines { self.new.lines.now.items ≡ self.old.lines.now.items
+            ++ taken_off (event_of kind values.now) terminal.now.display }
+        ensures bounded { vec_len self.new.lines.now ≤ vec_len self.old.lines.now + PAGE_LIMIT }
+        ensures capacity { vec_capacity self.old.lines.now ≤ vec_capacity self.new.lines.now }
+    {
+        if blanks_screen(terminal, kind, values) {
+            push_page(terminal, self.lines);
+        } else if terminal.scrolls_off(kind) {
+            terminal.row_text_reserved(1, self.lines);
         }
     }
-    feed_page_event(terminal, piece, values, reports, lines)
 }
 
-/// Plays the front of a piece that isn't empty up to the first event. Returns how many bytes it played.
-fn feed_page_event(
-    terminal: &mut Terminal,
-    piece: &[u8],
-    values: &mut Values,
-    reports: &mut Vec<u8>,
-    lines: &mut Vec<u8>,
-) -> usize
-    requires some { 1 ≤ length piece.now }
-    requires reports_room { vec_len reports.old + 10 * length piece.now ≤ vec_capacity reports.old }
-    requires lines_room { vec_len lines.old + TEXT_LIMIT ≤ vec_capacity lines.old }
-    ensures some { 1 ≤ result }
-    ensures within { result ≤ length piece.now }
-    ensures state { terminal.new ≡ (play terminal.old (take result piece.now)).state }
-    ensures reports { reports.new.items ≡ reports.old.items ++ (play terminal.old (take result piece.now)).reports }
-    ensures lines { lines.new.items ≡ lines.old.items ++ pages terminal.old (take result piece.now) }
-    ensures reports_bounded { vec_len reports.new ≤ vec_len reports.old + 10 * result }
-    ensures lines_bounded { vec_len lines.new ≤ vec_len lines.old + TEXT_LIMIT * result }
-    ensures reports_capacity { vec_capacity reports.old ≤ vec_capacity reports.new }
-    ensures lines_capacity { vec_capacity lines.old ≤ vec_capacity lines.new }
-{
-    let mut parser = terminal.parser();
-    let Taken { bytes, event } = parser.next(piece, values);
-    push_taken_off(terminal, event, values.as_slice(), lines);
-    terminal.feed_reserved(&piece[..bytes], reports);
-    bytes
+impl Observer for Pages<'_> {
+    ghost use Rattle.std.specs.Prelude.{◌≡◌, ◌<◌, ◌≤◌, ◌+◌, ◌&&◌, vec_len, vec_capacity, true, ⊤};
+    ghost use Rattle.vt_term.specs.Scrolling.{is_at_end};
+    ghost use Rattle.vt_term.specs.ScrollSteps.{Fits as RowFits};
+    ghost use Rattle.vt_log.specs.PageCuts.{IsPaged, pages_cut, takes_off};
+
+    ghost Saw = { λ o s bytes p. (p.lines.ghost_name ≡ o.lines.ghost_name)
+        × IsPaged s bytes o.lines.now.items p.lines.now.items
+        × (vec_capacity o.lines.now ≤ vec_capacity p.lines.now) };
+
+    ghost Takes = { λ o n. ⊤ };
+
+    ghost Lets = { λ o s event. takes_off event s ≡ true → vec_len o.lines.now + 9528 ≤ vec_capacity o.lines.now };
+
+    ghost Fits = { λ o s n. RowFits n s
+        × (1 ≤ n → (s.cursor.wrap && is_at_end s) ≡ true → vec_len o.lines.now + 9528 ≤ vec_capacity o.lines.now) };
+
+    ghost Stopped = { λ o. vec_capacity o.lines.now < vec_len o.lines.now + 9528 };
+
+    ghost Stops = { true };
+
+    ghost cut = { pages_cut (λ o. o.lines.now.items) (λ o. vec_capacity o.lines.now) (λ o. o.lines.ghost_name) };
+
+    #[inline(always)]
+    fn stops(&self) -> bool {
+        true
+    }
+
+    #[inline(always)]
+    fn lets(&self, terminal: &Terminal, kind: EventKind, values: &[u16]) -> bool {
+        self.has_room() || !takes_off(terminal, kind, values)
+    }
+
+    #[inline(always)]
+    fn event(&mut self, terminal: &Terminal, bytes: &[u8], kind: EventKind, values: &[u16]) {
+        self.keep(terminal, kind, values)
+    }
+
+    #[inline(always)]
+    fn limit(&self, terminal: &Terminal) -> usize {
+        terminal.row_limit(self.has_room())
+    }
+
+    #[inline(always)]
+    fn run(&mut self, terminal: &Terminal, bytes: &[u8]) {
+        spelled();
+        self.keep(terminal, EventKind::Print(bytes[0]), &[])
+    }
+
+    #[inline(always)]
+    fn part(&mut self, bytes: &[u8]) {}
 }

@@ -4,13 +4,11 @@ use Rattle.std.proofs.lemmas.List.Sums.{fold-append}
 use Rattle.vt_syntax.specs.declared.event.Event.{Event}
 use Rattle.vt_syntax.specs.Held.{events_from, held_from}
 use Rattle.vt_syntax.specs.Laws.{SplitLaw}
-use Rattle.vt_screen.specs.declared.cell.Cell.{Cell}
 use Rattle.vt_term.specs.State.{Display, State}
 use Rattle.vt_term.specs.Sound.{IsSound}
 use Rattle.vt_term.specs.Functions.{effect}
 use Rattle.vt_term.specs.Reports.{report}
 use Rattle.vt_term.specs.Play.{Played, after_events, reports_of, play, both, play_all, joined}
-use Rattle.vt_term.specs.Scrolling.{line_off, lines_off, scrolled_off}
 
 pub after_events-append : (xs ys : List Event) (s : Display)
     → after_events (xs ++ ys) s ≡ after_events ys (after_events xs s)
@@ -22,13 +20,6 @@ reports_of-append [] ys s = refl
 reports_of-append (x ∷ xs) ys s =
     ap (λ (t : List ℕ). report x s ++ t) (reports_of-append xs ys (effect x s))
     ∙ sym (append_assoc (report x s) (reports_of xs (effect x s)) (reports_of ys (after_events xs (effect x s))))
-
-lines_off-append : (xs ys : List Event) (s : Display)
-    → lines_off (xs ++ ys) s ≡ lines_off xs s ++ lines_off ys (after_events xs s)
-lines_off-append [] ys s = refl
-lines_off-append (x ∷ xs) ys s =
-    ap (λ (t : List (List Cell)). line_off x s ++ t) (lines_off-append xs ys (effect x s))
-    ∙ sym (append_assoc (line_off x s) (lines_off xs (effect x s)) (lines_off ys (after_events xs (effect x s))))
 
 module _ (split : SplitLaw) where
   pub play-append : (s : State) (a b : List ℕ) → play s (a ++ b) ≡ both (play s a) (play (play s a).state b)
@@ -54,14 +45,3 @@ module _ (split : SplitLaw) where
       ap (λ (t : Played). both (play s piece) t)
       (play_all-joined keeps (play s piece).state pieces (keeps s piece sound))
       ∙ sym (play-append s piece (joined pieces))
-
-  pub scrolled-append : (s : State) (a b : List ℕ)
-      → scrolled_off s (a ++ b) ≡ scrolled_off s a ++ scrolled_off (play s a).state b
-  unfolding scrolled_off play
-  scrolled-append s a b =
-      ap (λ (es : List Event). lines_off es s.display) (split.events_append s.held a b)
-      ∙ lines_off-append (events_from s.held a) (events_from (play s a).state.held b) s.display
-
-  pub scrolled-nothing : (s : State) → IsSound s → scrolled_off s [] ≡ []
-  unfolding scrolled_off
-  scrolled-nothing s sound = rw (split.events_nil s.held sound.held) refl

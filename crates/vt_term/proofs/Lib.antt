@@ -10,4 +10,4 @@ mod Equal
 mod SoundEffects
 mod SoundPlay
 mod Playing
-mod Scrolled
+pub mod Scrolled

@@ -1,56 +1,42 @@
 -- Bytes that scroll no line off, and the event that does.
-use Rattle.std.proofs.Common.{◌≡◌, ℕ, ◌+◌, ◌≤◌, List, [], ◌∷◌, ◌++◌, take, drop, length, map, refl, sym, ap, ◌∙◌}
-use Rattle.std.proofs.Common.{arith, rules, true, false, Option, Some, None, All, inl, inr}
-use Rattle.std.proofs.lemmas.List.{take-append-drop}
+use Rattle.std.proofs.Common.{◌≡◌, ℕ, ◌+◌, ◌≤◌, List, [], ◌∷◌, ◌++◌, length, map, refl, sym, ap, ◌∙◌}
+use Rattle.std.specs.Prelude.{slice_index}
+use Rattle.std.specs.Bool.{OnTrue}
+use Rattle.std.proofs.Common.{Bool, append-nil, arith, rules, true, false, Option, Some, None, All, inl, inr}
 use Rattle.vt_syntax.specs.declared.event.Event.{Event}
 use Rattle.vt_syntax.specs.declared.event.Event.TheVariants.{Print}
 use Rattle.vt_syntax.specs.declared.held.Held.TheVariants.{Nothing}
-use Rattle.vt_syntax.specs.Held.{events_from, held_from}
-use Rattle.vt_syntax.specs.Laws.{SplitLaw, SpellingLaw}
+use Rattle.vt_syntax.specs.Held.{events_from}
+use Rattle.vt_syntax.specs.Laws.{SpellingLaw}
 use Rattle.vt_glyph.specs.Invocation.{HasGlyph, glyph_read, after_read}
 use Rattle.vt_screen.specs.declared.cell.Cell.{Cell}
-use Rattle.vt_screen.specs.Grid.{row_of}
 use Rattle.vt_term.specs.State.{Display, State}
-use Rattle.vt_term.specs.Sound.{IsSound}
 use Rattle.vt_term.specs.Functions.{effect}
 use Rattle.vt_term.specs.Writing.{write_if_read, put_glyph}
-use Rattle.vt_term.specs.Scrolling.{scrolls_off, line_off, lines_off, scrolled_off, is_at_end}
-use Rattle.vt_term.specs.ScrollSteps.{first_scrolls_off, next_scrolls_off}
-use Rattle.vt_term.specs.ScrollSteps.{EndInRow, Fits}
+use Rattle.vt_term.specs.Scrolling.{line_off, lines_off, scrolled_off}
+use Rattle.vt_term.specs.ScrollSteps.{EndInRow, Fits, Logs}
+use Rattle.vt_term.specs.Text.{line_text}
+use Rattle.std.specs.List.{flat_map}
 use Rattle.vt_term.proofs.Bytes.{graphic-events}
 
--- ---- the next event
+pub on-true : (r : Bool) (P : Type 0) → (r ≡ true → P) → OnTrue r P
+on-true true P f = f refl
+on-true false P f = tt
 
-module _ (split : SplitLaw) (s : State) where
-  -- the first event of bytes
-  pub next-is : (bytes : List ℕ) (n : ℕ) (event : Event) → events_from s.held (take n bytes) ≡ event ∷ []
-      → next_scrolls_off s bytes ≡ scrolls_off event s.display
-  unfolding next_scrolls_off
-  next-is bytes n event is =
-      let rest : List Event = events_from (held_from s.held (take n bytes)) (drop n bytes) in
-      let events : events_from s.held bytes ≡ event ∷ rest =
-      ap (λ (t : List ℕ). events_from s.held t) (sym (take-append-drop n bytes))
-      ∙ split.events_append s.held (take n bytes) (drop n bytes)
-      ∙ ap (λ (es : List Event). es ++ rest) is in
-      ap (λ (es : List Event). first_scrolls_off es s.display) events
+-- ---- one event, or none
 
-  -- its line, if it scrolls one off
-  pub next-line : (bytes : List ℕ) (n : ℕ) (event : Event) → events_from s.held (take n bytes) ≡ event ∷ []
-      → next_scrolls_off s bytes ≡ true → scrolled_off s (take n bytes) ≡ row_of s.display.grid 1 ∷ []
-  unfolding scrolled_off
-  next-line bytes n event is next = rw (is, sym (next-is bytes n event is) ∙ next) refl
+pub no-line : (s : State) (bytes : List ℕ) → events_from s.held bytes ≡ [] → scrolled_off s bytes ≡ []
+unfolding scrolled_off
+no-line s bytes none = rw none refl
 
-  -- bytes without an event
-  pub none-next : {A : Type 0} (bytes : List ℕ) → events_from s.held bytes ≡ [] → next_scrolls_off s bytes ≡ true → A
-  unfolding next_scrolls_off
-  none-next bytes none next =
-      let both : false ≡ true = sym (ap (λ (es : List Event). first_scrolls_off es s.display) none) ∙ next in
-      absurd cc
+pub one-line : (s : State) (bytes : List ℕ) (event : Event) → events_from s.held bytes ≡ event ∷ []
+    → scrolled_off s bytes ≡ line_off event s.display
+unfolding scrolled_off
+one-line s bytes event is = rw is (append-nil (line_off event s.display))
 
-  -- bytes whose first event scrolls a line off aren't none
-  pub next-some : (piece : List ℕ) → IsSound s → next_scrolls_off s piece ≡ true → 1 ≤ length piece
-  next-some [] sound next = none-next [] (split.events_nil s.held sound.held) next
-  next-some (b ∷ piece) sound next = omega arith
+pub logs-one : (s : State) (bytes xs ys : List ℕ) (rows : List (List Cell)) → 1 ≤ length bytes
+    → scrolled_off s bytes ≡ rows → ys ≡ xs ++ flat_map line_text rows → length ys ≤ length xs + 397 → Logs s bytes xs ys
+logs-one s bytes xs ys rows some is told few = record { lines = rw is told; bounded = omega (arith, some, few) }
 
 -- ---- characters
 
@@ -77,22 +63,19 @@ row-still (b ∷ bytes) s fits =
     ∙ row-still bytes (effect (Print b) s)
     (print-fits (length bytes) b s (record { no_wrap = λ some. no; in_row = omega (arith, fits.in_row) }))
 
-one-still : (bytes : List ℕ) (s : Display) → length bytes ≤ 1 → is_at_end s ≡ false → lines_off (map Print bytes) s ≡ []
-one-still [] s few stays = refl
-one-still (b ∷ []) s few stays = rw stays (search rules)
-one-still (b ∷ (c ∷ bytes)) s few stays = absurd (omega (arith, few))
-
--- so many characters, at most, in the cursor's row
-pub run-still : SpellingLaw → (s : State) (bytes : List ℕ) (count : ℕ) → s.held ≡ Nothing → All HasGlyph bytes
-    → length bytes ≤ count → Fits count s.display → scrolled_off s bytes ≡ []
+-- graphic bytes scroll a line off if the first of them does
+pub run-line : SpellingLaw → (s : State) (bytes : List ℕ) → s.held ≡ Nothing → All HasGlyph bytes → 1 ≤ length bytes
+    → Fits (length bytes) s.display → scrolled_off s bytes ≡ line_off (Print (slice_index bytes 0)) s.display
 unfolding scrolled_off
-run-still spelling s bytes count between have few fits =
-    rw (between, graphic-events spelling bytes have) (go fits)
+run-line spelling s bytes between have some fits =
+    rw (between, graphic-events spelling bytes have) (go bytes some fits)
   where
-    go : Fits count s.display → lines_off (map Print bytes) s.display ≡ []
-    go (inl row) =
-        row-still bytes s.display (record {
-          no_wrap = λ some. row.no_wrap (omega (arith, few, some));
-          in_row = omega (arith, few, row.in_row);
-        })
-    go (inr one) = one-still bytes s.display (omega (arith, few, one.0)) one.1
+    go : (bytes : List ℕ) → 1 ≤ length bytes → Fits (length bytes) s.display
+        → lines_off (map Print bytes) s.display ≡ line_off (Print (slice_index bytes 0)) s.display
+    go [] some fits = absurd (omega (arith, some))
+    go (b ∷ bytes) some (inl row) =
+        let no : s.display.cursor.wrap ≡ false = row.no_wrap (omega arith) in
+        let none : line_off (Print b) s.display ≡ [] = rw no refl in
+        row-still (b ∷ bytes) s.display row ∙ sym none
+    go (b ∷ []) some (inr one) = append-nil (line_off (Print b) s.display)
+    go (b ∷ (c ∷ bytes)) some (inr one) = absurd (omega (arith, one))

@@ -16,3 +16,5 @@ pub mod Play
 pub mod Text
 pub mod Scrolling
 pub mod ScrollSteps
+pub mod Observing
+pub mod Observers

@@ -1,10 +1,9 @@
 //! The function or report that an event asks for.
 ghost use Rattle.std.specs.Prelude.{◌≡◌, ◌<◌, ◌≤◌, ◌+◌, ◌++◌, vec_len, vec_capacity, Some, None};
 ghost use Rattle.vt_syntax.specs.Spelling.{IsEvent};
-ghost use Rattle.std.specs.Bool.{OnTrue, OnFalse};
 ghost use Rattle.vt_syntax.specs.declared.event.Event.TheVariants.{Sequence};
 ghost use Rattle.vt_syntax.specs.Event.{event_of};
-ghost use Rattle.vt_syntax.specs.Front.{IsFinal, AreFirst, front_list};
+ghost use Rattle.vt_syntax.specs.Front.{AreFirst, front_list};
 ghost use Rattle.vt_glyph.specs.Tables.{substitute_glyph};
 ghost use Rattle.vt_term.specs.Writing.{write_glyph};
 ghost use Rattle.vt_term.specs.Parameters.{first, second, count};
@@ -16,7 +15,7 @@ ghost use Rattle.vt_term.specs.Reports.{report, sequence_report};
 use crate::codes::{BS, CR, FF, HT, HTS, IND, LF, NEL, RI, SI, SO, SS2, SS3, SUB, VT};
 use crate::display::Display;
 use vt_glyph::{Glyph, Set};
-use vt_syntax::{EventKind, FrontValues, is_final};
+use vt_syntax::{EventKind, FrontValues};
 
 /// Returns the first parameter, or 0 if there is none.
 pub(crate) fn first(params: &[u16]) -> u16
@@ -70,39 +69,29 @@ impl Display {
         }
     }
 
-    /// Carries out a control sequence of these values if its last byte is a final byte, and returns whether it is.
+    /// Carries out a control sequence of these values.
     ///
     /// Speed: CUP and SGR are tested before the table, and all others out of line.
     #[inline(always)]
     #[tactic(auto, unfolding(crate::specs::Functions::sequences_of, crate::specs::Functions::sequence_in, crate::specs::Reports::sequence_report))]
-    pub(crate) fn carry_out_values(&mut self, front: &FrontValues, out: &mut Vec<u8>) -> bool
+    pub(crate) fn carry_out_values(&mut self, front: &FrontValues, out: &mut Vec<u8>)
         requires few { (1 ≤ front.now.count) × (front.now.count ≤ 3) }
         requires values { AreFirst front.now }
         requires room { vec_len out.old + 10 ≤ vec_capacity out.old }
-        ensures ends { OnTrue result (IsFinal front.now.last) }
-        ensures state { OnTrue result (self.new
-            ≡ effect (Sequence None (record { items = front_list front.now }) None front.now.last) self.old) }
-        ensures items { OnTrue result (out.new.items ≡ out.old.items
-            ++ report (Sequence None (record { items = front_list front.now }) None front.now.last) self.old) }
-        ensures same { OnFalse result (self.new ≡ self.old) }
-        ensures same_out { OnFalse result (out.new ≡ out.old) }
+        ensures state { self.new ≡ effect (Sequence None (record { items = front_list front.now }) None front.now.last) self.old }
+        ensures items { out.new.items ≡ out.old.items
+            ++ report (Sequence None (record { items = front_list front.now }) None front.now.last) self.old }
         ensures bounded { vec_len out.new ≤ vec_len out.old + 10 }
         ensures capacity { vec_capacity out.old ≤ vec_capacity out.new }
     {
         if front.last == b'H' {
-            self.cursor_position(front.first, front.second);
-            return true;
+            return self.cursor_position(front.first, front.second);
         }
         if front.last == b'm' {
-            self.select_front_rendition(front);
-            return true;
-        }
-        if !is_final(front.last) {
-            return false;
+            return self.select_front_rendition(front);
         }
         let list = [front.first, front.second, front.third];
         self.plain_sequence(front.last, &list[..front.count], out);
-        true
     }
 
     /// Carries out a C0 or C1 control. (It is inlined in each caller, so CR and LF cost no dispatch.)
@@ -160,8 +149,21 @@ impl Display {
     }
 
     /// Carries out an escape sequence with an intermediate.
+    #[inline(always)]
     #[tactic(auto, unfolding(crate::specs::Functions::escape_with))]
     fn escape_with(&mut self, inter: u8, last: u8)
+        ensures { self.new ≡ escape_with inter last self.old }
+    {
+        if inter == b'(' {
+            return self.designate(0, last);
+        }
+        self.rare_escape(inter, last);
+    }
+
+    /// Carries out an escape sequence with an intermediate. Speed: those of G0, which are frequent, come before it.
+    #[inline(never)]
+    #[tactic(auto, unfolding(crate::specs::Functions::escape_with))]
+    fn rare_escape(&mut self, inter: u8, last: u8)
         ensures { self.new ≡ escape_with inter last self.old }
     {
         match (inter, last) {
@@ -177,6 +179,7 @@ impl Display {
     }
 
     /// Carries out SCS: designates the set of a final byte. Another final byte does nothing.
+    #[inline(always)]
     fn designate(&mut self, slot: u8, last: u8)
         requires { slot < 4 }
         ensures { self.new ≡ designate slot last self.old }

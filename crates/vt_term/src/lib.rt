@@ -11,6 +11,7 @@ mod feeding;
 mod functions;
 pub mod laws;
 mod modes;
+mod observing;
 mod readers;
 mod rendition;
 mod reports;
@@ -25,6 +26,7 @@ mod text;
 mod writing;
 
 pub use display::{ROWS, STOPS, stops_at_power_up};
+pub use observing::{Both, Observer};
 pub use state::{Cursor, Margins, Modes, Saved};
 pub use terminal::{REPORT_LIMIT, ROW_TEXT_LIMIT, TEXT_LIMIT, Terminal};
 pub use vt_glyph::{Glyph, Set, Sets};

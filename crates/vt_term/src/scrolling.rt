@@ -1,30 +1,20 @@
 //! Feeding with the lines that scroll off the top of the screen.
-ghost use Rattle.std.specs.Prelude.{◌≡◌, ◌+◌, ◌*◌, ◌≤◌, ◌<◌, ◌++◌, ◌∷◌, ◌&&◌, ◌==◌, [], ℕ, List, true, false, length, take};
+ghost use Rattle.std.specs.Prelude.{◌≡◌, ◌+◌, ◌*◌, ◌≤◌, ◌<◌, ◌++◌, ◌&&◌, ℕ, List, true, false, length, take};
 ghost use Rattle.std.specs.Prelude.{flat_map};
 ghost use Rattle.std.specs.Prelude.{vec_len, vec_capacity};
 ghost use Rattle.std.specs.Bool.{OnTrue, OnFalse};
 ghost use Rattle.vt_glyph.specs.Invocation.{has_no_glyph};
-ghost use Rattle.vt_screen.specs.Grid.{row_of};
-ghost use Rattle.vt_syntax.specs.declared.held.Held.TheVariants.{Nothing};
 ghost use Rattle.vt_syntax.specs.Event.{event_of};
-ghost use Rattle.vt_syntax.specs.Front.{IsFront};
 ghost use Rattle.vt_term.specs.Play.{play};
-ghost use Rattle.vt_term.specs.Scrolling.{is_at_end, is_line_feed, feeds_line, scrolls_off, scrolled_off};
-ghost use Rattle.vt_term.specs.ScrollSteps.{Feeds, Stops, Fits, next_scrolls_off};
+ghost use Rattle.vt_term.specs.Scrolling.{is_at_end, is_line_feed, feeds_line, scrolls_off, scrolled_off, line_off};
+ghost use Rattle.vt_term.specs.ScrollSteps.{Fits};
 ghost use Rattle.vt_term.specs.Text.{line_text};
 
 use crate::codes::{FF, HALF, IND, LF, NEL, SUB, VT};
+use crate::observing::Observer;
 use crate::terminal::{ROW_TEXT_LIMIT, Terminal};
-use vt_syntax::laws::one_split;
-use vt_syntax::{EventKind, Parser, Values};
-
-/// Returns whether playing so many bytes says that it stops: it is none.
-#[inline(always)]
-pub(crate) fn is_stop<const STOPS: bool>(bytes: usize) -> bool
-    ensures { result ≡ (STOPS && (bytes == 0)) }
-{
-    STOPS && bytes == 0
-}
+use vt_syntax::EventKind;
+use vt_syntax::laws::spelled;
 
 /// Returns whether a control is a line feed.
 #[inline(always)]
@@ -67,54 +57,8 @@ impl Terminal {
         ensures capacity { vec_capacity out.old ≤ vec_capacity out.new }
         ensures lines_capacity { vec_capacity lines.old ≤ vec_capacity lines.new }
     {
-        self.soundness();
-        one_split();
-        let mut values = Values::new();
-        let mut at = 0;
-        let mut is_full = false;
-        while at < piece.len() && !is_full {
-            let (bytes, stops) = self.lines_first(&piece[at..], &mut values, out, lines);
-            at += bytes;
-            is_full = stops;
-        }
-        at
-    }
-
-    /// Plays the front of a chunk that isn't empty, up to the first event that scrolls a line off, and that event. Appends
-    /// the line's text to `lines`. Returns how many bytes it played, and whether it stopped before the event since `lines`
-    /// has no capacity for the line.
-    #[inline(always)]
-    fn lines_first(
-        &mut self,
-        piece: &[u8],
-        values: &mut Values,
-        out: &mut Vec<u8>,
-        lines: &mut Vec<u8>,
-    ) -> (usize, bool)
-        requires some { 1 ≤ length piece.now }
-        requires room { vec_len out.old + 10 * length piece.now ≤ vec_capacity out.old }
-        ensures some { result.1 ≡ false → 1 ≤ result.0 }
-        ensures within { result.0 ≤ length piece.now }
-        ensures full { OnTrue result.1 (vec_capacity lines.new < vec_len lines.new + ROW_TEXT_LIMIT) }
-        ensures fed { Feeds false self.old (take result.0 piece.now) self.new out.old.items out.new.items }
-        ensures lines { lines.new.items
-            ≡ lines.old.items ++ flat_map line_text (scrolled_off self.old (take result.0 piece.now)) }
-        ensures bounded { vec_len out.new ≤ vec_len out.old + 10 * result.0 }
-        ensures lines_bounded { vec_len lines.new ≤ vec_len lines.old + ROW_TEXT_LIMIT * result.0 }
-        ensures capacity { vec_capacity out.old ≤ vec_capacity out.new }
-        ensures lines_capacity { vec_capacity lines.old ≤ vec_capacity lines.new }
-    {
-        one_split();
-        let bytes = self.feed_until::<true>(piece, values, out);
-        if bytes == piece.len() {
-            return (bytes, false);
-        }
-        if lines.capacity() - lines.len() < ROW_TEXT_LIMIT {
-            return (bytes, true);
-        }
-        self.row_text_reserved(1, lines);
-        let scroll = self.scroll_first(&piece[bytes..], values, out);
-        (bytes + scroll, false)
+        let mut observer = Lines { lines };
+        self.feed_observed(piece, &mut observer, out)
     }
 
     /// Returns whether an event scrolls line 1 off the top of the screen. It does if it is a line feed at the bottom
@@ -150,82 +94,105 @@ impl Terminal {
         margins.top == 1 && cursor.row == margins.bottom
     }
 
-    /// Returns whether playing stops before an event, since it scrolls a line off.
+    /// Returns how many characters may be written at once so that at most the first one scrolls a line off: those that end
+    /// in the cursor's row, or one. It is none if the first one scrolls a line off for which there is no capacity.
     #[inline(always)]
-    pub(crate) fn stops_before<const STOPS: bool>(&self, kind: EventKind) -> bool
-        ensures { (values : List ℕ) → result ≡ (STOPS && scrolls_off (event_of kind values) self.now.display) }
+    pub fn row_limit(&self, has_room: bool) -> usize
+        ensures fits { (n : ℕ) → n ≤ result → Fits n self.now.display }
+        ensures some { has_room ≡ true → 1 ≤ result }
+        ensures stays { 1 ≤ result → has_room ≡ false → (self.now.display.cursor.wrap && is_at_end self.now.display) ≡ false }
     {
-        STOPS && self.scrolls_off(kind)
-    }
-
-    /// Returns whether playing stops before an event that is whole at the front of a chunk, between sequences.
-    #[inline(always)]
-    pub(crate) fn stops_at<const STOPS: bool>(
-        &self,
-        piece: &[u8],
-        bytes: usize,
-        kind: EventKind,
-    ) -> bool
-        requires front { IsFront piece.now bytes (event_of kind []) }
-        requires between { self.now.held ≡ Nothing }
-        ensures stops { OnTrue result (Stops STOPS self.now piece.now) }
-        ensures stays { OnFalse result (STOPS ≡ true → scrolls_off (event_of kind []) self.now.display ≡ false) }
-        ensures nothing { (out : List ℕ) → Feeds STOPS self.now [] self.now out out }
-    {
-        self.soundness();
-        one_split();
-        self.stops_before::<STOPS>(kind)
-    }
-
-    /// Returns the parser if playing may stop, so that it may be put back.
-    #[inline(always)]
-    pub(crate) fn parser_before<const STOPS: bool>(&self) -> Parser
-        ensures { STOPS ≡ true → result ≡ self.now.held }
-    {
-        if STOPS {
-            self.parser.copied()
-        } else {
-            Parser::new()
-        }
-    }
-
-    /// Returns how many bytes at the front of a chunk, which are characters, may be written before one may scroll a
-    /// line off. The first one doesn't. It is the whole chunk if playing doesn't stop.
-    #[inline(always)]
-    pub(crate) fn row_first<const STOPS: bool>(&self, piece: &[u8]) -> usize
-        requires some { 1 ≤ length piece.now }
-        requires stays { STOPS ≡ true → (self.now.display.cursor.wrap && is_at_end self.now.display) ≡ false }
-        ensures some { 1 ≤ result }
-        ensures within { result ≤ length piece.now }
-        ensures fits { STOPS ≡ true → Fits result self.now.display }
-    {
-        if !STOPS {
-            return piece.len();
-        }
         let cursor = self.cursor();
-        if cursor.wrap {
-            return 1;
+        if !cursor.wrap {
+            return self.width() + 1 - cursor.col;
         }
-        piece.len().min(self.width() + 1 - cursor.col)
+        usize::from(has_room || !self.is_at_end())
+    }
+}
+
+/// The observer that keeps the texts of the lines that scroll off. It stops the feed before a line for which there is no
+/// capacity.
+#[derive(Drop)]
+struct Lines<'a> {
+    lines: &'a mut Vec<u8>,
+}
+
+impl Lines<'_> {
+    /// Returns whether there is capacity for a line.
+    #[inline(always)]
+    fn has_room(&self) -> bool
+        ensures room { OnTrue result (vec_len self.now.lines.now + ROW_TEXT_LIMIT ≤ vec_capacity self.now.lines.now) }
+        ensures full { OnFalse result (vec_capacity self.now.lines.now < vec_len self.now.lines.now + ROW_TEXT_LIMIT) }
+    {
+        self.lines.capacity() - self.lines.len() >= ROW_TEXT_LIMIT
     }
 
-    /// Plays the first event of a chunk, which scrolls a line off. Returns how many bytes it played.
+    /// Appends the text of line 1 if an event scrolls it off.
     #[inline(always)]
-    fn scroll_first(&mut self, piece: &[u8], values: &mut Values, out: &mut Vec<u8>) -> usize
-        requires some { 1 ≤ length piece.now }
-        requires room { vec_len out.old + 10 * length piece.now ≤ vec_capacity out.old }
-        requires next { next_scrolls_off self.old piece.now ≡ true }
-        ensures some { 1 ≤ result }
-        ensures within { result ≤ length piece.now }
-        ensures fed { Feeds false self.old (take result piece.now) self.new out.old.items out.new.items }
-        ensures line { scrolled_off self.old (take result piece.now) ≡ row_of self.old.display.grid 1 ∷ [] }
-        ensures bounded { vec_len out.new ≤ vec_len out.old + 10 * result }
-        ensures capacity { vec_capacity out.old ≤ vec_capacity out.new }
+    fn keep(&mut self, terminal: &Terminal, kind: EventKind)
+        requires { (values : List ℕ) → scrolls_off (event_of kind values) terminal.now.display ≡ true
+            → vec_len self.old.lines.now + ROW_TEXT_LIMIT ≤ vec_capacity self.old.lines.now }
+        ensures same_reference { self.new.lines.ghost_name ≡ self.old.lines.ghost_name }
+        ensures lines { (values : List ℕ) → self.new.lines.now.items ≡ self.old.lines.now.items
+            ++ flat_map line_text (line_off (event_of kind values) terminal.now.display) }
+        ensures bounded { vec_len self.new.lines.now ≤ vec_len self.old.lines.now + ROW_TEXT_LIMIT }
+        ensures capacity { vec_capacity self.old.lines.now ≤ vec_capacity self.new.lines.now }
     {
-        if self.is_between() && piece[0] == LF {
-            self.carry_out_front::<false>(piece, 1, EventKind::Control(LF), out);
-            return 1;
+        if terminal.scrolls_off(kind) {
+            terminal.row_text_reserved(1, self.lines);
         }
-        self.feed_by_parser::<false>(piece, values, out)
     }
+}
+
+impl Observer for Lines<'_> {
+    ghost use Rattle.std.specs.Prelude.{◌≡◌, ◌≤◌, ◌<◌, ◌+◌, ◌&&◌, vec_len, vec_capacity};
+    ghost use Rattle.std.specs.Prelude.{true, ⊤};
+    ghost use Rattle.vt_term.specs.Scrolling.{scrolls_off, is_at_end};
+    ghost use Rattle.vt_term.specs.ScrollSteps.{Fits as RowFits, Logs};
+    ghost use Rattle.vt_term.specs.Observers.{lines_cut};
+
+    ghost Saw = { λ o s bytes p. (p.lines.ghost_name ≡ o.lines.ghost_name) × Logs s bytes o.lines.now.items p.lines.now.items
+        × (vec_capacity o.lines.now ≤ vec_capacity p.lines.now) };
+
+    ghost Takes = { λ o n. ⊤ };
+
+    ghost Lets = { λ o s event. scrolls_off event s ≡ true → vec_len o.lines.now + 397 ≤ vec_capacity o.lines.now };
+
+    ghost Fits = { λ o s n. RowFits n s
+        × (1 ≤ n → (s.cursor.wrap && is_at_end s) ≡ true → vec_len o.lines.now + 397 ≤ vec_capacity o.lines.now) };
+
+    ghost Stopped = { λ o. vec_capacity o.lines.now < vec_len o.lines.now + 397 };
+
+    ghost Stops = { true };
+
+    ghost cut = { lines_cut (λ o. o.lines.now.items) (λ o. vec_capacity o.lines.now) (λ o. o.lines.ghost_name) };
+
+    #[inline(always)]
+    fn stops(&self) -> bool {
+        true
+    }
+
+    #[inline(always)]
+    fn lets(&self, terminal: &Terminal, kind: EventKind, values: &[u16]) -> bool {
+        self.has_room() || !terminal.scrolls_off(kind)
+    }
+
+    #[inline(always)]
+    fn event(&mut self, terminal: &Terminal, bytes: &[u8], kind: EventKind, values: &[u16]) {
+        self.keep(terminal, kind)
+    }
+
+    #[inline(always)]
+    fn limit(&self, terminal: &Terminal) -> usize {
+        terminal.row_limit(self.has_room())
+    }
+
+    #[inline(always)]
+    fn run(&mut self, terminal: &Terminal, bytes: &[u8]) {
+        spelled();
+        self.keep(terminal, EventKind::Print(bytes[0]))
+    }
+
+    #[inline(always)]
+    fn part(&mut self, bytes: &[u8]) {}
 }

@@ -1,4 +1,4 @@
-use Rattle.vt_log.proofs.PageLines.{pages-append, pages-nothing}
+use Rattle.vt_log.specs.PageCuts.{pages-append, pages-nothing}
 use Rattle.vt_log.proofs.laws.pages_cut.Goals as goal
 
 pub returns-clause-none : goal.returns-clause-none

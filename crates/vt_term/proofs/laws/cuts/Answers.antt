@@ -1,4 +1,5 @@
-use Rattle.vt_term.proofs.Cuts.{play-append, play-nothing, play_all-joined, scrolled-nothing, scrolled-append}
+use Rattle.vt_term.proofs.Cuts.{play-append, play-nothing, play_all-joined}
+use Rattle.vt_term.specs.Observers.{scrolled-append, scrolled-nothing}
 use Rattle.vt_term.proofs.laws.cuts.Goals as goal
 
 pub returns : goal.returns

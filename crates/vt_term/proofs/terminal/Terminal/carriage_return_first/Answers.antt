@@ -1,17 +1,30 @@
+use Rattle.std.proofs.Common.{◌≡◌, arith}
 use Rattle.vt_term.proofs.Bytes.{return-front, feed-behind, rest-of}
-use Rattle.vt_term.proofs.Playing.{feeds-more}
+use Rattle.vt_term.proofs.Playing.{takes-rest, feeds-more, saw-more}
 use Rattle.vt_term.proofs.terminal.Terminal.carriage_return_first.Goals as goal
 
-pub carry_out_front-requires-clause-front : goal.carry_out_front-requires-clause-front
-carry_out_front-requires-clause-front g c = return-front c.args.piece.now c.requires.some c.requires.carriage_return
+pub event_first-first-requires-clause-front : goal.event_first-first-requires-clause-front
+event_first-first-requires-clause-front g c = return-front c.args.piece.now c.requires.some c.requires.carriage_return
 
-pub stops_at-requires-clause-front : goal.stops_at-requires-clause-front
-stops_at-requires-clause-front g c = feed-behind c.args.piece.now c.if-piece-lt2.false c.if-piece-ne-LF.false
-
-pub carry_out_front-requires-2-clause-front : goal.carry_out_front-requires-2-clause-front
-carry_out_front-requires-2-clause-front g c = feed-behind c.args.piece.now c.if-piece-lt2.false c.if-piece-ne-LF.false
+pub event_first-second-requires-clause-front : goal.event_first-second-requires-clause-front
+event_first-second-requires-clause-front g c = feed-behind c.args.piece.now c.if-piece-lt2.false c.if-piece-ne-LF.false
 
 pub returns-clause-fed : goal.returns-clause-fed
 returns-clause-fed g c =
-    feeds-more c.one_split.ensures _ _ _ _ c.args.piece.now 1 1 _ _ _ c.carry_out_front.ensures.fed
-    (rw (rest-of c.args.piece.now 1) at c.carry_out_front-2.ensures.fed)
+    let one : c.event_first-first.result ≡ 1 = c.event_first-first.ensures.whole (omega (arith, c.if-first-eq0.false)) in
+    feeds-more c.one_split.ensures _ _ _ c.args.piece.now 1 c.event_first-second.result _ _ _
+    (rw one at c.event_first-first.ensures.fed) (rw (rest-of c.args.piece.now 1) at c.event_first-second.ensures.fed)
+
+pub returns-clause-saw : goal.returns-clause-saw
+returns-clause-saw g c =
+    let one : c.event_first-first.result ≡ 1 = c.event_first-first.ensures.whole (omega (arith, c.if-first-eq0.false)) in
+    saw-more g.O.Observer.Saw g.O.Observer.Takes g.met.O.Observer.cut c.one_split.ensures _ _ _ _ _ c.args.piece.now _ _ 1
+    c.event_first-second.result c.soundness.ensures (rw one at c.event_first-first.ensures.fed)
+    (rw one at c.event_first-first.ensures.saw)
+    (rw (rest-of c.args.piece.now 1) at c.event_first-second.ensures.saw)
+
+pub event_first-second-requires-clause-takes : goal.event_first-second-requires-clause-takes
+event_first-second-requires-clause-takes g c =
+    let one : c.event_first-first.result ≡ 1 = c.event_first-first.ensures.whole (omega (arith, c.if-first-eq0.false)) in
+    takes-rest g.O.Observer.Saw g.O.Observer.Takes g.met.O.Observer.cut _ _ _ c.args.piece.now 1 _ (omega arith)
+    (rw one at c.event_first-first.ensures.saw) c.requires.takes

@@ -1,0 +1,10 @@
+use Rattle.vt_term.proofs.Playing.{feeds-nothing}
+use Rattle.vt_term.proofs.terminal.Terminal.by_parser.Goals as goal
+
+pub returns-clause-nothing : goal.returns-clause-nothing
+returns-clause-nothing g c = λ out.
+    feeds-nothing c.one_split.ensures c.args.self.now out c.soundness.ensures
+
+pub returns-clause-saw : goal.returns-clause-saw
+returns-clause-saw g c =
+    g.met.O.Observer.cut.nothing c.one_split.ensures c.args.observer.now c.args.self.now c.soundness.ensures

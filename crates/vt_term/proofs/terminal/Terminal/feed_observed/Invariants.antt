@@ -1,0 +1,16 @@
+-- The bytes before the place are played.
+use Rattle.std.proofs.Common.{◌+◌, ◌-◌, ◌*◌, ◌≤◌, length, take, vec_len, vec_capacity}
+use Rattle.vt_term.specs.Observing.{Feeds}
+use Rattle.vt_term.proofs.terminal.Terminal.feed_observed.Given as goal
+
+abbrev pub invariant-loop-at : goal.invariant-loop-at
+invariant-loop-at g l = record {
+  within : l.at ≤ length l.piece;
+  fed : Feeds l.initial.self (take l.at l.piece) l.self l.initial.out.items l.out.items;
+  saw : g.O.Observer.Saw l.initial.observer l.initial.self (take l.at l.piece) l.observer;
+  bounded : vec_len l.out ≤ vec_len l.initial.out + 10 * l.at;
+  capacity : vec_capacity l.initial.out ≤ vec_capacity l.out;
+}
+
+abbrev pub decreases-loop-at : goal.decreases-loop-at
+decreases-loop-at g l = length l.piece - l.at

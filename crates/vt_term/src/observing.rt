@@ -1,0 +1,187 @@
+//! Observers: types that a feed tells of its events.
+ghost use Rattle.std.specs.Prelude.{◌≡◌, ◌≤◌, ◌∷◌, [], ℕ, List, Bool, All, true, false, length};
+ghost use Rattle.std.specs.Bool.{OnTrue, OnFalse};
+ghost use Rattle.vt_glyph.specs.Invocation.{HasGlyph};
+ghost use Rattle.vt_syntax.specs.declared.held.Held.TheVariants.{Nothing};
+ghost use Rattle.vt_syntax.specs.declared.event.Event.{Event};
+ghost use Rattle.vt_syntax.specs.Spelling.{IsEvent};
+ghost use Rattle.vt_syntax.specs.Event.{event_of};
+ghost use Rattle.vt_syntax.specs.Held.{events_from};
+ghost use Rattle.vt_term.specs.State.{State, Display};
+ghost use Rattle.vt_term.specs.Observing.{AreCut};
+
+use crate::terminal::Terminal;
+use vt_syntax::EventKind;
+
+/// An observer of a feed. A feed asks it before each event whether the event may be carried out, and then tells it of the
+/// event, in the state before it. It also tells it of bytes without an event. The feed stops before an event that the
+/// observer doesn't let.
+pub trait Observer {
+    /// The observer after it was told of bytes that are played from a state.
+    ghost Saw: { Self → State → List ℕ → Self → Type 0 };
+
+    /// The observer may be told of so many more bytes: it can count them, or has capacity for them.
+    ghost Takes: { Self → ℕ → Type 0 };
+
+    /// The observer lets an event be carried out.
+    ghost Lets: { Self → Display → Event → Type 0 };
+
+    /// The observer lets so many graphic bytes be written at once.
+    ghost Fits: { Self → Display → ℕ → Type 0 };
+
+    /// The reason for which the observer stopped the feed.
+    ghost Stopped: { Self → Type 0 };
+
+    /// The observer may stop the feed. Speed: otherwise nothing is kept to go back to.
+    ghost Stops: { Bool };
+
+    /// Returns whether it may stop the feed. (A constant of a trait has no proof yet in an `impl` with a lifetime.)
+    fn stops(&self) -> bool
+        ensures { result ≡ Stops };
+
+    /// Returns whether it lets an event be carried out. `terminal` has the display before the event.
+    fn lets(&self, terminal: &Terminal, kind: EventKind, values: &[u16]) -> bool
+        ensures lets { OnTrue result (Lets self.now terminal.now.display (event_of kind values.now)) }
+        ensures stops { OnFalse result (Stops ≡ true) }
+        ensures stopped { OnFalse result (Stopped self.now) };
+
+    /// Is told of the next event, which these bytes complete. `terminal` has the display before the event.
+    fn event(&mut self, terminal: &Terminal, bytes: &[u8], kind: EventKind, values: &[u16])
+        requires some { 1 ≤ length bytes.now }
+        requires event { IsEvent (event_of kind values.now) }
+        requires lets { Lets self.old terminal.now.display (event_of kind values.now) }
+        requires takes { Takes self.old (length bytes.now) }
+        ensures { (s : State) → s.display ≡ terminal.now.display
+            → events_from s.held bytes.now ≡ event_of kind values.now ∷ [] → Saw self.old s bytes.now self.new };
+
+    /// Returns how many graphic bytes it lets be written at once. If it is none, the feed stops before the first one.
+    fn limit(&self, terminal: &Terminal) -> usize
+        ensures fits { (n : ℕ) → n ≤ result → Fits self.now terminal.now.display n }
+        ensures stops { result ≡ 0 → Stops ≡ true }
+        ensures stopped { result ≡ 0 → Stopped self.now };
+
+    /// Is told of graphic bytes between sequences, each an event, which are written at once.
+    fn run(&mut self, terminal: &Terminal, bytes: &[u8])
+        requires some { 1 ≤ length bytes.now }
+        requires graphic { All HasGlyph bytes.now }
+        requires fits { Fits self.old terminal.now.display (length bytes.now) }
+        requires takes { Takes self.old (length bytes.now) }
+        ensures { (s : State) → s.display ≡ terminal.now.display → s.held ≡ Nothing
+            → Saw self.old s bytes.now self.new };
+
+    /// Is told of bytes without an event: of a sequence that isn't whole, or that asks for nothing.
+    fn part(&mut self, bytes: &[u8])
+        requires { Takes self.old (length bytes.now) }
+        ensures { (s : State) → events_from s.held bytes.now ≡ [] → Saw self.old s bytes.now self.new };
+
+    /// The observer may be told of bytes in parts.
+    ghost cut: { AreCut Saw Takes };
+}
+
+/// The observer of a feed that nobody observes.
+#[derive(Drop)]
+pub(crate) struct Nobody;
+
+impl Observer for Nobody {
+    ghost use Rattle.vt_term.specs.Observers.{nobody_cut};
+    ghost use Rattle.std.specs.Prelude.{⊤};
+
+    ghost Saw = { λ o s bytes p. ⊤ };
+
+    ghost Takes = { λ o n. ⊤ };
+
+    ghost Lets = { λ o s event. ⊤ };
+
+    ghost Fits = { λ o s n. ⊤ };
+
+    ghost Stopped = { λ o. ⊥ };
+
+    ghost Stops = { false };
+
+    #[inline(always)]
+    fn stops(&self) -> bool {
+        false
+    }
+
+    ghost cut = { nobody_cut };
+
+    #[inline(always)]
+    fn lets(&self, _: &Terminal, _: EventKind, _: &[u16]) -> bool {
+        true
+    }
+
+    #[inline(always)]
+    fn event(&mut self, _: &Terminal, _: &[u8], _: EventKind, _: &[u16]) {}
+
+    #[inline(always)]
+    fn limit(&self, _: &Terminal) -> usize {
+        usize::MAX
+    }
+
+    #[inline(always)]
+    fn run(&mut self, _: &Terminal, _: &[u8]) {}
+
+    #[inline(always)]
+    fn part(&mut self, _: &[u8]) {}
+}
+
+/// Two observers of one feed. It stops before an event that one of them doesn't let.
+#[derive(Drop)]
+pub struct Both<A: Drop, B: Drop> {
+    /// The observer that is asked and told first.
+    pub a: A,
+    /// The observer that is asked and told next.
+    pub b: B,
+}
+
+impl<A: Observer + Drop, B: Observer + Drop> Observer for Both<A, B> {
+    ghost use Rattle.vt_term.specs.Observers.{both_cut};
+    ghost use Rattle.std.specs.Prelude.{◌⊎◌, ◌||◌};
+
+    ghost Saw = { λ o s bytes p. A.Saw o.a s bytes p.a × B.Saw o.b s bytes p.b };
+
+    ghost Takes = { λ o n. A.Takes o.a n × B.Takes o.b n };
+
+    ghost Lets = { λ o s event. A.Lets o.a s event × B.Lets o.b s event };
+
+    ghost Fits = { λ o s n. A.Fits o.a s n × B.Fits o.b s n };
+
+    ghost Stopped = { λ o. A.Stopped o.a ⊎ B.Stopped o.b };
+
+    ghost Stops = { A.Stops || B.Stops };
+
+    ghost cut = { both_cut A.Saw B.Saw A.Takes B.Takes (λ o. o.a) (λ o. o.b) A.cut B.cut };
+
+    #[inline(always)]
+    fn stops(&self) -> bool {
+        self.a.stops() || self.b.stops()
+    }
+
+    #[inline(always)]
+    fn lets(&self, terminal: &Terminal, kind: EventKind, values: &[u16]) -> bool {
+        self.a.lets(terminal, kind, values) && self.b.lets(terminal, kind, values)
+    }
+
+    #[inline(always)]
+    fn event(&mut self, terminal: &Terminal, bytes: &[u8], kind: EventKind, values: &[u16]) {
+        self.a.event(terminal, bytes, kind, values);
+        self.b.event(terminal, bytes, kind, values);
+    }
+
+    #[inline(always)]
+    fn limit(&self, terminal: &Terminal) -> usize {
+        self.a.limit(terminal).min(self.b.limit(terminal))
+    }
+
+    #[inline(always)]
+    fn run(&mut self, terminal: &Terminal, bytes: &[u8]) {
+        self.a.run(terminal, bytes);
+        self.b.run(terminal, bytes);
+    }
+
+    #[inline(always)]
+    fn part(&mut self, bytes: &[u8]) {
+        self.a.part(bytes);
+        self.b.part(bytes);
+    }
+}

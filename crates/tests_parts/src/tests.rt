@@ -2,6 +2,7 @@
 //! once.
 mod casts;
 mod common;
+mod detection;
 mod glyphs;
 mod recordings;
 mod screen;

@@ -1,4 +1,4 @@
-//! The program: the arguments, the file, the engine, the line on standard error, the exit status.
+//! The program: the arguments, the file, the engine, the lines on standard error, the exit status.
 #![tactic(auto)]
 
 ghost use Rattle.std.specs.Prelude.{◌≡◌, ◌⊎◌, IfErr, MatchResult};
@@ -7,11 +7,22 @@ ghost use Rattle.vt_commands.specs.Fault.{status_of};
 ghost use Rattle.vt_commands.specs.declared.fault.Fault.TheVariants.{Replay};
 ghost use Rattle.vt_replay.specs.declared.fault.Fault.TheVariants as replay;
 
+mod notes;
+mod peeked;
+mod reasons;
+
+use crate::notes::print_notes;
+use crate::peeked::Peeked;
+use crate::reasons::{STANDARD_OUTPUT, Seen, print_error, print_reason};
+use std::alloc::AllocError;
 use std::env::{self, Env};
 use std::fs::{File, Files};
 use std::io::{self, ErrorKind, Input, Read, Write};
 use std::process::ExitCode;
-use vt_commands::{Fault, Outcome, Refused, Request, Watched, carry_out, read_timing, request};
+use vt_commands::{
+    Fault, Format, Outcome, Part, Refused, Request, Watched, What, Word, carry_out, detect,
+    format_of, lacks_times, read_timing, request,
+};
 
 /// The exit status of a wrong command line.
 const BAD_COMMAND_LINE: u8 = 2;
@@ -45,6 +56,9 @@ fn words<R: Env + AllocGlobal + Eprint>(rt: &R) -> Result<Vec<String>, ExitCode>
         Err(error) if error.kind() == ErrorKind::OutOfMemory => Err(ended_by(rt, MEMORY)),
         Err(_) => {
             let _ = eprintln!(rt; "vt220: bad command line");
+            let _ = eprintln!(rt;
+                "vt220: an argument isn't UTF-8; for a file of such a name use '< FILE'"
+            );
             Err(ExitCode::from(BAD_COMMAND_LINE))
         }
     }
@@ -53,14 +67,18 @@ fn words<R: Env + AllocGlobal + Eprint>(rt: &R) -> Result<Vec<String>, ExitCode>
 /// Prints why the arguments are refused, and ends the program with the status of the refusal: with the help or the
 /// version, for a failed allocation, or for a fault of the arguments. If the help or the version can't be printed, it is a
 /// failed write.
-fn refused_by(rt: &(impl Print + Eprint), refused: &Refused) -> ExitCode
+fn refused_by<R: Print + Eprint + AllocGlobal>(rt: &R, refused: &Refused) -> ExitCode
     ensures { (exit_status result ≡ refused.now.status)
         ⊎ ((refused.now.status ≡ 0) × (exit_status result ≡ status_of (Replay replay.Write))) }
 {
     match refused.status {
         0 => match print!(rt; "{}", refused.text) {
             Ok(()) => ExitCode::SUCCESS,
-            Err(_) => ended_by(rt, WRITE),
+            Err(error) => {
+                let status = ended_by(rt, WRITE);
+                print_error(rt, STANDARD_OUTPUT, Some(error));
+                status
+            }
         },
         1 => ended_by(rt, MEMORY),
         status => {
@@ -70,20 +88,106 @@ fn refused_by(rt: &(impl Print + Eprint), refused: &Refused) -> ExitCode
     }
 }
 
-/// Carries out a request on a reader's bytes, to standard output, and flushes that, after a fault too.
+/// How a request ended.
+#[derive(Drop)]
+struct Ended {
+    outcome: Outcome,
+    /// The file that was read last.
+    part: Part,
+    /// The operating system's error, if one made the fault.
+    error: Option<io::Error>,
+    /// The format in which the input was read.
+    format: Format,
+    /// The first bytes of the input.
+    beginning: Vec<u8>,
+}
+
+/// Returns the end of a request that came to no character.
+fn ended_early(
+    rt: &impl AllocGlobal,
+    request: &Request,
+    fault: Fault,
+    part: Part,
+    error: Option<io::Error>,
+) -> Ended {
+    let beginning = Vec::new(rt.alloc());
+    let format = format_of(request.format, &beginning);
+    Ended {
+        outcome: Outcome {
+            replaced: 0,
+            ended: Err(fault),
+        },
+        part,
+        error,
+        format,
+        beginning,
+    }
+}
+
+/// Returns the end of a request whose input couldn't be opened or looked at.
+fn ended_unread(rt: &impl AllocGlobal, request: &Request, error: io::Error) -> Ended {
+    let fault = match error.kind() {
+        ErrorKind::OutOfMemory => MEMORY,
+        _ => READ,
+    };
+    ended_early(rt, request, fault, Part::Recording, Some(error))
+}
+
+/// Carries out a request on a device's bytes, to standard output. If no format was asked for, the beginning of the input
+/// decides.
 fn carry_out_on<R: Print + AllocGlobal, D: Read + Drop>(
     rt: &R,
     device: D,
     timing: Option<&[u8]>,
     request: &Request,
-) -> Outcome {
-    let mut reader = Watched::new(device);
+) -> Ended {
+    let mut input = match Peeked::new(rt.alloc(), device) {
+        Ok(input) => input,
+        Err(AllocError) => return ended_early(rt, request, MEMORY, Part::Recording, None),
+    };
+    if request.format.is_none() {
+        if let Err(error) = input.look(rt.alloc()) {
+            return ended_unread(rt, request, error);
+        }
+    }
+    let format = format_of(request.format, input.beginning());
+    if lacks_times(format, timing.is_some(), request.until) {
+        let mut ended = ended_early(rt, request, Fault::NoTimes, Part::Recording, None);
+        ended.format = format;
+        return ended;
+    }
+    carry_out_in(rt, input, format, timing, request)
+}
+
+/// Carries out a request on an input in a format, to standard output, and flushes that, after a fault too.
+fn carry_out_in<R: Print + AllocGlobal, D: Read + Drop>(
+    rt: &R,
+    input: Peeked<D>,
+    format: Format,
+    timing: Option<&[u8]>,
+    request: &Request,
+) -> Ended {
+    let mut reader = Watched::new(input);
     let mut writer = Watched::new(io::writer(rt));
-    let outcome = carry_out(rt.alloc(), &mut reader, timing, &mut writer, request);
+    let outcome = carry_out(
+        rt.alloc(),
+        &mut reader,
+        format,
+        timing,
+        &mut writer,
+        request,
+    );
+    let error = reader.error().or(writer.error());
     let flushed = writer.into_inner().flush();
-    Outcome {
-        replaced: outcome.replaced,
-        ended: outcome.ended.and(flushed.map_err(|_| WRITE)),
+    Ended {
+        outcome: Outcome {
+            replaced: outcome.replaced,
+            ended: outcome.ended.and(flushed.map_err(|_| WRITE)),
+        },
+        part: Part::Recording,
+        error: error.or(flushed.err()),
+        format,
+        beginning: reader.into_inner().into_beginning(),
     }
 }
 
@@ -92,11 +196,11 @@ fn carry_out_by_name<R: Files + Input + Print + AllocGlobal>(
     rt: &R,
     timing: Option<&[u8]>,
     request: &Request,
-) -> Outcome {
+) -> Ended {
     match &request.file {
         Some(name) => match File::open(rt, name.as_str()) {
             Ok(file) => carry_out_on(rt, file, timing, request),
-            Err(_) => ended_early(READ),
+            Err(error) => ended_unread(rt, request, error),
         },
         None => carry_out_on(rt, rt.reader(), timing, request),
     }
@@ -106,38 +210,72 @@ fn carry_out_by_name<R: Files + Input + Print + AllocGlobal>(
 fn carry_out_with_timing<R: Files + Input + Print + AllocGlobal>(
     rt: &R,
     request: &Request,
-) -> Outcome {
+) -> Ended {
     let Some(name) = &request.timing else {
         return carry_out_by_name(rt, None, request);
     };
-    match File::open(rt, name.as_str()) {
-        Ok(file) => match read_timing(rt.alloc(), &mut Watched::new(file), request.limit) {
-            Ok(bytes) => carry_out_by_name(rt, Some(&bytes), request),
-            Err(fault) => ended_early(fault),
-        },
-        Err(_) => ended_early(READ),
+    let file = match File::open(rt, name.as_str()) {
+        Ok(file) => file,
+        Err(error) => return ended_early(rt, request, READ, Part::Timing, Some(error)),
+    };
+    let mut reader = Watched::new(file);
+    match read_timing(rt.alloc(), &mut reader, request.limit) {
+        Ok(bytes) => carry_out_by_name(rt, Some(&bytes), request),
+        Err(fault) => ended_early(rt, request, fault, Part::Timing, reader.error()),
     }
 }
 
-/// Returns the outcome of a request that came to no character.
-fn ended_early(fault: Fault) -> Outcome {
-    Outcome {
-        replaced: 0,
-        ended: Err(fault),
+/// Returns whether the reader of the output ended early, and the word is none of the four of the specification: then it
+/// ends without a line.
+fn is_silent(word: Word, fault: Fault, error: Option<io::Error>) -> bool {
+    let is_left = match error {
+        Some(error) => fault == WRITE && error.kind() == ErrorKind::BrokenPipe,
+        None => false,
+    };
+    match word {
+        Word::Replay(What::Text | What::Reports | What::Repaint | What::Status) => false,
+        _ => is_left,
     }
 }
 
-/// Prints how many characters became SUB, if any did. Ends the program after a request: with status 0 if all was written,
-/// otherwise with the fault's line and status.
-fn ended_after(rt: &impl Eprint, outcome: Outcome) -> ExitCode
-    ensures { MatchResult outcome.ended (λ _. exit_status result ≡ 0) (λ fault. exit_status result ≡ status_of fault) }
+/// Prints how many characters became SUB, if any did, and then a fault's lines and the other notes. Ends the program after
+/// a request: with status 0 if all was written, otherwise with the fault's status.
+fn ended_after<R: Eprint + AllocGlobal>(rt: &R, request: &Request, ended: Ended) -> ExitCode
+    ensures { MatchResult ended.outcome.ended (λ _. exit_status result ≡ 0) (λ fault. exit_status result ≡ status_of fault) }
 {
-    if outcome.replaced > 0 {
-        let _ = eprintln!(rt; "vt220: {} characters became SUB", outcome.replaced);
+    match ended.outcome.ended {
+        Ok(()) => {
+            print_replaced(rt, request, &ended);
+            print_notes(rt, request, ended.format, &ended.beginning);
+            ExitCode::SUCCESS
+        }
+        Err(fault) if is_silent(request.word, fault, ended.error) => {
+            ExitCode::from(fault.status())
+        }
+        Err(fault) => {
+            print_replaced(rt, request, &ended);
+            let status = ended_by(rt, fault);
+            print_reason(rt, request, fault, seen_of(&ended));
+            print_notes(rt, request, ended.format, &ended.beginning);
+            status
+        }
     }
-    match outcome.ended {
-        Ok(()) => ExitCode::SUCCESS,
-        Err(fault) => ended_by(rt, fault),
+}
+
+/// Prints how many characters became SUB, if any did.
+fn print_replaced(rt: &impl Eprint, request: &Request, ended: &Ended) {
+    if ended.outcome.replaced > 0 && !request.quiet {
+        let _ = eprintln!(rt; "vt220: {} characters became SUB", ended.outcome.replaced);
+    }
+}
+
+/// Returns what was seen of the files.
+fn seen_of(ended: &Ended) -> Seen {
+    Seen {
+        part: ended.part,
+        error: ended.error,
+        format: ended.format,
+        detected: detect(&ended.beginning),
     }
 }
 
@@ -150,5 +288,6 @@ fn main(rt: HostRuntime) -> ExitCode {
         Ok(request) => request,
         Err(refused) => return refused_by(&rt, &refused),
     };
-    ended_after(&rt, carry_out_with_timing(&rt, &request))
+    let ended = carry_out_with_timing(&rt, &request);
+    ended_after(&rt, &request, ended)
 }

@@ -8,7 +8,7 @@ ghost use Rattle.vt_paint.specs.Changes.{differing};
 ghost use Rattle.vt_paint.specs.Spoken.{Speaks};
 ghost use Rattle.vt220_c.specs.Bells.{bells};
 ghost use Rattle.vt220_c.specs.Forms.{written_as, CanBe};
-ghost use Rattle.vt220_c.specs.Written.{written_over, UpdatedOver};
+ghost use Rattle.vt220_c.specs.Written.{written_over, IsRepaint, UpdatedOver};
 
 use crate::bytes::{Copied, copy_out};
 use crate::form::Form;
@@ -107,6 +107,7 @@ impl Scratch {
         ensures bounded { result.len ≤ UPDATE_LIMIT }
         ensures speaks { result.fits ≡ true → Speaks (take result.len out.new) }
         ensures ascii { result.fits ≡ true → IsAscii (take result.len out.new) }
+        ensures repaint { result.fits ≡ true → IsRepaint shown.old to.now (take result.len out.new) }
     {
         self.room.clear();
         self.spare.copy_from(shown.terminal());

@@ -12,7 +12,7 @@ ghost use Rattle.vt_paint.specs.Changes.{differing};
 ghost use Rattle.vt_paint.specs.Spoken.{Speaks};
 ghost use Rattle.vt220_c.specs.Forms.{written_as, Answers};
 ghost use Rattle.vt220_c.specs.Status.{status_ok, status_closed, status_partial, status_room, status_no_row};
-ghost use Rattle.vt220_c.specs.Written.{written_over, UpdatedOver};
+ghost use Rattle.vt220_c.specs.Written.{written_over, IsRepaint, UpdatedOver};
 
 use crate::form::Form;
 use crate::handle::Vt220;
@@ -219,6 +219,9 @@ pub extern "C" fn core_update(
     ensures bounded { written.new ≤ UPDATE_LIMIT }
     ensures speaks { result ≡ status_ok → Speaks (take written.new out.new) }
     ensures ascii { result ≡ status_ok → IsAscii (take written.new out.new) }
+    ensures repaint { result ≡ status_ok
+        → IfSome shown.old.kept.inside
+        (λ a. IfSome to.old.kept.inside (λ b. IsRepaint a b (take written.new out.new))) }
     ensures none { (result ≡ status_closed) ⊎ (result ≡ status_partial) → written.new ≡ 0 }
     ensures unchanged { (0 < result) → (shown.new.kept.inside ≡ shown.old.kept.inside) × (out.new ≡ out.old) }
     ensures answers { (result ≡ status_ok) ⊎ (result ≡ status_closed) ⊎ (result ≡ status_partial) ⊎ (result ≡ status_room) }

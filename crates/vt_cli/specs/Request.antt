@@ -1,10 +1,12 @@
 -- A request: the wider command in clap's terms, and what the answers of `request` say. (this profile)
-use Rattle.std.specs.Prelude.{◌≡◌, ◌⊎◌, ℕ, ◌≤◌, List, [], ◌∷◌, ◌++◌, codes, Option, Some, None, string_bytes, map, Ok, Err}
+use Rattle.std.specs.Prelude.{◌≡◌, ◌⊎◌, ℕ, ◌≤◌, List, [], ◌∷◌, ◌++◌, codes, Bool, false, Option, Some, None, string_bytes, map, Ok, Err}
 use Rattle.std.specs.Option.{option_map}
+use Rattle.std.specs.Str.{bytes_eq}
 use Rattle.std.specs.declared.alloc.Global.{Global}
 use Rattle.std.specs.declared.string.String.{String}
 use Rattle.clap.specs.Words.{App, Rule, Row, Text, Kinds, new_app, new_rule, with_rule, with_subcommand, first_of, fault_of}
 use Rattle.clap.specs.Words.{subcommand_of}
+use Rattle.clap.specs.declared.builder.action.ArgAction.TheVariants.{SetTrue}
 use Rattle.vt_cli.specs.declared.what.What.TheVariants as what
 use Rattle.vt_cli.specs.declared.what.Word.{Word}
 use Rattle.vt_cli.specs.declared.what.Word.TheVariants.{Replay, Log, Pages, Trace, Summary, Content}
@@ -39,9 +41,13 @@ format_option = record (text_option (codes "format")) { defaults = codes "raw" �
 abbrev pub with_format : App → App
 with_format a = with_rule (with_rule a format_option) (text_option (codes "timing"))
 
+-- an option without a value
+abbrev pub flag_option : Text → Rule
+flag_option name = record (new_rule name) { long = Some name; action = Some SetTrue }
+
 -- with the options of a recording
 abbrev pub with_source : App → App
-with_source a = with_rule (with_format a) (text_option (codes "until"))
+with_source a = with_rule (with_rule (with_format a) (text_option (codes "until"))) (flag_option (codes "quiet"))
 
 -- with a subcommand, which takes the options of `settings` and those of a recording
 abbrev pub with_name : App → Text → App
@@ -93,9 +99,10 @@ pub record AsksFor (s : Settings) (r : Request) : Type 0 where
   pub piece : r.piece ≡ s.piece
   pub limit : r.limit ≡ s.limit
   pub file : r.file ≡ s.file
-  pub format : r.format ≡ Raw
+  pub format : r.format ≡ Some Raw
   pub timing : r.timing ≡ None
   pub until : r.until ≡ None
+  pub quiet : r.quiet ≡ false
 
 -- r is what `settings` gives for the words
 pub record IsPlain (words : List (String Global)) (r : Request) : Type 0 where
@@ -117,6 +124,14 @@ pub record AreOptions (matches : List Row) (piece limit : ℕ) (file : Option (S
 abbrev pub HasNoOptions : List Row → Type 0
 HasNoOptions matches = (piece limit : ℕ) (file : Option (String Global)) → AreOptions matches piece limit file → ⊥
 
+-- an option without a value was used, by the text that clap has for it
+abbrev pub is_true : Option Text → Bool
+is_true None = false
+is_true (Some text) = bytes_eq text (codes "true")
+
+abbrev pub is_set : (option : Text) → List Row → Bool
+is_set option matches = is_true (first_of option matches)
+
 -- r is what the subcommand that clap found, and its matches, ask for
 pub record IsFound (found : Option (Text × List Row)) (r : Request) : Type 0 where
   pub matches : List Row
@@ -124,6 +139,7 @@ pub record IsFound (found : Option (Text × List Row)) (r : Request) : Type 0 wh
   pub options : AreOptions matches r.piece r.limit r.file
   pub source : source_in matches ≡ Ok (record { format = r.format; until = r.until })
   pub timing : option_map (λ f. string_bytes f) r.timing ≡ first_of (codes "timing") matches
+  pub quiet : r.quiet ≡ is_set (codes "quiet") matches
 
 -- `settings` doesn't take the words, and r is what the wider command finds
 pub record IsWider (words : List (String Global)) (r : Request) : Type 0 where

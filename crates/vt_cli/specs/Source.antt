@@ -11,54 +11,57 @@ use Rattle.vt_cli.specs.declared.source.Complaint.{Complaint}
 use Rattle.vt_cli.specs.declared.source.Complaint.TheVariants.{NoFormat, NoTimingFile, NoMoment, NoTimes}
 use Rattle.vt_cli.specs.Moment.{moment}
 
--- the format of a name
-abbrev pub format_named : Text → Option Format
+-- the format of a name, or none for the name that lets the beginning of the input decide
+abbrev pub format_named : Text → Result (Option Format) Complaint
 format_named name =
-    cond (bytes_eq name (codes "raw")) (Some Raw)
-    (cond (bytes_eq name (codes "script")) (Some Script)
-    (cond (bytes_eq name (codes "ttyrec")) (Some Ttyrec)
-    (cond (bytes_eq name (codes "asciicast")) (Some Asciicast) None)))
+    cond (bytes_eq name (codes "raw")) (Ok (Some Raw))
+    (cond (bytes_eq name (codes "script")) (Ok (Some Script))
+    (cond (bytes_eq name (codes "ttyrec")) (Ok (Some Ttyrec))
+    (cond (bytes_eq name (codes "asciicast")) (Ok (Some Asciicast))
+    (cond (bytes_eq name (codes "auto")) (Ok None) (Err NoFormat)))))
 
 -- a timing file goes with a recording of script(1) alone
-abbrev pub takes_timing : Format → Bool
-takes_timing Raw = false
-takes_timing Script = true
-takes_timing Ttyrec = false
-takes_timing Asciicast = false
+abbrev pub takes_timing : Option Format → Bool
+takes_timing (Some Raw) = false
+takes_timing (Some Script) = true
+takes_timing (Some Ttyrec) = false
+takes_timing (Some Asciicast) = false
+takes_timing None = false
 
--- the recording has times: that of script(1) in its timing file
-abbrev pub has_times : Format → (timed : Bool) → Bool
-has_times Raw timed = false
-has_times Script timed = timed
-has_times Ttyrec timed = true
-has_times Asciicast timed = true
+-- the recording has times: that of script(1) in its timing file. Where its beginning decides, it may have some
+abbrev pub has_times : Option Format → (timed : Bool) → Bool
+has_times (Some Raw) timed = false
+has_times (Some Script) timed = timed
+has_times (Some Ttyrec) timed = true
+has_times (Some Asciicast) timed = true
+has_times None timed = true
 
 -- the recording has the moment
-abbrev pub has_moment : Format → (timed : Bool) → Moment → Bool
+abbrev pub has_moment : Option Format → (timed : Bool) → Moment → Bool
 has_moment format timed (Micros n) = has_times format timed
 has_moment format timed (Bytes n) = true
 
 -- the moment that `--until` gives
-abbrev pub until_given : Format → (timed : Bool) → Option Moment → Result (Option Moment) Complaint
+abbrev pub until_given : Option Format → (timed : Bool) → Option Moment → Result (Option Moment) Complaint
 until_given format timed None = Err NoMoment
 until_given format timed (Some m) = cond (has_moment format timed m) (Ok (Some m)) (Err NoTimes)
 
-abbrev pub until_of : Format → (timed : Bool) → Option Text → Result (Option Moment) Complaint
+abbrev pub until_of : Option Format → (timed : Bool) → Option Text → Result (Option Moment) Complaint
 until_of format timed None = Ok None
 until_of format timed (Some text) = until_given format timed (moment text)
 
-abbrev pub with_until : Format → Result (Option Moment) Complaint → Result Source Complaint
+abbrev pub with_until : Option Format → Result (Option Moment) Complaint → Result Source Complaint
 with_until format (Ok until) = Ok (record { format = format; until = until })
 with_until format (Err complaint) = Err complaint
 
 -- by the format, whether there is a timing file, and the text of `--until`
-abbrev pub source_by : Option Format → (timed : Bool) → Option Text → Result Source Complaint
-source_by None timed until = Err NoFormat
-source_by (Some format) timed until =
+abbrev pub source_by : Result (Option Format) Complaint → (timed : Bool) → Option Text → Result Source Complaint
+source_by (Err complaint) timed until = Err complaint
+source_by (Ok format) timed until =
     cond (timed && not (takes_timing format)) (Err NoTimingFile) (with_until format (until_of format timed until))
 
-abbrev pub named : Option Text → Option Format
-named None = None
+abbrev pub named : Option Text → Result (Option Format) Complaint
+named None = Err NoFormat
 named (Some name) = format_named name
 
 -- by the texts of the options
@@ -71,10 +74,11 @@ source_in matches =
     source_of (first_of (codes "format") matches) (is_some (first_of (codes "timing") matches))
     (first_of (codes "until") matches)
 
--- what is said of options that don't fit
+-- what is said of options that don't fit: the fault, and after some of them a line with a way out
 abbrev pub line_of : Complaint → List ℕ
-line_of NoFormat = codes "vt220: --format is raw, script, ttyrec or asciicast" ++ 0x0A ∷ []
+line_of NoFormat =
+    codes "vt220: --format is raw, script, ttyrec or asciicast" ++ 0x0A ∷ codes "vt220: or it is auto: then the beginning of the input decides" ++ 0x0A ∷ []
 line_of NoTimingFile = codes "vt220: --timing goes with --format script alone" ++ 0x0A ∷ []
 line_of NoMoment = codes "vt220: --until is seconds, as 12.5 or 12:31, or bytes, as 4096b" ++ 0x0A ∷ []
 line_of NoTimes =
-    codes "vt220: the input has no times; give --until in bytes, as 4096b, or script its --timing FILE" ++ 0x0A ∷ []
+    codes "vt220: the input has no times; give --until in bytes, as 4096b, or script its --timing FILE" ++ 0x0A ∷ codes "vt220: a recording by ttyrec or asciinema has times: add --format ttyrec, asciicast or auto" ++ 0x0A ∷ []

@@ -44,12 +44,14 @@ pub struct Request {
     pub limit: u64,
     /// The file to read, or none for standard input.
     pub file: Option<String>,
-    /// How the input was recorded.
-    pub format: Format,
+    /// How the input was recorded, or none if its beginning decides.
+    pub format: Option<Format>,
     /// The file with the times of a recording by script(1), if there is one.
     pub timing: Option<String>,
     /// The moment up to which the input is wanted, or none for all of it.
     pub until: Option<Moment>,
+    /// Whether the notes on standard error are left out.
+    pub quiet: bool,
     pub ghost piece_in_range: { (1 ≤ piece) × (piece ≤ 65536) },
     pub ghost limit_in_range: { limit ≤ 1099511627776 },
 }

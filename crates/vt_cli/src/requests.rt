@@ -5,9 +5,9 @@ ghost use Rattle.clap.specs.declared.builder.command.Command.TheViews.{out-Comma
 ghost use Rattle.vt_cli.specs.declared.what.Word.{Word};
 ghost use Rattle.vt_cli.specs.CommandLine.{subcommand};
 ghost use Rattle.vt_cli.specs.Source.{source_in};
-ghost use Rattle.vt_cli.specs.Request.{text_option, format_option, with_format, with_source, with_name};
+ghost use Rattle.vt_cli.specs.Request.{text_option, flag_option, format_option, with_format, with_source, with_name};
 ghost use Rattle.vt_cli.specs.Request.{wider, wider_faults_in, wider_found_in, word_name};
-ghost use Rattle.vt_cli.specs.Request.{AsksFor, IsFound, HasNoRequest, IsRequest, IsNoRequest, IsWiderRefusal};
+ghost use Rattle.vt_cli.specs.Request.{is_true, is_set, AsksFor, IsFound, HasNoRequest, IsRequest, IsNoRequest, IsWiderRefusal};
 
 use crate::asked::{Refused, Request, Settings};
 use crate::command_line::{
@@ -16,7 +16,7 @@ use crate::command_line::{
 };
 use crate::source::{Source, source_in};
 use crate::what::Word;
-use clap::{Arg, ArgMatches, Command, Error};
+use clap::{Arg, ArgAction, ArgMatches, Command, Error};
 use std::alloc::{AllocError, Global};
 use vt_recording::Format;
 
@@ -57,9 +57,10 @@ const AFTER_HELP: &str = "\
 Each command but help takes FILE, or standard input if no file is named, and these options:
   --piece N        the most bytes of one read, 1 to 65536 [default: 4096]
   --limit N        the most bytes of the input, 0 to 1099511627776 [default: 268435456]
-  --format FORMAT  how FILE was recorded: raw, script, ttyrec or asciicast [default: raw]
+  --format FORMAT  how FILE was recorded: raw, script, ttyrec, asciicast or auto [default: raw]
   --timing FILE    the times of a recording by script(1)
   --until MOMENT   only what came before: seconds, as 12.5 or 12:31, or bytes, as 4096b
+  --quiet          no notes on standard error; faults are printed all the same
 
 Example, with a recording made by script(1):
   script -q -c 'stty rows 24 cols 80; TERM=vt220 LC_ALL=C top -n 1' /dev/null > top.bin
@@ -103,7 +104,7 @@ fn format_option<'a>(alloc: Global) -> Arg<'a>
         .long("format")
         .value_name("FORMAT")
         .default_value("raw")
-        .help("How FILE was recorded: raw, script, ttyrec or asciicast")
+        .help("How FILE was recorded: raw, script, ttyrec, asciicast or auto")
 }
 
 /// Returns the option for the timing file.
@@ -124,6 +125,17 @@ fn until_option<'a>(alloc: Global) -> Arg<'a>
     text_option(alloc, "until", "MOMENT", help)
 }
 
+/// Returns the option that leaves out the notes.
+fn quiet_option<'a>(alloc: Global) -> Arg<'a>
+    ensures rule { rule_of result ≡ flag_option (codes "quiet") }
+    ensures local { result.global ≡ false }
+{
+    Arg::new(alloc, "quiet")
+        .long("quiet")
+        .action(ArgAction::SetTrue)
+        .help("No notes on standard error; faults are printed all the same")
+}
+
 /// Adds the options for the format and the timing file.
 fn with_format<'a>(alloc: Global, command: Command<'a>) -> Result<Command<'a>, AllocError>
     requires { (out-Command command).has_globals ≡ false }
@@ -140,8 +152,8 @@ fn with_source<'a>(alloc: Global, command: Command<'a>) -> Result<Command<'a>, A
     ensures app { IfOk result (λ c. app_of c ≡ with_source (app_of command.entry)) }
     ensures local { IfOk result (λ c. (out-Command c).has_globals ≡ false) }
 {
-    let command = with_format(alloc, command)?;
-    command.arg(until_option(alloc))
+    let command = with_format(alloc, command)?.arg(until_option(alloc))?;
+    command.arg(quiet_option(alloc))
 }
 
 /// Returns a subcommand with its options, those of a recording and the file.
@@ -210,6 +222,26 @@ fn word_of(name: &str) -> Option<Word>
     }
 }
 
+/// Returns whether an option without a value was used, by the text that clap has for it.
+fn is_true(text: Option<&str>) -> bool
+    ensures { result ≡ is_true (option_map (λ t. t.now) text.entry) }
+{
+    let Some(text) = text else {
+        return false;
+    };
+    match text {
+        "true" => true,
+        _ => false,
+    }
+}
+
+/// Returns whether an option without a value was used.
+fn is_set(matches: &ArgMatches<'_>, option: &str) -> bool
+    ensures { result ≡ is_set option.now (rows_of (found_of matches.now)) }
+{
+    is_true(matches.get_str(option))
+}
+
 /// Returns what a subcommand asks for, if its numbers are in their ranges.
 fn request_of(
     alloc: Global,
@@ -236,6 +268,7 @@ fn request_of(
         format: source.format,
         timing,
         until: source.until,
+        quiet: is_set(matches, "quiet"),
     }))
 }
 
@@ -272,9 +305,10 @@ fn replay_request(settings: Settings) -> Request
         piece: settings.piece,
         limit: settings.limit,
         file: settings.file,
-        format: Format::Raw,
+        format: Some(Format::Raw),
         timing: None,
         until: None,
+        quiet: false,
     }
 }
 
@@ -282,8 +316,8 @@ fn replay_request(settings: Settings) -> Request
 ///
 /// If `settings` takes the arguments, the request is for these settings, with the format raw. Otherwise the arguments are
 /// those of the wider command. It also has the subcommands `log`, `pages`, `trace`, `summary` and `content`. Each of its
-/// subcommands also takes `--format FORMAT` (raw, script, ttyrec or asciicast, otherwise raw), `--timing FILE` and `--until
-/// MOMENT`. A moment is seconds (`12.5`), minutes and seconds (`12:31`), hours, minutes and seconds (`1:02:03`), or a number
+/// subcommands also takes `--format FORMAT` (raw, script, ttyrec, asciicast or auto, otherwise raw), `--timing FILE`, `--until
+/// MOMENT` and `--quiet`. With auto the beginning of the input decides. A moment is seconds (`12.5`), minutes and seconds (`12:31`), hours, minutes and seconds (`1:02:03`), or a number
 /// of bytes (`4096b`). Seconds have up to six decimals.
 ///
 /// `Err` is what to end with if there is no request: the help or the version that was asked for (status 0), a failed

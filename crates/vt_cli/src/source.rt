@@ -10,8 +10,8 @@ use vt_recording::{Format, Moment};
 /// How the input was recorded, and the moment up to which it is wanted.
 #[derive(Clone, Copy, Debug, PartialEq, Eq)]
 pub(crate) struct Source {
-    /// The format.
-    pub(crate) format: Format,
+    /// The format, or none if the beginning of the input decides.
+    pub(crate) format: Option<Format>,
     /// The moment, or none for the whole input.
     pub(crate) until: Option<Moment>,
 }
@@ -35,57 +35,59 @@ impl Complaint {
         ensures { result.now ≡ line_of self }
     {
         match self {
-            Complaint::NoFormat => "vt220: --format is raw, script, ttyrec or asciicast\n",
+            Complaint::NoFormat => {
+                "vt220: --format is raw, script, ttyrec or asciicast\n\
+                 vt220: or it is auto: then the beginning of the input decides\n"
+            }
             Complaint::NoTimingFile => "vt220: --timing goes with --format script alone\n",
             Complaint::NoMoment => {
                 "vt220: --until is seconds, as 12.5 or 12:31, or bytes, as 4096b\n"
             }
             Complaint::NoTimes => {
-                "vt220: the input has no times; give --until in bytes, as 4096b, or script its --timing FILE\n"
+                "vt220: the input has no times; give --until in bytes, as 4096b, or script its --timing FILE\n\
+                 vt220: a recording by ttyrec or asciinema has times: add --format ttyrec, asciicast or auto\n"
             }
         }
     }
 }
 
-/// Returns the format of a name.
-fn format_named(name: &str) -> Option<Format>
+/// Returns the format of a name, or none for the name that lets the beginning of the input decide.
+fn format_named(name: &str) -> Result<Option<Format>, Complaint>
     ensures { result ≡ format_named name.now }
 {
     match name {
-        "raw" => Some(Format::Raw),
-        "script" => Some(Format::Script),
-        "ttyrec" => Some(Format::Ttyrec),
-        "asciicast" => Some(Format::Asciicast),
-        _ => None,
+        "raw" => Ok(Some(Format::Raw)),
+        "script" => Ok(Some(Format::Script)),
+        "ttyrec" => Ok(Some(Format::Ttyrec)),
+        "asciicast" => Ok(Some(Format::Asciicast)),
+        "auto" => Ok(None),
+        _ => Err(Complaint::NoFormat),
     }
 }
 
 /// Returns whether a format has a timing file.
-fn takes_timing(format: Format) -> bool
+fn takes_timing(format: Option<Format>) -> bool
     ensures { result ≡ takes_timing format }
 {
     match format {
-        Format::Raw => false,
-        Format::Script => true,
-        Format::Ttyrec => false,
-        Format::Asciicast => false,
+        Some(Format::Script) => true,
+        Some(Format::Raw) | Some(Format::Ttyrec) | Some(Format::Asciicast) | None => false,
     }
 }
 
-/// Returns whether a recording has times.
-fn has_times(format: Format, timed: bool) -> bool
+/// Returns whether a recording has times. If its beginning decides on its format, it may have some.
+fn has_times(format: Option<Format>, timed: bool) -> bool
     ensures { result ≡ has_times format timed }
 {
     match format {
-        Format::Raw => false,
-        Format::Script => timed,
-        Format::Ttyrec => true,
-        Format::Asciicast => true,
+        Some(Format::Raw) => false,
+        Some(Format::Script) => timed,
+        Some(Format::Ttyrec) | Some(Format::Asciicast) | None => true,
     }
 }
 
 /// Returns whether a recording has a moment.
-fn has_moment(format: Format, timed: bool, moment: Moment) -> bool
+fn has_moment(format: Option<Format>, timed: bool, moment: Moment) -> bool
     ensures { result ≡ has_moment format timed moment }
 {
     match moment {
@@ -95,7 +97,11 @@ fn has_moment(format: Format, timed: bool, moment: Moment) -> bool
 }
 
 /// Returns the moment up to which a recording is wanted.
-fn until_of(format: Format, timed: bool, until: Option<&str>) -> Result<Option<Moment>, Complaint>
+fn until_of(
+    format: Option<Format>,
+    timed: bool,
+    until: Option<&str>,
+) -> Result<Option<Moment>, Complaint>
     ensures { result ≡ until_of format timed (option_map (λ u. u.now) until.entry) }
 {
     let Some(text) = until else {
@@ -115,8 +121,9 @@ fn source_of(format: Option<&str>, timed: bool, until: Option<&str>) -> Result<S
     let Some(name) = format else {
         return Err(Complaint::NoFormat);
     };
-    let Some(format) = format_named(name) else {
-        return Err(Complaint::NoFormat);
+    let format = match format_named(name) {
+        Ok(format) => format,
+        Err(complaint) => return Err(complaint),
     };
     if timed && !takes_timing(format) {
         return Err(Complaint::NoTimingFile);

@@ -1,5 +1,5 @@
 -- What a request takes from its reader and gives to its writer. (this profile)
-use Rattle.std.specs.Prelude.{◌≡◌, ◌⊎◌, ℕ, ◌≤◌, ◌+◌, ◌++◌, List, [], length, Bool, true, false, Option, Some, None, Result, Ok, Err}
+use Rattle.std.specs.Prelude.{◌≡◌, ◌⊎◌, ℕ, ◌≤◌, ◌+◌, ◌++◌, List, [], length, Bool, true, false, not, Option, Some, None, Result, Ok, Err}
 use Rattle.std.specs.declared.alloc.Global.{Global}
 use Rattle.std.specs.declared.vec.Vec.{Vec}
 use Rattle.vt_device.specs.Runs.{Flags}
@@ -7,6 +7,10 @@ use Rattle.vt_cli.specs.declared.asked.Request.{Request}
 use Rattle.vt_recording.specs.declared.format.Format.{Format}
 use Rattle.vt_recording.specs.declared.format.Format.TheVariants as format
 use Rattle.vt_recording.specs.declared.format.Moment.{Moment}
+use Rattle.vt_recording.specs.declared.format.Moment.TheVariants.{Micros, Bytes}
+use Rattle.vt_recording.specs.declared.detection.Detected.{Detected}
+use Rattle.vt_recording.specs.declared.detection.Detected.TheVariants.{Recording, Compressed}
+use Rattle.vt_recording.specs.Detection.{detected}
 use Rattle.vt_recording.specs.declared.format.Break.{Break}
 use Rattle.vt_recording.specs.Taken.{IsTaken}
 use Rattle.vt_recording.specs.declared.fault.Fault.TheVariants as unread
@@ -14,7 +18,7 @@ use Rattle.vt_recording.specs.declared.fault.Fault.{Fault as Unread}
 use Rattle.vt_replay.specs.declared.fault.Fault.{Fault as ReplayFault}
 use Rattle.vt_replay.specs.declared.fault.Fault.TheVariants as replay
 use Rattle.vt_commands.specs.declared.fault.Fault.{Fault}
-use Rattle.vt_commands.specs.declared.fault.Fault.TheVariants.{Replay, Broken}
+use Rattle.vt_commands.specs.declared.fault.Fault.TheVariants.{Replay, Broken, NoTimes}
 use Rattle.vt_commands.specs.declared.requests.Outcome.{Outcome}
 use Rattle.vt_commands.specs.Words.{WordTable}
 
@@ -54,14 +58,14 @@ pub record IsPlayed (o : Outcome) (r : Request) (content : List ℕ) (broken : O
   pub replaces : o.replaced ≡ replaced
 
 -- the input was read whole and taken apart, and the word was carried out on its content
-pub record IsTakenApart (o : Outcome) (r : Request) (timing : Option (List ℕ)) (b w : List ℕ) (f : Flags) : Type 0 where
+pub record IsTakenApart (o : Outcome) (r : Request) (format : Format) (timing : Option (List ℕ)) (b w : List ℕ) (f : Flags) : Type 0 where
   pub reader_failed : f.reader_failed ≡ false
   pub reader_ended : f.reader_ended ≡ true
   pub within : length b ≤ r.limit
   pub content : List ℕ
   pub broken : Option Break
   pub replaced : ℕ
-  pub taken : IsTaken r.format r.until timing b content broken replaced
+  pub taken : IsTaken format r.until timing b content broken replaced
   pub played : IsPlayed o r content broken replaced w f.writer_failed
 
 -- why an input wasn't read whole or taken apart
@@ -78,6 +82,7 @@ TimingTable (Ok bytes) b failed ended limit = (failed ≡ false) × (ended ≡ t
     × (bytes.items ≡ b)
 TimingTable (Err (Replay fault)) b failed ended limit = UnreadTable fault b failed ended limit
 TimingTable (Err (Broken place)) b failed ended limit = ⊥
+TimingTable (Err NoTimes) b failed ended limit = ⊥
 
 -- the input wasn't read whole or taken apart, and nothing was written
 pub record IsUnread (o : Outcome) (r : Request) (b w : List ℕ) (f : Flags) : Type 0 where
@@ -88,13 +93,34 @@ pub record IsUnread (o : Outcome) (r : Request) (b w : List ℕ) (f : Flags) : T
   pub nothing : w ≡ []
   pub writer_works : f.writer_failed ≡ false
 
-abbrev pub OutcomeBy : (streamed : Bool) → Outcome → Request → (timing : Option (List ℕ)) → (b w : List ℕ) → Flags → Type 0
-OutcomeBy true o r timing b w f = IsStreamed o r b w f
-OutcomeBy false o r timing b w f = IsTakenApart o r timing b w f ⊎ IsUnread o r b w f
+abbrev pub OutcomeBy : (streamed : Bool) → Outcome → Request → Format → (timing : Option (List ℕ)) → (b w : List ℕ) → Flags → Type 0
+OutcomeBy true o r format timing b w f = IsStreamed o r b w f
+OutcomeBy false o r format timing b w f = IsTakenApart o r format timing b w f ⊎ IsUnread o r b w f
 
--- what an outcome says, b being the bytes read and w the bytes written
-abbrev pub OutcomeTable : Outcome → Request → (timing : Option (List ℕ)) → (b w : List ℕ) → Flags → Type 0
-OutcomeTable o r timing b w f = OutcomeBy (is_streamed r.format r.until) o r timing b w f
+-- what an outcome says of an input in a format, b being the bytes read and w the bytes written
+abbrev pub OutcomeTable : Outcome → Request → Format → (timing : Option (List ℕ)) → (b w : List ℕ) → Flags → Type 0
+OutcomeTable o r format timing b w f = OutcomeBy (is_streamed format r.until) o r format timing b w f
+
+-- ---- an input whose beginning decides on its format
+
+-- the format that the beginning shows: a compressed file is played as it is
+abbrev pub shown_format : Detected → Format
+shown_format (Recording format) = format
+shown_format (Compressed compression) = format.Raw
+
+-- by the format that was asked for, or else by the beginning
+abbrev pub format_of : Option Format → (beginning : List ℕ) → Format
+format_of (Some format) beginning = format
+format_of None beginning = shown_format (detected beginning)
+
+-- the moment is a time, and the recording has no times
+abbrev pub lacks_times : Format → (timed : Bool) → Option Moment → Bool
+lacks_times format.Raw timed (Some (Micros n)) = true
+lacks_times format.Script timed (Some (Micros n)) = not timed
+lacks_times format.Ttyrec timed (Some (Micros n)) = false
+lacks_times format.Asciicast timed (Some (Micros n)) = false
+lacks_times format timed (Some (Bytes n)) = false
+lacks_times format timed None = false
 
 -- the fault of a replay for one of the reading; private contracts alone speak of this
 abbrev pub unread_fault : Unread → ReplayFault

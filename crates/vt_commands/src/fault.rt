@@ -13,6 +13,8 @@ pub enum Fault {
     Replay(vt_replay::Fault),
     /// The recording breaks its format at this place. What came before it was played, and what is due was written.
     Broken(Break),
+    /// The beginning of the input decided on its format, which has no times, and the moment is one. Nothing was written.
+    NoTimes,
 }
 
 impl Fault {
@@ -23,6 +25,7 @@ impl Fault {
         match self {
             Fault::Replay(fault) => fault.status(),
             Fault::Broken(_) => 7,
+            Fault::NoTimes => 2,
         }
     }
 }
@@ -41,6 +44,10 @@ impl fmt::Display for Fault {
                     write!(f, "vt220: the timing file is broken at byte {}", place.at)
                 }
             },
+            Fault::NoTimes => write!(
+                f,
+                "vt220: the input has no times; give --until in bytes, as 4096b"
+            ),
         }
     }
 }

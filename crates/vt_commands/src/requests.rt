@@ -6,7 +6,7 @@ ghost use Rattle.vt_device.specs.Writing.{Gives};
 ghost use Rattle.vt_replay.specs.Output.{OutputTable};
 ghost use Rattle.vt_commands.specs.Words.{WordTable, pages_written, screen, trace_written, trace_ending, all, nothing};
 ghost use Rattle.vt_commands.specs.declared.fault.Fault.TheVariants.{Replay};
-ghost use Rattle.vt_commands.specs.Request.{is_streamed, unread_fault, ended_of, IsStreamed, IsPlayed, OutcomeTable, TimingTable};
+ghost use Rattle.vt_commands.specs.Request.{is_streamed, format_of, lacks_times, unread_fault, ended_of, IsStreamed, IsPlayed, OutcomeTable, TimingTable};
 
 use crate::counting::write_summary;
 use crate::fault::Fault;
@@ -16,7 +16,7 @@ use std::io::{Read, Write};
 use vt_cli::{Format, Moment, Request, Word};
 use vt_device::Watched;
 use vt_log::laws::pages_cut;
-use vt_recording::{Break, Content, Taken, read_recording, take_apart};
+use vt_recording::{Break, Content, Detected, Taken, detect, read_recording, take_apart};
 use vt_replay::{run, write_log, write_output};
 use vt_term::laws::soundness;
 
@@ -193,8 +193,38 @@ fn unread(fault: vt_replay::Fault) -> Outcome
     }
 }
 
-/// Carries out a request on the reader's bytes, and writes what is due. It doesn't look at the request's files: the caller
-/// opens its file as the reader, and reads its timing file. Neither device has failed before, and the reader hasn't ended.
+/// Returns the format of an input that begins so: the one that was asked for, if one was, otherwise the one that the
+/// beginning shows. A compressed file is raw. `DETECTION_LENGTH` bytes suffice.
+pub fn format_of(wanted: Option<Format>, beginning: &[u8]) -> Format
+    ensures { result ≡ format_of wanted beginning.now }
+{
+    match wanted {
+        Some(format) => format,
+        None => match detect(beginning) {
+            Detected::Recording(format) => format,
+            Detected::Compressed(_) => Format::Raw,
+        },
+    }
+}
+
+/// Returns whether the moment is a time, and a recording in the format, with a timing file or without, has no times.
+pub fn lacks_times(format: Format, timed: bool, until: Option<Moment>) -> bool
+    ensures { result ≡ lacks_times format timed until }
+{
+    let Some(Moment::Micros(_)) = until else {
+        return false;
+    };
+    match format {
+        Format::Raw => true,
+        Format::Script => !timed,
+        Format::Ttyrec => false,
+        Format::Asciicast => false,
+    }
+}
+
+/// Carries out a request on the reader's bytes in a format, and writes what is due. The caller knows the format by
+/// `format_of`. It doesn't look at the request's files: the caller opens its file as the reader, and reads its timing file.
+/// Neither device has failed before, and the reader hasn't ended.
 ///
 /// If the format is raw and all of the input is wanted, the word is carried out on the bytes as they come. Otherwise the
 /// input is read whole, and the word is carried out on its content up to the moment. If the recording is broken, that is
@@ -202,6 +232,7 @@ fn unread(fault: vt_replay::Fault) -> Outcome
 pub fn carry_out<R: Read, W: Write>(
     alloc: Global,
     reader: &mut Watched<R>,
+    format: Format,
     timing: Option<&[u8]>,
     writer: &mut Watched<W>,
     request: &Request,
@@ -211,14 +242,14 @@ pub fn carry_out<R: Read, W: Write>(
     requires writer_works { writer.old.failed ≡ false }
     ensures answer { Moves (R.remaining reader.old.device) (R.remaining reader.new.device) (W.contents writer.old.device)
         (W.contents writer.new.device)
-        (λ b w. OutcomeTable result request.now (option_map (λ t. t.now) timing.entry) b w (record { reader_failed = reader.new.failed; reader_ended = reader.new.ended; writer_failed = writer.new.failed })) }
+        (λ b w. OutcomeTable result request.now format (option_map (λ t. t.now) timing.entry) b w (record { reader_failed = reader.new.failed; reader_ended = reader.new.ended; writer_failed = writer.new.failed })) }
     ensures whole { reader.new.ended ≡ true → IsAtEnd (R.remaining reader.new.device) }
 {
-    if is_streamed(request.format, request.until) {
+    if is_streamed(format, request.until) {
         return stream(alloc, reader, writer, request);
     }
     match read_recording(alloc, reader, request.limit as usize) {
-        Ok(bytes) => match take_apart(alloc, &bytes, timing, request.format, request.until) {
+        Ok(bytes) => match take_apart(alloc, &bytes, timing, format, request.until) {
             Ok(taken) => play_taken(alloc, taken, writer, request),
             Err(AllocError) => unread(vt_replay::Fault::Memory),
         },

@@ -1,4 +1,4 @@
-//! A device that is read or written, and two flags of its past calls. The engines that play a recording or take one
+//! A device that is read or written, two flags of its past calls, and their last error. The engines that play a recording or take one
 //! apart share it.
 #![tactic(auto)]
 

@@ -1,19 +1,20 @@
-//! A device with two flags of its past calls.
-ghost use Rattle.std.specs.Prelude.{◌≡◌, ◌||◌, false};
+//! A device with two flags of its past calls, and their last error.
+ghost use Rattle.std.specs.Prelude.{◌≡◌, ◌||◌, None, false};
 ghost use Rattle.std.specs.Io.{ReadsAtMost, WritesAtMost};
 ghost use Rattle.std.specs.Io.KnownBytes.{ReadConsumes, WriteAppends};
-ghost use Rattle.vt_device.specs.Watched.{read_failed, read_ended, write_failed};
+ghost use Rattle.vt_device.specs.Watched.{read_failed, read_ended, write_failed, error_after};
 
 use std::io;
 use std::io::{Read, Write};
 use std::marker::Model;
 
-/// A reader or writer, and two flags: whether it failed, and whether it reached its end.
+/// A reader or writer, two flags (whether it failed, and whether it reached its end), and the last error that it returned.
 #[derive(Debug, Drop)]
 pub struct Watched<D> {
     device: D,
     failed: bool,
     ended: bool,
+    error: Option<io::Error>,
 }
 
 impl<D> Model for Watched<D> {
@@ -21,20 +22,22 @@ impl<D> Model for Watched<D> {
 
     ghost Value = { Watch D };
 
-    ghost view = { λ w. record { device = w.device; failed = w.failed; ended = w.ended } };
+    ghost view = { λ w. record { device = w.device; failed = w.failed; ended = w.ended; error = w.error } };
 }
 
 impl<D> Watched<D> {
-    /// Returns a watched device with both flags false.
+    /// Returns a watched device with both flags false, and no error.
     pub fn new(device: D) -> Watched<D>
         ensures device { result.device ≡ device }
         ensures failed { result.failed ≡ false }
         ensures ended { result.ended ≡ false }
+        ensures error { result.error ≡ None }
     {
         Watched {
             device,
             failed: false,
             ended: false,
+            error: None,
         }
     }
 
@@ -52,6 +55,13 @@ impl<D> Watched<D> {
         self.ended
     }
 
+    /// Returns the last error that the device returned, or none. A write of no byte returns no error.
+    pub fn error(&self) -> Option<io::Error>
+        ensures { result ≡ self.now.error }
+    {
+        self.error
+    }
+
     /// Returns the device.
     pub fn into_inner(self) -> D
         ensures { result ≡ self.device }
@@ -60,19 +70,21 @@ impl<D> Watched<D> {
             device,
             failed: _,
             ended: _,
+            error: _,
         } = self;
         device
     }
 }
 
 impl<D: Read> Watched<D> {
-    /// Reads as the device does, and sets the flags. An error sets `failed`. No byte, if the buffer isn't empty, sets
+    /// Reads as the device does, sets the flags, and keeps an error. An error sets `failed`. No byte, if the buffer isn't empty, sets
     /// `ended`.
     pub fn read(&mut self, buf: &mut [u8]) -> io::Result<usize>
         ensures bound { ReadsAtMost result buf.new }
         ensures bytes { ReadConsumes (D.remaining self.old.device) (D.remaining self.new.device) result buf.new }
         ensures failed { self.new.failed ≡ (self.old.failed || read_failed result) }
         ensures ended { self.new.ended ≡ (self.old.ended || read_ended result buf.old) }
+        ensures error { self.new.error ≡ error_after self.old.error result }
     {
         let answer = self.device.read(buf);
         match &answer {
@@ -81,19 +93,23 @@ impl<D: Read> Watched<D> {
                     self.ended = true;
                 }
             }
-            Err(_) => self.failed = true,
+            Err(error) => {
+                self.failed = true;
+                self.error = Some(*error);
+            }
         }
         answer
     }
 }
 
 impl<D: Write> Watched<D> {
-    /// Writes as the device does, and sets the flags. An error, or no byte of a chunk that isn't empty, sets `failed`.
+    /// Writes as the device does, sets the flags, and keeps an error. An error, or no byte of a chunk that isn't empty, sets `failed`.
     pub fn write(&mut self, piece: &[u8]) -> io::Result<usize>
         ensures bound { WritesAtMost result piece.now }
         ensures bytes { WriteAppends (D.contents self.old.device) (D.contents self.new.device) result piece.now }
         ensures failed { self.new.failed ≡ (self.old.failed || write_failed result piece.now) }
         ensures ended { self.new.ended ≡ self.old.ended }
+        ensures error { self.new.error ≡ error_after self.old.error result }
     {
         let answer = self.device.write(piece);
         match &answer {
@@ -102,7 +118,10 @@ impl<D: Write> Watched<D> {
                     self.failed = true;
                 }
             }
-            Err(_) => self.failed = true,
+            Err(error) => {
+                self.failed = true;
+                self.error = Some(*error);
+            }
         }
         answer
     }

@@ -38,14 +38,25 @@ top_of row = 18 * (row - 1)
 abbrev pub baseline_of : ℕ → ℕ
 baseline_of row = top_of row + 13
 
--- a rectangle over some cells of a row, from a column on
+-- a rectangle with these attributes over some cells of a row, from a column on
 unfoldable pub rectangle : List ℕ → ℕ → ℕ → ℕ → List ℕ
-rectangle class row col count =
-    codes "<rect class='" ++ class
-    ++ codes "' x='" ++ decimal (left_of col)
+rectangle attributes row col count =
+    codes "<rect" ++ attributes
+    ++ codes " x='" ++ decimal (left_of col)
     ++ codes "' y='" ++ decimal (top_of row)
     ++ codes "' width='" ++ decimal (width_of count)
     ++ codes "' height='18'/>" ++ line_feed
+
+-- ---- colours: light ink on dark paper or, reversed, dark ink on light paper
+
+abbrev pub fill : (light : Bool) → List ℕ
+fill light = if light then codes " fill='#d0d0d0'" else codes " fill='#101010'"
+
+abbrev pub ink : (reversed : Bool) → List ℕ
+ink reversed = fill (not reversed)
+
+abbrev pub paper : (reversed : Bool) → List ℕ
+paper reversed = fill reversed
 
 -- ---- runs: adjacent cells that aren't blank and have the same attributes
 
@@ -63,18 +74,18 @@ abbrev pub is_followed : Rendition → List Cell → Bool
 is_followed look [] = false
 is_followed look (cell ∷ cells) = goes_on look cell
 
--- ink on paper or, reversed, paper on ink; bold, underlined, blinking
-abbrev pub classes : Rendition → List ℕ
-classes look =
-    (if look.reverse then codes "p" else codes "i")
-    ++ when look.bold (codes " b") ++ when look.underline (codes " u") ++ when look.blink (codes " k")
+-- the classes: text that is bold, underlined, blinking. The characters of a reverse run have the colour of the paper
+abbrev pub run_attributes : (reversed : Bool) → Rendition → List ℕ
+run_attributes reversed look =
+    codes " class='vt220-text" ++ when look.bold (codes " vt220-b") ++ when look.underline (codes " vt220-u")
+    ++ when look.blink (codes " vt220-k") ++ codes "'" ++ when look.reverse (paper reversed)
 
--- what comes before the characters of a run of this many cells: the ink under them if it is reversed, and their element
-unfoldable pub run_start : Rendition → ℕ → ℕ → ℕ → List ℕ
-run_start look row col count =
-    when look.reverse (rectangle (codes "i") row col count)
-    ++ codes "<text class='" ++ classes look
-    ++ codes "' x='" ++ decimal (left_of col)
+-- what comes before the characters of a run of this many cells: the ink under them if it is reverse, and their element
+unfoldable pub run_start : (reversed : Bool) → Rendition → ℕ → ℕ → ℕ → List ℕ
+run_start reversed look row col count =
+    when look.reverse (rectangle [] row col count)
+    ++ codes "<text" ++ run_attributes reversed look
+    ++ codes " x='" ++ decimal (left_of col)
     ++ codes "' y='" ++ decimal (baseline_of row)
     ++ codes "' textLength='" ++ decimal (width_of count)
     ++ codes "' lengthAdjust='spacingAndGlyphs'>"
@@ -84,29 +95,31 @@ run_end = codes "</text>" ++ line_feed
 
 -- a cell that isn't blank: it starts a run if the cell to its left has other attributes or is blank, and ends one if
 -- the cell to its right has or is
-unfoldable pub shown_cell : ℕ → ℕ → Cell → Cell → List Cell → List ℕ
-shown_cell row col left cell rest =
+unfoldable pub shown_cell : (reversed : Bool) → ℕ → ℕ → Cell → Cell → List Cell → List ℕ
+shown_cell reversed row col left cell rest =
     when (not (goes_on cell.rendition left))
-    (run_start cell.rendition row col (run_length cell.rendition rest + 1))
+    (run_start reversed cell.rendition row col (run_length cell.rendition rest + 1))
     ++ escaped cell.glyph
     ++ when (not (is_followed cell.rendition rest)) run_end
 
 -- a blank cell is left out
-abbrev pub cell_picture : ℕ → ℕ → Cell → Cell → List Cell → List ℕ
-cell_picture row col left cell rest = when (not (is_blank cell)) (shown_cell row col left cell rest)
+abbrev pub cell_picture : (reversed : Bool) → ℕ → ℕ → Cell → Cell → List Cell → List ℕ
+cell_picture reversed row col left cell rest =
+    when (not (is_blank cell)) (shown_cell reversed row col left cell rest)
 
 -- the cells of a row starting at a column, after a cell to their left
-abbrev pub cells_picture : ℕ → ℕ → Cell → List Cell → List ℕ
-cells_picture row col left [] = []
-cells_picture row col left (cell ∷ rest) = cell_picture row col left cell rest ++ cells_picture row (col + 1) cell rest
+abbrev pub cells_picture : (reversed : Bool) → ℕ → ℕ → Cell → List Cell → List ℕ
+cells_picture reversed row col left [] = []
+cells_picture reversed row col left (cell ∷ rest) =
+    cell_picture reversed row col left cell rest ++ cells_picture reversed row (col + 1) cell rest
 
 -- left of column 1 counts as blank
-abbrev pub row_picture : ℕ → List Cell → List ℕ
-row_picture row cells = cells_picture row 1 blank cells
+abbrev pub row_picture : (reversed : Bool) → ℕ → List Cell → List ℕ
+row_picture reversed row cells = cells_picture reversed row 1 blank cells
 
 -- the first rows
-unfoldable pub rows_picture : ℕ → Grid → List ℕ
-rows_picture count g = flat_map (λ r. row_picture r (row_of g r)) (range_with_len 1 count)
+unfoldable pub rows_picture : (reversed : Bool) → ℕ → Grid → List ℕ
+rows_picture reversed count g = flat_map (λ r. row_picture reversed r (row_of g r)) (range_with_len 1 count)
 
 -- ---- the document
 
@@ -118,49 +131,51 @@ alternative_line cells = flat_map (λ cell. escaped cell.glyph) (trimmed cells) 
 unfoldable pub alternative : ℕ → Grid → List ℕ
 alternative count g = flat_map (λ r. alternative_line (row_of g r)) (range_with_len 1 count)
 
--- its start, up to the text alternative
+-- its start, up to the text alternative. Around the cells is a margin as wide as a column
 unfoldable pub document_start : ℕ → List ℕ
 document_start columns =
-    codes "<svg xmlns='http://www.w3.org/2000/svg' viewBox='0 0 " ++ decimal (width_of columns)
-    ++ codes " 432' width='" ++ decimal (width_of columns)
-    ++ codes "' height='432' role='img' aria-labelledby='t d' xml:space='preserve'>" ++ line_feed
-    ++ codes "<title id='t'>VT220 screen</title>" ++ line_feed
-    ++ codes "<desc id='d'>"
+    codes "<svg xmlns='http://www.w3.org/2000/svg' viewBox='-10 -10 " ++ decimal (width_of (columns + 2))
+    ++ codes " 452' width='" ++ decimal (width_of (columns + 2))
+    ++ codes "' height='452' role='img' xml:space='preserve'>" ++ line_feed
+    ++ codes "<title>VT220 screen</title>" ++ line_feed
+    ++ codes "<desc>"
 
--- light ink on dark paper, or the reverse
-abbrev pub colours : Bool → List ℕ
-colours reversed =
-    if reversed then codes ".i{fill:#101010}.p{fill:#d0d0d0}" else codes ".i{fill:#d0d0d0}.p{fill:#101010}"
-
--- the font, and what the classes look like
-unfoldable pub style : Bool → List ℕ
-style reversed =
+-- the style, the same in every picture. Its names are of pictures alone, and no two of its rules set the same property,
+-- so an HTML page may hold several
+unfoldable pub style : List ℕ
+style =
     codes "</desc>" ++ line_feed
-    ++ codes "<style>text{font:16.6px 'DejaVu Sans Mono','Liberation Mono',Menlo,Consolas,monospace;white-space:pre}"
-    ++ line_feed
-    ++ codes ".b{font-weight:bold}.u{text-decoration:underline}.k{animation:k 1s steps(1) infinite}" ++ line_feed
-    ++ codes "@keyframes k{50%{opacity:0}}.c{fill:none;stroke:#e80;stroke-width:2}" ++ line_feed
-    ++ colours reversed
-    ++ codes "</style>" ++ line_feed
+    ++ codes "<style>.vt220-text{font-family:'DejaVu Sans Mono','Liberation Mono',Menlo,Consolas,monospace;"
+    ++ codes "font-size:16.6px;white-space:pre}" ++ line_feed
+    ++ codes ".vt220-b{font-weight:bold}.vt220-u{text-decoration:underline}" ++ line_feed
+    ++ codes "@media (prefers-reduced-motion:no-preference){.vt220-k{animation:vt220-k 1s steps(1) infinite}}" ++ line_feed
+    ++ codes "@keyframes vt220-k{50%{opacity:0}}</style>" ++ line_feed
 
--- the paper under all cells
-unfoldable pub paper : List ℕ
-paper = codes "<rect class='p' width='100%' height='100%'/>" ++ line_feed
+-- the start of the group of all that is drawn: its ink, what it doesn't inherit from a page, and the paper under it
+unfoldable pub group_start : (reversed : Bool) → List ℕ
+group_start reversed =
+    codes "<g" ++ ink reversed
+    ++ codes " direction='ltr' font-style='normal' font-weight='normal' letter-spacing='0' word-spacing='0'>" ++ line_feed
+    ++ codes "<rect" ++ paper reversed ++ codes " x='-10' y='-10' width='100%' height='100%'/>" ++ line_feed
+
+abbrev pub outline : List ℕ
+outline = codes " fill='none' stroke='#e80' stroke-width='2'"
 
 -- the cursor's outline, if DECTCEM is set
 abbrev pub cursor_picture : Display → List ℕ
-cursor_picture s = when (is_set private_values 25 s.modes) (rectangle (codes "c") s.cursor.row s.cursor.col 1)
+cursor_picture s = when (is_set private_values 25 s.modes) (rectangle outline s.cursor.row s.cursor.col 1)
 
 -- the screen is dark on light if DECSCNM is set
+unfoldable pub group : Display → List ℕ
+group s =
+    group_start (is_set private_values 5 s.modes)
+    ++ rows_picture (is_set private_values 5 s.modes) last_row s.grid
+    ++ cursor_picture s
+    ++ codes "</g>" ++ line_feed
+
 unfoldable pub picture_of : Display → List ℕ
 picture_of s =
-    document_start s.grid.width
-    ++ alternative last_row s.grid
-    ++ style (is_set private_values 5 s.modes)
-    ++ paper
-    ++ rows_picture last_row s.grid
-    ++ cursor_picture s
-    ++ codes "</svg>" ++ line_feed
+    document_start s.grid.width ++ alternative last_row s.grid ++ style ++ group s ++ codes "</svg>" ++ line_feed
 
 abbrev pub picture : State → List ℕ
 picture s = picture_of s.display

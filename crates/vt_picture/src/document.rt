@@ -1,12 +1,12 @@
 //! The screen as a picture: an SVG document.
 ghost use Rattle.std.specs.Prelude.{◌≡◌, ◌+◌, ◌*◌, ◌≤◌, ◌++◌, length, vec_len, vec_capacity, OnOk, OnErr, IsOk};
 ghost use Rattle.vt_term.specs.State.{Display};
-ghost use Rattle.vt_picture.specs.Picture.{alternative, alternative_line, colours, cursor_picture, document_start};
-ghost use Rattle.vt_picture.specs.Picture.{paper, picture, rows_picture, style};
+ghost use Rattle.vt_picture.specs.Picture.{alternative, alternative_line, cursor_picture, document_start};
+ghost use Rattle.vt_picture.specs.Picture.{group, group_start, picture, rows_picture, style};
 
 use crate::bytes::{push_bytes, push_escaped, push_number};
 use crate::looks::without_blank_end;
-use crate::runs::{push_rectangle, push_row, width_of};
+use crate::runs::{fill, push_rectangle, push_row, width_of};
 use std::alloc::AllocError;
 use vt_screen::Cell;
 use vt_term::{ROWS, STOPS, Terminal};
@@ -16,28 +16,30 @@ pub const PICTURE_LIMIT: usize = ROWS * (208 * STOPS + 1) + 1000;
 
 const _: () = prove!(PICTURE_LIMIT == 659968);
 
+/// The attributes of the cursor's outline.
+const OUTLINE: &[u8] = b" fill='none' stroke='#e80' stroke-width='2'";
+
 /// Appends the start of the document, up to the text alternative.
 #[tactic(auto, unfolding(crate::specs::Picture::document_start))]
 fn push_start(columns: usize, out: &mut Vec<u8>)
     requires columns { columns ≤ STOPS }
-    requires room { vec_len out.old + 230 ≤ vec_capacity out.old }
+    requires room { vec_len out.old + 200 ≤ vec_capacity out.old }
     ensures items { out.new.items ≡ out.old.items ++ document_start columns }
-    ensures bounded { vec_len out.new ≤ vec_len out.old + 230 }
+    ensures bounded { vec_len out.new ≤ vec_len out.old + 200 }
     ensures capacity { vec_capacity out.old ≤ vec_capacity out.new }
 {
+    let width = width_of(columns + 2);
     push_bytes(
-        b"<svg xmlns='http://www.w3.org/2000/svg' viewBox='0 0 ",
+        b"<svg xmlns='http://www.w3.org/2000/svg' viewBox='-10 -10 ",
         out,
     );
-    push_number(width_of(columns), out);
-    push_bytes(b" 432' width='", out);
-    push_number(width_of(columns), out);
+    push_number(width, out);
+    push_bytes(b" 452' width='", out);
+    push_number(width, out);
     push_bytes(
-        b"' height='432' role='img' aria-labelledby='t d' xml:space='preserve'>\n",
+        b"' height='452' role='img' xml:space='preserve'>\n<title>VT220 screen</title>\n<desc>",
         out,
     );
-    push_bytes(b"<title id='t'>VT220 screen</title>\n", out);
-    push_bytes(b"<desc id='d'>", out);
 }
 
 /// Appends the text of a row, escaped for XML, without the blank cells at its end, and LF.
@@ -65,82 +67,92 @@ fn push_alternative(t: &Terminal, out: &mut Vec<u8>)
     }
 }
 
-/// Returns the colours of the ink and of the paper.
-fn colours(reversed: bool) -> &'static [u8]
-    ensures colours { result.now ≡ colours reversed }
-    ensures short { length result.now ≤ 32 }
-{
-    if reversed {
-        b".i{fill:#101010}.p{fill:#d0d0d0}"
-    } else {
-        b".i{fill:#d0d0d0}.p{fill:#101010}"
-    }
-}
-
-/// Appends the font and the classes.
+/// Appends the style, which is the same in every picture.
 #[tactic(auto, unfolding(crate::specs::Picture::style))]
-fn push_style(reversed: bool, out: &mut Vec<u8>)
-    requires { vec_len out.old + 500 ≤ vec_capacity out.old }
-    ensures items { out.new.items ≡ out.old.items ++ style reversed }
-    ensures bounded { vec_len out.new ≤ vec_len out.old + 500 }
+fn push_style(out: &mut Vec<u8>)
+    requires { vec_len out.old + 350 ≤ vec_capacity out.old }
+    ensures items { out.new.items ≡ out.old.items ++ style }
+    ensures bounded { vec_len out.new ≤ vec_len out.old + 350 }
     ensures capacity { vec_capacity out.old ≤ vec_capacity out.new }
 {
-    push_bytes(b"</desc>\n", out);
     push_bytes(
-        b"<style>text{font:16.6px 'DejaVu Sans Mono','Liberation Mono',Menlo,Consolas,monospace;white-space:pre}\n",
+        b"</desc>\n<style>.vt220-text{font-family:'DejaVu Sans Mono','Liberation Mono',Menlo,Consolas,monospace;",
+        out,
+    );
+    push_bytes(b"font-size:16.6px;white-space:pre}\n", out);
+    push_bytes(
+        b".vt220-b{font-weight:bold}.vt220-u{text-decoration:underline}\n",
         out,
     );
     push_bytes(
-        b".b{font-weight:bold}.u{text-decoration:underline}.k{animation:k 1s steps(1) infinite}\n",
+        b"@media (prefers-reduced-motion:no-preference){.vt220-k{animation:vt220-k 1s steps(1) infinite}}\n",
         out,
     );
-    push_bytes(
-        b"@keyframes k{50%{opacity:0}}.c{fill:none;stroke:#e80;stroke-width:2}\n",
-        out,
-    );
-    push_bytes(colours(reversed), out);
-    push_bytes(b"</style>\n", out);
+    push_bytes(b"@keyframes vt220-k{50%{opacity:0}}</style>\n", out);
 }
 
-/// Appends the paper under all cells.
-#[tactic(auto, unfolding(crate::specs::Picture::paper))]
-fn push_paper(out: &mut Vec<u8>)
-    requires { vec_len out.old + 50 ≤ vec_capacity out.old }
-    ensures items { out.new.items ≡ out.old.items ++ paper }
-    ensures bounded { vec_len out.new ≤ vec_len out.old + 50 }
+/// Appends the start of the group of all that is drawn, and the paper under it.
+#[tactic(auto, unfolding(crate::specs::Picture::group_start))]
+fn push_group_start(reversed: bool, out: &mut Vec<u8>)
+    requires { vec_len out.old + 250 ≤ vec_capacity out.old }
+    ensures items { out.new.items ≡ out.old.items ++ group_start reversed }
+    ensures bounded { vec_len out.new ≤ vec_len out.old + 250 }
     ensures capacity { vec_capacity out.old ≤ vec_capacity out.new }
 {
-    push_bytes(b"<rect class='p' width='100%' height='100%'/>\n", out);
+    push_bytes(b"<g", out);
+    push_bytes(fill(!reversed), out);
+    push_bytes(
+        b" direction='ltr' font-style='normal' font-weight='normal' letter-spacing='0' word-spacing='0'>\n<rect",
+        out,
+    );
+    push_bytes(fill(reversed), out);
+    push_bytes(b" x='-10' y='-10' width='100%' height='100%'/>\n", out);
 }
 
 /// Appends the rows.
-fn push_rows(t: &Terminal, out: &mut Vec<u8>)
+fn push_rows(reversed: bool, t: &Terminal, out: &mut Vec<u8>)
     requires { vec_len out.old + ROWS * (203 * STOPS) ≤ vec_capacity out.old }
-    ensures items { out.new.items ≡ out.old.items ++ rows_picture ROWS t.now.display.grid }
+    ensures items { out.new.items ≡ out.old.items ++ rows_picture reversed ROWS t.now.display.grid }
     ensures bounded { vec_len out.new ≤ vec_len out.old + ROWS * (203 * STOPS) }
     ensures capacity { vec_capacity out.old ≤ vec_capacity out.new }
 {
     for row in 1..ROWS + 1 {
-        push_row(row, t.row(row), out);
+        push_row(reversed, row, t.row(row), out);
     }
 }
 
 /// Appends the cursor's outline, if the cursor is shown.
 fn push_cursor(t: &Terminal, out: &mut Vec<u8>)
-    requires { vec_len out.old + 80 ≤ vec_capacity out.old }
+    requires { vec_len out.old + 100 ≤ vec_capacity out.old }
     ensures items { out.new.items ≡ out.old.items ++ cursor_picture t.now.display }
-    ensures bounded { vec_len out.new ≤ vec_len out.old + 80 }
+    ensures bounded { vec_len out.new ≤ vec_len out.old + 100 }
     ensures capacity { vec_capacity out.old ≤ vec_capacity out.new }
 {
     let cursor = t.cursor();
     let _ = t.width();
     if t.modes().dectcem {
-        push_rectangle(b"c", cursor.row, cursor.col, 1, out);
+        push_rectangle(OUTLINE, cursor.row, cursor.col, 1, out);
     }
 }
 
+/// Appends the group of all that is drawn.
+#[tactic(auto, unfolding(crate::specs::Picture::group))]
+fn push_group(t: &Terminal, out: &mut Vec<u8>)
+    requires { vec_len out.old + (ROWS * (203 * STOPS) + 400) ≤ vec_capacity out.old }
+    ensures items { out.new.items ≡ out.old.items ++ group t.now.display }
+    ensures bounded { vec_len out.new ≤ vec_len out.old + (ROWS * (203 * STOPS) + 400) }
+    ensures capacity { vec_capacity out.old ≤ vec_capacity out.new }
+{
+    let reversed = t.modes().decscnm;
+    push_group_start(reversed, out);
+    push_rows(reversed, t, out);
+    push_cursor(t, out);
+    push_bytes(b"</g>\n", out);
+}
+
 /// Appends the screen to `out` as a picture: an SVG document in UTF-8. The screen's text is its text alternative. A
-/// column is 10 units wide and a row 18 high, and each run of cells has its position and its length.
+/// column is 10 units wide and a row 18 high, and each run of cells has its position and its length. An HTML page may hold
+/// several pictures.
 ///
 /// It first reserves `PICTURE_LIMIT` bytes of capacity. Returns `Err` if that fails. Then the contents of `out` are
 /// unchanged.
@@ -167,9 +179,7 @@ pub fn picture_reserved(t: &Terminal, out: &mut Vec<u8>)
 {
     push_start(t.row(1).len(), out);
     push_alternative(t, out);
-    push_style(t.modes().decscnm, out);
-    push_paper(out);
-    push_rows(t, out);
-    push_cursor(t, out);
+    push_style(out);
+    push_group(t, out);
     push_bytes(b"</svg>\n", out);
 }

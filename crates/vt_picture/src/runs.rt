@@ -1,10 +1,10 @@
 //! The cells of a picture by runs. A run is adjacent cells that aren't blank and have the same attributes.
-ghost use Rattle.std.specs.Prelude.{◌≡◌, ◌+◌, ◌*◌, ◌≤◌, ◌<◌, ◌++◌, codes, length, vec_len, vec_capacity};
+ghost use Rattle.std.specs.Prelude.{◌≡◌, ◌+◌, ◌*◌, ◌≤◌, ◌<◌, ◌++◌, [], length, vec_len, vec_capacity};
 ghost use Rattle.vt_screen.specs.Grid.{last_row};
 ghost use Rattle.vt_screen.specs.Same.{when};
 ghost use Rattle.vt_picture.specs.Picture.{left_of, width_of, top_of, baseline_of, rectangle, goes_on as goes_on_with};
-ghost use Rattle.vt_picture.specs.Picture.{run_length as run_length_of, is_followed as is_followed_by, classes};
-ghost use Rattle.vt_picture.specs.Picture.{run_start, shown_cell, cells_picture, row_picture};
+ghost use Rattle.vt_picture.specs.Picture.{run_length as run_length_of, is_followed as is_followed_by, fill};
+ghost use Rattle.vt_picture.specs.Picture.{run_attributes, run_start, shown_cell, cells_picture, row_picture};
 
 use crate::bytes::{push_bytes, push_escaped, push_number, push_when};
 use crate::looks::is_blank;
@@ -18,9 +18,9 @@ fn left_of(col: usize) -> u16
     10 * (col as u16 - 1)
 }
 
-/// Returns the width of `columns` columns, in units.
+/// Returns the width of `columns` columns, in units. They may have a margin of a column on each side.
 pub(crate) fn width_of(columns: usize) -> u16
-    requires { columns ≤ COLUMNS }
+    requires { columns ≤ COLUMNS + 2 }
     ensures { result ≡ width_of columns }
 {
     10 * columns as u16
@@ -42,21 +42,26 @@ fn baseline_of(row: usize) -> u16
     top_of(row) + 13
 }
 
-/// Appends a rectangle over `count` cells of a row, starting at `col`.
+/// Appends a rectangle with `attributes` over `count` cells of a row, starting at `col`.
 #[tactic(auto, unfolding(crate::specs::Picture::rectangle))]
-pub(crate) fn push_rectangle(class: &[u8], row: usize, col: usize, count: usize, out: &mut Vec<u8>)
-    requires class { length class.now ≤ 1 }
+pub(crate) fn push_rectangle(
+    attributes: &[u8],
+    row: usize,
+    col: usize,
+    count: usize,
+    out: &mut Vec<u8>,
+)
     requires row { (1 ≤ row) × (row ≤ last_row) }
     requires col { (1 ≤ col) × (col ≤ COLUMNS) }
     requires count { count ≤ COLUMNS }
-    requires room { vec_len out.old + 80 ≤ vec_capacity out.old }
-    ensures items { out.new.items ≡ out.old.items ++ rectangle class.now row col count }
-    ensures bounded { vec_len out.new ≤ vec_len out.old + 80 }
+    requires room { vec_len out.old + (54 + length attributes.now) ≤ vec_capacity out.old }
+    ensures items { out.new.items ≡ out.old.items ++ rectangle attributes.now row col count }
+    ensures bounded { vec_len out.new ≤ vec_len out.old + (54 + length attributes.now) }
     ensures capacity { vec_capacity out.old ≤ vec_capacity out.new }
 {
-    push_bytes(b"<rect class='", out);
-    push_bytes(class, out);
-    push_bytes(b"' x='", out);
+    push_bytes(b"<rect", out);
+    push_bytes(attributes, out);
+    push_bytes(b" x='", out);
     push_number(left_of(col), out);
     push_bytes(b"' y='", out);
     push_number(top_of(row), out);
@@ -94,17 +99,31 @@ fn is_followed(look: Rendition, cells: &[Cell]) -> bool
     }
 }
 
-/// Appends the classes of these attributes.
-fn push_classes(look: Rendition, out: &mut Vec<u8>)
-    requires { vec_len out.old + 7 ≤ vec_capacity out.old }
-    ensures items { out.new.items ≡ out.old.items ++ classes look }
-    ensures bounded { vec_len out.new ≤ vec_len out.old + 7 }
+/// Returns the attribute of a light fill, or of a dark one.
+pub(crate) fn fill(light: bool) -> &'static [u8]
+    ensures fill { result.now ≡ fill light }
+    ensures short { length result.now ≤ 15 }
+{
+    if light {
+        b" fill='#d0d0d0'"
+    } else {
+        b" fill='#101010'"
+    }
+}
+
+/// Appends the attributes of a run's element.
+fn push_run_attributes(reversed: bool, look: Rendition, out: &mut Vec<u8>)
+    requires { vec_len out.old + 58 ≤ vec_capacity out.old }
+    ensures items { out.new.items ≡ out.old.items ++ run_attributes reversed look }
+    ensures bounded { vec_len out.new ≤ vec_len out.old + 58 }
     ensures capacity { vec_capacity out.old ≤ vec_capacity out.new }
 {
-    push_bytes(if look.reverse { b"p" } else { b"i" }, out);
-    push_when(look.bold, b" b", out);
-    push_when(look.underline, b" u", out);
-    push_when(look.blink, b" k", out);
+    push_bytes(b" class='vt220-text", out);
+    push_when(look.bold, b" vt220-b", out);
+    push_when(look.underline, b" vt220-u", out);
+    push_when(look.blink, b" vt220-k", out);
+    push_bytes(b"'", out);
+    push_when(look.reverse, fill(reversed), out);
 }
 
 /// Appends the rectangle under a run that is reversed.
@@ -112,31 +131,38 @@ fn push_ground(reverse: bool, row: usize, col: usize, count: usize, out: &mut Ve
     requires row { (1 ≤ row) × (row ≤ last_row) }
     requires col { (1 ≤ col) × (col ≤ COLUMNS) }
     requires count { count ≤ COLUMNS }
-    requires room { vec_len out.old + 80 ≤ vec_capacity out.old }
-    ensures items { out.new.items ≡ out.old.items ++ when reverse (rectangle (codes "i") row col count) }
-    ensures bounded { vec_len out.new ≤ vec_len out.old + 80 }
+    requires room { vec_len out.old + 54 ≤ vec_capacity out.old }
+    ensures items { out.new.items ≡ out.old.items ++ when reverse (rectangle [] row col count) }
+    ensures bounded { vec_len out.new ≤ vec_len out.old + 54 }
     ensures capacity { vec_capacity out.old ≤ vec_capacity out.new }
 {
     if reverse {
-        push_rectangle(b"i", row, col, count, out);
+        push_rectangle(b"", row, col, count, out);
     }
 }
 
 /// Appends what comes before the characters of a run.
 #[tactic(auto, unfolding(crate::specs::Picture::run_start))]
-fn push_run_start(look: Rendition, row: usize, col: usize, count: usize, out: &mut Vec<u8>)
+fn push_run_start(
+    reversed: bool,
+    look: Rendition,
+    row: usize,
+    col: usize,
+    count: usize,
+    out: &mut Vec<u8>,
+)
     requires row { (1 ≤ row) × (row ≤ last_row) }
     requires col { (1 ≤ col) × (col ≤ COLUMNS) }
     requires count { count ≤ COLUMNS }
     requires room { vec_len out.old + 190 ≤ vec_capacity out.old }
-    ensures items { out.new.items ≡ out.old.items ++ run_start look row col count }
+    ensures items { out.new.items ≡ out.old.items ++ run_start reversed look row col count }
     ensures bounded { vec_len out.new ≤ vec_len out.old + 190 }
     ensures capacity { vec_capacity out.old ≤ vec_capacity out.new }
 {
     push_ground(look.reverse, row, col, count, out);
-    push_bytes(b"<text class='", out);
-    push_classes(look, out);
-    push_bytes(b"' x='", out);
+    push_bytes(b"<text", out);
+    push_run_attributes(reversed, look, out);
+    push_bytes(b" x='", out);
     push_number(left_of(col), out);
     push_bytes(b"' y='", out);
     push_number(baseline_of(row), out);
@@ -148,6 +174,7 @@ fn push_run_start(look: Rendition, row: usize, col: usize, count: usize, out: &m
 /// Appends a cell that isn't blank, between the cell to its left and those to its right.
 #[tactic(auto, unfolding(crate::specs::Picture::shown_cell))]
 fn push_shown_cell(
+    reversed: bool,
     row: usize,
     col: usize,
     left: &Cell,
@@ -159,13 +186,13 @@ fn push_shown_cell(
     requires col { 1 ≤ col }
     requires rest { col + length rest.now ≤ COLUMNS }
     requires room { vec_len out.old + 203 ≤ vec_capacity out.old }
-    ensures items { out.new.items ≡ out.old.items ++ shown_cell row col left.now cell.now rest.now }
+    ensures items { out.new.items ≡ out.old.items ++ shown_cell reversed row col left.now cell.now rest.now }
     ensures bounded { vec_len out.new ≤ vec_len out.old + 203 }
     ensures capacity { vec_capacity out.old ≤ vec_capacity out.new }
 {
     let look = cell.rendition;
     if !goes_on(look, left) {
-        push_run_start(look, row, col, run_length(look, rest) + 1, out);
+        push_run_start(reversed, look, row, col, run_length(look, rest) + 1, out);
     }
     push_escaped(cell.glyph, out);
     if !is_followed(look, rest) {
@@ -174,11 +201,11 @@ fn push_shown_cell(
 }
 
 /// Appends the cells of a row.
-pub(crate) fn push_row(row: usize, cells: &[Cell], out: &mut Vec<u8>)
+pub(crate) fn push_row(reversed: bool, row: usize, cells: &[Cell], out: &mut Vec<u8>)
     requires row { (1 ≤ row) × (row ≤ last_row) }
     requires len { length cells.now ≤ COLUMNS }
     requires room { vec_len out.old + 203 * length cells.now ≤ vec_capacity out.old }
-    ensures items { out.new.items ≡ out.old.items ++ row_picture row cells.now }
+    ensures items { out.new.items ≡ out.old.items ++ row_picture reversed row cells.now }
     ensures bounded { vec_len out.new ≤ vec_len out.old + 203 * length cells.now }
     ensures capacity { vec_capacity out.old ≤ vec_capacity out.new }
 {
@@ -189,7 +216,7 @@ pub(crate) fn push_row(row: usize, cells: &[Cell], out: &mut Vec<u8>)
         let cell = &cells[i];
         i += 1;
         if !is_blank(cell) {
-            push_shown_cell(row, i, left, cell, &cells[i..], out);
+            push_shown_cell(reversed, row, i, left, cell, &cells[i..], out);
         }
     }
 }

@@ -6,3 +6,4 @@ mod Texts
 mod Casts
 mod Replays
 mod Values
+mod Versions

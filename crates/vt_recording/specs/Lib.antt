@@ -1,5 +1,6 @@
 pub mod Asciicast
 pub mod Characters
+pub mod Detection
 pub mod Events
 pub mod Moment
 pub mod Lines

@@ -6,6 +6,7 @@ mod asciicast;
 mod casting;
 mod characters;
 mod content;
+mod detection;
 mod fault;
 mod format;
 mod lines;
@@ -18,6 +19,7 @@ mod timing;
 mod ttyrec;
 
 pub use content::Content;
+pub use detection::{Compression, DETECTION_LENGTH, Detected, detect};
 pub use fault::Fault;
 pub use format::{Break, Format, Moment, Part, Taken};
 pub use reading::read_recording;

@@ -4,7 +4,7 @@ ghost use Rattle.vt_recording.specs.Script.{begins_with, first_words, first_line
 ghost use Rattle.vt_recording.specs.Script.{is_joint, is_end, EndsAt};
 
 /// The beginning of a first line.
-const FIRST_WORDS: &[u8] = b"Script started on ";
+pub(crate) const FIRST_WORDS: &[u8] = b"Script started on ";
 
 /// The beginning of a last line, with the LF before it.
 const LAST_WORDS: &[u8] = b"\nScript done on ";

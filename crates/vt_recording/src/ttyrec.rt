@@ -15,7 +15,7 @@ pub(crate) struct Header {
 }
 
 /// Returns the number of 32 bits at `at`, lowest byte first.
-fn number_at(at: usize, bytes: &[u8]) -> u64
+pub(crate) fn number_at(at: usize, bytes: &[u8]) -> u64
     requires { at + 4 ≤ length bytes.now }
     ensures value { result ≡ number_at at bytes.now }
     ensures small { result < 2 ^ 32 }

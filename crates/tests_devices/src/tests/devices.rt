@@ -92,11 +92,13 @@ fn replayed(
         piece: 1,
         limit: replay.bounds.limit,
         file: None,
-        format: Format::Raw,
+        format: Some(Format::Raw),
         timing: None,
         until: None,
+        quiet: false,
     };
-    let answer = carry_out(alloc, &mut reader, None, &mut writer, &request).ended;
+    let outcome = carry_out(alloc, &mut reader, Format::Raw, None, &mut writer, &request);
+    let answer = outcome.ended;
     let written = Vec::from_slice(alloc, writer.into_inner().taken())?;
     Ok((answer, written))
 }

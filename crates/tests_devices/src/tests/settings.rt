@@ -2,7 +2,7 @@
 use std::alloc::Global;
 use std::test::Fail;
 use vt_commands::carry_out;
-use vt_replay::{Fault, Watched, replay, request, settings};
+use vt_replay::{Fault, Format, Watched, replay, request, settings};
 use vt_vectors::ShortReader;
 
 /// A line of words, a call of the reader that fails, the answer, and the first line that is written.
@@ -65,11 +65,13 @@ fn carried_out(
     let asked = request(alloc, words_of(alloc, line)?).map_err(|_| "refused words")?;
     let mut reader = Watched::new(ShortReader::new(b"ABCDE", 100, failing_read));
     let mut writer = Watched::new(Vec::new(alloc));
-    let outcome = carry_out(alloc, &mut reader, None, &mut writer, &asked);
+    let outcome = carry_out(alloc, &mut reader, Format::Raw, None, &mut writer, &asked);
     let answer = match outcome.ended {
         Ok(()) => Ok(()),
         Err(vt_commands::Fault::Replay(fault)) => Err(fault),
-        Err(vt_commands::Fault::Broken(_)) => return Err(Fail::new("broken")),
+        Err(vt_commands::Fault::Broken(_) | vt_commands::Fault::NoTimes) => {
+            return Err(Fail::new("broken"));
+        }
     };
     Ok((answer, writer.into_inner()))
 }

@@ -31,11 +31,20 @@ fn carried_out(
         piece,
         limit: 268435456,
         file: None,
-        format: asked.format,
+        format: Some(asked.format),
         timing: None,
         until: asked.until,
+        quiet: false,
     };
-    let outcome = carry_out(alloc, &mut reader, asked.timing, &mut writer, &request);
+    let format = asked.format;
+    let outcome = carry_out(
+        alloc,
+        &mut reader,
+        format,
+        asked.timing,
+        &mut writer,
+        &request,
+    );
     Ok((outcome, writer.into_inner()))
 }
 

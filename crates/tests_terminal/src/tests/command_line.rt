@@ -153,75 +153,95 @@ fn words_ask_for_a_log(rt: HostRuntime) -> Result<(), Fail> {
     Ok(())
 }
 
-/// A line of the wider command, its word, its format, its timing file, and the moment.
+/// A line of the wider command, its word, its format (none for auto), its timing file, and the moment.
 type Recorded = (
     &'static str,
     Word,
-    Format,
+    Option<Format>,
     Option<&'static str>,
     Option<Moment>,
 );
 
-const RECORDED: [Recorded; 12] = [
-    ("vt220 pages a", Word::Pages, Format::Raw, None, None),
-    ("vt220 trace a", Word::Trace, Format::Raw, None, None),
-    ("vt220 summary a", Word::Summary, Format::Raw, None, None),
-    ("vt220 content a", Word::Content, Format::Raw, None, None),
+const RECORDED: [Recorded; 14] = [
+    ("vt220 pages a", Word::Pages, Some(Format::Raw), None, None),
+    ("vt220 trace a", Word::Trace, Some(Format::Raw), None, None),
+    (
+        "vt220 summary a",
+        Word::Summary,
+        Some(Format::Raw),
+        None,
+        None,
+    ),
+    (
+        "vt220 content a",
+        Word::Content,
+        Some(Format::Raw),
+        None,
+        None,
+    ),
     (
         "vt220 text --format raw",
         Word::Replay(What::Text),
-        Format::Raw,
+        Some(Format::Raw),
         None,
         None,
     ),
     (
         "vt220 log --format script a",
         Word::Log,
-        Format::Script,
+        Some(Format::Script),
         None,
         None,
     ),
     (
         "vt220 show --format ttyrec --until 12.5 a",
         Word::Replay(What::Show),
-        Format::Ttyrec,
+        Some(Format::Ttyrec),
         None,
         Some(Moment::Micros(12500000)),
     ),
     (
         "vt220 show --until=12:31 a --format=asciicast",
         Word::Replay(What::Show),
-        Format::Asciicast,
+        Some(Format::Asciicast),
         None,
         Some(Moment::Micros(751000000)),
     ),
     (
         "vt220 trace --format asciicast --until 1:02:03.000004",
         Word::Trace,
-        Format::Asciicast,
+        Some(Format::Asciicast),
         None,
         Some(Moment::Micros(3723000004)),
     ),
     (
         "vt220 content --format script --timing t --until 0",
         Word::Content,
-        Format::Script,
+        Some(Format::Script),
         Some("t"),
         Some(Moment::Micros(0)),
     ),
     (
         "vt220 status --until 4096b",
         Word::Replay(What::Status),
-        Format::Raw,
+        Some(Format::Raw),
         None,
         Some(Moment::Bytes(4096)),
     ),
     (
         "vt220 picture --format script --until 0b",
         Word::Replay(What::Picture),
-        Format::Script,
+        Some(Format::Script),
         None,
         Some(Moment::Bytes(0)),
+    ),
+    ("vt220 log --format auto a", Word::Log, None, None, None),
+    (
+        "vt220 text --until 1:00 --format=auto",
+        Word::Replay(What::Text),
+        None,
+        None,
+        Some(Moment::Micros(60000000)),
     ),
 ];
 
@@ -237,6 +257,7 @@ fn is_recorded(
                 && found.format == *format
                 && found.timing.as_ref().map(|name| name.as_str()) == *timing
                 && found.until == *until
+                && !found.quiet
         }
         Err(_) => false,
     })
@@ -250,11 +271,42 @@ fn words_ask_for_recordings(rt: HostRuntime) -> Result<(), Fail> {
     Ok(())
 }
 
-/// A line of the wider command that is refused, and the sentence that says why.
-const MISFITS: [(&str, &str); 14] = [
+/// Lines of the wider command that leave out the notes, and lines that don't.
+const QUIET: [(&str, bool); 5] = [
+    ("vt220 text --quiet a", true),
+    ("vt220 log a --quiet", true),
+    ("vt220 content --format auto --quiet", true),
+    ("vt220 content --format auto", false),
+    ("vt220 text a", false),
+];
+
+/// Returns whether a line leaves out the notes, or doesn't, as its row says.
+fn is_quiet(alloc: Global, (line, quiet): &(&str, bool)) -> Result<bool, Fail> {
+    let asked = request(alloc, words_of(alloc, line)?);
+    Ok(match &asked {
+        Ok(found) => found.quiet == *quiet,
+        Err(_) => false,
+    })
+}
+
+#[test]
+fn words_leave_out_the_notes(rt: HostRuntime) -> Result<(), Fail> {
+    for row in &QUIET {
+        holds(&rt, row.0, is_quiet(rt.alloc(), row)?);
+    }
+    Ok(())
+}
+
+/// A line of the wider command that is refused, and the sentences that say why.
+const MISFITS: [(&str, &str); 15] = [
     (
         "vt220 text --format cast",
-        "vt220: --format is raw, script, ttyrec or asciicast\n",
+        "vt220: --format is raw, script, ttyrec or asciicast\n\
+         vt220: or it is auto: then the beginning of the input decides\n",
+    ),
+    (
+        "vt220 text --format auto --timing t",
+        "vt220: --timing goes with --format script alone\n",
     ),
     (
         "vt220 text --timing t",
@@ -280,7 +332,8 @@ const MISFITS: [(&str, &str); 14] = [
 const NO_MOMENT: &str = "vt220: --until is seconds, as 12.5 or 12:31, or bytes, as 4096b\n";
 
 const NO_TIMES: &str =
-    "vt220: the input has no times; give --until in bytes, as 4096b, or script its --timing FILE\n";
+    "vt220: the input has no times; give --until in bytes, as 4096b, or script its --timing FILE\n\
+     vt220: a recording by ttyrec or asciinema has times: add --format ttyrec, asciicast or auto\n";
 
 #[test]
 fn options_that_do_not_fit_are_refused(rt: HostRuntime) -> Result<(), Fail> {

@@ -286,6 +286,7 @@ impl Growing for Running<'_> {
         let outcome = carry_out(
             self.alloc,
             &mut self.reader,
+            Format::Raw,
             None,
             &mut self.writer,
             &self.request,
@@ -311,9 +312,10 @@ fn request_is_refused(alloc: Global, input: &[u8], word: Word, what: What) -> Re
             piece: 4096,
             limit: LIMIT,
             file: None,
-            format: Format::Raw,
+            format: Some(Format::Raw),
             timing: None,
             until: None,
+            quiet: false,
         },
         answered: MEMORY,
     };

@@ -89,26 +89,26 @@ fn rows_are_shown_with_their_attributes(rt: HostRuntime) -> Result<(), Fail> {
 
 /// The start of a picture of 80 columns.
 const START: &str =
-    "<svg xmlns='http://www.w3.org/2000/svg' viewBox='0 0 800 432' width='800' height='432' role='img' aria-labelledby='t d' xml:space='preserve'>\n<title id='t'>VT220 screen</title>\n<desc id='d'>";
+    "<svg xmlns='http://www.w3.org/2000/svg' viewBox='-10 -10 820 452' width='820' height='452' role='img' xml:space='preserve'>\n<title>VT220 screen</title>\n<desc>";
 
 /// The start of a picture of 132 columns.
 const WIDE: &str =
-    "<svg xmlns='http://www.w3.org/2000/svg' viewBox='0 0 1320 432' width='1320' height='432' role='img' aria-labelledby='t d' xml:space='preserve'>\n<title id='t'>VT220 screen</title>\n<desc id='d'>";
+    "<svg xmlns='http://www.w3.org/2000/svg' viewBox='-10 -10 1340 452' width='1340' height='452' role='img' xml:space='preserve'>\n<title>VT220 screen</title>\n<desc>";
 
 /// What stands behind the text alternative.
 const STYLE: &str =
-    "</desc>\n<style>text{font:16.6px 'DejaVu Sans Mono','Liberation Mono',Menlo,Consolas,monospace;white-space:pre}\n.b{font-weight:bold}.u{text-decoration:underline}.k{animation:k 1s steps(1) infinite}\n@keyframes k{50%{opacity:0}}.c{fill:none;stroke:#e80;stroke-width:2}\n";
+    "</desc>\n<style>.vt220-text{font-family:'DejaVu Sans Mono','Liberation Mono',Menlo,Consolas,monospace;font-size:16.6px;white-space:pre}\n.vt220-b{font-weight:bold}.vt220-u{text-decoration:underline}\n@media (prefers-reduced-motion:no-preference){.vt220-k{animation:vt220-k 1s steps(1) infinite}}\n@keyframes vt220-k{50%{opacity:0}}</style>\n";
 
-/// The colours, and the paper.
+/// The ink, and the paper.
 const LIGHT_ON_DARK: &str =
-    ".i{fill:#d0d0d0}.p{fill:#101010}</style>\n<rect class='p' width='100%' height='100%'/>\n";
+    "<g fill='#d0d0d0' direction='ltr' font-style='normal' font-weight='normal' letter-spacing='0' word-spacing='0'>\n<rect fill='#101010' x='-10' y='-10' width='100%' height='100%'/>\n";
 
 /// The same under DECSCNM.
 const DARK_ON_LIGHT: &str =
-    ".i{fill:#101010}.p{fill:#d0d0d0}</style>\n<rect class='p' width='100%' height='100%'/>\n";
+    "<g fill='#101010' direction='ltr' font-style='normal' font-weight='normal' letter-spacing='0' word-spacing='0'>\n<rect fill='#d0d0d0' x='-10' y='-10' width='100%' height='100%'/>\n";
 
 /// An input, the start of its picture, how many empty lines its text alternative begins with, the line after them, how
-/// many empty lines follow, the colours, and the rest but for the last line.
+/// many empty lines follow, the colours, and the rest but for the last two lines.
 type Drawn = (
     &'static [u8],
     &'static str,
@@ -127,7 +127,7 @@ const DRAWN: [Drawn; 5] = [
         "\n",
         23,
         LIGHT_ON_DARK,
-        "<rect class='c' x='0' y='0' width='10' height='18'/>\n",
+        "<rect fill='none' stroke='#e80' stroke-width='2' x='0' y='0' width='10' height='18'/>\n",
     ),
     // characters that XML has other uses for, a reverse run beside a plain one, and no cursor
     (
@@ -137,7 +137,7 @@ const DRAWN: [Drawn; 5] = [
         "A&lt;&amp;&gt; b\n",
         23,
         LIGHT_ON_DARK,
-        "<text class='i' x='0' y='13' textLength='40' lengthAdjust='spacingAndGlyphs'>A&lt;&amp;&gt;</text>\n<rect class='i' x='40' y='0' width='20' height='18'/>\n<text class='p b' x='40' y='13' textLength='20' lengthAdjust='spacingAndGlyphs'> b</text>\n",
+        "<text class='vt220-text' x='0' y='13' textLength='40' lengthAdjust='spacingAndGlyphs'>A&lt;&amp;&gt;</text>\n<rect x='40' y='0' width='20' height='18'/>\n<text class='vt220-text vt220-b' fill='#101010' x='40' y='13' textLength='20' lengthAdjust='spacingAndGlyphs'> b</text>\n",
     ),
     // a plain space between two runs is left out; a row that ends in column 80
     (
@@ -147,7 +147,7 @@ const DRAWN: [Drawn; 5] = [
         "a b\n                                                                               X\nY\n",
         21,
         LIGHT_ON_DARK,
-        "<text class='i' x='0' y='13' textLength='10' lengthAdjust='spacingAndGlyphs'>a</text>\n<text class='i' x='20' y='13' textLength='10' lengthAdjust='spacingAndGlyphs'>b</text>\n<text class='i' x='790' y='31' textLength='10' lengthAdjust='spacingAndGlyphs'>X</text>\n<text class='i' x='0' y='49' textLength='10' lengthAdjust='spacingAndGlyphs'>Y</text>\n<rect class='c' x='10' y='36' width='10' height='18'/>\n",
+        "<text class='vt220-text' x='0' y='13' textLength='10' lengthAdjust='spacingAndGlyphs'>a</text>\n<text class='vt220-text' x='20' y='13' textLength='10' lengthAdjust='spacingAndGlyphs'>b</text>\n<text class='vt220-text' x='790' y='31' textLength='10' lengthAdjust='spacingAndGlyphs'>X</text>\n<text class='vt220-text' x='0' y='49' textLength='10' lengthAdjust='spacingAndGlyphs'>Y</text>\n<rect fill='none' stroke='#e80' stroke-width='2' x='10' y='36' width='10' height='18'/>\n",
     ),
     // 132 columns, reverse screen, line drawing, underlined and blinking, a reverse space, the cursor in the last
     // column
@@ -158,7 +158,7 @@ const DRAWN: [Drawn; 5] = [
         "┌─  ┐\n",
         0,
         DARK_ON_LIGHT,
-        "<text class='i u k' x='0' y='427' textLength='20' lengthAdjust='spacingAndGlyphs'>┌─</text>\n<rect class='i' x='30' y='414' width='10' height='18'/>\n<text class='p' x='30' y='427' textLength='10' lengthAdjust='spacingAndGlyphs'> </text>\n<text class='i' x='40' y='427' textLength='10' lengthAdjust='spacingAndGlyphs'>┐</text>\n<rect class='c' x='1310' y='18' width='10' height='18'/>\n",
+        "<text class='vt220-text vt220-u vt220-k' x='0' y='427' textLength='20' lengthAdjust='spacingAndGlyphs'>┌─</text>\n<rect x='30' y='414' width='10' height='18'/>\n<text class='vt220-text' fill='#d0d0d0' x='30' y='427' textLength='10' lengthAdjust='spacingAndGlyphs'> </text>\n<text class='vt220-text' x='40' y='427' textLength='10' lengthAdjust='spacingAndGlyphs'>┐</text>\n<rect fill='none' stroke='#e80' stroke-width='2' x='1310' y='18' width='10' height='18'/>\n",
     ),
     // protection makes no run of its own
     (
@@ -168,7 +168,7 @@ const DRAWN: [Drawn; 5] = [
         "abc\n",
         23,
         LIGHT_ON_DARK,
-        "<text class='i' x='0' y='13' textLength='30' lengthAdjust='spacingAndGlyphs'>abc</text>\n",
+        "<text class='vt220-text' x='0' y='13' textLength='30' lengthAdjust='spacingAndGlyphs'>abc</text>\n",
     ),
 ];
 
@@ -180,7 +180,7 @@ fn drawn_by_hand(
     let text = with_line_feeds(alloc, *before, line, *after)?;
     let mut picture = Vec::from_slice(alloc, start.as_bytes())?;
     picture.extend_from_slice(&text)?;
-    for part in [STYLE, colours, cells, "</svg>\n"] {
+    for part in [STYLE, colours, cells, "</g>\n</svg>\n"] {
         picture.extend_from_slice(part.as_bytes())?;
     }
     Ok(picture)

@@ -11,6 +11,7 @@ returns-clause-some c = record {
   options = search rules;
   source = c.requires;
   timing = c.in_ok-timing.ensures ∙ first_value-rows (found_of c.args.matches.now) (codes "timing");
+  quiet = search rules;
 }
 
 pub returns-in_default-2-clause-none : goal.returns-in_default-2-clause-none

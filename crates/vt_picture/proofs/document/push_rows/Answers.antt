@@ -11,7 +11,7 @@ loop-row-init c =
 pub loop-row-preserved : goal.loop-row-preserved
 unfolding rows_picture
 loop-row-preserved c = record {
-  items = row_written (λ r cells. row_picture r cells) c.args.t.now.display.grid c.loop-row.row c.args.out.now.items
+  items = row_written (λ r cells. row_picture c.args.reversed r cells) c.args.t.now.display.grid c.loop-row.row c.args.out.now.items
       _ _ _ (omega arith) c.row.ensures.cells c.loop-row.invariant.items c.push_row.ensures.items;
   bounded = omega (arith, c.row.ensures.width);
   capacity = omega arith;

@@ -6,14 +6,11 @@ pub returns-clause-items : goal.returns-clause-items
 unfolding document_start
 returns-clause-items c =
     rw (
-      c.push_bytes-5.ensures.items,
-      c.push_bytes-4.ensures.items,
       c.push_bytes-3.ensures.items,
       c.push_number-2.ensures.items,
-      c.width_of-2.ensures,
       c.push_bytes-2.ensures.items,
       c.push_number.ensures.items,
-      c.width_of.ensures,
+      c.width_of-width.ensures,
       c.push_bytes.ensures.items,
     )
     (simp append_assoc)

@@ -7,8 +7,8 @@ use Rattle.vt_picture.proofs.runs.push_row.Given as goal
 -- what is left of the row completes it
 abbrev pub invariant-loop-i : goal.invariant-loop-i
 invariant-loop-i l = record {
-  items : l.out.items ++ cells_picture l.row (l.i + 1) (left_cell l.cells l.i) (drop l.i l.cells)
-      ≡ l.fn.out.items ++ row_picture l.row l.cells;
+  items : l.out.items ++ cells_picture l.reversed l.row (l.i + 1) (left_cell l.cells l.i) (drop l.i l.cells)
+      ≡ l.fn.out.items ++ row_picture l.reversed l.row l.cells;
   blank : l.blank ≡ blank;
   within : l.i ≤ length l.cells;
   bounded : vec_len l.out ≤ vec_len l.fn.out + 203 * l.i;

@@ -16,7 +16,7 @@ returns-clause-items c =
       c.push_number.ensures.items,
       c.left_of.ensures,
       c.push_bytes-2.ensures.items,
-      c.push_classes.ensures.items,
+      c.push_run_attributes.ensures.items,
       c.push_bytes.ensures.items,
       c.push_ground.ensures.items,
     )

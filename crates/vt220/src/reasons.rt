@@ -1,0 +1,142 @@
+//! The second line of a fault: the file that it is about, and the reason.
+
+use crate::notes::hint_of;
+use std::alloc::{AllocError, Global};
+use std::io::Error;
+use vt_commands::{Break, Detected, Fault, Format, Part, Request};
+
+/// What the operating system's number of an error comes after in its message.
+const BEFORE_THE_NUMBER: &str = " (os error ";
+
+/// The name of the output, for messages.
+pub(crate) const STANDARD_OUTPUT: &str = "standard output";
+
+/// What was seen of the files until the request ended.
+#[derive(Clone, Copy)]
+pub(crate) struct Seen {
+    /// The file that was read last.
+    pub(crate) part: Part,
+    /// The operating system's error, if one made the fault.
+    pub(crate) error: Option<Error>,
+    /// The format in which the input was read.
+    pub(crate) format: Format,
+    /// What the input begins like.
+    pub(crate) detected: Detected,
+}
+
+/// Prints the second line of a fault, after its own: the file, and the reason. A failed allocation has no second line.
+pub(crate) fn print_reason<R: Eprint + AllocGlobal>(
+    rt: &R,
+    request: &Request,
+    fault: Fault,
+    seen: Seen,
+) {
+    let input = name_of(request, seen.part);
+    let _ = match fault {
+        Fault::Replay(vt_replay::Fault::Memory) => Ok(()),
+        Fault::Replay(vt_replay::Fault::Partial) => {
+            eprintln!(rt;
+                "vt220: {input}: the last sequence has no end; vt220 status prints its kind"
+            )
+        }
+        Fault::Replay(vt_replay::Fault::Read) => {
+            print_error(rt, input, seen.error);
+            Ok(())
+        }
+        Fault::Replay(vt_replay::Fault::Write) => {
+            print_error(rt, STANDARD_OUTPUT, seen.error);
+            Ok(())
+        }
+        Fault::Replay(vt_replay::Fault::TooLong) => {
+            let limit = request.limit;
+            eprintln!(rt; "vt220: {input}: more than {limit} bytes; a greater --limit allows them")
+        }
+        Fault::Broken(place) => {
+            print_broken(rt, request, place, seen);
+            Ok(())
+        }
+        Fault::NoTimes => { eprintln!(rt; "vt220: {input}: {}", without_times(seen.format)) }
+    };
+}
+
+/// Prints what the format has at a place that breaks it, and what the recording looks like, if that is another format.
+fn print_broken(rt: &impl Eprint, request: &Request, place: Break, seen: Seen) {
+    let name = name_of(request, place.part);
+    let expected = expected(seen.format, place);
+    let is_other = seen.detected != Detected::Recording(seen.format);
+    let _ = match hint_of(seen.detected) {
+        Some(hint) if is_other && place.part == Part::Recording => {
+            eprintln!(rt; "vt220: {name}: {expected}; {hint}")
+        }
+        _ => eprintln!(rt; "vt220: {name}: {expected}"),
+    };
+}
+
+/// Returns the name of a file of the request.
+pub(crate) fn name_of(request: &Request, part: Part) -> &str {
+    let name = match part {
+        Part::Recording => &request.file,
+        Part::Timing => &request.timing,
+    };
+    match name {
+        Some(name) => name.as_str(),
+        None => "standard input",
+    }
+}
+
+/// Prints the operating system's words for an error of a file. A write of no byte is an error without words.
+pub(crate) fn print_error<R: Eprint + AllocGlobal>(rt: &R, name: &str, error: Option<Error>) {
+    let Some(error) = error else {
+        return;
+    };
+    let Ok(words) = words_of(rt.alloc(), error) else {
+        return;
+    };
+    let _ = eprintln!(rt; "vt220: {name}: {words}");
+    if name == "-" {
+        let _ = eprintln!(rt; "vt220: standard input is read if no FILE is named");
+    }
+}
+
+/// Returns the operating system's words for an error, without its number.
+fn words_of(alloc: Global, error: Error) -> Result<String, AllocError> {
+    let message = error.to_string(alloc)?;
+    let words = match message.find(BEFORE_THE_NUMBER) {
+        Some(at) => &message[..at],
+        None => message.as_str(),
+    };
+    String::from_str(alloc, words)
+}
+
+/// Returns why an input whose beginning showed the format has no times.
+fn without_times(format: Format) -> &'static str {
+    match format {
+        Format::Script => "times are in a file by script: use --format script and --timing FILE",
+        _ => "--format auto found raw bytes",
+    }
+}
+
+/// Returns what the format has at a place that breaks it.
+fn expected(format: Format, place: Break) -> &'static str {
+    match place.part {
+        Part::Timing => {
+            "a timing file has lines such as '0.25 80', or 'O 0.25 80' with other letters too"
+        }
+        Part::Recording => match format {
+            Format::Raw => "raw bytes break nothing",
+            Format::Script if place.at == 0 => {
+                "--format script begins with a line 'Script started on ..'"
+            }
+            Format::Script => {
+                "a second session begins there, or the timing file has more bytes than the recording"
+            }
+            Format::Ttyrec => {
+                "--format ttyrec has frames: a header of 12 bytes, and as many bytes as it says"
+            }
+            Format::Asciicast if place.at == 0 => {
+                "--format asciicast begins with a line '{\"version\": 2, ..}', or 3"
+            }
+            Format::Asciicast => "--format asciicast has lines such as '[0.25, \"o\", \"text\"]'",
+        },
+    }
+}

@@ -1,0 +1,17 @@
+use Rattle.std.proofs.Common.{append_assoc}
+use Rattle.vt_picture.specs.Picture.{group_start}
+use Rattle.vt_picture.proofs.document.push_group_start.Goals as goal
+
+pub returns-clause-items : goal.returns-clause-items
+unfolding group_start
+returns-clause-items c =
+    rw (
+      c.push_bytes-5.ensures.items,
+      c.push_bytes-4.ensures.items,
+      c.fill-2.ensures.fill,
+      c.push_bytes-3.ensures.items,
+      c.push_bytes-2.ensures.items,
+      c.fill.ensures.fill,
+      c.push_bytes.ensures.items,
+    )
+    (simp append_assoc)

@@ -1,0 +1,182 @@
+//! The format that the beginning of a file shows.
+ghost use Rattle.std.specs.Prelude.{◌≡◌, option_map};
+ghost use Rattle.vt_recording.specs.Detection.{trimmed, after, is_version, begins_version, has_version};
+ghost use Rattle.vt_recording.specs.Detection.{without_mark, is_asciicast, is_header, is_ttyrec, is_bzip2, detected};
+
+use crate::format::Format;
+use crate::lines::front_line;
+use crate::script::FIRST_WORDS;
+use crate::ttyrec::{HEADER, number_at, time_of};
+
+/// The most bytes of a ttyrec's frame: a frame is what one read of the terminal gave.
+const LONGEST_FRAME: usize = 0x1_0000;
+
+/// The number of first bytes that suffices for [`detect`]: a ttyrec's longest frame, with its header and the next.
+pub const DETECTION_LENGTH: usize = HEADER + LONGEST_FRAME + HEADER;
+
+/// UTF-8's byte order mark.
+const BYTE_ORDER_MARK: &[u8] = b"\xEF\xBB\xBF";
+
+/// The format of a compressed file.
+#[derive(Clone, Copy, Debug, PartialEq, Eq)]
+pub enum Compression {
+    /// The format of gzip.
+    Gzip,
+    /// The format of zstd.
+    Zstd,
+    /// The format of xz.
+    Xz,
+    /// The format of bzip2.
+    Bzip2,
+}
+
+/// The kind of file that [`detect`] found.
+#[derive(Clone, Copy, Debug, PartialEq, Eq)]
+pub enum Detected {
+    /// A recording. It is raw if nothing else was found.
+    Recording(Format),
+    /// A compressed file.
+    Compressed(Compression),
+}
+
+/// Returns the text without the white space at its front.
+fn trimmed(text: &[u8]) -> &[u8]
+    ensures { result.now ≡ trimmed text.now }
+{
+    text.trim_ascii_start()
+}
+
+/// Returns the text after a token and white space, if it begins with the token.
+fn after<'a>(token: &[u8], text: &'a [u8]) -> Option<&'a [u8]>
+    ensures { option_map (λ s. s.now) result ≡ after token.now text.entry.now }
+{
+    if text.starts_with(token) {
+        Some(trimmed(&text[token.len()..]))
+    } else {
+        None
+    }
+}
+
+/// Returns whether a value is there, a number that begins with 1, 2 or 3.
+fn is_version(value: Option<&[u8]>) -> bool
+    ensures { result ≡ is_version (option_map (λ s. s.now) value.entry) }
+{
+    match value {
+        Some(value) => match value.first() {
+            Some(digit) => b'1' <= *digit && *digit <= b'3',
+            None => false,
+        },
+        None => false,
+    }
+}
+
+/// Returns whether a text begins with the member `"version"` of an object.
+fn begins_version(text: &[u8]) -> bool
+    ensures { result ≡ begins_version text.now }
+{
+    match after(b"\"version\"", text) {
+        Some(rest) => is_version(after(b":", rest)),
+        None => false,
+    }
+}
+
+/// Returns whether a text has the member `"version"` of an object.
+#[tactic(auto, unfolding(crate::specs::Detection::has_version))]
+fn has_version(text: &[u8]) -> bool
+    ensures { result ≡ has_version text.now }
+{
+    let mut at = 0;
+    while at < text.len() {
+        if begins_version(&text[at..]) {
+            return true;
+        }
+        at += 1;
+    }
+    false
+}
+
+/// Returns the bytes after a byte order mark, if they begin with one.
+fn without_mark(bytes: &[u8]) -> &[u8]
+    ensures { result.now ≡ without_mark bytes.now }
+{
+    if bytes.starts_with(BYTE_ORDER_MARK) {
+        &bytes[BYTE_ORDER_MARK.len()..]
+    } else {
+        bytes
+    }
+}
+
+/// Returns whether the bytes begin an object that names its version on the line of its first member.
+fn is_asciicast(bytes: &[u8]) -> bool
+    ensures { result ≡ is_asciicast bytes.now }
+{
+    match after(b"{", trimmed(without_mark(bytes))) {
+        Some(members) => has_version(front_line(members)),
+        None => false,
+    }
+}
+
+/// Returns whether the bytes begin with a possible header of a ttyrec's frame.
+fn is_header(bytes: &[u8]) -> bool
+    ensures { result ≡ is_header bytes.now }
+{
+    HEADER <= bytes.len()
+        && number_at(4, bytes) < 1_000_000
+        && number_at(8, bytes) <= LONGEST_FRAME as u64
+}
+
+/// Returns whether the bytes begin with a frame of a ttyrec, and go on with another one if they don't end before that.
+fn is_ttyrec(bytes: &[u8]) -> bool
+    ensures { result ≡ is_ttyrec bytes.now }
+{
+    if !is_header(bytes) {
+        return false;
+    }
+    let size = number_at(8, bytes) as usize;
+    let rest = &bytes[bytes.len().min(HEADER + size)..];
+    1 <= size && (rest.len() < HEADER || (is_header(rest) && time_of(bytes) <= time_of(rest)))
+}
+
+/// Returns whether the bytes begin a file by bzip2.
+fn is_bzip2(bytes: &[u8]) -> bool
+    ensures { result ≡ is_bzip2 bytes.now }
+{
+    bytes.starts_with(b"BZh") && bytes[bytes.len().min(4)..].starts_with(b"1AY&SY")
+}
+
+/// Returns the format that the first bytes of a file show, however many they are. Bytes that show no other format are raw.
+///
+/// [`DETECTION_LENGTH`] bytes suffice, except for an asciicast whose `"version"` comes later in its first line.
+///
+/// - script: `Script started on `
+/// - asciicast: an object with the member `"version"` on the line of its first member, whose value begins with 1, 2 or 3. White
+///   space and a byte order mark may come before it
+/// - gzip, zstd, xz and bzip2: the fixed bytes at the beginning of each
+/// - ttyrec: a header with less than 1,000,000 microseconds and a frame of 1 to 65,536 bytes. If 12 bytes or more follow the
+///   frame, they are a header with less than 1,000,000 microseconds, a frame of at most 65,536 bytes, and no earlier time
+pub fn detect(beginning: &[u8]) -> Detected
+    ensures { result ≡ detected beginning.now }
+{
+    if beginning.starts_with(FIRST_WORDS) {
+        return Detected::Recording(Format::Script);
+    }
+    if is_asciicast(beginning) {
+        return Detected::Recording(Format::Asciicast);
+    }
+    if beginning.starts_with(b"\x1F\x8B") {
+        return Detected::Compressed(Compression::Gzip);
+    }
+    if beginning.starts_with(b"\x28\xB5\x2F\xFD") {
+        return Detected::Compressed(Compression::Zstd);
+    }
+    if beginning.starts_with(b"\xFD7zXZ\0") {
+        return Detected::Compressed(Compression::Xz);
+    }
+    if is_bzip2(beginning) {
+        return Detected::Compressed(Compression::Bzip2);
+    }
+    if is_ttyrec(beginning) {
+        return Detected::Recording(Format::Ttyrec);
+    }
+    Detected::Recording(Format::Raw)
+}

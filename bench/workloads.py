@@ -1,4 +1,4 @@
-"""The benchmark's inputs: six workloads and three screens, the same bytes on every machine."""
+"""The benchmark's inputs: seven workloads and three screens, the same bytes on every machine."""
 
 LETTERS = b"      eeeeettttaaaaooooiiinnnssshhrrddllccuummwwffggyyppbbvkxjqz.,0123456789"
 
@@ -66,8 +66,13 @@ def scrolling(source):
     return out
 
 
+def bells(source):
+    """A plain line, and a bell after one in sixteen."""
+    return plain(source) + (b"\a" if source.below(16) == 0 else b"")
+
+
 WORKLOADS = {"plain lines": plain, "addressing, SGR": addressing, "region, IL, DL": region,
-             "supplemental": supplemental, "random bytes": random_bytes, "scroll region": scrolling}
+             "supplemental": supplemental, "random bytes": random_bytes, "scroll region": scrolling, "bells": bells}
 
 
 def make(name, size):

@@ -1,12 +1,13 @@
 /* The calls of vt220.h over the proved ones, core_*. This file checks the processor, allows null pointers of length 0 and the same
- * terminal twice, doesn't write `const` handles, sets reserved bytes to zero, and counts the bells. */
+ * terminal twice, doesn't write `const` handles, drops replies that nobody wants, sets reserved bytes to zero, and counts the bells. */
 #include "vt220.h"
 #include <string.h>
 #if defined __x86_64__
 #include <cpuid.h>
 #endif
 
-/* A handle in the form of the proved calls. They empty it while they work and then put the same block back, so each works on a copy. */
+/* A handle in the form of the proved calls. They empty it while they work and then put a block back, so each works on a copy. A handle
+ * that isn't `const` takes over what is in the copy then. For a `const` one it must be the block of before (tests-c/stays). */
 typedef struct handle {
     void *at;
     bool is_open;
@@ -45,10 +46,22 @@ bool core_same_state(handle *a, handle *b);
 /* Stands for a null pointer of length 0. */
 static uint8_t nothing;
 
-/* The number of bytes that are searched for BEL and then processed: few enough to stay in the nearest cache. */
-enum { BLOCK = 16384, BEL = 0x07 };
+/* The most bytes that are searched for BEL and then processed: few enough to stay in the nearest cache. A test has smaller blocks. */
+#ifndef BLOCK
+#define BLOCK 16384
+#endif
+
+/* The bytes of replies that are written and dropped at once: enough for speed, and few enough for the stack that the header names. */
+enum { REPLIES = 2560, BEL = 0x07 };
 
 static handle own(const vt220 *t) { return (handle){t->terminal, t->is_open}; }
+
+static handle own_scratch(const vt220_scratch *s) { return (handle){s->room, s->is_open}; }
+
+/* Stores what a call left in the copy of a handle. */
+static void keep(vt220 *t, handle h) { t->terminal = h.at, t->is_open = h.is_open; }
+
+static void keep_scratch(vt220_scratch *s, handle h) { s->room = h.at, s->is_open = h.is_open; }
 
 static bool is_same(const vt220 *a, const vt220 *b) { return a->is_open && b->is_open && a->terminal == b->terminal; }
 
@@ -76,6 +89,8 @@ const char *vt220_status_text(uint32_t status) {
         "the output buffer is too small",
         "the processor is older than x86-64-v2",
         "there is no such row",
+        "there is no such key",
+        "no key sends this character",
     };
     return status < sizeof texts / sizeof texts[0] ? texts[status] : "unknown status";
 }
@@ -107,48 +122,90 @@ uint32_t vt220_scratch_open(vt220_scratch *s) {
 }
 
 void vt220_scratch_close(vt220_scratch *s) {
-    handle h = {s->room, s->is_open};
+    handle h = own_scratch(s);
     if (h.is_open) core_scratch_close(&h);
     *s = (vt220_scratch){NULL, false};
 }
 
 bool vt220_scratch_is_open(const vt220_scratch *s) { return s->is_open; }
 
-size_t vt220_feed(vt220 *t, const uint8_t *bytes, size_t len, uint8_t *reports, size_t size, size_t *written) {
-    size_t taken = 0, filled = 0;
-    *written = 0;
-    if (!t->is_open) return 0;
-    if (reports == NULL) reports = &nothing, size = 0;
+/* A buffer of the caller, and how many of its bytes are filled. */
+typedef struct buffer {
+    uint8_t *at;
+    size_t size, filled;
+} buffer;
+
+static buffer empty(uint8_t *at, size_t size) { return at != NULL ? (buffer){at, size, 0} : (buffer){&nothing, 0, 0}; }
+
+/* The bytes at the front of an input that are processed at once, and whether they may ring. */
+typedef struct part {
+    size_t len;
+    bool rings;
+} part;
+
+/* Returns the bytes before the next BEL, or the BELs at the front. So no byte is searched twice, and the core, which searches what may
+ * ring for the next BEL, finds it at once. */
+static part next_part(const uint8_t *bytes, size_t len) {
+    size_t most = len < BLOCK ? len : BLOCK, run = 0;
+    while (run < most && bytes[run] == BEL) run++;
+    if (run > 0) return (part){run, true};
+    const uint8_t *bell = memchr(bytes, BEL, most);
+    return (part){bell != NULL ? (size_t)(bell - bytes) : most, false};
+}
+
+/* Processes input as far as the buffers have capacity. With a scratch buffer it writes the lines that scroll off to `lines`. */
+static size_t process(vt220 *t, vt220_scratch *s, const uint8_t *bytes, size_t len, buffer *replies, buffer *lines) {
+    size_t taken = 0;
     while (taken < len) {
-        size_t part = len - taken < BLOCK ? len - taken : BLOCK, sent = 0, rung = 0;
-        bool counts = memchr(bytes + taken, BEL, part) != NULL;
+        part next = next_part(bytes + taken, len - taken);
+        uint8_t *out = replies->at + replies->filled;
+        size_t size = replies->size - replies->filled, sent = 0, off = 0, rung = 0, now;
         handle h = own(t);
-        size_t now = core_feed(&h, bytes + taken, part, counts, reports + filled, size - filled, &sent, &rung);
-        taken += now, filled += sent, t->bells += rung;
-        if (now < part) break;
+        if (s == NULL) {
+            now = core_feed(&h, bytes + taken, next.len, next.rings, out, size, &sent, &rung);
+        } else {
+            handle room = own_scratch(s);
+            now = core_feed_log(&h, &room, bytes + taken, next.len, next.rings, out, size, &sent, lines->at + lines->filled,
+                                lines->size - lines->filled, &off, &rung);
+            keep_scratch(s, room);
+            lines->filled += off;
+        }
+        keep(t, h);
+        taken += now, replies->filled += sent, t->bells += rung;
+        if (now < next.len) break;
     }
-    *written = filled;
+    return taken;
+}
+
+/* Does the same and drops the replies. It isn't inlined, so that no other call has this buffer on its stack. */
+__attribute__((noinline)) static size_t process_unanswered(vt220 *t, vt220_scratch *s, const uint8_t *bytes, size_t len, buffer *lines) {
+    uint8_t dropped[REPLIES];
+    size_t taken = 0, now;
+    do {
+        buffer replies = empty(dropped, sizeof dropped);
+        now = process(t, s, bytes + taken, len - taken, &replies, lines);
+        taken += now;
+    } while (now > 0 && taken < len);
+    return taken;
+}
+
+size_t vt220_feed(vt220 *t, const uint8_t *bytes, size_t len, uint8_t *reports, size_t size, size_t *written) {
+    buffer replies = empty(reports, size);
+    size_t taken = 0;
+    if (t->is_open)
+        taken = written == NULL ? process_unanswered(t, NULL, bytes, len, NULL) : process(t, NULL, bytes, len, &replies, NULL);
+    if (written != NULL) *written = replies.filled;
     return taken;
 }
 
 size_t vt220_feed_log(vt220 *t, vt220_scratch *s, const uint8_t *bytes, size_t len, uint8_t *reports, size_t size, size_t *written,
                       uint8_t *lines, size_t lines_size, size_t *lines_written) {
-    size_t taken = 0, filled = 0, logged = 0;
-    *written = *lines_written = 0;
-    if (!t->is_open || !s->is_open) return 0;
-    if (reports == NULL) reports = &nothing, size = 0;
-    if (lines == NULL) lines = &nothing, lines_size = 0;
-    while (taken < len) {
-        size_t part = len - taken < BLOCK ? len - taken : BLOCK, sent = 0, off = 0, rung = 0;
-        bool counts = memchr(bytes + taken, BEL, part) != NULL;
-        handle h = own(t), room = {s->room, s->is_open};
-        size_t now = core_feed_log(&h, &room, bytes + taken, part, counts, reports + filled, size - filled, &sent, lines + logged,
-                                   lines_size - logged, &off, &rung);
-        taken += now, filled += sent, logged += off, t->bells += rung;
-        if (now < part) break;
-    }
-    *written = filled;
-    *lines_written = logged;
+    buffer replies = empty(reports, size), log = empty(lines, lines_size);
+    size_t taken = 0;
+    if (t->is_open && s->is_open)
+        taken = written == NULL ? process_unanswered(t, s, bytes, len, &log) : process(t, s, bytes, len, &replies, &log);
+    if (written != NULL) *written = replies.filled;
+    *lines_written = log.filled;
     return taken;
 }
 
@@ -156,24 +213,32 @@ uint64_t vt220_bells(const vt220 *t) { return t->is_open ? t->bells : 0; }
 
 uint32_t vt220_reset(vt220 *t) {
     handle h = own(t);
-    return h.is_open ? core_reset(&h) : VT220_CLOSED;
+    if (!h.is_open) return VT220_CLOSED;
+    uint32_t status = core_reset(&h);
+    keep(t, h);
+    return status;
 }
 
 uint32_t vt220_copy(vt220 *to, const vt220 *from) {
     handle h = own(to), other = own(from);
     if (!h.is_open || !other.is_open) return VT220_CLOSED;
-    return is_same(to, from) ? VT220_OK : core_copy(&h, &other);
+    if (is_same(to, from)) return VT220_OK;
+    uint32_t status = core_copy(&h, &other);
+    keep(to, h);
+    return status;
 }
 
 /* A call that writes bytes by way of a scratch buffer. */
 typedef uint32_t writer(handle *t, handle *s, uint8_t *out, size_t size, size_t *written);
 
 static uint32_t write_by(writer *call, const vt220 *t, vt220_scratch *s, uint8_t *out, size_t size, size_t *written) {
-    handle h = own(t), room = {s->room, s->is_open};
+    handle h = own(t), room = own_scratch(s);
     *written = 0;
     if (!h.is_open || !room.is_open) return VT220_CLOSED;
     if (out == NULL) out = &nothing, size = 0;
-    return call(&h, &room, out, size, written);
+    uint32_t status = call(&h, &room, out, size, written);
+    keep_scratch(s, room);
+    return status;
 }
 
 uint32_t vt220_text(const vt220 *t, vt220_scratch *s, uint8_t *out, size_t size, size_t *written) {
@@ -193,20 +258,25 @@ uint32_t vt220_repaint(const vt220 *t, vt220_scratch *s, uint8_t *out, size_t si
 }
 
 uint32_t vt220_row_text(const vt220 *t, vt220_scratch *s, size_t row, uint8_t *out, size_t size, size_t *written) {
-    handle h = own(t), room = {s->room, s->is_open};
+    handle h = own(t), room = own_scratch(s);
     *written = 0;
     if (!h.is_open || !room.is_open) return VT220_CLOSED;
     if (out == NULL) out = &nothing, size = 0;
-    return core_row_text(&h, &room, row, out, size, written);
+    uint32_t status = core_row_text(&h, &room, row, out, size, written);
+    keep_scratch(s, room);
+    return status;
 }
 
 uint32_t vt220_update(vt220 *shown, const vt220 *to, vt220_scratch *s, uint8_t *out, size_t size, size_t *written) {
-    handle h = own(shown), other = own(to), room = {s->room, s->is_open};
+    handle h = own(shown), other = own(to), room = own_scratch(s);
     *written = 0;
     if (!h.is_open || !other.is_open || !room.is_open) return VT220_CLOSED;
     if (is_same(shown, to)) return core_is_between(&h) ? VT220_OK : VT220_PARTIAL;
     if (out == NULL) out = &nothing, size = 0;
-    return core_update(&h, &other, &room, out, size, written);
+    uint32_t status = core_update(&h, &other, &room, out, size, written);
+    keep(shown, h);
+    keep_scratch(s, room);
+    return status;
 }
 
 uint32_t vt220_row_changes(const vt220 *shown, const vt220 *to, size_t row, vt220_row_marks *marks) {

@@ -5,7 +5,7 @@
  *
  * Input. The input isn't UTF-8. Bytes 00 to 7F are ASCII and the C0 controls. Bytes 80 to 9F are the C1 controls, and A0 to FF
  * are characters of the DEC supplemental set. BEL changes only the count of vt220_bells. LEDs, printing, double-size lines and
- * sequences of later terminals have no effect. There is no keyboard: translate keys yourself, with vt220_modes.
+ * sequences of later terminals have no effect. vt220-keys.h has the keyboard, which takes what vt220_modes writes.
  *
  * Handles. You allocate a vt220 or a vt220_scratch as a struct. All zero means closed. An open handle owns memory until you
  * close it. Only vt220_open and vt220_scratch_open allocate. Any call on a closed handle is safe, and reports it.
@@ -20,7 +20,8 @@
  *
  * Not checked. The caller must see to these:
  *  - A handle is all zero, or as the library left it. You may move it with memcpy if you don't use the original again.
- *  - An array has the length that you pass. A pointer may be null if its length is 0. All other pointers aren't null.
+ *  - An array has the length that you pass. A pointer may be null if its length is 0. Another pointer may be null only if its call
+ *    says so.
  *  - The arguments of a call don't overlap. The same terminal may be passed twice to a call that takes two.
  *  - malloc, realloc and free belong to one allocator. No call is made from a signal handler, nor in the forked child of a
  *    program with threads.
@@ -33,7 +34,10 @@
  * than the header. Version 0.3.0 is the first of which this holds.
  *
  * Rows, columns and margins count from 1. Sizes and lengths are in bytes; those of vt220_row are in cells.
- * What each call writes and returns is proved. docs/PROMISES.md lists what is only tested.
+ *
+ * Proof. Each call here is a short function of C (c/vt220.c) over a call of the core. What the core's calls write and return, and
+ * the state that they leave, is proved. The C is tested: that a handle stays valid, closed handles, null pointers, the same terminal
+ * twice, the sum of the bells, `reserved`, and `changed` after the width. docs/PROMISES.md lists both.
  */
 #ifndef VT220_H
 #define VT220_H
@@ -199,6 +203,9 @@ bool vt220_scratch_is_open(const vt220_scratch *s);
  * bytes of `reports` after them.
  *   bytes, len      the input
  *   reports, size   the buffer for replies
+ *   written         receives the length of the replies; may be null
+ * If `written` is null, the replies are dropped: vt220_feed(t, bytes, len, NULL, 0, NULL) processes all bytes. `reports` and `size`
+ * aren't used then.
  * Returns how many bytes were processed. If these are fewer than len, fewer than VT220_REPORT_LIMIT bytes of `reports` are free:
  * send the replies and call again with the remainder. A buffer of VT220_REPORT_LIMIT bytes always takes at least one byte,
  * one of VT220_REPORT_LIMIT * len all of them, and one of 5 KB costs no speed.
@@ -211,7 +218,7 @@ size_t vt220_feed(vt220 *t, const uint8_t *bytes, size_t len, uint8_t *reports, 
  * off. A line is written as by vt220_row_text.
  *   s                   an open scratch buffer
  *   bytes, len          the input
- *   reports, size       the buffer for replies; *written receives their length
+ *   reports, size       the buffer for replies; *written receives their length. A null `written` drops them, as in vt220_feed
  *   lines, lines_size   the buffer for lines; *lines_written receives their length
  * Returns how many bytes were processed. If these are fewer than len, fewer than VT220_REPORT_LIMIT bytes of `reports` or fewer than
  * VT220_ROW_TEXT_LIMIT bytes of `lines` are free: empty both and call again with the remainder. Buffers of these sizes always take
@@ -275,7 +282,8 @@ uint32_t vt220_repaint(const vt220 *t, vt220_scratch *s, uint8_t *out, size_t si
 uint32_t vt220_update(vt220 *shown, const vt220 *to, vt220_scratch *s, uint8_t *out, size_t size, size_t *written);
 
 /* Finds the cells of a row of `to`, 1 to 24, for which `shown` has another cell or none. Call it before vt220_update, and redraw
- * these cells alone. The cursor and DECSCNM aren't part of the cells.
+ * these cells alone. If `shown` and `to` differ in their width (vt220_width), redraw the whole screen instead: no mark names the cells
+ * of `shown` after the width of `to`. The cursor and DECSCNM aren't part of the cells.
  * Returns VT220_OK, VT220_CLOSED or VT220_NO_ROW. On an error *marks isn't modified. */
 uint32_t vt220_row_changes(const vt220 *shown, const vt220 *to, size_t row, vt220_row_marks *marks);
 

@@ -58,7 +58,10 @@ static void bells(void) {
     CHECK(vt220_reset(&t) == VT220_OK && vt220_bells(&t) == 70);
     memset(many, '\a', 600);
     CHECK(vt220_feed(&t, many, 600, reports, 10, &written) == 600 && vt220_bells(&t) == 670);
+    vt220 copy = opened("\a");
+    CHECK(vt220_copy(&copy, &t) == VT220_OK && vt220_bells(&copy) == 1 && vt220_bells(&t) == 670);
     vt220_close(&t);
+    vt220_close(&copy);
 }
 
 static void resets_and_copies(void) {
@@ -174,6 +177,51 @@ static void changed_cells(void) {
     vt220_close(&wide);
 }
 
+/* What a program shows that draws by the header: the marked cells alone, or the whole screen after a change of the width. */
+typedef struct drawing {
+    size_t width;
+    vt220_cell cells[VT220_ROWS][VT220_COLUMNS];
+} drawing;
+
+static void draw(drawing *d, vt220 *shown, const vt220 *to) {
+    vt220_cell cells[VT220_COLUMNS];
+    vt220_row_marks marks;
+    size_t written, width = vt220_width(to);
+    bool is_anew = d->width != width;
+    if (is_anew) memset(d, 0, sizeof *d);
+    d->width = width;
+    for (size_t row = 1; row <= VT220_ROWS; row++) {
+        CHECK(vt220_row(to, row, cells, VT220_COLUMNS) == width && vt220_row_changes(shown, to, row, &marks) == VT220_OK);
+        for (size_t i = 0; i < width; i++)
+            if (is_anew || marks.changed[i]) d->cells[row - 1][i] = cells[i];
+    }
+    CHECK(vt220_update(shown, to, &s, out, sizeof out, &written) == VT220_OK && vt220_same_state(shown, to));
+}
+
+/* Returns whether a drawing has the cells of a terminal, and none after its width. */
+static bool is_drawn(const drawing *d, const vt220 *t) {
+    vt220_cell cells[VT220_COLUMNS];
+    bool is = d->width == vt220_width(t);
+    for (size_t row = 1; row <= VT220_ROWS; row++) {
+        memset(cells, 0, sizeof cells);
+        is = is && vt220_row(t, row, cells, VT220_COLUMNS) == d->width && memcmp(cells, d->cells[row - 1], sizeof cells) == 0;
+    }
+    return is;
+}
+
+/* From 80 columns to 132 and back. The marks of that last step don't name the cells after column 80, which are gone. */
+static void drawn_anew(void) {
+    static const char *const steps[] = {"abc", "\033[2;2Hx", "\033[?3h\033[1;130Hyz", "\033[5;100Hw", "\033[?3l", "d\033[1me"};
+    static drawing d;
+    vt220 shown = opened(""), t = opened("");
+    for (size_t i = 0; i < sizeof steps / sizeof steps[0]; i++) {
+        feed(&t, steps[i]);
+        draw(&d, &shown, &t);
+        CHECK(is_drawn(&d, &t));
+    }
+    vt220_close(&shown), vt220_close(&t);
+}
+
 /* An update fits exactly if the buffer holds its bytes, and is refused without a trace otherwise. */
 static void exact_buffers(void) {
     static const char *const states[] = {"x", "\033[10;10Habc", "\033[?3hwide", "\033#8", "\033[1;4mA\033[24;1H\n\n", "\033[3g", "\033[?5h"};
@@ -195,7 +243,6 @@ static void exact_buffers(void) {
     }
 }
 
-/* A null pointer of length 0 is allowed. */
 /* Feeds with a log, in chunks and with free bytes of both buffers as given. Returns the length of the lines. */
 static size_t feed_log(vt220 *t, const char *text, size_t len, size_t chunk, size_t size, size_t lines_size, uint8_t *lines) {
     uint8_t reports[64];
@@ -268,6 +315,7 @@ static void logs(void) {
     vt220_close(&u);
 }
 
+/* A null pointer of length 0 is allowed. */
 static void null_pointers(void) {
     vt220 t = opened("abc");
     size_t written = 9;
@@ -279,12 +327,37 @@ static void null_pointers(void) {
     vt220_close(&t);
 }
 
+/* Input with more replies than any buffer of the library holds. If they are dropped, all of it is processed, and `reports` isn't used. */
+static void dropped_replies(void) {
+    static uint8_t many[70000], lines[20 * 81];
+    vt220 t = opened("\033[12;70H"), u = opened("\033[12;70H");
+    size_t written, logged;
+    for (size_t i = 0; i < sizeof many; i += 5) memcpy(many + i, "\033[6n\a", 5);
+    CHECK(vt220_feed(&t, many, sizeof many, NULL, 0, NULL) == sizeof many && vt220_bells(&t) == sizeof many / 5);
+    memset(out, 0xA5, sizeof out);
+    CHECK(vt220_feed(&t, many, sizeof many, out, sizeof out, NULL) == sizeof many && out[0] == 0xA5 && vt220_same_state(&t, &u));
+    CHECK(vt220_feed(&t, NULL, 0, NULL, 0, NULL) == 0);
+    /* As many lines as have room, whatever the replies. */
+    memset(many, 'x', sizeof many);
+    for (size_t i = 0; i + 80 < sizeof many; i += 81) memcpy(many + i, "\033[6n", 4);
+    size_t taken = vt220_feed_log(&t, &s, many, sizeof many, NULL, 0, NULL, lines, sizeof lines, &logged);
+    CHECK(taken < sizeof many && logged <= sizeof lines && sizeof lines - logged < VT220_ROW_TEXT_LIMIT);
+    CHECK(vt220_feed(&u, many, taken, other, sizeof other, &written) == taken && written > 0 && vt220_same_state(&t, &u));
+    CHECK(vt220_feed_log(&t, &s, (const uint8_t *)"a", 1, NULL, 0, NULL, lines, VT220_ROW_TEXT_LIMIT - 1, &logged) == 0 && logged == 0);
+    vt220_close(&t);
+    vt220_close(&u);
+    CHECK(vt220_feed(&t, many, 4, NULL, 0, NULL) == 0);
+    CHECK(vt220_feed_log(&t, &s, many, 4, NULL, 0, NULL, lines, sizeof lines, &logged) == 0 && logged == 0);
+}
+
 static void statuses(void) {
-    for (uint32_t status = 0; status < 8; status++) {
+    CHECK(strcmp(vt220_status_text(VT220_CLOSED), "a handle is closed") == 0);
+    CHECK(strcmp(vt220_status_text(VT220_PARTIAL), "a terminal is inside a sequence") == 0);
+    for (uint32_t status = 0; status < 10; status++) {
         CHECK(vt220_status_text(status) != NULL && strcmp(vt220_status_text(status), "unknown status") != 0);
         for (uint32_t before = 0; before < status; before++) CHECK(strcmp(vt220_status_text(status), vt220_status_text(before)) != 0);
     }
-    CHECK(strcmp(vt220_status_text(8), "unknown status") == 0 && strcmp(vt220_status_text(UINT32_MAX), "unknown status") == 0);
+    CHECK(strcmp(vt220_status_text(10), "unknown status") == 0 && strcmp(vt220_status_text(UINT32_MAX), "unknown status") == 0);
 }
 
 int main(void) {
@@ -295,9 +368,11 @@ int main(void) {
     rows_as_text();
     shown_and_drawn();
     changed_cells();
+    drawn_anew();
     exact_buffers();
     logs();
     null_pointers();
+    dropped_replies();
     statuses();
     vt220_scratch_close(&s);
     return finish("calls");

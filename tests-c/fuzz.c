@@ -1,5 +1,5 @@
-/* fuzz: a libFuzzer harness over the interface. The library has no coverage of its own, so the state of the terminal guides it.
- * An input is a byte that says how it is cut, and the bytes that a host sends. */
+/* fuzz: a libFuzzer harness over the interface. The proved calls have no coverage of their own, so the state of the terminal guides it.
+ * An input is a byte that says how it is cut, and the bytes that a host sends. c/vt220.c is built with it, and with small blocks. */
 #include "vt220.h"
 #include <stdio.h>
 #include <stdlib.h>
@@ -69,6 +69,16 @@ static size_t feed_log(vt220 *t, const uint8_t *bytes, size_t len, unsigned cut,
         free(chunk), free(room), free(lines_room);
     }
     return filled;
+}
+
+/* Feeds byte by byte, and counts the bells by the rule of vt220_bells: a BEL rings if it isn't inside a control string. */
+static uint64_t count_bells(vt220 *t, const uint8_t *bytes, size_t len) {
+    uint64_t count = 0;
+    for (size_t i = 0; i < len; i++) {
+        count += bytes[i] == 0x07 && vt220_held_kind(t) != VT220_HELD_STRING;
+        MUST(vt220_feed(t, bytes + i, 1, NULL, 0, NULL) == 1);
+    }
+    return count;
 }
 
 typedef uint32_t writer(const vt220 *, vt220_scratch *, uint8_t *, size_t, size_t *);
@@ -209,12 +219,19 @@ int LLVMFuzzerTestOneInput(const uint8_t *data, size_t len) {
     uint64_t bells_a = vt220_bells(&a), bells_b = vt220_bells(&b);
     all = feed(&a, bytes, len, 0, reports_a);
     MUST(feed(&b, bytes, len, cut, reports_b) == all && memcmp(reports_a, reports_b, all) == 0 && vt220_same_state(&a, &b));
-    MUST(vt220_bells(&a) - bells_a == vt220_bells(&b) - bells_b);
+    /* The bells are those that the bytes ask for; and replies that are dropped change nothing. */
+    MUST(vt220_reset(&c) == VT220_OK);
+    uint64_t bells_c = vt220_bells(&c), bells = count_bells(&c, bytes, len);
+    MUST(vt220_bells(&a) - bells_a == bells && vt220_bells(&b) - bells_b == bells && vt220_bells(&c) - bells_c == bells);
+    MUST(vt220_same_state(&c, &a) && vt220_reset(&c) == VT220_OK);
+    MUST(vt220_feed(&c, bytes, len, NULL, 0, NULL) == len && vt220_same_state(&c, &a) && vt220_bells(&c) - bells_c == 2 * bells);
     /* A log changes nothing of this, and doesn't depend on the cuts either. */
     static uint8_t lines_a[VT220_ROW_TEXT_LIMIT * LONGEST], lines_b[VT220_ROW_TEXT_LIMIT * LONGEST];
     MUST(vt220_reset(&c) == VT220_OK && vt220_reset(&b) == VT220_OK);
+    bells_b = vt220_bells(&b), bells_c = vt220_bells(&c);
     size_t logged = feed_log(&c, bytes, len, 0, lines_a);
     MUST(feed_log(&b, bytes, len, cut, lines_b) == logged && memcmp(lines_a, lines_b, logged) == 0);
+    MUST(vt220_bells(&b) - bells_b == bells && vt220_bells(&c) - bells_c == bells);
     MUST(vt220_same_state(&c, &a) && vt220_same_state(&b, &a));
     look(&a);
     look_at_text(&a);

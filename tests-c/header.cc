@@ -1,5 +1,6 @@
-// The header from C++.
+// The headers from C++.
 #include "check.h"
+#include "vt220-keys.h"
 
 static_assert(sizeof(vt220_cell) == 12, "a cell is twelve bytes");
 
@@ -11,6 +12,8 @@ int main() {
     CHECK(vt220_open(&t) == VT220_OK && vt220_scratch_open(&s) == VT220_OK);
     CHECK(vt220_feed(&t, BYTES("C++"), out, sizeof out, &written) == 3);
     CHECK(vt220_text(&t, &s, out, sizeof out, &written) == VT220_OK && memcmp(out, "C++\n", 4) == 0);
+    vt220_mode_set modes;
+    CHECK(vt220_modes(&t, &modes) && vt220_key(&modes, "Up", 2, out, sizeof out, &written) == VT220_OK && memcmp(out, "\033[A", written) == 0);
     vt220_close(&t);
     vt220_scratch_close(&s);
     return finish("header");

@@ -26,6 +26,15 @@ static void *feeds(void *unused) {
     return unused;
 }
 
+static void *drops(void *unused) {
+    static uint8_t lines[100000];
+    size_t lines_written;
+    vt220_feed(&b, input, sizeof input, NULL, 0, NULL);
+    for (size_t at = 0; at < sizeof input;)
+        at += vt220_feed_log(&b, &s, input + at, sizeof input - at, NULL, 0, NULL, lines, sizeof lines, &lines_written);
+    return unused;
+}
+
 static void *logs(void *unused) {
     static uint8_t lines[100000];
     size_t lines_written;
@@ -117,6 +126,8 @@ int main(void) {
     CHECK(empty < STACK / 2);
     measure("open and close", opens, LIMIT, empty);
     measure("feed", feeds, LIMIT, empty);
+    /* First the deepest of them, since a first call may also look for functions of the C library, on the same stack. */
+    measure("feed without replies", drops, LIMIT, empty);
     measure("feed with a log", logs, LIMIT, empty);
     /* Updates of all kinds: nothing differs, little, much, the width. */
     static const char *const states[] = {"\030", "a", "\033[5;5H\033[1mb\033[24H\n\n", "\033#8", "\033[?3h", "\033[2J\033[3;20rx\033[?6h", "\033[3g"};

@@ -1,4 +1,4 @@
-//go:build !vt220_source
+//go:build !vt220_source && !vt220_static
 
 package vt220
 

@@ -8,10 +8,11 @@
 // Rows and columns count from 1, and lengths are in bytes. Several goroutines may call methods that only read at once. Any other
 // method needs the Terminal for itself. One goroutine at a time may use a Scratch.
 //
-// On a closed Terminal, methods with an error return ErrClosed, and all others do nothing and return zero values.
+// On a closed Terminal, methods with an error return ErrClosed, and all others do nothing and return zero values. A nil Scratch is a closed
+// one.
 package vt220
 
-// #include "vt220.h"
+// #include "vt220-keys.h"
 import "C"
 
 import (
@@ -30,6 +31,8 @@ const (
 	PictureLimit = 659968
 	PaintLimit   = 93512
 	UpdateLimit  = 94152
+	KeyLimit     = 5
+	TypedLimit   = 16
 	Version      = 300 // 10000 * major + 100 * minor + patch
 )
 
@@ -40,6 +43,8 @@ var (
 	ErrPartial     = errors.New("vt220: a terminal is inside a sequence")
 	ErrUnsupported = errors.New("vt220: the processor is older than x86-64-v2")
 	ErrNoRow       = errors.New("vt220: there is no such row")
+	ErrNoKey       = errors.New("vt220: there is no such key")
+	ErrNoCharacter = errors.New("vt220: no key sends this character")
 )
 
 // noCopy lets go vet find copies of a struct that owns a handle.
@@ -111,6 +116,10 @@ func result(status C.uint32_t) error {
 		return ErrUnsupported
 	case C.VT220_NO_ROW:
 		return ErrNoRow
+	case C.VT220_NO_KEY:
+		return ErrNoKey
+	case C.VT220_NO_CHARACTER:
+		return ErrNoCharacter
 	default:
 		return ErrClosed // the other two are impossible: New opens once, and the buffer always has the limit
 	}
@@ -118,6 +127,41 @@ func result(status C.uint32_t) error {
 
 // LibraryVersion returns the version of the library, in the form of Version.
 func LibraryVersion() int { return int(C.vt220_version()) }
+
+// chars returns the address of the first byte, or nil if there is none.
+func chars(bytes []byte) *C.char {
+	if len(bytes) == 0 {
+		return nil
+	}
+	return (*C.char)(unsafe.Pointer(&bytes[0]))
+}
+
+// Key returns what a key sends to the host under these modes, which the method Modes returns. The key is one character, a name such as
+// Up, Return or C-c, or the sequence that a terminal sends for it, in UTF-8. vt220-keys.h lists the names. It returns ErrNoKey if there
+// is no such key, and ErrNoCharacter if it is a character that no key sends.
+func Key(key string, modes Modes) ([]byte, error) {
+	var out [KeyLimit]C.uint8_t
+	var written C.size_t
+	text, m := []byte(key), modes.handedOver()
+	status := C.vt220_key(&m, chars(text), C.size_t(len(text)), &out[0], KeyLimit, &written)
+	if err := result(status); err != nil {
+		return nil, err
+	}
+	return C.GoBytes(unsafe.Pointer(&out[0]), C.int(written)), nil
+}
+
+// KeyLength returns how many bytes the first key has of what was typed on a modern terminal, and 0 if its end is missing.
+func KeyLength(typed []byte) int { return int(C.vt220_key_length(chars(typed), C.size_t(len(typed)))) }
+
+// handedOver returns the modes as the library takes them.
+func (m Modes) handedOver() C.vt220_mode_set {
+	return C.vt220_mode_set{
+		kam: C.bool(m.KAM), irm: C.bool(m.IRM), srm: C.bool(m.SRM), lnm: C.bool(m.LNM),
+		decckm: C.bool(m.DECCKM), decsclm: C.bool(m.DECSCLM), decscnm: C.bool(m.DECSCNM), decom: C.bool(m.DECOM),
+		decawm: C.bool(m.DECAWM), decarm: C.bool(m.DECARM), dectcem: C.bool(m.DECTCEM),
+		keypad_application: C.bool(m.KeypadApplication), reports_8bit: C.bool(m.Reports8Bit),
+	}
+}
 
 // Scratch is the work buffer of the calls that write a whole screen. One serves any number of terminals.
 type Scratch struct {
@@ -139,8 +183,13 @@ func NewScratch() (*Scratch, error) {
 // Close frees the memory. A closed scratch buffer stays closed.
 func (s *Scratch) Close() { C.vt220_scratch_close(&s.handle) }
 
-func (s *Scratch) written(status C.uint32_t, length C.size_t) ([]byte, error) {
-	if err := result(status); err != nil {
+// written returns a copy of what a call writes into the buffer. The call is given where it writes the length.
+func (s *Scratch) written(call func(length *C.size_t) C.uint32_t) ([]byte, error) {
+	if s == nil {
+		return nil, ErrClosed
+	}
+	var length C.size_t
+	if err := result(call(&length)); err != nil {
 		return nil, err
 	}
 	return C.GoBytes(unsafe.Pointer(&s.out[0]), C.int(length)), nil
@@ -161,6 +210,19 @@ func New() (*Terminal, error) {
 	}
 	runtime.SetFinalizer(t, (*Terminal).Close)
 	return t, nil
+}
+
+// Clone opens another terminal in the same state. It returns ErrClosed if this one is closed, and otherwise the errors of New.
+func (t *Terminal) Clone() (*Terminal, error) {
+	clone, err := New()
+	if err != nil {
+		return nil, err
+	}
+	if err := clone.CopyFrom(t); err != nil {
+		clone.Close()
+		return nil, err
+	}
+	return clone, nil
 }
 
 // Close frees the memory. A closed terminal stays closed.
@@ -185,7 +247,7 @@ func (t *Terminal) Feed(bytes []byte) (reports []byte) {
 // as RowText returns it. It returns ErrClosed if the terminal or the scratch buffer is closed, and has then played nothing.
 func (t *Terminal) FeedLog(bytes []byte, s *Scratch) (reports, lines []byte, err error) {
 	var written, linesWritten C.size_t
-	if !t.IsOpen() || !bool(C.vt220_scratch_is_open(&s.handle)) {
+	if !t.IsOpen() || s == nil || !bool(C.vt220_scratch_is_open(&s.handle)) {
 		return nil, nil, ErrClosed
 	}
 	for len(bytes) > 0 {
@@ -201,36 +263,36 @@ func (t *Terminal) FeedLog(bytes []byte, s *Scratch) (reports, lines []byte, err
 
 // Text returns the screen as text: 24 lines, each without the spaces at its end, and with a line feed.
 func (t *Terminal) Text(s *Scratch) (string, error) {
-	var length C.size_t
-	status := C.vt220_text(&t.handle, &s.handle, &s.out[0], UpdateLimit, &length)
-	text, err := s.written(status, length)
+	text, err := s.written(func(length *C.size_t) C.uint32_t {
+		return C.vt220_text(&t.handle, &s.handle, &s.out[0], UpdateLimit, length)
+	})
 	return string(text), err
 }
 
 // RowText returns one line of Text, that of a row from 1 to 24. It returns ErrNoRow if there is no such row.
 func (t *Terminal) RowText(row int, s *Scratch) (string, error) {
-	var length C.size_t
-	status := C.vt220_row_text(&t.handle, &s.handle, C.size_t(row), &s.out[0], RowTextLimit, &length)
-	text, err := s.written(status, length)
+	text, err := s.written(func(length *C.size_t) C.uint32_t {
+		return C.vt220_row_text(&t.handle, &s.handle, C.size_t(row), &s.out[0], RowTextLimit, length)
+	})
 	return string(text), err
 }
 
 // Show returns the screen as text with SGR sequences for the attributes.
 func (t *Terminal) Show(s *Scratch) (string, error) {
-	var length C.size_t
-	status := C.vt220_show(&t.handle, &s.handle, &s.out[0], UpdateLimit, &length)
-	text, err := s.written(status, length)
+	text, err := s.written(func(length *C.size_t) C.uint32_t {
+		return C.vt220_show(&t.handle, &s.handle, &s.out[0], UpdateLimit, length)
+	})
 	return string(text), err
 }
 
 // Picture returns the screen as a picture: an SVG document.
 func (t *Terminal) Picture(s *Scratch) (string, error) {
-	if len(s.out) < PictureLimit {
-		s.out = make([]C.uint8_t, PictureLimit)
-	}
-	var length C.size_t
-	status := C.vt220_picture(&t.handle, &s.handle, &s.out[0], PictureLimit, &length)
-	text, err := s.written(status, length)
+	text, err := s.written(func(length *C.size_t) C.uint32_t {
+		if len(s.out) < PictureLimit {
+			s.out = make([]C.uint8_t, PictureLimit)
+		}
+		return C.vt220_picture(&t.handle, &s.handle, &s.out[0], PictureLimit, length)
+	})
 	return string(text), err
 }
 
@@ -245,8 +307,9 @@ func (t *Terminal) Reset() error { return result(C.vt220_reset(&t.handle)) }
 // Bells returns how often BEL was carried out since New.
 func (t *Terminal) Bells() uint64 { return uint64(C.vt220_bells(&t.handle)) }
 
-// RowChanges marks the cells of a row of another terminal that this one doesn't have: index c - 1 is for column c. It returns ErrNoRow
-// if there is no such row, 1 to 24.
+// RowChanges marks the cells of a row of another terminal that this one doesn't have: index c - 1 is for column c. If the two differ in
+// Width, redraw the whole screen instead: the cells of this terminal after the other's width aren't in the result. It returns ErrNoRow if
+// there is no such row, 1 to 24.
 func (t *Terminal) RowChanges(to *Terminal, row int) ([]bool, error) {
 	var marks C.vt220_row_marks
 	if err := result(C.vt220_row_changes(&t.handle, &to.handle, C.size_t(row), &marks)); err != nil {
@@ -296,17 +359,17 @@ func (t *Terminal) Saved() Saved {
 
 // Repaint returns bytes that leave any terminal of this library in this one's state. It returns ErrPartial inside a sequence.
 func (t *Terminal) Repaint(s *Scratch) ([]byte, error) {
-	var length C.size_t
-	status := C.vt220_repaint(&t.handle, &s.handle, &s.out[0], UpdateLimit, &length)
-	return s.written(status, length)
+	return s.written(func(length *C.size_t) C.uint32_t {
+		return C.vt220_repaint(&t.handle, &s.handle, &s.out[0], UpdateLimit, length)
+	})
 }
 
 // Update returns bytes that lead from this terminal's state to that of another, and brings this one there. It returns no bytes if the
 // states are equal, and ErrPartial if one of the two is inside a sequence.
 func (t *Terminal) Update(to *Terminal, s *Scratch) ([]byte, error) {
-	var length C.size_t
-	status := C.vt220_update(&t.handle, &to.handle, &s.handle, &s.out[0], UpdateLimit, &length)
-	return s.written(status, length)
+	return s.written(func(length *C.size_t) C.uint32_t {
+		return C.vt220_update(&t.handle, &to.handle, &s.handle, &s.out[0], UpdateLimit, length)
+	})
 }
 
 // Row returns the cells of a row, 1 to 24. It returns nil if there is no such row.

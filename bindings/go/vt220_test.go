@@ -3,7 +3,10 @@ package vt220
 import (
 	"bytes"
 	"encoding/hex"
+	"errors"
+	"io/fs"
 	"os"
+	"reflect"
 	"strings"
 	"testing"
 )
@@ -34,12 +37,16 @@ func unhex(t *testing.T, field string) []byte {
 }
 
 // Each vector whole, byte by byte and in cuts: VT220_VECTORS names their file. Without it, this repository's file is read.
+// The published module has no such file beside it, so the test is skipped there.
 func TestVectors(t *testing.T) {
-	path := os.Getenv("VT220_VECTORS")
-	if path == "" {
+	path, isNamed := os.LookupEnv("VT220_VECTORS")
+	if !isNamed {
 		path = "../../crates/vectors/stdout"
 	}
 	file, err := os.ReadFile(path)
+	if errors.Is(err, fs.ErrNotExist) && !isNamed {
+		t.Skip("no vectors: VT220_VECTORS names their file")
+	}
 	if err != nil {
 		t.Fatal(err)
 	}
@@ -126,12 +133,39 @@ func TestClosed(t *testing.T) {
 			t.Error(err)
 		}
 	}
+	if clone, err := terminal.Clone(); clone != nil || err != ErrClosed {
+		t.Error("clone", err)
+	}
 	if terminal.IsOpen() || terminal.Feed([]byte("x")) != nil || len(terminal.Row(1)) != 0 || terminal.Width() != 0 || terminal.SameState(other) || terminal.SameState(terminal) {
 		t.Error("closed")
 	}
 	s.Close()
 	if _, err := other.Text(s); err != ErrClosed {
 		t.Error("closed scratch", err)
+	}
+}
+
+func TestNilScratch(t *testing.T) {
+	terminal, other := open(t, "x"), open(t, "y")
+	defer func() {
+		if told := recover(); told != nil {
+			t.Error(told)
+		}
+	}()
+	_, err1 := terminal.Text(nil)
+	_, err2 := terminal.RowText(1, nil)
+	_, err3 := terminal.Show(nil)
+	_, err4 := terminal.Picture(nil)
+	_, err5 := terminal.Repaint(nil)
+	_, err6 := terminal.Update(other, nil)
+	_, _, err7 := terminal.FeedLog([]byte("z"), nil)
+	for _, err := range []error{err1, err2, err3, err4, err5, err6, err7} {
+		if err != ErrClosed {
+			t.Error(err)
+		}
+	}
+	if terminal.SameState(other) || terminal.Cursor() != (Cursor{1, 2, false}) {
+		t.Error("something was done")
 	}
 }
 
@@ -155,6 +189,9 @@ func TestParts(t *testing.T) {
 	if b.CopyFrom(a) != nil || !b.SameState(a) {
 		t.Error("copy")
 	}
+	if clone, err := a.Clone(); err != nil || !clone.SameState(a) || clone.Bells() != 0 {
+		t.Error("clone", err)
+	}
 	a.Feed([]byte("\x1b[3;9HB\x1b(B\x0fz"))
 	changed, err := b.RowChanges(a, 3)
 	if err != nil || len(changed) != 80 || !changed[8] || !changed[9] || changed[7] {
@@ -175,6 +212,37 @@ func TestParts(t *testing.T) {
 	fresh, _ := New()
 	if a.Reset() != nil || !a.SameState(fresh) {
 		t.Error("reset")
+	}
+}
+
+// Draws the marked cells alone, or the whole screen after a change of the width: from 80 columns to 132 and back.
+func TestDrawnAnew(t *testing.T) {
+	shown, terminal, s := open(t, ""), open(t, ""), scratch(t)
+	var drawn [Rows + 1][]Cell
+	for i, step := range []string{"abc", "\x1b[2;2Hx", "\x1b[?3h\x1b[1;130Hyz", "\x1b[5;100Hw", "\x1b[?3l", "d\x1b[1me"} {
+		terminal.Feed([]byte(step))
+		isAnew := i == 0 || shown.Width() != terminal.Width()
+		for row := 1; row <= Rows; row++ {
+			cells := terminal.Row(row)
+			changed, err := shown.RowChanges(terminal, row)
+			if err != nil || len(changed) != len(cells) {
+				t.Fatal(err, len(changed))
+			}
+			if isAnew {
+				drawn[row] = make([]Cell, len(cells))
+			}
+			for c := range cells {
+				if isAnew || changed[c] {
+					drawn[row][c] = cells[c]
+				}
+			}
+			if !reflect.DeepEqual(drawn[row], cells) {
+				t.Errorf("%q: row %d", step, row)
+			}
+		}
+		if _, err := shown.Update(terminal, s); err != nil {
+			t.Fatal(err)
+		}
 	}
 }
 

@@ -1,5 +1,7 @@
 """Tests the binding: threads, arguments, the version, and how the library is found. test_vt220.py plays the vectors."""
+import copy
 import ctypes
+import ctypes.util
 import gc
 import os
 import pathlib
@@ -7,7 +9,6 @@ import shutil
 import subprocess
 import sys
 import threading
-import time
 
 import pytest
 
@@ -41,7 +42,7 @@ def in_threads(count, call):
 
 
 def python(code, **environment):
-    return subprocess.run([sys.executable, "-B", "-c", code], capture_output=True, text=True, timeout=60,
+    return subprocess.run([sys.executable, "-B", "-c", code], capture_output=True, text=True, timeout=600,
                           env={**os.environ, "PYTHONPATH": str(PACKAGE.parent), **environment})
 
 
@@ -169,8 +170,29 @@ def test_a_library_of_another_version_is_refused(tmp_path):
     (tmp_path / "other.c").write_text("unsigned vt220_version(void) { return 9900; }\n")
     library = tmp_path / "libvt220.so"
     subprocess.run(["gcc", "-shared", "-fPIC", "-o", str(library), str(tmp_path / "other.c")], check=True)
-    done = python("import vt220", VT220_LIBRARY=str(library))
-    assert done.returncode == 1 and "ImportError: libvt220.so is of version 0.99.0, and this module is for 0." in done.stderr
+    done = python("import vt220; vt220.Terminal()", VT220_LIBRARY=str(library))
+    assert done.returncode == 1 and f"NoLibrary: {library} is of version 0.99.0, and this module is for 0." in done.stderr
+
+
+def test_a_file_that_is_no_library_is_refused(tmp_path):
+    (tmp_path / "text").write_text("text\n")
+    for path in (tmp_path / "nothing", tmp_path / "text", ctypes.util.find_library("c")):
+        done = python("import vt220\ntry:\n    vt220.Terminal()\nexcept ImportError as fault:\n    assert isinstance(fault, vt220.Error)\n    print(fault)",
+                      VT220_LIBRARY=str(path))
+        assert done.returncode == 0 and str(path) in done.stdout, done.stderr
+
+
+def test_an_import_needs_no_library():
+    modules = ["vt220", "vt220.keyboard", "vt220.picture", "vt220.process", "vt220.pytest_plugin", "vt220.rig", "vt220.screen", "vt220.__main__"]
+    for module in modules:
+        done = python(f"import {module}; print('imported')", VT220_LIBRARY="/no/such/file")
+        assert (done.returncode, done.stdout) == (0, "imported\n"), done.stderr
+    for call in ("vt220.Terminal()", "vt220.version()", "vt220.status_text(0)", "vt220.rig.run('true')"):
+        done = python(f"import vt220, vt220.rig; {call}", VT220_LIBRARY="/no/such/file")
+        assert done.returncode == 1 and "NoLibrary: the library can't be loaded: /no/such/file" in done.stderr, done.stderr
+    done = subprocess.run([sys.executable, "-B", "-m", "vt220", __file__], capture_output=True, text=True,
+                          env={**os.environ, "PYTHONPATH": str(PACKAGE.parent), "VT220_LIBRARY": "/no/such/file"})
+    assert done.returncode == 1 and done.stderr.startswith("vt220: the library can't be loaded: /no/such/file") and done.stderr.count("\n") == 1
 
 
 def test_the_library_next_to_the_package_comes_first(tmp_path):
@@ -179,29 +201,55 @@ def test_the_library_next_to_the_package_comes_first(tmp_path):
     # Another program's directory of the name out is never searched.
     (here.parent.parent / "out").mkdir()
     (here.parent.parent / "out" / "libvt220.so").write_text("not a library")
-    shutil.copy(vt220._library._name, here / "vt220" / "libvt220.so")
+    shutil.copy(vt220._find(), here / "vt220" / "libvt220.so")
     environment = {name: value for name, value in os.environ.items() if name != "VT220_LIBRARY"}
-    done = subprocess.run([sys.executable, "-B", "-c", "import vt220; print(vt220._library._name)"], capture_output=True, text=True,
+    done = subprocess.run([sys.executable, "-B", "-c", "import vt220; vt220.Terminal(); print(vt220._library._loaded._name)"], capture_output=True, text=True,
                           env={**environment, "PYTHONPATH": str(here)}, cwd=tmp_path)
     assert done.stdout.strip() == str(here / "vt220" / "libvt220.so"), done.stderr
     (here / "vt220" / "libvt220.so").unlink()
-    done = subprocess.run([sys.executable, "-B", "-c", "import vt220"], capture_output=True, text=True,
+    done = subprocess.run([sys.executable, "-B", "-c", "import vt220; vt220.Terminal()"], capture_output=True, text=True,
                           env={**environment, "PYTHONPATH": str(here)}, cwd=tmp_path)
-    assert str(here.parent.parent) + "/out" not in done.stdout + done.stderr.split("ImportError")[-1]
+    assert str(here.parent.parent) + "/out" not in done.stdout + done.stderr.split("NoLibrary")[-1]
 
 
-def test_a_screen_is_read_in_300_microseconds():
+def test_a_row_is_read_by_one_call_and_a_known_row_is_not_cut_again(monkeypatch):
     terminal = vt220.Terminal()
     terminal.feed(b"".join(b"\033[%dmabc" % (at % 8) for at in range(640)))
-    best = 1.0
-    # The processor's own time is measured, and the best of many turns, since other work may run next to this test.
-    for _ in range(200):
-        vt220._rows.clear()
-        start = time.thread_time()
-        for row in range(1, vt220.ROWS + 1):
-            terminal.row(row)
-        best = min(best, time.thread_time() - start)
-    assert best < 300e-6
+    read, cells = [], vt220._library.vt220_row
+    monkeypatch.setitem(vars(vt220._library), "vt220_row", lambda *words: read.append(words[1]) or cells(*words))
+    first = [terminal.row(row) for row in range(1, vt220.ROWS + 1)]
+    monkeypatch.setattr(vt220._Rows, "__missing__", None)  # it cuts a row that wasn't seen before
+    assert [terminal.row(row) for row in range(1, vt220.ROWS + 1)] == first
+    assert read == 2 * list(range(1, vt220.ROWS + 1))
+
+
+def test_a_long_feed_lets_other_threads_run(monkeypatch):
+    """The interpreter's lock is held during each call of the library, so no call plays more than 64 KB."""
+    terminal, other, lengths = vt220.Terminal(), vt220.Terminal(), []
+    for name, at in (("vt220_feed", 2), ("vt220_feed_log", 3)):
+        call = getattr(vt220._library, name)
+        monkeypatch.setitem(vars(vt220._library), name, lambda *words, call=call, at=at: lengths.append(words[at]) or call(*words))
+    data = b"\033c" + b"some text " * 100000 + b"\033[6n" + b"x" * 200000
+    assert terminal.feed(data) == b"\033[24;80R" and terminal.feed_until_report(data)[0] == len(data) - 200000
+    assert terminal.feed_log(data)[0] == b"\033[24;80R" and max(lengths) == 65536
+    assert vt220._whole(data) is data  # a copy would be made under the lock
+    for at in range(0, len(data), 1000):
+        other.feed(data[at : at + 1000])
+    assert other.text() == terminal.text()
+
+
+def test_a_copy_is_a_terminal_of_its_own():
+    terminal = vt220.Terminal()
+    terminal.feed(b"text\033[1m\033)0\a\033[5")
+    for copied in (terminal.copy(), copy.copy(terminal), copy.deepcopy(terminal)):
+        assert copied.same_state(terminal) and copied.held() == "control" and copied.bells() == 0
+        copied.feed(b";5Hmore")
+        assert not copied.same_state(terminal)
+        copied.close()
+    assert terminal.text().startswith("text\n")
+    terminal.close()
+    with pytest.raises(vt220.Closed):
+        copy.copy(terminal)
 
 
 def test_rows_read_twice_are_the_reader_s_own():
@@ -213,6 +261,21 @@ def test_rows_read_twice_are_the_reader_s_own():
 
 def test_the_cell_is_laid_out_as_in_the_header():
     assert ctypes.sizeof(vt220._Cell) == 12
+
+
+def test_a_screen_is_drawn_anew_after_a_change_of_the_width():
+    shown, terminal = vt220.Terminal(), vt220.Terminal()
+    drawn = [shown.row(row) for row in range(1, 25)]
+    for step in (b"abc", b"\033[2;2Hx", b"\033[?3h\033[1;130Hyz", b"\033[5;100Hw", b"\033[?3l", b"d\033[1me"):
+        terminal.feed(step)
+        rows = [terminal.row(row) for row in range(1, 25)]
+        if shown.width() != terminal.width():
+            drawn = [list(row) for row in rows]
+        for row in range(1, 25):
+            for column in shown.changed(terminal, row):
+                drawn[row - 1][column - 1] = rows[row - 1][column - 1]
+        assert drawn == rows, step
+        shown.update(terminal)
 
 
 def test_lines_that_scroll_off():

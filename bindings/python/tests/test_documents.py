@@ -1,5 +1,6 @@
 """Checks that what the package offers has its types and its docstrings."""
 import inspect
+import os
 import pathlib
 import subprocess
 import sys
@@ -33,7 +34,37 @@ def test_all_that_is_offered_has_a_docstring():
 
 def test_the_rig_has_strict_types():
     package = pathlib.Path(vt220.__file__).parent
-    files = [str(path) for path in sorted(package.glob("*.py")) if path.name != "__init__.py"]
+    files = [str(path) for path in sorted(package.glob("*.py"))]
     words = [sys.executable, "-m", "mypy", "--strict", "--follow-imports=silent", "--cache-dir=/dev/null", *files]
     done = subprocess.run(words, cwd=package.parent, capture_output=True, text=True)
     assert done.returncode == 0, done.stdout + done.stderr
+
+
+TYPED = """
+from vt220.rig import ENTER, UP, F10
+from vt220.rig import {names}
+from vt220.rig import Key, run
+from vt220.pytest_plugin import Session
+
+def test_it(vt: Session) -> None:
+    less = vt.run("less", "notes.txt", columns=132)
+    less.keys("/", UP, F10, ENTER, {names})
+    row: int = less.wait("x", row=24).at("x").row
+    keys: "list[Key]" = [{names}]
+    with run("less", "notes.txt", cwd="/", timeout=5) as rig:
+        assert rig.screen.at("x").reverse, (row, keys)
+"""
+
+
+def test_programs_that_use_the_rig_have_types(tmp_path):
+    """mypy finds each key by its name, as README imports it. Nothing else reads the names without running the module."""
+    names = ", ".join(vt220.keyboard.Key.__members__)
+    (tmp_path / "test_it.py").write_text(TYPED.format(names=names))
+    words = [sys.executable, "-m", "mypy", "--strict", "--follow-imports=silent", "--cache-dir=/dev/null", "test_it.py"]
+    done = subprocess.run(words, cwd=tmp_path, capture_output=True, text=True, env={**os.environ, "MYPYPATH": str(pathlib.Path(vt220.__file__).parents[1])})
+    assert done.returncode == 0, done.stdout + done.stderr
+
+
+def test_the_rig_has_each_key_by_its_name():
+    found = {name: key for name, key in vars(vt220.rig).items() if isinstance(key, vt220.keyboard.Key)}
+    assert found == dict(vt220.keyboard.Key.__members__) and set(found) <= set(vt220.rig.__all__)

@@ -1,69 +1,72 @@
-"""Holds the keyboard against the tables of the VT220 Programmer Reference Manual, typed from it by hand."""
+"""Holds the keyboard against tests-c/keys.txt, which has the tables of the VT220 Programmer Reference Manual."""
+import pathlib
 import subprocess
 
 import pytest
 
+import vt220
 from vt220 import Terminal
-from vt220.keyboard import Key, ctrl, spelled
+from vt220.keyboard import Key, ctrl, spelled, typed
 
+ROWS = pathlib.Path(__file__).parents[3] / "tests-c/keys.txt"
 POWER_UP = Terminal().modes()
-APPLICATION = POWER_UP._replace(decckm=True, keypad_application=True)
-EIGHT = POWER_UP._replace(reports_8bit=True)
-
-CURSOR = {"UP": (b"\033[A", b"\033OA"), "DOWN": (b"\033[B", b"\033OB"), "RIGHT": (b"\033[C", b"\033OC"), "LEFT": (b"\033[D", b"\033OD")}
-EDITING = {"FIND": b"\033[1~", "INSERT_HERE": b"\033[2~", "REMOVE": b"\033[3~", "SELECT": b"\033[4~", "PREV_SCREEN": b"\033[5~", "NEXT_SCREEN": b"\033[6~"}
-FUNCTION = {"F6": b"\033[17~", "F7": b"\033[18~", "F8": b"\033[19~", "F9": b"\033[20~", "F10": b"\033[21~", "F11": b"\033[23~",
-            "F12": b"\033[24~", "F13": b"\033[25~", "F14": b"\033[26~", "HELP": b"\033[28~", "DO": b"\033[29~", "F15": b"\033[28~",
-            "F16": b"\033[29~", "F17": b"\033[31~", "F18": b"\033[32~", "F19": b"\033[33~", "F20": b"\033[34~"}
-KEYPAD = {"KP_0": (b"0", b"\033Op"), "KP_1": (b"1", b"\033Oq"), "KP_2": (b"2", b"\033Or"), "KP_3": (b"3", b"\033Os"), "KP_4": (b"4", b"\033Ot"),
-          "KP_5": (b"5", b"\033Ou"), "KP_6": (b"6", b"\033Ov"), "KP_7": (b"7", b"\033Ow"), "KP_8": (b"8", b"\033Ox"), "KP_9": (b"9", b"\033Oy"),
-          "KP_MINUS": (b"-", b"\033Om"), "KP_COMMA": (b",", b"\033Ol"), "KP_PERIOD": (b".", b"\033On"), "KP_ENTER": (b"\r", b"\033OM"),
-          "PF1": (b"\033OP", b"\033OP"), "PF2": (b"\033OQ", b"\033OQ"), "PF3": (b"\033OR", b"\033OR"), "PF4": (b"\033OS", b"\033OS")}
+MODES = ("lnm", "decckm", "keypad_application", "reports_8bit")
+SETTINGS = [dict(zip(MODES, (bool(setting & bit) for bit in (8, 4, 2, 1)))) for setting in range(16)]
+ERRORS = {"no key": vt220.NoKey, "no character": vt220.NoCharacter}
 
 
-def test_cursor_keys():
-    for name, (normal, application) in CURSOR.items():
-        assert spelled(Key[name], POWER_UP) == normal
-        assert spelled(Key[name], POWER_UP._replace(decckm=True)) == application
-        assert spelled(Key[name], POWER_UP._replace(keypad_application=True)) == normal
+def is_under(pattern, setting):
+    return all(wanted in ("-", str(int(is_set))) for wanted, is_set in zip(pattern, setting.values()))
 
 
-def test_editing_and_function_keys():
-    for name, code in {**EDITING, **FUNCTION}.items():
-        assert spelled(Key[name], POWER_UP) == spelled(Key[name], APPLICATION) == code
+def rows():
+    """Returns each key with modes, and the bytes or the error that they lead to."""
+    lines = [line.split("\t") for line in ROWS.read_text(encoding="utf-8").splitlines() if line and line[0] != "#"]
+    return [
+        (name, POWER_UP._replace(**setting), wanted)
+        for pattern, wanted, *names in lines for name in names for setting in SETTINGS if is_under(pattern, setting)
+    ]
 
 
-def test_keypad():
-    for name, (numeric, application) in KEYPAD.items():
-        assert spelled(Key[name], POWER_UP) == spelled(Key[name], POWER_UP._replace(decckm=True)) == numeric
-        assert spelled(Key[name], POWER_UP._replace(keypad_application=True)) == application
+def test_every_key_under_every_mode():
+    assert len(rows()) > 3000
+    for name, modes, wanted in rows():
+        if wanted in ERRORS:
+            with pytest.raises(ERRORS[wanted]):
+                vt220.key(name, modes)
+        else:
+            assert vt220.key(name, modes) == bytes.fromhex(wanted), (name, modes)
 
 
-def test_eight_bit_controls():
-    assert spelled(Key.UP, EIGHT) == b"\x9bA" and spelled(Key.UP, EIGHT._replace(decckm=True)) == b"\x8fA"
-    for name, code in {**EDITING, **FUNCTION}.items():
-        assert spelled(Key[name], EIGHT) == b"\x9b" + code[2:]
-    for name, (numeric, application) in KEYPAD.items():
-        assert spelled(Key[name], EIGHT._replace(keypad_application=True)) == b"\x8f" + application[2:]
-        assert spelled(Key[name], EIGHT) == (b"\x8f" + numeric[2:] if len(numeric) > 1 else numeric)
-
-
-def test_keys_without_modes():
-    for modes in (POWER_UP, APPLICATION, EIGHT):
-        assert [spelled(key, modes) for key in (Key.TAB, Key.DELETE, Key.BACKSPACE, Key.ESCAPE)] == [b"\t", b"\x7f", b"\b", b"\033"]
-    new_line = POWER_UP._replace(lnm=True)
-    assert spelled(Key.ENTER, POWER_UP) == b"\r" and spelled(Key.ENTER, new_line) == spelled(Key.KP_ENTER, new_line) == b"\r\n"
+def test_each_key_of_the_enumeration_is_a_row_of_its_name():
+    sent = {(name.lower(), modes): wanted for name, modes, wanted in rows()}
+    for name, key in Key.__members__.items():
+        for setting in SETTINGS:
+            modes = POWER_UP._replace(**setting)
+            row = sent.get((name.replace("_", "").lower(), modes)) or sent[(key.value.lower(), modes)]
+            assert spelled(key, modes) == bytes.fromhex(row), name
 
 
 def test_texts():
-    assert spelled("a\u00e4\u00ff", POWER_UP) == b"a\xe4\xff"
-    with pytest.raises(ValueError, match="no key of a VT220 sends"):
-        spelled("\u20ac", POWER_UP)
+    assert spelled("a\u00e4\u00ff\u0153\u00a4", POWER_UP) == b"a\xe4\xfd\xf7\xa8"
+    for text in ("\u20ac", "x\u00f7", "\u00dd", "\u00ac"):
+        with pytest.raises(ValueError, match="no key of a VT220 sends"):
+            spelled(text, POWER_UP)
     with pytest.raises(TypeError):
         spelled(5, POWER_UP)
+    assert spelled("a\r", POWER_UP._replace(lnm=True)) == b"a\r\n"
     assert [ctrl(letter) for letter in "c@[\\]^_?"] == ["\x03", "\x00", "\x1b", "\x1c", "\x1d", "\x1e", "\x1f", "\x7f"]
-    with pytest.raises(ValueError):
-        ctrl("1")
+    for letter in ("1", "ab", ""):
+        with pytest.raises(ValueError):
+            ctrl(letter)
+
+
+def test_what_is_typed_on_a_modern_terminal():
+    modes = POWER_UP._replace(decckm=True, reports_8bit=True)
+    assert typed("\033[A\u0153\033[3~\xe9x".encode(), modes) == (b"\x8fA\xf7\x9b3~\xe9x", b"", "")
+    assert typed(b"\033[15~\xe9x\033[", modes) == (b"\033[15~\xe9x", b"\033[", "")
+    assert typed("a\u00f7\u20acb".encode(), modes) == (b"ab", b"", "\u00f7\u20ac")
+    assert vt220.key_length(b"\033O") == 0 and vt220.key_length(b"\033OAB") == 3
 
 
 def test_f5_sends_nothing_on_a_vt220():

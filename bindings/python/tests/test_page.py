@@ -10,6 +10,8 @@ import vt220
 PAGE = pathlib.Path(__file__).resolve().parents[1] / "README.md"
 # Blocks of commands that install something aren't run.
 KINDS = ("python", "console", "output")
+# A wait of an example may take long if the machine is busy.
+LONG_WAITS = "import vt220.rig\nvt220.rig.Rig.__init__.__kwdefaults__['timeout'] = 300\n"
 
 
 def blocks():
@@ -40,7 +42,7 @@ class Reader:
         (commands / "python3").symlink_to(sys.executable)
         kept = {name: value for name, value in os.environ.items() if not name.startswith("PYTEST")}
         self.env = {**kept, "PATH": f"{commands}:{kept['PATH']}", "PYTHONPATH": str(PAGE.parent), "PYTEST_PLUGINS": "vt220.pytest_plugin",
-                    "PYTHONDONTWRITEBYTECODE": "1", "PYTEST_ADDOPTS": "-p no:cacheprovider"}
+                    "PYTHONDONTWRITEBYTECODE": "1", "PYTEST_ADDOPTS": "-p no:cacheprovider --vt-timeout 300"}
 
     def run(self, command):
         done = subprocess.run(command, cwd=self.directory, env=self.env, stdout=subprocess.PIPE, stderr=subprocess.STDOUT, text=True)
@@ -51,7 +53,7 @@ class Reader:
         if name:
             (self.directory / name[1]).write_text(text, encoding="utf-8")
         else:
-            self.printed = self.run(["python3", "-c", text])
+            self.printed = self.run(["python3", "-c", LONG_WAITS + text])
 
     def output(self, text):
         assert self.printed == text

@@ -4,7 +4,6 @@ import os
 import pathlib
 import subprocess
 import sys
-import xml.etree.ElementTree
 
 import pytest
 from programs import PROGRAMS, SCREENS, Forgetful
@@ -42,17 +41,14 @@ def attempt(name, directory, left_out, timeout):
 def shown_by(fault, directory, rig):
     """Returns whether a failure says what was waited for, shows the screen, and has its picture and its recording beside it."""
     picture, recording = directory / "reports" / "report.svg", directory / "reports" / "report.bytes"
-    root = xml.etree.ElementTree.parse(picture).getroot()
-    terminal = vt220.Terminal()
-    terminal.feed(recording.read_bytes())
     words = str(fault)
-    return (root.find("{http://www.w3.org/2000/svg}desc").text == rig.last.text and recording.read_bytes() == rig.recording
+    return (picture.read_text(encoding="utf-8").startswith(rig.last.picture.rpartition("</svg>")[0]) and recording.read_bytes() == rig.recording
             and "the last events:" in words and str(picture) in words and all(line in words for line in rig.last.rows))
 
 
 @pytest.mark.parametrize("name", PROGRAMS)
 def test_each_key_that_is_left_out_is_a_failure_with_a_picture(tmp_path, name):
-    whole, fault = attempt(name, tmp_path / "whole", -1, 10)
+    whole, fault = attempt(name, tmp_path / "whole", -1, 300)
     assert fault is None and whole.pressed > 2
     with concurrent.futures.ThreadPoolExecutor(16) as pool:
         tries = {number: pool.submit(attempt, name, tmp_path / str(number), number, 1.5) for number in range(whole.pressed)}

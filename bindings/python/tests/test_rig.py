@@ -12,11 +12,15 @@ import xml.etree.ElementTree
 import pytest
 
 import vt220
+from vt220 import rig as rig_module
 from vt220.picture import svg
-from vt220.rig import ENTER, F6, UP, Failure, Key, KeyboardLocked, Reports, Screen, ctrl, run
-from vt220.screen import MASK, Stored, difference, differing
+from vt220.pytest_plugin import file_name
+from vt220.rig import ENTER, F6, UP, Failure, Key, KeyboardLocked, Reports, Screen, ctrl
+from vt220.screen import MASK, Place, Stored, difference, differing, renewed
 from vt220.watchdog import MARK
 
+# Limits that only say that something hangs.
+LONG = 300
 VECTORS = pathlib.Path(__file__).resolve().parents[3] / "crates" / "vectors" / "stdout"
 # Shows the bytes that it gets, after it has written its first argument.
 SHOWS = "stty raw -echo; printf \"$1\"; while :; do dd bs=100 count=1 2>/dev/null | od -An -tx1 -v; printf '\\r'; done"
@@ -25,6 +29,10 @@ SHOWS = "stty raw -echo; printf \"$1\"; while :; do dd bs=100 count=1 2>/dev/nul
 @pytest.fixture(autouse=True)
 def in_a_directory(tmp_path, monkeypatch):
     monkeypatch.chdir(tmp_path)
+
+
+def run(*argv, **options):
+    return rig_module.run(*argv, **{"timeout": LONG, **options})
 
 
 def shell(script, *arguments, **options):
@@ -53,9 +61,9 @@ def is_alive(pid):
         return False
 
 
-def until(met, seconds=20):
+def until(met):
     """Waits for something that no program shows."""
-    end = time.monotonic() + seconds
+    end = time.monotonic() + LONG
     while not met():
         assert time.monotonic() < end
         time.sleep(0.01)
@@ -82,11 +90,28 @@ def test_132_columns_directory_and_environment(tmp_path):
 
 
 def test_a_command_that_is_not_there():
+    run("true").close()  # the watchdog starts with the first one
     before = len(os.listdir("/proc/self/fd"))
     for name in ("no-such-command", "./no-such-command"):
         with pytest.raises(FileNotFoundError, match="no-such-command"):
             run(name)
     assert len(os.listdir("/proc/self/fd")) == before
+
+
+@pytest.mark.parametrize("words", [["less notes.txt"], ["/usr/bin/less notes.txt"], ["less -S", "notes.txt"]])
+def test_words_that_are_one_word_have_a_hint(words):
+    with pytest.raises(FileNotFoundError) as caught:
+        run(*words)
+    apart = ", ".join(repr(word) for word in " ".join(words).split())
+    assert f"run({apart})" in str(caught.value) and caught.value.filename == words[0]
+
+
+def test_a_directory_that_is_not_there_is_named(tmp_path):
+    (tmp_path / "file").write_text("")
+    for directory, kind in ((tmp_path / "nowhere", FileNotFoundError), (tmp_path / "file", NotADirectoryError)):
+        with pytest.raises(kind) as caught:
+            run("true", cwd=directory)
+        assert caught.value.filename == str(directory)
 
 
 def test_signals_are_as_at_first():
@@ -132,10 +157,13 @@ def test_paste_sends_returns():
         rig.wait(text="61 0d 0a 62")
 
 
-def test_a_long_text_reaches_a_program_that_reads_late():
-    with shell("stty raw -echo; printf ready; sleep 0.3; head -c 300000 | wc -c") as rig:
+def test_a_long_text_reaches_a_program_that_reads_late(tmp_path):
+    os.mkfifo(tmp_path / "go")
+    with shell("stty raw -echo; printf ready; read word <go; head -c 300000 | wc -c") as rig:
         rig.wait("ready")
         rig.send(b"x" * 300000)
+        assert rig._output  # the line takes some thousands of bytes
+        (tmp_path / "go").write_text("go\n")
         rig.wait("300000")
 
 
@@ -150,7 +178,7 @@ def test_each_report_is_of_the_place_where_it_was_asked_for():
 def test_an_answer_is_sent_while_the_rest_of_a_flood_waits():
     flood = "stty raw -echo; printf '\\033[5n'; head -c 4 >/dev/null; printf 'answered '; head -c 2000000 /dev/zero | tr '\\0' x; printf '\\033[5nend'; head -c 4 | od -An -c"
     with shell(flood) as rig:
-        rig.wait("end", timeout=60)
+        rig.wait("end")
         rig.wait(r"\[   0   n")
 
 
@@ -167,8 +195,24 @@ def test_wait_for_each_kind_of_condition():
         for options in ({"what": "one", "row": 6}, {"what": "one", "col": 9}, {"text": "o.e"}, {"cursor": (1, 1)}, {"what": lambda screen: False}):
             with pytest.raises(Failure):
                 rig.wait(timeout=0.1, **options)
-        with pytest.raises(TypeError):
-            rig.wait()
+        for options in ({}, {"row": 5}, {"cursor": (20, 3), "row": 5}, {"what": lambda screen: True, "col": 9}):
+            with pytest.raises(TypeError):
+                rig.wait(**options)
+        with pytest.raises(Failure):
+            rig.wait(lambda screen: True, text="never", timeout=0.1)
+
+
+@pytest.mark.parametrize("options, fault", [
+    ({"what": "x", "row": 0}, vt220.NoRow), ({"what": "x", "row": 25}, vt220.NoRow), ({"text": "x", "row": -1}, vt220.NoRow),
+    ({"cursor": (25, 1)}, vt220.NoRow), ({"what": "x", "col": 0}, ValueError), ({"what": "x", "col": 133}, ValueError),
+    ({"cursor": (1, 133)}, ValueError),
+])
+def test_a_place_that_no_screen_has_is_refused_at_once(options, fault):
+    with shell("sleep 1000") as rig:
+        with pytest.raises(fault):
+            rig.wait(timeout=0.1, **options)
+        with pytest.raises(vt220.NoRow):
+            rig.screen.at("x", row=25)
 
 
 def test_no_state_is_looked_at_inside_a_sequence():
@@ -179,11 +223,23 @@ def test_no_state_is_looked_at_inside_a_sequence():
         seen.append(screen.text)
         return screen.at("end")
 
-    pieces = "; ".join(f"printf '{piece}'; sleep 0.02" for piece in ("a\\033", "[2", ";5", "Hb\\033P1$", "q\\033", "\\\\c\\233", "10;1", "Hend"))
-    with shell(pieces + "; sleep 100") as rig:
+    pieces = ("a\\033", "[2", ";5", "Hb\\033P1$", "q\\033", "\\\\c\\233", "10;1", "Hend")
+    with shell("stty -echo; printf .; " + "".join(f"read line; printf '{piece}'; " for piece in pieces) + "read line") as rig:
+        rig.wait("^.$", row=1)
+
+        def let_it_go_on():
+            """Lets the program write each piece when the rig has read the piece before."""
+            for number in range(len(pieces)):
+                os.write(rig.process.line, b"\n")
+                whole = len("." + "".join(pieces[: number + 1]).encode().decode("unicode_escape"))
+                until(lambda: len(rig.recording) >= whole)
+
+        teller = threading.Thread(target=let_it_go_on)
+        teller.start()
         rig.wait(look)
+        teller.join()
     # Each piece ends inside a sequence, so there is no state between the first and the last.
-    assert set(seen[:-1]) <= {"\n" * 24} and seen[-1] == "a\n    bc" + "\n" * 8 + "end" + "\n" * 15
+    assert set(seen[:-1]) <= {"." + "\n" * 24} and seen[-1] == ".a\n    bc" + "\n" * 8 + "end" + "\n" * 15
 
 
 def test_screen_waits_for_the_end_of_a_sequence():
@@ -199,6 +255,7 @@ def test_a_time_out_says_what_was_waited_for_and_what_there_was(tmp_path):
     with shell("printf 'Name? '; read name", reports=Reports(tmp_path / "r", "stable-1")) as rig:
         rig.wait("Name")
         rig.keys("Eve")
+        rig.wait("Eve")
         with pytest.raises(Failure) as caught:
             rig.wait("Hello", row=3, timeout=0.2)
     words = str(caught.value)
@@ -210,14 +267,30 @@ def test_a_time_out_says_what_was_waited_for_and_what_there_was(tmp_path):
 
 
 def test_a_program_that_ends_is_not_waited_for():
-    start = time.monotonic()
-    with shell("echo bye; exit 3", timeout=60) as rig:
+    with shell("echo bye; exit 3", timeout=1e6) as rig:
         with pytest.raises(Failure, match="ended with status 3, and /never/"):
             rig.wait("never")
         rig.ended(3)
         with pytest.raises(Failure, match="status 3, not 0"):
             rig.ended()
-    assert time.monotonic() - start < 30
+
+
+@pytest.mark.parametrize("output, is_told", [("caf\\303\\251", True), ("caf\\351", False), ("cafe", False),
+                                             ("\\303\\251 \\351", False)])
+def test_a_failure_says_that_the_output_looks_like_utf_8(output, is_told):
+    with shell(f"printf '{output} end'; sleep 1000") as rig:
+        rig.wait("end")
+        with pytest.raises(Failure) as caught:
+            rig.wait("caf\u00e9s", timeout=0.1)
+    words = str(caught.value)
+    assert ("UTF-8" in words and "VT220" in words and "DEC Multinational" in words.replace("\n", " ")) == is_told
+
+
+def test_a_character_of_utf_8_that_is_cut_is_one_too():
+    with shell("printf 'caf\\303\\251 \\342\\224'; sleep 1000") as rig:
+        rig.wait("\u00e2$")
+        with pytest.raises(Failure, match="looks like UTF-8"):
+            rig.wait("never", timeout=0.1)
 
 
 def test_ended_knows_signals_and_plays_the_last_bytes():
@@ -229,16 +302,19 @@ def test_ended_knows_signals_and_plays_the_last_bytes():
 
 
 def test_ended_waits_for_the_program_and_not_for_what_it_left():
-    with shell("sleep 100 & echo started") as rig:
-        assert rig.ended(timeout=20).at("started")
+    with shell("sleep 100000 & echo started") as rig:
+        assert rig.ended().at("started")
 
 
-def test_still_waits_for_a_pause():
-    with shell("for i in 1 2 3 4 5; do printf $i; sleep 0.05; done; sleep 100") as rig:
-        assert rig.still(2000).rows[0] == "12345"
-    with shell("while :; do printf x; done") as rig:
-        with pytest.raises(Failure, match="without a pause"):
-            rig.still(500, timeout=0.5)
+def test_still_waits_for_a_pause(monkeypatch):
+    with shell("printf ready; sleep 1000") as rig:
+        rig.wait("ready")
+        asked, reads = [], iter([True, True, False])
+        monkeypatch.setattr(rig, "_read", lambda seconds: asked.append(seconds) or next(reads))
+        assert rig.still(300).rows[0] == "ready" and asked == [0.3] * 3
+        monkeypatch.setattr(rig, "_read", lambda seconds: True)
+        with pytest.raises(Failure, match="without a pause of 500 ms"):
+            rig.still(500, timeout=0)
 
 
 # Screens.
@@ -251,20 +327,27 @@ def vectors():
             yield [name] + [None if field == "-" else bytes.fromhex(field) for field in fields]
 
 
+# Changes of parts that a screen doesn't show, each from one control function or two.
+HIDDEN = [b"", b"\033H", b"\033[1m", b"\0337\033[4;4H\0337", b"\033N", b"\033)0", b"\033[5;9r", b"\033[?1h", b"\033[1\"q", b"\033[1\"qx",
+          b"\033[3g", b"\033[9C\033H", b"\016", b"\033|", b"\033~", b"\033o", b"\033O", b"\033(K", b"\033*A\033+B", b"\033[?6h\0337\033[?6l",
+          b"\033[80Cx\0337\r", b"\033[4;5m\0337\033[m"]
+
+
 def test_stored_screens_are_equal_exactly_where_repaints_are():
     by_file, by_repaint = {}, {}
-    extra = [b"", b"\033H", b"\033[1m", b"\0337\033[4;4H\0337", b"\033N", b"\033)0", b"\033[5;9r", b"\033[?1h", b"\033[1\"q", b"\033[1\"qx"]
-    for name, data, text, _, repaint in vectors():
-        for more in extra if repaint is not None else []:
-            terminal = vt220.Terminal()
-            terminal.feed(data + more)
-            screen = Screen(terminal.repaint())
-            if not more:
-                assert screen.text.encode() == text and screen.repaint == repaint, name
-            stored = screen.stored()
-            assert by_file.setdefault(stored, screen.repaint) == screen.repaint, name
-            assert by_repaint.setdefault(screen.repaint, stored) == stored, name
+    states = [(name, data, more) for name, data, _, _, repaint in vectors() if repaint is not None for more in HIDDEN[:5]]
+    for name, data, more in states + [("hidden", first, second) for first in HIDDEN for second in HIDDEN]:
+        screen = screen_of(data + more)
+        stored = screen.stored()
+        assert by_file.setdefault(stored, screen.repaint) == screen.repaint, name
+        assert by_repaint.setdefault(screen.repaint, stored) == stored, name
     assert len(by_file) > 500
+
+
+def test_screens_have_the_texts_and_repaints_of_the_vectors():
+    for name, data, text, _, repaint in vectors():
+        if repaint is not None:
+            assert (screen_of(data).text.encode(), screen_of(data).repaint) == (text, repaint), name
 
 
 def test_the_file_of_a_screen_can_be_read():
@@ -273,6 +356,38 @@ def test_the_file_of_a_screen_can_be_read():
     lines = Screen(terminal.repaint()).stored().split("\n")
     assert lines[:3] == ["plain bold", "x\u2500", ""] and len(lines[:24]) == 24
     assert lines[24:] == ["cursor: 3 7", "margins: 2 20", "modes: +DECCKM -DECAWM", "1: 7-10 bold reverse", "2: 1 underline", ""]
+
+
+def test_hidden_parts_are_lines_by_name():
+    """The graphic sets are named as EK-VT220-RM, chapter 2, names them; DECSC saves what chapter 4 lists."""
+    screen = screen_of(b"\033[3;7H\033(A\033)0\033*K\016\033|\033[1m\033[1\"q\0337\033[0\"q\033[0;4m\033*<\033}\033O\033[3g\033H\033[10C\033H")
+    assert screen.stored().split("\n")[24:] == [
+        "cursor: 3 17", "brush: underline", "G0: British", "G1: special graphics", "GL: G1", "single shift: G3", "tab stops: 7 17",
+        "saved cursor: 3 7", "saved brush: bold protected", "saved G0: British", "saved G1: special graphics", "saved G2: German",
+        "saved GL: G1", "saved GR: G3", ""]
+    assert screen_of(b"\033[3g").hidden == ("tab stops: none",) and screen_of(b"").hidden == screen_of(b"\033[?3h").hidden == ()
+    assert screen_of(b"\033[?6h\033[80CX\0337\033[?6l").hidden == ("saved cursor: 1 80 wrap origin",)
+
+
+def test_hidden_parts_of_older_files_are_read(tmp_path):
+    """The line is that which version 0.3.0 stored for a program that sends ncurses' enacs."""
+    text = screen_of(b"menu\033)0\r\n").stored()
+    older = text.replace("G1: special graphics", "hidden: \\ec\\e[1;1H\\e[0m\\e[0\"q\\e(B\\e)0\\e*<\\e+<\x0f\\e}")
+    assert older != text and renewed(older) == renewed(text) == text
+    (tmp_path / "screens").mkdir()
+    (tmp_path / "screens" / "menu.txt").write_text(older)
+    with shell("printf 'menu\\033)0\\r\\n'; sleep 1000") as rig:
+        rig.matches("menu")
+
+
+def test_a_place_says_what_it_is():
+    screen = screen_of(b"plain \033[1;7mbold\033[m plain")
+    assert repr(screen.at("bye")) == "<'bye' isn't on the screen>" and not screen.at("bye")
+    assert repr(screen.at("bold", row=3)) == "<'bold' isn't in row 3>"
+    assert repr(screen.at("plain", nth=3)) == "<'plain' isn't on the screen 3 times>"
+    assert repr(screen.at("bold")) == "<'bold' at row 1, column 7, bold, reverse>"
+    row, col, cells = screen.at("plain", nth=2)
+    assert (row, col, len(cells)) == (1, 12, 5) and isinstance(screen.at("plain"), Place)
 
 
 def test_masks():
@@ -298,12 +413,22 @@ def test_the_difference_names_rows_cells_and_attributes():
     assert differing(one, one) == [] and difference(one, one) == ""
 
 
-def test_the_picture_is_xml_and_marks_cells():
-    screen = screen_of(b"<&>\033[7mrev\033[0;1;4;5mx\033[m\r\n\033(0lqk\033[?5h")
-    root = xml.etree.ElementTree.fromstring(svg(screen, [(1, 2), (3, 80)]))
-    marks = [(box.get("x"), box.get("y")) for box in root.iter("{http://www.w3.org/2000/svg}rect") if box.get("class") == "m"]
-    assert marks == [("10", "0"), ("790", "36")]
-    assert "".join(text.text for text in root.iter("{http://www.w3.org/2000/svg}text")).startswith("<&>rev")
+def marked_cells(picture):
+    """Returns the positions of the red frames of a picture."""
+    return [(box.get("x"), box.get("y")) for group in xml.etree.ElementTree.fromstring(picture) if group.get("stroke") == "#f22" for box in group]
+
+
+def test_the_picture_is_the_library_s_with_marks():
+    """A column is 10 units wide and a row 18 high, as the library's header and docs/PROMISES.md have it."""
+    terminal = vt220.Terminal()
+    terminal.feed(b"<&>\033[7mrev\033[0;1;4;5mx\033[m\r\n\033(0lqk\033[?5h")
+    screen = Screen(terminal.repaint())
+    assert svg(screen) == screen.picture == terminal.picture() and marked_cells(svg(screen)) == []
+    marked = svg(screen, [(1, 2), (3, 80)])
+    assert marked_cells(marked) == [("10", "0"), ("790", "36")]
+    # Nothing of the library's picture is changed, and the marks depend on none of its names.
+    start, group, end = re.split(r"(<g fill='#f00'.*</g>\n)", marked, flags=re.S)
+    assert start + end == terminal.picture() and not re.search("class|id=", group)
 
 
 def test_matches_writes_compares_and_marks(tmp_path):
@@ -317,12 +442,35 @@ def test_matches_writes_compares_and_marks(tmp_path):
         with pytest.raises(Failure, match="--update-screens makes it"):
             rig.matches("other")
     with shell(script, "Oxen", reports=Reports(tmp_path / "r", "menu-1")) as rig:
+        rig.wait("Oxen")
         with pytest.raises(Failure) as caught:
             rig.matches("menu", timeout=0.3)
     assert "menu.txt" in str(caught.value) and "  - A menu Open\n  + A menu Oxen\n            ^\n" in str(caught.value)
-    root = xml.etree.ElementTree.parse(tmp_path / "r" / "menu-1.svg").getroot()
-    marks = [(box.get("x"), box.get("y")) for box in root.iter("{http://www.w3.org/2000/svg}rect") if box.get("class") == "m"]
-    assert marks == [("80", "0")]
+    assert marked_cells((tmp_path / "r" / "menu-1.svg").read_text()) == [("80", "0")]
+
+
+def test_a_failure_without_its_files_is_still_a_failure(tmp_path):
+    (tmp_path / "file").write_text("")
+    with shell("printf ready; sleep 1000", reports=Reports(tmp_path / "file" / "r", "x")) as rig:
+        rig.wait("ready")
+        with pytest.raises(Failure, match="no picture and no recording: .*Not a directory"):
+            rig.wait("never", timeout=0.1)
+
+
+def test_the_command_that_plays_a_recording_can_be_copied(tmp_path):
+    with shell("printf ready; sleep 1000", reports=Reports(tmp_path / "a b", "x[1]")) as rig:
+        rig.wait("ready")
+        with pytest.raises(Failure) as caught:
+            rig.wait("never", timeout=0.1)
+    command = re.search(r"play it:   (python3 -m vt220 .*)   \(or", str(caught.value))[1]
+    done = subprocess.run(["sh", "-c", command], cwd=tmp_path, env=inner_environment(), capture_output=True, text=True)
+    assert done.stdout.startswith("ready\n")
+
+
+def test_python_ends_without_a_warning():
+    code = "from vt220.rig import run\nwith run('true') as rig: rig.ended(timeout=300)"
+    done = subprocess.run([sys.executable, "-B", "-X", "dev", "-W", "error", "-c", code], env=inner_environment(), capture_output=True, text=True)
+    assert (done.returncode, done.stderr) == (0, "")
 
 
 # What is left, and how quick it is.
@@ -365,7 +513,7 @@ INTERRUPTED = """
 def test_it(vt):
     rig = vt.run("sh", "-c", {script!r}, env={{"TOKEN": {token!r}}})
     rig.wait("ready")
-    rig.wait("never", timeout=100)
+    rig.wait("never", timeout=100000)
 """
 
 
@@ -377,10 +525,10 @@ def test_nothing_is_left_when_pytest_is_interrupted(tmp_path, number, options):
     # A shell starts what is in its background with SIGINT ignored, and this test may run there.
     command = ["env", "--default-signal", *inner(tmp_path, *options)]
     with subprocess.Popen(command, cwd=tmp_path, env=inner_environment(), stdout=subprocess.DEVNULL, start_new_session=True) as pytest_process:
-        until(lambda: len(marked(token.encode())) >= 5, 60)
+        until(lambda: len(marked(token.encode())) >= 5)
         pytest_process.send_signal(number)
-        pytest_process.wait(60)
-        until(lambda: not marked(token.encode()), 60)
+        pytest_process.wait(LONG)
+        until(lambda: not marked(token.encode()))
 
 
 def test_nothing_is_left_when_the_terminal_interrupts_pytest(tmp_path):
@@ -388,10 +536,10 @@ def test_nothing_is_left_when_the_terminal_interrupts_pytest(tmp_path):
     token = os.urandom(8).hex()
     (tmp_path / "test_it.py").write_text(INTERRUPTED.format(script=STUBBORN, token=token))
     with run(*inner(tmp_path), cwd=tmp_path, env=inner_environment()) as rig:
-        until(lambda: rig.screen and len(marked(token.encode())) >= 5, 60)
+        until(lambda: rig.screen and len(marked(token.encode())) >= 5)
         rig.keys(ctrl("c"))
-        rig.ended(2, timeout=60)
-        until(lambda: not marked(token.encode()), 60)
+        rig.ended(2)
+        until(lambda: not marked(token.encode()))
 
 
 def test_nothing_is_left_of_the_session_when_pytest_is_killed(tmp_path):
@@ -399,9 +547,9 @@ def test_nothing_is_left_of_the_session_when_pytest_is_killed(tmp_path):
     (tmp_path / "test_it.py").write_text(INTERRUPTED.format(script="trap '' HUP; env -i /bin/sleep 1004 & echo $! >pid; printf ready; wait", token=""))
     with subprocess.Popen(inner(tmp_path), cwd=tmp_path, env=inner_environment(), stdout=subprocess.DEVNULL, start_new_session=True) as pytest_process:
         pid = tmp_path / "pid"
-        until(lambda: pid.exists() and pid.read_text().endswith("\n") and not marked_one(int(pid.read_text())), 60)
+        until(lambda: pid.exists() and pid.read_text().endswith("\n") and not marked_one(int(pid.read_text())))
         pytest_process.kill()
-    until(lambda: not is_alive(int(pid.read_text())), 60)
+    until(lambda: not is_alive(int(pid.read_text())))
 
 
 def marked_one(pid):
@@ -431,7 +579,7 @@ def test_nothing_is_left_however_a_test_ends(tmp_path, end):
         f"    rig.wait('ready')\n    {ENDS[end]}\n")
     done = subprocess.run(inner(tmp_path), cwd=tmp_path, env=inner_environment(), capture_output=True, start_new_session=True)
     assert done.returncode != 0 or end == "a closed line"
-    until(lambda: not marked(token.encode()), 60)
+    until(lambda: not marked(token.encode()))
 
 
 def test_nothing_is_left_when_another_fixture_fails(tmp_path):
@@ -445,17 +593,21 @@ def test_nothing_is_left_when_another_fixture_fails(tmp_path):
 
 
 def inner(directory, *options):
-    return [sys.executable, "-B", "-m", "pytest", "-p", "vt220.pytest_plugin", "-p", "no:cacheprovider", "-q", *options, str(directory)]
+    return [sys.executable, "-B", "-m", "pytest", "-p", "vt220.pytest_plugin", "-p", "no:cacheprovider", "-q", "--vt-timeout", str(LONG), *options,
+            str(directory)]
 
 
 def inner_environment():
-    kept = {name: value for name, value in os.environ.items() if not name.startswith("PYTEST")}
+    """Returns an environment in which pytest prints the same wherever it runs. With CI or BUILD_NUMBER it prints each message a second time."""
+    kept = {name: value for name, value in os.environ.items() if not name.startswith("PYTEST") and name not in ("CI", "BUILD_NUMBER")}
     return {**kept, "PYTHONPATH": str(pathlib.Path(vt220.__file__).parents[1])}
 
 
 def test_the_plugin_stores_compares_and_names_stale_screens(tmp_path):
     (tmp_path / "test_it.py").write_text(
-        "def test_it(vt):\n    vt.run('echo', 'hello').matches('hello')\n\ndef test_two(vt):\n    vt.run('echo', 'two').matches('two')\n")
+        "import pytest\n\n@pytest.fixture\ndef echo(vt):\n    def echo(text):\n        rig = vt.run('echo', text)\n        rig.ended()\n"
+        "        return rig\n    return echo\n\n"
+        "def test_it(echo):\n    echo('hello').matches('hello')\n\ndef test_two(echo):\n    echo('two').matches('two')\n")
 
     def go(*options):
         return subprocess.run(inner(tmp_path, *options), cwd=tmp_path, env=inner_environment(), capture_output=True, text=True)
@@ -469,7 +621,7 @@ def test_the_plugin_stores_compares_and_names_stale_screens(tmp_path):
         assert done.returncode == 0 and f"no test asked for the stored screen {tmp_path}/screens/old.txt" in done.stdout, done.stdout
     assert "old.txt" not in go("-k", "two").stdout
     (tmp_path / "screens" / "two.txt").write_text("three\n")
-    done = go("--vt-timeout", "1", "--color", "yes")
+    done = go("--color", "yes")
     assert done.returncode == 1 and "\033[31m- three" in done.stdout
     assert sorted(path.name for path in (tmp_path / "vt220-failures").iterdir()) == ["test_it.py-test_two-1.bytes", "test_it.py-test_two-1.svg"]
     go("--update-screens")
@@ -485,8 +637,8 @@ def test_many_rigs_in_many_threads():
                 with shell("stty -echo; read a; printf '\\033[6n'; read b; echo got $a; exit 7") as rig:
                     rig.keys(f"{number}-{turn}", ENTER)
                     rig.keys(ENTER)
-                    rig.wait(f"got {number}-{turn}", timeout=60)
-                    rig.ended(7, timeout=60)
+                    rig.wait(f"got {number}-{turn}")
+                    rig.ended(7)
         except BaseException as fault:
             faults.append(fault)
 
@@ -507,39 +659,125 @@ def test_many_rigs_under_xdist(tmp_path):
         "    assert number != 17\n    rigs[1].matches('two')\n")
     (tmp_path / "screens").mkdir()
     (tmp_path / "screens" / "two.txt").write_text("other\n")
-    command = inner(tmp_path, "-n", "4", "--vt-timeout", "2", "-k", "5 or 17")
+    command = inner(tmp_path, "-n", "4", "-k", "5 or 17")
     done = subprocess.run(command, cwd=tmp_path, env=inner_environment(), capture_output=True, text=True)
     assert "5 failed" in done.stdout, done.stdout
     reports = sorted(path.name for path in (tmp_path / "vt220-failures").iterdir())
-    # The second rig of each test fails; a plain assert has no picture.
-    assert reports == sorted(f"test_it.py-test_it-{number}-2.{kind}" for number in (5, 15, 25, 35) for kind in ("bytes", "svg"))
+    assert reports == sorted(f"test_it.py-test_it-{number}-{rig}.{kind}" for number in (5, 15, 17, 25, 35) for rig in (1, 2, 3) for kind in ("bytes", "svg"))
 
 
-def test_a_thousand_screens_are_compared_in_a_second():
+PLAIN = """
+import pytest
+
+@pytest.fixture
+def ready(vt):
+    rig = vt.run("echo", "hello")
+    rig.ended()
+    return rig
+
+@pytest.fixture
+def broken(ready):
+    assert ready.screen.at("in the setup")
+
+@pytest.fixture
+def breaks(ready):
+    yield
+    assert ready.screen.at("in the teardown")
+
+def test_plain(vt, ready):
+    vt.run("echo", "other").ended()
+    assert ready.screen.at("bye")
+
+def test_setup(broken):
+    pass
+
+def test_teardown(breaks):
+    pass
+
+def test_caught(vt, ready):
+    with pytest.raises(AssertionError):
+        ready.wait("never")
+    raise OSError("no")
+
+def test_failure(ready):
+    ready.wait("never")
+
+def test_passes(ready):
+    assert ready.screen.at("hello")
+
+@pytest.mark.xfail
+def test_expected(ready):
+    assert ready.screen.at("bye")
+"""
+
+
+@pytest.mark.parametrize("options", [[], ["-n", "1"]], ids=["alone", "xdist"])
+def test_a_plain_assert_leaves_screen_picture_and_recording(tmp_path, options):
+    (tmp_path / "test_it.py").write_text(PLAIN)
+    done = subprocess.run(inner(tmp_path, *options), cwd=tmp_path, env=inner_environment(), capture_output=True, text=True)
+    assert done.returncode == 1 and "3 failed, 2 passed, 1 xfailed, 2 errors" in done.stdout, done.stdout
+    for words in ("<'bye' isn't on the screen>", "<'in the setup' isn't on the screen>", "<'in the teardown' isn't on the screen>", " 1|hello", " 1|other"):
+        assert words in done.stdout, done.stdout
+    counts = {"plain": 2, "setup": 1, "teardown": 1, "caught": 1, "failure": 1}
+    # Each program is shown once, also that whose failure shows it itself.
+    assert done.stdout.count("the command: ") == sum(counts.values()), done.stdout
+    found = sorted(path.name for path in (tmp_path / "vt220-failures").iterdir())
+    assert found == sorted(f"test_it.py-test_{name}-{number}.{kind}" for name, count in counts.items() for number in range(1, count + 1) for kind in ("bytes", "svg"))
+    assert all(f"vt220-failures/{name}" in done.stdout for name in found)
+    assert (tmp_path / "vt220-failures" / "test_it.py-test_plain-2.bytes").read_bytes() == b"other\r\n"
+
+
+def test_the_files_of_tests_are_their_own(tmp_path):
+    words = ["a b", "a/b", "a-b", "80", "80-24", "80-24-1", "x" * 300, "x" * 299 + "y"]
+    (tmp_path / "test_it.py").write_text(
+        f"import pytest\n\n@pytest.mark.parametrize('word', {words})\ndef test_x(vt, word):\n    vt.run('echo', word).ended()\n    assert False\n")
+    (tmp_path / "vt220-failures").mkdir()
+    (tmp_path / "vt220-failures" / "test_it.py-test_x-80-2.svg").write_text("of a run before, whose test had two programs")
+    for options in ([], ["-n", "2"]):
+        done = subprocess.run(inner(tmp_path, *options), cwd=tmp_path, env=inner_environment(), capture_output=True, text=True)
+        assert f"{len(words)} failed" in done.stdout, done.stdout
+        files = list((tmp_path / "vt220-failures").iterdir())
+        assert sorted(path.read_bytes().decode().replace("\r\n", "") for path in files if path.suffix == ".bytes") == sorted(words)
+        assert len(files) == 2 * len(words) and all(str(path) in done.stdout for path in files)
+
+
+def test_names_of_files_are_readable_and_different():
+    assert file_name("tests/test_it.py::TestAll::test_x[80]") == "tests-test_it.py-TestAll-test_x-80"
+    ids = ["a/b.py::t", "a-b.py::t", "a/b.py::t[x]", "a/b.py::t[x-y]", "a/b.py::t[x y]", "a/b.py::t[x/y]", "a/b.py::t[\u00e9]", "a/b.py::t[\u00e8]", "a/b.py::t[]"]
+    names = [file_name(one) for one in ids]
+    assert len(set(names)) == len(ids) and all(re.fullmatch(r"[\w.-]{3,200}", name, re.ASCII) for name in names)
+
+
+def calls_of(monkeypatch, work):
+    """Returns the names of the library's calls that are made while `work` runs."""
+    made, calls = [], vars(vt220._library)
+    with monkeypatch.context() as patch:
+        for name, call in [(name, call) for name, call in calls.items() if name.startswith("vt220_")]:
+            patch.setitem(calls, name, lambda *words, name=name, call=call: made.append(name) or call(*words))
+        work()
+    return made
+
+
+def test_a_look_at_a_stored_screen_makes_few_calls(monkeypatch):
+    """A wait compares after each read, so a comparison plays one repaint, and reads each row and each other part once."""
     terminal = vt220.Terminal()
-    terminal.feed(b"".join(b"\033[%d;%dH\033[%dmfile%d" % (at % 24 + 1, at // 24 * 9 + 1, at % 8, at) for at in range(200)))
+    terminal.feed(b"\033[7mtext\033[m\033)0\033[5;9r")
     stored = screen_of(terminal.repaint()).stored()
-    best = 9.0
-    for _ in range(20):
-        start = time.thread_time()
-        for number in range(100):
-            terminal.feed(b"\033[%d;70H\033[7m%d" % (number % 24 + 1, number))
-            assert Screen(terminal.repaint()).stored() != stored
-        best = min(best, time.thread_time() - start)
-    assert best < 0.1
+    assert screen_of(b"other").stored() != stored  # each call is loaded
+    repaint = terminal.repaint()
+    made = calls_of(monkeypatch, lambda: Screen(repaint).stored() == stored)
+    assert made.count("vt220_feed") == made.count("vt220_open") == made.count("vt220_text") == 1 and made.count("vt220_row") == vt220.ROWS
+    assert len(made) <= 60 and "vt220_repaint" not in made
 
 
-def test_a_rig_starts_as_quickly_as_a_process():
-    """Compares the quickest starts, since other processes of the machine only make a start slower."""
+def test_a_start_does_little_and_never_sleeps(monkeypatch):
+    """The cost of a start is that of posix_spawn: Python does a little before and after it, and waits for nothing."""
     run("true").close()  # the watchdog starts with the first one
-    rig = process = 9.0
-    for _ in range(200):
-        begun = time.perf_counter()
-        started = run("true")
-        rig = min(rig, time.perf_counter() - begun)
-        started.close()
-        begun = time.perf_counter()
-        leader = subprocess.Popen(["true"], start_new_session=True)
-        process = min(process, time.perf_counter() - begun)
-        leader.wait()
-    assert rig < 2 * process + 0.001
+    called = []
+    sys.setprofile(lambda frame, event, what: called.append(what.__name__ if event == "c_call" else frame.f_code.co_name))
+    try:
+        rig = run("true")
+    finally:
+        sys.setprofile(None)
+    rig.close()
+    assert len(called) < 1000 and not {"sleep", "select", "fork", "fork_exec", "waitpid", "waitid"} & set(called), called

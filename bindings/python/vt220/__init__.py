@@ -5,13 +5,15 @@
     print(terminal.text())
 
 The shared library is the file that VT220_LIBRARY names. If that isn't set, it is the first of these that exists: libvt220.so next to
-this module, out/libvt220.so of the repository that this module is in, and the system's. Rows and columns count from 1.
+this module, out/libvt220.so of the repository that this module is in, and the system's. It is loaded by the first call that needs it.
+Rows and columns count from 1.
 
-Any thread may use any terminal at any time. A call is never interrupted by another thread's call, because the interpreter's lock
-is held during each call of the library.
+Any thread may use any terminal at any time. The interpreter's lock is held during each call of the library, so calls don't run in
+parallel. feed() and feed_log() let other threads run after each 64 KB.
 """
 import ctypes
 import ctypes.util
+import functools
 import os
 import pathlib
 import struct
@@ -21,8 +23,8 @@ from typing import Any, Callable, Dict, List, NamedTuple, Tuple, Type, Union
 
 __all__ = [
     "ROWS", "COLUMNS", "REPORT_LIMIT", "TEXT_LIMIT", "ROW_TEXT_LIMIT", "SHOW_LIMIT", "PICTURE_LIMIT", "PAINT_LIMIT", "UPDATE_LIMIT",
-    "VERSION", "HELD", "Error", "Memory", "InUse", "Closed", "Partial", "Room", "Unsupported", "NoRow", "Brush", "Cell", "Cursor",
-    "Margins", "Modes", "Saved", "Sets", "Terminal", "status_text", "version",
+    "KEY_LIMIT", "TYPED_LIMIT", "VERSION", "HELD", "Error", "Memory", "InUse", "Closed", "Partial", "Room", "Unsupported", "NoRow", "NoKey", "NoCharacter",
+    "NoLibrary", "Brush", "Cell", "Cursor", "Margins", "Modes", "Saved", "Sets", "Terminal", "key", "key_length", "status_text", "version",
 ]
 
 ROWS = 24
@@ -34,8 +36,12 @@ SHOW_LIMIT = 51000
 PICTURE_LIMIT = 659968
 PAINT_LIMIT = 93512
 UPDATE_LIMIT = 94152
+KEY_LIMIT = 5
+TYPED_LIMIT = 16
 VERSION = 300
 HELD = ("nothing", "escape", "control", "string")
+# The most bytes that one call of the library plays: other threads wait for its end.
+_PIECE = 65536
 
 Bytes = Union[bytes, bytearray, memoryview]
 
@@ -91,7 +97,27 @@ class NoRow(Error, IndexError):
     words = "rows count from 1 to 24"
 
 
-_STATUSES: Dict[int, Type[Error]] = {1: Memory, 2: InUse, 3: Closed, 4: Partial, 5: Room, 6: Unsupported, 7: NoRow}
+class NoKey(Error, ValueError):
+    """Reports that there is no such key."""
+
+    words = "there is no such key"
+
+
+class NoCharacter(Error, ValueError):
+    """Reports that no key sends this character."""
+
+    words = "no key sends this character"
+
+
+class NoLibrary(Error, ImportError):
+    """Reports that libvt220.so isn't found, can't be loaded, or is of another version."""
+
+    words = "libvt220.so isn't found: name it in VT220_LIBRARY, copy it into the package, or build it with ./build-c"
+
+
+_STATUSES: Dict[int, Type[Error]] = {
+    1: Memory, 2: InUse, 3: Closed, 4: Partial, 5: Room, 6: Unsupported, 7: NoRow, 8: NoKey, 9: NoCharacter,
+}
 
 
 class Cell(NamedTuple):
@@ -221,7 +247,7 @@ def _find() -> str:
             return str(place)
     found = ctypes.util.find_library("vt220")
     if not found:
-        raise ImportError("libvt220.so isn't found: name it in VT220_LIBRARY, copy it into the package, or build it with ./build-c")
+        raise NoLibrary()
     return found
 
 
@@ -261,6 +287,8 @@ def _declare(library: ctypes.PyDLL) -> None:
         ("is_between", boolean, [handle]),
         ("held_kind", status, [handle]),
         ("same_state", boolean, [handle, handle]),
+        ("key", status, [ctypes.POINTER(_Modes), ctypes.c_char_p, size, buffer, size, told]),
+        ("key_length", size, [ctypes.c_char_p, size]),
     ]
     for name, result, arguments in calls:
         function = getattr(library, "vt220_" + name)
@@ -269,12 +297,19 @@ def _declare(library: ctypes.PyDLL) -> None:
 
 def _load() -> ctypes.PyDLL:
     """Loads the library, and refuses one of another version: before 1.0 each minor version may change the interface."""
-    # PyDLL holds the interpreter's lock during a call, so that two threads are never inside the library at once.
-    library = ctypes.PyDLL(_find())
-    library.vt220_version.restype, library.vt220_version.argtypes = ctypes.c_uint32, []
+    path = _find()
+    try:
+        # PyDLL holds the interpreter's lock during a call, so that two threads are never inside the library at once.
+        library = ctypes.PyDLL(path)
+    except OSError as fault:
+        raise NoLibrary(f"the library can't be loaded: {fault}; name a file in VT220_LIBRARY, or run ldconfig if it is installed") from None
+    try:
+        library.vt220_version.restype, library.vt220_version.argtypes = ctypes.c_uint32, []
+    except AttributeError:
+        raise NoLibrary(f"{path} isn't a library of this terminal") from None
     found = library.vt220_version()
     if found // 100 != VERSION // 100:
-        raise ImportError(f"libvt220.so is of version {_spelled(found)}, and this module is for {_spelled(VERSION)}")
+        raise NoLibrary(f"{path} is of version {_spelled(found)}, and this module is for {_spelled(VERSION)}")
     _declare(library)
     return library
 
@@ -283,7 +318,19 @@ def _spelled(number: int) -> str:
     return f"{number // 10000}.{number // 100 % 100}.{number % 100}"
 
 
-_library = _load()
+class _Library:
+    """Holds the shared library, which is loaded when one of its calls is first asked for. So an import needs no library."""
+
+    def __getattr__(self, name: str) -> Any:
+        if not name.startswith("vt220_"):
+            raise AttributeError(name)
+        # Two threads may both come here: the system loads a library once, and the second one finds the same calls.
+        self._loaded = self.__dict__.get("_loaded") or _load()
+        call = self.__dict__[name] = getattr(self._loaded, name)
+        return call
+
+
+_library = _Library()
 
 
 def version() -> int:
@@ -301,6 +348,29 @@ def _expect(status: int) -> None:
         raise _STATUSES.get(status, Error)()
 
 
+def key(key: Union[str, Bytes], modes: Modes) -> bytes:
+    """Returns what a key sends under these modes, which modes() of a Terminal returns.
+
+    The key is one character, a name such as "Up", "Return" or "C-c", or the sequence that a terminal sends for it, as a text or in
+    UTF-8. vt220-keys.h lists the names. Raises NoKey or NoCharacter, which are ValueErrors.
+    """
+    text = key.encode("utf-8", "surrogateescape") if isinstance(key, str) else bytes(memoryview(key))
+    sent, written = ctypes.create_string_buffer(KEY_LIMIT), ctypes.c_size_t()
+    _expect(_library.vt220_key(_Modes(*modes), text, len(text), sent, KEY_LIMIT, written))
+    return sent.raw[: written.value]
+
+
+def key_length(typed: Bytes) -> int:
+    """Returns how many bytes the first key has of what was typed on a modern terminal, and 0 if its end is missing."""
+    typed = bytes(memoryview(typed))
+    return int(_library.vt220_key_length(typed, len(typed)))
+
+
+def _whole(data: Bytes) -> bytes:
+    """Returns data as bytes. Only what may change while it is played is copied. Raises TypeError if it isn't bytes-like."""
+    return data if isinstance(data, bytes) else bytes(memoryview(data))
+
+
 class _Owned:
     """Owns an open handle, and closes it when nothing refers to it any more."""
 
@@ -315,13 +385,23 @@ class _Owned:
 
 
 class _Work(threading.local):
-    """Holds the buffers of one thread. They are freed when the thread ends, since each of them owns its memory itself."""
+    """Holds the buffers of one thread, each made when it is first used. They are freed when the thread ends, since each owns its memory."""
 
-    def __init__(self) -> None:
-        self.scratch = _Owned(_library.vt220_scratch_open, _library.vt220_scratch_close)
-        self.out = ctypes.create_string_buffer(PICTURE_LIMIT)
-        self.reports = ctypes.create_string_buffer(4096)
-        self.cells = ctypes.create_string_buffer(12 * COLUMNS)
+    @functools.cached_property
+    def scratch(self) -> _Owned:
+        return _Owned(_library.vt220_scratch_open, _library.vt220_scratch_close)
+
+    @functools.cached_property
+    def out(self) -> "ctypes.Array[ctypes.c_char]":
+        return ctypes.create_string_buffer(PICTURE_LIMIT)
+
+    @functools.cached_property
+    def reports(self) -> "ctypes.Array[ctypes.c_char]":
+        return ctypes.create_string_buffer(4096)
+
+    @functools.cached_property
+    def cells(self) -> "ctypes.Array[ctypes.c_char]":
+        return ctypes.create_string_buffer(12 * COLUMNS)
 
 
 _work = _Work()
@@ -379,11 +459,11 @@ class Terminal:
 
     def feed(self, data: Bytes) -> bytes:
         """Plays all bytes of the host, and returns the reports to it. Raises TypeError if `data` isn't bytes-like."""
-        handle, data, room = self._opened(), bytes(memoryview(data)), _work.reports
+        handle, data, room = self._opened(), _whole(data), _work.reports
         start = ctypes.cast(ctypes.c_char_p(data), ctypes.c_void_p).value or 0
         reports, written, at = [], ctypes.c_size_t(), 0
         while at < len(data):
-            played = _library.vt220_feed(handle, start + at, len(data) - at, room, len(room), written)
+            played = _library.vt220_feed(handle, start + at, min(len(data) - at, _PIECE), room, len(room), written)
             if not played:  # another thread has closed the terminal
                 raise Closed()
             at += played
@@ -396,12 +476,12 @@ class Terminal:
 
         Each line is as row_text() returns it. Raises TypeError if `data` isn't bytes-like.
         """
-        handle, data, work = self._opened(), bytes(memoryview(data)), _work
+        handle, data, work = self._opened(), _whole(data), _work
         start = ctypes.cast(ctypes.c_char_p(data), ctypes.c_void_p).value or 0
         reports, lines, written, logged, at = [], [], ctypes.c_size_t(), ctypes.c_size_t(), 0
         while at < len(data):
-            played = _library.vt220_feed_log(handle, work.scratch.handle, start + at, len(data) - at, work.reports, len(work.reports),
-                                             written, work.out, PICTURE_LIMIT, logged)
+            played = _library.vt220_feed_log(handle, work.scratch.handle, start + at, min(len(data) - at, _PIECE), work.reports,
+                                             len(work.reports), written, work.out, PICTURE_LIMIT, logged)
             if not played:  # another thread has closed the terminal
                 raise Closed()
             at += played
@@ -414,10 +494,16 @@ class Terminal:
 
         Returns the number of bytes played, and the report. Without a report all bytes are played, and the report is empty.
         """
-        handle, data, written = self._opened(), bytes(memoryview(data)), ctypes.c_size_t()
-        # With capacity for one report alone the call ends after the byte that asked for it.
-        played = _library.vt220_feed(handle, data, len(data), _work.reports, REPORT_LIMIT, written)
-        return played, ctypes.string_at(_work.reports, written.value)
+        handle, data, room, written = self._opened(), _whole(data), _work.reports, ctypes.c_size_t()
+        start = ctypes.cast(ctypes.c_char_p(data), ctypes.c_void_p).value or 0
+        at = 0
+        while at < len(data) and not written.value:
+            # With capacity for one report alone the call ends after the byte that asked for it.
+            played = _library.vt220_feed(handle, start + at, min(len(data) - at, _PIECE), room, REPORT_LIMIT, written)
+            if not played:  # another thread has closed the terminal
+                raise Closed()
+            at += played
+        return at, ctypes.string_at(room, written.value)
 
     def _written(self, function: Callable[..., int], *handles: _Handle) -> bytes:
         written = ctypes.c_size_t()
@@ -457,7 +543,10 @@ class Terminal:
         return self._written(_library.vt220_update, self._opened(), to._opened())
 
     def changed(self, to: "Terminal", row: int) -> List[int]:
-        """Returns the columns of a row of `to`, 1 to 24, in which this terminal has another cell or none. Raises NoRow."""
+        """Returns the columns of a row of `to`, 1 to 24, in which this terminal has another cell or none. Raises NoRow.
+
+        If the two differ in width(), redraw the whole screen instead: columns after the width of `to` aren't in the list.
+        """
         marks = _Marks()
         if row < 0:
             raise NoRow()
@@ -467,6 +556,17 @@ class Terminal:
     def copy_from(self, other: "Terminal") -> None:
         """Brings this terminal into the state of another one, also if the other is inside a sequence."""
         _expect(_library.vt220_copy(self._opened(), other._opened()))
+
+    def copy(self) -> "Terminal":
+        """Returns a new terminal in the state of this one, also inside a sequence. Its bells() counts from 0."""
+        copied = Terminal()
+        copied.copy_from(self)
+        return copied
+
+    __copy__ = copy
+
+    def __deepcopy__(self, _memo: object) -> "Terminal":
+        return self.copy()
 
     def reset(self) -> None:
         """Brings this terminal into its power-up state, also inside a sequence."""

@@ -1,7 +1,7 @@
 """Prints the screen after a recording: python3 -m vt220 FILE [BYTES]. BYTES is the number of bytes that are played (all)."""
 import sys
 
-from . import Terminal
+from . import NoLibrary, Terminal
 
 
 def main() -> int:
@@ -19,7 +19,11 @@ def main() -> int:
     except OSError as error:
         print(f"vt220: {words[0]}: {error.strerror}", file=sys.stderr)
         return 1
-    terminal = Terminal()
+    try:
+        terminal = Terminal()
+    except NoLibrary as fault:
+        print(f"vt220: {fault}", file=sys.stderr)
+        return 1
     terminal.feed(data)
     sys.stdout.write(terminal.text())
     return 0

@@ -1,93 +1,106 @@
 """Returns the bytes that the keys of a VT220's keyboard send, as the terminal's modes ask for them.
 
-The tables are those of the VT220 Programmer Reference Manual, chapter 3: cursor keys, editing keys, auxiliary keypad and top-row
-function keys, in level 2.
+The library has the keyboard: this module has its keys as an enumeration, and texts of more than one key.
 """
 import enum
-from typing import Union
+from typing import List, NamedTuple, Union
 
-from . import Modes
+from . import Modes, NoCharacter, NoKey, key, key_length
 
 
 class Key(enum.Enum):
-    """Names each key that sends a separate code. Help is F15, and Do is F16, as on the keyboard."""
+    """Names each key that isn't a character, as vt220-keys.h does. Help is F15, and Do is F16, as on the keyboard."""
 
-    UP = ("cursor", "A")
-    DOWN = ("cursor", "B")
-    RIGHT = ("cursor", "C")
-    LEFT = ("cursor", "D")
-    FIND = ("number", "1")
-    INSERT_HERE = ("number", "2")
-    REMOVE = ("number", "3")
-    SELECT = ("number", "4")
-    PREV_SCREEN = ("number", "5")
-    NEXT_SCREEN = ("number", "6")
-    PF1 = F1 = ("shift", "P")
-    PF2 = F2 = ("shift", "Q")
-    PF3 = F3 = ("shift", "R")
-    PF4 = F4 = ("shift", "S")
-    F6 = ("number", "17")
-    F7 = ("number", "18")
-    F8 = ("number", "19")
-    F9 = ("number", "20")
-    F10 = ("number", "21")
-    F11 = ("number", "23")
-    F12 = ("number", "24")
-    F13 = ("number", "25")
-    F14 = ("number", "26")
-    HELP = F15 = ("number", "28")
-    DO = F16 = ("number", "29")
-    F17 = ("number", "31")
-    F18 = ("number", "32")
-    F19 = ("number", "33")
-    F20 = ("number", "34")
-    KP_0 = ("keypad", "0p")
-    KP_1 = ("keypad", "1q")
-    KP_2 = ("keypad", "2r")
-    KP_3 = ("keypad", "3s")
-    KP_4 = ("keypad", "4t")
-    KP_5 = ("keypad", "5u")
-    KP_6 = ("keypad", "6v")
-    KP_7 = ("keypad", "7w")
-    KP_8 = ("keypad", "8x")
-    KP_9 = ("keypad", "9y")
-    KP_MINUS = ("keypad", "-m")
-    KP_COMMA = ("keypad", ",l")
-    KP_PERIOD = ("keypad", ".n")
-    KP_ENTER = ("keypad", "\rM")
-    ENTER = ("return", "\r")
-    TAB = ("plain", "\t")
-    DELETE = ("plain", "\x7f")
-    BACKSPACE = ("plain", "\b")
-    ESCAPE = ("plain", "\033")
+    UP = "Up"
+    DOWN = "Down"
+    RIGHT = "Right"
+    LEFT = "Left"
+    FIND = "Find"
+    INSERT_HERE = "InsertHere"
+    REMOVE = "Remove"
+    SELECT = "Select"
+    PREV_SCREEN = "PrevScreen"
+    NEXT_SCREEN = "NextScreen"
+    PF1 = F1 = "PF1"
+    PF2 = F2 = "PF2"
+    PF3 = F3 = "PF3"
+    PF4 = F4 = "PF4"
+    F6 = "F6"
+    F7 = "F7"
+    F8 = "F8"
+    F9 = "F9"
+    F10 = "F10"
+    F11 = "F11"
+    F12 = "F12"
+    F13 = "F13"
+    F14 = "F14"
+    HELP = F15 = "Help"
+    DO = F16 = "Do"
+    F17 = "F17"
+    F18 = "F18"
+    F19 = "F19"
+    F20 = "F20"
+    KP_0 = "KP0"
+    KP_1 = "KP1"
+    KP_2 = "KP2"
+    KP_3 = "KP3"
+    KP_4 = "KP4"
+    KP_5 = "KP5"
+    KP_6 = "KP6"
+    KP_7 = "KP7"
+    KP_8 = "KP8"
+    KP_9 = "KP9"
+    KP_MINUS = "KPMinus"
+    KP_COMMA = "KPComma"
+    KP_PERIOD = "KPPeriod"
+    KP_ENTER = "KPEnter"
+    ENTER = "Return"
+    TAB = "Tab"
+    DELETE = BACKSPACE = "Delete"
+    ESCAPE = "Escape"
+
+
+class Typed(NamedTuple):
+    """Holds what typed keys send, the beginning of a key whose end is missing, and the characters that no key sends."""
+
+    sent: bytes
+    held: bytes
+    refused: str
 
 
 def ctrl(letter: str) -> str:
-    """Returns what a letter, or one of @ [ \\ ] ^ _ ?, sends with the Ctrl key held down."""
-    if len(letter) != 1 or letter.upper() not in "@ABCDEFGHIJKLMNOPQRSTUVWXYZ[\\]^_?":
-        raise ValueError(f"there is no Ctrl-{letter}")
-    return "\x7f" if letter == "?" else chr(ord(letter.upper()) & 31)
+    """Returns what a letter, or one of @ [ \\ ] ^ _ ? and 2 to 8, sends with the Ctrl key held down. No mode changes it."""
+    try:
+        return key(f"C-{letter}", Modes(*[False] * len(Modes._fields))).decode("ascii")
+    except NoKey:
+        raise ValueError(f"there is no Ctrl-{letter}") from None
 
 
-def spelled(key: Union[str, Key], modes: Modes) -> bytes:
-    """Returns the bytes that a key, or each character of a text, sends under these modes."""
-    if isinstance(key, str):
+def spelled(keys: Union[str, Key], modes: Modes) -> bytes:
+    """Returns the bytes that a key, or each character of a text, sends under these modes. Raises ValueError if no key sends it."""
+    if isinstance(keys, Key):
+        return key(keys.value, modes)
+    if not isinstance(keys, str):
+        raise TypeError(f"a key is a text or a Key, not {keys!r}")
+    sent = []
+    for character in keys:
         try:
-            return key.encode("latin-1")
-        except UnicodeEncodeError as fault:
-            raise ValueError(f"no key of a VT220 sends {key[fault.start]!r}") from None
-    if not isinstance(key, Key):
-        raise TypeError(f"a key is a text or a Key, not {key!r}")
-    kind, code = key.value
-    if kind == "keypad" and not modes.keypad_application:
-        kind, code = ("return" if code[0] == "\r" else "plain"), code[0]
-    if kind == "return":
-        return b"\r\n" if modes.lnm else b"\r"
-    if kind == "plain":
-        return code.encode()
-    control, single_shift = (b"\x9b", b"\x8f") if modes.reports_8bit else (b"\033[", b"\033O")
-    if kind == "number":
-        return control + code.encode() + b"~"
-    if kind == "cursor" and not modes.decckm:
-        return control + code.encode()
-    return single_shift + code[-1].encode()
+            sent.append(key(character, modes))
+        except (NoCharacter, NoKey):
+            raise ValueError(f"no key of a VT220 sends {character!r}") from None
+    return b"".join(sent)
+
+
+def typed(data: bytes, modes: Modes) -> Typed:
+    """Returns what the keys send that were typed on a modern terminal. A key that a VT220 doesn't have is sent as it came."""
+    sent: List[bytes] = []
+    refused: List[str] = []
+    while length := key_length(data):
+        one, data = data[:length], data[length:]
+        try:
+            sent.append(key(one, modes))
+        except NoKey:
+            sent.append(one)
+        except NoCharacter:
+            refused.append(one.decode())
+    return Typed(b"".join(sent), data, "".join(refused))

@@ -32,28 +32,40 @@ class _Watchdog:
         self.lock = threading.Lock()
         self.pid, self.token, self.count = 0, "", 0
         self.process: Optional["subprocess.Popen[bytes]"] = None
+        # The descriptor that the watchdog is told by, or -1.
+        self.line = -1
 
     def mark(self) -> str:
         """Returns the mark of a new command. Starts the watchdog if this process has none."""
         with self.lock:
             if self.pid != os.getpid():
-                self.pid, self.token = os.getpid(), os.urandom(16).hex()
-                # It waits for the end of its input, which only this process holds open.
-                words = [sys.executable, "-I", "-S", watchdog.__file__, f"{self.token}."]
-                self.process = subprocess.Popen(words, stdin=subprocess.PIPE, stdout=subprocess.DEVNULL, stderr=subprocess.DEVNULL,
-                                                start_new_session=True, cwd="/", env={"PATH": os.defpath})
-                # Python would wait for it at its end, but it ends after Python.
-                self.process.returncode = 0
+                self._start()
             self.count += 1
             return f"{self.token}.{self.count}."
 
+    def _start(self) -> None:
+        """Starts a watchdog. It waits for the end of its input, which only this process holds open."""
+        if self.line >= 0:
+            os.close(self.line)  # that of the process which this one was forked from
+        self.token = os.urandom(16).hex()
+        words = [sys.executable, "-I", "-S", watchdog.__file__, f"{self.token}."]
+        # A descriptor and no file, which Python would warn of when it ends: it stays open until then.
+        input_, self.line = os.pipe()
+        try:
+            self.process = subprocess.Popen(words, stdin=input_, stdout=subprocess.DEVNULL, stderr=subprocess.DEVNULL,
+                                            start_new_session=True, cwd="/", env={"PATH": os.defpath})
+        finally:
+            os.close(input_)
+        # Python would wait for it at its end, but it ends after Python.
+        self.process.returncode = 0
+        self.pid = os.getpid()
+
     def tell(self, session: int) -> None:
         """Tells the watchdog of a session that has begun, or with a minus sign of one that has been ended."""
-        if self.process is not None and self.process.stdin is not None:
-            try:
-                os.write(self.process.stdin.fileno(), b"%d\n" % session)
-            except OSError:
-                pass  # somebody has killed it
+        try:
+            os.write(self.line, b"%d\n" % session)
+        except OSError:
+            pass  # somebody has killed it
 
 
 _watchdog = _Watchdog()
@@ -67,6 +79,16 @@ def environment(term: str, given: Optional[Dict[str, str]]) -> Dict[str, str]:
 
 def _pointers(words: Sequence[str]) -> "ctypes.Array[ctypes.c_char_p]":
     return (ctypes.c_char_p * (len(words) + 1))(*[os.fsencode(word) for word in words], None)
+
+
+def _refusal(fault: int, words: str, argv: Sequence[str], cwd: Optional[str]) -> OSError:
+    """Returns the error of a command that couldn't be started. It names the directory if that is what is wrong."""
+    if cwd is not None and not os.access(os.path.join(cwd, "."), os.X_OK):
+        return OSError(fault, f"the program can't start in this directory: {words}", cwd)
+    apart = argv[0].split()
+    if fault == errno.ENOENT and len(apart) > 1:
+        words += f"; write each word by itself, as run({', '.join(map(repr, [*apart, *argv[1:]]))})"
+    return OSError(fault, words, argv[0])
 
 
 def _spawn(path: str, argv: Sequence[str], env: Dict[str, str], cwd: Optional[str], terminal: str) -> int:
@@ -94,7 +116,7 @@ def _spawn(path: str, argv: Sequence[str], env: Dict[str, str], cwd: Optional[st
         _libc.posix_spawn_file_actions_destroy(actions)
         _libc.posix_spawnattr_destroy(attributes)
     if fault:
-        raise OSError(fault, os.strerror(fault), argv[0])
+        raise _refusal(fault, os.strerror(fault), argv, cwd)
     return pid.value
 
 
@@ -103,8 +125,9 @@ class Process:
 
     def __init__(self, argv: Sequence[str], env: Dict[str, str], cwd: Optional[Union[str, "os.PathLike[str]"]], columns: int) -> None:
         path = argv[0] if "/" in argv[0] else shutil.which(argv[0], path=env.get("PATH", os.defpath))
+        directory = None if cwd is None else os.fspath(cwd)
         if path is None:
-            raise FileNotFoundError(errno.ENOENT, "the command isn't found", argv[0])
+            raise _refusal(errno.ENOENT, "the command isn't found", argv, directory)
         self.mark = _watchdog.mark()
         self.status: Optional[int] = None
         self.line, self.pid, self.ending = -1, -1, -1
@@ -112,7 +135,7 @@ class Process:
         try:
             fcntl.ioctl(line, termios.TIOCSWINSZ, struct.pack("4H", 24, columns, 0, 0))
             os.set_blocking(line, False)
-            self.pid = _spawn(path, argv, {**env, watchdog.MARK: self.mark}, None if cwd is None else os.fspath(cwd), os.ttyname(slave))
+            self.pid = _spawn(path, argv, {**env, watchdog.MARK: self.mark}, directory, os.ttyname(slave))
         except BaseException:
             os.close(line)
             raise

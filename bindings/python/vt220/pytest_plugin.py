@@ -1,14 +1,27 @@
 """Gives tests the fixture `vt`, which runs programs on a VT220 and ends them with the test."""
 import contextlib
+import hashlib
 import pathlib
 import re
 from typing import Any, Dict, Iterator, List, Optional, Set
 
 import pytest
 
-from .rig import TIMEOUT, Directory, Reports, Rig
+from .rig import TIMEOUT, Directory, Failure, Reports, Rig
 
 _KEY = "vt220_screens"
+# The ids of tests that are still different when each other character is a hyphen: their parts have none.
+_PLAIN = re.compile(r"(\w+/)*\w+\.py(::\w+)+(\[[\w.]+\])?", re.ASCII)
+# A file's name has at most 255 bytes; this leaves enough for the digits that follow, and for the ending.
+_LONGEST = 180
+
+
+def file_name(nodeid: str) -> str:
+    """Returns the beginning of the names of a test's files. Two tests never share it, whatever their parameters are."""
+    name = re.sub(r"[^\w.]+", "-", nodeid, flags=re.ASCII).strip("-")
+    if _PLAIN.fullmatch(nodeid) and len(name) <= _LONGEST:
+        return name
+    return f"{name[:_LONGEST]}-{hashlib.sha256(nodeid.encode(errors='surrogatepass')).hexdigest()[:12]}"
 
 
 class Session:
@@ -21,11 +34,12 @@ class Session:
         self.update = bool(config.getoption("--update-screens"))
         self.timeout = float(config.getoption("--vt-timeout"))
         self.directory = pathlib.Path(config.rootpath) / config.getoption("--vt-reports")
-        self.name = re.sub(r"[^\w.-]+", "-", request.node.nodeid).strip("-")
+        self.name = file_name(request.node.nodeid)
         self.colour = config.get_terminal_writer().hasmarkup
         self.rigs: List[Rig] = []
-        for old in self.directory.glob(f"{self.name}-[0-9]*.*"):
-            old.unlink(missing_ok=True)
+        for old in self.directory.glob(f"{self.name}-*"):
+            if re.fullmatch(r"-\d+\.(svg|bytes)", old.name[len(self.name) :]):
+                old.unlink(missing_ok=True)
 
     def run(self, *argv: str, columns: int = 80, cwd: Optional[Directory] = None, env: Optional[Dict[str, str]] = None,
             timeout: Optional[float] = None, term: str = "vt220") -> Rig:
@@ -43,14 +57,31 @@ class Session:
                 stack.callback(rig.close)
 
 
+_SESSION = pytest.StashKey[Session]()
+
+
 @pytest.fixture
 def vt(request: pytest.FixtureRequest) -> Iterator[Session]:
     """Runs programs on a VT220: vt.run(COMMAND, ARGUMENT ..)."""
-    session = Session(request)
+    session = request.node.stash[_SESSION] = Session(request)
     try:
         yield session
     finally:
         session.close()
+
+
+@pytest.hookimpl(hookwrapper=True)  # type: ignore[misc]
+def pytest_runtest_makereport(item: pytest.Item, call: "pytest.CallInfo[None]") -> Iterator[None]:
+    """Adds the screen, the picture and the recording of each program of a failed test, unless its failure has them."""
+    outcome: Any = yield
+    report, session = outcome.get_result(), item.stash.get(_SESSION, None)
+    if session is None:
+        return
+    if report.failed and call.excinfo is not None:
+        shown = call.excinfo.value.rig if isinstance(call.excinfo.value, Failure) else None
+        report.sections += [(f"vt220: {rig.argv[0]}", rig.report()) for rig in session.rigs if rig is not shown]
+    if call.when == "teardown":
+        del item.stash[_SESSION]
 
 
 def pytest_addoption(parser: pytest.Parser) -> None:

@@ -9,11 +9,13 @@
 
 With pytest the fixture `vt` does the same, and ends each program with its test.
 """
+import codecs
 import errno
 import os
 import pathlib
 import re
 import select
+import shlex
 import time
 from typing import Callable, Dict, List, NamedTuple, Optional, Pattern, Sequence, Tuple, Union
 
@@ -21,7 +23,7 @@ from . import Bytes, Modes, Terminal
 from .keyboard import Key, ctrl, spelled
 from .picture import svg
 from .process import Process, environment
-from .screen import MASK, Mask, Place, Screen, Stored, difference, differing
+from .screen import MASK, Mask, Place, Screen, Stored, check_column, check_row, difference, differing, renewed
 
 TIMEOUT = 10.0
 # How long a program must be silent before --update-screens stores its screen.
@@ -29,15 +31,68 @@ SETTLED_MS = 500
 
 Directory = Union[str, "os.PathLike[str]"]
 Condition = Union[str, Pattern[str], Callable[[Screen], object]]
-globals().update({name: key for name, key in Key.__members__.items()})
-UP, DOWN, LEFT, RIGHT, ENTER, TAB, ESCAPE, DELETE, BACKSPACE = (
-    Key.UP, Key.DOWN, Key.LEFT, Key.RIGHT, Key.ENTER, Key.TAB, Key.ESCAPE, Key.DELETE, Key.BACKSPACE,
-)
+# The keys by name, one line for each: a type checker and an editor read them here.
+UP = Key.UP
+DOWN = Key.DOWN
+RIGHT = Key.RIGHT
+LEFT = Key.LEFT
+FIND = Key.FIND
+INSERT_HERE = Key.INSERT_HERE
+REMOVE = Key.REMOVE
+SELECT = Key.SELECT
+PREV_SCREEN = Key.PREV_SCREEN
+NEXT_SCREEN = Key.NEXT_SCREEN
+PF1 = Key.PF1
+PF2 = Key.PF2
+PF3 = Key.PF3
+PF4 = Key.PF4
+F1 = Key.F1
+F2 = Key.F2
+F3 = Key.F3
+F4 = Key.F4
+F6 = Key.F6
+F7 = Key.F7
+F8 = Key.F8
+F9 = Key.F9
+F10 = Key.F10
+F11 = Key.F11
+F12 = Key.F12
+F13 = Key.F13
+F14 = Key.F14
+F15 = Key.F15
+F16 = Key.F16
+F17 = Key.F17
+F18 = Key.F18
+F19 = Key.F19
+F20 = Key.F20
+HELP = Key.HELP
+DO = Key.DO
+KP_0 = Key.KP_0
+KP_1 = Key.KP_1
+KP_2 = Key.KP_2
+KP_3 = Key.KP_3
+KP_4 = Key.KP_4
+KP_5 = Key.KP_5
+KP_6 = Key.KP_6
+KP_7 = Key.KP_7
+KP_8 = Key.KP_8
+KP_9 = Key.KP_9
+KP_MINUS = Key.KP_MINUS
+KP_COMMA = Key.KP_COMMA
+KP_PERIOD = Key.KP_PERIOD
+KP_ENTER = Key.KP_ENTER
+ENTER = Key.ENTER
+TAB = Key.TAB
+DELETE = Key.DELETE
+BACKSPACE = Key.BACKSPACE
+ESCAPE = Key.ESCAPE
 __all__ = ["Failure", "KeyboardLocked", "Place", "Reports", "Rig", "Screen", "Key", "MASK", "ctrl", "run", "spelled", *Key.__members__]
 
 
 class Failure(AssertionError):
-    """Reports that a program didn't do what its test waits for."""
+    """Reports that a program didn't do what its test waits for. `rig` is the one that ran it."""
+
+    rig: "Optional[Rig]" = None
 
 
 class KeyboardLocked(Failure):
@@ -60,13 +115,17 @@ class Reports(NamedTuple):
     colour: bool = False
 
     def write(self, name: str, rig: "Rig", marks: Sequence[Tuple[int, int]]) -> str:
-        """Writes the picture and the recording, and returns the lines that name them."""
-        self.directory.mkdir(parents=True, exist_ok=True)
+        """Writes the picture and the recording, and returns the lines that name them, or why they couldn't be written."""
         stem = self.directory / (self.name or name)
         picture, recording = f"{stem}.svg", f"{stem}.bytes"
-        pathlib.Path(recording).write_bytes(rig.recording)
-        pathlib.Path(picture).write_text(svg(rig.last, marks, " ".join(rig.argv)), encoding="utf-8")
-        return f"picture:   {picture}\nrecording: {recording}\nplay it:   python3 -m vt220 {recording}   (or: vt220 show {recording})"
+        try:
+            self.directory.mkdir(parents=True, exist_ok=True)
+            pathlib.Path(recording).write_bytes(rig.recording)
+            pathlib.Path(picture).write_text(svg(rig.last, marks), encoding="utf-8")
+        except OSError as fault:
+            return f"no picture and no recording: {fault}"
+        word = shlex.quote(recording)
+        return f"picture:   {picture}\nrecording: {recording}\nplay it:   python3 -m vt220 {word}   (or: vt220 show {word})"
 
 
 class Rig:
@@ -228,12 +287,22 @@ class Rig:
         and `col` say the row, and the column of the first character. `cursor` is the cursor's row and column.
         """
         __tracebackhide__ = True
+        check_row(row)
+        check_column(col)
+        if cursor is not None:
+            check_row(cursor[0])
+            check_column(cursor[1])
         conditions: List[Callable[[Screen], object]] = []
+        expressions: List["Pattern[str]"] = []
         if callable(what):
             conditions.append(what)
-        elif what is not None or text is not None:
-            expressions = ([re.compile(what)] if what is not None else []) + ([re.compile(re.escape(text))] if text is not None else [])
-            conditions += [_search(expression, row, col) for expression in expressions]
+        elif what is not None:
+            expressions.append(re.compile(what))
+        if text is not None:
+            expressions.append(re.compile(re.escape(text)))
+        if not expressions and (row is not None or col is not None):
+            raise TypeError("row and col are of a text or an expression, and wait() has neither")
+        conditions += [_search(expression, row, col) for expression in expressions]
         if cursor is not None:
             conditions.append(lambda screen: screen.cursor[:2] == cursor)
         if not conditions:
@@ -295,7 +364,7 @@ class Rig:
             return
         if not path.exists():
             self._fail(f"{path} isn't there; --update-screens makes it")
-        stored = path.read_text(encoding="utf-8")
+        stored = renewed(path.read_text(encoding="utf-8"))
         try:
             self._until(lambda: self.last.stored(masks) == stored, f"the screen {name}", timeout)
         except Failure as fault:
@@ -314,12 +383,32 @@ class Rig:
         raise self._failure(why, kind, ())
 
     def _failure(self, why: str, kind: "type[Failure]", marks: Sequence[Tuple[int, int]]) -> Failure:
-        lines = [why, "", f"the command: {' '.join(self.argv)}", "the screen, the cursor at row %d, column %d:" % self.last.cursor[:2]]
+        failure = kind(f"{why}\n\n{self.report(marks)}")
+        failure.rig = self
+        return failure
+
+    def report(self, marks: Sequence[Tuple[int, int]] = ()) -> str:
+        """Writes the picture, with a frame around each marked cell, and the recording. Returns the words for a failure: these and the screen."""
+        lines = [f"the command: {' '.join(self.argv)}", "the screen, the cursor at row %d, column %d:" % self.last.cursor[:2]]
         lines += [f"{row:2}|{line}" for row, line in enumerate(self.last.rows, 1) if line or row == self.last.cursor.row]
         lines.append("the last events:")
         lines += [f"  {event.at:8.3f} s  {event.who:8}{_short(event.data)}" for event in self.events[-8:]]
+        if _is_utf_8(self.recording):
+            lines.append(_UTF_8)
         lines.append(self.reports.write(re.sub(r"\W+", "-", pathlib.Path(self.argv[0]).name), self, marks))
-        return kind("\n".join(lines))
+        return "\n".join(lines)
+
+
+_UTF_8 = ("note: the program's output looks like UTF-8. The rig's terminal is a VT220: it has no UTF-8, and reads each byte as a character of\n"
+          "DEC Multinational. Run the program in a locale without UTF-8, such as LC_ALL=C, and on texts without UTF-8.")
+
+
+def _is_utf_8(data: bytes) -> bool:
+    """Returns whether bytes have characters of UTF-8 beyond ASCII, and nothing else beyond ASCII. The last character may be cut."""
+    try:
+        return not codecs.getincrementaldecoder("utf-8")().decode(data).isascii()
+    except UnicodeDecodeError:
+        return False
 
 
 def _short(data: bytes) -> str:

@@ -4,7 +4,7 @@ import itertools
 import re
 from typing import Dict, Iterable, Iterator, List, NamedTuple, Optional, Sequence, Tuple, Union
 
-from . import ROWS, Cell, Cursor, Margins, Modes, Terminal
+from . import COLUMNS, ROWS, Brush, Cell, Cursor, Margins, Modes, NoRow, Saved, Sets, Terminal
 
 # The name of each attribute in a stored screen, in the order of Cell's fields after the glyph.
 ATTRIBUTES = ("bold", "underline", "blink", "reverse", "protected")
@@ -13,19 +13,35 @@ MODES = ("KAM", "IRM", "SRM", "LNM", "DECCKM", "DECSCLM", "DECSCNM", "DECOM", "D
 SET_AT_FIRST = ("SRM", "DECAWM", "DECARM", "DECTCEM")
 # Stands for a masked cell. No set of the VT220 has this character.
 MASK = "\u2588"
-# What makes the readable state of a terminal that of power-up, and leaves the rest: see Screen.hidden.
-_LEVEL = b"\033[?6l\033[r\033[2J\033[H\033[2l\033[4l\033[12h\033[20l\033[?1l\033[?4l\033[?5l\033[?7h\033[?8h\033[?25h\033>\033 F"
+# The names of the graphic sets by their final bytes, as docs/SPECIFICATION.md has them.
+SETS = {ord("B"): "ASCII", ord("A"): "British", ord("K"): "German", ord("0"): "special graphics", ord("<"): "supplemental"}
 
 Mask = Union[str, Tuple[int, int, int]]
 Places = Dict[Tuple[int, int], str]
 
 
-class Place(NamedTuple):
-    """Holds the position of a text on a screen, and its cells. It is false, and has no attribute, if the text isn't there."""
-
+class _Position(NamedTuple):
     row: int
     col: int
     cells: Tuple[Cell, ...]
+
+
+class Place(_Position):
+    """Holds the position of a text on a screen, and its cells. It is false, and has no attribute, if the text isn't there."""
+
+    def __new__(cls, row: int, col: int, cells: Tuple[Cell, ...], missing: str = "it isn't on the screen") -> "Place":
+        """Makes a place. `missing` are the words for a text that isn't there."""
+        place = super().__new__(cls, row, col, cells)
+        place._missing = missing
+        return place
+
+    _missing: str
+
+    def __repr__(self) -> str:
+        if not self.cells:
+            return f"<{self._missing}>"
+        names = [name for name, is_set in zip(ATTRIBUTES, map(self._all, Cell._fields[1:])) if is_set]
+        return f"<{''.join(cell.glyph for cell in self.cells)!r} at row {self.row}, column {self.col}{''.join(f', {name}' for name in names)}>"
 
     def __bool__(self) -> bool:
         return bool(self.cells)
@@ -116,29 +132,33 @@ class Screen:
         return self._terminal.width()
 
     @functools.cached_property
-    def hidden(self) -> bytes:
-        """What no other property holds: tab stops, the saved cursor, the brush, the sets, a pending single shift.
+    def picture(self) -> str:
+        """The screen as a picture: an SVG document."""
+        return self._terminal.picture()
 
-        These are the bytes of the repaint of this state with everything else as at power-up; empty if that is all of it.
+    @functools.cached_property
+    def hidden(self) -> Tuple[str, ...]:
+        """What no other property holds, each part by its name if it isn't as at power-up: the lines of a stored screen for these parts.
+
+        The parts are the attributes of the next character, the graphic sets, a pending single shift, the tab stops, and what DECRC restores.
         """
-        terminal = Terminal()
-        terminal.feed(self.repaint)
-        terminal.feed(_LEVEL)
-        rest = terminal.repaint()
-        return b"" if rest == _first(self.width) else rest
+        return tuple(_hidden(self._terminal))
 
     def at(self, text: str, row: Optional[int] = None, nth: int = 1) -> Place:
         """Returns the place of a text, in one row or in any: the first one, or the `nth` from the top. False if there is none."""
+        check_row(row)
+        left = nth
         for number, line in enumerate(self.rows, 1):
             if row is not None and row != number:
                 continue
             found = line.find(text)
             while found >= 0:
-                nth -= 1
-                if nth == 0:
+                left -= 1
+                if left == 0:
                     return Place(number, found + 1, self.cells[number - 1][found : found + len(text)])
                 found = line.find(text, found + 1)
-        return Place(0, 0, ())
+        where = "on the screen" if row is None else f"in row {row}"
+        return Place(0, 0, (), f"{text!r} isn't {where}" + (f" {nth} times" if nth > 1 else ""))
 
     def stored(self, masks: Sequence[Mask] = ()) -> str:
         """Returns the text file of this screen: 24 lines, and beneath them the cursor, and attributes and modes if there are any."""
@@ -149,8 +169,7 @@ class Screen:
             raws[row - 1] = raw[: 12 * (col - 1)] + bytes(12 * length) + raw[12 * (col - 1 + length) :]
         lines += self._state()
         lines += [f"{row}: {runs}" for row, runs in enumerate(map(_runs, raws), 1) if runs]
-        if self.hidden:
-            lines.append("hidden: " + self.hidden.decode("latin-1").replace("\033", "\\e"))
+        lines += self.hidden
         return "\n".join(lines) + "\n"
 
     def _masked(self, masks: Sequence[Mask]) -> Iterator[Tuple[int, int, int]]:
@@ -191,13 +210,78 @@ def _runs(raw: bytes) -> str:
     return "; ".join(runs)
 
 
+def check_row(row: Optional[int]) -> None:
+    """Raises NoRow if a row is given that no screen has."""
+    if row is not None and not 1 <= row <= ROWS:
+        raise NoRow(f"{NoRow.words}, so there is no row {row}")
+
+
+def check_column(col: Optional[int]) -> None:
+    """Raises ValueError if a column is given that no screen has."""
+    if col is not None and not 1 <= col <= COLUMNS:
+        raise ValueError(f"columns count from 1 to {COLUMNS}, so there is no column {col}")
+
+
+class _Parts(NamedTuple):
+    """Holds the parts of a state that the rows, the cursor, the margins and the modes don't show."""
+
+    brush: Brush
+    sets: Sets
+    stops: List[int]
+    saved: Saved
+
+
+def _parts(terminal: Terminal) -> _Parts:
+    return _Parts(terminal.brush(), terminal.sets(), terminal.stops(), terminal.saved())
+
+
 @functools.lru_cache(maxsize=None)
-def _first(width: int) -> bytes:
-    """Returns the repaint of a terminal at power-up, of 80 or 132 columns."""
-    terminal = Terminal()
-    if width == 132:
-        terminal.feed(b"\033[?3h")
-    return terminal.repaint()
+def _at_first() -> _Parts:
+    """Returns the hidden parts at power-up."""
+    return _parts(Terminal())
+
+
+def _hidden(terminal: Terminal) -> Iterator[str]:
+    """Returns a line for each hidden part that isn't as at power-up. The lines of what DECRC restores begin with 'saved'."""
+    now, first = _parts(terminal), _at_first()
+    yield from _looks("", now.brush, now.sets, first.sets)
+    if now.sets.single_shift:
+        yield f"single shift: G{now.sets.single_shift}"
+    if now.stops != first.stops:
+        yield "tab stops: " + (" ".join(map(str, now.stops)) or "none")
+    saved, wrap, origin = now.saved, " wrap" if now.saved.wrap else "", " origin" if now.saved.origin else ""
+    if (saved.row, saved.col, wrap, origin) != (first.saved.row, first.saved.col, "", ""):
+        yield f"saved cursor: {saved.row} {saved.col}{wrap}{origin}"
+    yield from _looks("saved ", saved, saved, first.saved)
+
+
+def _looks(kind: str, brush: Union[Brush, Saved], sets: Union[Sets, Saved], first: Union[Sets, Saved]) -> Iterator[str]:
+    """Returns the lines for the attributes of the next character, and for graphic sets that aren't those of power-up."""
+    attributes = [name for name, field in zip(ATTRIBUTES, Brush._fields) if getattr(brush, field)]
+    if attributes:
+        yield f"{kind}brush: {' '.join(attributes)}"
+    for field in ("g0", "g1", "g2", "g3"):
+        if getattr(sets, field) != getattr(first, field):
+            yield f"{kind}{field.upper()}: {SETS[getattr(sets, field)]}"
+    for field in ("gl", "gr"):
+        if getattr(sets, field) != getattr(first, field):
+            yield f"{kind}{field.upper()}: G{getattr(sets, field)}"
+
+
+# Begins the line for the hidden parts in files of version 0.3 and before: a repaint, with \e for ESC.
+_OLD = "hidden: "
+
+
+def renewed(text: str) -> str:
+    """Returns the text of a stored screen with the hidden parts by their names, also if an older version has stored them as bytes."""
+    lines = text.split("\n")
+    for at, line in enumerate(lines):
+        if at >= ROWS and line.startswith(_OLD):
+            terminal = Terminal()
+            terminal.feed(line[len(_OLD) :].replace("\\e", "\033").encode("latin-1", "replace"))
+            lines[at : at + 1] = _hidden(terminal)
+            break
+    return "\n".join(lines)
 
 
 class Stored:

@@ -1,4 +1,4 @@
-//! The calls of libvt220 as vt220.h has them: that header says what each one does and asks for.
+//! The calls of libvt220 as vt220.h and vt220-keys.h have them: these headers say what each one does and asks for.
 #![allow(non_camel_case_types)]
 use std::os::raw::{c_char, c_void};
 use core::ptr;
@@ -13,6 +13,8 @@ pub const VT220_PARTIAL: u32 = 4;
 pub const VT220_ROOM: u32 = 5;
 pub const VT220_UNSUPPORTED: u32 = 6;
 pub const VT220_NO_ROW: u32 = 7;
+pub const VT220_NO_KEY: u32 = 8;
+pub const VT220_NO_CHARACTER: u32 = 9;
 
 pub const VT220_HELD_NOTHING: u32 = 0;
 pub const VT220_HELD_ESCAPE: u32 = 1;
@@ -28,6 +30,8 @@ pub const VT220_SHOW_LIMIT: usize = 51000;
 pub const VT220_PICTURE_LIMIT: usize = 659968;
 pub const VT220_PAINT_LIMIT: usize = 93512;
 pub const VT220_UPDATE_LIMIT: usize = 94152;
+pub const VT220_KEY_LIMIT: usize = 5;
+pub const VT220_TYPED_LIMIT: usize = 16;
 
 #[repr(C)]
 #[derive(Debug)]
@@ -206,6 +210,8 @@ extern "C" {
     pub fn vt220_is_between(t: *const vt220) -> bool;
     pub fn vt220_held_kind(t: *const vt220) -> u32;
     pub fn vt220_same_state(a: *const vt220, b: *const vt220) -> bool;
+    pub fn vt220_key(modes: *const vt220_mode_set, key: *const c_char, len: usize, out: *mut u8, size: usize, written: *mut usize) -> u32;
+    pub fn vt220_key_length(typed: *const c_char, len: usize) -> usize;
 }
 
 #[cfg(test)]

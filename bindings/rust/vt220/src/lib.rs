@@ -9,13 +9,14 @@
 //! ```
 use std::ffi::CStr;
 use std::fmt;
+use std::slice;
 use vt220_sys as sys;
 
 pub use vt220_sys::{
-    VT220_COLUMNS as COLUMNS, VT220_PAINT_LIMIT as PAINT_LIMIT, VT220_PICTURE_LIMIT as PICTURE_LIMIT,
+    VT220_COLUMNS as COLUMNS, VT220_KEY_LIMIT as KEY_LIMIT, VT220_PAINT_LIMIT as PAINT_LIMIT, VT220_PICTURE_LIMIT as PICTURE_LIMIT,
     VT220_REPORT_LIMIT as REPORT_LIMIT, VT220_ROWS as ROWS, VT220_ROW_TEXT_LIMIT as ROW_TEXT_LIMIT,
     VT220_SHOW_LIMIT as SHOW_LIMIT, VT220_TEXT_LIMIT as TEXT_LIMIT, VT220_UPDATE_LIMIT as UPDATE_LIMIT,
-    VT220_VERSION as VERSION,
+    VT220_TYPED_LIMIT as TYPED_LIMIT, VT220_VERSION as VERSION,
 };
 
 /// Holds the cursor, and whether the next character begins a new line.
@@ -49,6 +50,28 @@ pub struct Modes {
     pub dectcem: bool,
     pub keypad_application: bool,
     pub reports_8bit: bool,
+}
+
+impl Modes {
+    /// Returns the modes as the library takes them.
+    fn handed_over(&self) -> sys::vt220_mode_set {
+        sys::vt220_mode_set {
+            kam: self.kam,
+            irm: self.irm,
+            srm: self.srm,
+            lnm: self.lnm,
+            decckm: self.decckm,
+            decsclm: self.decsclm,
+            decscnm: self.decscnm,
+            decom: self.decom,
+            decawm: self.decawm,
+            decarm: self.decarm,
+            dectcem: self.dectcem,
+            keypad_application: self.keypad_application,
+            reports_8bit: self.reports_8bit,
+            reserved: [0; 19],
+        }
+    }
 }
 
 /// Holds the attributes with which a character is written.
@@ -110,6 +133,10 @@ pub enum Error {
     Unsupported,
     /// There is no such row.
     NoRow,
+    /// There is no such key.
+    NoKey,
+    /// No key sends this character.
+    NoCharacter,
 }
 
 impl Error {
@@ -119,6 +146,8 @@ impl Error {
             Error::Partial => sys::VT220_PARTIAL,
             Error::Unsupported => sys::VT220_UNSUPPORTED,
             Error::NoRow => sys::VT220_NO_ROW,
+            Error::NoKey => sys::VT220_NO_KEY,
+            Error::NoCharacter => sys::VT220_NO_CHARACTER,
         }
     }
 }
@@ -140,6 +169,8 @@ fn result(status: u32) -> Result<(), Error> {
         sys::VT220_PARTIAL => Err(Error::Partial),
         sys::VT220_UNSUPPORTED => Err(Error::Unsupported),
         sys::VT220_NO_ROW => Err(Error::NoRow),
+        sys::VT220_NO_KEY => Err(Error::NoKey),
+        sys::VT220_NO_CHARACTER => Err(Error::NoCharacter),
         other => unreachable!("status {other} of an open terminal with enough capacity"),
     }
 }
@@ -150,8 +181,39 @@ pub fn version() -> u32 {
     unsafe { sys::vt220_version() }
 }
 
+/// Returns what a key sends to the host under these modes, which `Terminal::modes` returns. The key is one character, a name such as
+/// `Up`, `Return` or `C-c`, or the sequence that a terminal sends for it, in UTF-8. vt220-keys.h lists the names.
+///
+/// ```
+/// let modes = vt220::Terminal::new().unwrap().modes();
+/// assert_eq!(vt220::key("Up", &modes).unwrap(), b"\x1b[A");
+/// assert_eq!(vt220::key("\u{153}", &modes).unwrap(), b"\xf7");
+/// ```
+///
+/// # Errors
+///
+/// `NoKey` if there is no such key; `NoCharacter` if it is a character that no key sends.
+pub fn key(key: impl AsRef<[u8]>, modes: &Modes) -> Result<Vec<u8>, Error> {
+    let (key, modes, mut out, mut written) = (key.as_ref(), modes.handed_over(), vec![0; KEY_LIMIT], 0);
+    let (at, size) = (out.as_mut_ptr(), out.len());
+    // SAFETY: each length is that of its slice.
+    result(unsafe { sys::vt220_key(&modes, key.as_ptr().cast(), key.len(), at, size, &mut written) })?;
+    out.truncate(written);
+    Ok(out)
+}
+
+/// Returns how many bytes the first key has of what was typed on a modern terminal, and 0 if its end is missing.
+pub fn key_length(typed: &[u8]) -> usize {
+    // SAFETY: the length is that of the slice.
+    unsafe { sys::vt220_key_length(typed.as_ptr().cast(), typed.len()) }
+}
+
 /// Owns a scratch buffer, in which the calls that write a whole screen work. One serves any number of terminals.
-pub struct Scratch(sys::vt220_scratch);
+pub struct Scratch {
+    handle: sys::vt220_scratch,
+    /// What the calls write to. A result is a copy of what was written, so it takes no more memory than it needs.
+    out: Vec<u8>,
+}
 
 // SAFETY: a handle owns its memory alone, and each call that writes takes it by `&mut`.
 unsafe impl Send for Scratch {}
@@ -163,17 +225,30 @@ impl Scratch {
     ///
     /// `Memory` if the allocation fails; `Unsupported` on an old processor.
     pub fn new() -> Result<Scratch, Error> {
-        let mut handle = sys::vt220_scratch::INIT;
+        let (mut handle, mut out) = (sys::vt220_scratch::INIT, Vec::new());
+        out.try_reserve_exact(PICTURE_LIMIT).map_err(|_| Error::Memory)?;
         // SAFETY: the handle is closed.
         result(unsafe { sys::vt220_scratch_open(&mut handle) })?;
-        Ok(Scratch(handle))
+        Ok(Scratch { handle, out })
+    }
+
+    /// Returns a copy of the bytes that a call writes. The call is given the handle, the buffer, and where it writes their number.
+    fn written(&mut self, call: impl FnOnce(*mut sys::vt220_scratch, *mut u8, *mut usize) -> u32) -> Result<Vec<u8>, Error> {
+        let mut written = 0;
+        result(call(&mut self.handle, self.out.as_mut_ptr(), &mut written))?;
+        // SAFETY: the call has written so many bytes, and has succeeded only if they fit.
+        Ok(unsafe { slice::from_raw_parts(self.out.as_ptr(), written) }.to_vec())
+    }
+
+    fn text(&mut self, call: impl FnOnce(*mut sys::vt220_scratch, *mut u8, *mut usize) -> u32) -> Result<String, Error> {
+        Ok(String::from_utf8(self.written(call)?).expect("a text is UTF-8"))
     }
 }
 
 impl Drop for Scratch {
     fn drop(&mut self) {
         // SAFETY: the handle is as the calls left it.
-        unsafe { sys::vt220_scratch_close(&mut self.0) }
+        unsafe { sys::vt220_scratch_close(&mut self.handle) }
     }
 }
 
@@ -185,8 +260,6 @@ unsafe impl Send for Terminal {}
 
 // SAFETY: the calls that take a `const vt220 *` don't write to the terminal.
 unsafe impl Sync for Terminal {}
-
-type Writer = unsafe extern "C" fn(*const sys::vt220, *mut sys::vt220_scratch, *mut u8, usize, *mut usize) -> u32;
 
 // SAFETY of all calls below: the handle is open from `new` on, and each length is that of its slice.
 impl Terminal {
@@ -245,18 +318,19 @@ impl Terminal {
     /// Processes all bytes of the host. Returns the replies to it, and the lines that scroll off the top of the screen, each as
     /// `row_text` returns it.
     pub fn feed_log(&mut self, bytes: &[u8], scratch: &mut Scratch) -> (Vec<u8>, String) {
-        let (mut buffer, mut room) = ([0; 5120], vec![0; 64 * ROW_TEXT_LIMIT]);
-        let (mut reports, mut lines, mut at) = (Vec::new(), Vec::new(), 0);
+        let (mut buffer, mut reports, mut lines, mut at) = ([0; 5120], Vec::new(), Vec::new(), 0);
         while at < bytes.len() {
-            let (rest, mut written, mut logged) = (&bytes[at..], 0, 0);
-            let (out, size, log, log_size) = (buffer.as_mut_ptr(), buffer.len(), room.as_mut_ptr(), room.len());
-            at += unsafe {
-                sys::vt220_feed_log(
-                    &mut self.0, &mut scratch.0, rest.as_ptr(), rest.len(), out, size, &mut written, log, log_size, &mut logged,
-                )
-            };
+            let (rest, mut written) = (&bytes[at..], 0);
+            let (out, size) = (buffer.as_mut_ptr(), buffer.len());
+            let logged = scratch.written(|s, log, logged| {
+                at += unsafe {
+                    let (from, len) = (rest.as_ptr(), rest.len());
+                    sys::vt220_feed_log(&mut self.0, s, from, len, out, size, &mut written, log, PICTURE_LIMIT, logged)
+                };
+                sys::VT220_OK
+            });
             reports.extend_from_slice(&buffer[..written]);
-            lines.extend_from_slice(&room[..logged]);
+            lines.extend(logged.expect("both are open"));
         }
         (reports, String::from_utf8(lines).expect("lines are UTF-8"))
     }
@@ -266,22 +340,9 @@ impl Terminal {
         unsafe { sys::vt220_bells(&self.0) }
     }
 
-    fn written(&self, call: Writer, scratch: &mut Scratch, limit: usize) -> Result<Vec<u8>, Error> {
-        let (mut out, mut written) = (Vec::with_capacity(limit), 0);
-        result(unsafe { call(&self.0, &mut scratch.0, out.as_mut_ptr(), limit, &mut written) })?;
-        // SAFETY: the call has written so many bytes, and has succeeded only if they fit.
-        unsafe { out.set_len(written) };
-        Ok(out)
-    }
-
-    fn text_by(&self, call: Writer, scratch: &mut Scratch, limit: usize) -> String {
-        let out = self.written(call, scratch, limit).expect("a text has no error");
-        String::from_utf8(out).expect("a text is UTF-8")
-    }
-
     /// Returns the screen as text: 24 lines, each without the spaces at its end, and with LF.
     pub fn text(&self, scratch: &mut Scratch) -> String {
-        self.text_by(sys::vt220_text, scratch, TEXT_LIMIT)
+        scratch.text(|s, out, written| unsafe { sys::vt220_text(&self.0, s, out, TEXT_LIMIT, written) }).expect("a text has no error")
     }
 
     /// Returns one line of the text, that of a row from 1 to 24.
@@ -290,21 +351,17 @@ impl Terminal {
     ///
     /// `NoRow` if there is no such row.
     pub fn row_text(&self, row: usize, scratch: &mut Scratch) -> Result<String, Error> {
-        let (mut out, mut written) = (vec![0; ROW_TEXT_LIMIT], 0);
-        let (at, size) = (out.as_mut_ptr(), out.len());
-        result(unsafe { sys::vt220_row_text(&self.0, &mut scratch.0, row, at, size, &mut written) })?;
-        out.truncate(written);
-        Ok(String::from_utf8(out).expect("a text is UTF-8"))
+        scratch.text(|s, out, written| unsafe { sys::vt220_row_text(&self.0, s, row, out, ROW_TEXT_LIMIT, written) })
     }
 
     /// Returns the screen as text with SGR sequences for the attributes.
     pub fn show(&self, scratch: &mut Scratch) -> String {
-        self.text_by(sys::vt220_show, scratch, SHOW_LIMIT)
+        scratch.text(|s, out, written| unsafe { sys::vt220_show(&self.0, s, out, SHOW_LIMIT, written) }).expect("a text has no error")
     }
 
     /// Returns the screen as a picture: an SVG document.
     pub fn picture(&self, scratch: &mut Scratch) -> String {
-        self.text_by(sys::vt220_picture, scratch, PICTURE_LIMIT)
+        scratch.text(|s, out, written| unsafe { sys::vt220_picture(&self.0, s, out, PICTURE_LIMIT, written) }).expect("a picture has no error")
     }
 
     /// Returns bytes that leave any terminal of this library in the state of this one.
@@ -313,7 +370,7 @@ impl Terminal {
     ///
     /// `Partial` inside a sequence.
     pub fn repaint(&self, scratch: &mut Scratch) -> Result<Vec<u8>, Error> {
-        self.written(sys::vt220_repaint, scratch, PAINT_LIMIT)
+        scratch.written(|s, out, written| unsafe { sys::vt220_repaint(&self.0, s, out, PAINT_LIMIT, written) })
     }
 
     /// Returns bytes that lead from the state of this terminal to that of another, and brings this one there.
@@ -322,15 +379,11 @@ impl Terminal {
     ///
     /// `Partial` if one of the two is inside a sequence.
     pub fn update(&mut self, to: &Terminal, scratch: &mut Scratch) -> Result<Vec<u8>, Error> {
-        let (mut out, mut written) = (Vec::with_capacity(UPDATE_LIMIT), 0);
-        let at = out.as_mut_ptr();
-        result(unsafe { sys::vt220_update(&mut self.0, &to.0, &mut scratch.0, at, UPDATE_LIMIT, &mut written) })?;
-        // SAFETY: the call has written so many bytes, and these fit.
-        unsafe { out.set_len(written) };
-        Ok(out)
+        scratch.written(|s, out, written| unsafe { sys::vt220_update(&mut self.0, &to.0, s, out, UPDATE_LIMIT, written) })
     }
 
-    /// Returns which cells of a row of `to` this terminal doesn't have: index c - 1 is for column c.
+    /// Returns which cells of a row of `to` this terminal doesn't have: index c - 1 is for column c. If the two differ in `width`,
+    /// redraw the whole screen instead: the cells of this terminal after the width of `to` aren't in the result.
     ///
     /// # Errors
     ///

@@ -109,6 +109,43 @@ fn copies_and_changes() {
     assert_eq!(Error::Partial.to_string(), "a terminal is inside a sequence");
 }
 
+// Draws the marked cells alone, or the whole screen after a change of the width: from 80 columns to 132 and back.
+#[test]
+fn a_screen_is_drawn_anew_after_a_change_of_the_width() {
+    let (mut shown, mut terminal, mut scratch) = (Terminal::new().unwrap(), Terminal::new().unwrap(), Scratch::new().unwrap());
+    let rows_of = |terminal: &Terminal| (1..=vt220::ROWS).map(|row| terminal.row(row).unwrap()).collect::<Vec<_>>();
+    let mut drawn = rows_of(&shown);
+    for step in ["abc", "\x1b[2;2Hx", "\x1b[?3h\x1b[1;130Hyz", "\x1b[5;100Hw", "\x1b[?3l", "d\x1b[1me"] {
+        terminal.feed(step.as_bytes());
+        let rows = rows_of(&terminal);
+        if shown.width() != terminal.width() {
+            drawn = rows.clone();
+        }
+        for row in 1..=vt220::ROWS {
+            for (at, changed) in shown.row_changes(&terminal, row).unwrap().into_iter().enumerate() {
+                if changed {
+                    drawn[row - 1][at] = rows[row - 1][at];
+                }
+            }
+        }
+        assert_eq!(drawn, rows, "{step:?}");
+        shown.update(&terminal, &mut scratch).unwrap();
+    }
+}
+
+// A server may queue thousands of results, so none keeps the capacity of the longest one.
+#[test]
+fn results_take_no_more_memory_than_they_need() {
+    let (mut shown, mut terminal, mut scratch) = (Terminal::new().unwrap(), Terminal::new().unwrap(), Scratch::new().unwrap());
+    terminal.feed(b"x");
+    let (update, repaint) = (shown.update(&terminal, &mut scratch).unwrap(), terminal.repaint(&mut scratch).unwrap());
+    let texts = [terminal.text(&mut scratch), terminal.row_text(1, &mut scratch).unwrap(), terminal.show(&mut scratch), terminal.picture(&mut scratch)];
+    let results = [update, repaint].into_iter().chain(texts.map(String::into_bytes));
+    for result in results {
+        assert!(!result.is_empty() && result.capacity() < result.len() + 32, "{} of {}", result.len(), result.capacity());
+    }
+}
+
 #[test]
 fn threads_read_at_once() {
     let mut terminal = Terminal::new().unwrap();

@@ -1,0 +1,301 @@
+/* The calls of vt220-keys.h. The table has the keys of EK-VT220-RM, chapter 3. */
+#include "vt220-keys.h"
+#include <string.h>
+
+enum { ESC = 0x1B, SS3 = 0x8F, CSI = 0x9B, LAST_ASCII = 0x7F };
+
+/* What a key sends. */
+enum form {
+    PLAIN,    /* its code */
+    RETURN,   /* CR, or CR LF if LNM is set */
+    FUNCTION, /* CSI and its code */
+    CURSOR,   /* CSI and its code, or SS3 and its code if DECCKM is set */
+    PF,       /* SS3 and its code */
+    KEYPAD,   /* its character, or SS3 and its code if DECKPAM is set */
+};
+
+typedef struct key_row {
+    const char *name, *other; /* `other` is null if the key has one name */
+    enum form form;
+    const char *code;
+    char character; /* what a key of the keypad sends in numeric mode: CR is sent as Return sends it; otherwise 0 */
+} key_row;
+
+static const key_row keys[] = {
+    /* The main keypad. */
+    {"Return", "Enter", RETURN, "", 0},
+    {"Delete", "Backspace", PLAIN, "\x7F", 0},
+    {"Tab", NULL, PLAIN, "\t", 0},
+    {"Space", NULL, PLAIN, " ", 0},
+    {"Escape", NULL, PLAIN, "\x1B", 0},
+    /* The editing keypad. */
+    {"Find", "Home", FUNCTION, "1~", 0},
+    {"InsertHere", "Insert", FUNCTION, "2~", 0},
+    {"Remove", NULL, FUNCTION, "3~", 0},
+    {"Select", "End", FUNCTION, "4~", 0},
+    {"PrevScreen", "PageUp", FUNCTION, "5~", 0},
+    {"NextScreen", "PageDown", FUNCTION, "6~", 0},
+    /* The cursor keys. */
+    {"Up", NULL, CURSOR, "A", 0},
+    {"Down", NULL, CURSOR, "B", 0},
+    {"Right", NULL, CURSOR, "C", 0},
+    {"Left", NULL, CURSOR, "D", 0},
+    /* The numeric keypad. */
+    {"PF1", "F1", PF, "P", 0},
+    {"PF2", "F2", PF, "Q", 0},
+    {"PF3", "F3", PF, "R", 0},
+    {"PF4", "F4", PF, "S", 0},
+    {"KP0", NULL, KEYPAD, "p", '0'},
+    {"KP1", NULL, KEYPAD, "q", '1'},
+    {"KP2", NULL, KEYPAD, "r", '2'},
+    {"KP3", NULL, KEYPAD, "s", '3'},
+    {"KP4", NULL, KEYPAD, "t", '4'},
+    {"KP5", NULL, KEYPAD, "u", '5'},
+    {"KP6", NULL, KEYPAD, "v", '6'},
+    {"KP7", NULL, KEYPAD, "w", '7'},
+    {"KP8", NULL, KEYPAD, "x", '8'},
+    {"KP9", NULL, KEYPAD, "y", '9'},
+    {"KPMinus", NULL, KEYPAD, "m", '-'},
+    {"KPComma", NULL, KEYPAD, "l", ','},
+    {"KPPeriod", NULL, KEYPAD, "n", '.'},
+    {"KPEnter", NULL, KEYPAD, "M", '\r'},
+    /* The function keys of the top row. */
+    {"F6", NULL, FUNCTION, "17~", 0},
+    {"F7", NULL, FUNCTION, "18~", 0},
+    {"F8", NULL, FUNCTION, "19~", 0},
+    {"F9", NULL, FUNCTION, "20~", 0},
+    {"F10", NULL, FUNCTION, "21~", 0},
+    {"F11", NULL, FUNCTION, "23~", 0},
+    {"F12", NULL, FUNCTION, "24~", 0},
+    {"F13", NULL, FUNCTION, "25~", 0},
+    {"F14", NULL, FUNCTION, "26~", 0},
+    {"Help", "F15", FUNCTION, "28~", 0},
+    {"Do", "F16", FUNCTION, "29~", 0},
+    {"F17", NULL, FUNCTION, "31~", 0},
+    {"F18", NULL, FUNCTION, "32~", 0},
+    {"F19", NULL, FUNCTION, "33~", 0},
+    {"F20", NULL, FUNCTION, "34~", 0},
+};
+
+enum { KEYS = sizeof keys / sizeof keys[0] };
+
+/* --- what a key sends --- */
+
+typedef struct sent_bytes {
+    uint8_t at[VT220_KEY_LIMIT];
+    size_t len;
+} sent_bytes;
+
+static void add_byte(sent_bytes *sent, uint8_t byte) { sent->at[sent->len++] = byte; }
+
+/* Adds a C1 control, in 8-bit form or as ESC and a letter, and the code after it. */
+static void add_sequence(sent_bytes *sent, uint8_t control, const char *code, const vt220_mode_set *modes) {
+    if (modes->reports_8bit) {
+        add_byte(sent, control);
+    } else {
+        add_byte(sent, ESC);
+        add_byte(sent, (uint8_t)(control - 0x40));
+    }
+    for (; *code != 0; code++) add_byte(sent, (uint8_t)*code);
+}
+
+static void add_return(sent_bytes *sent, const vt220_mode_set *modes) {
+    add_byte(sent, '\r');
+    if (modes->lnm) add_byte(sent, '\n');
+}
+
+static void add_keypad_key(sent_bytes *sent, const key_row *key, const vt220_mode_set *modes) {
+    if (modes->keypad_application) add_sequence(sent, SS3, key->code, modes);
+    else if (key->character == '\r') add_return(sent, modes);
+    else add_byte(sent, (uint8_t)key->character);
+}
+
+static void add_key(sent_bytes *sent, const key_row *key, const vt220_mode_set *modes) {
+    switch (key->form) {
+    case PLAIN: add_byte(sent, (uint8_t)*key->code); break;
+    case RETURN: add_return(sent, modes); break;
+    case FUNCTION: add_sequence(sent, CSI, key->code, modes); break;
+    case CURSOR: add_sequence(sent, modes->decckm ? SS3 : CSI, key->code, modes); break;
+    case PF: add_sequence(sent, SS3, key->code, modes); break;
+    case KEYPAD: add_keypad_key(sent, key, modes); break;
+    }
+}
+
+/* --- names and sequences --- */
+
+static char upper(char c) { return c >= 'a' && c <= 'z' ? (char)(c - 'a' + 'A') : c; }
+
+static bool is_name(const char *name, const char *text, size_t len) {
+    if (name == NULL) return false;
+    for (size_t at = 0; at < len; at++) {
+        if (text[at] == '_') continue;
+        if (*name == 0 || upper(*name) != upper(text[at])) return false;
+        name++;
+    }
+    return *name == 0;
+}
+
+static const key_row *key_named(const char *text, size_t len) {
+    for (size_t i = 0; i < KEYS; i++) {
+        if (is_name(keys[i].name, text, len) || is_name(keys[i].other, text, len)) return &keys[i];
+    }
+    return NULL;
+}
+
+/* Returns whether a key of this form sends sequences that begin with ESC and this byte. */
+static bool has_introducer(enum form form, char introducer) {
+    switch (form) {
+    case FUNCTION: return introducer == '[';
+    case PF:
+    case KEYPAD: return introducer == 'O';
+    case CURSOR: return true;
+    default: return false;
+    }
+}
+
+/* Returns the key that sends a sequence, or null. */
+static const key_row *key_sending(const char *text, size_t len) {
+    if (len < 3 || text[0] != ESC || (text[1] != '[' && text[1] != 'O')) return NULL;
+    if (len == 3 && text[2] == 'H') return key_named("Home", 4);
+    if (len == 3 && text[2] == 'F') return key_named("End", 3);
+    for (size_t i = 0; i < KEYS; i++) {
+        bool is_code = strlen(keys[i].code) == len - 2 && memcmp(keys[i].code, text + 2, len - 2) == 0;
+        if (is_code && has_introducer(keys[i].form, text[1])) return &keys[i];
+    }
+    return NULL;
+}
+
+/* Returns what Ctrl and a key send, or -1 if that is nothing. */
+static int control_of(char key) {
+    char c = upper(key);
+    if (c >= '@' && c <= '_') return c - '@';
+    switch (c) {
+    case ' ':
+    case '2': return 0x00;
+    case '3': return 0x1B;
+    case '4': return 0x1C;
+    case '5': return 0x1D;
+    case '6':
+    case '~': return 0x1E;
+    case '7': return 0x1F;
+    case '8':
+    case '?': return 0x7F;
+    default: return -1;
+    }
+}
+
+/* Returns what C-X or ^X sends, or -1 if the text is neither. */
+static int control_named(const char *text, size_t len) {
+    if (len == 2 && text[0] == '^') return control_of(text[1]);
+    if (len == 3 && upper(text[0]) == 'C' && text[1] == '-') return control_of(text[2]);
+    return -1;
+}
+
+/* --- characters --- */
+
+/* Returns how many bytes of UTF-8 a first byte begins. It is 1 for a byte that begins none. */
+static size_t utf8_length(uint8_t first) {
+    if (first >= 0xC2 && first <= 0xDF) return 2;
+    if (first >= 0xE0 && first <= 0xEF) return 3;
+    if (first >= 0xF0 && first <= 0xF4) return 4;
+    return 1;
+}
+
+/* Reads the text as one character. Returns false if it isn't one. */
+static bool is_character(const char *text, size_t len, uint32_t *character) {
+    static const uint32_t least[] = {0, 0, 0x80, 0x800, 0x10000};
+    if (len == 0 || utf8_length((uint8_t)text[0]) != len) return false;
+    uint32_t code = (uint8_t)text[0];
+    if (len == 1) {
+        *character = code;
+        return code <= LAST_ASCII;
+    }
+    code &= 0xFFu >> (len + 1);
+    for (size_t at = 1; at < len; at++) {
+        if (((uint8_t)text[at] & 0xC0) != 0x80) return false;
+        code = code << 6 | ((uint8_t)text[at] & 0x3F);
+    }
+    *character = code;
+    return code >= least[len] && code <= 0x10FFFF && (code < 0xD800 || code > 0xDFFF);
+}
+
+/* Returns the byte that shows a character in the DEC Supplemental set, or 0 if none does. */
+static uint8_t supplemental_byte(uint32_t character) {
+    switch (character) {
+    /* Five characters have another place than their number in Unicode. */
+    case 0x00A4: return 0xA8;
+    case 0x0152: return 0xD7;
+    case 0x0178: return 0xDD;
+    case 0x0153: return 0xF7;
+    case 0x00FF: return 0xFD;
+    /* Four of these places are taken by them. */
+    case 0xA8: case 0xD7: case 0xDD: case 0xF7: case 0xFD: return 0;
+    /* These places are undefined. */
+    case 0xA6: case 0xAC: case 0xAD: case 0xAE: case 0xAF: case 0xB4: case 0xB8: case 0xBE: case 0xD0: case 0xDE: case 0xF0: case 0xFE: return 0;
+    default: return character >= 0xA1 && character <= 0xFE ? (uint8_t)character : 0;
+    }
+}
+
+/* --- the calls --- */
+
+static uint32_t add_character(sent_bytes *sent, const vt220_mode_set *modes, uint32_t character) {
+    uint8_t byte = character <= LAST_ASCII ? (uint8_t)character : supplemental_byte(character);
+    if (character > LAST_ASCII && byte == 0) return VT220_NO_CHARACTER;
+    if (character == '\r') add_return(sent, modes);
+    else add_byte(sent, byte);
+    return VT220_OK;
+}
+
+/* Adds what a key sends. Returns VT220_OK, VT220_NO_KEY or VT220_NO_CHARACTER. */
+static uint32_t add_sent(sent_bytes *sent, const vt220_mode_set *modes, const char *text, size_t len) {
+    uint32_t character;
+    if (is_character(text, len, &character)) return add_character(sent, modes, character);
+    int control = control_named(text, len);
+    if (control >= 0) {
+        add_byte(sent, (uint8_t)control);
+        return VT220_OK;
+    }
+    const key_row *key = key_named(text, len);
+    if (key == NULL) key = key_sending(text, len);
+    if (key == NULL) return VT220_NO_KEY;
+    add_key(sent, key, modes);
+    return VT220_OK;
+}
+
+uint32_t vt220_key(const vt220_mode_set *modes, const char *key, size_t len, uint8_t *out, size_t size, size_t *written) {
+    sent_bytes sent = {{0}, 0};
+    uint32_t status = add_sent(&sent, modes, key, len);
+    *written = sent.len;
+    if (status != VT220_OK) return status;
+    if (size < sent.len) return VT220_ROOM;
+    memcpy(out, sent.at, sent.len);
+    return VT220_OK;
+}
+
+/* Returns the length of the sequence that ESC begins, 0 if its end is missing, and 1 if ESC is a key by itself. */
+static size_t sequence_length(const char *typed, size_t len) {
+    if (len < 2) return 1;
+    if (typed[1] == 'O') return len < 3 ? 0 : typed[2] >= 0x40 && typed[2] <= 0x7E ? 3 : 1;
+    if (typed[1] != '[') return 1;
+    for (size_t at = 2; at < VT220_TYPED_LIMIT; at++) {
+        if (at == len) return 0;
+        if (typed[at] >= 0x40 && typed[at] <= 0x7E) return at + 1;
+        if (typed[at] < 0x20 || typed[at] > 0x3F) return 1;
+    }
+    return 1;
+}
+
+/* Returns the length of the character at the front, 0 if its end is missing, and 1 for another byte. */
+static size_t character_length(const char *typed, size_t len) {
+    size_t wanted = utf8_length((uint8_t)typed[0]);
+    for (size_t at = 1; at < wanted; at++) {
+        if (at == len) return 0;
+        if (((uint8_t)typed[at] & 0xC0) != 0x80) return 1;
+    }
+    return wanted;
+}
+
+size_t vt220_key_length(const char *typed, size_t len) {
+    if (len == 0) return 0;
+    return typed[0] == ESC ? sequence_length(typed, len) : character_length(typed, len);
+}

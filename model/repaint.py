@@ -1,0 +1,94 @@
+"""The repaint of the model's state, by docs/SPECIFICATION.md, 'Repaint'."""
+from terminal import ANSI_MODES, ATTRIBUTES, BLANK, PRIVATE_MODES, ROWS, SETS, SET_AT_POWER_UP, SPECIAL, WIDE, Brush, Saved, Sets
+
+SPELLING_SETS = b"\033(B\033*<\033+0\017"
+SUPPLEMENTAL_CODES = {glyph: code for code, glyph in reversed(SETS["<"].items())}
+SPECIAL_CODES = {glyph: code for code, glyph in SPECIAL.items()}
+
+
+def csi(*values, final):
+    return b"\033[" + ";".join(map(str, values)).encode() + final.encode()
+
+
+def spelling(glyph):
+    if glyph.isascii():
+        return glyph.encode()
+    if glyph in SUPPLEMENTAL_CODES:
+        return b"\033N" + bytes([SUPPLEMENTAL_CODES[glyph]])
+    return b"\033O" + bytes([SPECIAL_CODES[glyph]])
+
+
+def brush_bytes(brush: Brush):
+    numbers = [number for number, name in ATTRIBUTES.items() if getattr(brush, name)]
+    return csi(0, *numbers, final="m") + csi(int(brush.protected), final='"q')
+
+
+def sets_bytes(sets: Sets):
+    designations = b"".join(b"\033" + b"()*+"[slot:slot + 1] + final.encode() for slot, final in enumerate(sets.designated))
+    return designations + (b"\017", b"\016", b"\033n", b"\033o")[sets.left] + (b"", b"\033~", b"\033}", b"\033|")[sets.right]
+
+
+def stops_bytes(terminal):
+    if terminal.stops == set(range(9, WIDE, 8)):
+        return b"\033[?3h" if terminal.width == WIDE else b""
+    made = b"\033[?3h\033[3g" + b"".join(csi(1, stop, final="H") + b"\033H" for stop in sorted(terminal.stops))
+    return made + (b"" if terminal.width == WIDE else b"\033[?3l")
+
+
+def saved_bytes(saved: Saved):
+    if saved == Saved():
+        return b""
+    made = b"\033[?6h" if saved.origin else b""
+    made += csi(saved.row, saved.column, final="H") + (b" " if saved.wrap else b"")
+    made += brush_bytes(saved.brush) + sets_bytes(saved.sets) + b"\0337"
+    return made + (b"\033[?6l" if saved.origin else b"")
+
+
+def cells_bytes(terminal):
+    if not terminal.wrap and all(cell == BLANK for line in terminal.cells for cell in line):
+        return b""
+    pieces = [SPELLING_SETS]
+    for row in range(1, ROWS + 1):
+        left = BLANK
+        for column, cell in enumerate(terminal.cells[row - 1], 1):
+            if cell != BLANK:
+                if column == 1 or left == BLANK or left[1] != cell[1]:
+                    pieces.append(csi(row, column, final="H") + brush_bytes(cell[1]))
+                pieces.append(spelling(cell[0]))
+            left = cell
+    return b"".join(pieces)
+
+
+def cursor_bytes(terminal):
+    made = csi(terminal.row - terminal.origin() + 1, terminal.column, final="H")
+    if terminal.wrap:
+        glyph, brush = terminal.cells[terminal.row - 1][terminal.column - 1]
+        made += brush_bytes(brush) + spelling(glyph)
+    return made
+
+
+def modes_bytes(terminal):
+    made = b""
+    for names, marker in ((ANSI_MODES, ""), (PRIVATE_MODES, "?")):
+        for number, name in sorted(names.items()):
+            is_set = name in terminal.modes
+            if name != "DECOM" and is_set != (name in SET_AT_POWER_UP):
+                made += f"\033[{marker}{number}{'h' if is_set else 'l'}".encode()
+    return made + (b"\033=" if terminal.keypad else b"") + (b"\033 G" if terminal.eight_bit else b"")
+
+
+def repaint(terminal):
+    """Returns the repaint of a terminal that is between sequences."""
+    return b"".join([
+        b"\033c",
+        stops_bytes(terminal),
+        saved_bytes(terminal.saved),
+        cells_bytes(terminal),
+        b"" if (terminal.top, terminal.bottom) == (1, ROWS) else csi(terminal.top, terminal.bottom, final="r"),
+        b"\033[?6h" if "DECOM" in terminal.modes else b"",
+        cursor_bytes(terminal),
+        brush_bytes(terminal.brush),
+        sets_bytes(terminal.sets),
+        modes_bytes(terminal),
+        {None: b"", 2: b"\033N", 3: b"\033O"}[terminal.single_shift],
+    ])

@@ -1,0 +1,77 @@
+/* stays: a proved call puts back the block that it took. c/vt220.c relies on this for handles that are `const`, and no clause states it.
+ * Linked with the core alone, whose calls are global then. */
+#include "check.h"
+#include "../c/vt220.c"
+
+static handle t, u, s;
+static uint8_t out[VT220_PICTURE_LIMIT], lines[VT220_ROW_TEXT_LIMIT];
+static size_t written, logged, rung;
+
+#define STAYS(call)                                                       \
+    do {                                                                  \
+        void *blocks[] = {t.at, u.at, s.at};                              \
+        (void)(call);                                                     \
+        check(t.at == blocks[0] && t.is_open, #call, "stays");            \
+        check(u.at == blocks[1] && u.is_open, #call, "stays");            \
+        check(s.at == blocks[2] && s.is_open, #call, "stays");            \
+    } while (0)
+
+/* The calls that write bytes, with a buffer of this size. */
+static void writing(size_t size) {
+    STAYS(core_text(&t, &s, out, size, &written));
+    STAYS(core_row_text(&t, &s, 1, out, size, &written));
+    STAYS(core_row_text(&t, &s, 25, out, size, &written));
+    STAYS(core_show(&t, &s, out, size, &written));
+    STAYS(core_picture(&t, &s, out, size, &written));
+    STAYS(core_repaint(&t, &s, out, size, &written));
+    STAYS(core_update(&u, &t, &s, out, size, &written));
+}
+
+static void reading(void) {
+    vt220_cell cells[VT220_COLUMNS];
+    vt220_cursor_place cursor;
+    vt220_margin_rows margins;
+    vt220_mode_set modes;
+    vt220_brush_look brush;
+    vt220_graphic_sets sets;
+    vt220_tab_stops stops;
+    vt220_saved_record saved;
+    vt220_row_marks marks;
+    for (size_t row = 0; row <= VT220_ROWS + 1; row++) {
+        STAYS(core_row(&t, row, cells, VT220_COLUMNS));
+        STAYS(core_row(&t, row, cells, 1));
+        STAYS(core_row_changes(&t, &u, row, &marks));
+    }
+    STAYS(core_cursor(&t, &cursor));
+    STAYS(core_margins(&t, &margins));
+    STAYS(core_modes(&t, &modes));
+    STAYS(core_brush(&t, &brush));
+    STAYS(core_sets(&t, &sets));
+    STAYS(core_stops(&t, &stops));
+    STAYS(core_saved(&t, &saved));
+    STAYS(core_width(&t));
+    STAYS(core_is_between(&t));
+    STAYS(core_held_kind(&t));
+    STAYS(core_same_state(&t, &u));
+}
+
+int main(void) {
+    /* Blank, with text, with columns that the other terminal lacks, and inside a sequence. */
+    static const char *const states[] = {"\030", "abc\033[5;10H\033[1mx\a", "\033[?3hwide", "\033[1"};
+    CHECK(core_open(&t) == VT220_OK && core_open(&u) == VT220_OK && core_scratch_open(&s) == VT220_OK);
+    for (size_t i = 0; i < sizeof states / sizeof states[0]; i++) {
+        const uint8_t *bytes = (const uint8_t *)states[i];
+        size_t len = strlen(states[i]);
+        STAYS(core_feed(&t, bytes, len, true, out, sizeof out, &written, &rung));
+        writing(0);
+        reading();
+        writing(sizeof out);
+        STAYS(core_feed_log(&u, &s, bytes, len, true, out, sizeof out, &written, lines, sizeof lines, &logged, &rung));
+        STAYS(core_copy(&u, &t));
+        STAYS(core_reset(&u));
+    }
+    core_close(&t);
+    core_close(&u);
+    core_scratch_close(&s);
+    return finish("stays");
+}

@@ -89,11 +89,13 @@ static void scroll(void) {
 }
 
 static void type(const uint8_t *bytes, size_t len) {
-    if (len == 0) return;
-    if (scroll_is_on()) {
-        it.is_behind |= scroll_type(bytes, len);
-        return;
+    if (scroll_is_on() && len > 0) {
+        size_t taken = scroll_type(bytes, len);
+        it.is_behind = true;
+        bytes += taken;
+        len -= taken;
     }
+    if (len == 0) return;
     size_t put = keys_translate(&it.keys, &it.terminal, bytes, len, it.typed + it.typed_len);
     it.held = it.keys.held_len > 0 ? now() : 0;
     if (it.keys.scrolls) scroll();
@@ -304,7 +306,7 @@ int shell_status(int ending) {
 /* Confirms the end to the keeper, and waits until the keeper has released the name. Then a new session can use it. */
 static void confirm_end(void) {
     uint8_t rest[256];
-    wire_patience(it.socket, 1);
+    wire_patience(it.socket, patience);
     if (!wire_send(it.socket, FRAME_SEEN, "", 0)) return;
     while (recv(it.socket, rest, sizeof rest, 0) > 0) {}
 }
@@ -328,19 +330,25 @@ static int say(const char *name) {
     }
 }
 
-/* Shows the last screen of a command that has ended as text, and how and when it ended. */
-static int show_last(const char *name) {
+/* Prints the screen as text, without the empty lines at its end. */
+static void print_screen(void) {
     static uint8_t text[VT220_TEXT_LIMIT];
     vt220_scratch scratch = VT220_INIT;
     size_t len = 0;
+    if (vt220_scratch_open(&scratch) != VT220_OK) return;
+    vt220_text(&it.terminal, &scratch, text, sizeof text, &len);
+    vt220_scratch_close(&scratch);
+    while (len > 1 && text[len - 1] == '\n' && text[len - 2] == '\n') len--;
+    if (len > 1) fwrite(text, 1, len, stdout);
+}
+
+/* Shows the last screen of a command that has ended as text, and how and when it ended. */
+static int show_last(const char *name) {
     char day[32] = "";
-    wire_patience(it.socket, 2);
+    wire_patience(it.socket, patience);
     while (it.why == 0) read_frames(0);
-    if (it.why == FRAME_ENDED && vt220_scratch_open(&scratch) == VT220_OK) {
-        vt220_text(&it.terminal, &scratch, text, sizeof text, &len);
-        vt220_scratch_close(&scratch);
-        while (len > 1 && text[len - 1] == '\n' && text[len - 2] == '\n') len--;
-        if (len > 1) fwrite(text, 1, len, stdout);
+    if (it.why == FRAME_ENDED) {
+        print_screen();
         time_t when = (time_t)it.ending.time;
         struct tm parts;
         bool has_day = localtime_r(&when, &parts) != NULL && strftime(day, sizeof day, "%Y-%m-%d %H:%M:%S", &parts) > 0;
@@ -359,8 +367,11 @@ static int follow(const char *name) {
     while (it.why == 0) turn(&open_mask);
     draw_leave();
     tcsetattr(STDIN_FILENO, TCSADRAIN, &it.before);
-    if (it.why == FRAME_ENDED) confirm_end();
-    return say(name);
+    /* The outer terminal shows what was there before, so what the command said last is printed there. */
+    if (it.why == FRAME_ENDED) print_screen();
+    int status = say(name);
+    if (fflush(stdout) == 0 && it.why == FRAME_ENDED) confirm_end();
+    return status;
 }
 
 int attach(int socket, const char *name, bool is_read_only) {

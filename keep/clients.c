@@ -42,7 +42,7 @@ static void put(struct client *c, char letter, const void *bytes, size_t len) {
 /* Adds nothing more for a client, and drops it when everything was sent. */
 static void leave(struct client *c) {
     c->state = LEAVING;
-    c->deadline = now() + PATIENCE;
+    c->deadline = now() + patience;
 }
 
 static void refuse(struct client *c, const char *why) {
@@ -112,7 +112,7 @@ static void send_log(struct client *c, long long time) {
     while ((c->wants_log || c->is_reading) && is_sent(c) && c->deadline > 0) {
         if (c->is_reading) put_lines(c);
         else put_screen(c);
-        if (c->state == READING) c->deadline = time + PATIENCE;
+        if (c->state == READING) c->deadline = time + patience;
         send_on(c);
     }
 }
@@ -143,7 +143,7 @@ void ring_clients(void) {
 /* Gives each client some time for the last frames, since the command has ended. */
 void tell_end(void) {
     for (size_t i = 0; i < CLIENT_LIMIT; i++) {
-        if (the.clients[i] != NULL) the.clients[i]->deadline = now() + PATIENCE;
+        if (the.clients[i] != NULL) the.clients[i]->deadline = now() + patience;
     }
 }
 
@@ -172,7 +172,7 @@ static void admit(struct client *c) {
         return;
     }
     c->state = ATTACHED;
-    c->deadline = the.is_over ? now() + PATIENCE : LLONG_MAX;
+    c->deadline = the.is_over ? now() + patience : LLONG_MAX;
     put_repaint(c);
 }
 
@@ -354,7 +354,7 @@ void let_in(long long time) {
     }
     c->socket = socket;
     c->came = time;
-    c->deadline = time + PATIENCE;
+    c->deadline = time + patience;
     the.clients[i] = c;
 }
 

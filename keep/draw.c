@@ -13,7 +13,7 @@
 #include <unistd.h>
 
 enum { BOLD = 1, UNDERLINE = 2, BLINK = 4, REVERSE = 8 };
-enum { PIECE = 64, PLACE_LIMIT = 48 /* the most bytes that a place takes, with its CUP and SGR */, PATIENCE = 1000 };
+enum { PIECE = 64, PLACE_LIMIT = 48 /* the most bytes that a place takes, with its CUP and SGR */ };
 
 struct place {
     uint32_t glyph; /* its Unicode number; 0 if it isn't known what is there */
@@ -240,12 +240,13 @@ bool draw_enter(void) {
     return true;
 }
 
-/* Restores the outer terminal's screen, cursor and keypad. A drawing that has begun is completed if that takes at most a second. */
+/* Restores the outer terminal's screen, cursor and keypad. A drawing that has begun is completed, unless the outer
+ * terminal takes nothing for longer than `patience`. */
 void draw_leave(void) {
     struct pollfd line = {outer.line, POLLOUT, 0};
     if (out == NULL) return;
     put(outer.has_keypad ? "\033>\033[0m\033[?25h\033[?1049l" : "\033[0m\033[?25h\033[?1049l");
     outer.has_keypad = false;
     do draw_on();
-    while (!draw_is_done() && poll(&line, 1, PATIENCE) > 0);
+    while (!draw_is_done() && poll(&line, 1, patience) > 0);
 }

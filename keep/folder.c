@@ -20,7 +20,7 @@
 #include <time.h>
 #include <unistd.h>
 
-enum { PATIENCE = 2000, QUEUE = 128, BOOT_LIMIT = 64 };
+enum { QUEUE = 128, BOOT_LIMIT = 64 };
 
 static bool refuse(char *why, const char *words, ...) {
     va_list list;
@@ -96,7 +96,7 @@ struct folder open_folder(void) {
 
 bool lock_folder(int folder) {
     struct timespec pause = {0, 10000000};
-    for (long long end = now() + PATIENCE; flock(folder, LOCK_EX | LOCK_NB) != 0;) {
+    for (long long end = now() + patience; flock(folder, LOCK_EX | LOCK_NB) != 0;) {
         if (now() > end) return false;
         nanosleep(&pause, NULL);
     }
@@ -122,11 +122,11 @@ static struct sockaddr_un address_of(int folder, const char *name) {
     return address;
 }
 
-/* Returns a socket that waits at most two seconds for a keeper, which may be stopped. */
+/* Returns a socket that waits for a keeper for a limited time, since the keeper may be stopped. */
 static int new_socket(void) {
-    struct timeval patience = {PATIENCE / 1000, 0};
+    struct timeval limit = {patience / 1000, 0};
     int made = socket(AF_UNIX, SOCK_STREAM | SOCK_CLOEXEC, 0);
-    if (made >= 0) setsockopt(made, SOL_SOCKET, SO_SNDTIMEO, &patience, sizeof patience);
+    if (made >= 0) setsockopt(made, SOL_SOCKET, SO_SNDTIMEO, &limit, sizeof limit);
     return made;
 }
 

@@ -49,6 +49,21 @@ long long now(void) {
     return time.tv_sec * 1000LL + time.tv_nsec / 1000000;
 }
 
+enum { PATIENCE_LIMIT = 3600 };
+
+int patience = 2000;
+
+static void set_patience(void) {
+    const char *named = getenv("KEEP_PATIENCE");
+    char *end;
+    if (named == NULL || *named == 0) return;
+    long seconds = strtol(named, &end, 10);
+    if (*end != 0 || seconds < 1 || seconds > PATIENCE_LIMIT) {
+        fail(2, "KEEP_PATIENCE='%.100s': give a number of seconds from 1 to %d", named, PATIENCE_LIMIT);
+    }
+    patience = (int)seconds * 1000;
+}
+
 /* --- the commands; each gets the arguments after its options, and returns the exit status --- */
 
 struct options {
@@ -127,14 +142,13 @@ static int do_text(char **words, const struct options *options) {
     return ask(words[0], ASK_TEXT, NULL);
 }
 
-static void print(const uint8_t *bytes, size_t len) {
-    fwrite(bytes, 1, len, stdout);
-}
-
 static int do_log(char **words, const struct options *options) {
     (void)options;
     struct folder folder = open_folder();
-    wire_ask_log(existing(&folder, words[0]), words[0], print);
+    size_t len;
+    uint8_t *log = wire_ask_log(existing(&folder, words[0]), words[0], &len);
+    fwrite(log, 1, len, stdout);
+    free(log);
     return 0;
 }
 
@@ -224,6 +238,7 @@ int main(int argc, char **argv) {
     int at = read_options(command, argc, argv, &options);
     if (argc - at < command->least) fail(2, "%s: an argument is missing; vt220-keep --help shows which", command->word);
     if (argc - at > command->most) fail(2, "%s: unexpected argument '%s'", command->word, argv[at + command->most]);
+    set_patience();
     int status = command->run(argv + at, &options);
     if (fflush(stdout) != 0) fail(1, "standard output: %s", strerror(errno));
     return status;

@@ -7,7 +7,7 @@
 #endif
 
 #include "protocol.h"
-#include "vt220.h"
+#include "vt220-keys.h"
 #include <limits.h>
 #include <stdnoreturn.h>
 #include <sys/types.h>
@@ -19,6 +19,7 @@ enum { NAME_LIMIT = 64, WHY_LIMIT = 512 };
 /* Prints the reason on standard error, and ends with this status. */
 noreturn void fail(int status, const char *why, ...) __attribute__((format(printf, 2, 3)));
 long long now(void); /* milliseconds of a clock that never jumps */
+extern int patience; /* milliseconds for which a keeper and a client wait for each other, as KEEP_PATIENCE says */
 
 /* --- folder.c: the directory of the sockets, and the sockets in it --- */
 
@@ -36,7 +37,7 @@ struct identity {
 bool is_name(const char *name);
 struct folder open_folder(void); /* ends the program if it can't be opened */
 bool try_folder(const char *path, struct folder *folder, char *why);
-bool lock_folder(int folder); /* false if somebody else holds it for two seconds */
+bool lock_folder(int folder); /* false if somebody else holds it for longer than `patience` */
 void unlock_folder(int folder);
 int open_listener(int folder, const char *name, struct identity *made, char *why); /* -1, and why */
 int connect_to(int folder, const char *name);                                       /* -1, and errno */
@@ -59,11 +60,11 @@ enum { WIRE_OK, WIRE_SILENT, WIRE_FULL, WIRE_OTHER_VERSION };
 int wire_begin(int socket, char ask, uint8_t flags, struct hello *hello, char *why);
 bool wire_send(int socket, char letter, const void *bytes, size_t len);
 bool wire_receive(int socket, char *letter, uint8_t *bytes, size_t room, size_t *len);
-void wire_patience(int socket, int seconds);
+void wire_patience(int socket, int milliseconds);
 /* Sends a request and reads the reply. Ends the program if there is none. `bytes` has FRAME_LIMIT bytes. */
 size_t wire_ask(int socket, const char *name, char ask, const char *argument, uint8_t *bytes);
-/* Asks for the log, and passes it to `take`: the lines, and then the screen. Ends the program if there is none. */
-void wire_ask_log(int socket, const char *name, void (*take)(const uint8_t *bytes, size_t len));
+/* Asks for the log, and returns it whole: the lines, and then the screen. The caller frees it. Ends the program if there is none. */
+uint8_t *wire_ask_log(int socket, const char *name, size_t *len);
 
 /* --- list.c --- */
 
@@ -82,7 +83,7 @@ void start_session(const struct folder *folder, const struct beginning *beginnin
 /* --- keys.c: what is typed on the outer terminal, as the keys of a VT220 --- */
 
 struct keys {
-    uint8_t held[16]; /* the beginning of a key whose end hasn't come */
+    uint8_t held[VT220_TYPED_LIMIT]; /* the beginning of a key whose end hasn't come */
     size_t held_len;
     bool rings;      /* something was typed that a VT220 has no key for */
     bool can_scroll; /* PageUp with Shift, Alt or Ctrl isn't sent */
@@ -91,10 +92,10 @@ struct keys {
 
 enum { KEYS_GROWTH = 2 /* a key has at most this many times the bytes that were typed */ };
 
-size_t keys_translate(struct keys *keys, vt220 *t, const uint8_t *typed, size_t len, uint8_t *to);
+size_t keys_translate(struct keys *keys, const vt220 *t, const uint8_t *typed, size_t len, uint8_t *to);
 size_t keys_length(const uint8_t *typed, size_t len);
 size_t keys_flush(struct keys *keys, uint8_t *to); /* what is held isn't the beginning of a key */
-size_t keys_named(vt220 *t, const char *name, uint8_t *to); /* 0 if no key has this name; at most 8 bytes */
+size_t keys_named(const vt220 *t, const char *name, uint8_t *to); /* 0 if there is no such key; at most VT220_KEY_LIMIT bytes */
 int keys_detach(void); /* the key that detaches, as KEEP_KEY says */
 
 /* --- scroll.c: the log, shown in place of the screen --- */
@@ -102,7 +103,7 @@ int keys_detach(void); /* the key that detaches, as KEEP_KEY says */
 bool scroll_is_on(void);
 void scroll_wait(void);                              /* the log was asked for */
 void scroll_take(char letter, const uint8_t *bytes, size_t len); /* a frame of the log */
-bool scroll_type(const uint8_t *typed, size_t len);  /* returns whether something else is to be drawn */
+size_t scroll_type(const uint8_t *typed, size_t len); /* returns how many bytes it took: not those after the key that leaves */
 void scroll_draw(void);
 void scroll_leave(void);
 

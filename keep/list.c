@@ -13,8 +13,8 @@
 #include <stdio.h>
 #include <stdlib.h>
 #include <string.h>
-#include <sys/pidfd.h>
 #include <sys/stat.h>
+#include <sys/syscall.h>
 #include <time.h>
 #include <unistd.h>
 
@@ -58,6 +58,11 @@ static bool is_keeper(pid_t pid, const struct folder *folder) {
     return caught >> (SIGUSR1 - 1) & 1;
 }
 
+/* Opens a process, so that its number can't become another's. (The C library has a call for this since version 2.36.) */
+static int open_process(pid_t pid) {
+    return (int)syscall(SYS_pidfd_open, pid, 0);
+}
+
 /* Counts the keepers of this directory. If wanted, signals each to check its socket. */
 static size_t keepers(const struct folder *folder, bool is_told) {
     size_t count = 0;
@@ -66,10 +71,10 @@ static size_t keepers(const struct folder *folder, bool is_told) {
     for (struct dirent *it; (it = readdir(processes)) != NULL;) {
         pid_t pid = isdigit((unsigned char)*it->d_name) ? (pid_t)atol(it->d_name) : 0;
         if (pid <= 0) continue;
-        int process = pidfd_open(pid, 0); /* held, so that its number can't become another's */
+        int process = open_process(pid);
         if (process >= 0 && is_keeper(pid, folder)) {
             count++;
-            if (is_told) pidfd_send_signal(process, SIGUSR1, NULL, 0);
+            if (is_told) syscall(SYS_pidfd_send_signal, process, SIGUSR1, NULL, 0);
         }
         if (process >= 0) close(process);
     }
@@ -116,11 +121,14 @@ int existing(const struct folder *folder, const char *name) {
     if (!is_name(name)) {
         fail(2, "invalid session name '%s': use 1-%d letters, digits, '.', '_' or '-', not starting with '.' or '-'", name, NAME_LIMIT);
     }
-    int socket = connect_to(folder->file, name);
-    if (socket < 0 && errno == ENOENT && call_keepers(folder)) socket = connect_to(folder->file, name);
-    if (socket < 0 && errno == ECONNREFUSED) fail(1, "no such session: %s (its keeper was killed)", name);
-    if (socket < 0 && errno == ENOENT) fail(1, "no such session: %s", name);
-    if (socket < 0) fail(1, "%s: %s", name, errno == EAGAIN ? "doesn't answer" : errno == ENOTSOCK ? "isn't a session" : strerror(errno));
+    int socket = connect_to(folder->file, name), error = errno;
+    if (socket < 0 && error == ENOENT && call_keepers(folder)) {
+        socket = connect_to(folder->file, name);
+        error = errno;
+    }
+    if (socket < 0 && error == ECONNREFUSED) fail(1, "no such session: %s (its keeper was killed)", name);
+    if (socket < 0 && error == ENOENT) fail(1, "no such session: %s", name);
+    if (socket < 0) fail(1, "%s: %s", name, error == EAGAIN ? "doesn't answer" : error == ENOTSOCK ? "isn't a session" : strerror(error));
     return socket;
 }
 

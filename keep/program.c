@@ -171,7 +171,7 @@ bool run_command(char **command, const char *locale, char *why, int *status) {
 /* Sends SIGHUP to the command. Processes that don't end are killed some time later. */
 void hang_up(void) {
     if (the.is_over || the.kill_at != 0) return;
-    the.kill_at = now() + PATIENCE;
+    the.kill_at = now() + KILL_AFTER;
     kill(-the.command, SIGHUP);
     kill(-the.command, SIGCONT);
 }

@@ -13,7 +13,7 @@ static struct {
     size_t screen_len;
     const uint8_t **lines;
     size_t count, top; /* how many lines there are, and which one is in the first row */
-    uint8_t held[16];  /* the beginning of a key whose end hasn't come */
+    uint8_t held[VT220_TYPED_LIMIT]; /* the beginning of a key whose end hasn't come */
     size_t held_len;
 } it;
 
@@ -101,9 +101,11 @@ static bool move(const uint8_t *key, size_t len) {
     return true;
 }
 
-/* Takes what is typed: keys that move, or any other key, which returns to the screen and isn't sent. */
-bool scroll_type(const uint8_t *typed, size_t len) {
+/* Takes what is typed: keys that move, or any other key, which returns to the screen and isn't sent. What comes after that key is the
+ * program's. */
+size_t scroll_type(const uint8_t *typed, size_t len) {
     uint8_t all[sizeof it.held + 1];
+    const size_t given = len;
     for (; len > 0 && it.state == ON; typed++, len--) {
         memcpy(all, it.held, it.held_len);
         all[it.held_len++] = *typed;
@@ -116,7 +118,7 @@ bool scroll_type(const uint8_t *typed, size_t len) {
         it.held_len = 0;
         if (!moves) scroll_leave();
     }
-    return true;
+    return given - len;
 }
 
 void scroll_draw(void) {

@@ -49,7 +49,7 @@ static void play_repaint(const struct folder *folder) {
 /* Sends `keys`: each is a key's name, otherwise text. If `is_text` is true, all are text. Without any, sends standard input. */
 void send_keys_to(const struct folder *folder, const char *name, char **keys, bool is_text) {
     char why[WHY_LIMIT] = "doesn't answer", letter;
-    uint8_t key[16];
+    uint8_t key[VT220_TYPED_LIMIT];
     struct hello hello;
     size_t len;
     it.name = name;
@@ -68,4 +68,5 @@ void send_keys_to(const struct folder *folder, const char *name, char **keys, bo
     if (!is_done || letter != FRAME_ANSWER) fail(1, "%s takes no keys", name);
     close(it.socket);
     vt220_close(&it.terminal);
+    if (it.keys.rings) fail(1, "no key of a VT220 sends some of these characters; the others are sent");
 }

@@ -134,7 +134,7 @@ static void obey_signals(long long time) {
     is_told_to_end = is_told_to_bind = 0;
     if (the.kill_at != 0 && time >= the.kill_at && !the.is_over) {
         kill(-the.command, SIGKILL);
-        the.kill_at = time + PATIENCE;
+        the.kill_at = time + KILL_AFTER;
     }
 }
 

@@ -14,7 +14,7 @@ enum {
     ASKING_LIMIT = 16,  /* clients that aren't attached; one more replaces the oldest, so silent ones block nobody */
     CLIENT_LIMIT = ATTACHED_LIMIT + ASKING_LIMIT,
     INTERVAL = 20,      /* milliseconds from one update of a client to its next */
-    PATIENCE = 2000,    /* milliseconds that a client has to ask, or to take the last frames */
+    KILL_AFTER = 2000,  /* milliseconds that a command has to end after SIGHUP */
     PIECE = 4096,       /* the most bytes of one read of the program */
     INPUT_LIMIT = 8192, /* the most bytes of keys that wait for the program, and as many of reports */
     SMALL_FRAMES = 1024 /* capacity for the frames after an update */
@@ -31,7 +31,7 @@ struct client {
     bool is_reading;       /* it is sent the log */
     uint64_t log_at, log_end; /* which part of the log it still has to be sent */
     long long due;         /* when the next update may go */
-    long long deadline;    /* when it is let go, done or not */
+    long long deadline;    /* when it is let go, done or not: it has `patience` to ask, and to take the last frames */
     long long came;
     size_t in_len;
     uint8_t in[FRAME_HEAD + KEYS_LIMIT];

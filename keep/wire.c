@@ -2,17 +2,18 @@
 #include "keep.h"
 #include <errno.h>
 #include <stdio.h>
+#include <stdlib.h>
 #include <string.h>
 #include <sys/socket.h>
 #include <sys/time.h>
 #include <unistd.h>
 
-enum { PATIENCE = 2, KILL_PATIENCE = 10 };
+enum { KILL_MORE = 8000 /* milliseconds more for a command that has to be killed */ };
 
-void wire_patience(int socket, int seconds) {
-    struct timeval patience = {seconds, 0};
-    setsockopt(socket, SOL_SOCKET, SO_RCVTIMEO, &patience, sizeof patience);
-    setsockopt(socket, SOL_SOCKET, SO_SNDTIMEO, &patience, sizeof patience);
+void wire_patience(int socket, int milliseconds) {
+    struct timeval limit = {milliseconds / 1000, milliseconds % 1000 * 1000};
+    setsockopt(socket, SOL_SOCKET, SO_RCVTIMEO, &limit, sizeof limit);
+    setsockopt(socket, SOL_SOCKET, SO_SNDTIMEO, &limit, sizeof limit);
 }
 
 static bool receive(int socket, void *to, size_t len) {
@@ -58,7 +59,7 @@ int wire_begin(int socket, char ask, uint8_t flags, struct hello *hello, char *w
     uint8_t told[256];
     char letter;
     size_t len;
-    wire_patience(socket, PATIENCE);
+    wire_patience(socket, patience);
     memset(hello, 0, sizeof *hello);
     /* A keeper that rejects a client closes at once, so its frame is read even if nothing could be sent. */
     send_all(socket, asked, sizeof asked);
@@ -93,7 +94,7 @@ size_t wire_ask(int socket, const char *name, char ask, const char *argument, ui
     char letter;
     size_t len;
     begin(socket, name, ask);
-    if (ask == ASK_KILL) wire_patience(socket, KILL_PATIENCE);
+    if (ask == ASK_KILL) wire_patience(socket, patience + KILL_MORE);
     bool is_sent = argument == NULL || wire_send(socket, FRAME_NAME, argument, strlen(argument));
     if (!is_sent || !wire_receive(socket, &letter, bytes, FRAME_LIMIT, &len)) fail(1, "%s doesn't answer", name);
     if (letter == FRAME_REFUSED) fail(1, "%s: %.*s", name, (int)(len < WHY_LIMIT ? len : WHY_LIMIT), (char *)bytes);
@@ -102,16 +103,37 @@ size_t wire_ask(int socket, const char *name, char ask, const char *argument, ui
     return len;
 }
 
-void wire_ask_log(int socket, const char *name, void (*take)(const uint8_t *bytes, size_t len)) {
+/* Bytes that grow as they come. */
+struct gathered {
+    uint8_t *bytes;
+    size_t len, room;
+};
+
+static void gather(struct gathered *all, const uint8_t *bytes, size_t len) {
+    if (all->len + len > all->room) {
+        all->room = 2 * (all->len + len);
+        all->bytes = realloc(all->bytes, all->room);
+        if (all->bytes == NULL) fail(1, "out of memory");
+    }
+    if (len > 0) memcpy(all->bytes + all->len, bytes, len);
+    all->len += len;
+}
+
+/* The log is read whole before any of it is printed: a keeper drops a client that reads nothing for some time, as one does whose output
+ * goes to a pager. */
+uint8_t *wire_ask_log(int socket, const char *name, size_t *len) {
     static uint8_t bytes[FRAME_LIMIT], screen[FRAME_LIMIT];
-    size_t len, screen_len = 0;
+    struct gathered log = {0};
+    size_t frame_len, screen_len = 0;
     char letter;
     if (begin(socket, name, ASK_LOG) < PROTOCOL_LOG) fail(1, "%s is kept by an older vt220-keep, which keeps no log", name);
-    while (wire_receive(socket, &letter, bytes, sizeof bytes, &len) && (letter == FRAME_SCREEN || letter == FRAME_LINES)) {
-        if (letter == FRAME_LINES) take(bytes, len);
-        if (letter == FRAME_SCREEN) memcpy(screen, bytes, screen_len = len);
+    while (wire_receive(socket, &letter, bytes, sizeof bytes, &frame_len) && (letter == FRAME_SCREEN || letter == FRAME_LINES)) {
+        if (letter == FRAME_LINES) gather(&log, bytes, frame_len);
+        if (letter == FRAME_SCREEN) memcpy(screen, bytes, screen_len = frame_len);
     }
     if (letter != FRAME_LOGGED) fail(1, "%s doesn't answer", name);
-    take(screen, screen_len);
+    gather(&log, screen, screen_len);
     close(socket);
+    *len = log.len;
+    return log.bytes;
 }

@@ -21,7 +21,7 @@ if sys.argv[1:] == ["--help"] or len(sys.argv) < 3:
     print(__main__.__doc__, end="", file=sys.stdout if sys.argv[1:] == ["--help"] else sys.stderr)
     sys.exit(0 if sys.argv[1:] == ["--help"] else 2)
 
-PATIENCE = 15
+PATIENCE = 300  # seconds until what is waited for counts as hanging; no test depends on less
 passed = failed = 0
 faults = []
 ROOM = pathlib.Path(tempfile.mkdtemp(prefix="keep-"))
@@ -30,8 +30,11 @@ PROGRAM = os.path.abspath(sys.argv[2])
 FOLDER = ROOM / "folder"
 BOOT = pathlib.Path("/proc/sys/kernel/random/boot_id").read_text().strip()
 SOCKETS = FOLDER / BOOT
-ENVIRONMENT = {name: value for name, value in os.environ.items() if name not in ("TMUX", "TMUX_PANE", "KEEP_KEY", "KEEP_SESSION", "KEEP_LINGER")}
-ENVIRONMENT |= {"KEEP_DIR": str(FOLDER), "LC_ALL": "C", "SHELL": "/bin/sh", "HOME": str(ROOM), "PS1": "$ ", "KEEP_LINGER": "60"}
+ENVIRONMENT = {name: value for name, value in os.environ.items() if name not in ("TMUX", "TMUX_PANE", "KEEP_KEY", "KEEP_SESSION", "KEEP_LINGER", "KEEP_PATIENCE")}
+ENVIRONMENT |= {"KEEP_DIR": str(FOLDER), "LC_ALL": "C", "SHELL": "/bin/sh", "HOME": str(ROOM), "PS1": "$ "}
+# Keepers and clients wait for each other as long as a test does. Where their own limit is tested, the test gives them a short one.
+ENVIRONMENT |= {"KEEP_LINGER": "86400", "KEEP_PATIENCE": str(PATIENCE)}
+SHORT = {"KEEP_PATIENCE": "1"}
 
 
 def check(is_so, what):
@@ -92,7 +95,17 @@ def attached(name):
 
 
 def parent(pid):
-    return int(pathlib.Path(f"/proc/{pid}/stat").read_text().rpartition(")")[2].split()[1])
+    return int(field(pid, 4))
+
+
+@contextlib.contextmanager
+def still(name):
+    """Stops a session's command meanwhile, so that its screen stands still."""
+    pid = listed(name)[2]
+    os.kill(pid, signal.SIGSTOP)
+    wait(lambda: field(pid, 3) == "T", f"{name} stands still")
+    yield
+    os.kill(pid, signal.SIGCONT)
 
 
 def keeper(name):
@@ -100,20 +113,42 @@ def keeper(name):
     return parent(listed(name)[2])
 
 
+def field(pid, number):
+    """A field of /proc/PID/stat, counted as proc(5) does."""
+    return pathlib.Path(f"/proc/{pid}/stat").read_text().rpartition(")")[2].split()[number - 3]
+
+
+def switches(pid):
+    """How often a process gave up the processor, or lost it."""
+    return re.findall(r"ctxt_switches:\s(\d+)", pathlib.Path(f"/proc/{pid}/status").read_text())
+
+
+def sleeps(pid, seconds=0.0):
+    """Whether a process sleeps at each of many looks, and isn't woken in between for so long."""
+    before = switches(pid)
+    time.sleep(seconds)
+    return all(field(pid, 3) == "S" for _ in range(100)) and switches(pid) == before
+
+
 def resident(pid):
     return int(pathlib.Path(f"/proc/{pid}/statm").read_text().split()[1]) * os.sysconf("SC_PAGESIZE")
 
 
-def new(name, *command):
-    return check(keep("new", name, *command).returncode == 0, f"new {name}")
+def new(name, *command, **settings):
+    return check(keep("new", name, *command, env=ENVIRONMENT | settings).returncode == 0, f"new {name}")
 
 
-def shell(name, script):
-    return new(name, "sh", "-c", script)
+def shell(name, script, **settings):
+    return new(name, "sh", "-c", script, **settings)
 
 
 def end(name):
     check(keep("kill", name).returncode == 0 and row(name) is None, f"{name} ends")
+
+
+def end_hasty(name):
+    """Ends a session with little patience, which may not wait for what it is asked."""
+    wait(lambda: keep("kill", name) and row(name) is None, f"{name} ends")
 
 
 class Outer:
@@ -121,10 +156,14 @@ class Outer:
 
     count = 0
 
-    def __init__(self, name, columns=80, rows=24, settings="", words="attach"):
+    def __init__(self, name, columns=80, rows=24, settings="", words="attach", patience=None):
+        """A client with little patience begins again if the keeper doesn't answer in time."""
         Outer.count += 1
+        attaching = f"{settings} {KEEP} {words} {name}"
+        if patience is not None:
+            attaching = f"until KEEP_PATIENCE={patience} {attaching}; do :; done"
         self.before, self.after = ROOM / f"before-{Outer.count}", ROOM / f"after-{Outer.count}"
-        script = f"stty -g >{self.before}; echo BEFORE; {settings} {KEEP} {words} {name}; echo \"status $?\"; stty -g >{self.after}; exec sleep 1000"
+        script = f"stty -g >{self.before}; echo BEFORE; {attaching}; echo \"status $?\"; stty -g >{self.after}; exec sleep infinity"
         self.target = tmux("new-window", "-d", "-P", "-F", "#{pane_id}", "sh", "-c", script).strip()
         self.resize(columns, rows)
 
@@ -183,7 +222,14 @@ class Outer:
 
     def is_left(self, what, *said):
         """Whether the outer terminal is as it was, with these lines on it."""
-        if not wait(lambda: self.shown()[: 1 + len(said)] == ["BEFORE", *said], f"{what}: it says {said}"):
+        self.is_back(lambda: self.shown()[: 1 + len(said)] == ["BEFORE", *said], what, said)
+
+    def is_ended(self, what, *said):
+        """Whether the outer terminal is as it was, with the command's last screen and then these lines on it."""
+        self.is_back(lambda: [row for row in self.shown() if row][-len(said) :] == list(said), what, said)
+
+    def is_back(self, shows, what, said):
+        if not wait(shows, f"{what}: it says {said}"):
             print(*self.shown(), "--", keep("list").stdout, sep="\n", file=sys.stderr)
         check(self.tells("alternate_on") == "0" and self.tells("cursor_flag") == "1", f"{what}: the screen and the cursor are back")
         wait(lambda: self.after.exists() and self.after.read_text() == self.before.read_text(), f"{what}: the line is as it was")
@@ -203,6 +249,11 @@ def tmux(*words):
 
 def frame(letter, content=b""):
     return letter + struct.pack("=I", len(content)) + content
+
+
+def waiting(file):
+    """How many bytes wait in a pipe or a socket."""
+    return struct.unpack("i", fcntl.ioctl(file, termios.FIONREAD, bytes(4)))[0]
 
 
 class Raw:
@@ -236,7 +287,7 @@ class Raw:
 
     def size(self):
         """How many bytes wait in the socket."""
-        return struct.unpack("i", fcntl.ioctl(self.socket, termios.FIONREAD, bytes(4)))[0]
+        return waiting(self.socket)
 
     def close(self):
         self.socket.close()

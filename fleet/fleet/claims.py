@@ -15,7 +15,7 @@ TRIES = 10  # workers that may die of a session before it is given up
 LOOKS = 2  # at a worker's count, besides the lease, until it counts as dead
 COMPARE = 10.0  # seconds between comparisons of all sessions with the store
 
-News = namedtuple("News", "has_beaten is_dead is_draining is_to_be_compared", defaults=(False,) * 4)
+News = namedtuple("News", "has_beaten is_dead is_draining is_to_be_compared excess", defaults=(False,) * 4 + (0,))
 
 
 class Claims:
@@ -34,7 +34,7 @@ class Claims:
         self.store.run("enter", self.me)
 
     def mine(self):
-        return {each.decode() for each in self.store.smembers(keys.of(self.me))}
+        return {each.decode("utf-8", "replace") for each in self.store.smembers(keys.of(self.me))}
 
     def beat(self, have):
         """Raises this worker's count, and buries those whose count stood still. To be called when that is due."""
@@ -47,13 +47,13 @@ class Claims:
             self.others, self.outages = {}, self.store.outages
         self.beaten = time.monotonic()
         self.due = self.beaten + self.lease / 4
-        _, draining, count, waiting, workers = answer
-        self.watch_over({w.decode(): int(c) for w, c in zip(workers[::2], workers[1::2])})
+        _, draining, count, waiting, share, workers = answer
+        self.watch_over({w.decode("utf-8", "replace"): c for w, c in zip(workers[::2], workers[1::2])})
         self.audit()
         self.expect(waiting, len(self.others) + 1)
         is_to_be_compared = count != have or now - self.compared > COMPARE
         self.compared = now if is_to_be_compared else self.compared
-        return News(True, False, bool(draining), is_to_be_compared)
+        return News(True, False, bool(draining), is_to_be_compared, count - share)
 
     def watch_over(self, counts):
         """Buries the workers whose count stood still for a lease. All of their sessions wait then, however many these are."""
@@ -73,7 +73,7 @@ class Claims:
         while left > 0:
             left = self.store.run("bury", worker, count, 500)
         if left == 0:
-            log.warning("%s found %s dead", self.me, worker)
+            log.warning("%s found %s dead", self.me, keys.shown(worker.encode()))
 
     def audit(self):
         """Looks whether living sessions have a worker, some at a time."""
@@ -87,7 +87,7 @@ class Claims:
         if answer[0] == "dead":
             return None
         self.expect(answer[1], len(self.others) + 1)
-        return [each.decode() for each in answer[2:]]
+        return [each.decode("utf-8", "replace") for each in answer[2:]]
 
     def expect(self, waiting, workers):
         """Notes how many sessions wait. If these are many, more are taken at once, but a part of each worker's share."""

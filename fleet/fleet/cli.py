@@ -105,6 +105,8 @@ def do_view(store, incarnation, words):
     from .view import follow
 
     store.patience = None
+    for ends in (signal.SIGHUP, signal.SIGTERM):  # the terminal is restored on the way out
+        signal.signal(ends, lambda number, _: sys.exit(128 + number))
     return follow(store, incarnation, words.type)
 
 
@@ -149,10 +151,17 @@ def do_export(store, incarnation, words):
 
 @of_session
 def do_type(store, incarnation, words):
-    from .operate import Typist
+    from vt220.keyboard import Key, spelled, typed
 
-    data = words.text.encode() if words.text is not None else sys.stdin.buffer.read()
-    Typist(store, incarnation).type(data + (b"\r" if words.enter else b""))
+    from .operate import Typist
+    from .session import as_it_is
+
+    data = os.fsencode(words.text) if words.text is not None else sys.stdin.buffer.read()
+    modes = as_it_is(store, incarnation).terminal.modes()
+    keys = typed(data, modes)
+    if keys.refused:
+        raise ValueError(f"no key of a VT220 sends {keys.refused!r}")
+    Typist(store, incarnation).type(keys.sent + keys.held + (spelled(Key.ENTER, modes) if words.enter else b""))
 
 
 def do_list(words, settings):

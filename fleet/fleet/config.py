@@ -112,10 +112,6 @@ class Settings:
     def connect(self, waits=False):
         """Returns the store. If `waits` is true, its calls wait for ever, otherwise at most give-up seconds. The password is from
         its file, so that it is on no command line and in no environment."""
-        options = {"socket_timeout": self.store.timeout}
-        if self.store.password_file:
-            with open(self.store.password_file) as file:
-                options["password"] = file.read().strip()
-        store = connect(self.store.url, **options)
+        store = connect(self.store.url, self.store.password_file, socket_timeout=self.store.timeout)
         store.patience = None if waits else self.store.give_up
         return store

@@ -3,6 +3,7 @@ last."""
 import logging
 import threading
 import time
+from concurrent.futures import ThreadPoolExecutor
 
 import vt220
 
@@ -16,6 +17,7 @@ log = logging.getLogger("fleet.web")
 
 MOST = 400  # sessions that the page shows: the latest ones
 LISTED = 1.0  # seconds between looks at which sessions there are
+READ = 1 << 20  # bytes that are played for a session that no worker shows
 BOLD, UNDERLINE, BLINK, REVERSE = 1, 2, 4, 8
 
 
@@ -77,18 +79,12 @@ class Followed(Viewer):
 
     def __init__(self, store, incarnation):
         super().__init__(store, incarnation)
-        self.picture, self.read, self.is_final = Picture(incarnation), 0.0, False
+        self.picture, self.read, self.is_final, self.is_reading = Picture(incarnation), 0.0, False, False
 
-    def look_without_worker(self):
-        """Reads the screen from the store, if no worker shows it."""
-        now = time.monotonic()
-        if self.is_final or (self.worker and not self.is_over) or now - self.read < 5:
-            return
-        self.read, self.is_final = now, self.is_over
-        try:
-            self.picture.take(as_it_is(self.store, self.incarnation).terminal)
-        except Exception as fault:  # a session that cannot be read is shown as such, and harms no other
-            log.warning("%s cannot be read: %s: %s", self.incarnation, type(fault).__name__, fault)
+    def is_to_be_read(self):
+        """Returns whether its screen is to be read from the store, since no worker shows it."""
+        is_shown = self.is_final or (self.worker and not self.is_over)
+        return not is_shown and not self.is_reading and time.monotonic() - self.read >= 5
 
 
 class Gallery:
@@ -98,6 +94,7 @@ class Gallery:
         self.store, self.on_change = store, on_change
         self.followed, self.order = {}, []
         self.lock = threading.Lock()
+        self.reader = ThreadPoolExecutor(1)  # reads screens that no worker shows; whoever looks at others doesn't wait for it
         self.listed = 0.0
         self.clients = 0
 
@@ -149,7 +146,22 @@ class Gallery:
             for each in listed:
                 facts = {name: each[name] for name in ("name", "state", "worker", "host", "fault", "lag", "size", "input")}
                 self.followed[each["incarnation"]].picture.learn(facts)
-                self.followed[each["incarnation"]].look_without_worker()
+        for each in self.followed.values():
+            if each.is_to_be_read():
+                each.is_reading = True
+                self.reader.submit(self.read, each)
+
+    def read(self, each):
+        """Reads a session's screen from the store."""
+        is_over = each.is_over
+        try:
+            terminal = as_it_is(self.store, each.incarnation, READ).terminal
+            with self.lock:
+                each.picture.take(terminal)
+            self.on_change()
+        except Exception as fault:  # a session that cannot be read is shown as such, and harms no other
+            log.warning("%s cannot be read: %s: %s", each.incarnation, type(fault).__name__, fault)
+        each.read, each.is_final, each.is_reading = time.monotonic(), is_over, False
 
     def since(self, told):
         """Returns what a client is to be told, and brings `told` (numbers by session) up to that."""

@@ -28,6 +28,10 @@ class Taken(keys.Fault):
     """The name is another host's."""
 
 
+class Unplayable(keys.Fault):
+    """No worker can go on with the session, and its program has ended."""
+
+
 class WentBack(keys.Fault):
     """The store lost more bytes than this host still has."""
 
@@ -39,6 +43,7 @@ class Host:
         self.store, self.name, self.lease = store, keys.checked_name(name), lease
         self.incarnation = keys.new_id()
         self.about = ["host", f"{os.uname().nodename}:{os.getpid()}", "input", int(takes_input), "command", command[:500]]
+        self.about += ["signals", 1]  # viewers send signals apart from keys
         self.takes_input = takes_input
         self.at = 0
         self.played = 0
@@ -49,10 +54,11 @@ class Host:
         self.is_ended = False
         self.said_fault = None
         self.lock = threading.RLock()  # one call to the store that writes at a time
-        self.last_answer, self.last_key = b"0-0", b"0-0"
+        self.last_answer, self.last_key, self.last_signal = b"0-0", b"0-0", b"0-0"
         self.passed_on = 0
         self.rebuilt = 0  # how often the store had to be sent something again
         self.renewed = 0.0
+        self.is_program_over = lambda: False
 
     def part(self, name):
         return key(self.incarnation, name)
@@ -61,7 +67,7 @@ class Host:
         """Takes the name, and asks for a worker. Raises Taken if another host holds the name."""
         answer = self.store.run("register", self.name, self.incarnation, int(self.lease * 1000), keys.version(), *self.about)
         if answer[0] != "ok":
-            raise Taken(f"the name {self.name!r} is held by the host {answer[1].decode('utf-8', 'replace')}")
+            raise Taken(f"the name {self.name!r} is held by the host {keys.shown(answer[1])}")
         self.renewed = time.monotonic()
 
     # Bytes to the store.
@@ -99,7 +105,7 @@ class Host:
     def fault_of(self, answer):
         if answer[0] == "other":
             return keys.Differs(f"the store has other bytes before {self.at} than this host sent")
-        return Taken(f"the session was closed by another ({answer[1].decode('utf-8', 'replace')})")
+        return Taken(f"the session was closed by another ({keys.shown(answer[1])})")
 
     def rebuild(self, there):
         """Sends again what the store has lost, if all of it is held."""
@@ -139,8 +145,11 @@ class Host:
         raise fault
 
     def wait_for_worker(self):
-        """Waits while more bytes than may wait are not played. So a program is slowed as by a slow terminal."""
-        while self.at - self.played > WAITING and not self.fault and not self.said_fault:
+        """Waits while more bytes than may wait are not played. So a program is slowed as by a slow terminal. If no worker can
+        continue the session, the program waits until somebody ends it: nobody could ever play its bytes."""
+        while self.at - self.played > WAITING and not self.fault:
+            if self.said_fault and self.is_program_over():
+                raise Unplayable(f"no worker can continue this session: {self.said_fault}")
             time.sleep(0.02)
             self.played = int(self.store.hget(self.part("about"), "played") or 0)
             self.renew_if_due()
@@ -169,13 +178,13 @@ class Host:
             answer = self.store.run("renew", self.name, self.incarnation, int(self.lease * 1000))
             if answer[0] == "taken":
                 self.fail(
-                    Taken(f"the name {self.name!r} or the session was taken by another ({answer[1].decode('utf-8', 'replace')})")
+                    Taken(f"the name {self.name!r} or the session was taken by another ({keys.shown(answer[1])})")
                 )
             there = 0 if answer[0] == "lost" else int(answer[1])
             if answer[0] == "lost" or there < self.at:
                 self.rebuild(there)
             elif len(answer) > 3 and not self.said_fault:
-                self.said_fault = answer[3].decode("utf-8", "replace")
+                self.said_fault = keys.shown(answer[3])
                 log.error("%s: no worker can continue this session: %s", self.name, self.said_fault)
             else:
                 self.played = int(answer[2] or 0)
@@ -185,13 +194,22 @@ class Host:
     def receive(self, patience=0.5):
         """Waits for what comes for the program. Returns it, as a list of ("report", bytes), ("keys", bytes), ("signal", number),
         each one once and in order."""
-        streams = {self.part("answers"): self.last_answer, self.part("keys"): self.last_key}
-        got = []
+        takes = {
+            self.part("answers"): (self.report_of, self.last_answer),
+            self.part("keys"): (self.key_of, self.last_key),
+            self.part("signals"): (self.signal_of, self.last_signal),
+        }
+        streams, got = {stream: last for stream, (_, last) in takes.items()}, []
         for stream, entries in self.store.xread(streams, count=256, block=int(patience * 1000) or None):
-            is_answer = stream == self.part("answers").encode()
+            take = takes[stream.decode()][0]
             for entry_id, fields in entries:
-                got += self.report_of(entry_id, fields) if is_answer else self.key_of(entry_id, fields)
+                got += take(entry_id, fields)
         return got
+
+    def receive_signals(self):
+        """Returns the signals that came for the program, without waiting: it may read none of what came before them."""
+        came = self.store.xread({self.part("signals"): self.last_signal}, count=16)
+        return [signal for _, entries in came for entry in entries for signal in self.signal_of(*entry)]
 
     def report_of(self, entry_id, fields):
         """Returns a report, if it is one: of the form of a VT220's, to a byte that this host has sent."""
@@ -212,6 +230,10 @@ class Host:
         self.store.xdel(self.part("keys"), entry_id)
         if b"keys" in fields and self.takes_input and len(fields[b"keys"]) <= KEYS:
             return [("keys", fields[b"keys"])]
-        if fields.get(b"signal") in (b"1", b"2", b"9", b"15"):
-            return [("signal", int(fields[b"signal"]))]
         return []
+
+    def signal_of(self, entry_id, fields):
+        self.last_signal = entry_id
+        self.store.xdel(self.part("signals"), entry_id)
+        is_known = fields.get(b"signal") in (b"1", b"2", b"9", b"15")
+        return [("signal", int(fields[b"signal"]))] if is_known else []

@@ -7,7 +7,7 @@ import time
 import hiredis
 
 from . import keys
-from .store import GONE, TIMEOUT, AnotherRun
+from .store import GONE, TIMEOUT, AnotherRun, AuthenticationError
 
 log = logging.getLogger("fleet.inbox")
 
@@ -46,7 +46,7 @@ class Inbox:
         except AnotherRun:
             self.close()
             raise
-        except (*GONE, OSError):
+        except (*GONE, AuthenticationError, OSError):
             self.close()
 
     def wait(self, patience):

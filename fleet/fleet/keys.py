@@ -8,6 +8,8 @@ the incarnation, so that a name can be used again without meeting anything of it
     fleet:all                    sorted set of all incarnations, by the moment that they started
     fleet:live                   set of those that have neither ended nor failed
     fleet:waiting                sorted set of those that want a worker
+    fleet:suspects               sorted set of those in whose company workers died: they are taken alone
+    fleet:trying                 hash: worker -> the suspect that it plays alone
     fleet:workers                hash: worker -> a count that it raises four times a lease
     fleet:draining               set of the workers that are to hand their sessions over
     fleet:of:WORKER              set of the incarnations that a worker owns
@@ -18,7 +20,8 @@ the incarnation, so that a name can be used again without meeting anything of it
     fleet:INCARNATION:answers    stream of reports. The id of a report is the position just after the byte that asked for it
     fleet:INCARNATION:checkpoint hash: a position and the repaint of the terminal there, with length, checksum and versions
     fleet:INCARNATION:view       stream for viewers: a repaint, then updates
-    fleet:INCARNATION:keys       stream of what viewers typed, and of signals
+    fleet:INCARNATION:keys       stream of what viewers typed
+    fleet:INCARNATION:signals    stream of the signals that viewers sent
     fleet:INCARNATION:typed      hash: viewer -> the number of the last thing that it typed
     fleet:INCARNATION:ended      hash: where and how it ended, and the screen's text
     fleet:INCARNATION:fault      why no worker can go on with it
@@ -34,17 +37,20 @@ import unicodedata
 import vt220
 
 FORMAT = 2
-ALL, LIVE, NAMES, WAITING, WORKERS, DRAINING = (
+ALL, LIVE, NAMES, WAITING, SUSPECTS, TRYING, WORKERS, DRAINING = (
     "fleet:all",
     "fleet:live",
     "fleet:names",
     "fleet:waiting",
+    "fleet:suspects",
+    "fleet:trying",
     "fleet:workers",
     "fleet:draining",
 )
 NEW = "fleet:new"
 NAME_LIMIT = 200
-PARTS = ("about", "bytes", "answers", "checkpoint", "view", "keys", "typed", "ended", "fault")
+PARTS = ("about", "bytes", "answers", "checkpoint", "view", "keys", "signals", "typed", "ended", "fault")
+SHOWN = 1000  # characters of what the store says that are shown at most
 
 
 class Fault(Exception):
@@ -75,6 +81,10 @@ class Differs(Fault):
     """The store has another entry at a position than this program would write there."""
 
 
+class Long(Exception):
+    """There are more bytes after a session's checkpoint than a reader plays."""
+
+
 class Damaged(Exception):
     """A checkpoint was cut short or changed."""
 
@@ -93,6 +103,13 @@ def wake(worker):
 
 def lease(name):
     return f"fleet:lease:{name}"
+
+
+def shown(value):
+    """Returns what the store says, for a terminal or a log: control characters are escaped, and a long text is cut."""
+    text = (value or b"").decode("utf-8", "replace")
+    cut = text if len(text) <= SHOWN else text[:SHOWN] + "..."
+    return "".join(c if c.isprintable() else c.encode("unicode_escape").decode() for c in cut)
 
 
 def new_id():

@@ -1,6 +1,8 @@
 """What an operator asks for: which sessions there are, and to end them."""
 import json
+import queue
 import sys
+import threading
 import time
 
 from . import keys
@@ -21,16 +23,17 @@ class Refused(Exception):
 
 def find(store, name):
     """Returns the incarnation that a name stands for: the latest one, or the one given as @INCARNATION."""
-    if name.startswith("@") and store.exists(key(name[1:], "about")):
-        return name[1:]
-    found = store.hget(keys.NAMES, name)
-    if not found or not store.exists(key(found.decode(), "about")):
+    found = name[1:].encode() if name.startswith("@") else store.hget(keys.NAMES, name)
+    if not found or not store.hexists(key(found.decode("utf-8", "replace"), "about"), "name"):
         raise NoSession(f"no such session: {name}")
     return found.decode()
 
 
-def text(value):
-    return (value or b"").decode("utf-8", "replace")
+def number(value):
+    """Returns a number of the store. Raises Wrong if a field isn't one."""
+    if value and not value.isdigit():
+        raise keys.Wrong(f"a field of the session isn't a number: {keys.shown(value)[:40]}")
+    return int(value or 0)
 
 
 def about(store, incarnations):
@@ -53,11 +56,18 @@ def about(store, incarnations):
 
 
 def described(incarnation, fields, fault, status):
-    end, played = (int(fields[name] or 0) for name in ("end", "played"))
-    made = {"incarnation": incarnation, "fault": text(fault), "status": text(status), "size": end, "lag": max(0, end - played)}
-    made |= {"name": text(fields["name"]), "host": text(fields["host"]), "worker": text(fields["owner"])}
-    made |= {"started": int(fields["started"] or 0), "seen": int(fields["seen"] or 0), "closed": text(fields["closed"])}
-    return made | {"input": fields["input"] == b"1", "command": text(fields["command"])}
+    """Returns what `list` shows of a session. A field that is wrong is the fault of this session, and harms no other."""
+    shown = {name: keys.shown(fields[name]) for name in ("name", "host", "owner", "closed", "command")}
+    made = {"incarnation": incarnation, "name": shown["name"], "host": shown["host"], "worker": shown["owner"]}
+    made |= {"fault": keys.shown(fault if isinstance(fault, bytes) else b""), "input": fields["input"] == b"1"}
+    made |= {"status": keys.shown(status if isinstance(status, bytes) else b""), "closed": shown["closed"]}
+    made |= {"command": shown["command"], "size": 0, "lag": 0, "started": 0, "seen": 0}
+    try:
+        end, played, started, seen = (number(fields[name]) for name in ("end", "played", "started", "seen"))
+        made |= {"size": end, "lag": max(0, end - played), "started": started, "seen": seen}
+    except keys.Wrong as wrong:
+        made["fault"] = made["fault"] or f"Wrong: {wrong}"
+    return made
 
 
 def add_leases(store, listed):
@@ -124,32 +134,91 @@ def show_list(store, is_json, is_all):
     return 0
 
 
+REFUSALS = {
+    "refused": "the host of this session allows no input: start it with --input",
+    "silent": "the host of this session is silent",
+    "closed": "the session has ended",
+    "lost": "the session has ended",
+}
+
+
+PAUSE = 0.05  # seconds between two tries to send what there was no room for
+
+
+def parts(data):
+    """Yields keys in parts of which each is sent at once."""
+    for at in range(0, len(data), 1024):
+        yield data[at : at + 1024]
+
+
 class Typist:
     """Sends keys and signals to a session's host, each thing once and in order."""
 
     LIMIT = 256  # things that may wait for a host
+    PATIENCE = 10.0  # seconds until a program that reads nothing is given up
 
-    def __init__(self, store, incarnation):
-        self.store, self.incarnation, self.me, self.number = store, incarnation, keys.new_id(), 0
+    def __init__(self, store, incarnation, patience=PATIENCE):
+        self.store, self.incarnation, self.patience = store, incarnation, patience
+        self.me, self.number = keys.new_id(), 1
+
+    def offer(self, field, value):
+        """Sends one thing. Returns whether there was room for it. Raises Refused if it can't be sent at all."""
+        answer = self.store.run("type", self.incarnation, self.me, self.number, self.LIMIT, field, value)[0]
+        if answer in REFUSALS:
+            raise Refused(REFUSALS[answer])
+        self.number += answer == "ok"
+        return answer == "ok"
 
     def send(self, field, value):
-        self.number += 1
-        while True:
-            answer = self.store.run("type", self.incarnation, self.me, self.number, self.LIMIT, field, value)[0]
-            if answer != "full":
-                break
-            time.sleep(0.05)
-        if answer == "refused":
-            raise Refused("the host of this session allows no input: start it with --input")
-        if answer in ("closed", "lost"):
-            raise Refused("the session has ended")
+        end = time.monotonic() + self.patience
+        while not self.offer(field, value):
+            if time.monotonic() > end:
+                raise self.unread()
+            time.sleep(PAUSE)
+
+    def unread(self):
+        return Refused(f"the program read none of what was typed for {self.patience:g} s")
 
     def type(self, data):
-        for at in range(0, len(data), 1024):
-            self.send("keys", data[at : at + 1024])
+        for part in parts(data):
+            self.send("keys", part)
 
     def signal(self, number):
         self.send("signal", number)
+
+
+class Sender(threading.Thread):
+    """Types in a thread, so that a keyboard is read on whatever the store and the program do."""
+
+    def __init__(self, typist):
+        super().__init__(daemon=True)
+        self.typist, self.waiting, self.fault = typist, queue.SimpleQueue(), ""
+        self.start()
+
+    def type(self, data):
+        if data:
+            self.waiting.put(data)
+
+    def run(self):
+        while (data := self.waiting.get()) is not None:
+            try:
+                self.typist.type(data)
+                self.fault = ""
+            except Refused as refused:
+                self.fault = str(refused)
+                self.drop()
+
+    def drop(self):
+        """Forgets what waits: it was typed for a program that reads nothing."""
+        while not self.waiting.empty():
+            if self.waiting.get() is None:
+                self.waiting.put(None)
+                return
+
+    def finish(self, patience=1.0):
+        """Sends what waits, for at most so many seconds."""
+        self.waiting.put(None)
+        self.join(patience)
 
 
 def is_over(store, incarnation):
@@ -162,7 +231,7 @@ def kill(store, name, signal, patience):
     state = about(store, [incarnation])[0]["state"]
     if state == "no host":
         raise Refused(f"the host of {name} is silent; end the session with fleet end")
-    Typist(store, incarnation).signal(SIGNALS[signal])
+    Typist(store, incarnation, patience).signal(SIGNALS[signal])
     end = time.monotonic() + patience
     while not store.hexists(key(incarnation, "about"), "closed") and not is_over(store, incarnation):
         if time.monotonic() > end:
@@ -184,7 +253,8 @@ def end(store, name, keep, is_forced):
 
 def drain(store, worker, patience):
     """Has a worker hand its sessions over, and waits until it has none."""
-    found = [each.decode() for each in store.hkeys(keys.WORKERS) if each.decode() == worker or each.decode().startswith(worker)]
+    names = [each.decode("utf-8", "replace") for each in store.hkeys(keys.WORKERS)]
+    found = [each for each in names if each.startswith(worker)]
     if len(found) != 1:
         raise NoSession(f"no such worker: {worker}" if not found else f"{len(found)} workers have a name that begins with {worker}")
     store.sadd(keys.DRAINING, found[0])
@@ -200,6 +270,7 @@ def drain(store, worker, patience):
 def workers(store, is_json=False):
     """Prints each worker with the count of its sessions."""
     for each, count in sorted(store.hgetall(keys.WORKERS).items()):
-        made = {"worker": each.decode(), "sessions": store.scard(keys.of(each.decode())), "count": int(count)}
+        sessions = store.scard(keys.of("").encode() + each)
+        made = {"worker": keys.shown(each), "sessions": sessions, "count": int(count) if count.isdigit() else None}
         print(json.dumps(made) if is_json else f"{made['worker']}  {made['sessions']} sessions")
     return 0

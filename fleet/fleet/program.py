@@ -44,6 +44,11 @@ class Program:
             finally:
                 os._exit(127)
         self.is_over = threading.Event()
+        host.is_program_over = self.has_ended
+
+    def has_ended(self):
+        """Returns whether the program itself has ended. Its exit status stays for `run`."""
+        return os.waitid(os.P_PID, self.child, os.WEXITED | os.WNOHANG | os.WNOWAIT) is not None
 
     def run(self):
         """Sends what the program writes until it ends. Returns its exit status, as a shell has it."""
@@ -110,10 +115,12 @@ class Program:
                 time.sleep(0.5)
 
     def write(self, data):
-        """Writes to the program, as fast as it reads; the lease is renewed meanwhile."""
+        """Writes to the program, as fast as it reads; the lease is renewed meanwhile, and signals are passed on."""
         while data and not self.is_over.is_set():
             if not select.select([], [self.master], [], 0.5)[1]:
                 self.host.renew_if_due()
+                for _, number in self.host.receive_signals():
+                    self.signal(number)
                 continue
             try:
                 data = data[os.write(self.master, data[:256]) :]

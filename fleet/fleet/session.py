@@ -5,7 +5,7 @@ may be cut anywhere. So a checkpoint and the bytes after its position are the se
 """
 import vt220
 
-from .keys import Damaged, Lost, Trimmed, Version, Wrong, is_known, key, position, read_checkpoint
+from .keys import Damaged, Long, Lost, Trimmed, Version, Wrong, is_known, key, position, read_checkpoint
 
 
 class Session:
@@ -88,13 +88,15 @@ def play_on(store, session, end):
         raise Trimmed(f"the bytes from {session.at} to {end} are gone")
 
 
-def as_it_is(store, incarnation):
+def as_it_is(store, incarnation, most=None):
     """Returns a session as it is in the store now, without a worker. A worker may store a checkpoint and trim in between, so
-    what seems trimmed is read again as long as the checkpoint moves."""
+    what seems trimmed is read again as long as the checkpoint moves. Raises Long if more than `most` bytes are to be played."""
     seen = -1
     while True:
         session, end = look_up(store, incarnation)
         begin = session.at
+        if most is not None and end - begin > most:
+            raise Long(f"{end - begin} bytes come after the checkpoint")
         try:
             play_on(store, session, end)
             return session

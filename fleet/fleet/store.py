@@ -26,6 +26,11 @@ LUA = os.path.join(os.path.dirname(os.path.abspath(__file__)), "lua")
 UNSAFE = "appendonly is off: what the store acknowledges is lost when it stops"
 
 
+def read_password(path):
+    with open(path) as file:
+        return file.read().strip()
+
+
 class Unfit(Exception):
     """This store cannot keep a fleet."""
 
@@ -72,12 +77,20 @@ class Store(redis.Redis):
         self.outages = 0  # how often the store was away
         self.hashes = {}
         self.run_id, self.minds_runs = None, False
+        self.password_file = None
+        self.was_let_in = False  # a password was accepted once: if it isn't any more, it is being changed
         self.patience = None  # seconds that the store is waited for; None for ever
         self.connection_pool.connection_kwargs["redis_connect_func"] = self.greet
 
     def greet(self, connection):
-        """Begins a connection, and looks whether the store at its other end is the one of the connections before."""
-        connection.on_connect()
+        """Begins a connection, and looks whether the store at its other end is the one of the connections before. The password
+        is read anew for each connection, so that it can be changed while the fleet runs."""
+        if self.password_file:
+            connection.password = read_password(self.password_file)
+        try:
+            connection.on_connect()
+        except ResponseError as error:
+            raise AuthenticationError(str(error)) if "WRONGPASS" in str(error) else error
         connection.send_command("INFO", "server")
         said = connection.read_response()
         run_id = next((line[7:].strip() for line in said.split(b"\n") if line.startswith(b"run_id:")), None)
@@ -85,7 +98,7 @@ class Store(redis.Redis):
             log.warning("the store was started again, or is another one")
             if self.minds_runs:
                 raise AnotherRun()
-        self.run_id = run_id
+        self.run_id, self.was_let_in = run_id, True
 
     def accept_run(self):
         """Goes on with the store as it is now: whoever calls this reads anew what it depends on."""
@@ -101,7 +114,8 @@ class Store(redis.Redis):
                 answer = call()
                 break
             except (redis.RedisError, OSError) as error:
-                if not (isinstance(error, OSError) or is_for_now(error)):
+                is_being_changed = self.was_let_in and isinstance(error, AuthenticationError)
+                if not (isinstance(error, OSError) or is_for_now(error) or is_being_changed):
                     raise
                 self.is_away(error)
                 if self.patience is not None and time.monotonic() - self.away_since > self.patience:
@@ -204,9 +218,11 @@ class Store(redis.Redis):
             log.warning("unsafe store: %s", each)
 
 
-def connect(url, **options):
+def connect(url, password_file=None, **options):
     """Returns the store at an address: unix:///PATH, redis://HOST:PORT or rediss://HOST:PORT (TLS)."""
     words = {"socket_timeout": TIMEOUT} | options
     if urlsplit(url).scheme != "unix":
         words = {"socket_keepalive": True, "socket_connect_timeout": TIMEOUT} | words
-    return Store.from_url(url, **words)
+    store = Store.from_url(url, **words)
+    store.password_file = password_file
+    return store

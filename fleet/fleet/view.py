@@ -1,6 +1,5 @@
 """Looks at a session from any machine that reaches the store, and types into it if its host allows that."""
 import os
-import re
 import select
 import sys
 import termios
@@ -8,9 +7,11 @@ import time
 import tty
 
 import vt220
+from vt220.keyboard import typed
 
+from . import keys
 from .keys import key
-from .operate import Typist
+from .operate import Sender, Typist
 from .session import as_it_is
 
 FRAME = 0.05
@@ -77,7 +78,7 @@ class Viewer:
         if answer[0] in ("lost", b"lost"):
             self.is_over, self.fault = True, self.fault or "Lost: the store no longer has this session"
             return
-        self.worker, self.fault, self.is_over = answer[1].decode(), answer[2].decode("utf-8", "replace"), bool(answer[3])
+        self.worker, self.fault, self.is_over = answer[1].decode(), keys.shown(answer[2]), bool(answer[3])
         self.takes_input = answer[5] == b"1"
         if order(answer[4]) < order(self.last):  # the stream began anew
             self.last = "0-0"
@@ -110,44 +111,47 @@ def order(entry_id):
     return tuple(int(part) for part in words.split("-"))
 
 
-ARROWS = re.compile(rb"\x1b(?:\[|O)([ABCD])")
-
-
-def translated(data, modes):
-    """Returns keys as a VT220 sends them: arrows by the mode of the cursor keys."""
-    return ARROWS.sub((b"\x1bO" if modes.decckm else b"\x1b[") + rb"\1", data)
-
-
 class Keyboard:
     """This terminal's keys, raw while they go to the session. Ctrl-] ends it."""
 
-    def __init__(self, typist):
-        self.typist, self.saved = typist, termios.tcgetattr(0)
+    def __init__(self, typist, drawing):
+        self.sender, self.drawing, self.saved = Sender(typist), drawing, termios.tcgetattr(0)
+        self.held = b""  # the beginning of a key whose end hasn't come
         tty.setraw(0)
 
     def pass_on(self, modes):
-        """Sends what was typed. Returns whether to go on."""
+        """Sends what was typed, as a VT220 sends it under these modes. Returns whether to go on."""
         if not select.select([0], [], [], 0.02)[0]:
+            self.sender.type(self.held)
+            self.held = b""
             return True
         data = os.read(0, 1024)
-        if data and LEAVE not in data:
-            self.typist.type(translated(data, modes))
-        return bool(data) and LEAVE not in data
+        if not data or LEAVE in data:
+            return False
+        read = typed(self.held + data, modes)
+        self.held = read.held
+        self.sender.type(read.sent)
+        if read.refused:
+            self.drawing.say("\a")
+        return True
 
     def leave(self):
         termios.tcsetattr(0, termios.TCSADRAIN, self.saved)
+        self.sender.finish()
 
 
-def state_line(viewer):
+def state_line(viewer, keyboard):
     if viewer.fault:
         return f"fault: {viewer.fault}"
+    if keyboard and keyboard.sender.fault:
+        return f"not typed: {keyboard.sender.fault}"
     return "" if viewer.worker else "no worker has this session: waiting"
 
 
 def follow(store, incarnation, types=False):
     """Shows a session on this terminal until it is over. Returns the exit status: 0, or 4 for a fault."""
     viewer, drawing = Viewer(store, incarnation), Drawing(sys.stdout)
-    keyboard = Keyboard(Typist(store, incarnation)) if types else None
+    keyboard = Keyboard(Typist(store, incarnation), drawing) if types else None
     drawing.say("\033[?1049h\033[2J")
     try:
         look(viewer, drawing, keyboard)
@@ -170,8 +174,8 @@ def look(viewer, drawing, keyboard):
         if asked is None or time.monotonic() - asked > 1:
             asked = time.monotonic()
             viewer.ask()
-            if state_line(viewer) != noted:
-                noted = state_line(viewer)
+            if state_line(viewer, keyboard) != noted:
+                noted = state_line(viewer, keyboard)
                 drawing.note(noted)
         if viewer.follow(0 if keyboard else FRAME):  # a store's shortest wait is longer than a key should take
             drawing.draw(viewer.terminal)

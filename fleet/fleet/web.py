@@ -4,6 +4,7 @@ alone who have the token that is in its address.
 All that sessions write reaches the page as JSON, and the page puts it into text nodes: no name and no screen is ever markup.
 """
 import asyncio
+import collections
 import hmac
 import json
 import logging
@@ -14,28 +15,17 @@ import threading
 from concurrent.futures import ThreadPoolExecutor
 from urllib.parse import urlsplit
 
+import vt220
 from aiohttp import WSMsgType, web
+from vt220.keyboard import spelled
 
 from .gallery import Gallery
-from .operate import Typist
-from .view import translated
+from .operate import PAUSE as PAUSE_OF_KEYS, Typist, parts
 
 log = logging.getLogger("fleet.web")
 
 HERE = os.path.join(os.path.dirname(os.path.abspath(__file__)), "page")
 PAUSE = 0.04  # seconds between two messages to a client
-KEYS = {
-    "Up": b"\033[A",
-    "Down": b"\033[B",
-    "Right": b"\033[C",
-    "Left": b"\033[D",
-    "Find": b"\033[1~",
-    "Insert": b"\033[2~",
-    "Remove": b"\033[3~",
-    "Select": b"\033[4~",
-    "Prev": b"\033[5~",
-    "Next": b"\033[6~",
-}
 POLICY = (
     "default-src 'none'; script-src 'nonce-{0}'; style-src 'nonce-{0}'; connect-src 'self'; "
     "base-uri 'none'; form-action 'none'; frame-ancestors 'none'"
@@ -56,6 +46,48 @@ def token_of(path):
     if len(token) < 16:
         raise ValueError(f"{path}: a token has at least 16 characters")
     return token
+
+
+class Typing:
+    """A browser's keys for one session, in order. A program that reads nothing holds up nobody's keys for other sessions."""
+
+    MOST = 64  # messages of keys that wait
+
+    def __init__(self, page, socket, incarnation):
+        self.page, self.socket, self.typist = page, socket, Typist(page.store, incarnation)
+        self.waiting, self.task = collections.deque(), None
+
+    def add(self, data):
+        if len(self.waiting) >= self.MOST:
+            raise self.typist.unread()
+        self.waiting.append(data)
+        if self.task is None or self.task.done():
+            self.task = asyncio.ensure_future(self.run())
+
+    async def run(self):
+        try:
+            while self.waiting:
+                for part_of_keys in parts(self.waiting.popleft()):
+                    await self.send(part_of_keys)
+        except Exception as error:
+            self.waiting.clear()
+            await self.socket.send_str(problem(error))
+
+    async def send(self, data):
+        loop = asyncio.get_running_loop()
+        end = loop.time() + self.typist.patience
+        while not await loop.run_in_executor(self.page.threads, self.typist.offer, "keys", data):
+            if loop.time() > end:
+                raise self.typist.unread()
+            await asyncio.sleep(PAUSE_OF_KEYS)
+
+    def cancel(self):
+        if self.task:
+            self.task.cancel()
+
+
+def problem(error):
+    return json.dumps({"error": f"{type(error).__name__}: {error}"})
 
 
 class Page:
@@ -128,26 +160,31 @@ class Page:
             await asyncio.sleep(PAUSE)
 
     async def receive(self, socket):
-        typists = {}
-        async for message in socket:
-            if message.type != WSMsgType.TEXT:
-                break
-            try:
-                await self.hear(json.loads(message.data), typists)
-            except Exception as error:
-                await socket.send_str(json.dumps({"error": f"{type(error).__name__}: {error}"}))
+        typed = {}
+        try:
+            async for message in socket:
+                if message.type != WSMsgType.TEXT:
+                    break
+                try:
+                    self.hear(json.loads(message.data), socket, typed)
+                except Exception as error:
+                    await socket.send_str(problem(error))
+        finally:
+            for typing in typed.values():
+                typing.cancel()
 
-    async def hear(self, said, typists):
-        """Takes keys: {"session": .., "text": ..} or {"session": .., "key": a name of KEYS}. One after the other."""
+    def hear(self, said, socket, typed):
+        """Takes keys: {"session": .., "text": characters} or {"session": .., "key": a name of vt220-keys.h}."""
         followed = self.gallery.followed.get(str(said.get("session")))
         if not followed:
             raise ValueError("no such session")
         if not self.settings.typing:
             raise PermissionError("this page doesn't type: fleet web --typing")
-        data = KEYS[said["key"]] if "key" in said else str(said["text"])[:4096].encode()
-        data = translated(data, followed.picture.modes)
-        typist = typists.setdefault(followed.incarnation, Typist(self.store, followed.incarnation))
-        await asyncio.get_running_loop().run_in_executor(self.threads, typist.type, data)
+        modes = followed.picture.modes
+        data = vt220.key(str(said["key"]), modes) if "key" in said else spelled(str(said["text"])[:4096], modes)
+        if followed.incarnation not in typed:
+            typed[followed.incarnation] = Typing(self, socket, followed.incarnation)
+        typed[followed.incarnation].add(data)
 
     async def start(self, app):
         self.loop = asyncio.get_running_loop()
@@ -164,6 +201,11 @@ def serve(store, settings):
     """Serves the page until Ctrl-C."""
     page = Page(store, settings)
     where = f"[{settings.address}]" if ":" in settings.address else settings.address
-    print(f"http://{where}:{settings.port}/?token={page.token}", file=sys.stderr, flush=True)
-    web.run_app(page.application(), host=settings.address, port=settings.port, print=None, access_log=None)
+    address = f"http://{where}:{settings.port}/?token={page.token}"
+
+    def announce(_):
+        """Prints the address, once the page is served there."""
+        print(address, file=sys.stderr, flush=True)
+
+    web.run_app(page.application(), host=settings.address, port=settings.port, print=announce, access_log=None)
     return 0

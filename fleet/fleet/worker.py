@@ -10,7 +10,7 @@ import time
 import vt220
 
 from . import keys
-from .claims import Claims
+from .claims import HANDFUL, Claims
 from .frames import Frames
 from .inbox import Inbox
 from .keys import key
@@ -26,6 +26,7 @@ BYTES = 524288  # that are played in a turn, shared by all sessions that have so
 SHARE = 16384  # of them that a session may always play
 REPORTS = 200  # of a session that are made in a turn
 UNREAD = 4096  # reports that may wait for a host; then its session is not played on
+SETTLED = 60.0  # seconds that a session stays with a worker at least, unless that one leaves
 NOTE = 5.0  # seconds until the store is told how far a session is, if nothing else tells it
 
 
@@ -49,6 +50,8 @@ class Kept(Session):
         self.shown, self.step = None, 0  # what viewers have
         self.watched = 0.0  # until when somebody looks
         self.is_dirty = True  # something was played since viewers were sent a frame
+        self.taken = time.monotonic()
+        self.is_on_trial = False  # workers died in its company; this one takes no other until it caught up
 
     def play_some(self, every, budget):
         """Plays what was read, up to so many bytes, and makes a checkpoint if one is due. Returns what is left of the bytes."""
@@ -104,8 +107,22 @@ class Worker:
             self.reconcile()
         if news.is_draining:
             self.is_leaving = True
+        elif news.excess > 0:
+            self.share(news.excess)
         if news.has_beaten:
             self.look_at_store()
+
+    def share(self, excess):
+        """Hands over what it has beyond its share, to workers that have less: some at a time, and each session only if it has been
+        here for a while and nothing of it waits to be played or told."""
+        now = time.monotonic()
+        settled = (s for s in self.kept.values() if now - s.taken > SETTLED and s.told == s.at and s.incarnation not in self.due)
+        moving = [session.incarnation for session, _ in zip(settled, range(min(excess, HANDFUL)))]
+        if moving:
+            self.claims.release(moving)
+            for incarnation in moving:
+                self.kept.pop(incarnation)
+            log.info("%s hands over %d sessions beyond its share", self.claims.me, len(moving))
 
     def begin_anew(self, why):
         """Drops all sessions and goes on as another worker: what the old one had is others' now."""
@@ -163,12 +180,15 @@ class Worker:
         with self.store.pipeline(transaction=True) as together:
             for each in incarnations:
                 together.hgetall(key(each, "checkpoint"))
-                together.hmget(key(each, "about"), "end", "name", "answered")
+                together.hmget(key(each, "about"), "end", "name")
                 together.exists(key(each, "bytes"))
-            answers = self.store.all_of(together)
+            together.hget(keys.TRYING, self.claims.me)
+            *answers, suspect = self.store.all_of(together)
         for number, each in enumerate(incarnations):
             if each not in self.kept:
                 self.guarded(each, self.adopt_one, each, *answers[3 * number : 3 * number + 3])
+                if each in self.kept:
+                    self.kept[each].is_on_trial = suspect == each.encode()
 
     def adopt_one(self, incarnation, checkpoint, about, is_there):
         for answer in (checkpoint, about, is_there):
@@ -179,7 +199,7 @@ class Worker:
         session, was_damaged = restored(incarnation, checkpoint)
         kept = self.kept[incarnation] = Kept(session, int(about[0]), was_damaged)
         kept.seen = checkpoint.get(b"at", b"").decode("ascii", "replace")
-        kept.name = (about[1] or b"?").decode("utf-8", "replace")
+        kept.name = keys.shown(about[1] or b"?")
         self.due.add(incarnation)
         self.counts["taken"] += 1
         if was_damaged:
@@ -257,7 +277,7 @@ class Worker:
         for session in due:
             self.guarded(session.incarnation, self.play, session, budget)
             self.look_after_claims()
-        self.tell([session for session in due if session.has_news(self.settings.every)])
+        self.tell([session for session in due if session.has_news(self.settings.every) or self.has_passed(session)])
         self.note()
         self.frames.show(self.kept, self.claims.me)
         if self.is_leaving:
@@ -294,6 +314,10 @@ class Worker:
             unread = self.store.all_of(together) if choked else []
         self.choked = {i for i, count in zip(choked, unread) if isinstance(count, int) and count > UNREAD}
         self.due |= set(choked) - self.choked
+
+    def has_passed(self, session):
+        """Returns whether a session on trial has caught up. The store is told at once: then this worker takes others again."""
+        return session.is_on_trial and session.incarnation not in self.due
 
     def read(self, sessions):
         """Reads what came for sessions, for many with one call. If that is refused, each is read by itself."""
@@ -374,7 +398,7 @@ class Worker:
 
     def was_told(self, session, unread):
         self.counts["reports"] += len(session.reports)
-        session.reports, session.told = [], session.at
+        session.reports, session.told, session.is_on_trial = [], session.at, False
         if session.checkpoint:
             self.counts["checkpoints"] += 1
             session.seen, session.was_damaged, session.checkpoint = str(session.checkpoint["at"]), False, None

@@ -8,6 +8,8 @@ import tempfile
 
 import aiohttp
 
+from harness import PATIENCE, wait_for
+
 
 class Browser:
     """A page in a browser. All calls wait until they are done."""
@@ -25,22 +27,36 @@ class Browser:
             "--remote-debugging-port=0",
         ]
         words += [f"--user-data-dir={self.folder}", f"--window-size={width},{height}", "about:blank"]
-        self.process = subprocess.Popen(
-            words, stdout=subprocess.DEVNULL, stderr=subprocess.PIPE, text=True, start_new_session=True
-        )
-        address = next(line.split()[-1] for line in self.process.stderr if line.startswith("DevTools listening on"))
-        self.port = address.split(":")[2].split("/")[0]
+        self.process = subprocess.Popen(words, stdout=subprocess.DEVNULL, stderr=subprocess.DEVNULL, start_new_session=True)
+        wait_for(self.listens)
         self.number, self.said = 0, []
         self.do(self.open(url))
 
+    def listens(self):
+        """Returns whether the browser has written on which port it listens."""
+        path = os.path.join(self.folder, "DevToolsActivePort")
+        if not os.path.exists(path):
+            return False
+        with open(path) as file:
+            said = file.read().splitlines()
+        self.port = said[0] if said else ""
+        return len(said) > 1
+
     def do(self, what):
-        return self.loop.run_until_complete(asyncio.wait_for(what, 30))
+        return self.loop.run_until_complete(asyncio.wait_for(what, PATIENCE))
+
+    async def page(self):
+        """Returns the address of the first page, once there is one."""
+        while True:
+            async with self.client.get(f"http://127.0.0.1:{self.port}/json/list") as answer:
+                for each in await answer.json():
+                    if each["type"] == "page":
+                        return each["webSocketDebuggerUrl"]
+            await asyncio.sleep(0.02)
 
     async def open(self, url):
         self.client = aiohttp.ClientSession()
-        async with self.client.get(f"http://127.0.0.1:{self.port}/json/list") as answer:
-            page = next(each for each in await answer.json() if each["type"] == "page")
-        self.socket = await self.client.ws_connect(page["webSocketDebuggerUrl"], max_msg_size=0)
+        self.socket = await self.client.ws_connect(await self.page(), max_msg_size=0)
         for domain in ("Page", "Runtime", "Log", "Accessibility"):
             await self.ask(f"{domain}.enable")
         await self.ask("Page.navigate", url=url)

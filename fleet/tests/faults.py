@@ -1,6 +1,5 @@
 """Faults of workers and hosts: killed, stopped, names used again, poison, hostile sessions."""
 import signal
-import time
 
 from harness import (
     Processes,
@@ -8,6 +7,7 @@ from harness import (
     Source,
     check,
     compare,
+    is_buried,
     key,
     keys,
     played,
@@ -23,6 +23,7 @@ from harness import (
 )
 from stores_faults import program
 from fleet.host import Taken
+from fleet.worker import REPORTS
 
 
 def owners(store, sources):
@@ -44,17 +45,16 @@ def four_hundred_idle_sessions_outlive_their_worker(machine, _):
     workers.all[0].send_signal(signal.SIGKILL)
     workers.all[0].wait()
     dead = store.hkeys(keys.WORKERS)[0]
-    begin = time.monotonic()
     workers.all += [workers.another() for _ in range(3)]
 
     def are_moved():
         have = owners(store, sources)
         return all(owner and owner != dead for owner in have.values())
 
-    check(wait_for(are_moved, 30), name, f"all are another's, at a lease of 1 s in {time.monotonic() - begin:.1f} s")
+    check(wait_for(are_moved), name, "all are another's")
     for source in sources:
         source.send(b"!\033[6n").end(0)
-    check(wait_for(lambda: all(source.is_ended() for source in sources), 15), name, "they go on")
+    check(wait_for(lambda: all(source.is_ended() for source in sources)), name, "they go on")
     for source in sources:
         source.receive(0)
     check(all(source.reports() == played(source.sent)[1] for source in sources), name, "each report once")
@@ -88,7 +88,7 @@ def a_slow_worker_harms_no_session(url, data):
 def stopped_workers_harm_no_session(machine, data):
     name = "stopped"
     sources = [Source(machine.url, f"stopped-{number}").listen() for number in range(12)]
-    workers = Processes(machine, 3, "--lease", "0.5", "--every", "512", "--keep", "0")
+    workers = Processes(machine, 3, "--lease", "1", "--every", "512", "--keep", "0")
     rounds = 8
     for number in range(rounds):
         victim = workers.all[number % 3]
@@ -97,14 +97,13 @@ def stopped_workers_harm_no_session(machine, data):
                 source.send(data[number * 300 + begin * 70 :][:70] + b"\033[6n")
             if begin == 0:
                 victim.send_signal(signal.SIGSTOP)
-            time.sleep(0.3)
+        check(wait_for(lambda: is_buried(sources[0].store, victim)), name, "others have the sessions of one that is stopped")
         victim.send_signal(signal.SIGCONT)
     for source in sources:
         source.send(b"\030").end(0)
-    check(wait_for(lambda: all(source.is_ended() for source in sources), 20), name, "all end")
-    time.sleep(0.5)
+    check(wait_for(lambda: all(source.is_ended() for source in sources)), name, "all end")
     for source in sources:
-        source.stop()
+        source.finish()
         check(source.fault() == "", source.name, source.fault())
         check(source.reports() == played(source.sent)[1], source.name, "each report once")
         ended = source.store.hget(source.part("ended"), "text")
@@ -116,24 +115,23 @@ def stopped_workers_harm_no_session(machine, data):
 def a_worker_behind_a_dead_link_harms_no_session(machine, data):
     """It waits inside a read while others take its sessions and trim their bytes; then its link works again."""
     name, proxy = "dead link", Proxy(machine)
-    cut = Processes(machine, 1, "--lease", "0.5", "--every", "512", "--keep", "0", url=proxy.url)
+    cut = Processes(machine, 1, "--lease", "1", "--every", "512", "--keep", "0", url=proxy.url)
     sources = [Source(machine.url, f"link-{number}").send(data[:1000]).listen() for number in range(4)]
     store = sources[0].store
     wait_for(lambda: all(int(store.hget(s.part("about"), "played")) == 1000 for s in sources))
     proxy.signal(signal.SIGUSR2)
-    other = Processes(machine, 1, "--lease", "0.5", "--every", "512", "--keep", "0")
-    time.sleep(1.5)
+    other = Processes(machine, 1, "--lease", "1", "--every", "512", "--keep", "0")
+    check(wait_for(lambda: is_buried(store, cut.all[0])), name, "others take what it had")
     for source in sources:
         source.send(data[1000:] * 4 + b"\033[c")
     check(wait_for(lambda: all(source.reports() == played(source.sent)[1] for source in sources)), name, "another answers")
     proxy.signal(signal.SIGUSR2)
-    time.sleep(1)
+    check(wait_for(lambda: not is_buried(store, cut.all[0])), name, "it begins anew")
     for source in sources:
         source.send(b"\033[6n").end(0)
     check(wait_for(lambda: all(source.is_ended() for source in sources)), name, "all end")
-    time.sleep(0.3)
     for source in sources:
-        source.stop()
+        source.finish()
         check(source.fault() == "", name, source.fault())
         compare(source, name)
     for each in (cut, other, proxy):
@@ -158,9 +156,11 @@ def a_name_is_used_again_after_an_end(url, data):
 
 def a_name_whose_host_died_is_used_again(url, data):
     name, one = "died", worker(url)
-    first = Source(url, name, lease=0.5).send(data + b"\033[c")
+    first = Source(url, name).send(data + b"\033[c")
     until(lambda: one.kept and not one.due, one)
     check(raises(Taken, Source, url, name), name, "not while the lease lasts")
+    check(0 < first.store.ttl(keys.lease(name)) <= first.host.lease, name, "which ends by itself")
+    first.store.pexpire(keys.lease(name), 1)
     check(until(lambda: not first.store.exists(keys.lease(name)), one), name, "the lease ends")
     second = Source(url, name).send(b"x\033[6n")
     check(until(first.is_ended, one), name, "the first session is closed")
@@ -172,7 +172,7 @@ def a_name_whose_host_died_is_used_again(url, data):
 
 def two_hosts_never_mix(url, _):
     name, one = "two hosts", worker(url)
-    first = Source(url, name, lease=30)
+    first = Source(url, name)
     try:
         Source(url, name)
         check(False, name, "the second is refused")
@@ -186,7 +186,7 @@ def two_hosts_never_mix(url, _):
 def what_an_old_worker_writes_meets_no_new_session(url, data):
     """Keys of an ended session are removed, its name is used again, and a worker wakes that had the old one."""
     name, old, new = "stale", worker(url), worker(url)
-    first = Source(url, name, lease=0.3).send(b"x" * 700 + b"\033[6n")
+    first = Source(url, name).send(b"x" * 700 + b"\033[6n")
     until(lambda: old.kept, old)
     kept = old.kept[first.incarnation]
     old.due.clear()
@@ -280,25 +280,20 @@ sys.exit(0 if got == b"\\033[?62;1;6c" * count else 1)
 
 
 @with_machine
-def a_hostile_session_delays_no_other(machine, _):
+def a_hostile_session_harms_no_other(machine, _):
     """A program asks 200,000 questions as fast as it can, and counts the answers."""
     name = "hostile"
     workers = Processes(machine, 1, "--lease", "1")
     calm = [Source(machine.url, f"calm-{number}").listen() for number in range(4)]
     wait_for(lambda: all(owners(calm[0].store, calm).values()))
-    before, late = owners(calm[0].store, calm), []
-    flood = program(machine, "flood", [local.PYTHON, "-c", FLOOD])
-    end = time.monotonic() + 300
-    while flood.poll() is None and time.monotonic() < end:
+    before = owners(calm[0].store, calm)
+    flood, are_answered = program(machine, "flood", [local.PYTHON, "-c", FLOOD]), True
+    while flood.poll() is None and are_answered:
         for source in calm:
-            asked, had = time.monotonic(), len(source.got)
+            had = len(source.got)
             source.send(b"\033[6n")
-            wait_for(lambda: len(source.got) > had, 30, 0.002)
-            late.append(time.monotonic() - asked)
-    late.sort()
-    # What one waits for is the machine's as well as the worker's: so the middle one is looked at, and the worst is printed.
-    delays = f"{len(late)} reports, median {late[len(late) // 2]:.3f} s, worst {late[-1]:.3f} s"
-    check(late[len(late) // 2] < 1.0, name, f"most of the neighbours' reports come within a second: {delays}")
+            are_answered = are_answered and wait_for(lambda: len(source.got) > had)
+    check(are_answered, name, "its neighbours get their reports meanwhile")
     check(flood.poll() == 0, name, f"the hostile program has all its answers, once: {flood.poll()}")
     check(owners(calm[0].store, calm) == before, name, "no session changes its worker")
     incarnation = calm[0].store.hget(keys.NAMES, "flood").decode()
@@ -309,15 +304,35 @@ def a_hostile_session_delays_no_other(machine, _):
     workers.stop()
 
 
+def a_hostile_session_delays_no_other(url, _):
+    """Many questions wait. A turn of the worker answers the neighbours' and some of these. The turns are the test's."""
+    name, one, count = "share", worker(url, lease=3600), 20000
+    flood = Source(url, "many").send(b"\033[c" * count, piece=4096).listen()
+    calm = [Source(url, f"few-{number}") for number in range(4)]
+    until(lambda: len(one.kept) == 5, one)
+    hostile = one.kept[flood.incarnation]
+    for number in range(20):
+        for source in calm:
+            source.send(b"\033[6n")
+        before = hostile.at
+        one.due.update(one.kept)  # whether or not the messages are here
+        one.turn(0.0)
+        check(hostile.at - before <= REPORTS * len(b"\033[c"), name, f"its share of a turn: {hostile.at - before} bytes")
+        check(all(len(source.receive().got) == number + 1 for source in calm), name, "all others have their report after it")
+    check(hostile.at < flood.host.at, name, "while questions wait")
+    check(until(lambda: len(flood.got) == count, one), name, f"which are answered, too: {len(flood.got)}")
+    flood.stop()
+
+
 def a_host_that_reads_no_reports_is_waited_for(url, _):
     name, one = "unread", worker(url)
     source = Source(url, name).send(b"\033[c" * 20000, piece=4096)
-    end = time.monotonic() + 2
-    while time.monotonic() < end:
+    check(until(lambda: source.incarnation in one.choked, one), name, "its session is no longer played")
+    for _ in range(20):
         one.turn(0.01)
     check(source.store.xlen(source.part("answers")) < 6000, name, "no more than a bound of reports waits")
     source.listen()
-    check(until(lambda: len(source.got) == 20000, one, seconds=20), name, f"all come when they are read: {len(source.got)}")
+    check(until(lambda: len(source.got) == 20000, one), name, f"all come when they are read: {len(source.got)}")
     source.stop()
 
 
@@ -326,10 +341,8 @@ def a_worker_hands_over_and_leaves_nothing(url, data):
     sources = [Source(url, f"hand-{number}").send(data[:500] + b"\030") for number in range(40)]
     until(lambda: len(one.kept) == 40, one)
     one.is_leaving = True
-    begin = time.monotonic()
     one.turn(0.01)
-    until(lambda: len(other.kept) == 40, other)
-    check(time.monotonic() - begin < 10, name, "soon")
+    check(until(lambda: len(other.kept) == 40, other), name, "another has all")
     check(one.is_gone and sources[0].store.hlen(keys.WORKERS) == 1, name, "and no trace of it is left")
     check(
         all(s.at == 501 for s in other.kept.values()) or until(lambda: all(s.at == 501 for s in other.kept.values()), other),
@@ -350,6 +363,7 @@ CASES = [
     register_sent_twice_makes_one_session,
     poison_harms_its_session_alone,
     a_session_that_workers_die_of_is_given_up,
+    a_hostile_session_harms_no_other,
     a_hostile_session_delays_no_other,
     a_host_that_reads_no_reports_is_waited_for,
     a_worker_hands_over_and_leaves_nothing,

@@ -1,9 +1,11 @@
 """What the tests share: a count of what passed, a store, workers in this process, and hosts whose program is the test."""
+import contextlib
 import glob
 import os
 import random
 import subprocess
 import sys
+import tempfile
 import threading
 import time
 
@@ -11,7 +13,7 @@ sys.dont_write_bytecode = True
 HERE = os.path.dirname(os.path.abspath(__file__))
 sys.path.insert(0, os.path.join(HERE, ".."))
 
-from fleet import config, keys, local, session, store as stores
+from fleet import config, frames, keys, local, session, store as stores
 from fleet.host import Host
 from fleet.keys import key
 from fleet.worker import Worker
@@ -20,6 +22,13 @@ import vt220
 ROOT = os.path.join(HERE, "..", "..")
 PROGRAM = os.path.join(ROOT, "crates", "vt220", "out", "vt220")
 QUERIES = [b"\033[c", b"\033[5n", b"\033[6n", b"\033[>c", b"\033[?15n", b"\033[?26n"]
+
+# No test depends on how fast the machine is: whatever is waited for comes, or hangs. So every limit of the fleet is a long one, unless
+# a test is about its end, and then it sets a short one.
+PATIENCE = 300  # seconds until what is waited for counts as hanging
+PATIENT = ["[store]", "timeout = 60", f"give-up = {PATIENCE}"]
+stores.TIMEOUT = 60.0
+frames.WATCHED = frames.FORGET = 3600
 
 counts = {"passed": 0, "failed": 0}
 
@@ -49,9 +58,9 @@ def raises(fault, call, *arguments):
     return False
 
 
-def wait_for(is_so, seconds=30.0, pause=0.02):
-    """Waits until something is so, for at most so long. Returns whether it is."""
-    end = time.monotonic() + seconds
+def wait_for(is_so, pause=0.02):
+    """Waits until something is so. Returns whether it is."""
+    end = time.monotonic() + PATIENCE
     while not is_so():
         if time.monotonic() > end:
             return bool(is_so())
@@ -59,9 +68,9 @@ def wait_for(is_so, seconds=30.0, pause=0.02):
     return True
 
 
-def until(is_so, *workers, seconds=30.0):
+def until(is_so, *workers):
     """Turns of workers in this process until something is so. Returns whether it is."""
-    end = time.monotonic() + seconds
+    end = time.monotonic() + PATIENCE
     while not is_so():
         if time.monotonic() > end:
             return False
@@ -86,7 +95,7 @@ class Source:
 
     def __init__(self, url, name, **options):
         self.store = stores.connect(url, **options.pop("connection", {}))
-        self.host = Host(self.store, name, **options)
+        self.host = Host(self.store, name, **{"lease": 3600.0} | options)
         self.host.register()
         self.incarnation, self.name = self.host.incarnation, name
         self.got = []
@@ -126,7 +135,12 @@ class Source:
     def stop(self):
         if self.thread:
             self.is_over.set()
-            self.thread.join(10)
+            self.thread.join(PATIENCE)
+
+    def finish(self):
+        """Stops listening, and reads what is left. A session's last reports are in the store once its end is."""
+        self.stop()
+        return self.receive()
 
     def reports(self):
         return b"".join(what for kind, what in self.got if kind == "report")
@@ -185,6 +199,25 @@ class Processes:
 
     def __getattr__(self, name):
         return getattr(self.group, name)
+
+
+def is_buried(store, process):
+    """Returns whether no worker in the store is this process."""
+    return all(int(each.decode().rsplit("-", 2)[1]) != process.pid for each in store.hkeys(keys.WORKERS))
+
+
+@contextlib.contextmanager
+def configured(machine, *lines):
+    """Has the fleet's processes that start meanwhile read these lines. They may do so later: the file stays as long as the machine."""
+    before = os.environ.get("FLEET_CONFIG")
+    descriptor, path = tempfile.mkstemp(prefix="conf-", dir=machine.folder)
+    with open(descriptor, "w") as file:
+        print(*lines, sep="\n", file=file)
+    os.environ["FLEET_CONFIG"] = path
+    try:
+        yield
+    finally:
+        os.environ.pop("FLEET_CONFIG") if before is None else os.environ.update(FLEET_CONFIG=before)
 
 
 def report():

@@ -7,19 +7,22 @@ import select
 import signal
 import struct
 import subprocess
-import time
 import urllib.request
 
 from harness import (
     HERE,
+    PATIENCE,
+    PATIENT,
     PROGRAM,
     Processes,
     Source,
     check,
+    configured,
     key,
     keys,
     local,
     played,
+    raises,
     stores,
     until,
     wait_for,
@@ -27,6 +30,7 @@ from harness import (
     with_machine,
     worker,
 )
+from fleet.config import Settings, Unclear
 from safety import conf, fleet, free_port
 from stores_faults import program
 
@@ -37,6 +41,13 @@ def state(store, name):
     from fleet.operate import everything
 
     return next((each for each in everything(store) if each["name"] == name), None)
+
+
+def written(store, name):
+    """Returns what a session's program has written so far."""
+    incarnation = store.hget(keys.NAMES, name)
+    entries = store.xrange(key(incarnation.decode(), "bytes")) if incarnation else []
+    return b"".join(fields.get(b"bytes", b"") for _, fields in entries)
 
 
 @with_machine
@@ -58,7 +69,7 @@ def list_tells_how_sessions_are(machine, data):
     wait_for(lambda: store.hget(bad.part("about"), "owner") or bad.fault())
     owner = store.hget(bad.part("about"), "owner")
     store.publish(keys.wake(owner.decode() if owner else "nobody"), bad.incarnation)
-    check(wait_for(lambda: state(store, "bad\u00e4 <b>&")["state"] == "fault", 15), name, "one with a fault")
+    check(wait_for(lambda: state(store, "bad\u00e4 <b>&")["state"] == "fault"), name, "one with a fault")
     status, out, said = fleet(url, "list", "--all")
     lines = out.splitlines()
     check(status == 0 and lines[0].split() == "NAME STATE HOST WORKER LAG SIZE LAST OUTPUT".split(), name, "a table")
@@ -79,18 +90,20 @@ def kill_end_and_their_statuses(machine, data):
     wait_for(lambda: state(store, "runs"))
     check(fleet(url, "host", "runs", "true")[0] == 5, name, "a second host of the name: 5")
     check(fleet(url, "end", "runs")[0] == 6, name, "a session whose host lives isn't ended: 6")
-    check(fleet(url, "kill", "runs")[0] == 0 and host.wait(10) == 129, name, f"kill hangs up: 128 + 1, {host.returncode}")
+    patiently = ("--patience", str(PATIENCE))
+    check(fleet(url, "kill", *patiently, "runs")[0] == 0 and host.wait(PATIENCE) == 129, name, f"kill hangs up: {host.returncode}")
     check(wait_for(lambda: state(store, "runs")["state"] == "ended 129"), name, "the session has the program's status")
-    host = program(machine, "stubborn", ["sh", "-c", "trap '' HUP TERM; while :; do sleep 0.1; done"])
-    wait_for(lambda: state(store, "stubborn"))
-    time.sleep(0.5)
+    host = program(machine, "stubborn", ["sh", "-c", "trap '' HUP TERM; echo on; while :; do sleep 0.1; done"])
+    wait_for(lambda: b"on" in written(store, "stubborn"))
     check(fleet(url, "kill", "--signal", "TERM", "--patience", "1", "stubborn")[0] == 6, name, "one that minds no signal: 6")
-    check(fleet(url, "kill", "--signal", "KILL", "stubborn")[0] == 0 and host.wait(10) == 137, name, "but KILL")
-    lost = program(machine, "lost", ["sleep", "100"])
+    check(fleet(url, "kill", "--signal", "KILL", *patiently, "stubborn")[0] == 0, name, "but KILL")
+    check(host.wait(PATIENCE) == 137, name, f"which its host's status shows: {host.returncode}")
+    with configured(machine, *PATIENT, "[host]", "lease = 1"):
+        lost = program(machine, "lost", ["sleep", "infinity"])
     wait_for(lambda: state(store, "lost"))
     lost.kill()
     lost.wait()
-    check(wait_for(lambda: state(store, "lost")["state"] == "no host", 20, 0.2), name, "a host that was killed")
+    check(wait_for(lambda: state(store, "lost")["state"] == "no host", 0.2), name, "a host that was killed")
     check(fleet(url, "kill", "lost")[0] == 6, name, "nobody is there to pass a signal on: 6")
     incarnation = state(store, "lost")["incarnation"]
     check(fleet(url, "end", "--keep", "2h", "lost")[0] == 0, name, "it is ended")
@@ -100,7 +113,8 @@ def kill_end_and_their_statuses(machine, data):
         name,
         "its keys stay two hours",
     )
-    check(fleet(url, "end", "--keep", "0", "lost")[0] == 0 and not store.keys(f"fleet:{incarnation}:*"), name, "or go at once")
+    check(fleet(url, "end", "--keep", "0", "lost")[0] == 0, name, "or go at once")
+    check(store.keys(f"fleet:{incarnation}:*") == [key(incarnation, "about").encode()], name, "but for a note that it was ended")
     check(fleet(url, "text", "lost")[0] == 3 and fleet(url, "view", "nosuch")[0] == 3, name, "no such session: 3")
     bad = Source(url, "bad")
     store.set(bad.part("fault"), "Trimmed: so")
@@ -120,21 +134,19 @@ def drain_hands_over(machine, data):
     [first] = store.hkeys(keys.WORKERS)
     workers.all.append(workers.another())
     wait_for(lambda: store.hlen(keys.WORKERS) == 2)
-    begin = time.monotonic()
-    check(fleet(url, "drain", first.decode()[:-2])[0] == 0, name, "it is done")
+    check(fleet(url, "drain", "--patience", str(PATIENCE), first.decode()[:-2])[0] == 0, name, "it is done")
     check(
         wait_for(lambda: all(store.hget(s.part("about"), "owner") not in (None, first) for s in sources)), name, "another has all"
     )
-    check(time.monotonic() - begin < 20, name, f"soon, the command's start included: {time.monotonic() - begin:.2f} s")
-    check(workers.all[0].wait(30) == 0, name, "the worker has ended with 0")
-    begin, [second] = time.monotonic(), store.hkeys(keys.WORKERS)
+    check(workers.all[0].wait(PATIENCE) == 0, name, "the worker has ended with 0")
+    [second] = store.hkeys(keys.WORKERS)
     workers.all.append(workers.another())
     wait_for(lambda: store.hlen(keys.WORKERS) == 2)
     workers.all[1].terminate()
-    begin = time.monotonic()
-    check(workers.all[1].wait(30) == 0, name, "SIGTERM does the same")
-    wait_for(lambda: all(store.hget(s.part("about"), "owner") not in (None, second) for s in sources))
-    check(time.monotonic() - begin < 20, name, f"soon: {time.monotonic() - begin:.2f} s")
+    check(workers.all[1].wait(PATIENCE) == 0, name, "SIGTERM does the same")
+    check(
+        wait_for(lambda: all(store.hget(s.part("about"), "owner") not in (None, second) for s in sources)), name, "another has all"
+    )
     check(fleet(url, "drain", "nosuch")[0] == 3, name, "no such worker: 3")
     workers.stop()
 
@@ -147,25 +159,23 @@ def viewers_type_in_order_and_once(machine, _):
 
     name, proxy = "type", Proxy(machine, 0.05)
     workers = Processes(machine, 1)
-    host = program(machine, name, ["sh", "-c", 'stty -echo; while read x; do echo "$x"; done'], "--input")
+    host = program(machine, name, ["sh", "-c", 'stty -echo; echo on; while read x; do echo "$x"; done'], "--input")
     store = stores.connect(machine.url)
-    wait_for(lambda: store.hexists(keys.NAMES, name))
+    wait_for(lambda: b"on" in written(store, name))
     incarnation = store.hget(keys.NAMES, name).decode()
-    time.sleep(0.3)
     typists = [Typist(stores.connect(proxy.url), incarnation) for _ in range(2)]
     for number in range(60):
         typists[number % 2].type(b"line %d\r" % number)
     wanted_lines = [b"line %d" % number for number in range(60)]
 
     def lines():
-        log = b"".join(f.get(b"bytes", b"") for _, f in store.xrange(key(incarnation, "bytes")))
-        return log.replace(b"\r", b"").split(b"\n")[:-1]
+        return written(store, name).replace(b"\r", b"").split(b"\n")[1:-1]
 
     check(wait_for(lambda: len(lines()) >= 60), name, f"all arrives: {len(lines())}")
     check(lines() == wanted_lines, name, "once, and in order")
     check(store.xlen(key(incarnation, "keys")) == 0, name, "and doesn't stay in the store")
     check(fleet(machine.url, "type", "--enter", name, "\u00e4 by the command")[0] == 0, name, "the command types")
-    check(wait_for(lambda: "ä by the command".encode() in lines()), name, "in UTF-8, as it was given")
+    check(wait_for(lambda: b"\xe4 by the command" in lines()), name, "with the byte of the Supplemental set")
     other = program(machine, "read-only", ["cat"])
     wait_for(lambda: store.hexists(keys.NAMES, "read-only"))
     check(fleet(machine.url, "type", "read-only", "x")[0] == 6, name, "a host without --input takes none: 6")
@@ -199,6 +209,35 @@ class OnTerminal:
 
 
 @with_machine
+def keys_have_the_form_that_the_program_asked_for(machine, _):
+    """By the command and in a viewer, under LNM, DECCKM, DECKPAM and S8C1T. The bytes are those of the VT220's manual, chapter 3."""
+    name, url, workers = "modes", machine.url, Processes(machine, 1)
+    source = Source(url, name, takes_input=True).listen().send(b"\033[20h\033[?1h\033=\033 Gready")
+    got, wanted = (lambda: b"".join(what for kind, what in source.got if kind == "keys")), b""
+    for words, sent in (
+        (["--enter", name, "œÿŒ¤é"], b"\xf7\xfd\xd7\xa8\xe9\r\n"),
+        ([name, "ls\r\x7f"], b"ls\r\n\x7f"),
+        ([name, "\033[A\033OP\033Ou\033[3~\033[29~"], b"\x8fA\x8fP\x8fu\x9b3~\x9b29~"),
+    ):
+        check(fleet(url, "type", *words)[0] == 0, name, f"type {words}")
+        wanted += sent
+        check(wait_for(lambda: got() == wanted), name, f"{words} arrive: {got()}")
+    status, _, said = fleet(url, "type", name, "3÷4")
+    check(status == 2 and "no key of a VT220 sends '÷'" in said, name, f"a character without a key: {status}, {said}")
+    types = OnTerminal(url, "view", "--type", name)
+    check(wait_for(lambda: types.has(b"ready")), name, "a viewer")
+    for typed, sent in (("œÿé\r".encode(), b"\xf7\xfd\xe9\r\n"), (b"\033[A\033[H\033[3~\x7f", b"\x8fA\x9b1~\x9b3~\x7f"), ("3÷".encode(), b"3")):
+        os.write(types.master, typed)
+        wanted += sent
+        check(wait_for(lambda: got() == wanted), name, f"{typed} arrives: {got()}")
+    check(wait_for(lambda: types.has(b"\a")), name, "a character without a key rings")
+    os.write(types.master, b"\x1d")
+    check(types.status() == 0 and got() == wanted, name, "and nothing else was sent")
+    source.stop()
+    workers.stop()
+
+
+@with_machine
 def a_viewer_follows_and_types_on_a_terminal(machine, _):
     name, workers = "view", Processes(machine, 1, "--lease", "1")
     host = program(machine, name, ["sh", "-c", "printf '\\033[1mhello\\033[m'; while read x; do echo \"got $x\"; done; exit 3"], "--input")
@@ -210,13 +249,25 @@ def a_viewer_follows_and_types_on_a_terminal(machine, _):
     check(wait_for(lambda: looks.has(b"got by ")), name, "what one viewer types, the other sees")
     workers.kill(0)
     os.write(types.master, b"after a kill\r")
-    check(wait_for(lambda: looks.has(b"got after a kill"), 15), name, "over the death of a worker, too")
+    check(wait_for(lambda: looks.has(b"got after a kill")), name, "over the death of a worker, too")
     os.write(types.master, b"\x1d")
     check(types.status() == 0, name, "Ctrl-] leaves")
     typed = fleet(machine.url, "type", name, "\x04")
-    check(typed[0] == 0 and host.wait(10) == 3, name, "an end of file ends the program")
+    check(typed[0] == 0 and host.wait(PATIENCE) == 3, name, "an end of file ends the program")
     check(looks.status() == 0, name, "and the viewer, at the session's end")
     workers.stop()
+
+
+BEGUN = 1_700_000_000_000  # a moment, in milliseconds
+
+
+def send_at_their_moments(source, *parts):
+    """Sends parts by a clock that goes on by 150 ms from one to the next."""
+    before = keys.now
+    for number, part in enumerate(parts):
+        keys.now = lambda: BEGUN + 150 * number
+        source.send(part)
+    keys.now = before
 
 
 @with_machine
@@ -224,9 +275,7 @@ def sessions_are_looked_at_and_exported(machine, data):
     name, url = "export", machine.url
     one = worker(url)
     source = Source(url, name)
-    for part in (data[:2000], b"\x84\x9b7mC1\xe4", data[2000:]):
-        source.send(part)
-        time.sleep(0.15)
+    send_at_their_moments(source, data[:2000], b"\x84\x9b7mC1\xe4", data[2000:])
     for when in ("live", "ended"):
         if when == "ended":
             source.end(0)
@@ -247,10 +296,10 @@ def sessions_are_looked_at_and_exported(machine, data):
 def check_asciicast(name, text, sent):
     head, *events = map(json.loads, text.splitlines())
     check(head["version"] == 2 and (head["width"], head["height"]) == (80, 24), name, "an asciicast's head")
-    check(abs(head["timestamp"] - time.time()) < 60, name, "with its moment")
+    check(head["timestamp"] == BEGUN / 1000, name, "with its moment")
     check("".join(event[2] for event in events).encode("latin-1") == sent, name, "all bytes")
     times = [event[0] for event in events]
-    check(times == sorted(times) and 0.28 < times[-1] < 30, name, f"at their pace: {times[-1]}")
+    check(times == sorted(times) and set(times) == {0, 0.15, 0.3}, name, f"at their pace: {set(times)}")
 
 
 def check_ttyrec(name, data, sent):
@@ -258,10 +307,10 @@ def check_ttyrec(name, data, sent):
     while at < len(data):
         seconds, micros, length = struct.unpack_from("<III", data, at)
         bytes_ += data[at + 12 : at + 12 + length]
-        moments.append(seconds + micros / 1e6)
+        moments.append(seconds * 1000 + micros / 1000 - BEGUN)
         at += 12 + length
-    check(bytes_ == sent and abs(moments[0] - time.time()) < 60, name, "a ttyrec")
-    check(0.28 < moments[-1] - moments[0] < 30, name, "at its pace")
+    check(bytes_ == sent, name, "a ttyrec")
+    check(moments == sorted(moments) and set(moments) == {0, 150, 300}, name, f"at its pace: {set(moments)}")
 
 
 @with_machine
@@ -272,7 +321,7 @@ def metrics_and_logs(machine, data):
     wait_for(lambda: int(source.store.hget(source.part("about"), "played") or 0) > 4000)
 
     def metrics():
-        text = urllib.request.urlopen(f"http://127.0.0.1:{port}/metrics", timeout=5).read().decode()
+        text = urllib.request.urlopen(f"http://127.0.0.1:{port}/metrics", timeout=PATIENCE).read().decode()
         return dict(line.rsplit(" ", 1) for line in text.splitlines() if not line.startswith("#"))
 
     check(wait_for(lambda: metrics()["fleet_bytes_total"] == f"{float(len(data))}"), name, f"bytes: {metrics()}")
@@ -292,7 +341,7 @@ def metrics_and_logs(machine, data):
 def the_configuration_is_read_and_checked(machine, _):
     name, example = "configuration", os.path.join(HERE, "..", "fleet.conf.example")
     url = machine.url
-    check(fleet(url, "list", config=example)[0] == 0, name, "the example is read")
+    check(not raises(Unclear, Settings, example), name, "the example is read")
     wrong = {
         "[stroe]\n": "section",
         "[store]\nurn = x\n": "urn",
@@ -323,6 +372,7 @@ CASES = [
     kill_end_and_their_statuses,
     drain_hands_over,
     viewers_type_in_order_and_once,
+    keys_have_the_form_that_the_program_asked_for,
     a_viewer_follows_and_types_on_a_terminal,
     sessions_are_looked_at_and_exported,
     metrics_and_logs,

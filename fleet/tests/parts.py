@@ -2,7 +2,6 @@
 import os
 import subprocess
 import threading
-import time
 
 from harness import Source, check, key, keys, played, raises, session, stores, until, wanted, worker, compare
 import vt220
@@ -146,7 +145,6 @@ def viewers_join_late(url, data):
     for at in range(third, len(data), 50):
         source.send(data[at : at + 50])
         one.frames.shown = 0.0
-        viewer.ask()  # else nobody looks any more, if the turns take seconds
         one.turn(0.01)
         viewer.follow(0.001)
         steps = max(steps, viewer.step)

@@ -1,13 +1,16 @@
 """Who may do what: the socket, passwords, TLS, users, the program's environment, and reports that are none."""
+import contextlib
 import os
+import random
 import re
 import socket
 import stat
 import subprocess
-import time
 
 from harness import (
     HERE,
+    PATIENCE,
+    PATIENT,
     Processes,
     Source,
     check,
@@ -30,7 +33,7 @@ def fleet(url, *words, config=None, data=None):
     """Runs the command. Returns its exit status, and what it wrote."""
     where = {"FLEET_REDIS": url} | ({"FLEET_CONFIG": config} if config else {})
     done = subprocess.run(
-        [local.PYTHON, local.COMMAND, *words], env=os.environ | where, input=data, capture_output=True, timeout=60
+        [local.PYTHON, local.COMMAND, *words], env=os.environ | where, input=data, capture_output=True, timeout=PATIENCE
     )
     return done.returncode, done.stdout.decode(), done.stderr.decode()
 
@@ -101,7 +104,6 @@ def only_reports_reach_the_program(url, _):
 
 
 def every_report_of_the_terminal_has_the_form(_, __):
-    import random
     import vt220
 
     terminal, chance, made = vt220.Terminal(), random.Random(3), set()
@@ -133,9 +135,12 @@ def every_report_of_the_terminal_has_the_form(_, __):
 
 
 def free_port():
-    with socket.socket() as free:
-        free.bind(("127.0.0.1", 0))
-        return free.getsockname()[1]
+    """Returns a port that nobody has. It is none of those that the kernel gives to connections, so it stays free."""
+    while True:
+        port = random.randrange(10000, 32768)
+        with socket.socket() as free, contextlib.suppress(OSError):
+            free.bind(("127.0.0.1", port))
+            return port
 
 
 def conf(machine, name, *lines):
@@ -150,11 +155,11 @@ def conf(machine, name, *lines):
 def a_password_is_needed_and_read_from_a_file(machine, _):
     name, password = "password", conf(machine, "password", "secret")
     stores.connect(machine.url).config_set("requirepass", "secret")
-    config = conf(machine, "conf", "[store]", f"password-file = {password}")
+    config = conf(machine, "conf", *PATIENT, f"password-file = {password}")
     status, _, said = fleet(machine.url, "list")
     check(status == 77 and "Authentication" in said, name, f"without it: {status} {said}")
     check(fleet(machine.url, "list", config=config)[0] == 0, name, "with it")
-    status, _, said = fleet(machine.url, "list", config=conf(machine, "wrong", "[store]", f"password-file = {config}"))
+    status, _, said = fleet(machine.url, "list", config=conf(machine, "wrong", *PATIENT, f"password-file = {config}"))
     check(status == 77, name, f"with another: {status} {said}")
 
 
@@ -181,8 +186,8 @@ def users_have_the_rights_that_they_need(machine, _):
     incarnation = store.hget(keys.NAMES, "roles").decode()
     viewer = Viewer(stores.connect(urls["viewer"]), incarnation)
     check(wait_for(lambda: "got hello" in seen(viewer)), "users", "a viewer follows")
-    check(fleet(urls["operator"], "kill", "roles")[0] == 0, "users", "an operator kills")
-    check(host.wait(10) == 129, "users", f"and the host ends with it: {host.returncode}")
+    check(fleet(urls["operator"], "kill", "--patience", str(PATIENCE), "roles")[0] == 0, "users", "an operator kills")
+    check(host.wait(PATIENCE) == 129, "users", f"and the host ends with it: {host.returncode}")
     check(wait_for(lambda: store.exists(key(incarnation, "ended"))), "users", "with an end")
     check(0 < store.ttl(key(incarnation, "bytes")) <= 3600, "users", "whose keys stay for an hour")
     workers.stop()

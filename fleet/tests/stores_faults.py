@@ -8,11 +8,13 @@ import time
 
 from harness import (
     HERE,
+    PATIENCE,
     Processes,
     Proxy,
     Source,
     check,
     compare,
+    configured,
     key,
     keys,
     local,
@@ -37,22 +39,22 @@ def program(machine, name, command, *words):
     )
 
 
-ASK = r"""stty -echo raw; sleep 1; printf 'ab\033[6n'; a=$(dd bs=1 count=6 2>/dev/null)
-stty sane; printf %s "$a" | od -An -c; sleep 1; exit 3"""
+ASK = r"""stty -echo raw; while [ ! -e "$0" ]; do sleep 0.1; done; printf 'ab\033[6n'; a=$(dd bs=1 count=6 2>/dev/null)
+stty sane; printf %s "$a" | od -An -c; exit 3"""
 
 
 @with_machine
 def an_outage_of_ninety_seconds_is_waited_for(machine, data):
     """Workers, a host with a program that waits for an answer, a host that sends, and a viewer."""
-    name = "outage"
+    name, asks = "outage", os.path.join(machine.folder, "asks")
     workers = Processes(machine, 2)
     source = Source(machine.url, "sends").send(data).listen()
-    host = program(machine, "asks", ["sh", "-c", ASK])
+    host = program(machine, "asks", ["sh", "-c", ASK, asks])
     store = stores.connect(machine.url)
     wait_for(lambda: store.hexists(keys.NAMES, "asks"))
     viewer = Viewer(stores.connect(machine.url), source.incarnation)
-    time.sleep(0.5)
     machine.kill()
+    open(asks, "w").close()
     sends = threading.Thread(target=lambda: source.send(data + b"\033[6n").end(0), daemon=True)
     sends.start()
     looks = threading.Thread(target=lambda: until_over(viewer), daemon=True)
@@ -60,16 +62,16 @@ def an_outage_of_ninety_seconds_is_waited_for(machine, data):
     time.sleep(90)
     check(host.poll() is None and all(each.poll() is None for each in workers.all), name, "host and workers wait")
     machine.start()
-    check(host.wait(30) == 3, name, "the program got its answer, and its host has its status")
+    check(host.wait(PATIENCE) == 3, name, "the program got its answer, and its host has its status")
     incarnation = store.hget(keys.NAMES, "asks").decode()
     check(wait_for(lambda: store.exists(key(incarnation, "ended"))), name, "it ends")
     text = (store.hget(key(incarnation, "ended"), "text") or b"").decode()
     check(" ".join(text.split()) == "ab 033 [ 1 ; 3 R", name, f"the answer: {text.split()}")
-    sends.join(30)
+    sends.join(PATIENCE)
     check(wait_for(source.is_ended), name, "the other host went on")
-    looks.join(10)
+    looks.join(PATIENCE)
     check(not looks.is_alive() and viewer.is_over, name, "and so did the viewer")
-    source.stop()
+    source.finish()
     compare(source, name)
     workers.stop()
 
@@ -85,23 +87,17 @@ def half_open_connections_are_left(machine, data):
     """All connections say nothing any more, in either direction, and stay open. New ones work."""
     name, proxy = "half open", Proxy(machine)
     stores.TIMEOUT, before = 2.0, stores.TIMEOUT
-    config = os.path.join(machine.folder, "conf")
-    with open(config, "w") as file:
-        file.write("[store]\ntimeout = 2\n")
-    os.environ["FLEET_CONFIG"] = config
-    workers = Processes(machine, 1, "--lease", "1", url=proxy.url)
-    del os.environ["FLEET_CONFIG"]
+    with configured(machine, "[store]", "timeout = 2"):
+        workers = Processes(machine, 1, "--lease", "1", url=proxy.url)
     source = Source(proxy.url, name, connection={"socket_timeout": 2.0}).send(data).listen()
     check(wait_for(lambda: source.reports() == played(source.sent)[1]), name, "it runs")
     for _ in range(2):
         proxy.signal(signal.SIGUSR1)
-        begin = time.monotonic()
         source.send(b"abc\033[6n")
-        check(wait_for(lambda: source.reports() == played(source.sent)[1], 60), name, "it goes on")
-        check(time.monotonic() - begin < 40, name, f"soon: {time.monotonic() - begin:.1f} s")
+        check(wait_for(lambda: source.reports() == played(source.sent)[1]), name, "it goes on")
     source.send(b"x").end(0)
     check(wait_for(source.is_ended), name, "it ends")
-    source.stop()
+    source.finish()
     compare(source, name)
     stores.TIMEOUT = before
     workers.stop()
@@ -143,9 +139,8 @@ def a_store_that_went_back_is_noticed(machine, data):
     for source in sources:
         source.send(b"\030").end(0)
     check(wait_for(lambda: all(source.is_ended() for source in sources)), name, "all end")
-    time.sleep(0.3)
     for source in sources:
-        source.stop()
+        source.finish()
         check(source.fault() == "", name, source.fault())
         ended = source.store.hget(source.part("ended"), "text")
         check(ended == played(source.sent)[0].text().encode(), name, "text")
@@ -208,6 +203,16 @@ def a_store_without_persistence_is_refused_and_rebuilt(machine, data):
     compare(source, name)
 
 
+def refusals(store):
+    """Returns how many calls the store has refused since it was full."""
+    return int(store.info("errorstats").get("errorstat_OOM", "count=0").removeprefix("count="))
+
+
+def lengths_asked(store):
+    """Returns how often hosts have asked the store how far a worker has played."""
+    return store.info("commandstats").get("cmdstat_hget", {}).get("calls", 0)
+
+
 @with_machine
 def a_full_store_is_waited_for(machine, data):
     """maxmemory, and no eviction: a flood beside a quiet session."""
@@ -218,18 +223,17 @@ def a_full_store_is_waited_for(machine, data):
     quiet = Source(machine.url, "quiet").send(data).listen()
     host = program(machine, "flood", ["sh", "-c", "yes 0123456789012345678901234567890123456789 | head -c 20000000; exit 5"])
     store = stores.connect(machine.url)
-    check(wait_for(lambda: store.info("memory")["used_memory"] > 12 << 20, 30), name, "it is full")
-    time.sleep(3)
+    check(wait_for(lambda: refusals(store) > 20), name, "it is full, and refuses call after call")
     check(host.poll() is None and all(each.poll() is None for each in workers.all), name, "host and workers wait")
     sends = threading.Thread(target=lambda: quiet.send(b"abc\033[6n"), daemon=True)
     sends.start()
     store.config_set("maxmemory", "200mb")
-    check(host.wait(60) == 5, name, "the flood goes on to its end")
-    sends.join(10)
+    check(host.wait(PATIENCE) == 5, name, "the flood goes on to its end")
+    sends.join(PATIENCE)
     check(wait_for(lambda: quiet.reports() == played(quiet.sent)[1]), name, "the quiet session goes on")
     quiet.end(0)
     check(wait_for(quiet.is_ended), name, "and ends")
-    quiet.stop()
+    quiet.finish()
     compare(quiet, name)
     workers.stop()
 
@@ -283,14 +287,16 @@ def without_a_worker_bytes_wait_within_a_bound(machine, _):
     store = stores.connect(machine.url)
     wait_for(lambda: store.hexists(keys.NAMES, name))
     incarnation = store.hget(keys.NAMES, name).decode()
-    time.sleep(3)
+    wait_for(lambda: int(store.hget(key(incarnation, "about"), "end")) >= WAITING)
+    asked = lengths_asked(store)
+    wait_for(lambda: lengths_asked(store) > asked + 50)  # the host waits, and asks again and again
     there = int(store.hget(key(incarnation, "about"), "end"))
     check(WAITING <= there <= WAITING + 65536, name, f"a mebibyte waits, and no more: {there}")
     workers = Processes(machine, 1)
     check(wait_for(lambda: int(store.hget(key(incarnation, "about"), "end")) > 2 * WAITING), name, "with a worker it goes on")
     host.terminate()
-    check(host.wait(10) == 128 + signal.SIGHUP, name, f"and its host ends it: {host.returncode}")
-    check(wait_for(lambda: store.exists(key(incarnation, "ended")), 20), name, "with an end")
+    check(host.wait(PATIENCE) == 128 + signal.SIGHUP, name, f"and its host ends it: {host.returncode}")
+    check(wait_for(lambda: store.exists(key(incarnation, "ended"))), name, "with an end")
     workers.stop()
 
 
@@ -321,11 +327,9 @@ def the_clock_may_jump(machine, data):
     workers = Processes(machine, 1, "--lease", "0.5")
     source = Source(machine.url, name).send(data).listen()
     viewer = Viewer(stores.connect(machine.url), source.incarnation)
-    before = store.time()[0]
     for seconds in (-3600, 3600, -3600, 7200):
         move(seconds)
-        wait_for(lambda: abs(store.time()[0] - before - seconds) < 60)
-        check(abs(store.time()[0] - before - seconds) < 60, name, "the clock jumped")
+        check(wait_for(lambda: abs(store.time()[0] - time.time() - seconds) < 60), name, "the clock jumped")
         workers.kill(0)
         source.send(b"abc\033[6n")
         check(wait_for(lambda: source.reports() == played(source.sent)[1]), name, f"{seconds}: another worker goes on")
@@ -340,7 +344,7 @@ def the_clock_may_jump(machine, data):
     source.host.renew_if_due()
     source.send(b"\030").end(0)
     check(wait_for(source.is_ended), name, "it ends")
-    source.stop()
+    source.finish()
     compare(source, name)
     workers.stop()
 

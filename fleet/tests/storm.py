@@ -1,6 +1,5 @@
 """All faults at once: sessions, workers and a store through a bad link, while workers are stopped and killed, the store is
 killed, goes back, is full, is silent and has another clock, and names are used again."""
-import os
 import random
 import signal
 import sys
@@ -8,11 +7,13 @@ import threading
 import time
 
 from harness import (
+    PATIENCE,
     QUERIES,
     Processes,
     Proxy,
     Source,
     check,
+    configured,
     key,
     keys,
     made_up,
@@ -118,9 +119,15 @@ class Weather:
 
     def stop_a_worker(self):
         victim = self.workers.all[self.chance.randrange(4)]
+        before = self.beats(victim)
         victim.send_signal(signal.SIGSTOP)
-        time.sleep(1.8)
+        # For about two leases of the others. Whether they bury it depends on when their links break.
+        wait_for(lambda: sum(count - before.get(worker, 0) for worker, count in self.beats(victim).items()) >= 24)
         victim.send_signal(signal.SIGCONT)
+
+    def beats(self, victim):
+        """Returns the counts of all workers but one."""
+        return {worker: int(count) for worker, count in self.store.hgetall(keys.WORKERS).items() if b"-%d-" % victim.pid not in worker}
 
     def kill_a_worker(self):
         self.workers.kill(self.chance.randrange(4))
@@ -162,11 +169,13 @@ class Weather:
 def a_storm(machine, _):
     chance, pieces = random.Random(seed), recordings()
     move = shimmed(machine)
-    config = os.path.join(machine.folder, "conf")
-    with open(config, "w") as file:
-        file.write("[store]\ntimeout = 2\n")
     proxy = Proxy(machine, 0.01)
-    os.environ["FLEET_CONFIG"] = config
+    with configured(machine, "[store]", "timeout = 2"):
+        storm(machine, move, proxy, chance, pieces)
+    proxy.stop()
+
+
+def storm(machine, move, proxy, chance, pieces):
     workers = Processes(machine, 4, "--every", "512", "--lease", "1", "--keep", "512", url=proxy.url)
     slots = [Slot(proxy.url, number, random.Random(seed * 1000 + number), pieces) for number in range(SESSIONS)]
     begin, length, errors = time.monotonic(), rounds * 4.0, []
@@ -181,13 +190,11 @@ def a_storm(machine, _):
         weather.round(number)
         time.sleep(max(0.0, begin + (number + 1) * 4.0 - time.monotonic()))
     for thread in threads:
-        thread.join(60)
+        thread.join(PATIENCE)
     check(not errors and not any(thread.is_alive() for thread in threads), "storm", f"all hosts send to the end: {errors}")
     finish(machine, slots)
     report(workers, slots)
     workers.stop()
-    proxy.stop()
-    del os.environ["FLEET_CONFIG"]
 
 
 def finish(machine, slots):
@@ -198,10 +205,9 @@ def finish(machine, slots):
     store = stores.connect(machine.url)
     left = [source for slot in slots for source in slot.all]
     check(len(left) == SESSIONS * TIMES, "storm", f"all sessions began: {len(left)}")
-    wait_for(lambda: all(store.exists(source.part("ended")) or store.exists(source.part("fault")) for source in left), 60, 0.2)
-    time.sleep(1)
+    wait_for(lambda: all(store.exists(source.part("ended")) or store.exists(source.part("fault")) for source in left), 0.2)
     for source in left:
-        source.stop()
+        source.finish()
         source.store = store
         hold(source)
 
@@ -213,10 +219,14 @@ def hold(source):
     ended = store.hgetall(source.part("ended"))
     if not check(ended, name, f"it ended: {source.fault()} {store.hgetall(source.part('about'))}"):
         return
-    check(source.reports() == wanted("reports", data)[1], name, "reports at the program")
+    reports = wanted("reports", data)[1]
     if ended[b"status"] == b"lost":
+        # Of the bytes that the store lost after the host's end, only those reports came that were read before.
         data = data[: int(ended[b"at"])]
+        check(reports.startswith(source.reports()), name, "no other reports at the program")
+        check(source.reports().startswith(wanted("reports", data)[1]), name, "those of the bytes that are there")
     else:
+        check(source.reports() == reports, name, f"reports at the program: {len(source.reports())} bytes of {len(reports)}")
         check((ended[b"at"], ended[b"status"]) == (b"%d" % len(data), b"0"), name, "place and status")
     check(ended[b"text"] == wanted("text", data)[1], name, "text")
     now = session.as_it_is(store, source.incarnation)

@@ -2,13 +2,13 @@
 import asyncio
 import json
 import os
+import socket
 import subprocess
-import time
 
 import aiohttp
 
 from browser import Browser
-from harness import Processes, Source, check, key, keys, local, stores, wait_for, wanted, with_machine
+from harness import PATIENCE, Processes, Source, check, key, keys, local, stores, wait_for, wanted, with_machine
 from safety import free_port
 from stores_faults import program
 
@@ -26,6 +26,11 @@ class Served:
             words, env=os.environ | {"FLEET_REDIS": machine.url}, stdout=subprocess.DEVNULL, stderr=subprocess.PIPE, text=True
         )
         self.url = self.process.stderr.readline().strip()
+        wait_for(self.listens)
+
+    def listens(self):
+        with socket.socket() as client:
+            return client.connect_ex(("127.0.0.1", self.port)) == 0
 
     def stop(self):
         self.process.kill()
@@ -48,10 +53,19 @@ def choose(browser, name):
     )
 
 
-def text_of(store, name):
+def terminal_of(store, name):
     from fleet.session import as_it_is
 
-    return as_it_is(store, store.hget(keys.NAMES, name).decode()).terminal.text().splitlines()
+    return as_it_is(store, store.hget(keys.NAMES, name).decode()).terminal
+
+
+def text_of(store, name):
+    return terminal_of(store, name).text().splitlines()
+
+
+def cursor_of(store, name):
+    place = terminal_of(store, name).cursor()
+    return place.row, place.col
 
 
 @with_machine
@@ -68,7 +82,7 @@ def real_sessions_in_the_browser(machine, _):
             [
                 "sh",
                 "-c",
-                "printf '<img src=x onerror=alert(1)>\\033[1mBold \\033[7mreverse\\033[0m &lt; \\033[4munder'; sleep 100",
+                "printf '<img src=x onerror=alert(1)>\\033[1mBold \\033[7mreverse\\033[0m &lt; \\033[4munder'; sleep infinity",
             ],
         ),
     ]
@@ -107,8 +121,9 @@ def markup_is_text(browser, name):
         name,
         f"attributes: {looks}",
     )
-    browser.run("getSelection().selectAllChildren(document.querySelector('#screen > div'))")
-    check(browser.run("getSelection().toString()").startswith("<img src=x"), name, "its text can be selected")
+    # In one script: between two the page may draw the row anew.
+    selected = browser.run("(getSelection().selectAllChildren(document.querySelector('#screen > div')), getSelection().toString())")
+    check(selected.startswith("<img src=x"), name, f"its text can be selected: {selected}")
     shot(browser, "hostile")
 
 
@@ -123,7 +138,7 @@ def the_editor_is_typed_into(browser, store, name):
     browser.press("Enter", "\r", 13)
     browser.type("two")
     browser.press("Escape", code=27)
-    time.sleep(0.5)
+    check(wait_for(lambda: cursor_of(store, "editor") == (2, 3)), name, "ESC ends the insertion, and the cursor goes back")
     for key_name, code in (("ArrowLeft", 37), ("ArrowUp", 38)):
         browser.press(key_name, code=code)
     browser.type("i!")
@@ -155,7 +170,6 @@ def by_keyboard_alone(browser, name):
     browser.run("[...document.querySelectorAll('li button')].find(e => e.textContent.startsWith('top')).focus()")
     browser.press("Enter", "\r", 13)
     check(browser.run("document.getElementById('title').textContent") == "top", name, "Enter chooses a session")
-    tree = browser.tree()
     for each in (
         ("button", "editor, running"),
         ("searchbox", "Filter"),
@@ -163,27 +177,35 @@ def by_keyboard_alone(browser, name):
         ("navigation", "Sessions"),
         ("checkbox", "Announce changes"),
     ):
-        check(each in tree, name, f"a screen reader finds {each}")
-    check(any(role in ("group", "region") and said == "Screen of top" for role, said in tree), name, "and the screen by its name")
+        check(wait_for(lambda: each in browser.tree()), name, f"a screen reader finds {each}")
+    names = [said for role, said in browser.tree() if role in ("group", "region")]
+    check("Screen of top" in names, name, f"and the screen by its name: {names}")
     browser.run("document.getElementById('announce').click()")
     check(wait_for(lambda: len(browser.run("document.getElementById('said').textContent")) > 20), name, "changes are announced")
     browser.run("document.getElementById('announce').click()")
 
 
+# Another connection: its messages, until there are COUNT of them and two have rows of the session MOVING, and how many seconds they took.
+MESSAGES = """new Promise(done => {
+  const got = [], begun = performance.now(), other = new WebSocket(socket.url);
+  let moves = 0;
+  other.addEventListener("message", event => {
+    got.push(event.data);
+    moves += (JSON.parse(event.data).news || []).some(each => each.session === MOVING && each.rows);
+    if (got.length < COUNT || moves < 2) return;
+    other.close();
+    done([(performance.now() - begun) / 1000, got]);
+  });
+})"""
+
+
 def changes_arrive(browser, store, name):
-    """Only what changed is sent; the flood doesn't hold up the rest."""
-    browser.run("window.got = []; socket.addEventListener('message', e => got.push(e.data))")
-    time.sleep(2)
-    got = [json.loads(each) for each in browser.run("got")]
-    top = [
-        each for message in got for each in message.get("news", []) if each["session"] == store.hget(keys.NAMES, "top").decode()
-    ]
-    still = [
-        each for message in got for each in message.get("news", []) if each["session"] == store.hget(keys.NAMES, HOSTILE).decode()
-    ]
-    check(1 <= len(top) <= 30 and all(len(each.get("rows", {})) <= 24 for each in top), name, f"top's rows: {len(top)}")
-    check(not any(each.get("rows") for each in still), name, "nothing of a session that stands still")
-    check(len(got) < 80, name, f"at most some messages a second: {len(got)} in 2 s")
+    """Only what changed is sent; the flood doesn't hold up the rest. However slow the machine is, messages don't come sooner."""
+    top, still = (store.hget(keys.NAMES, each).decode() for each in ("top", HOSTILE))
+    seconds, got = browser.run(MESSAGES.replace("COUNT", "100").replace("MOVING", json.dumps(top)))
+    check(seconds > len(got) / 40, name, f"at most some messages a second: {len(got)} in {seconds:.2f} s")
+    news = [each for message in got for each in json.loads(message).get("news", []) if each["session"] == still]
+    check(sum("rows" in each for each in news) == 1, name, f"a session that stands still is sent once: {news}")
     choose(browser, "flood")
     before = lines(browser)
     check(wait_for(lambda: lines(browser) != before), name, "the flood moves")
@@ -202,14 +224,14 @@ def ended_and_faulty_sessions_are_shown(machine, data):
     bad.store.publish(keys.wake(owner), bad.incarnation)
     browser = Browser(served.url, 900, 1000)
     try:
-        check(wait_for(lambda: browser.run("document.querySelectorAll('li').length") == 63, 15), name, "all are there")
+        check(wait_for(lambda: browser.run("document.querySelectorAll('li').length") == 63), name, "all are there")
         said = lambda: dict(
             browser.run(
                 "[...document.querySelectorAll('li')]"
                 ".map(e => [e.querySelector('.name').textContent, e.querySelector('.how').textContent])"
             )
         )
-        check(wait_for(lambda: said()["bad"].startswith("fault: Version"), 15), name, f"a fault is named: {said()['bad']}")
+        check(wait_for(lambda: said()["bad"].startswith("fault: Version")), name, f"a fault is named: {said()['bad']}")
         check(
             wait_for(lambda: said()["done"] == "ended 7" and said()["gone"] == "no host"),
             name,
@@ -229,6 +251,44 @@ def ended_and_faulty_sessions_are_shown(machine, data):
         check(browser.run("document.querySelectorAll('li').length") == 10, name, "a filter")
     finally:
         browser.stop()
+        served.stop()
+        workers.stop()
+
+
+@with_machine
+def the_page_sends_the_keys_of_a_vt220(machine, _):
+    """Under LNM, DECCKM and S8C1T. The bytes are those of the VT220's manual, chapter 3."""
+    name, workers, served = "keys", Processes(machine, 1), Served(machine, "--typing")
+    source = Source(machine.url, "keys", takes_input=True).listen().send(b"\033[20h\033[?1h\033 Gready")
+    got, wanted = (lambda: b"".join(what for kind, what in source.got if kind == "keys")), b""
+    browser = Browser(served.url)
+    try:
+        check(wait_for(lambda: browser.run("document.querySelectorAll('li').length") == 1), name, "the session is there")
+        choose(browser, "keys")
+        check(wait_for(lambda: lines(browser)[0].rstrip() == "ready"), name, "and its screen")
+        check(wait_for(lambda: not browser.run("document.getElementById('type').hidden")), name, "and typing")
+        browser.run("document.getElementById('type').click()")
+        for pressed, sent in (
+            (lambda: browser.press("Enter", "\r", 13), b"\r\n"),
+            (lambda: browser.press("Delete", code=46), b"\x9b3~"),
+            (lambda: browser.press("Backspace", code=8), b"\x7f"),
+            (lambda: browser.press("ArrowUp", code=38), b"\x8fA"),
+            (lambda: browser.press("Home", code=36), b"\x9b1~"),
+            (lambda: browser.press("F1", code=112), b"\x8fP"),
+            (lambda: browser.press("F10", code=121), b"\x9b21~"),
+            (lambda: browser.press("c", code=67, modifiers=2), b"\x03"),
+            (lambda: browser.type("éœÿ"), b"\xe9\xf7\xfd"),
+            (lambda: browser.type("3÷4"), b"34"),
+        ):
+            pressed()
+            wanted += sent
+            check(wait_for(lambda: got() == wanted), name, f"{sent} arrives: {got()}")
+        refused = lambda: browser.run("document.getElementById('problem').textContent")
+        browser.type("÷")
+        check(wait_for(lambda: "no key of a VT220 sends '÷'" in refused()), name, f"a character without a key is refused: {refused()}")
+    finally:
+        browser.stop()
+        source.stop()
         served.stop()
         workers.stop()
 
@@ -256,7 +316,7 @@ async def type_without_right(client, base, token, name):
     async with client.ws_connect(f"{base}/live?token={token}") as socket:
         session = None
         while session is None:
-            said = json.loads((await socket.receive(10)).data)
+            said = json.loads((await socket.receive(PATIENCE)).data)
             session = next((each["session"] for each in said.get("news", [])), None)
         for bad in (
             {"session": session, "text": "id\r"},
@@ -270,7 +330,7 @@ async def type_without_right(client, base, token, name):
         await socket.send_str("no JSON")
         errors = 0
         while errors < 7:
-            errors += "error" in json.loads((await socket.receive(10)).data)
+            errors += "error" in json.loads((await socket.receive(PATIENCE)).data)
         check(errors == 7, name, "what may not be typed is refused, and the connection lives")
 
 
@@ -304,4 +364,9 @@ def only_the_token_opens_the_page(machine, _):
     check(not store.exists(key(store.hget(keys.NAMES, "session").decode(), "keys")), name, "nothing was typed")
 
 
-CASES = [real_sessions_in_the_browser, ended_and_faulty_sessions_are_shown, only_the_token_opens_the_page]
+CASES = [
+    real_sessions_in_the_browser,
+    ended_and_faulty_sessions_are_shown,
+    the_page_sends_the_keys_of_a_vt220,
+    only_the_token_opens_the_page,
+]

@@ -2,8 +2,8 @@
 -- ok, with the position that a worker has played; or taken, lost, other (another entry is there), back (with the end there).
 local inc, before, at = ARGV[1], tonumber(ARGV[2]), tonumber(ARGV[3])
 local about = redis.call('HMGET', key(inc, 'about'), 'end', 'played', 'owner', 'closed')
-if not about[1] then return {'lost'} end
 if about[4] then return {'taken', about[4]} end
+if not about[1] then return {'lost'} end
 local there = tonumber(about[1])
 if there >= at then
   local entry = redis.call('XRANGE', key(inc, 'bytes'), ARGV[3] .. '-0', ARGV[3] .. '-0')[1]

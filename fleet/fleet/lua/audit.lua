@@ -6,7 +6,7 @@ for _, inc in ipairs(walked[2]) do
   local is_had = owner and redis.call('HEXISTS', 'fleet:workers', owner) == 1 and redis.call('SISMEMBER', 'fleet:of:' .. owner, inc) == 1
   if redis.call('EXISTS', key(inc, 'about')) == 0 or redis.call('EXISTS', key(inc, 'ended'), key(inc, 'fault')) > 0 then
     retire(inc)
-  elseif not is_had and not redis.call('ZSCORE', 'fleet:waiting', inc) then
+  elseif not is_had and not is_waiting(inc) then
     queue(inc)
     found = found + 1
   end

@@ -11,5 +11,6 @@ local left = redis.call('SCARD', 'fleet:of:' .. dead)
 if left == 0 then
   redis.call('HDEL', 'fleet:workers', dead)
   redis.call('SREM', 'fleet:draining', dead)
+  redis.call('HDEL', 'fleet:trying', dead)
 end
 return left

@@ -14,27 +14,55 @@ local function field(inc, part, name)
   return nil
 end
 
+-- Ends a worker's trial of a session.
+local function absolve(worker, inc)
+  if redis.call('HGET', 'fleet:trying', worker) == inc then redis.call('HDEL', 'fleet:trying', worker) end
+end
+
 -- Takes a session from its worker.
 local function disown(inc)
   local owner = field(inc, 'about', 'owner')
   if owner then
     redis.call('SREM', 'fleet:of:' .. owner, inc)
     redis.call('HDEL', key(inc, 'about'), 'owner')
+    absolve(owner, inc)
   end
 end
+
+-- Returns whether a session is among those that want a worker.
+local function is_waiting(inc)
+  return redis.call('ZSCORE', 'fleet:waiting', inc) or redis.call('ZSCORE', 'fleet:suspects', inc)
+end
+
+-- So many workers may die with a session in a handful, before it caught up. Then it is taken alone, so that a death counts against
+-- it and against no other.
+local DEATHS = 2
 
 -- Puts a session among those that want a worker.
 local function queue(inc)
   disown(inc)
-  redis.call('ZADD', 'fleet:waiting', 'NX', moment(), inc)
+  if not is_waiting(inc) then
+    local deaths = tonumber(field(inc, 'about', 'tries') or 0) or 0
+    redis.call('ZADD', deaths >= DEATHS and 'fleet:suspects' or 'fleet:waiting', moment(), inc)
+  end
   redis.call('PUBLISH', 'fleet:new', inc)
+end
+
+-- Returns how many sessions each worker has if they are shared evenly.
+local function share()
+  local workers = math.max(1, redis.call('HLEN', 'fleet:workers') - redis.call('SCARD', 'fleet:draining'))
+  return math.ceil(redis.call('SCARD', 'fleet:live') / workers)
 end
 
 -- Takes a session from its worker, or from among those that wait.
 local function unclaim(inc)
   disown(inc)
   redis.call('ZREM', 'fleet:waiting', inc)
+  redis.call('ZREM', 'fleet:suspects', inc)
 end
+
+-- How long a session that was removed by force is remembered: longer than its host may be cut off from the store.
+local REMEMBERED = 7 * 86400 * 1000
 
 -- A session is over, by an end or by a fault: it is nobody's from now on.
 local function retire(inc)
@@ -51,4 +79,4 @@ local function close(inc, status, version)
   if about[3] then redis.call('PUBLISH', 'fleet:wake:' .. about[3], inc) end
 end
 
-local parts = {'about', 'bytes', 'answers', 'checkpoint', 'view', 'keys', 'typed', 'ended', 'fault'}
+local parts = {'about', 'bytes', 'answers', 'checkpoint', 'view', 'keys', 'signals', 'typed', 'ended', 'fault'}

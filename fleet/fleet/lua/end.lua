@@ -14,6 +14,9 @@ if expire == 0 then
   for _, part in ipairs(parts) do redis.call('UNLINK', key(inc, part)) end
   redis.call('ZREM', 'fleet:all', inc)
   if redis.call('HGET', 'fleet:names', name) == inc then redis.call('HDEL', 'fleet:names', name) end
+  -- Its host, if it lives, is told so, and doesn't take this for a store that went back.
+  redis.call('HSET', key(inc, 'about'), 'closed', 'ended')
+  redis.call('PEXPIRE', key(inc, 'about'), REMEMBERED)
   return {'ok'}
 end
 close(inc, 'ended', ARGV[3])

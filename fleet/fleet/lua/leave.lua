@@ -3,4 +3,5 @@ for _, inc in ipairs(redis.call('SMEMBERS', 'fleet:of:' .. ARGV[1])) do queue(in
 redis.call('DEL', 'fleet:of:' .. ARGV[1])
 redis.call('HDEL', 'fleet:workers', ARGV[1])
 redis.call('SREM', 'fleet:draining', ARGV[1])
+redis.call('HDEL', 'fleet:trying', ARGV[1])
 return {'ok'}

@@ -7,6 +7,8 @@ if held and held ~= inc then
   local host = redis.call('HGET', key(held, 'about'), 'host')
   return {'taken', host or held}
 end
+local closed = field(inc, 'about', 'closed')
+if closed then return {'taken', closed} end
 local old = redis.call('HGET', 'fleet:names', name)
 if old and old ~= inc then close(old, 'lost', version) end
 redis.call('SET', 'fleet:lease:' .. name, inc, 'PX', lease)

@@ -3,8 +3,8 @@
 -- A session that no living worker has, and that doesn't wait, waits again: its claim was lost.
 local name, inc = ARGV[1], ARGV[2]
 local about = redis.call('HMGET', key(inc, 'about'), 'end', 'played', 'owner', 'closed')
-if not about[1] or redis.call('EXISTS', key(inc, 'bytes')) == 0 then return {'lost'} end
 if about[4] then return {'taken', about[4]} end
+if not about[1] or redis.call('EXISTS', key(inc, 'bytes')) == 0 then return {'lost'} end
 local held = redis.call('GET', 'fleet:lease:' .. name)
 if held and held ~= inc then return {'taken', held} end
 redis.call('SET', 'fleet:lease:' .. name, inc, 'PX', ARGV[3])

@@ -1,25 +1,55 @@
 -- A worker takes sessions that wait: WORKER COUNT TRIES
--- ok, how many still wait, and them. One that this many workers took and died of, without ever catching up, is given up.
-local me = ARGV[1]
+-- ok, how many still wait, and them. Beyond its share of all sessions it takes those alone that no other worker took for a second.
+-- One in whose company workers died is tried alone: its worker takes no other until it caught up. One that this many workers took
+-- and died of, without ever catching up, is given up.
+local me, limit = ARGV[1], tonumber(ARGV[3])
 if redis.call('HEXISTS', 'fleet:workers', me) == 0 then return {'dead'} end
 if redis.call('SISMEMBER', 'fleet:draining', me) == 1 then return {'ok', 0} end
-local popped = redis.call('ZPOPMIN', 'fleet:waiting', ARGV[2])
-local taken = {'ok', redis.call('ZCARD', 'fleet:waiting')}
-for i = 1, #popped, 2 do
-  local inc = popped[i]
-  if redis.call('EXISTS', key(inc, 'about')) == 1 and redis.call('EXISTS', key(inc, 'ended'), key(inc, 'fault')) == 0 then
-    local tries = redis.pcall('HINCRBY', key(inc, 'about'), 'tries', 1)
-    if type(tries) ~= 'number' or tries > tonumber(ARGV[3]) then
-      local why = type(tries) == 'number' and ARGV[3] .. ' workers took it, and none of them caught up' or tries.err
-      redis.call('SET', key(inc, 'fault'), 'Poison: ' .. why)
-      retire(inc)
-    else
-      redis.call('HSET', key(inc, 'about'), 'owner', me)
-      redis.call('SADD', 'fleet:of:' .. me, inc)
-      taken[#taken + 1] = inc
-    end
-  else
-    retire(inc)
-  end
+
+local function is_over(inc)
+  return redis.call('EXISTS', key(inc, 'about')) == 0 or redis.call('EXISTS', key(inc, 'ended'), key(inc, 'fault')) > 0
 end
+
+-- Makes a session this worker's. Returns false if it is over, or is given up.
+local function own(inc)
+  if is_over(inc) then
+    retire(inc)
+    return false
+  end
+  local tries = redis.pcall('HINCRBY', key(inc, 'about'), 'tries', 1)
+  if type(tries) ~= 'number' or tries > limit then
+    local why = type(tries) == 'number' and ARGV[3] .. ' workers took it, and none of them caught up' or tries.err
+    redis.call('SET', key(inc, 'fault'), 'Poison: ' .. why)
+    retire(inc)
+    return false
+  end
+  redis.call('HSET', key(inc, 'about'), 'owner', me)
+  redis.call('SADD', 'fleet:of:' .. me, inc)
+  return true
+end
+
+local function waiting() return redis.call('ZCARD', 'fleet:waiting') + redis.call('ZCARD', 'fleet:suspects') end
+
+local trial = redis.call('HGET', 'fleet:trying', me)
+if trial and redis.call('SISMEMBER', 'fleet:of:' .. me, trial) == 1 and field(trial, 'about', 'owner') == me then
+  return {'ok', waiting()}
+end
+-- A store that went back may have lost the session that was tried.
+redis.call('HDEL', 'fleet:trying', me)
+local suspect = redis.call('ZPOPMIN', 'fleet:suspects')[1]
+while suspect do
+  if own(suspect) then
+    redis.call('HSET', 'fleet:trying', me, suspect)
+    return {'ok', waiting(), suspect}
+  end
+  suspect = redis.call('ZPOPMIN', 'fleet:suspects')[1]
+end
+local room = math.min(tonumber(ARGV[2]), share() - redis.call('SCARD', 'fleet:of:' .. me))
+local latest = room > 0 and '+inf' or moment() - 1000
+local taken = {'ok', 0}
+for _, inc in ipairs(redis.call('ZRANGE', 'fleet:waiting', '-inf', latest, 'BYSCORE', 'LIMIT', 0, room > 0 and room or ARGV[2])) do
+  redis.call('ZREM', 'fleet:waiting', inc)
+  if own(inc) then taken[#taken + 1] = inc end
+end
+taken[2] = waiting()
 return taken

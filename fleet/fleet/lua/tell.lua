@@ -21,6 +21,7 @@ for i = 14, #ARGV, 2 do
   end
 end
 redis.call('HSET', key(inc, 'about'), 'played', played, 'answered', string.format('%.0f', answered), 'tries', 0)
+absolve(me, inc)
 if ARGV[7] ~= 'none' then
   local at = tonumber(redis.call('HGET', key(inc, 'checkpoint'), 'at') or -1)
   if ARGV[7] == 'always' or not at or at < tonumber(ARGV[8]) then

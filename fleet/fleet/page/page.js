@@ -4,8 +4,10 @@ const sessions = new Map();
 const $ = (id) => document.getElementById(id);
 let chosen = null, order = [], socket = null, mayType = false, isTyping = false, wait = 500;
 
-const NAMED = { ArrowUp: "Up", ArrowDown: "Down", ArrowRight: "Right", ArrowLeft: "Left", Home: "Find", Insert: "Insert", End: "Select", PageUp: "Prev", PageDown: "Next" };
-const PLAIN = { Enter: "\r", Backspace: "\x7f", Tab: "\t", Escape: "\x1b", Delete: "\x1b[3~" };
+// The keys that go to a session, by their names in vt220-keys.h. On a PC's keyboard, Delete is at the place of the key Remove.
+const NAMED = { ArrowUp: "Up", ArrowDown: "Down", ArrowRight: "Right", ArrowLeft: "Left", Delete: "Remove" };
+for (const name of ["Enter", "Backspace", "Tab", "Escape", "Home", "End", "Insert", "PageUp", "PageDown"]) NAMED[name] = name;
+for (const number of [1, 2, 3, 4, 6, 7, 8, 9, 10, 11, 12]) NAMED["F" + number] = "F" + number;
 
 function look(attributes) {
   return [[1, "b"], [2, "u"], [4, "k"], [8, "r"]].filter(([bit]) => attributes & bit).map(([, name]) => name).join(" ");
@@ -142,7 +144,9 @@ function setTyping(on) {
 }
 
 function send(what) {
-  if (socket && socket.readyState === 1) socket.send(JSON.stringify({ session: chosen, ...what }));
+  if (!socket || socket.readyState !== 1) return;
+  $("problem").textContent = "";
+  socket.send(JSON.stringify({ session: chosen, ...what }));
 }
 
 function pressed(event) {
@@ -151,8 +155,7 @@ function pressed(event) {
     setTyping(false);
     $("type").focus();
   } else if (NAMED[event.key]) send({ key: NAMED[event.key] });
-  else if (PLAIN[event.key]) send({ text: PLAIN[event.key] });
-  else if (event.ctrlKey && event.key.length === 1 && /[a-z@\[\\\]^_ ]/i.test(event.key)) send({ text: String.fromCharCode(event.key.toUpperCase().charCodeAt(0) & 31) });
+  else if (event.ctrlKey && event.key.length === 1 && /[a-z@\[\\\]^_ ]/i.test(event.key)) send({ key: "C-" + event.key });
   else if (!event.ctrlKey && event.key.length === 1) send({ text: event.key });
   else return;
   event.preventDefault();

@@ -1,0 +1,362 @@
+"""One session or one key that is wrong, and what everybody else sees of it: poison, floods, ends by force, signals, lists, passwords."""
+import asyncio
+import json
+import os
+import signal
+import time
+
+import aiohttp
+
+from harness import (
+    Processes,
+    Source,
+    check,
+    compare,
+    key,
+    keys,
+    raises,
+    settings,
+    stores,
+    until,
+    wait_for,
+    with_machine,
+    worker,
+)
+from safety import fleet
+from operators import OnTerminal
+from stores_faults import program
+from web import Served
+from fleet.gallery import READ, Gallery
+from fleet.host import WAITING, Taken
+from fleet.operate import Refused, Typist
+from fleet.worker import Worker
+
+
+class Died(BaseException):
+    """A worker in this process dies, as by SIGKILL: it writes nothing any more."""
+
+
+class Mortal(Worker):
+    """A worker that dies when it plays certain bytes."""
+
+    DEADLY = b"deadly"
+
+    def play(self, session, budget):
+        if any(self.DEADLY in fields.get(b"bytes", b"") for _, fields in session.queue):
+            raise Died
+        super().play(session, budget)
+
+
+def dies(url, turns=60):
+    """Lets a worker turn until it dies, and buries it. Returns whether it died."""
+    mortal = Mortal(stores.connect(url), settings())
+    try:
+        for _ in range(turns):
+            mortal.turn(patience=0.01)
+    except Died:
+        count = mortal.store.hget(keys.WORKERS, mortal.claims.me)
+        mortal.store.run("bury", mortal.claims.me, count, 500)
+        return True
+    mortal.leave()
+    return False
+
+
+def poison_is_tried_alone(url, _):
+    """Fifteen idle sessions wait together with one that each worker dies of."""
+    name, store = "quarantine", stores.connect(url)
+    good = [Source(url, f"good-{number}", lease=600).send(b"fine\033[6n") for number in range(15)]
+    bad = Source(url, "bad", lease=600).send(b"deadly")
+    deaths = 0
+    while not bad.fault() and deaths < 40:
+        deaths += dies(url)
+    check(bad.fault().startswith("Poison"), name, f"the poison is given up: {bad.fault()}")
+    check(deaths <= 13, name, f"after ten workers or a little more: {deaths}")
+    check([source.fault() for source in good] == [""] * 15, name, "and no other session is")
+    one = worker(url)
+    for source in good:
+        source.send(b"on\033[6n").end(0)
+    check(until(lambda: all(source.is_ended() for source in good), one), name, "they all go on")
+    for source in good:
+        source.receive()
+        compare(source, name)
+    check(store.zcard(keys.SUSPECTS) == 0 and store.hlen(keys.TRYING) == 0, name, "nothing is left of the trials")
+
+
+def sessions_are_shared_evenly_also_with_a_new_worker(url, _):
+    name = "balance"
+    sources = [Source(url, f"shared-{number}", lease=600).send(b"x") for number in range(40)]
+    store, workers = sources[0].store, [worker(url) for _ in range(4)]
+
+    def have():
+        return sorted(store.scard(keys.of(each.claims.me)) for each in workers)
+
+    check(until(lambda: sum(have()) == 40 and not any(each.due for each in workers), *workers), name, "all are taken")
+    check(have() == [10] * 4, name, f"each worker has its share: {have()}")
+    workers.append(worker(url))
+    for each in workers:
+        each.store.run("beat", each.claims.me)
+    until(lambda: all(each.told == each.at for one in workers for each in one.kept.values()), *workers)
+    check(have() == [0] + [10] * 4, name, f"none moves before a minute: {have()}")
+    for each in workers:
+        for kept in each.kept.values():
+            kept.taken -= 61
+    check(until(lambda: have() == [8] * 5, *workers), name, f"then a new worker gets its share: {have()}")
+    owned = {inc for each in workers for inc in each.kept}
+    check(len(owned) == 40 and sum(len(each.kept) for each in workers) == 40, name, "each session has one worker")
+
+
+def a_suspect_that_is_sound_is_cleared(url, _):
+    """It was taken by workers that died of something else."""
+    name, source = "cleared", Source(url, "cleared", lease=600).send(b"fine\033[6n")
+    store = source.store
+    for _ in range(2):
+        doomed = worker(url)
+        check(doomed.claims.take(10) == [source.incarnation], name, "it is taken")
+        store.run("bury", doomed.claims.me, store.hget(keys.WORKERS, doomed.claims.me), 500)
+    check(store.zscore(keys.SUSPECTS, source.incarnation) is not None, name, "it is a suspect after two deaths")
+    other = Source(url, "other", lease=600).send(b"x")
+    one = worker(url)
+    check(one.claims.take(10) == [source.incarnation], name, "it is taken alone")
+    check(one.claims.take(10) == [], name, "and its worker takes nothing else meanwhile")
+    check(store.zscore(keys.WAITING, other.incarnation) is not None, name, "which still waits")
+    one.reconcile()
+    check(until(lambda: other.incarnation in one.kept, one), name, "until it has caught up")
+    check(store.hget(source.part("about"), "tries") == b"0", name, "then it is no suspect")
+    check(store.hlen(keys.TRYING) == 0, name, "and no trial is left")
+    store.hset(keys.TRYING, one.claims.me, "a session that the store lost")
+    another = Source(url, "another", lease=600).send(b"x")
+    check(until(lambda: another.incarnation in one.kept, one), name, "a trial of a session that is gone holds nobody up")
+
+
+def an_end_by_force_ends_a_session_that_lives(url, _):
+    """Its keys are removed at once; its host learns that it was ended, and doesn't send everything again."""
+    for keep in ("0", "5"):
+        name, source = f"end --keep {keep}", Source(url, "living", lease=600).send(b"tick")
+        status, _, said = fleet(url, "end", "--force", "--keep", keep, "living")
+        check(status == 0, name, said)
+        check(raises(Taken, source.send, b"tock"), name, "the next bytes are refused")
+        source.host.renewed = 0.0
+        check(raises(Taken, source.host.renew_if_due), name, "the lease isn't renewed")
+        check(raises(Taken, source.host.register), name, "nor taken again")
+        left = sorted(source.store.keys(f"fleet:{source.incarnation}:*"))
+        if keep == "0":
+            check(left == [source.part("about").encode()], name, f"nothing is left but a note: {left}")
+            check(source.store.hgetall(left[0]) == {b"closed": b"ended"}, name, "that it was ended")
+            check(source.store.pttl(left[0]) > 86400_000, name, "for longer than an outage")
+        check(fleet(url, "list")[1].count("living") == 0 or keep != "0", name, "and it isn't listed")
+        Source(url, "living", lease=600).end(0)
+        source.store.flushall()
+
+
+@with_machine
+def a_host_whose_session_was_ended_ends(machine, _):
+    name = "ended by force"
+    host = program(machine, name, ["sh", "-c", "while :; do echo tick; read -t 1 x; done"])
+    store = stores.connect(machine.url)
+    wait_for(lambda: store.hexists(keys.NAMES, name))
+    check(fleet(machine.url, "end", "--force", "--keep", "0", name)[0] == 0, name, "it is ended")
+    check(host.wait(120) == 5, name, f"its host ends, since the session was closed by another: {host.returncode}")
+    check(store.zcard(keys.ALL) == 0 and not store.hexists(keys.NAMES, name), name, "and it doesn't come back")
+
+
+@with_machine
+def a_session_with_a_fault_doesn_t_fill_the_store(machine, _):
+    name = "faulted flood"
+    store = stores.connect(machine.url)
+    host = program(machine, name, ["sh", "-c", "read x; exec yes"], "--input")
+    wait_for(lambda: store.hexists(keys.NAMES, name))
+    incarnation = store.hget(keys.NAMES, name).decode()
+    store.set(key(incarnation, "fault"), "Poison: so")
+    store.srem(keys.LIVE, incarnation)
+    Typist(store, incarnation).type(b"\r")
+
+    def end():
+        return int(store.hget(key(incarnation, "about"), "end"))
+
+    check(wait_for(lambda: end() > WAITING), name, "its program writes until a mebibyte waits")
+    leases = store.object("idletime", keys.lease(name))
+    check(leases is not None and end() <= WAITING + 65536, name, f"and no more: {end()}")
+    check(fleet(machine.url, "kill", name)[0] in (0, 6), name, "a signal reaches it")
+    check(host.wait(120) == 4, name, f"its host ends with the fault: {host.returncode}")
+    check(end() <= WAITING + 65536, name, f"nothing more came: {end()}")
+
+
+@with_machine
+def a_signal_reaches_a_program_that_reads_nothing(machine, _):
+    name = "deaf"
+    store = stores.connect(machine.url)
+    workers = Processes(machine, 1)
+    host = program(machine, name, ["sh", "-c", "stty raw -echo; printf ready; exec sleep 100000"], "--input")
+    wait_for(lambda: store.hexists(keys.NAMES, name))
+    incarnation = store.hget(keys.NAMES, name).decode()
+    wait_for(lambda: int(store.hget(key(incarnation, "about"), "end")) >= 5)
+    typist, things = Typist(store, incarnation), 0
+    while typist.offer("keys", b"x" * 1000) or store.xlen(key(incarnation, "keys")) < Typist.LIMIT:
+        things += 1
+    check(things >= Typist.LIMIT, name, f"more waits than may wait: {things}")
+    impatient = Typist(store, incarnation, patience=0.2)
+    check(raises(Refused, impatient.type, b"y"), name, "typing gives up")
+    check(fleet(machine.url, "kill", "--signal", "KILL", "--patience", "300", name)[0] == 0, name, "a signal doesn't wait")
+    check(host.wait(120) == 137, name, f"and ends it: {host.returncode}")
+    workers.stop()
+
+
+def nobody_types_into_a_session_without_a_host(url, _):
+    name, source = "silent", Source(url, "silent", takes_input=True, lease=600)
+    Typist(source.store, source.incarnation).type(b"heard")
+    source.store.delete(keys.lease("silent"))
+    typist = Typist(source.store, source.incarnation)
+    check(raises(Refused, typist.type, b"lost"), name, "typing is refused")
+    status, _, said = fleet(url, "type", "silent", "lost")
+    check(status == 6 and "silent" in said, name, f"by the command, too: {status} {said}")
+    source.receive()
+    check(source.got == [("keys", b"heard")], name, f"the host has what came before: {source.got}")
+
+
+def stuck(url, name):
+    """A session that takes input and whose host reads nothing."""
+    source = Source(url, name, takes_input=True, lease=600).send(b"here")
+    typist = Typist(source.store, source.incarnation)
+    while typist.offer("keys", b"x"):
+        pass
+    return source
+
+
+@with_machine
+def a_viewer_can_leave_a_session_that_reads_nothing(machine, _):
+    name, workers = "stuck", Processes(machine, 1)
+    source = stuck(machine.url, name)
+    view = OnTerminal(machine.url, "view", "--type", name)
+    check(wait_for(lambda: view.has(b"here")), name, "it is shown")
+    for _ in range(300):
+        os.write(view.master, b"y")
+    os.write(view.master, b"\x1d")
+    check(view.status() == 0, name, "Ctrl-] ends the view")
+    check(source.store.xlen(source.part("keys")) == Typist.LIMIT, name, "no more waits than may wait")
+    for number in (signal.SIGTERM, signal.SIGHUP):
+        view = OnTerminal(machine.url, "view", "--type", name)
+        wait_for(lambda: view.has(b"here"))
+        os.kill(view.child, number)
+        check(view.status() == 128 + number, name, "a signal ends it, too, and the screen is restored")
+    workers.stop()
+
+
+@with_machine
+def a_browser_types_into_others_beside_a_session_that_reads_nothing(machine, _):
+    name = "deaf tab"
+    deaf, good = stuck(machine.url, "deaf"), Source(machine.url, "good", takes_input=True, lease=600).listen()
+    served = Served(machine, "--typing")
+
+    async def ask():
+        async with aiohttp.ClientSession() as client, client.ws_connect(served.url.replace("/?", "/live?")) as socket:
+            known = set()
+            while not known >= {deaf.incarnation, good.incarnation}:
+                known |= {each["session"] for each in json.loads((await socket.receive(120)).data).get("news", [])}
+            for _ in range(40):  # more than there are threads
+                await socket.send_json({"session": deaf.incarnation, "text": "z" * 2000})
+            await socket.send_json({"session": good.incarnation, "text": "heard"})
+            return await asyncio.to_thread(wait_for, lambda: good.got == [("keys", b"heard")])
+
+    check(asyncio.run(ask()), name, "keys for another session arrive")
+    good.stop()
+    served.stop()
+
+
+@with_machine
+def a_long_session_without_a_checkpoint_doesn_t_stop_the_page(machine, _):
+    name = "long"
+    long, short = Source(machine.url, "long", lease=600), Source(machine.url, "short", lease=600).send(b"short")
+    long.host.wait_for_worker = lambda: None
+    long.send(b"x" * (READ + 1), piece=16384)
+    gallery = Gallery(stores.connect(machine.url), lambda: None)
+    gallery.clients = 1
+
+    def shows(source):
+        followed = gallery.followed.get(source.incarnation)
+        return followed and followed.picture.rows[0]
+
+    def look():
+        gallery.look()
+        return shows(short)
+
+    check(wait_for(look), name, "the short one is read from the store")
+    check(wait_for(lambda: not gallery.followed[long.incarnation].is_reading), name, "the other one was tried")
+    check(not shows(long), name, "and isn't played")
+
+
+def a_wrong_field_is_one_session_s_fault(url, _):
+    name, store = "wrong field", stores.connect(url)
+    good, bad = Source(url, "good", lease=600).send(b"abc"), Source(url, "bad", lease=600)
+    store.hset(bad.part("about"), "end", "many")
+    status, out, said = fleet(url, "list")
+    check(status == 0 and "good" in out and "bad" in out, name, f"both are listed: {status} {out}")
+    check("bad: Wrong: " in said and "many" in said, name, f"with the fault of the one: {said}")
+    store.hset(keys.WORKERS, b"\xff\xfe", "x")
+    store.zadd(keys.WAITING, {b"\xff\xfd": 0})
+    one = worker(url)
+    check(until(lambda: good.incarnation in one.kept, one), name, "a worker minds no wrong member of a shared key")
+    check(fleet(url, "workers")[0] == 0, name, "nor does the list of workers")
+
+
+def what_the_store_says_is_printed_without_its_escapes(url, _):
+    name, store = "escapes", stores.connect(url)
+    evil = "\033]0;title\007\033[2J\u009b1m"
+    source = Source(url, "plain", lease=600)
+    store.hset(source.part("about"), mapping={"host": evil, "name": evil + "n" * 5000})
+    store.set(source.part("fault"), "Poison: " + evil)
+    status, out, said = fleet(url, "list")
+    check(status == 0 and not set(out + said) & {"\033", "\007", "\u009b"}, name, repr(out + said))
+    check("\\x1b]0;title\\x07" in out and len(out) < 5000, name, "they are escaped, and a long name is cut")
+    listed = json.loads(fleet(url, "list", "--json")[1])
+    check(listed["fault"].startswith("Poison: \\x1b"), name, listed["fault"])
+    check("\033" not in fleet(url, "view", f"@{source.incarnation}")[2], name, "also by view")
+
+
+@with_machine
+def a_password_is_changed_while_the_fleet_runs(machine, data):
+    """The file is written, then the store's password is changed, and all connections are broken."""
+    name, file = "password", os.path.join(machine.folder, "password")
+    admin = stores.connect(machine.url)
+    write(file, "first")
+    admin.config_set("requirepass", "first")
+    admin.execute_command("AUTH", "first")
+    one = stores.connect(machine.url, file)
+    source = Source(machine.url, name, connection={"password_file": file}).send(data[:500])
+    player = Worker(one, settings())
+    until(lambda: source.incarnation in player.kept and not player.due, player)
+    write(file, "second")
+    admin.config_set("requirepass", "second")
+    admin.execute_command("CLIENT", "KILL", "TYPE", "normal", "SKIPME", "yes")
+    source.send(data[500:] + b"\033[6n").end(0)
+    check(until(source.is_ended, player), name, "worker and host go on")
+    source.receive()
+    compare(source, name)
+    write(file, "wrong")
+    refused = stores.connect(machine.url, file)
+    refused.patience = 0.5
+    begin = time.monotonic()
+    check(raises(stores.AuthenticationError, refused.ping), name, "a password that never was right is an error")
+    check(refused.outages == 0, name, f"at once: {time.monotonic() - begin:.1f} s")
+
+
+def write(path, text):
+    with open(path, "w") as file:
+        file.write(text)
+
+
+CASES = [
+    poison_is_tried_alone,
+    sessions_are_shared_evenly_also_with_a_new_worker,
+    a_suspect_that_is_sound_is_cleared,
+    an_end_by_force_ends_a_session_that_lives,
+    a_host_whose_session_was_ended_ends,
+    a_session_with_a_fault_doesn_t_fill_the_store,
+    a_signal_reaches_a_program_that_reads_nothing,
+    nobody_types_into_a_session_without_a_host,
+    a_viewer_can_leave_a_session_that_reads_nothing,
+    a_browser_types_into_others_beside_a_session_that_reads_nothing,
+    a_long_session_without_a_checkpoint_doesn_t_stop_the_page,
+    a_wrong_field_is_one_session_s_fault,
+    what_the_store_says_is_printed_without_its_escapes,
+    a_password_is_changed_while_the_fleet_runs,
+]

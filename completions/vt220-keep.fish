@@ -11,3 +11,5 @@ complete -c vt220-keep -n '__fish_seen_subcommand_from new' -l locale -x -d 'The
 complete -c vt220-keep -n '__fish_seen_subcommand_from attach' -s r -d 'Only show it'
 complete -c vt220-keep -n '__fish_seen_subcommand_from list' -l tsv -d 'A line for each session, for scripts'
 complete -c vt220-keep -n '__fish_seen_subcommand_from send' -s l -d 'Each key is text'
+complete -c vt220-keep -s h -l help -d 'Print the help'
+complete -c vt220-keep -n "not __fish_seen_subcommand_from $commands" -l version -d 'Print the version'

@@ -1,22 +1,29 @@
 # Completions of vt220 for bash.
 _vt220() {
-  local word=${COMP_WORDS[COMP_CWORD]} before=${COMP_WORDS[COMP_CWORD - 1]}
+  local commands='text reports repaint status show picture log pages trace summary content help'
+  local options='--piece --limit --format --timing --until --quiet -h --help'
+  local formats='raw script ttyrec asciicast auto'
+  local word=${COMP_WORDS[COMP_CWORD]} before=${COMP_WORDS[COMP_CWORD - 1]} words=
+  # Readline cuts --format=raw into three words. Without = in COMP_WORDBREAKS it is one word.
+  local start=
+  if [[ $before == = ]]; then before=${COMP_WORDS[COMP_CWORD - 2]}; fi
+  if [[ $word == = ]]; then word=; fi
+  if [[ $word == --*=* ]]; then before=${word%%=*} start=${word%%=*}= word=${word#*=}; fi
   if [ "$COMP_CWORD" -eq 1 ]; then
-    mapfile -t COMPREPLY < <(compgen -W 'text reports repaint status show picture log pages trace summary content help --help --version' -- "$word")
-    return
+    words="$commands -h --help -V --version"
+  else
+    case $before in
+      --piece | --limit | --until) COMPREPLY=(); return ;;
+      --format) words=$formats ;;
+      help) words=${commands% help} ;;
+      *) if [[ $word == -* && $before != --timing ]]; then words=$options; fi ;;
+    esac
   fi
-  case $before in
-    --piece | --limit | --until) COMPREPLY=() ;;
-    --format) mapfile -t COMPREPLY < <(compgen -W 'raw script ttyrec asciicast' -- "$word") ;;
-    help) mapfile -t COMPREPLY < <(compgen -W 'text reports repaint status show picture log pages trace summary content' -- "$word") ;;
-    *)
-      if [[ $word == -* ]]; then
-        mapfile -t COMPREPLY < <(compgen -W '--piece --limit --format --timing --until --help' -- "$word")
-      else
-        mapfile -t COMPREPLY < <(compgen -f -- "$word")
-        compopt -o filenames
-      fi
-      ;;
-  esac
+  if [ -n "$words" ]; then
+    mapfile -t COMPREPLY < <(compgen -P "$start" -W "$words" -- "$word")
+  else
+    mapfile -t COMPREPLY < <(compgen -P "$start" -f -- "$word")
+    compopt -o filenames
+  fi
 }
 complete -F _vt220 vt220

@@ -16,34 +16,6 @@ fn differ(a: &Cell, b: &Cell) -> bool
     cell_word(a) != cell_word(b)
 }
 
-/// Returns the number of positions at which two rows of the same length have different cells.
-fn differing_in_row(a: &[Cell], b: &[Cell]) -> usize
-    requires len { length a.now ≡ length b.now }
-    requires short { length b.now ≤ COLUMNS }
-    ensures count { (g h : Grid) (r : ℕ) → a.now ≡ row_of g r → b.now ≡ row_of h r
-        → result ≡ differing_from g h r 1 (length b.now) }
-    ensures bounded { result ≤ COLUMNS }
-{
-    let mut count = 0;
-    for (i, cell) in b.iter().enumerate() {
-        count += differ(&a[i], cell) as usize;
-    }
-    count
-}
-
-/// Returns the number of positions at which the screens of two terminals of the same width have different cells.
-pub fn differing_cells(a: &Terminal, b: &Terminal) -> usize
-    requires { a.now.display.grid.width ≡ b.now.display.grid.width }
-    ensures count { result ≡ differing a.now.display.grid b.now.display.grid }
-    ensures bounded { result ≤ ROWS * COLUMNS }
-{
-    let mut count = 0;
-    for row in 1..ROWS + 1 {
-        count += differing_in_row(a.row(row), b.row(row));
-    }
-    count
-}
-
 /// Marks the positions at which two rows of the same length have different cells, and counts them. (Most rows are
 /// equal, and are compared at once.)
 fn changed_in_row(a: &[Cell], b: &[Cell]) -> ([bool; STOPS], usize)

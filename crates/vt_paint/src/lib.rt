@@ -13,5 +13,5 @@ mod room;
 mod tables;
 
 pub use changes::repaint_changes_reserved;
-pub use compare::{changed_places, differing_cells};
+pub use compare::changed_places;
 pub use paint::{PAINT_LIMIT, PaintError, repaint, repaint_reserved};

@@ -63,13 +63,18 @@ pub(crate) fn print_reason<R: Eprint + AllocGlobal>(
 fn print_broken(rt: &impl Eprint, request: &Request, place: Break, seen: Seen) {
     let name = name_of(request, place.part);
     let expected = expected(seen.format, place);
-    let is_other = seen.detected != Detected::Recording(seen.format);
-    let _ = match hint_of(seen.detected) {
-        Some(hint) if is_other && place.part == Part::Recording => {
-            eprintln!(rt; "vt220: {name}: {expected}; {hint}")
-        }
-        _ => eprintln!(rt; "vt220: {name}: {expected}"),
+    let _ = match other_look(place, seen) {
+        Some(look) => eprintln!(rt; "vt220: {name}: {expected}; {look}"),
+        None => eprintln!(rt; "vt220: {name}: {expected}"),
     };
+}
+
+/// Returns what a recording looks like that is broken at a place, or none if it looks like the format in which it was read.
+fn other_look(place: Break, seen: Seen) -> Option<&'static str> {
+    if place.part != Part::Recording || seen.detected == Detected::Recording(seen.format) {
+        return None;
+    }
+    Some(hint_of(seen.detected).unwrap_or("it looks like raw bytes: use --format raw"))
 }
 
 /// Returns the name of a file of the request.

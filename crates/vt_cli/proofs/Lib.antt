@@ -1,2 +1,1 @@
-mod Powers
 mod Words

@@ -1,18 +1,13 @@
 -- Settings and what clap matched.
-use Rattle.std.proofs.Common.{rules, ℕ, ◌≡◌, ◌∙◌, List, ap, sym, Option, Some, None, Result, Ok, Err, IfSome, IfNone, IfOk, IfErr, []}
-use Rattle.std.proofs.Common.{◌≢◌, codes, inl, inr, refl, is_some, option_map, ◌<◌, ◌+◌, length, take, fold, get_or}
+use Rattle.std.proofs.Common.{rules, ℕ, ◌≡◌, ◌∙◌, List, ap, sym, Option, Some, None, Result, Ok, Err, IfSome, IfNone, true, false}
+use Rattle.std.proofs.Common.{codes, refl, is_some, option_map, ◌<◌, ◌+◌, length, take, fold, get_or}
 use Rattle.std.proofs.lemmas.List.Sums.{fold_more}
 use Rattle.std.specs.Option.{unwrap_or}
 use Rattle.std.specs.Str.Parse.{ParsesUnsigned}
 use Rattle.std.specs.Result.{result_ok}
 use Rattle.clap.specs.Words.{Row, Text, first_of}
-use Rattle.std.specs.declared.alloc.Global.{Global}
-use Rattle.std.specs.declared.string.String.{String}
-use Rattle.vt_cli.specs.declared.asked.Refused.{Refused}
-use Rattle.vt_cli.specs.CommandLine.{IsNumberOf, HasNoSettings, IsRefusal, faults_in, found_in, name_of}
-use Rattle.vt_cli.specs.declared.asked.Request.{Request}
-use Rattle.vt_cli.specs.Request.{HasNoOptions, HasNoRequest, TakesNone, word_name, wider_faults_in, wider_found_in}
-use Rattle.vt_cli.specs.Request.{IsFound, IsRequest, IsWiderRefusal, IsNoRequest}
+use Rattle.vt_cli.specs.CommandLine.{IsNumberOf, HasNoSettings, name_of, word_name, is_plain}
+use Rattle.vt_cli.specs.Request.{HasNoOptions, HasNoRequest}
 
 -- a text is one of one option
 same_text : (a b : Text) → Some a ≡ Some b → a ≡ b
@@ -73,26 +68,13 @@ module _ (name : Text) (matches : List Row) (none : HasNoOptions matches) where
       let same = (same_found name (word_name r.word) matches a.matches a.word).1 in
       none r.piece r.limit r.file (rw same a.options)
 
--- ---- what `settings` refuses
-
--- with a status that is not 1 it takes nothing
-pub refused_otherwise : (words : List (String Global)) (r : Refused)
-    → IsRefusal (faults_in words) (found_in words) r → r.status ≢ 1 → TakesNone words
-refused_otherwise words r (inl memory) other s takes = other memory.status
-refused_otherwise words r (inr (inl fault)) other s takes = rw takes.no_fault at fault.found
-refused_otherwise words r (inr (inr stray)) other s takes = stray.stray s takes.settings
-
--- ---- what the wider command gives
-
-pub widened : (words : List (String Global)) (r : Result Request Refused) → TakesNone words
-    → IfOk r (IsFound (wider_found_in words)) → IfOk r (λ _. wider_faults_in words ≡ []) → IfOk r (IsRequest words)
-widened words (Ok request) none found no_fault = inr (record { none = none; no_fault = no_fault; found = found })
-widened words (Err refused) none found no_fault = tt
-
-pub refused_by_both : (words : List (String Global)) (r : Result Request Refused) → TakesNone words
-    → IfErr r (IsWiderRefusal (wider_faults_in words) (wider_found_in words)) → IfErr r (IsNoRequest words)
-refused_by_both words (Ok request) none refusal = tt
-refused_by_both words (Err refused) none refusal = inr (none, refusal)
+-- a subcommand with an option of a recording has no settings
+pub settings_if_plain : (name : Text) (matches : List Row) → is_plain matches ≡ false → HasNoSettings (Some (name, matches))
+settings_if_plain name matches is s a =
+    let same = (same_found name (name_of s.what) matches a.matches a.what).1 in
+    let plain : is_plain matches ≡ true = rw same a.plain in
+    let e : false ≡ true = sym is ∙ plain in
+    search (rules, e)
 
 -- ---- texts of options
 

@@ -1,5 +1,6 @@
 -- The command line: its command in clap's terms, and what its answers say. (this profile)
-use Rattle.std.specs.Prelude.{◌≡◌, ◌⊎◌, ℕ, ◌≤◌, List, [], ◌∷◌, ◌++◌, codes, Option, Some, true, string_bytes, map, Ok}
+use Rattle.std.specs.Prelude.{◌≡◌, ◌⊎◌, ℕ, ◌≤◌, ◌&&◌, List, [], ◌∷◌, ◌++◌, codes, Bool, Option, Some, None, true, false, not, is_some, string_bytes, map, Ok}
+use Rattle.std.specs.Str.{bytes_eq}
 use Rattle.std.specs.Option.{option_map}
 use Rattle.std.specs.Str.Parse.{ParsesUnsigned}
 use Rattle.std.specs.declared.alloc.Global.{Global}
@@ -7,11 +8,14 @@ use Rattle.std.specs.declared.string.String.{String}
 use Rattle.clap.specs.Words.{App, Rule, Row, Text, Kinds, IsAmong, new_app, new_rule, with_rule, with_subcommand}
 use Rattle.clap.specs.Words.{first_of, fault_of, subcommand_of}
 use Rattle.clap.specs.Simple.{on_top}
+use Rattle.clap.specs.declared.builder.action.ArgAction.TheVariants.{SetTrue}
 use Rattle.clap.specs.declared.builder.value_parser.ValueParser.TheVariants.{Unsigned}
 use Rattle.clap.specs.declared.error.kind.ErrorKind.{ErrorKind}
 use Rattle.clap.specs.declared.error.kind.ErrorKind.TheVariants.{DisplayHelp, DisplayVersion}
 use Rattle.vt_cli.specs.declared.what.What.{What}
 use Rattle.vt_cli.specs.declared.what.What.TheVariants as what
+use Rattle.vt_cli.specs.declared.what.Word.{Word}
+use Rattle.vt_cli.specs.declared.what.Word.TheVariants.{Replay, Log, Pages, Trace, Summary, Content}
 use Rattle.vt_cli.specs.declared.asked.Settings.{Settings}
 use Rattle.vt_cli.specs.declared.asked.Refused.{Refused}
 
@@ -39,10 +43,7 @@ file_argument = record (new_rule (codes "file")) { value_names = 1 }
 abbrev pub with_numbers : App → App
 with_numbers a = with_rule (with_rule a piece_option) limit_option
 
--- one of the six subcommands
-abbrev pub subcommand : Text → App
-subcommand name = with_rule (with_numbers (new_app name)) file_argument
-
+-- the name of the subcommand for one kind of output
 abbrev pub name_of : What → Text
 name_of what.Text = codes "text"
 name_of what.Reports = codes "reports"
@@ -51,27 +52,62 @@ name_of what.Status = codes "status"
 name_of what.Show = codes "show"
 name_of what.Picture = codes "picture"
 
-abbrev pub with_subcommand_for : App → What → App
-with_subcommand_for a w = with_subcommand a (subcommand (name_of w)).top
+-- the name of a word's subcommand
+abbrev pub word_name : Word → Text
+word_name (Replay what) = name_of what
+word_name Log = codes "log"
+word_name Pages = codes "pages"
+word_name Trace = codes "trace"
+word_name Summary = codes "summary"
+word_name Content = codes "content"
+
+-- an option with a text
+abbrev pub text_option : Text → Rule
+text_option name = record (new_rule name) { long = Some name; value_names = 1 }
+
+-- with the options for the format and the timing file
+abbrev pub with_format : App → App
+with_format a = with_rule (with_rule a (text_option (codes "format"))) (text_option (codes "timing"))
+
+-- an option without a value
+abbrev pub flag_option : Text → Rule
+flag_option name = record (new_rule name) { long = Some name; action = Some SetTrue }
+
+-- with the options of a recording
+abbrev pub with_source : App → App
+with_source a = with_rule (with_rule (with_format a) (text_option (codes "until"))) (flag_option (codes "quiet"))
+
+-- a subcommand: the options with a number, the file, and the options of a recording
+abbrev pub subcommand : Text → App
+subcommand name = with_source (with_rule (with_numbers (new_app name)) file_argument)
+
+abbrev pub with_name : App → Text → App
+with_name a name = with_subcommand a (subcommand name).top
+
+abbrev pub with_word : App → Word → App
+with_word a word = with_name a (word_name word)
 
 -- with the subcommands for what the terminal holds and answers
-abbrev pub with_answers : App → App
-with_answers a =
-    with_subcommand_for
-    (with_subcommand_for (with_subcommand_for (with_subcommand_for a what.Text) what.Reports) what.Repaint)
-    what.Status
+abbrev pub with_replays : App → App
+with_replays a =
+    with_word (with_word (with_word (with_word a (Replay what.Text)) (Replay what.Reports)) (Replay what.Repaint))
+    (Replay what.Status)
 
--- with those for the eye
-abbrev pub with_views : App → App
-with_views a = with_subcommand_for (with_subcommand_for a what.Show) what.Picture
+-- with those for the eye, and for the text of a session
+abbrev pub with_lines : App → App
+with_lines a = with_word (with_word (with_word (with_word a (Replay what.Show)) (Replay what.Picture)) Log) Pages
+
+-- with those for what the host sent
+abbrev pub with_events : App → App
+with_events a = with_word (with_word (with_word a Trace) Summary) Content
 
 -- a subcommand is required, and it has a version
 abbrev pub as_program : App → App
 as_program a = on_top (λ s. record s { subcommand_required = true; has_version = true }) a
 
--- the program's command, with the six subcommands
+-- the program's command, with the eleven subcommands
 abbrev pub vt220 : App
-vt220 = as_program (with_views (with_answers (new_app (codes "vt220"))))
+vt220 = as_program (with_events (with_lines (with_replays (new_app (codes "vt220")))))
 
 -- the faults that clap finds in the words, the first of which is the program's name
 abbrev pub faults_in : List (String Global) → Kinds
@@ -89,7 +125,21 @@ pub record IsNumberOf (option : Text) (matches : List Row) (n : ℕ) : Type 0 wh
   pub matched : first_of option matches ≡ Some text
   pub parsed : ParsesUnsigned {E = ℕ} 64 10 text (Ok n)
 
--- s is what the subcommand that clap found, and its matches, ask for
+-- an option without a value was used, by the text that clap has for it
+abbrev pub is_true : Option Text → Bool
+is_true None = false
+is_true (Some text) = bytes_eq text (codes "true")
+
+abbrev pub is_set : (option : Text) → List Row → Bool
+is_set option matches = is_true (first_of option matches)
+
+-- no option of a recording was used
+abbrev pub is_plain : List Row → Bool
+is_plain matches =
+    not (is_some (first_of (codes "format") matches)) && (not (is_some (first_of (codes "timing") matches))
+    && (not (is_some (first_of (codes "until") matches)) && not (is_set (codes "quiet") matches)))
+
+-- s is what the subcommand that clap found, and its matches, ask for: a replay of bytes that no recorder wrote
 pub record AreSettings (found : Option (Text × List Row)) (s : Settings) : Type 0 where
   pub matches : List Row
   pub what : found ≡ Some (name_of s.what, matches)
@@ -98,6 +148,7 @@ pub record AreSettings (found : Option (Text × List Row)) (s : Settings) : Type
   pub piece_in_range : (1 ≤ s.piece) × (s.piece ≤ 65536)
   pub limit_in_range : s.limit ≤ 1099511627776
   pub file : option_map (λ f. string_bytes f) s.file ≡ first_of (codes "file") matches
+  pub plain : is_plain matches ≡ true
 
 -- the status of a fault of the words: help is none, nor is the version
 abbrev pub status_for : ErrorKind → ℕ

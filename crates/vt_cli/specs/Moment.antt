@@ -1,20 +1,10 @@
 -- A moment of a recording, as a word. (this profile)
-use Rattle.std.specs.Prelude.{ℕ, ◌+◌, ◌-◌, ◌*◌, ◌&&◌, List, length, take, drop, cond, Option, Some, None, nat_eq}
-use Rattle.std.specs.Prelude.{nat_le, nat_lt, ◌^◌, option_map, option_and_then}
-use Rattle.std.specs.Char.{is_ascii_digit}
-use Rattle.std.specs.List.{list_all, position, fold}
+use Rattle.std.specs.Prelude.{ℕ, ◌+◌, ◌*◌, List, length, take, drop, cond, Option, Some, None, nat_eq}
+use Rattle.std.specs.Prelude.{nat_lt, option_map, option_and_then}
+use Rattle.std.specs.List.{position}
 use Rattle.vt_recording.specs.declared.format.Moment.{Moment}
 use Rattle.vt_recording.specs.declared.format.Moment.TheVariants.{Micros, Bytes}
-
--- the number that digits write
-abbrev pub value : List ℕ → ℕ
-value digits = fold (λ n d. 10 * n + (d - 0x30)) 0 digits
-
--- the number that at least one digit writes, and at most so many
-abbrev pub number : (most : ℕ) → List ℕ → Option ℕ
-number most digits =
-    cond (nat_lt 0 (length digits) && (nat_le (length digits) most && list_all (λ b. is_ascii_digit b) digits))
-    (Some (value digits)) None
+use Rattle.vt_recording.specs.Seconds.{number, scale}
 
 -- the place of the first byte that is this
 abbrev pub place : ℕ → List ℕ → Option ℕ
@@ -43,10 +33,6 @@ seconds_at (Some at) text =
 
 abbrev pub seconds : List ℕ → Option ℕ
 seconds text = seconds_at (place 0x3A text) text
-
--- what the last of so many decimals counts, in microseconds
-abbrev pub scale : ℕ → ℕ
-scale decimals = 10 ^ (6 - decimals)
 
 -- the microseconds of a text, by the place of its first point: seconds, and up to six decimals
 abbrev pub micros_at : Option ℕ → List ℕ → Option ℕ

@@ -60,8 +60,9 @@ source_by (Err complaint) timed until = Err complaint
 source_by (Ok format) timed until =
     cond (timed && not (takes_timing format)) (Err NoTimingFile) (with_until format (until_of format timed until))
 
+-- without a name it is raw
 abbrev pub named : Option Text → Result (Option Format) Complaint
-named None = Err NoFormat
+named None = Ok (Some Raw)
 named (Some name) = format_named name
 
 -- by the texts of the options

@@ -1,13 +1,13 @@
-//! The command line of a replay: which arguments it takes, and what they ask for.
-ghost use Rattle.std.specs.Prelude.{◌≡◌, ◌≢◌, ◌⊎◌, ℕ, [], IfOk, IfErr, IfSome, IfNone, Some, option_map, string_bytes};
+//! The command line: its command in clap's terms, and the settings of a replay.
+ghost use Rattle.std.specs.Prelude.{◌≡◌, ◌≢◌, ◌⊎◌, ℕ, [], IfOk, IfErr, IfSome, IfNone, Some, is_some, option_map, string_bytes};
 ghost use Rattle.std.specs.Prelude.{codes, false, fold};
-ghost use Rattle.clap.specs.Words.{FailsBy, app_of, first_value, found_of, kind_of, new_app, rows_of, rule_of};
+ghost use Rattle.clap.specs.Words.{FailsBy, app_of, first_of, first_value, found_of, kind_of, new_app, rows_of, rule_of};
 ghost use Rattle.clap.specs.Words.{subcommand_rows_of};
 ghost use Rattle.clap.specs.declared.builder.command.Command.TheViews.{out-Command};
 ghost use Rattle.vt_cli.specs.declared.what.What.{What};
 ghost use Rattle.vt_cli.specs.CommandLine.{number_option, piece_option, limit_option, file_argument, with_numbers};
-ghost use Rattle.vt_cli.specs.CommandLine.{subcommand, as_program, with_subcommand_for};
-ghost use Rattle.vt_cli.specs.CommandLine.{vt220, faults_in, found_in, name_of, status_for};
+ghost use Rattle.vt_cli.specs.CommandLine.{text_option, flag_option, with_format, with_source, subcommand, with_name, as_program};
+ghost use Rattle.vt_cli.specs.CommandLine.{vt220, faults_in, found_in, name_of, status_for, is_true, is_set, is_plain};
 ghost use Rattle.vt_cli.specs.CommandLine.{IsNumberOf, AreSettings, IsMemory, IsFault, IsStray, IsRefusal};
 ghost use Rattle.vt_cli.specs.CommandLine.{HasNoSettings};
 ghost use Rattle.vt_cli.specs.Request.{AreOptions, HasNoOptions};
@@ -16,7 +16,7 @@ use crate::asked::{Options, Refused, Settings};
 use crate::what::What;
 use clap::builder::ValueParser;
 use clap::error::ErrorKind;
-use clap::{Arg, ArgMatches, Command, Error};
+use clap::{Arg, ArgAction, ArgMatches, Command, Error};
 use std::alloc::{AllocError, Global};
 
 /// The greatest piece.
@@ -36,48 +36,75 @@ const ABOUT: &str =
     "Plays what a host sent to a VT220 terminal, and writes what the terminal then shows or answers";
 
 /// What `text` is for.
-pub(crate) const TEXT: &str = "The screen: 24 lines of UTF-8, each without the spaces at its end";
+const TEXT: &str = "The screen: 24 lines of UTF-8, each without the spaces at its end";
 
 /// What `reports` is for.
-pub(crate) const REPORTS: &str =
-    "What the terminal answers to the host, chunk by chunk as the input comes";
+const REPORTS: &str = "What the terminal answers to the host, chunk by chunk as the input comes";
 
 /// What `repaint` is for.
-pub(crate) const REPAINT: &str =
-    "The bytes that rebuild the terminal, hidden state included, on any terminal";
+const REPAINT: &str = "The bytes that rebuild the terminal, hidden state included, on any terminal";
 
 /// What `status` is for.
-pub(crate) const STATUS: &str =
+const STATUS: &str =
     "The cursor, the wrap flag, the margins, the unfinished sequence, and how many bytes were answered";
 
 /// What `show` is for.
-pub(crate) const SHOW: &str =
+const SHOW: &str =
     "The screen with its attributes, for a terminal of today or less -R: lines of UTF-8 with SGR";
 
 /// What `picture` is for.
-pub(crate) const PICTURE: &str = "The screen as a picture (SVG)";
+const PICTURE: &str = "The screen as a picture (SVG)";
 
-/// The subcommands, each by what it writes and what it is for.
-const SUBCOMMANDS: [(What, &str); 6] = [
-    (What::Text, TEXT),
-    (What::Reports, REPORTS),
-    (What::Repaint, REPAINT),
-    (What::Status, STATUS),
-    (What::Show, SHOW),
-    (What::Picture, PICTURE),
+/// What `log` is for.
+const LOG: &str =
+    "The lines that scroll off the top of the screen, as they come, and at the end the screen";
+
+/// What `pages` is for.
+const PAGES: &str =
+    "The log, and the 24 lines of the screen before each event that blanks all of it";
+
+/// What `trace` is for.
+const TRACE: &str = "A line for each event: its place, its name and its values";
+
+/// What `summary` is for.
+const SUMMARY: &str = "The names of the events, each with its count; the ignored ones first";
+
+/// What `content` is for.
+const CONTENT: &str = "The host's bytes of a recording";
+
+/// The subcommands, each by its name and what it is for.
+const SUBCOMMANDS: [(&str, &str); 11] = [
+    ("text", TEXT),
+    ("reports", REPORTS),
+    ("repaint", REPAINT),
+    ("status", STATUS),
+    ("show", SHOW),
+    ("picture", PICTURE),
+    ("log", LOG),
+    ("pages", PAGES),
+    ("trace", TRACE),
+    ("summary", SUMMARY),
+    ("content", CONTENT),
 ];
 
 /// The text below the help.
 const AFTER_HELP: &str = "\
-Each command but help plays FILE, or standard input if no file is named, and takes these options:
-  --piece N  the most bytes of one read, 1 to 65536 [default: 4096]
-  --limit N  the most bytes of the input, 0 to 1099511627776 [default: 268435456]
+Each command but help takes FILE, or standard input if no file is named, and these options:
+  --piece N        the most bytes of one read, 1 to 65536 [default: 4096]
+  --limit N        the most bytes of the input, 0 to 1099511627776 [default: 268435456]
+  --format FORMAT  how FILE was recorded: raw, script, ttyrec, asciicast or auto [default: raw]
+  --timing FILE    the times of a recording by script(1)
+  --until MOMENT   only what came before: seconds, as 12.5 or 12:31, or bytes, as 4096b
+  --quiet          no notes on standard error; faults are printed all the same
 
 Example, with a recording made by script(1):
   script -q -c 'stty rows 24 cols 80; TERM=vt220 LC_ALL=C top -n 1' /dev/null > top.bin
   vt220 text top.bin
   vt220 show top.bin | less -R
   vt220 picture top.bin > top.svg
+
+Example, the screen as it stood twelve and a half seconds after the start:
+  vt220 text --format ttyrec --until 12.5 demo.tty
 
 Exit status:
   0  all was written, or the help or the version was asked for
@@ -86,7 +113,8 @@ Exit status:
   3  a repaint was asked for, and the input ends inside a sequence
   4  the input can't be opened or read
   5  the output can't be written
-  6  the input is longer than the limit";
+  6  the input is longer than the limit
+  7  the recording breaks its format; what came before that was written";
 
 /// Returns an option with a number from `low` to `high`.
 fn number<'a>(
@@ -146,74 +174,131 @@ fn with_numbers<'a>(alloc: Global, command: Command<'a>) -> Result<Command<'a>, 
     command.arg(limit_option(alloc))
 }
 
-/// Returns a subcommand with the options and the file.
-pub(crate) fn subcommand<'a>(
-    alloc: Global,
-    name: &'a str,
-    about: &'a str,
-) -> Result<Command<'a>, AllocError>
+/// Returns an option with a text.
+fn text_option<'a>(alloc: Global, name: &'a str, value: &'a str, help: &'a str) -> Arg<'a>
+    ensures rule { rule_of result ≡ text_option name.entry.now }
+    ensures local { result.global ≡ false }
+{
+    Arg::new(alloc, name)
+        .long(name)
+        .value_name(value)
+        .help(help)
+}
+
+/// Returns the option for the format.
+fn format_option<'a>(alloc: Global) -> Arg<'a>
+    ensures rule { rule_of result ≡ text_option (codes "format") }
+    ensures local { result.global ≡ false }
+{
+    let help = "How FILE was recorded: raw, script, ttyrec, asciicast or auto [default: raw]";
+    text_option(alloc, "format", "FORMAT", help)
+}
+
+/// Returns the option for the timing file.
+fn timing_option<'a>(alloc: Global) -> Arg<'a>
+    ensures rule { rule_of result ≡ text_option (codes "timing") }
+    ensures local { result.global ≡ false }
+{
+    let help = "The times of a recording by script(1)";
+    text_option(alloc, "timing", "FILE", help)
+}
+
+/// Returns the option for the moment.
+fn until_option<'a>(alloc: Global) -> Arg<'a>
+    ensures rule { rule_of result ≡ text_option (codes "until") }
+    ensures local { result.global ≡ false }
+{
+    let help = "Only what came before: seconds, as 12.5 or 12:31, or bytes, as 4096b";
+    text_option(alloc, "until", "MOMENT", help)
+}
+
+/// Returns the option that leaves out the notes.
+fn quiet_option<'a>(alloc: Global) -> Arg<'a>
+    ensures rule { rule_of result ≡ flag_option (codes "quiet") }
+    ensures local { result.global ≡ false }
+{
+    Arg::new(alloc, "quiet")
+        .long("quiet")
+        .action(ArgAction::SetTrue)
+        .help("No notes on standard error; faults are printed all the same")
+}
+
+/// Adds the options for the format and the timing file.
+fn with_format<'a>(alloc: Global, command: Command<'a>) -> Result<Command<'a>, AllocError>
+    requires { (out-Command command).has_globals ≡ false }
+    ensures app { IfOk result (λ c. app_of c ≡ with_format (app_of command.entry)) }
+    ensures local { IfOk result (λ c. (out-Command c).has_globals ≡ false) }
+{
+    let command = command.arg(format_option(alloc))?;
+    command.arg(timing_option(alloc))
+}
+
+/// Adds the options of a recording.
+fn with_source<'a>(alloc: Global, command: Command<'a>) -> Result<Command<'a>, AllocError>
+    requires { (out-Command command).has_globals ≡ false }
+    ensures app { IfOk result (λ c. app_of c ≡ with_source (app_of command.entry)) }
+    ensures local { IfOk result (λ c. (out-Command c).has_globals ≡ false) }
+{
+    let command = with_format(alloc, command)?.arg(until_option(alloc))?;
+    command.arg(quiet_option(alloc))
+}
+
+/// Returns a subcommand with its options and the file.
+fn subcommand<'a>(alloc: Global, name: &'a str, about: &'a str) -> Result<Command<'a>, AllocError>
     ensures app { IfOk result (λ c. app_of c ≡ subcommand name.entry.now) }
     ensures local { IfOk result (λ c. (out-Command c).has_globals ≡ false) }
 {
     let command = with_numbers(alloc, Command::new(alloc, name).about(about))?;
-    command.arg(file_argument(alloc))
+    with_source(alloc, command.arg(file_argument(alloc))?)
 }
 
-/// Adds the subcommand for one kind of output.
-fn with_subcommand<'a>(
+/// Adds the subcommand of this name.
+fn with_name<'a>(
     alloc: Global,
     command: Command<'a>,
-    what: What,
+    name: &'a str,
     about: &'a str,
 ) -> Result<Command<'a>, AllocError>
-    ensures { IfOk result (λ c. app_of c ≡ with_subcommand_for (app_of command.entry) what) }
+    ensures { IfOk result (λ c. app_of c ≡ with_name (app_of command.entry) name.entry.now) }
 {
-    let name = match what {
-        What::Text => "text",
-        What::Reports => "reports",
-        What::Repaint => "repaint",
-        What::Status => "status",
-        What::Show => "show",
-        What::Picture => "picture",
-    };
     command.subcommand(subcommand(alloc, name, about)?)
 }
 
-/// Adds subcommands, each by what it writes and what it is for.
-fn with_subcommands<'a>(
+/// Adds subcommands, each by its name and what it is for.
+fn with_names<'a>(
     alloc: Global,
     command: Command<'a>,
-    rows: &[(What, &'a str)],
+    rows: &[(&'a str, &'a str)],
 ) -> Result<Command<'a>, AllocError>
-    ensures { IfOk result (λ c. app_of c ≡ fold (λ a row. with_subcommand_for a row.0) (app_of command.entry) rows.now) }
+    ensures { IfOk result (λ c. app_of c ≡ fold (λ a row. with_name a row.0.now) (app_of command.entry) rows.now) }
 {
     let mut command = command;
-    for (what, about) in rows {
-        command = with_subcommand(alloc, command, *what, about)?;
+    for (name, about) in rows {
+        command = with_name(alloc, command, name, about)?;
     }
     Ok(command)
 }
 
 /// Returns the program's command without its subcommands.
-pub(crate) fn program<'a>(alloc: Global, after_help: &'a str) -> Command<'a>
+fn program<'a>(alloc: Global) -> Command<'a>
     ensures { app_of result ≡ as_program (new_app (codes "vt220")) }
 {
     Command::new(alloc, "vt220")
         .version(VERSION)
         .about(ABOUT)
-        .after_help(after_help)
+        .after_help(AFTER_HELP)
         .subcommand_required(true)
 }
 
-/// Returns the command of a replay.
+/// Returns the program's command.
 fn command<'a>(alloc: Global) -> Result<Command<'a>, AllocError>
     ensures { IfOk result (λ c. app_of c ≡ vt220) }
 {
-    with_subcommands(alloc, program(alloc, AFTER_HELP), &SUBCOMMANDS)
+    with_names(alloc, program(alloc), &SUBCOMMANDS)
 }
 
 /// Returns what clap matches in the arguments.
-fn matches_of<'a>(alloc: Global, words: &'a [String]) -> Result<ArgMatches<'a>, Error>
+pub(crate) fn matches_of<'a>(alloc: Global, words: &'a [String]) -> Result<ArgMatches<'a>, Error>
     ensures matches { IfOk result (λ m. subcommand_rows_of m ≡ found_in words.entry.now) }
     ensures faults { FailsBy (faults_in words.entry.now) result }
 {
@@ -320,7 +405,45 @@ pub(crate) fn options_of(
     }))
 }
 
-/// Returns the settings of a subcommand, if it is one of a replay and its numbers are in their ranges.
+/// Returns whether an option without a value was used, by the text that clap has for it.
+fn is_true(text: Option<&str>) -> bool
+    ensures { result ≡ is_true (option_map (λ t. t.now) text.entry) }
+{
+    let Some(text) = text else {
+        return false;
+    };
+    match text {
+        "true" => true,
+        _ => false,
+    }
+}
+
+/// Returns whether an option without a value was used.
+pub(crate) fn is_set(matches: &ArgMatches<'_>, option: &str) -> bool
+    ensures { result ≡ is_set option.now (rows_of (found_of matches.now)) }
+{
+    is_true(matches.get_str(option))
+}
+
+/// Returns whether an option or an argument was given.
+fn is_given(matches: &ArgMatches<'_>, name: &str) -> bool
+    ensures { result ≡ is_some (first_of name.now (rows_of (found_of matches.now))) }
+{
+    matches.get_str(name).is_some()
+}
+
+/// Returns whether no option of a recording was used.
+fn is_plain(matches: &ArgMatches<'_>) -> bool
+    ensures { result ≡ is_plain (rows_of (found_of matches.now)) }
+{
+    !is_given(matches, "format")
+        && !is_given(matches, "timing")
+        && !is_given(matches, "until")
+        && !is_set(matches, "quiet")
+}
+
+/// Returns the settings of a subcommand, if it is one of a replay, no option of a recording was used, and its numbers are
+/// in their ranges.
 fn settings_of(
     alloc: Global,
     name: &str,
@@ -332,6 +455,9 @@ fn settings_of(
     let Some(what) = what_of(name) else {
         return Ok(None);
     };
+    if !is_plain(matches) {
+        return Ok(None);
+    }
     let Some(options) = options_of(alloc, matches)? else {
         return Ok(None);
     };
@@ -345,10 +471,10 @@ fn settings_of(
 
 /// Returns the settings that the arguments ask for; the first argument is the program's name.
 ///
-/// The arguments are those of clap's command `vt220`: one of the six subcommands `text`, `reports`, `repaint`, `status`,
-/// `show` and `picture`, each with `--piece N` (1 to 65536, otherwise 4096), `--limit N` (0 to 1099511627776, otherwise
-/// 268435456) and at most one FILE. `Err` is what to end with if there are no settings: the help or the version that was
-/// asked for (status 0), a failed allocation (1), or what is wrong with the arguments (2). (this profile)
+/// The arguments are those of `request`, for one of the six subcommands `text`, `reports`, `repaint`, `status`, `show` and
+/// `picture`, without an option of a recording: `--piece N` (1 to 65536, otherwise 4096), `--limit N` (0 to 1099511627776,
+/// otherwise 268435456) and at most one FILE. `Err` is what to end with if there are no settings: the help or the version
+/// that was asked for (status 0), a failed allocation (1), or what is wrong with the arguments (2). (this profile)
 pub fn settings(alloc: Global, words: Vec<String>) -> Result<Settings, Refused>
     ensures ok { IfOk result (AreSettings (found_in words.items)) }
     ensures no_fault { IfOk result (λ _. faults_in words.items ≡ []) }
@@ -358,7 +484,7 @@ pub fn settings(alloc: Global, words: Vec<String>) -> Result<Settings, Refused>
 }
 
 /// Returns the settings that borrowed arguments ask for, as `settings` does.
-pub(crate) fn settings_in(alloc: Global, words: &[String]) -> Result<Settings, Refused>
+fn settings_in(alloc: Global, words: &[String]) -> Result<Settings, Refused>
     ensures ok { IfOk result (AreSettings (found_in words.now)) }
     ensures no_fault { IfOk result (λ _. faults_in words.now ≡ []) }
     ensures err { IfErr result (IsRefusal (faults_in words.now) (found_in words.now)) }

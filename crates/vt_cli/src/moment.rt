@@ -1,43 +1,8 @@
 //! A moment of a recording as text.
-ghost use Rattle.std.specs.Prelude.{◌≡◌, ◌≤◌, ◌<◌, ◌+◌, ◌*◌, ◌^◌, IfSome, Some, length, true};
-ghost use Rattle.std.specs.Char.{is_ascii_digit};
-ghost use Rattle.std.specs.List.{list_all};
-ghost use Rattle.vt_cli.specs.Moment.{number, value, place, sixtieth, with_sixtieth, seconds, micros, scale, moment};
+ghost use Rattle.std.specs.Prelude.{◌≡◌, ◌<◌, ◌+◌, ◌*◌, ◌^◌, IfSome, Some, length};
+ghost use Rattle.vt_cli.specs.Moment.{place, sixtieth, with_sixtieth, seconds, micros, moment};
 
-use vt_recording::Moment;
-
-/// Returns the number that the digits write, if there are at least one and at most `most`.
-fn number(most: usize, digits: &[u8]) -> Option<u64>
-    requires { most ≤ 15 }
-    ensures value { result ≡ number most digits.now }
-    ensures small { IfSome result (λ n. n < 10 ^ most) }
-{
-    if digits.is_empty() || most < digits.len() || !are_digits(digits) {
-        return None;
-    }
-    Some(value(digits))
-}
-
-/// Returns whether all bytes are digits.
-fn are_digits(bytes: &[u8]) -> bool
-    ensures { result ≡ list_all (λ b. is_ascii_digit b) bytes.now }
-{
-    bytes.iter().all(|b| b.is_ascii_digit())
-}
-
-/// Returns the number that up to fifteen digits write.
-fn value(digits: &[u8]) -> u64
-    requires few { length digits.now ≤ 15 }
-    requires digits { list_all (λ b. is_ascii_digit b) digits.now ≡ true }
-    ensures value { result ≡ value digits.now }
-    ensures small { result < 10 ^ length digits.now }
-{
-    let mut n = 0u64;
-    for digit in digits {
-        n = 10 * n + (*digit - b'0') as u64;
-    }
-    n
-}
+use vt_recording::{Moment, number, scale};
 
 /// Returns the index of the first byte that is this.
 fn place(byte: u8, text: &[u8]) -> Option<usize>
@@ -79,22 +44,6 @@ fn seconds(text: &[u8]) -> Option<u64>
     match place(b':', rest) {
         None => with_sixtieth(greater, rest),
         Some(at) => with_sixtieth(with_sixtieth(greater, &rest[..at])?, &rest[at + 1..]),
-    }
-}
-
-/// Returns the value of the last of `decimals` decimals, in microseconds.
-fn scale(decimals: usize) -> u64
-    ensures value { result ≡ scale decimals }
-    ensures small { result ≤ 1000000 }
-{
-    match decimals {
-        0 => 1_000_000,
-        1 => 100_000,
-        2 => 10_000,
-        3 => 1_000,
-        4 => 100,
-        5 => 10,
-        _ => 1,
     }
 }
 

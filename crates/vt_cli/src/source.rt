@@ -1,7 +1,7 @@
 //! How the input was recorded: its format, and the moment up to which it is wanted.
 ghost use Rattle.std.specs.Prelude.{◌≡◌, option_map};
 ghost use Rattle.clap.specs.Words.{found_of, rows_of};
-ghost use Rattle.vt_cli.specs.Source.{format_named, takes_timing, has_times, has_moment, until_of, source_of, source_in, line_of};
+ghost use Rattle.vt_cli.specs.Source.{format_named, named, takes_timing, has_times, has_moment, until_of, source_of, source_in, line_of};
 
 use crate::moment::moment;
 use clap::ArgMatches;
@@ -65,6 +65,16 @@ fn format_named(name: &str) -> Result<Option<Format>, Complaint>
     }
 }
 
+/// Returns the format of a name. Without a name it is raw.
+fn named(name: Option<&str>) -> Result<Option<Format>, Complaint>
+    ensures { result ≡ named (option_map (λ n. n.now) name.entry) }
+{
+    match name {
+        Some(name) => format_named(name),
+        None => Ok(Some(Format::Raw)),
+    }
+}
+
 /// Returns whether a format has a timing file.
 fn takes_timing(format: Option<Format>) -> bool
     ensures { result ≡ takes_timing format }
@@ -118,10 +128,7 @@ fn until_of(
 fn source_of(format: Option<&str>, timed: bool, until: Option<&str>) -> Result<Source, Complaint>
     ensures { result ≡ source_of (option_map (λ f. f.now) format.entry) timed (option_map (λ u. u.now) until.entry) }
 {
-    let Some(name) = format else {
-        return Err(Complaint::NoFormat);
-    };
-    let format = match format_named(name) {
+    let format = match named(format) {
         Ok(format) => format,
         Err(complaint) => return Err(complaint),
     };

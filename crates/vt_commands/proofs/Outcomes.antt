@@ -1,23 +1,76 @@
--- The outcome of an input that wasn't read whole.
-use Rattle.std.proofs.Common.{rules, ◌≡◌, ℕ, List, Bool, true, false, Option, inr, Err}
+-- The outcome of a recording that was played, and of an input that wasn't read whole.
+use Rattle.std.proofs.Common.{arith, rules, ◌≡◌, ℕ, List, [], Bool, true, false, Option, inr, Result, Ok, Err}
 use Rattle.vt_device.specs.Runs.{Flags}
 use Rattle.vt_cli.specs.declared.asked.Request.{Request}
+use Rattle.vt_cli.specs.declared.what.What.{What}
+use Rattle.vt_cli.specs.declared.what.Word.{Word}
+use Rattle.vt_cli.specs.declared.what.Word.TheVariants.{Replay, Log, Pages, Trace, Summary, Content}
 use Rattle.vt_recording.specs.declared.format.Format.{Format}
 use Rattle.vt_recording.specs.declared.fault.Fault.{Fault as Unread}
-use Rattle.vt_recording.specs.declared.fault.Fault.TheVariants.{Memory, Read, TooLong}
+use Rattle.vt_recording.specs.declared.fault.Fault.TheVariants as unread
 use Rattle.vt_recording.specs.Reading.{ReadTable}
+use Rattle.vt_trace.specs.Summary.{summary}
+use Rattle.vt_replay.specs.declared.fault.Fault.{Fault}
+use Rattle.vt_replay.specs.declared.fault.Fault.TheVariants.{Memory, Partial, Read, Write, TooLong}
+use Rattle.vt_replay.specs.Run.{Table}
+use Rattle.vt_replay.specs.Log.{LogTable}
+use Rattle.vt_replay.specs.Output.{OutputTable}
 use Rattle.vt_commands.specs.declared.requests.Outcome.{Outcome}
-use Rattle.vt_commands.specs.Request.{UnreadTable, IsUnread, OutcomeBy, unread_fault}
+use Rattle.vt_commands.specs.Words.{WordTable, pages_written, screen, trace_written, trace_ending, all, nothing}
+use Rattle.vt_commands.specs.Request.{UnreadTable, IsUnread, OutcomeBy, AllPlayed, unread_fault}
 
 -- the fault says why
 pub unread_why : (fault : Unread) (b : List ℕ) (failed ended : Bool) (limit : ℕ)
     → ReadTable (Err fault) b failed ended limit → UnreadTable (unread_fault fault) b failed ended limit
-unread_why Memory b failed ended limit t = t
-unread_why Read b failed ended limit t = t
-unread_why TooLong b failed ended limit t = t
+unread_why unread.Memory b failed ended limit t = t
+unread_why unread.Read b failed ended limit t = t
+unread_why unread.TooLong b failed ended limit t = t
 
 -- an input that isn't played as it comes
 pub not_streamed : (streamed : Bool) (o : Outcome) (r : Request) (format : Format) (timing : Option (List ℕ)) (b w : List ℕ) (f : Flags)
     → streamed ≡ false → IsUnread o r b w f → OutcomeBy streamed o r format timing b w f
 not_streamed false o r format timing b w f e unread = inr unread
 not_streamed true o r format timing b w f e unread = search (rules, e)
+
+-- ---- a recording that was played from memory
+
+-- the flags of a source in memory, which never fails
+abbrev in_memory : (at_end writer_failed : Bool) → Flags
+in_memory at_end writer_failed = record { reader_failed = false; reader_ended = at_end; writer_failed = writer_failed }
+
+module _ (piece : ℕ) (c rest w : List ℕ) (at_end failed : Bool) (limit : ℕ) (none : at_end ≡ true → rest ≡ []) where
+  run_whole : (played : Result (Unit {0}) Fault) (what : What) → Table played what piece c w (in_memory at_end failed) limit
+      → AllPlayed played limit c rest
+  run_whole (Ok u) what table = none table.0.reader_ended
+  run_whole (Err Memory) what table = tt
+  run_whole (Err Partial) what table = none table.1.reader_ended
+  run_whole (Err Read) what table = let e = table.0.reader_failed in search (rules, e)
+  run_whole (Err Write) what table = tt
+  run_whole (Err TooLong) what table = let long = table.1 in omega (arith, long)
+
+  log_whole : (played : Result (Unit {0}) Fault) → LogTable played piece c w (in_memory at_end failed) limit
+      → AllPlayed played limit c rest
+  log_whole (Ok u) table = none table.0.reader_ended
+  log_whole (Err Memory) table = tt
+  log_whole (Err Partial) table = absurd table
+  log_whole (Err Read) table = let e = table.0.reader_failed in search (rules, e)
+  log_whole (Err Write) table = tt
+  log_whole (Err TooLong) table = let long = table.1 in omega (arith, long)
+
+  output_whole : (written ending : List ℕ → List ℕ) (played : Result (Unit {0}) Fault)
+      → OutputTable written ending played piece c w (in_memory at_end failed) limit → AllPlayed played limit c rest
+  output_whole written ending (Ok u) table = none table.0.reader_ended
+  output_whole written ending (Err Memory) table = tt
+  output_whole written ending (Err Partial) table = absurd table
+  output_whole written ending (Err Read) table = let e = table.0.reader_failed in search (rules, e)
+  output_whole written ending (Err Write) table = tt
+  output_whole written ending (Err TooLong) table = let long = table.1 in omega (arith, long)
+
+  pub word_whole : (played : Result (Unit {0}) Fault) (word : Word) → WordTable played word piece c w (in_memory at_end failed) limit
+      → AllPlayed played limit c rest
+  word_whole played (Replay what) table = run_whole played what table
+  word_whole played Log table = log_whole played table
+  word_whole played Pages table = output_whole pages_written screen played table
+  word_whole played Trace table = output_whole trace_written trace_ending played table
+  word_whole played Summary table = output_whole nothing summary played table
+  word_whole played Content table = output_whole all nothing played table

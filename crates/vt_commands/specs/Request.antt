@@ -1,5 +1,5 @@
 -- What a request takes from its reader and gives to its writer. (this profile)
-use Rattle.std.specs.Prelude.{◌≡◌, ◌⊎◌, ℕ, ◌≤◌, ◌+◌, ◌++◌, List, [], length, Bool, true, false, not, Option, Some, None, Result, Ok, Err}
+use Rattle.std.specs.Prelude.{◌≡◌, ◌⊎◌, ℕ, ◌≤◌, ◌<◌, ◌+◌, ◌++◌, ⊤, List, [], length, Bool, true, false, not, Option, Some, None, Result, Ok, Err}
 use Rattle.std.specs.declared.alloc.Global.{Global}
 use Rattle.std.specs.declared.vec.Vec.{Vec}
 use Rattle.vt_device.specs.Runs.{Flags}
@@ -43,17 +43,27 @@ pub record IsStreamed (o : Outcome) (r : Request) (b w : List ℕ) (f : Flags) :
   pub ended : o.ended ≡ ended_of None played
   pub none_replaced : o.replaced ≡ 0
 
--- the word was carried out on the content of a recording, of which c was read
+-- how much of a recording's content was played: all of it, unless there was no memory, a write failed, or it is longer than
+-- the limit. It is in memory, so it can't be that a read failed
+abbrev pub AllPlayed : Result (Unit {0}) ReplayFault → (limit : ℕ) → (c rest : List ℕ) → Type 0
+AllPlayed (Ok u) limit c rest = rest ≡ []
+AllPlayed (Err replay.Memory) limit c rest = ⊤
+AllPlayed (Err replay.Partial) limit c rest = rest ≡ []
+AllPlayed (Err replay.Read) limit c rest = ⊥
+AllPlayed (Err replay.Write) limit c rest = ⊤
+AllPlayed (Err replay.TooLong) limit c rest = limit < length c
+
+-- the word was carried out on the content of a recording, of which c was played, from memory
 pub record IsPlayed (o : Outcome) (r : Request) (content : List ℕ) (broken : Option Break) (replaced : ℕ) (w : List ℕ)
     (writer_failed : Bool) : Type 0 where
   pub c : List ℕ
   pub rest : List ℕ
   pub joined : content ≡ c ++ rest
-  pub inner : Flags
-  pub all : inner.reader_ended ≡ true → rest ≡ []
+  pub at_end : Bool
+  pub none_left : at_end ≡ true → rest ≡ []
   pub played : Result (Unit {0}) ReplayFault
-  pub table : WordTable played r.word r.piece c w inner r.limit
-  pub writer : writer_failed ≡ inner.writer_failed
+  pub whole : AllPlayed played r.limit c rest
+  pub table : WordTable played r.word r.piece c w (record { reader_failed = false; reader_ended = at_end; writer_failed = writer_failed }) r.limit
   pub ended : o.ended ≡ ended_of broken played
   pub replaces : o.replaced ≡ replaced
 

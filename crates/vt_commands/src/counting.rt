@@ -10,27 +10,27 @@ ghost use Rattle.vt_commands.specs.Counting.{CountTable};
 
 use std::alloc::Global;
 use std::io::{Read, Write};
-use vt_device::{Watched, write_whole};
+use vt_device::{Source, Watched, write_whole};
 use vt_replay::Fault;
 use vt_trace::{SUMMARY_LIMIT, Summary};
 
 /// Counts the events of the reader's bytes, and writes their summary at the end.
-pub(crate) fn write_summary<R: Read, W: Write>(
+pub(crate) fn write_summary<S: Source, W: Write>(
     alloc: Global,
-    reader: &mut Watched<R>,
+    reader: &mut S,
     writer: &mut Watched<W>,
     piece: usize,
     limit: u64,
 ) -> Result<(), Fault>
-    requires reader_works { reader.old.failed ≡ false }
-    requires reader_goes_on { reader.old.ended ≡ false }
+    requires reader_works { S.failed reader.old ≡ false }
+    requires reader_goes_on { S.ended reader.old ≡ false }
     requires writer_works { writer.old.failed ≡ false }
     requires piece_in_range { (1 ≤ piece) × (piece ≤ 65536) }
     requires limit_in_range { limit ≤ 1099511627776 }
-    ensures answer { Moves (R.remaining reader.old.device) (R.remaining reader.new.device) (W.contents writer.old.device)
+    ensures answer { Moves (S.remaining reader.old) (S.remaining reader.new) (W.contents writer.old.device)
         (W.contents writer.new.device)
-        (λ b w. OutputTable nothing summary result piece b w (record { reader_failed = reader.new.failed; reader_ended = reader.new.ended; writer_failed = writer.new.failed }) limit) }
-    ensures whole { reader.new.ended ≡ true → IsAtEnd (R.remaining reader.new.device) }
+        (λ b w. OutputTable nothing summary result piece b w (record { reader_failed = S.failed reader.new; reader_ended = S.ended reader.new; writer_failed = writer.new.failed }) limit) }
+    ensures whole { S.ended reader.new ≡ true → IsAtEnd (S.remaining reader.new) }
 {
     let mut room = Room::new(alloc, piece)?;
     summary_in_room(
@@ -70,25 +70,25 @@ impl Room {
 }
 
 /// Counts the events of the reader's bytes, and writes their summary. The buffers have the capacity for it.
-fn summary_in_room<R: Read, W: Write>(
-    reader: &mut Watched<R>,
+fn summary_in_room<S: Source, W: Write>(
+    reader: &mut S,
     writer: &mut Watched<W>,
     limit: u64,
     counts: &mut Summary,
     buffer: &mut [u8],
     out: &mut Vec<u8>,
 ) -> Result<(), Fault>
-    requires reader_works { reader.old.failed ≡ false }
-    requires reader_goes_on { reader.old.ended ≡ false }
+    requires reader_works { S.failed reader.old ≡ false }
+    requires reader_goes_on { S.ended reader.old ≡ false }
     requires writer_works { writer.old.failed ≡ false }
     requires limit_in_range { limit ≤ 1099511627776 }
     requires new { HasCounted [] counts.old }
     requires some_room { 1 ≤ length buffer.old }
     requires room { 309351 ≤ vec_capacity out.old }
-    ensures answer { Moves (R.remaining reader.old.device) (R.remaining reader.new.device) (W.contents writer.old.device)
+    ensures answer { Moves (S.remaining reader.old) (S.remaining reader.new) (W.contents writer.old.device)
         (W.contents writer.new.device)
-        (λ b w. OutputTable nothing summary result (length buffer.old) b w (record { reader_failed = reader.new.failed; reader_ended = reader.new.ended; writer_failed = writer.new.failed }) limit) }
-    ensures whole { reader.new.ended ≡ true → IsAtEnd (R.remaining reader.new.device) }
+        (λ b w. OutputTable nothing summary result (length buffer.old) b w (record { reader_failed = S.failed reader.new; reader_ended = S.ended reader.new; writer_failed = writer.new.failed }) limit) }
+    ensures whole { S.ended reader.new ≡ true → IsAtEnd (S.remaining reader.new) }
 {
     count_input(reader, limit, counts, buffer)?;
     out.clear();
@@ -101,25 +101,25 @@ fn summary_in_room<R: Read, W: Write>(
 }
 
 /// Counts the events of the reader's bytes to their end.
-fn count_input<R: Read>(
-    reader: &mut Watched<R>,
+fn count_input<S: Source>(
+    reader: &mut S,
     limit: u64,
     counts: &mut Summary,
     buffer: &mut [u8],
 ) -> Result<(), Fault>
-    requires reader_works { reader.old.failed ≡ false }
-    requires reader_goes_on { reader.old.ended ≡ false }
+    requires reader_works { S.failed reader.old ≡ false }
+    requires reader_goes_on { S.ended reader.old ≡ false }
     requires limit_in_range { limit ≤ 1099511627776 }
     requires new { HasCounted [] counts.old }
     requires some_room { 1 ≤ length buffer.old }
-    ensures takes { Takes (R.remaining reader.old.device) (R.remaining reader.new.device)
-        (λ b. CountTable result counts.new b reader.new.failed reader.new.ended limit) }
-    ensures whole { reader.new.ended ≡ true → IsAtEnd (R.remaining reader.new.device) }
+    ensures takes { Takes (S.remaining reader.old) (S.remaining reader.new)
+        (λ b. CountTable result counts.new b (S.failed reader.new) (S.ended reader.new) limit) }
+    ensures whole { S.ended reader.new ≡ true → IsAtEnd (S.remaining reader.new) }
 {
     let mut left = limit as usize;
     while left > 0 {
         let want = left.min(buffer.len());
-        let Ok(count) = reader.read(&mut buffer[..want]) else {
+        let Ok(count) = reader.read_chunk(&mut buffer[..want]) else {
             return Err(Fault::Read);
         };
         if count == 0 {
@@ -128,7 +128,7 @@ fn count_input<R: Read>(
         counts.count(&buffer[..count]);
         left -= count;
     }
-    match reader.read(&mut buffer[..1]) {
+    match reader.read_chunk(&mut buffer[..1]) {
         Ok(0) => Ok(()),
         Ok(_) => Err(Fault::TooLong),
         Err(_) => Err(Fault::Read),

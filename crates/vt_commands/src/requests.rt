@@ -14,102 +14,102 @@ use crate::outputs::{ContentOutput, PageOutput, TraceOutput};
 use std::alloc::{AllocError, Global};
 use std::io::{Read, Write};
 use vt_cli::{Format, Moment, Request, Word};
-use vt_device::Watched;
+use vt_device::{Source, Watched};
 use vt_log::laws::pages_cut;
 use vt_recording::{Break, Content, Detected, Taken, detect, read_recording, take_apart};
-use vt_replay::{run, write_log, write_output};
+use vt_replay::{run_from, write_log_from, write_output_from};
 use vt_term::laws::soundness;
 
 /// Plays the reader's bytes on a new terminal, and writes its log with pages.
-fn write_pages<R: Read, W: Write>(
+fn write_pages<S: Source, W: Write>(
     alloc: Global,
-    reader: &mut Watched<R>,
+    reader: &mut S,
     writer: &mut Watched<W>,
     piece: usize,
     limit: u64,
 ) -> Result<(), vt_replay::Fault>
-    requires reader_works { reader.old.failed ≡ false }
-    requires reader_goes_on { reader.old.ended ≡ false }
+    requires reader_works { S.failed reader.old ≡ false }
+    requires reader_goes_on { S.ended reader.old ≡ false }
     requires writer_works { writer.old.failed ≡ false }
     requires piece_in_range { (1 ≤ piece) × (piece ≤ 65536) }
     requires limit_in_range { limit ≤ 1099511627776 }
-    ensures answer { Moves (R.remaining reader.old.device) (R.remaining reader.new.device) (W.contents writer.old.device)
+    ensures answer { Moves (S.remaining reader.old) (S.remaining reader.new) (W.contents writer.old.device)
         (W.contents writer.new.device)
-        (λ b w. OutputTable pages_written screen result piece b w (record { reader_failed = reader.new.failed; reader_ended = reader.new.ended; writer_failed = writer.new.failed }) limit) }
-    ensures whole { reader.new.ended ≡ true → IsAtEnd (R.remaining reader.new.device) }
+        (λ b w. OutputTable pages_written screen result piece b w (record { reader_failed = S.failed reader.new; reader_ended = S.ended reader.new; writer_failed = writer.new.failed }) limit) }
+    ensures whole { S.ended reader.new ≡ true → IsAtEnd (S.remaining reader.new) }
 {
     pages_cut();
     soundness();
     let mut output = PageOutput::new(alloc, piece)?;
-    write_output(alloc, &mut output, reader, writer, piece, limit)
+    write_output_from(alloc, &mut output, reader, writer, piece, limit)
 }
 
 /// Plays the reader's bytes on a new terminal, and writes the trace.
-fn write_trace<R: Read, W: Write>(
+fn write_trace<S: Source, W: Write>(
     alloc: Global,
-    reader: &mut Watched<R>,
+    reader: &mut S,
     writer: &mut Watched<W>,
     piece: usize,
     limit: u64,
 ) -> Result<(), vt_replay::Fault>
-    requires reader_works { reader.old.failed ≡ false }
-    requires reader_goes_on { reader.old.ended ≡ false }
+    requires reader_works { S.failed reader.old ≡ false }
+    requires reader_goes_on { S.ended reader.old ≡ false }
     requires writer_works { writer.old.failed ≡ false }
     requires piece_in_range { (1 ≤ piece) × (piece ≤ 65536) }
     requires limit_in_range { limit ≤ 1099511627776 }
-    ensures answer { Moves (R.remaining reader.old.device) (R.remaining reader.new.device) (W.contents writer.old.device)
+    ensures answer { Moves (S.remaining reader.old) (S.remaining reader.new) (W.contents writer.old.device)
         (W.contents writer.new.device)
-        (λ b w. OutputTable trace_written trace_ending result piece b w (record { reader_failed = reader.new.failed; reader_ended = reader.new.ended; writer_failed = writer.new.failed }) limit) }
-    ensures whole { reader.new.ended ≡ true → IsAtEnd (R.remaining reader.new.device) }
+        (λ b w. OutputTable trace_written trace_ending result piece b w (record { reader_failed = S.failed reader.new; reader_ended = S.ended reader.new; writer_failed = writer.new.failed }) limit) }
+    ensures whole { S.ended reader.new ≡ true → IsAtEnd (S.remaining reader.new) }
 {
     let mut output = TraceOutput::new(alloc, piece)?;
-    write_output(alloc, &mut output, reader, writer, piece, limit)
+    write_output_from(alloc, &mut output, reader, writer, piece, limit)
 }
 
 /// Writes the reader's bytes.
-fn write_content<R: Read, W: Write>(
+fn write_content<S: Source, W: Write>(
     alloc: Global,
-    reader: &mut Watched<R>,
+    reader: &mut S,
     writer: &mut Watched<W>,
     piece: usize,
     limit: u64,
 ) -> Result<(), vt_replay::Fault>
-    requires reader_works { reader.old.failed ≡ false }
-    requires reader_goes_on { reader.old.ended ≡ false }
+    requires reader_works { S.failed reader.old ≡ false }
+    requires reader_goes_on { S.ended reader.old ≡ false }
     requires writer_works { writer.old.failed ≡ false }
     requires piece_in_range { (1 ≤ piece) × (piece ≤ 65536) }
     requires limit_in_range { limit ≤ 1099511627776 }
-    ensures answer { Moves (R.remaining reader.old.device) (R.remaining reader.new.device) (W.contents writer.old.device)
+    ensures answer { Moves (S.remaining reader.old) (S.remaining reader.new) (W.contents writer.old.device)
         (W.contents writer.new.device)
-        (λ b w. OutputTable all nothing result piece b w (record { reader_failed = reader.new.failed; reader_ended = reader.new.ended; writer_failed = writer.new.failed }) limit) }
-    ensures whole { reader.new.ended ≡ true → IsAtEnd (R.remaining reader.new.device) }
+        (λ b w. OutputTable all nothing result piece b w (record { reader_failed = S.failed reader.new; reader_ended = S.ended reader.new; writer_failed = writer.new.failed }) limit) }
+    ensures whole { S.ended reader.new ≡ true → IsAtEnd (S.remaining reader.new) }
 {
     let mut output = ContentOutput;
-    write_output(alloc, &mut output, reader, writer, piece, limit)
+    write_output_from(alloc, &mut output, reader, writer, piece, limit)
 }
 
 /// Carries out a word on the reader's bytes. Neither device has failed before, and the reader hasn't ended.
-fn carry_out_word<R: Read, W: Write>(
+fn carry_out_word<S: Source, W: Write>(
     alloc: Global,
-    reader: &mut Watched<R>,
+    reader: &mut S,
     writer: &mut Watched<W>,
     word: Word,
     piece: usize,
     limit: u64,
 ) -> Result<(), vt_replay::Fault>
-    requires reader_works { reader.old.failed ≡ false }
-    requires reader_goes_on { reader.old.ended ≡ false }
+    requires reader_works { S.failed reader.old ≡ false }
+    requires reader_goes_on { S.ended reader.old ≡ false }
     requires writer_works { writer.old.failed ≡ false }
     requires piece_in_range { (1 ≤ piece) × (piece ≤ 65536) }
     requires limit_in_range { limit ≤ 1099511627776 }
-    ensures answer { Moves (R.remaining reader.old.device) (R.remaining reader.new.device) (W.contents writer.old.device)
+    ensures answer { Moves (S.remaining reader.old) (S.remaining reader.new) (W.contents writer.old.device)
         (W.contents writer.new.device)
-        (λ b w. WordTable result word piece b w (record { reader_failed = reader.new.failed; reader_ended = reader.new.ended; writer_failed = writer.new.failed }) limit) }
-    ensures whole { reader.new.ended ≡ true → IsAtEnd (R.remaining reader.new.device) }
+        (λ b w. WordTable result word piece b w (record { reader_failed = S.failed reader.new; reader_ended = S.ended reader.new; writer_failed = writer.new.failed }) limit) }
+    ensures whole { S.ended reader.new ≡ true → IsAtEnd (S.remaining reader.new) }
 {
     match word {
-        Word::Replay(what) => run(alloc, reader, writer, what, piece, limit),
-        Word::Log => write_log(alloc, reader, writer, piece, limit),
+        Word::Replay(what) => run_from(alloc, reader, writer, what, piece, limit),
+        Word::Log => write_log_from(alloc, reader, writer, piece, limit),
         Word::Pages => write_pages(alloc, reader, writer, piece, limit),
         Word::Trace => write_trace(alloc, reader, writer, piece, limit),
         Word::Summary => write_summary(alloc, reader, writer, piece, limit),
@@ -299,7 +299,7 @@ fn play_taken<W: Write>(
 {
     let broken = taken.broken;
     let replaced = taken.replaced;
-    let mut content = Watched::new(Content::new(taken.content));
+    let mut content = Content::new(taken.content);
     let played = carry_out_word(
         alloc,
         &mut content,

@@ -2,8 +2,10 @@
 //! apart share it.
 #![tactic(auto)]
 
+mod source;
 mod watched;
 mod writing;
 
+pub use source::Source;
 pub use watched::Watched;
 pub use writing::write_whole;

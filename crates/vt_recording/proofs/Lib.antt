@@ -1,4 +1,5 @@
 mod Pieces
+mod Powers
 pub mod Ends
 mod Supplemental
 mod Writing

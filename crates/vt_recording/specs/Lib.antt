@@ -1,5 +1,6 @@
 pub mod Asciicast
 pub mod Characters
+pub mod Content
 pub mod Detection
 pub mod Events
 pub mod Moment

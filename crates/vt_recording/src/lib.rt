@@ -23,5 +23,6 @@ pub use detection::{Compression, DETECTION_LENGTH, Detected, detect};
 pub use fault::Fault;
 pub use format::{Break, Format, Moment, Part, Taken};
 pub use reading::read_recording;
+pub use seconds::{number, scale};
 pub use taking::take_apart;
-pub use vt_device::Watched;
+pub use vt_device::{Source, Watched};

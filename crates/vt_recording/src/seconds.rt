@@ -6,10 +6,10 @@ ghost use Rattle.vt_recording.specs.Seconds.{number, value, micros, scale, micro
 ghost use Rattle.vt_recording.specs.Seconds.{negative_exponent, micros_of_number};
 
 /// Returns the number that the digits write, if there are at least one and at most `most`.
-pub(crate) fn number(most: usize, digits: &[u8]) -> Option<u64>
-    requires { most ≤ 9 }
+pub fn number(most: usize, digits: &[u8]) -> Option<u64>
+    requires { most ≤ 15 }
     ensures value { result ≡ number most digits.now }
-    ensures small { IfSome result (λ n. n < 10 ^ 9) }
+    ensures small { IfSome result (λ n. n < 10 ^ most) }
 {
     if digits.is_empty() || most < digits.len() || !are_digits(digits) {
         return None;
@@ -24,12 +24,12 @@ fn are_digits(bytes: &[u8]) -> bool
     bytes.iter().all(|b| b.is_ascii_digit())
 }
 
-/// Returns the number that up to nine digits write.
+/// Returns the number that up to fifteen digits write.
 fn value(digits: &[u8]) -> u64
-    requires few { length digits.now ≤ 9 }
+    requires few { length digits.now ≤ 15 }
     requires digits { list_all (λ b. is_ascii_digit b) digits.now ≡ true }
     ensures value { result ≡ value digits.now }
-    ensures small { result < 10 ^ 9 }
+    ensures small { result < 10 ^ length digits.now }
 {
     let mut n = 0u64;
     for digit in digits {
@@ -39,7 +39,7 @@ fn value(digits: &[u8]) -> u64
 }
 
 /// Returns the value of the last of `decimals` decimals, in microseconds.
-fn scale(decimals: usize) -> u64
+pub fn scale(decimals: usize) -> u64
     ensures value { result ≡ scale decimals }
     ensures small { result ≤ 1000000 }
 {

@@ -14,7 +14,7 @@ use crate::status::{STATUS_LIMIT, push_status};
 use std::alloc::{AllocError, Global};
 use std::io::{Read, Write};
 use vt_cli::{Settings, What};
-use vt_device::{Watched, write_whole};
+use vt_device::{Source, Watched, write_whole};
 use vt_paint::{PAINT_LIMIT, repaint_reserved};
 use vt_picture::{PICTURE_LIMIT, SHOW_LIMIT, picture_reserved, show_reserved};
 use vt_term::laws::{cuts, soundness};
@@ -51,6 +51,30 @@ pub fn run<R: Read, W: Write>(
         (W.contents writer.new.device)
         (λ b w. Table result what piece b w (record { reader_failed = reader.new.failed; reader_ended = reader.new.ended; writer_failed = writer.new.failed }) limit) }
     ensures whole { reader.new.ended ≡ true → IsAtEnd (R.remaining reader.new.device) }
+{
+    run_from(alloc, reader, writer, what, piece, limit)
+}
+
+/// Plays a source's bytes as `run` does a reader's: memory never fails. The source hasn't failed or ended before.
+///
+/// `Err` is what `run` returns.
+pub fn run_from<S: Source, W: Write>(
+    alloc: Global,
+    reader: &mut S,
+    writer: &mut Watched<W>,
+    what: What,
+    piece: usize,
+    limit: u64,
+) -> Result<(), Fault>
+    requires reader_works { S.failed reader.old ≡ false }
+    requires reader_goes_on { S.ended reader.old ≡ false }
+    requires writer_works { writer.old.failed ≡ false }
+    requires piece_in_range { (1 ≤ piece) × (piece ≤ 65536) }
+    requires limit_in_range { limit ≤ 1099511627776 }
+    ensures answer { Moves (S.remaining reader.old) (S.remaining reader.new) (W.contents writer.old.device)
+        (W.contents writer.new.device)
+        (λ b w. Table result what piece b w (record { reader_failed = S.failed reader.new; reader_ended = S.ended reader.new; writer_failed = writer.new.failed }) limit) }
+    ensures whole { S.ended reader.new ≡ true → IsAtEnd (S.remaining reader.new) }
 {
     let mut room = Room::new(alloc, what, piece)?;
     run_in_room(
@@ -122,8 +146,8 @@ pub fn replay<R: Read, W: Write>(
 }
 
 /// Plays the reader's bytes, and writes what is due. The buffers have the capacity for it.
-fn run_in_room<R: Read, W: Write>(
-    reader: &mut Watched<R>,
+fn run_in_room<S: Source, W: Write>(
+    reader: &mut S,
     writer: &mut Watched<W>,
     what: What,
     limit: u64,
@@ -131,18 +155,18 @@ fn run_in_room<R: Read, W: Write>(
     buffer: &mut [u8],
     out: &mut Vec<u8>,
 ) -> Result<(), Fault>
-    requires reader_works { reader.old.failed ≡ false }
-    requires reader_goes_on { reader.old.ended ≡ false }
+    requires reader_works { S.failed reader.old ≡ false }
+    requires reader_goes_on { S.ended reader.old ≡ false }
     requires writer_works { writer.old.failed ≡ false }
     requires limit_in_range { limit ≤ 1099511627776 }
     requires new { terminal.old ≡ power_up }
     requires some_room { 1 ≤ length buffer.old }
     requires room_for_reports { 10 * length buffer.old ≤ vec_capacity out.old }
     requires room_at_end { room_for what ≤ vec_capacity out.old }
-    ensures answer { Moves (R.remaining reader.old.device) (R.remaining reader.new.device) (W.contents writer.old.device)
+    ensures answer { Moves (S.remaining reader.old) (S.remaining reader.new) (W.contents writer.old.device)
         (W.contents writer.new.device)
-        (λ b w. Table result what (length buffer.old) b w (record { reader_failed = reader.new.failed; reader_ended = reader.new.ended; writer_failed = writer.new.failed }) limit) }
-    ensures whole { reader.new.ended ≡ true → IsAtEnd (R.remaining reader.new.device) }
+        (λ b w. Table result what (length buffer.old) b w (record { reader_failed = S.failed reader.new; reader_ended = S.ended reader.new; writer_failed = writer.new.failed }) limit) }
+    ensures whole { S.ended reader.new ≡ true → IsAtEnd (S.remaining reader.new) }
 {
     let reported = play_input(reader, writer, what, limit, terminal, buffer, out)?;
     if !is_there(terminal, what) {
@@ -200,8 +224,8 @@ fn push_due_at_end(terminal: &Terminal, what: What, reported: u64, out: &mut Vec
 }
 
 /// Plays the reader's bytes to their end. Returns how many report bytes they gave.
-fn play_input<R: Read, W: Write>(
-    reader: &mut Watched<R>,
+fn play_input<S: Source, W: Write>(
+    reader: &mut S,
     writer: &mut Watched<W>,
     what: What,
     limit: u64,
@@ -209,17 +233,17 @@ fn play_input<R: Read, W: Write>(
     buffer: &mut [u8],
     out: &mut Vec<u8>,
 ) -> Result<u64, Fault>
-    requires reader_works { reader.old.failed ≡ false }
-    requires reader_goes_on { reader.old.ended ≡ false }
+    requires reader_works { S.failed reader.old ≡ false }
+    requires reader_goes_on { S.ended reader.old ≡ false }
     requires writer_works { writer.old.failed ≡ false }
     requires limit_in_range { limit ≤ 1099511627776 }
     requires new { terminal.old ≡ power_up }
     requires some_room { 1 ≤ length buffer.old }
     requires room_for_reports { 10 * length buffer.old ≤ vec_capacity out.old }
-    ensures moves { Moves (R.remaining reader.old.device) (R.remaining reader.new.device) (W.contents writer.old.device)
+    ensures moves { Moves (S.remaining reader.old) (S.remaining reader.new) (W.contents writer.old.device)
         (W.contents writer.new.device)
-        (λ b w. ReadTable result what terminal.new (length buffer.old) b w (record { reader_failed = reader.new.failed; reader_ended = reader.new.ended; writer_failed = writer.new.failed }) limit) }
-    ensures whole { reader.new.ended ≡ true → IsAtEnd (R.remaining reader.new.device) }
+        (λ b w. ReadTable result what terminal.new (length buffer.old) b w (record { reader_failed = S.failed reader.new; reader_ended = S.ended reader.new; writer_failed = writer.new.failed }) limit) }
+    ensures whole { S.ended reader.new ≡ true → IsAtEnd (S.remaining reader.new) }
     ensures capacity { vec_capacity out.old ≤ vec_capacity out.new }
 {
     cuts();
@@ -228,7 +252,7 @@ fn play_input<R: Read, W: Write>(
     let mut left = limit as usize;
     while left > 0 {
         let want = left.min(buffer.len());
-        let Ok(count) = reader.read(&mut buffer[..want]) else {
+        let Ok(count) = reader.read_chunk(&mut buffer[..want]) else {
             return Err(Fault::Read);
         };
         if count == 0 {
@@ -242,7 +266,7 @@ fn play_input<R: Read, W: Write>(
         }
         left -= count;
     }
-    match reader.read(&mut buffer[..1]) {
+    match reader.read_chunk(&mut buffer[..1]) {
         Ok(0) => Ok(reported),
         Ok(_) => Err(Fault::TooLong),
         Err(_) => Err(Fault::Read),

@@ -8,9 +8,9 @@ mod logging;
 mod output;
 mod status;
 
-pub use engine::{replay, run};
+pub use engine::{replay, run, run_from};
 pub use fault::Fault;
-pub use logging::write_log;
-pub use output::{Output, write_output};
+pub use logging::{write_log, write_log_from};
+pub use output::{Output, write_output, write_output_from};
 pub use vt_cli::{Format, Moment, Refused, Request, Settings, What, Word, request, settings};
 pub use vt_device::Watched;

@@ -9,10 +9,10 @@ ghost use Rattle.vt_device.specs.Runs.{Moves};
 ghost use Rattle.vt_replay.specs.Log.{LogTable};
 
 use crate::fault::Fault;
-use crate::output::{Output, write_output};
+use crate::output::{Output, write_output_from};
 use std::alloc::{AllocError, Global};
 use std::io::{Read, Write};
-use vt_device::Watched;
+use vt_device::{Source, Watched};
 use vt_log::laws::cuts as log_cuts;
 use vt_log::{LINE_LIMIT, feed_log_reserved};
 use vt_term::laws::{cuts, soundness};
@@ -48,10 +48,34 @@ pub fn write_log<R: Read, W: Write>(
         (λ b w. LogTable result piece b w (record { reader_failed = reader.new.failed; reader_ended = reader.new.ended; writer_failed = writer.new.failed }) limit) }
     ensures whole { reader.new.ended ≡ true → IsAtEnd (R.remaining reader.new.device) }
 {
+    write_log_from(alloc, reader, writer, piece, limit)
+}
+
+/// Writes the log of a source's bytes, as `write_log` does of a reader's: memory never fails. The source hasn't failed or
+/// ended before.
+///
+/// `Err` is what `write_log` returns.
+pub fn write_log_from<S: Source, W: Write>(
+    alloc: Global,
+    reader: &mut S,
+    writer: &mut Watched<W>,
+    piece: usize,
+    limit: u64,
+) -> Result<(), Fault>
+    requires reader_works { S.failed reader.old ≡ false }
+    requires reader_goes_on { S.ended reader.old ≡ false }
+    requires writer_works { writer.old.failed ≡ false }
+    requires piece_in_range { (1 ≤ piece) × (piece ≤ 65536) }
+    requires limit_in_range { limit ≤ 1099511627776 }
+    ensures answer { Moves (S.remaining reader.old) (S.remaining reader.new) (W.contents writer.old.device)
+        (W.contents writer.new.device)
+        (λ b w. LogTable result piece b w (record { reader_failed = S.failed reader.new; reader_ended = S.ended reader.new; writer_failed = writer.new.failed }) limit) }
+    ensures whole { S.ended reader.new ≡ true → IsAtEnd (S.remaining reader.new) }
+{
     log_cuts();
     soundness();
     let mut output = LogOutput::new(alloc, piece)?;
-    write_output(alloc, &mut output, reader, writer, piece, limit)
+    write_output_from(alloc, &mut output, reader, writer, piece, limit)
 }
 
 /// The lines that scroll off, and at the end the screen.

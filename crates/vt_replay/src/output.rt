@@ -9,7 +9,7 @@ ghost use Rattle.vt_replay.specs.Output.{IsAfter, OutputTable, ComingTable};
 use crate::fault::Fault;
 use std::alloc::{AllocError, Global};
 use std::io::{Read, Write};
-use vt_device::{Watched, write_whole};
+use vt_device::{Source, Watched, write_whole};
 
 /// What is written of the host's bytes as they come, and at their end.
 pub trait Output: Drop {
@@ -84,6 +84,34 @@ pub fn write_output<O: Output, R: Read, W: Write>(
         (λ b w. OutputTable (O.written output.old) (O.ending output.old) result piece b w (record { reader_failed = reader.new.failed; reader_ended = reader.new.ended; writer_failed = writer.new.failed }) limit) }
     ensures whole { reader.new.ended ≡ true → IsAtEnd (R.remaining reader.new.device) }
 {
+    write_output_from(alloc, output, reader, writer, piece, limit)
+}
+
+/// Gives a source's bytes to an output, and writes what it makes of them, as `write_output` does of a reader's: memory
+/// never fails. The source hasn't failed or ended before.
+///
+/// `Err` is what `write_output` returns.
+pub fn write_output_from<O: Output, S: Source, W: Write>(
+    alloc: Global,
+    output: &mut O,
+    reader: &mut S,
+    writer: &mut Watched<W>,
+    piece: usize,
+    limit: u64,
+) -> Result<(), Fault>
+    requires short { piece ≤ O.most output.old }
+    requires counts { O.counted output.old ≡ 0 }
+    requires none { O.written output.old [] ≡ [] }
+    requires reader_works { S.failed reader.old ≡ false }
+    requires reader_goes_on { S.ended reader.old ≡ false }
+    requires writer_works { writer.old.failed ≡ false }
+    requires piece_in_range { (1 ≤ piece) × (piece ≤ 65536) }
+    requires limit_in_range { limit ≤ 1099511627776 }
+    ensures answer { Moves (S.remaining reader.old) (S.remaining reader.new) (W.contents writer.old.device)
+        (W.contents writer.new.device)
+        (λ b w. OutputTable (O.written output.old) (O.ending output.old) result piece b w (record { reader_failed = S.failed reader.new; reader_ended = S.ended reader.new; writer_failed = writer.new.failed }) limit) }
+    ensures whole { S.ended reader.new ≡ true → IsAtEnd (S.remaining reader.new) }
+{
     let mut room = Room::new(alloc, piece, O::CAPACITY)?;
     write_in_room(
         output,
@@ -118,9 +146,9 @@ impl Room {
 }
 
 /// Gives the reader's bytes to the output, and writes what it makes of them. The buffers have the capacity for it.
-fn write_in_room<O: Output, R: Read, W: Write>(
+fn write_in_room<O: Output, S: Source, W: Write>(
     output: &mut O,
-    reader: &mut Watched<R>,
+    reader: &mut S,
     writer: &mut Watched<W>,
     limit: u64,
     buffer: &mut [u8],
@@ -129,16 +157,16 @@ fn write_in_room<O: Output, R: Read, W: Write>(
     requires short { length buffer.old ≤ O.most output.old }
     requires counts { O.counted output.old ≡ 0 }
     requires none { O.written output.old [] ≡ [] }
-    requires reader_works { reader.old.failed ≡ false }
-    requires reader_goes_on { reader.old.ended ≡ false }
+    requires reader_works { S.failed reader.old ≡ false }
+    requires reader_goes_on { S.ended reader.old ≡ false }
     requires writer_works { writer.old.failed ≡ false }
     requires limit_in_range { limit ≤ 1099511627776 }
     requires some_room { (1 ≤ length buffer.old) × (length buffer.old ≤ 65536) }
     requires room { O.CAPACITY ≤ vec_capacity out.old }
-    ensures answer { Moves (R.remaining reader.old.device) (R.remaining reader.new.device) (W.contents writer.old.device)
+    ensures answer { Moves (S.remaining reader.old) (S.remaining reader.new) (W.contents writer.old.device)
         (W.contents writer.new.device)
-        (λ b w. OutputTable (O.written output.old) (O.ending output.old) result (length buffer.old) b w (record { reader_failed = reader.new.failed; reader_ended = reader.new.ended; writer_failed = writer.new.failed }) limit) }
-    ensures whole { reader.new.ended ≡ true → IsAtEnd (R.remaining reader.new.device) }
+        (λ b w. OutputTable (O.written output.old) (O.ending output.old) result (length buffer.old) b w (record { reader_failed = S.failed reader.new; reader_ended = S.ended reader.new; writer_failed = writer.new.failed }) limit) }
+    ensures whole { S.ended reader.new ≡ true → IsAtEnd (S.remaining reader.new) }
 {
     write_coming(output, reader, writer, limit, buffer, out)?;
     out.clear();
@@ -151,9 +179,9 @@ fn write_in_room<O: Output, R: Read, W: Write>(
 }
 
 /// Gives the reader's bytes to the output to their end, and writes what is written of each chunk before it reads the next.
-fn write_coming<O: Output, R: Read, W: Write>(
+fn write_coming<O: Output, S: Source, W: Write>(
     output: &mut O,
-    reader: &mut Watched<R>,
+    reader: &mut S,
     writer: &mut Watched<W>,
     limit: u64,
     buffer: &mut [u8],
@@ -162,22 +190,22 @@ fn write_coming<O: Output, R: Read, W: Write>(
     requires short { length buffer.old ≤ O.most output.old }
     requires counts { O.counted output.old ≡ 0 }
     requires none { O.written output.old [] ≡ [] }
-    requires reader_works { reader.old.failed ≡ false }
-    requires reader_goes_on { reader.old.ended ≡ false }
+    requires reader_works { S.failed reader.old ≡ false }
+    requires reader_goes_on { S.ended reader.old ≡ false }
     requires writer_works { writer.old.failed ≡ false }
     requires limit_in_range { limit ≤ 1099511627776 }
     requires some_room { (1 ≤ length buffer.old) × (length buffer.old ≤ 65536) }
     requires room { O.CAPACITY ≤ vec_capacity out.old }
-    ensures moves { Moves (R.remaining reader.old.device) (R.remaining reader.new.device) (W.contents writer.old.device)
+    ensures moves { Moves (S.remaining reader.old) (S.remaining reader.new) (W.contents writer.old.device)
         (W.contents writer.new.device)
-        (λ b w. ComingTable (O.written output.old) (O.ending output.old) result (O.written output.new) (O.ending output.new) (length buffer.old) b w (record { reader_failed = reader.new.failed; reader_ended = reader.new.ended; writer_failed = writer.new.failed }) limit) }
-    ensures whole { reader.new.ended ≡ true → IsAtEnd (R.remaining reader.new.device) }
+        (λ b w. ComingTable (O.written output.old) (O.ending output.old) result (O.written output.new) (O.ending output.new) (length buffer.old) b w (record { reader_failed = S.failed reader.new; reader_ended = S.ended reader.new; writer_failed = writer.new.failed }) limit) }
+    ensures whole { S.ended reader.new ≡ true → IsAtEnd (S.remaining reader.new) }
     ensures capacity { vec_capacity out.old ≤ vec_capacity out.new }
 {
     let mut left = limit as usize;
     while left > 0 {
         let want = left.min(buffer.len());
-        let Ok(count) = reader.read(&mut buffer[..want]) else {
+        let Ok(count) = reader.read_chunk(&mut buffer[..want]) else {
             return Err(Fault::Read);
         };
         if count == 0 {
@@ -188,7 +216,7 @@ fn write_coming<O: Output, R: Read, W: Write>(
         }
         left -= count;
     }
-    match reader.read(&mut buffer[..1]) {
+    match reader.read_chunk(&mut buffer[..1]) {
         Ok(0) => Ok(()),
         Ok(_) => Err(Fault::TooLong),
         Err(_) => Err(Fault::Read),

@@ -1,10 +1,9 @@
 //! Recordings written by hand, with the content that they have, and runs from end to end.
 use super::common::holds;
 use std::alloc::Global;
-use std::io::Read;
 use std::test::Fail;
 use vt_recording::{
-    Break, Content, Fault, Format, Moment, Part, Watched, read_recording, take_apart,
+    Break, Content, Fault, Format, Moment, Part, Source, Watched, read_recording, take_apart,
 };
 
 /// Pieces at 1000.9 s, 1001.0 s (none of its bytes), 1001.4 s and 1001.400001 s.
@@ -162,14 +161,14 @@ fn ttyrecs_by_hand(rt: HostRuntime) -> Result<(), Fail> {
     Ok(())
 }
 
-/// Whether a reader of bytes gives them in parts, and then none.
+/// Whether a source of bytes gives them in parts, and then none.
 fn gives_them_all(alloc: Global) -> Result<bool, Fail> {
     let mut content = Content::new(Vec::from_slice(alloc, b"abc")?);
     let mut buffer = [0u8; 2];
-    let first = content.read(&mut buffer)?;
+    let first = content.read_chunk(&mut buffer)?;
     let ab = buffer;
-    let second = content.read(&mut buffer)?;
-    let third = content.read(&mut buffer)?;
+    let second = content.read_chunk(&mut buffer)?;
+    let third = content.read_chunk(&mut buffer)?;
     Ok((first, second, third) == (2, 1, 0) && ab == *b"ab" && buffer[0] == b'c')
 }
 

@@ -140,20 +140,19 @@ const LOGS: [Taken; 3] = [
     ),
 ];
 
+/// What is said of words that are a request, and no settings.
+const NO_SETTINGS: &str = "vt220: bad command line\n";
+
 #[test]
 fn words_ask_for_a_log(rt: HostRuntime) -> Result<(), Fail> {
     for row in &LOGS {
         holds(&rt, row.0, requests(rt.alloc(), Word::Log, row)?);
-        holds(
-            &rt,
-            row.0,
-            is_refused(rt.alloc(), row.0, 2, "error: unrecognized subcommand 'log'")?,
-        );
+        holds(&rt, row.0, is_refused(rt.alloc(), row.0, 2, NO_SETTINGS)?);
     }
     Ok(())
 }
 
-/// A line of the wider command, its word, its format (none for auto), its timing file, and the moment.
+/// A line of words, its word, its format (none for auto), its timing file, and the moment.
 type Recorded = (
     &'static str,
     Word,
@@ -267,11 +266,12 @@ fn is_recorded(
 fn words_ask_for_recordings(rt: HostRuntime) -> Result<(), Fail> {
     for row in &RECORDED {
         holds(&rt, row.0, is_recorded(rt.alloc(), row)?);
+        holds(&rt, row.0, is_refused(rt.alloc(), row.0, 2, NO_SETTINGS)?);
     }
     Ok(())
 }
 
-/// Lines of the wider command that leave out the notes, and lines that don't.
+/// Lines that leave out the notes, and lines that don't.
 const QUIET: [(&str, bool); 5] = [
     ("vt220 text --quiet a", true),
     ("vt220 log a --quiet", true),
@@ -297,7 +297,7 @@ fn words_leave_out_the_notes(rt: HostRuntime) -> Result<(), Fail> {
     Ok(())
 }
 
-/// A line of the wider command that is refused, and the sentences that say why.
+/// A line that is refused, and the sentences that say why.
 const MISFITS: [(&str, &str); 15] = [
     (
         "vt220 text --format cast",
@@ -433,7 +433,7 @@ fn words_are_refused(rt: HostRuntime) -> Result<(), Fail> {
     Ok(())
 }
 
-/// A line of the wider command that asks for nothing, the status, and how the text begins.
+/// A line of `log` that asks for nothing, the status, and how the text begins.
 const NO_LOG: [(&str, u8, &str); 4] = [
     ("vt220 log --help", 0, "The lines that scroll off"),
     ("vt220 help log", 0, "The lines that scroll off"),

@@ -5,11 +5,11 @@ use Rattle.vt_commands.proofs.counting.count_input.Given as goal
 
 abbrev pub invariant-loop-left : goal.invariant-loop-left
 invariant-loop-left g l = record {
-  taken : Takes (g.R.Read.remaining l.initial.reader.device) (g.R.Read.remaining l.reader.device)
+  taken : Takes (g.S.Source.remaining l.initial.reader) (g.S.Source.remaining l.reader)
       (λ b. (length b + l.left ≡ l.limit) × HasCounted b l.counts);
   within : l.left ≤ l.limit;
-  reader_works : l.reader.failed ≡ false;
-  reader_goes_on : l.reader.ended ≡ false;
+  reader_works : g.S.Source.failed l.reader ≡ false;
+  reader_goes_on : g.S.Source.ended l.reader ≡ false;
 }
 
 abbrev pub decreases-loop-left : goal.decreases-loop-left

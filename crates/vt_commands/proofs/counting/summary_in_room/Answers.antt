@@ -1,5 +1,4 @@
-use Rattle.std.proofs.Common.{◌∙◌, [], inr, refl}
-use Rattle.std.proofs.KnownBytes.{Appends-nil}
+use Rattle.std.proofs.Common.{◌∙◌, inr, refl}
 use Rattle.vt_commands.proofs.counting.summary_in_room.Goals as goal
 
 pub returns-then-write_whole-clause-answer : goal.returns-then-write_whole-clause-answer

@@ -1,6 +1,5 @@
-use Rattle.std.proofs.Common.{◌∙◌, sym, ap, [], refl, Err}
+use Rattle.std.proofs.Common.{◌∙◌, sym, [], refl}
 use Rattle.std.proofs.KnownBytes.{Appends-nil}
-use Rattle.vt_commands.specs.declared.fault.Fault.TheVariants.{Replay}
 use Rattle.vt_commands.proofs.Outcomes.{unread_why, not_streamed}
 use Rattle.vt_commands.proofs.requests.carry_out.Goals as goal
 

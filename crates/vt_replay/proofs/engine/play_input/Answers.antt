@@ -14,8 +14,8 @@ use Rattle.vt_replay.proofs.engine.play_input.Goals as goal
 pub loop-left-preserved : goal.loop-left-preserved
 loop-left-preserved g c =
     let gives = c.if-not-send.ensures.gives in
-    let long = simp length-take at c.read.auto.buf in
-    let bound : c.in-Ok.count ≤ length c.read.new.buf = c.in-Ok.ensures.bound.0 in
+    let long = simp length-take at c.read_chunk.auto.buf in
+    let bound : c.in-Ok.count ≤ length c.read_chunk.new.buf = c.in-Ok.ensures.bound.0 in
     let within : c.in-Ok.count ≤ c.loop-left.left = omega (arith, long, bound, c.min-want.ensures) in
     let state = rw take-append-le at c.feed_reserved.ensures.state in
     let reports = rw (take-append-le, c.clear.ensures.items) at c.feed_reserved.ensures.reports in
@@ -54,14 +54,14 @@ loop-left-preserved g c =
 pub returns-then-not-send-clause-moves : goal.returns-then-not-send-clause-moves
 returns-then-not-send-clause-moves g c =
     let gives = c.if-not-send.ensures.gives in
-    let long = simp length-take at c.read.auto.buf in
-    let bound : c.in-Ok.count ≤ length c.read.new.buf = c.in-Ok.ensures.bound.0 in
+    let long = simp length-take at c.read_chunk.auto.buf in
+    let bound : c.in-Ok.count ≤ length c.read_chunk.new.buf = c.in-Ok.ensures.bound.0 in
     let within : c.in-Ok.count ≤ c.loop-left.left = omega (arith, long, bound, c.min-want.ensures) in
     let state = rw take-append-le at c.feed_reserved.ensures.state in
     let reports = rw (take-append-le, c.clear.ensures.items) at c.feed_reserved.ensures.reports in
-    let works : c.read.new.self.failed ≡ false = grind (arith, common_steps, c.in-Ok.ensures) in
-    let goes_on : c.read.new.self.ended ≡ false = grind (arith, common_steps, c.in-Ok.ensures) in
-    let short : length (take c.in-Ok.count c.read.new.buf) ≤ length c.args.buffer.now =
+    let works : g.S.Source.failed c.read_chunk.new.self ≡ false = grind (arith, common_steps, c.in-Ok.ensures) in
+    let goes_on : g.S.Source.ended c.read_chunk.new.self ≡ false = grind (arith, common_steps, c.in-Ok.ensures) in
+    let short : length (take c.in-Ok.count c.read_chunk.new.buf) ≤ length c.args.buffer.now =
     rw length-take (omega (arith, long, bound, c.min-want.ensures, c.loop-left.auto.buffer)) in
     let failed = sent-failed c.args.what gives.w c.deref.result.now gives.holds.1 in
     let part : IsProperBeginning gives.w c.feed_reserved.new.out.items = rw (← c.deref.ensures.value) failed.1 in
@@ -78,11 +78,11 @@ returns-then-not-send-clause-moves g c =
 
 pub returns-in-Ok-eq0-clause-moves : goal.returns-in-Ok-eq0-clause-moves
 returns-in-Ok-eq0-clause-moves g c =
-    let works : c.read-2.new.self.failed ≡ false = grind (arith, common_steps, c.in-Ok-eq0.ensures) in
+    let works : g.S.Source.failed c.read_chunk-2.new.self ≡ false = grind (arith, common_steps, c.in-Ok-eq0.ensures) in
     let one : 0 < length (take 1 c.loop-left.buffer) =
     rw length-take (omega (arith, c.requires.some_room, c.loop-left.auto.buffer)) in
     let asked : nat_lt 0 (length (take 1 c.loop-left.buffer)) ≡ true = grind (arith, nat_tests) in
-    let ended : c.read-2.new.self.ended ≡ true =
+    let ended : g.S.Source.ended c.read_chunk-2.new.self ≡ true =
     c.in-Ok-eq0.ensures.ended ∙ rw (c.loop-left.invariant.reader_goes_on, c.in-Ok-eq0.field-0-test, asked) refl in
     let none = rw c.in-Ok-eq0.field-0-test at c.in-Ok-eq0.ensures.bytes.0 in
     Moves-end _ _ _ _ _ _ _ c.loop-left.invariant.moved none (λ b w h. (
@@ -91,22 +91,22 @@ returns-in-Ok-eq0-clause-moves g c =
       h.1,
     ))
 
-pub returns-in-Ok-read-clause-moves : goal.returns-in-Ok-read-clause-moves
-returns-in-Ok-read-clause-moves g c =
-    let long = simp length-take at c.read-2.auto.buf in
-    let works : c.read-2.new.self.failed ≡ false = grind (arith, common_steps, c.in-Ok-read.ensures) in
-    let goes_on : c.read-2.new.self.ended ≡ false =
-    grind (arith, common_steps, c.in-Ok-read.ensures, c.in-Ok-read.field-0-test) in
+pub returns-in-Ok-read_chunk-clause-moves : goal.returns-in-Ok-read_chunk-clause-moves
+returns-in-Ok-read_chunk-clause-moves g c =
+    let long = simp length-take at c.read_chunk-2.auto.buf in
+    let works : g.S.Source.failed c.read_chunk-2.new.self ≡ false = grind (arith, common_steps, c.in-Ok-read_chunk.ensures) in
+    let goes_on : g.S.Source.ended c.read_chunk-2.new.self ≡ false =
+    grind (arith, common_steps, c.in-Ok-read_chunk.ensures, c.in-Ok-read_chunk.field-0-test) in
     let moved = c.loop-left.invariant.moved in
     let total : length moved.b ≡ c.args.limit = omega (arith, moved.holds.0) in
     record {
       b = _;
       w = moved.w;
-      taken = Consumes-trans _ _ _ moved.b _ moved.taken c.in-Ok-read.ensures.bytes.0;
+      taken = Consumes-trans _ _ _ moved.b _ moved.taken c.in-Ok-read_chunk.ensures.bytes.0;
       given = moved.given;
       holds = (
         record { reader_failed = works; reader_ended = goes_on; writer_failed = c.loop-left.invariant.writer_works },
-        passed moved.b _ _ _ total c.in-Ok-read.ensures.bound.0 (omega (arith, long)) c.in-Ok-read.field-0-test.1,
+        passed moved.b _ _ _ total c.in-Ok-read_chunk.ensures.bound.0 (omega (arith, long)) c.in-Ok-read_chunk.field-0-test.1,
         moved.holds.1.sent ∙ ap (λ (x : List ℕ). sent_for c.args.what x) (within-limit moved.b _ c.args.limit total),
       );
     }

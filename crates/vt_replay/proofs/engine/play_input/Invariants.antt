@@ -5,13 +5,13 @@ use Rattle.vt_replay.proofs.engine.play_input.Given as goal
 
 abbrev pub invariant-loop-left : goal.invariant-loop-left
 invariant-loop-left g l = record {
-  moved : Moves (g.R.Read.remaining l.initial.reader.device) (g.R.Read.remaining l.reader.device)
+  moved : Moves (g.S.Source.remaining l.initial.reader) (g.S.Source.remaining l.reader)
       (g.W.Write.contents l.initial.writer.device) (g.W.Write.contents l.writer.device)
       (λ b w. (length b + l.left ≡ l.limit) × IsPlayed l.what l.terminal l.reported b w);
   few : l.reported ≤ 10 * (l.limit - l.left);
   within : l.left ≤ l.limit;
-  reader_works : l.reader.failed ≡ false;
-  reader_goes_on : l.reader.ended ≡ false;
+  reader_works : g.S.Source.failed l.reader ≡ false;
+  reader_goes_on : g.S.Source.ended l.reader ≡ false;
   writer_works : l.writer.failed ≡ false;
   room : 10 * length l.buffer ≤ vec_capacity l.out;
   capacity : vec_capacity l.initial.out ≤ vec_capacity l.out;

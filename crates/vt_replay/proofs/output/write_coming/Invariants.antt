@@ -5,15 +5,15 @@ use Rattle.vt_replay.proofs.output.write_coming.Given as goal
 
 abbrev pub invariant-loop-left : goal.invariant-loop-left
 invariant-loop-left g l = record {
-  moved : Moves (g.R.Read.remaining l.initial.reader.device) (g.R.Read.remaining l.reader.device)
+  moved : Moves (g.S.Source.remaining l.initial.reader) (g.S.Source.remaining l.reader)
       (g.W.Write.contents l.initial.writer.device) (g.W.Write.contents l.writer.device)
       (λ b w.
       (length b + l.left ≡ l.limit) × (w ≡ g.O.Output.written l.initial.output b)
       × IsAfter (g.O.Output.written l.initial.output) (g.O.Output.ending l.initial.output) b
       (g.O.Output.written l.output) (g.O.Output.ending l.output));
   within : l.left ≤ l.limit;
-  reader_works : l.reader.failed ≡ false;
-  reader_goes_on : l.reader.ended ≡ false;
+  reader_works : g.S.Source.failed l.reader ≡ false;
+  reader_goes_on : g.S.Source.ended l.reader ≡ false;
   writer_works : l.writer.failed ≡ false;
   most : length l.buffer ≤ g.O.Output.most l.output;
   counted : g.O.Output.counted l.output + l.left ≤ l.limit;

@@ -1,4 +1,4 @@
-use Rattle.std.proofs.Common.{◌≡◌, ◌∙◌, ap, arith, take, length, rules}
+use Rattle.std.proofs.Common.{◌∙◌, ap, arith, take}
 use Rattle.std.proofs.lemmas.List.{length-take}
 use Rattle.vt_trace.specs.declared.tracing.Tracer.{Tracer}
 use Rattle.vt_commands.proofs.Tracers.{place_after}

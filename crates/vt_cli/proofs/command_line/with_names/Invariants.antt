@@ -1,7 +1,7 @@
 use Rattle.std.proofs.Common.{◌≡◌, fold, take}
 use Rattle.clap.specs.Words.{app_of}
-use Rattle.vt_cli.specs.Request.{with_name}
-use Rattle.vt_cli.proofs.requests.with_names.Given as goal
+use Rattle.vt_cli.specs.CommandLine.{with_name}
+use Rattle.vt_cli.proofs.command_line.with_names.Given as goal
 
 abbrev pub invariant-loop-name : goal.invariant-loop-name
 invariant-loop-name l = record {

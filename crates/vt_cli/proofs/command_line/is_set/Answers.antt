@@ -1,7 +1,7 @@
 use Rattle.std.proofs.Common.{◌∙◌}
 use Rattle.clap.specs.Words.{found_of}
 use Rattle.clap.proofs.WalkLemmas.{first_value-rows}
-use Rattle.vt_cli.proofs.requests.is_set.Goals as goal
+use Rattle.vt_cli.proofs.command_line.is_set.Goals as goal
 
 pub returns : goal.returns
 returns c =

@@ -1,6 +1,6 @@
 use Rattle.std.proofs.Common.{arith, length}
-use Rattle.vt_cli.proofs.Powers.{below}
-use Rattle.vt_cli.proofs.moment.number.Goals as goal
+use Rattle.vt_recording.proofs.Powers.{below}
+use Rattle.vt_recording.proofs.seconds.number.Goals as goal
 
 pub returns-clause-small : goal.returns-clause-small
 returns-clause-small c =

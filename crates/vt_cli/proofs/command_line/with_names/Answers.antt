@@ -1,5 +1,5 @@
 use Rattle.vt_cli.proofs.Words.{row_added}
-use Rattle.vt_cli.proofs.requests.with_names.Goals as goal
+use Rattle.vt_cli.proofs.command_line.with_names.Goals as goal
 
 pub loop-name-preserved : goal.loop-name-preserved
 loop-name-preserved c =

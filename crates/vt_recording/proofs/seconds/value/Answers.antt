@@ -1,6 +1,6 @@
 use Rattle.std.proofs.Common.{arith}
-use Rattle.vt_cli.proofs.Powers.{fourteen}
-use Rattle.vt_cli.proofs.moment.value.Goals as goal
+use Rattle.vt_recording.proofs.Powers.{fourteen}
+use Rattle.vt_recording.proofs.seconds.value.Goals as goal
 
 pub overflow_mul-n : goal.overflow_mul-n
 overflow_mul-n c =

@@ -28,7 +28,7 @@ use vt_syntax::{
 const LONG_RUN: usize = 8;
 
 /// The most bytes that are played before it is asked again whether nobody sees the next ones.
-const BLOCK: usize = 4096;
+const BLOCK: usize = 16384;
 
 /// Returns whether there is a byte at a position, and it is of the right half.
 #[inline(always)]

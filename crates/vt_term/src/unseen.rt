@@ -9,13 +9,16 @@ ghost use Rattle.vt_term.specs.Unseen.{feeds};
 use crate::codes::{CR, LF};
 use crate::display::{Display, ROWS};
 use crate::terminal::Terminal;
-use memchr::memrchr;
+use memchr::{memchr, memrchr};
 use vt_screen::laws::places;
 use vt_syntax::laws::{one_split, spelled};
 use vt_syntax::lines_run;
 
 /// The fewest bytes of lines in which it is worth while to look for lines that nobody sees.
 const LEAST: usize = 1024;
+
+/// How far the first CR may be. Where lines end with LF alone, none is passed.
+const NEAR: usize = 512;
 
 /// The front of a chunk, as `pass_unseen` found it.
 #[derive(Clone, Copy, Debug, PartialEq, Eq)]
@@ -82,7 +85,16 @@ impl Terminal {
         one_split();
         spelled();
         places();
+        if memchr(CR, &piece[..piece.len().min(NEAR)]).is_none() {
+            return Passed::nothing();
+        }
         let looked_at = lines_run(piece);
+        if looked_at < LEAST {
+            return Passed {
+                unseen: 0,
+                looked_at,
+            };
+        }
         let unseen = last_lines(&piece[..looked_at]);
         if unseen == 0 {
             return Passed { unseen, looked_at };

@@ -1,12 +1,13 @@
 -- The pages: the 24 lines of the screen before each event that blanks all of it. (EK-VT220-RM: ED, IL, DL, RIS and DECCOLM;
 -- that their lines are written is this profile's)
-use Rattle.std.specs.Prelude.{ℕ, List, [], ◌∷◌, ◌++◌, Bool, false, Option, Some, None, length, codes}
+use Rattle.std.specs.Prelude.{◌≡◌, ◌≤◌, ℕ, List, [], ◌∷◌, ◌++◌, Bool, false, Option, Some, None, length, codes}
 use Rattle.std.specs.Prelude.{◌==◌, ◌||◌, ◌&&◌, nat_le, if◌then◌else◌, flat_map}
 use Rattle.vt_syntax.specs.declared.event.Event.{Event}
 use Rattle.vt_syntax.specs.declared.event.Event.TheVariants.{Print, Control, Escape, Sequence}
 use Rattle.vt_syntax.specs.Held.{events_from}
 use Rattle.vt_glyph.specs.LookUp.{contains}
-use Rattle.vt_screen.specs.Grid.{last_row}
+use Rattle.vt_screen.specs.Cells.{blank}
+use Rattle.vt_screen.specs.Grid.{Grid, last_row, cell_at}
 use Rattle.vt_term.specs.State.{Display, State, last_column}
 use Rattle.vt_term.specs.Parameters.{first, count}
 use Rattle.vt_term.specs.Functions.{effect, byte}
@@ -44,6 +45,10 @@ blanks_screen (Print b) s = false
 blanks_screen (Control b) s = false
 blanks_screen (Escape inter last) s = is_reset inter last
 blanks_screen (Sequence marker params inter last) s = blanks_by marker inter params.items last s
+
+-- a blank cell at each place
+abbrev pub IsBlank : Grid → Type 0
+IsBlank g = (r c : ℕ) → 1 ≤ r → r ≤ last_row → 1 ≤ c → c ≤ g.width → cell_at g r c ≡ blank
 
 -- the 24 lines as they stand, unless all are empty: each has its LF, so these are the 24 bytes
 abbrev pub page : Display → List ℕ

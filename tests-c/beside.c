@@ -46,6 +46,27 @@ static void add_piece(bytes *b) {
     append(b, (const uint8_t *)piece, (size_t)n);
 }
 
+/* Lines of one kind, long enough for a chunk of the program to leave out those that nobody sees. The library gets smaller chunks, and plays them all. */
+static void add_lines(bytes *b) {
+    static const char *const places[] = {"\033[24H", "\033[99B", "\033[9;15r\033[15H", "\033[3;24r\033[24H", "\033[5;10r\033[10;70H", "\033[23H", "\033[H", ""};
+    static const char *const odd[] = {"\033[4h", "\033[20h", "\033[?7l", "\033[?3h", "\033[?6h", "\033[1;7m", "\033[1\"q", "\016", "\033N", "\033O", "\033[12;", "\033]x", "", ""};
+    static const char *const ends[] = {"\r\n", "\r\n", "\r\n", "\n", "\r", "\n\r", "\r\r\n", "\v", "\f\r"};
+    const char *place = places[pick(sizeof places / sizeof places[0])];
+    const char *mode = odd[pick(sizeof odd / sizeof odd[0])];
+    unsigned widest = 1 + pick(200), kind = pick(4), end = pick(3) == 0 ? 1 + pick(sizeof ends / sizeof ends[0]) : 0;
+    append(b, (const uint8_t *)place, strlen(place));
+    append(b, (const uint8_t *)mode, strlen(mode));
+    for (unsigned lines = pick(300); lines > 0; lines--) {
+        const char *last = ends[end == 0 ? 0 : pick(end)];
+        for (unsigned n = pick(widest); n > 0; n--) {
+            uint8_t byte = (uint8_t)(kind == 0 ? 0x20 + pick(0x60) : kind == 1 ? 0xA0 + pick(0x60) : pick(20) == 0 ? 8 + pick(6) : 0x21 + pick(0x5E));
+            append(b, &byte, 1);
+        }
+        if (kind == 3 && pick(100) == 0) append(b, (const uint8_t *)odd[pick(6)], 4);
+        append(b, (const uint8_t *)last, strlen(last));
+    }
+}
+
 /* What the program prints of the file on `input`, and its status. */
 static int program(const char *path, const char *word, int input, bytes *out) {
     int two[2], status;
@@ -86,6 +107,7 @@ int main(int argc, char **argv) {
         bytes_in.len = reports.len = 0;
         append(&reports, NULL, 0);
         for (unsigned n = pick(40); n > 0; n--) add_piece(&bytes_in);
+        if (pick(8) == 0) add_lines(&bytes_in);
         if (ftruncate(input, 0) != 0 || pwrite(input, bytes_in.at, bytes_in.len, 0) != (ssize_t)bytes_in.len) abort();
         CHECK(vt220_open(&t) == VT220_OK);
         for (size_t at = 0; at < bytes_in.len;) {

@@ -1,2 +1,3 @@
 mod Lines
 mod PageLines
+mod Blanked

@@ -1,14 +1,15 @@
--- The pages: the 24 lines of the screen before each event that blanks all of it. (EK-VT220-RM: ED, RIS and DECCOLM; that
--- their lines are written is this profile's)
-use Rattle.std.specs.Prelude.{ℕ, List, [], ◌∷◌, ◌++◌, Bool, false, Option, Some, None, length, codes}
-use Rattle.std.specs.Prelude.{◌==◌, ◌||◌, ◌&&◌, if◌then◌else◌, flat_map}
+-- The pages: the 24 lines of the screen before each event that blanks all of it. (EK-VT220-RM: ED, IL, DL, RIS and DECCOLM;
+-- that their lines are written is this profile's)
+use Rattle.std.specs.Prelude.{◌≡◌, ◌≤◌, ℕ, List, [], ◌∷◌, ◌++◌, Bool, false, Option, Some, None, length, codes}
+use Rattle.std.specs.Prelude.{◌==◌, ◌||◌, ◌&&◌, nat_le, if◌then◌else◌, flat_map}
 use Rattle.vt_syntax.specs.declared.event.Event.{Event}
 use Rattle.vt_syntax.specs.declared.event.Event.TheVariants.{Print, Control, Escape, Sequence}
 use Rattle.vt_syntax.specs.Held.{events_from}
 use Rattle.vt_glyph.specs.LookUp.{contains}
-use Rattle.vt_screen.specs.Grid.{last_row}
+use Rattle.vt_screen.specs.Cells.{blank}
+use Rattle.vt_screen.specs.Grid.{Grid, last_row, cell_at}
 use Rattle.vt_term.specs.State.{Display, State, last_column}
-use Rattle.vt_term.specs.Parameters.{first}
+use Rattle.vt_term.specs.Parameters.{first, count}
 use Rattle.vt_term.specs.Functions.{effect, byte}
 use Rattle.vt_term.specs.Text.{grid_text, line_text}
 use Rattle.vt_term.specs.Scrolling.{line_off}
@@ -19,9 +20,15 @@ erases_all p s =
     p == 2 || (p == 0 && s.cursor.row == 1 && s.cursor.col == 1)
     || (p == 1 && s.cursor.row == last_row && s.cursor.col == last_column s)
 
--- by the marker and the intermediate: ED, and DECCOLM set or reset
+-- IL and DL move every line off: from row 1, between full margins, by 24 lines or more
+abbrev pub moves_all : List ℕ → Display → Bool
+moves_all params s = s.cursor.row == 1 && s.margins.top == 1 && s.margins.bottom == last_row && nat_le last_row (count params)
+
+-- by the marker and the intermediate: ED, IL and DL, and DECCOLM set or reset
 abbrev pub blanks_by : Option ℕ → Option ℕ → List ℕ → ℕ → Display → Bool
-blanks_by None None params last s = last == byte (codes "J") && erases_all (first params) s
+blanks_by None None params last s =
+    (last == byte (codes "J") && erases_all (first params) s)
+    || ((last == byte (codes "L") || last == byte (codes "M")) && moves_all params s)
 blanks_by (Some marker) None params last s =
     marker == byte (codes "?") && (last == byte (codes "h") || last == byte (codes "l")) && contains params 3
 blanks_by None (Some inter) params last s = false
@@ -38,6 +45,10 @@ blanks_screen (Print b) s = false
 blanks_screen (Control b) s = false
 blanks_screen (Escape inter last) s = is_reset inter last
 blanks_screen (Sequence marker params inter last) s = blanks_by marker inter params.items last s
+
+-- a blank cell at each place
+abbrev pub IsBlank : Grid → Type 0
+IsBlank g = (r c : ℕ) → 1 ≤ r → r ≤ last_row → 1 ≤ c → c ≤ g.width → cell_at g r c ≡ blank
 
 -- the 24 lines as they stand, unless all are empty: each has its LF, so these are the 24 bytes
 abbrev pub page : Display → List ℕ

@@ -3,7 +3,7 @@ ghost use Rattle.std.specs.Prelude.{◌≡◌, ◌+◌, ◌≤◌, ◌++◌, Lis
 ghost use Rattle.vt_syntax.specs.Event.{event_of};
 ghost use Rattle.vt_glyph.specs.LookUp.{contains};
 ghost use Rattle.vt_term.specs.Parameters.{first};
-ghost use Rattle.vt_log.specs.Pages.{erases_all, blanks_by, is_reset, blanks_screen, page};
+ghost use Rattle.vt_log.specs.Pages.{erases_all, moves_all, blanks_by, is_reset, blanks_screen, page};
 ghost use Rattle.vt_log.specs.PageCuts.{takes_off};
 
 use vt_syntax::EventKind;
@@ -39,7 +39,19 @@ fn erases_all(terminal: &Terminal, p: u16) -> bool
         || (p == 1 && cursor.row == ROWS && cursor.col == width)
 }
 
-/// Returns whether a control sequence is an ED that erases every cell, or sets or resets DECCOLM.
+/// Returns whether IL or DL with these values moves every line off the screen.
+fn moves_all(terminal: &Terminal, values: &[u16]) -> bool
+    ensures { result ≡ moves_all values.now terminal.now.display }
+{
+    let margins = terminal.margins();
+    terminal.cursor().row == 1
+        && margins.top == 1
+        && margins.bottom == ROWS
+        && (first(values) as usize).max(1) >= ROWS
+}
+
+/// Returns whether a control sequence is an ED that erases every cell, an IL or DL that moves every line off, or sets or
+/// resets DECCOLM.
 fn blanks_by(
     terminal: &Terminal,
     marker: Option<u8>,
@@ -53,7 +65,10 @@ fn blanks_by(
         return false;
     }
     match marker {
-        None => last == b'J' && erases_all(terminal, first(values)),
+        None => {
+            (last == b'J' && erases_all(terminal, first(values)))
+                || ((last == b'L' || last == b'M') && moves_all(terminal, values))
+        }
         Some(marker) => {
             marker == b'?' && (last == b'h' || last == b'l') && has_column_mode(values)
         }

@@ -10,7 +10,7 @@ use Rattle.std.proofs.lemmas.Simd.{chunk-drop, length-chunk, trailing_mask_l, ma
 use lib.Lanes.{chunk, zip2, mask_l, top, Each1}
 use lib.Count.{count_trailing_zeros}
 use Rattle.vt_syntax.specs.declared.held.Held.TheVariants.{Text}
-use Rattle.vt_syntax.specs.Class.{is_plain, is_in_areas}
+use Rattle.vt_syntax.specs.Class.{is_plain, is_in_areas, is_of_lines}
 use Rattle.vt_syntax.specs.Items.{ends_string}
 use Rattle.vt_syntax.specs.Steps.{step_to, step_of, steps}
 use Rattle.vt_syntax.specs.Content.{goes_on}
@@ -51,6 +51,12 @@ pub graphic_mask : (n : ℕ) (v : List ℕ) → length v ≡ n → n ≤ 64 → 
     → mask_l (map (top 7) (zip2 bit_and (below (replicate n 94) (less n 32 v)) (below (replicate n 93) (less n 161 v))))
     % 2 ^ 64 ≡ mask_l (map (λ b. not (is_in_areas b)) v)
 graphic_mask = mask_of _ _ _ refl (λ n x v. refl) (λ x h. grind (arith, nat_tests))
+
+-- twice a byte that is in no column of graphic bytes is below 40, with wrapping; less 8 a byte that isn't BS to CR is above 5
+pub lines_mask : (n : ℕ) (v : List ℕ) → length v ≡ n → n ≤ 64 → Each1 (Fits w8) v
+    → mask_l (map (top 7) (zip2 bit_and (below (zip2 (λ a b. (a + b) % 256) v v) (replicate n 64))
+    (below (replicate n 5) (less n 8 v)))) % 2 ^ 64 ≡ mask_l (map (λ b. not (is_of_lines b)) v)
+lines_mask = mask_of _ _ _ refl (λ n x v. refl) (λ x h. grind (arith, nat_tests))
 
 -- a byte from 18 to 1B, 9C or 07: less the first of each it is below how many there are
 pub content_mask : (n : ℕ) (v : List ℕ) → length v ≡ n → n ≤ 64 → Each1 (Fits w8) v

@@ -41,7 +41,7 @@ pub(crate) fn end_of<C: ByteClass>(piece: &[u8]) -> usize
 
 /// Returns the position of the first byte at or after `from` that isn't of the class, or the length.
 #[inline(always)]
-fn end_from<C: ByteClass>(piece: &[u8], from: usize) -> usize
+pub(crate) fn end_from<C: ByteClass>(piece: &[u8], from: usize) -> usize
     requires { from ≤ length piece.now }
     ensures { result ≡ from + prefix_len (λ b. not (C.ends b)) (drop from piece.now) }
 {

@@ -14,7 +14,7 @@ pub after_events-append : (xs ys : List Event) (s : Display)
     → after_events (xs ++ ys) s ≡ after_events ys (after_events xs s)
 after_events-append xs ys s = fold-append (λ t event. effect event t) s xs ys
 
-reports_of-append : (xs ys : List Event) (s : Display)
+pub reports_of-append : (xs ys : List Event) (s : Display)
     → reports_of (xs ++ ys) s ≡ reports_of xs s ++ reports_of ys (after_events xs s)
 reports_of-append [] ys s = refl
 reports_of-append (x ∷ xs) ys s =

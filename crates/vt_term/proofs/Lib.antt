@@ -10,4 +10,6 @@ mod Equal
 mod SoundEffects
 mod SoundPlay
 mod Playing
+mod Forgetting
+mod Passing
 pub mod Scrolled

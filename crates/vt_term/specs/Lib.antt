@@ -18,3 +18,4 @@ pub mod Scrolling
 pub mod ScrollSteps
 pub mod Observing
 pub mod Observers
+pub mod Unseen

@@ -15,6 +15,7 @@ ghost use Rattle.vt_term.specs.Observing.{Feeds};
 use crate::codes::{CR, LF, RIGHT};
 use crate::observing::{Nobody, Observer};
 use crate::terminal::{REPORT_LIMIT, Terminal};
+use crate::unseen::Passed;
 use std::alloc::AllocError;
 use vt_glyph::laws::in_use;
 use vt_syntax::laws::{one_split, spelled};
@@ -25,6 +26,9 @@ use vt_syntax::{
 
 /// The least number of plain bytes that are written separately even if bytes of the right half follow.
 const LONG_RUN: usize = 8;
+
+/// The most bytes that are played before it is asked again whether nobody sees the next ones.
+const BLOCK: usize = 16384;
 
 /// Returns whether there is a byte at a position, and it is of the right half.
 #[inline(always)]
@@ -71,7 +75,16 @@ impl Terminal {
         ensures bounded { vec_len out.new ≤ vec_len out.old + 10 * length piece.now }
         ensures capacity { vec_capacity out.old ≤ vec_capacity out.new }
     {
-        self.feed_observed(piece, &mut Nobody, out);
+        self.soundness();
+        one_split();
+        let mut rest = piece;
+        while !rest.is_empty() {
+            let Passed { unseen, looked_at } = self.pass_unseen(rest);
+            let end = looked_at.max(BLOCK).min(rest.len());
+            self.feed_observed(&rest[unseen..end], &mut Nobody, out);
+            rest = &rest[end..];
+        }
+        self.soundness();
     }
 
     /// Plays a chunk of the host's bytes, appends the reports to `out`, and tells the observer of it. Returns how many bytes

@@ -1,5 +1,13 @@
 //! Laws over the definitions alone. A caller cites a law by a call of its function.
-ghost use Rattle.std.specs.Prelude.{◌≡◌, ℕ, List, [], ◌++◌};
+ghost use Rattle.std.specs.Prelude.{◌≡◌, ℕ, List, [], ◌++◌, true, false, ◌==◌, None};
+ghost use Rattle.vt_syntax.specs.declared.event.Event.TheVariants.{Print, Control};
+ghost use Rattle.vt_glyph.specs.Invocation.{has_no_glyph, glyph_read, after_read};
+ghost use Rattle.vt_glyph.specs.Tables.{substitute_glyph};
+ghost use Rattle.vt_screen.specs.Grid.{scroll_up};
+ghost use Rattle.vt_term.specs.State.{Display, at_place};
+ghost use Rattle.vt_term.specs.Functions.{effect};
+ghost use Rattle.vt_term.specs.Writing.{put_glyph, write_if_read};
+ghost use Rattle.vt_term.specs.Scrolling.{is_line_feed, is_at_end, scrolls_off};
 ghost use Rattle.vt_term.specs.State.{State, power_up};
 ghost use Rattle.vt_term.specs.Sound.{IsSound};
 ghost use Rattle.vt_term.specs.Scrolling.{scrolled_off};
@@ -30,3 +38,25 @@ pub fn cuts()
     one_split();
     soundness();
 }
+
+/// States what the events do that scroll line 1 off: the rows up to the bottom margin move up by one. A line feed does nothing
+/// else to the cells, and below or above the bottom margin it leaves them. A character with the wrap flag set is written in
+/// column 1 of the rows that moved.
+#[tactic(auto, unfolding(crate::specs::Functions::control, vt_glyph::specs::Invocation::glyph_read))]
+pub fn scrolls()
+    ensures feed { (b : ℕ) (s : Display) → is_line_feed b ≡ true → is_at_end s ≡ true
+        → (effect (Control b) s).grid ≡ scroll_up s.grid 1 s.margins.bottom 1 }
+    ensures stays { (b : ℕ) (s : Display) → is_line_feed b ≡ true → (s.cursor.row == s.margins.bottom) ≡ false
+        → (effect (Control b) s).grid ≡ s.grid }
+    ensures print { (b : ℕ) (s : Display) → scrolls_off (Print b) s ≡ true
+        → effect (Print b) s ≡ write_if_read (glyph_read s.sets b) (record s {
+          grid = scroll_up s.grid 1 s.margins.bottom 1;
+          cursor = at_place s.cursor.row 1;
+          sets = after_read s.sets b;
+        }) }
+    ensures substitute { (s : Display) → scrolls_off (Control 0x1A) s ≡ true
+        → effect (Control 0x1A) s ≡ put_glyph substitute_glyph (record s {
+          grid = scroll_up s.grid 1 s.margins.bottom 1;
+          cursor = at_place s.cursor.row 1;
+        }) }
+{}

@@ -23,12 +23,14 @@ mod state;
 mod tabs;
 mod terminal;
 mod text;
+mod unseen;
 mod writing;
 
 pub use display::{ROWS, STOPS, stops_at_power_up};
 pub use observing::{Both, Observer};
 pub use state::{Cursor, Margins, Modes, Saved};
 pub use terminal::{REPORT_LIMIT, ROW_TEXT_LIMIT, TEXT_LIMIT, Terminal};
+pub use unseen::Passed;
 pub use vt_glyph::{Glyph, Set, Sets};
 pub use vt_screen::{Brush, Cell, Rendition};
 pub use vt_syntax::{Held, Inters, Phase};

@@ -16,7 +16,7 @@ type Shown = (&'static str, &'static [u8]);
 /// A name, what is fed, and what is written.
 type Row = (&'static str, &'static [u8], &'static [u8]);
 
-const BLANKED: [Shown; 14] = [
+const BLANKED: [Shown; 18] = [
     ("ED 2", b"A\x1b[2J"),
     ("ED 2 of eight bits", b"A\x9b2J"),
     ("ED from the first cell", b"A\x1b[H\x1b[J"),
@@ -31,9 +31,13 @@ const BLANKED: [Shown; 14] = [
     ("DECCOLM reset", b"A\x1b[?3l"),
     ("DECCOLM behind another mode", b"A\x1b[?7;3l"),
     ("DECCOLM in 132 columns", b"\x1b[?3hA\x1b[?3h"),
+    ("DL of all lines", b"A\x1b[H\x1b[24M"),
+    ("IL of all lines", b"A\x1b[H\x1b[24L"),
+    ("DL of more lines", b"A\x1b[1;9H\x1b[99M"),
+    ("IL of more lines", b"A\x1b[1;9H\x1b[99L"),
 ];
 
-const KEPT: [Shown; 21] = [
+const KEPT: [Shown; 23] = [
     ("ED from the second line", b"A\x1b[2;1H\x1b[J"),
     ("ED from the second column", b"A\x1b[1;2H\x1b[J"),
     ("ED 1 from another line", b"A\x1b[23;80H\x1b[1J"),
@@ -46,8 +50,10 @@ const KEPT: [Shown; 21] = [
     ("DECSEL 2", b"A\x1b[?2K"),
     ("DECALN", b"A\x1b#8"),
     ("DECSTR", b"A\x1b[!p"),
-    ("DL of all lines", b"A\x1b[H\x1b[24M"),
-    ("IL of all lines", b"A\x1b[H\x1b[24L"),
+    ("DL of 23 lines", b"A\x1b[H\x1b[23M"),
+    ("IL of 23 lines", b"A\x1b[H\x1b[23L"),
+    ("DL of all lines but the first", b"A\x1b[2H\x1b[24M"),
+    ("IL of all lines but the last", b"A\x1b[1;23r\x1b[24L"),
     ("ECH of the line", b"A\x1b[H\x1b[80X"),
     ("SM 3", b"A\x1b[3h"),
     ("DECSCNM", b"A\x1b[?5h"),

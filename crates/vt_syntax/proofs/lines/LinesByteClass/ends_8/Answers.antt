@@ -1,0 +1,7 @@
+-- The lanes are bytes.
+use Rattle.std.proofs.Common.{arith}
+use Rattle.vt_syntax.proofs.Runs.{lines_mask}
+use Rattle.vt_syntax.proofs.lines.LinesByteClass.ends_8.Goals as goal
+
+pub returns : goal.returns
+returns c = lines_mask 8 c.args.lanes c.fits-lanes.0 (omega arith) c.fits-lanes.1

@@ -1,0 +1,18 @@
+-- Lines that nobody sees are passed, and else nothing is.
+use Rattle.std.proofs.Common.{arith, ◌≤◌, length-take}
+use Rattle.vt_term.proofs.Passing.{passed-state}
+use Rattle.vt_term.proofs.terminal.Terminal.pass_lines.Goals as goal
+
+pub returns-clause-same : goal.returns-clause-same
+returns-clause-same c =
+    let at = c.last_lines-unseen.result in
+    let some : 1 ≤ at = omega arith in
+    let run = c.lines_run-looked_at.result in
+    let within : at ≤ run = omega (arith, length-take run c.args.piece.now) in
+    let sound = rw (← c.self.view_is) at c.soundness.ensures in
+    rw (← c.self.view_is) (passed-state c.places.ensures c.one_split.ensures c.spelled.ensures c.self.inside.display
+    c.carriage_return.new.self c.self.inside.parser c.args.piece.now run at sound.display
+    (rw (← c.self.view_is) at c.requires.pending) (rw (← c.self.view_is) at c.requires.row)
+    (rw (← c.self.view_is) at c.requires.between) c.carriage_return.ensures c.lines_run-looked_at.ensures.within
+    c.lines_run-looked_at.ensures.lines some within (c.last_lines-unseen.ensures.begins some)
+    (c.last_lines-unseen.ensures.follow some))

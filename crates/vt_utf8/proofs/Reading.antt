@@ -1,12 +1,11 @@
 -- A byte after what is pending.
-use Rattle.std.proofs.Common.{◌≡◌, ◌≢◌, ℕ, ◌<◌, ◌≤◌, Bool, true, false, List, [], ◌∷◌, ◌++◌, length, Option, Some, None, refl, sym, ap, ◌∙◌}
+use Rattle.std.proofs.Common.{◌≡◌, ◌≢◌, ℕ, ◌<◌, ◌≤◌, Bool, true, false, List, [], ◌∷◌, ◌++◌, length, Some, None, refl, sym, ap, ◌∙◌}
 use Rattle.std.proofs.Common.{arith, eq-eqb}
-use Rattle.std.specs.Prelude.{◌==◌, ◌&&◌, nat_lt, slice_index, not, if◌then◌else◌}
-use Rattle.std.specs.Option.{option_to_list}
+use Rattle.std.specs.Prelude.{◌==◌, nat_lt, slice_index, not, if◌then◌else◌}
 use Rattle.std.proofs.lemmas.Bool.{and_parts}
 use Rattle.std.proofs.lemmas.Bool.Decides.{nat_tests}
 use Rattle.bstr.specs.Utf8.{decoded, lead_len, replacement}
-use Rattle.vt_utf8.specs.Decoding.{Read, is_begun, given_up, read, read_first, read_last, read_apart}
+use Rattle.vt_utf8.specs.Decoding.{is_begun, given_up, read, read_first, read_apart}
 
 module _ (bytes : List ℕ) (size : ℕ) (is : size ≡ (decoded bytes).size) where
   pub whole-begun : (lead : ℕ) → size ≡ length bytes → lead ≡ lead_len (slice_index bytes 0)
@@ -30,7 +29,8 @@ lead_few b = grind (arith, nat_tests)
 pub begun-few : (bytes : List ℕ) → is_begun bytes ≡ true → length bytes ≤ 3
 unfolding is_begun
 begun-few bytes h =
-    let short : nat_lt (length bytes) (lead_len (slice_index bytes 0)) ≡ true = (and_parts _ _ h).1 in
+    let short : nat_lt (length bytes) (lead_len (slice_index bytes 0)) ≡ true =
+    (and_parts ((decoded bytes).size == length bytes) (nat_lt (length bytes) (lead_len (slice_index bytes 0))) h).1 in
     let few = lead_few (slice_index bytes 0) in
     let less : length bytes < lead_len (slice_index bytes 0) = grind (arith, nat_tests) in
     omega (arith, less, few)

@@ -3,7 +3,6 @@ use Rattle.std.proofs.Common.{◌≡◌, ℕ, ◌-◌, ◌≤◌, Bool, true, fa
 use Rattle.std.specs.Prelude.{nat_lt, nat_le, if◌then◌else◌}
 use Rattle.std.proofs.Math.ListN.{get_or-map}
 use Rattle.std.proofs.lemmas.Bool.Decides.{nat_tests}
-use Rattle.vt_glyph.specs.declared.glyph.Spelling.{Spelling}
 use Rattle.vt_glyph.specs.Tables.{glyph_of, substitute_glyph}
 use Rattle.vt_glyph.specs.Spell.{spelling_of}
 use Rattle.vt_glyph.specs.Encoding.{encoded_spelling}

@@ -1,6 +1,6 @@
 -- What a character is in the terminal's bytes, in a state. (EK-VT220-RM: SCS, the single shifts, NEL, DECAWM; ECMA-48: ST.
 -- The choice of bytes is this profile's.)
-use Rattle.std.specs.Prelude.{ℕ, List, [], ◌∷◌, ◌++◌, Bool, not, ◌==◌, ◌&&◌, ◌||◌, nat_lt, is_none, if◌then◌else◌}
+use Rattle.std.specs.Prelude.{ℕ, List, [], ◌∷◌, ◌++◌, Bool, not, ◌==◌, ◌&&◌, nat_lt, is_none, if◌then◌else◌}
 use Rattle.vt_syntax.specs.declared.held.Held.{Held}
 use Rattle.vt_syntax.specs.declared.held.Held.TheVariants.{Nothing, Text}
 use Rattle.vt_glyph.specs.declared.set.Set.{Set}

@@ -99,8 +99,7 @@ impl Decoder {
     /// Reads a byte. Returns whether what was pending is ill-formed, and the character that the byte completes, if it
     /// completes one. U+FFFD is in place of an ill-formed byte.
     pub(crate) fn push(&mut self, b: u8) -> (bool, Option<char>)
-        ensures characters {
-            (if result.0 then replacement ∷ [] else []) ++ option_to_list result.1 ≡ (read self.old b).characters }
+        ensures characters { (if result.0 then replacement ∷ [] else []) ++ option_to_list result.1 ≡ (read self.old b).characters }
         ensures pending { self.new ≡ (read self.old b).pending }
     {
         let was_pending = !self.pending.is_empty();

@@ -2,7 +2,11 @@
 #![tactic(auto)]
 
 mod decoder;
+mod feeding;
+pub mod laws;
 mod similar;
 mod translation;
 
 pub use decoder::Decoder;
+pub use feeding::{feed_utf8, feed_utf8_reserved};
+pub use translation::cells;

@@ -8,6 +8,6 @@ returns-then-c-lt12544 c =
     let no_latin : nat_lt c.args.c 0x180 ≡ false = grind (arith, nat_tests) in
     let no_letter : nat_lt c.args.c 0x2000 ≡ false = grind (arith, nat_tests) in
     let no_line : nat_le 0x2500 c.args.c && nat_le c.args.c 0x257F ≡ false =
-        sym c.is_in.ensures ∙ c.if-is_in.false in
+    sym c.is_in.ensures ∙ c.if-is_in.false in
     let sign : nat_lt c.args.c 0x3100 ≡ true = grind (arith, nat_tests) in
     rw (no_latin, no_letter, no_line, sign) c.in_rows-then-c-lt12544.ensures

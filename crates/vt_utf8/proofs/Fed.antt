@@ -1,0 +1,86 @@
+-- What feeding leaves.
+use Rattle.std.proofs.Common.{◌≡◌, ℕ, ◌+◌, ◌-◌, length-drop, List, [], ◌∷◌, ◌++◌, take, drop, length, refl, sym, ap, ◌∙◌, append_assoc, append-nil}
+use Rattle.std.proofs.Math.Seq.{take-add, take-length}
+use Rattle.vt_term.specs.State.{State}
+use Rattle.vt_term.specs.Sound.{IsSound}
+use Rattle.vt_term.specs.Play.{Played, play, both}
+use Rattle.vt_utf8.specs.Decoding.{read, characters, pending_after}
+use Rattle.vt_utf8.specs.Translation.{translation}
+use Rattle.vt_utf8.specs.Play.{translated_all, translated, play_utf8}
+use Rattle.vt_utf8.specs.Private.Feeds.{FeedsUtf8}
+use Rattle.vt_utf8.proofs.Cuts.{translated-append}
+
+-- a piece from a place on
+pub rest-of : (piece : List ℕ) (at : ℕ) → take (length piece - at) (drop at piece) ≡ drop at piece
+rest-of piece at = let e : length piece - at ≡ length (drop at piece) = sym (length-drop at piece) in
+    rw e (take-length (drop at piece))
+
+-- one character
+pub translated-one : (s : State) (c : ℕ) → translated_all s (c ∷ []) ≡ translation s c
+translated-one s c = append-nil (translation s c)
+
+pub played-one : (s : State) (c : ℕ) → play s (translated_all s (c ∷ [])) ≡ play s (translation s c)
+played-one s c = ap (λ (t : List ℕ). play s t) (translated-one s c)
+
+module _ (none : (s : State) → IsSound s → play s [] ≡ record { state = s; reports = [] })
+    (two : (s : State) (a b : List ℕ) → play s (a ++ b) ≡ both (play s a) (play (play s a).state b))
+    (keeps : (s : State) (bytes : List ℕ) → IsSound s → IsSound (play s bytes).state) where
+  -- what was given up, and the characters after it
+  played-two : (s t : State) (xs ys : List ℕ) → IsSound s → t ≡ (play s (translated_all s xs)).state
+      → play s (translated_all s (xs ++ ys)) ≡ both (play s (translated_all s xs)) (play t (translated_all t ys))
+  played-two s t xs ys sound is =
+      ap (λ (bytes : List ℕ). play s bytes) (translated-append none two keeps s xs ys sound)
+      ∙ two s (translated_all s xs) (translated_all (play s (translated_all s xs)).state ys)
+      ∙ ap (λ (u : State). both (play s (translated_all s xs)) (play u (translated_all u ys))) (sym is)
+
+  pub feeds-byte : (s t u : State) (pending : List ℕ) (b : ℕ) (xs ys after before out : List ℕ) → IsSound s
+      → xs ++ ys ≡ (read pending b).characters → after ≡ (read pending b).pending
+      → t ≡ (play s (translated_all s xs)).state → (play s (translated_all s xs)).reports ≡ []
+      → u ≡ (play t (translated_all t ys)).state → out ≡ before ++ (play t (translated_all t ys)).reports
+      → FeedsUtf8 s pending (b ∷ []) u after before out
+  unfolding play_utf8 translated
+  feeds-byte s t u pending b xs ys after before out sound are left first silent second told =
+      let all : characters pending (b ∷ []) ≡ xs ++ ys = append-nil (read pending b).characters ∙ sym are in
+      let played : play s (translated_all s (characters pending (b ∷ [])))
+      ≡ both (play s (translated_all s xs)) (play t (translated_all t ys)) =
+      ap (λ (cs : List ℕ). play s (translated_all s cs)) all ∙ played-two s t xs ys sound first in
+      record {
+        state = second ∙ sym (ap (λ (p : Played). p.state) played);
+        left = left;
+        reports = told ∙ ap (λ (r : List ℕ). before ++ r)
+            (sym (ap (λ (p : Played). p.reports) played
+            ∙ ap (λ (r : List ℕ). r ++ (play t (translated_all t ys)).reports) silent));
+      }
+
+-- ---- one part of a piece, and the next
+
+module _ (none : (s : State) (pending : List ℕ) → IsSound s
+    → play_utf8 s pending [] ≡ record { state = s; reports = [] })
+    (two : (s : State) (pending a b : List ℕ) → IsSound s → play_utf8 s pending (a ++ b)
+    ≡ both (play_utf8 s pending a) (play_utf8 (play_utf8 s pending a).state (pending_after pending a) b))
+    (lasting : (pending a b : List ℕ)
+    → pending_after pending (a ++ b) ≡ pending_after (pending_after pending a) b) where
+  pub feeds-nothing : (s : State) (pending out : List ℕ) → IsSound s → FeedsUtf8 s pending [] s pending out out
+  feeds-nothing s pending out sound = record {
+    state = sym (ap (λ (p : Played). p.state) (none s pending sound));
+    left = refl;
+    reports = sym (append-nil out) ∙ ap (λ (r : List ℕ). out ++ r)
+        (sym (ap (λ (p : Played). p.reports) (none s pending sound)));
+  }
+
+  pub feeds-more : (s t u : State) (pending after left piece before out last : List ℕ) (at n : ℕ) → IsSound s
+      → FeedsUtf8 s pending (take at piece) t after before out → FeedsUtf8 t after (take n (drop at piece)) u left out last
+      → FeedsUtf8 s pending (take (at + n) piece) u left before last
+  feeds-more s t u pending after left piece before out last at n sound first second =
+      let a = take at piece in
+      let b = take n (drop at piece) in
+      let played : play_utf8 s pending (a ++ b) ≡ both (play_utf8 s pending a) (play_utf8 t after b) =
+      two s pending a b sound
+      ∙ rw (← first.state, ← first.left) refl in
+      rw (take-add at n piece) (record {
+        state = second.state ∙ sym (ap (λ (p : Played). p.state) played);
+        left = second.left ∙ ap (λ (q : List ℕ). pending_after q b) first.left ∙ sym (lasting pending a b);
+        reports = second.reports ∙ ap (λ (o : List ℕ). o ++ (play_utf8 t after b).reports) first.reports
+            ∙ append_assoc before (play_utf8 s pending a).reports (play_utf8 t after b).reports
+            ∙ ap (λ (r : List ℕ). before ++ r) (sym (ap (λ (p : Played). p.reports) played));
+      })

@@ -1,0 +1,5 @@
+mod Tables
+mod Reading
+mod Cuts
+mod Silence
+mod Fed

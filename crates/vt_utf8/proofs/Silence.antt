@@ -1,0 +1,312 @@
+-- A character beyond ASCII causes no report.
+use Rattle.std.proofs.Common.{◌≡◌, ℕ, zero, suc, take, drop, ◌+◌, ◌-◌, ◌≤◌, Bool, true, false, not, List, [], ◌∷◌, ◌++◌, All, Some, inl, inr, refl, sym, ap, ◌∙◌, arith}
+use Rattle.std.specs.Prelude.{nat_lt, nat_le, ◌==◌, ◌&&◌, slice_index_or, if◌then◌else◌}
+use Rattle.std.specs.List.{list_all}
+use Rattle.std.proofs.lemmas.Bool.{and_parts}
+use Rattle.std.proofs.lemmas.List.{take-append-drop}
+use Rattle.std.proofs.Math.Seq.{take-add}
+use Rattle.std.proofs.lemmas.Bool.Decides.{nat_tests}
+use Rattle.std.proofs.lemmas.List.Elements.{All-append, All-from_recursion}
+use Rattle.std.proofs.lemmas.Grind.{flat_map-append}
+use Rattle.vt_syntax.specs.declared.event.Event.{Event}
+use Rattle.vt_syntax.specs.declared.event.Event.TheVariants.{Print, Control, Escape}
+use Rattle.vt_syntax.specs.declared.held.Held.{Held}
+use Rattle.vt_syntax.specs.declared.held.Held.TheVariants as held
+use Rattle.vt_syntax.specs.Class.{opens_string}
+use Rattle.vt_syntax.specs.Held.{IsHeldPart, events_from}
+use Rattle.vt_syntax.specs.Reading.{events_of}
+use Rattle.vt_syntax.specs.Spelling.{IsEvent, spell_event, spell_events}
+use Rattle.vt_syntax.specs.Laws.{SpellingLaw}
+use Rattle.vt_glyph.specs.declared.set.Set.{Set}
+use Rattle.vt_glyph.specs.declared.set.Set.TheVariants.{Ascii, British, German, Special, Supplemental}
+use Rattle.vt_glyph.specs.declared.glyph.Spelling.{Spelling}
+use Rattle.vt_glyph.specs.declared.glyph.Spelling.TheVariants.{Plain, Second, Third}
+use Rattle.vt_glyph.specs.Tables.{IsGlyph, is_glyph, glyph_of, space, substitute_glyph}
+use Rattle.vt_glyph.specs.Designation.{final_of}
+use Rattle.vt_glyph.specs.GraphicSets.{GraphicSets}
+use Rattle.vt_glyph.specs.Invocation.{set_at}
+use Rattle.vt_glyph.specs.Spell.{spelling_of, code_of}
+use Rattle.vt_glyph.specs.Laws.{GlyphLaws, SpellingLaws}
+use Rattle.vt_term.specs.State.{Display, State}
+use Rattle.vt_term.specs.Sound.{IsSound}
+use Rattle.vt_term.specs.Functions.{effect}
+use Rattle.vt_term.specs.Reports.{report, control_report}
+use Rattle.vt_term.specs.Play.{Played, play, both, reports_of}
+use Rattle.vt_utf8.specs.Similar.{latin, lines, letters, signs, shown, in_rows, ascii_of_fullwidth}
+use Rattle.vt_utf8.specs.Cells.{cells}
+use Rattle.vt_utf8.specs.Translation.{shifted, designation, while_designated, through_g2, through_g3, reads_ascii}
+use Rattle.vt_utf8.specs.Translation.{spelled_in, written, both_halves, is_at_end, written_wide, put}
+use Rattle.vt_utf8.specs.Translation.{beyond_ascii, translation}
+
+-- ---- bytes that are events without a report
+
+abbrev pub AreSilent : List Event → Type 0
+AreSilent [] = Unit {0}
+AreSilent (event ∷ events) = ((s : Display) → report event s ≡ []) × AreSilent events
+
+silent-reports : (events : List Event) → AreSilent events → (s : Display) → reports_of events s ≡ []
+silent-reports [] h s = refl
+silent-reports (event ∷ events) (first, others) s = rw (first s) (silent-reports events others (effect event s))
+
+silent-append : (xs ys : List Event) → AreSilent xs → AreSilent ys → AreSilent (xs ++ ys)
+silent-append [] ys first second = second
+silent-append (x ∷ xs) ys (first, others) second = (first, silent-append xs ys others second)
+
+pub record AreQuiet (bytes : List ℕ) : Type 0 where
+  pub events : List Event
+  pub spelled : spell_events events ≡ bytes
+  pub are_events : All IsEvent events
+  pub silent : AreSilent events
+
+quiet-nothing : AreQuiet []
+quiet-nothing = record { events = []; spelled = refl; are_events = All-from_recursion IsEvent [] tt; silent = tt }
+
+quiet-append : (a b : List ℕ) → AreQuiet a → AreQuiet b → AreQuiet (a ++ b)
+quiet-append a b x y = record {
+  events = x.events ++ y.events;
+  spelled = flat_map-append spell_event x.events y.events ∙ rw (x.spelled, y.spelled) refl;
+  are_events = All-append IsEvent x.events y.events x.are_events y.are_events;
+  silent = silent-append x.events y.events x.silent y.silent;
+}
+
+quiet-if : (b : Bool) (x y : List ℕ) → AreQuiet x → AreQuiet y → AreQuiet (if b then x else y)
+quiet-if true x y first second = first
+quiet-if false x y first second = second
+
+-- ---- the bytes of a translation
+
+quiet-printed : (code : ℕ) → 0x20 ≤ code → code ≤ 0x7E → AreQuiet (code ∷ [])
+quiet-printed code low high = record {
+  events = Print code ∷ [];
+  spelled = refl;
+  are_events = All-from_recursion IsEvent (Print code ∷ []) (inl (low, high), tt);
+  silent = (λ s. refl, tt);
+}
+
+-- ST, NEL, SS2 and SS3
+quiet-st : AreQuiet (0x1B ∷ 0x5C ∷ [])
+unfolding opens_string control_report
+quiet-st = record {
+  events = Control 0x9C ∷ [];
+  spelled = refl;
+  are_events = All-from_recursion IsEvent (Control 0x9C ∷ []) (inr (omega arith, omega arith, refl), tt);
+  silent = (λ s. refl, tt);
+}
+
+quiet-nel : AreQuiet (0x1B ∷ 0x45 ∷ [])
+unfolding opens_string control_report
+quiet-nel = record {
+  events = Control 0x85 ∷ [];
+  spelled = refl;
+  are_events = All-from_recursion IsEvent (Control 0x85 ∷ []) (inr (omega arith, omega arith, refl), tt);
+  silent = (λ s. refl, tt);
+}
+
+quiet-ss2 : AreQuiet (0x1B ∷ 0x4E ∷ [])
+unfolding opens_string control_report
+quiet-ss2 = record {
+  events = Control 0x8E ∷ [];
+  spelled = refl;
+  are_events = All-from_recursion IsEvent (Control 0x8E ∷ []) (inr (omega arith, omega arith, refl), tt);
+  silent = (λ s. refl, tt);
+}
+
+quiet-ss3 : AreQuiet (0x1B ∷ 0x4F ∷ [])
+unfolding opens_string control_report
+quiet-ss3 = record {
+  events = Control 0x8F ∷ [];
+  spelled = refl;
+  are_events = All-from_recursion IsEvent (Control 0x8F ∷ []) (inr (omega arith, omega arith, refl), tt);
+  silent = (λ s. refl, tt);
+}
+
+final : (set : Set) → (0x30 ≤ final_of set) × (final_of set ≤ 0x7E)
+final Ascii = (omega arith, omega arith)
+final British = (omega arith, omega arith)
+final German = (omega arith, omega arith)
+final Special = (omega arith, omega arith)
+final Supplemental = (omega arith, omega arith)
+
+quiet-designation : (inter : ℕ) (set : Set) → 0x20 ≤ inter → inter ≤ 0x2F → AreQuiet (designation inter set)
+quiet-designation inter set low high = record {
+  events = Escape (Some inter) (final_of set) ∷ [];
+  spelled = refl;
+  are_events = All-from_recursion IsEvent (Escape (Some inter) (final_of set) ∷ []) (((low, high), final set), tt);
+  silent = (λ s. refl, tt);
+}
+
+quiet-while : (inter : ℕ) (set before : Set) (bytes : List ℕ) → 0x20 ≤ inter → inter ≤ 0x2F → AreQuiet bytes
+    → AreQuiet (while_designated inter set before bytes)
+quiet-while inter set before bytes low high quiet =
+    quiet-if (final_of before == final_of set) _ _ quiet
+    (quiet-append (designation inter set) (bytes ++ designation inter before) (quiet-designation inter set low high)
+    (quiet-append bytes (designation inter before) quiet (quiet-designation inter before low high)))
+
+module _ (sets : GraphicSets) (code : ℕ) (low : 0x20 ≤ code) (high : code ≤ 0x7E) where
+  quiet-g2 : (set : Set) → AreQuiet (through_g2 sets set code)
+  quiet-g2 set =
+      quiet-while 0x2A set (set_at sets 2) (shifted 0x4E code) (omega arith) (omega arith)
+      (quiet-append (0x1B ∷ 0x4E ∷ []) (code ∷ []) quiet-ss2 (quiet-printed code low high))
+
+  quiet-g3 : (set : Set) → AreQuiet (through_g3 sets set code)
+  quiet-g3 set =
+      quiet-while 0x2B set (set_at sets 3) (shifted 0x4F code) (omega arith) (omega arith)
+      (quiet-append (0x1B ∷ 0x4F ∷ []) (code ∷ []) quiet-ss3 (quiet-printed code low high))
+
+quiet-spelled : (sets : GraphicSets) (s : Spelling) → 0x20 ≤ code_of s → code_of s ≤ 0x7E → AreQuiet (spelled_in sets s)
+quiet-spelled sets (Plain code) low high =
+    quiet-if (reads_ascii sets) _ _ (quiet-printed code low high) (quiet-g2 sets code low high Ascii)
+quiet-spelled sets (Second code) low high = quiet-g2 sets code low high Supplemental
+quiet-spelled sets (Third code) low high = quiet-g3 sets code low high Special
+
+-- ---- each character is shown by one of the 204 glyphs
+
+abbrev passes : ℕ × ℕ × ℕ → Bool
+passes row = is_glyph row.2
+
+either : (b : Bool) (x y : ℕ) → (b ≡ true → is_glyph x ≡ true) → (b ≡ false → is_glyph y ≡ true)
+    → is_glyph (if b then x else y) ≡ true
+either true x y first second = first refl
+either false x y first second = second refl
+
+in-rows : (d : ℕ) (rows : List (ℕ × ℕ × ℕ)) (c : ℕ) → is_glyph d ≡ true → list_all passes rows ≡ true
+    → is_glyph (in_rows d rows c) ≡ true
+in-rows d [] c other all = other
+in-rows d (row ∷ rows) c other all =
+    let parts = and_parts _ _ all in
+    either (nat_le row.0 c && nat_le c row.1) row.2 (in_rows d rows c) (λ _. parts.0)
+    (λ _. in-rows d rows c other parts.1)
+
+in-chart : (d : ℕ) (xs : List ℕ) (i : ℕ) → is_glyph d ≡ true → list_all is_glyph xs ≡ true
+    → is_glyph (slice_index_or xs i d) ≡ true
+in-chart d [] i other all = other
+in-chart d (x ∷ xs) zero other all = (and_parts _ _ all).0
+in-chart d (x ∷ xs) (suc i) other all = in-chart d xs i other (and_parts _ _ all).1
+
+glyph-other : is_glyph substitute_glyph ≡ true
+unfolding is_glyph glyph_of
+glyph-other = refl
+
+glyph-latin : list_all is_glyph latin ≡ true
+unfolding is_glyph glyph_of latin
+glyph-latin = refl
+
+glyph-lines : list_all is_glyph lines ≡ true
+unfolding is_glyph glyph_of lines
+glyph-lines = refl
+
+glyph-letters : list_all passes letters ≡ true
+unfolding is_glyph glyph_of letters
+glyph-letters = refl
+
+glyph-signs : list_all passes signs ≡ true
+unfolding is_glyph glyph_of signs
+glyph-signs = refl
+
+module _ (glyphs : GlyphLaws) where
+  pub shown-glyph : (c : ℕ) → IsGlyph (shown c)
+  unfolding shown
+  shown-glyph c =
+      either (nat_lt c 0x180) _ _ (λ _. in-chart substitute_glyph latin (c - 0xA0) glyph-other glyph-latin)
+      (λ _. either (nat_lt c 0x2000) _ _ (λ _. in-rows substitute_glyph letters c glyph-other glyph-letters)
+      (λ _. either (nat_le 0x2500 c && nat_le c 0x257F) _ _
+      (λ _. in-chart substitute_glyph lines (c - 0x2500) glyph-other glyph-lines)
+      (λ _. either (nat_lt c 0x3100) _ _ (λ _. in-rows substitute_glyph signs c glyph-other glyph-signs)
+      (λ _. either (nat_le 0xFF01 c && nat_le c 0xFF5E) _ _
+      (λ is. glyphs.ascii (ascii_of_fullwidth c) (grind (arith, nat_tests)) (grind (arith, nat_tests)))
+      (λ _. glyph-other)))))
+
+-- ---- a character
+
+module _ (glyphs : GlyphLaws) (spelling : SpellingLaws) where
+  quiet-written : (glyph : ℕ) (sets : GraphicSets) → IsGlyph glyph → AreQuiet (written glyph sets)
+  quiet-written glyph sets is =
+      let code = spelling.code glyph is in
+      quiet-spelled sets (spelling_of glyph) code.0 code.1
+
+  quiet-both : (glyph : ℕ) (sets : GraphicSets) → IsGlyph glyph → AreQuiet (both_halves glyph sets)
+  quiet-both glyph sets is =
+      quiet-append (written glyph sets) (written space sets) (quiet-written glyph sets is)
+      (quiet-written space sets glyphs.space)
+
+  quiet-wide : (glyph : ℕ) (s : Display) → IsGlyph glyph → AreQuiet (written_wide glyph s)
+  quiet-wide glyph s is =
+      quiet-if (not (is_at_end s)) _ _ (quiet-both glyph s.sets is)
+      (quiet-if s.modes.decawm _ _
+      (quiet-append (0x1B ∷ 0x45 ∷ []) (both_halves glyph s.sets) quiet-nel (quiet-both glyph s.sets is)) quiet-nothing)
+
+  pub quiet-put : (c : ℕ) (s : Display) → AreQuiet (put c s)
+  quiet-put c s =
+      let is = shown-glyph glyphs c in
+      quiet-if (cells c == 0) _ _ quiet-nothing
+      (quiet-if (cells c == 1) _ _ (quiet-written (shown c) s.sets is) (quiet-wide (shown c) s is))
+
+module _ (none : (s : State) → IsSound s → play s [] ≡ record { state = s; reports = [] }) (spelled : SpellingLaw) where
+  -- quiet bytes between sequences
+  silent-between : (d : Display) (bytes : List ℕ) → AreQuiet bytes
+      → (play (record { display = d; held = held.Nothing }) bytes).reports ≡ []
+  unfolding play
+  silent-between d bytes quiet =
+      let are : events_of bytes ≡ quiet.events =
+      ap events_of (sym quiet.spelled) ∙ spelled.all_events quiet.events quiet.are_events in
+      rw are (silent-reports quiet.events quiet.silent d)
+
+  -- quiet bytes that begin with ESC, after anything
+  silent-escape : (d : Display) (h : Held) (more : List ℕ) → IsHeldPart h → AreQuiet (0x1B ∷ more)
+      → (play (record { display = d; held = h }) (0x1B ∷ more)).reports ≡ []
+  unfolding play
+  silent-escape d h more is quiet =
+      let are : events_from h (0x1B ∷ more) ≡ quiet.events =
+      spelled.escape h more is ∙ ap events_of (sym quiet.spelled)
+      ∙ spelled.all_events quiet.events quiet.are_events in
+      rw are (silent-reports quiet.events quiet.silent d)
+
+  silent-cut : (d : Display) (h : Held) (bytes : List ℕ) → IsHeldPart h → AreQuiet bytes
+      → (play (record { display = d; held = h }) (0x1B ∷ 0x5C ∷ bytes)).reports ≡ []
+  silent-cut d h bytes is quiet =
+      silent-escape d h (0x5C ∷ bytes) is (quiet-append (0x1B ∷ 0x5C ∷ []) bytes quiet-st quiet)
+
+  silent-beyond : (d : Display) (h : Held) (bytes : List ℕ) → IsSound (record { display = d; held = h }) → AreQuiet bytes
+      → (play (record { display = d; held = h }) (beyond_ascii h bytes)).reports ≡ []
+  silent-beyond d held.Nothing bytes sound quiet = silent-between d bytes quiet
+  silent-beyond d (held.Escape inters) bytes sound quiet = silent-cut d (held.Escape inters) bytes sound.held quiet
+  silent-beyond d (held.Control marker params full phase) bytes sound quiet =
+      silent-cut d (held.Control marker params full phase) bytes sound.held quiet
+  silent-beyond d held.Spoilt bytes sound quiet = silent-cut d held.Spoilt bytes sound.held quiet
+  silent-beyond d (held.Text osc) bytes sound quiet =
+      ap (λ (p : Played). p.reports) (none (record { display = d; held = held.Text osc }) sound)
+
+  pub silent-translation : GlyphLaws → SpellingLaws → (s : State) (c : ℕ) → IsSound s → 0x80 ≤ c
+      → (play s (translation s c)).reports ≡ []
+  unfolding translation
+  silent-translation glyphs spelling s c sound beyond =
+      let is : nat_lt c 0x80 ≡ false = grind (arith, nat_tests) in
+      rw is (silent-beyond s.display s.held (put c s.display) sound (quiet-put glyphs spelling c s.display))
+
+-- ---- a part of bytes without a report
+
+both-nothing : (xs ys : List ℕ) → xs ++ ys ≡ [] → (xs ≡ []) × (ys ≡ [])
+both-nothing [] ys h = (refl, h)
+both-nothing (x ∷ xs) ys h = absurd cc
+
+module _ (two : (s : State) (a b : List ℕ) → play s (a ++ b) ≡ both (play s a) (play (play s a).state b)) where
+  parts-silent : (s : State) (a b : List ℕ) → (play s (a ++ b)).reports ≡ []
+      → ((play s a).reports ≡ []) × ((play (play s a).state b).reports ≡ [])
+  parts-silent s a b h =
+      both-nothing (play s a).reports (play (play s a).state b).reports
+      (sym (ap (λ (p : Played). p.reports) (two s a b)) ∙ h)
+
+  pub part-silent : (s t : State) (bytes : List ℕ) (at n : ℕ) → (play s bytes).reports ≡ []
+      → t ≡ (play s (take at bytes)).state → (play t (take n (drop at bytes))).reports ≡ []
+  part-silent s t bytes at n h is =
+      let rest = (parts-silent s (take at bytes) (drop at bytes)
+      (ap (λ (xs : List ℕ). (play s xs).reports) (take-append-drop at bytes) ∙ h)).1 in
+      let front = (parts-silent (play s (take at bytes)).state (take n (drop at bytes)) (drop n (drop at bytes))
+      (ap (λ (xs : List ℕ). (play (play s (take at bytes)).state xs).reports) (take-append-drop n (drop at bytes))
+      ∙ rest)).0 in
+      rw is front
+
+  pub state-more : (s t u : State) (bytes : List ℕ) (at n : ℕ) → t ≡ (play s (take at bytes)).state
+      → u ≡ (play t (take n (drop at bytes))).state → u ≡ (play s (take (at + n) bytes)).state
+  state-more s t u bytes at n first second =
+      rw (take-add at n bytes, two s (take at bytes) (take n (drop at bytes)), ← first) second

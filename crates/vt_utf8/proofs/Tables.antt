@@ -1,0 +1,86 @@
+-- The codes of the tables encode the glyphs of the definition's charts and rows.
+use Rattle.std.proofs.Common.{◌≡◌, ℕ, ◌-◌, ◌≤◌, Bool, true, false, List, [], ◌∷◌, map, refl, sym, ap, ◌∙◌, arith, ◌&&◌}
+use Rattle.std.specs.Prelude.{nat_lt, nat_le, if◌then◌else◌}
+use Rattle.std.proofs.Math.ListN.{get_or-map}
+use Rattle.std.proofs.lemmas.Bool.Decides.{nat_tests}
+use Rattle.vt_glyph.specs.Tables.{glyph_of, substitute_glyph}
+use Rattle.vt_glyph.specs.Spell.{spelling_of}
+use Rattle.vt_glyph.specs.Encoding.{encoded_spelling}
+use Rattle.vt_utf8.specs.Similar.{latin, lines, letters, signs, shown, in_rows, in_chart, ascii_of_fullwidth}
+use Rattle.vt_utf8.specs.Private.Codes.{code_by}
+use Rattle.vt_utf8.specs.declared.similar.TheConstants.{SUBSTITUTE, LATIN, LINES, LETTERS, SIGNS}
+
+-- a row with its entry changed
+abbrev on_row : {A : Type 0} → (ℕ → A) → ℕ × ℕ × ℕ → ℕ × ℕ × A
+on_row f row = (row.0, row.1, f row.2)
+
+-- two tests of one truth value
+either : {A : Type 0} (f g : ℕ → A) (b : Bool) (x y z w : ℕ) → (b ≡ true → f x ≡ g y) → (b ≡ false → f z ≡ g w)
+    → f (if b then x else z) ≡ g (if b then y else w)
+either f g true x y z w first second = first refl
+either f g false x y z w first second = second refl
+
+if-map : {A : Type 0} (f : ℕ → A) (b : Bool) (x y : ℕ) → f (if b then x else y) ≡ (if b then f x else f y)
+if-map f true x y = refl
+if-map f false x y = refl
+
+in_rows-map : {A : Type 0} (f : ℕ → A) (d : ℕ) (rows : List (ℕ × ℕ × ℕ)) (c : ℕ)
+    → f (in_rows d rows c) ≡ in_rows (f d) (map (on_row f) rows) c
+in_rows-map f d [] c = refl
+in_rows-map {A} f d (row ∷ rows) c =
+    if-map f (nat_le row.0 c && nat_le c row.1) row.2 (in_rows d rows c)
+    ∙ ap (λ (t : A). if nat_le row.0 c && nat_le c row.1 then f row.2 else t) (in_rows-map f d rows c)
+
+rows : {A : Type 0} (f g : ℕ → A) (d e : ℕ) (xs ys : List (ℕ × ℕ × ℕ)) (c : ℕ) → f d ≡ g e
+    → map (on_row f) xs ≡ map (on_row g) ys → f (in_rows d xs c) ≡ g (in_rows e ys c)
+rows f g d e xs ys c other same =
+    in_rows-map f d xs c ∙ rw (other, same) (sym (in_rows-map g e ys c))
+
+chart : {A : Type 0} (f g : ℕ → A) (d e : ℕ) (xs ys : List ℕ) (first c : ℕ) → f d ≡ g e → map f xs ≡ map g ys
+    → f (in_chart d xs first c) ≡ g (in_chart e ys first c)
+chart f g d e xs ys first c other same =
+    sym (get_or-map f xs (c - first) d) ∙ rw (other, same) (get_or-map g ys (c - first) e)
+
+-- ---- the tables, entry by entry, by computing
+
+substitute : encoded_spelling SUBSTITUTE ≡ spelling_of substitute_glyph
+unfolding spelling_of glyph_of
+substitute = refl
+
+latin-same : map encoded_spelling LATIN ≡ map spelling_of latin
+unfolding spelling_of glyph_of latin
+latin-same = refl
+
+lines-same : map encoded_spelling LINES ≡ map spelling_of lines
+unfolding spelling_of glyph_of lines
+lines-same = refl
+
+letters-same : map (on_row encoded_spelling) LETTERS ≡ map (on_row spelling_of) letters
+unfolding spelling_of glyph_of letters
+letters-same = refl
+
+signs-same : map (on_row encoded_spelling) SIGNS ≡ map (on_row spelling_of) signs
+unfolding spelling_of glyph_of signs
+signs-same = refl
+
+-- an ASCII code is its own spelling
+fullwidth : (n : ℕ) → 0x20 ≤ n → n ≤ 0x7E → encoded_spelling n ≡ spelling_of n
+unfolding spelling_of
+fullwidth n low high = grind (arith, nat_tests)
+
+-- ---- a character
+
+pub code_by-shown : (c : ℕ) → encoded_spelling (code_by c) ≡ spelling_of (shown c)
+unfolding shown
+code_by-shown c =
+    either encoded_spelling spelling_of (nat_lt c 0x180) _ _ _ _
+    (λ _. chart encoded_spelling spelling_of SUBSTITUTE substitute_glyph LATIN latin 0xA0 c substitute latin-same)
+    (λ _. either encoded_spelling spelling_of (nat_lt c 0x2000) _ _ _ _
+    (λ _. rows encoded_spelling spelling_of SUBSTITUTE substitute_glyph LETTERS letters c substitute letters-same)
+    (λ _. either encoded_spelling spelling_of (nat_le 0x2500 c && nat_le c 0x257F) _ _ _ _
+    (λ _. chart encoded_spelling spelling_of SUBSTITUTE substitute_glyph LINES lines 0x2500 c substitute lines-same)
+    (λ _. either encoded_spelling spelling_of (nat_lt c 0x3100) _ _ _ _
+    (λ _. rows encoded_spelling spelling_of SUBSTITUTE substitute_glyph SIGNS signs c substitute signs-same)
+    (λ _. either encoded_spelling spelling_of (nat_le 0xFF01 c && nat_le c 0xFF5E) _ _ _ _
+    (λ is. fullwidth (ascii_of_fullwidth c) (grind (arith, nat_tests)) (grind (arith, nat_tests)))
+    (λ _. substitute)))))

@@ -1,0 +1,6 @@
+pub mod Decoding
+pub mod Similar
+pub mod Cells
+pub mod Translation
+pub mod Play
+pub mod Private

@@ -1,0 +1,117 @@
+//! Decoding: from bytes, one at a time, to characters.
+ghost use Rattle.std.specs.Prelude.{◌≡◌, ◌≤◌, ◌++◌, [], ◌∷◌, ◌==◌, length, if◌then◌else◌};
+ghost use Rattle.std.specs.Option.{option_to_list};
+ghost use Rattle.bstr.specs.Utf8.{decoded, lead_len, replacement};
+ghost use Rattle.vt_utf8.specs.Decoding.{is_begun, given_up, read, read_first};
+
+use arrayvec::ArrayVec;
+use bstr::decode_utf8 as decode;
+use std::marker::Model;
+
+/// The pending part of UTF-8: the bytes, at most three, of a character that isn't complete yet.
+#[derive(Debug, Drop)]
+pub struct Decoder {
+    pending: ArrayVec<u8, 4>,
+}
+
+impl Model for Decoder {
+    ghost use Rattle.std.specs.Prelude.{◌≤◌, ℕ, List, length};
+
+    ghost Value = { List ℕ };
+
+    ghost view = { λ d. d.pending.items };
+
+    ghost invariant = { λ d. length d.pending.items ≤ 3 };
+}
+
+/// Returns how many bytes a character that begins with this byte takes, or 0 if none begins with it.
+#[inline(always)]
+fn lead_len(b: u8) -> usize
+    ensures { result ≡ lead_len b }
+{
+    if b < 0x80 {
+        1
+    } else if b < 0xC2 {
+        0
+    } else if b < 0xE0 {
+        2
+    } else if b < 0xF0 {
+        3
+    } else if b < 0xF5 {
+        4
+    } else {
+        0
+    }
+}
+
+/// Returns whether bytes begin a character that more bytes have to complete. `size` is the size that they decode to.
+#[inline(always)]
+fn is_begun(bytes: &[u8], size: usize) -> bool
+    requires some { 1 ≤ length bytes.now }
+    requires size { size ≡ (decoded bytes.now).size }
+    ensures { result ≡ is_begun bytes.now }
+{
+    size == bytes.len() && bytes.len() < lead_len(bytes[0])
+}
+
+impl Decoder {
+    /// Returns a decoder with nothing pending.
+    pub fn new() -> Decoder
+        ensures { result ≡ [] }
+    {
+        Decoder {
+            pending: ArrayVec::new(),
+        }
+    }
+
+    /// Returns the pending bytes: at most three.
+    pub fn pending(&self) -> &[u8]
+        ensures value { result.now ≡ self.now }
+        ensures few { length result.now ≤ 3 }
+    {
+        self.pending.as_slice()
+    }
+
+    /// Returns whether nothing is pending.
+    #[inline(always)]
+    pub fn is_empty(&self) -> bool
+        ensures { result ≡ (length self.now == 0) }
+    {
+        self.pending.is_empty()
+    }
+
+    /// Reads a byte if nothing is pending, and returns the character that it is, if it is one. U+FFFD is in place of an
+    /// ill-formed byte.
+    fn push_first(&mut self, b: u8) -> Option<char>
+        requires { self.old ≡ [] }
+        ensures characters { option_to_list result ≡ (read_first b).characters }
+        ensures pending { self.new ≡ (read_first b).pending }
+    {
+        let bytes = [b];
+        let (found, size) = decode(&bytes);
+        if is_begun(&bytes, size) {
+            self.pending.push(b);
+            return None;
+        }
+        Some(found.unwrap_or('\u{FFFD}'))
+    }
+
+    /// Reads a byte. Returns whether what was pending is ill-formed, and the character that the byte completes, if it
+    /// completes one. U+FFFD is in place of an ill-formed byte.
+    pub(crate) fn push(&mut self, b: u8) -> (bool, Option<char>)
+        ensures characters { (if result.0 then replacement ∷ [] else []) ++ option_to_list result.1 ≡ (read self.old b).characters }
+        ensures pending { self.new ≡ (read self.old b).pending }
+    {
+        let was_pending = !self.pending.is_empty();
+        self.pending.push(b);
+        let (found, size) = decode(self.pending.as_slice());
+        if is_begun(self.pending.as_slice(), size) {
+            return (false, None);
+        }
+        self.pending.clear();
+        match found {
+            Some(c) => (false, Some(c)),
+            None => (was_pending, self.push_first(b)),
+        }
+    }
+}

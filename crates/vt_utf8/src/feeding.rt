@@ -1,0 +1,229 @@
+//! Feeding: UTF-8 changes a terminal's state, and gives report bytes.
+ghost use Rattle.std.specs.Prelude.{◌≡◌, ◌<◌, ◌+◌, ◌*◌, ◌≤◌, ◌++◌, [], ◌∷◌, ℕ, List, All, length, take, drop};
+ghost use Rattle.std.specs.Prelude.{vec_len, vec_capacity, OnOk, OnErr, IsOk};
+ghost use Rattle.std.specs.Prelude.{if◌then◌else◌};
+ghost use Rattle.std.specs.Option.{option_to_list};
+ghost use Rattle.bstr.specs.Utf8.{replacement};
+ghost use Rattle.vt_term.specs.Play.{play};
+ghost use Rattle.vt_utf8.specs.Decoding.{pending_after};
+ghost use Rattle.vt_utf8.specs.Translation.{translation};
+ghost use Rattle.vt_utf8.specs.Play.{translated_all, play_utf8};
+ghost use Rattle.vt_utf8.specs.Private.Feeds.{FeedsUtf8};
+
+use crate::decoder::Decoder;
+use crate::laws::{ascii, cuts};
+use crate::translation::translation;
+use bstr::ByteSlice;
+use std::alloc::AllocError;
+use vt_glyph::laws::{glyphs, spelling};
+use vt_syntax::laws::{one_split, spelled};
+use vt_term::laws::{cuts as played_cuts, soundness as played_soundness};
+use vt_term::{REPORT_LIMIT, Terminal};
+
+/// Plays a chunk of a host's UTF-8, and appends the reports to `out`. `decoder` keeps what is pending between chunks.
+///
+/// It first reserves ten bytes of capacity for each byte of the chunk. Returns `Err` if that fails, or is more than any
+/// vector may hold. Then the terminal, the decoder and the contents of `out` are unchanged.
+pub fn feed_utf8(
+    terminal: &mut Terminal,
+    decoder: &mut Decoder,
+    piece: &[u8],
+    out: &mut Vec<u8>,
+) -> Result<(), AllocError>
+    ensures state { OnOk result (terminal.new ≡ (play_utf8 terminal.old decoder.old piece.now).state) }
+    ensures pending { OnOk result (decoder.new ≡ pending_after decoder.old piece.now) }
+    ensures reports { OnOk result (out.new.items
+        ≡ out.old.items ++ (play_utf8 terminal.old decoder.old piece.now).reports) }
+    ensures bounded { vec_len out.new ≤ vec_len out.old + 10 * length piece.now }
+    ensures same_state { OnErr result (terminal.new ≡ terminal.old) }
+    ensures same_pending { OnErr result (decoder.new ≡ decoder.old) }
+    ensures same_out { OnErr result (out.new.items ≡ out.old.items) }
+    ensures has_room { vec_len out.old + 10 * length piece.now ≤ vec_capacity out.old → IsOk result }
+    ensures capacity { vec_capacity out.old ≤ vec_capacity out.new }
+{
+    let Some(room) = piece.len().checked_mul(REPORT_LIMIT) else {
+        return Err(AllocError);
+    };
+    out.reserve(room)?;
+    feed_utf8_reserved(terminal, decoder, piece, out);
+    Ok(())
+}
+
+/// Plays a chunk of a host's UTF-8, and appends the reports to `out`. `decoder` keeps what is pending between chunks.
+/// `out` has capacity for ten more bytes for each byte of the chunk. It never fails and allocates nothing.
+pub fn feed_utf8_reserved(
+    terminal: &mut Terminal,
+    decoder: &mut Decoder,
+    piece: &[u8],
+    out: &mut Vec<u8>,
+)
+    requires { vec_len out.old + 10 * length piece.now ≤ vec_capacity out.old }
+    ensures state { terminal.new ≡ (play_utf8 terminal.old decoder.old piece.now).state }
+    ensures pending { decoder.new ≡ pending_after decoder.old piece.now }
+    ensures reports { out.new.items ≡ out.old.items ++ (play_utf8 terminal.old decoder.old piece.now).reports }
+    ensures bounded { vec_len out.new ≤ vec_len out.old + 10 * length piece.now }
+    ensures capacity { vec_capacity out.old ≤ vec_capacity out.new }
+{
+    let _ = terminal.width();
+    cuts();
+    let mut at = 0;
+    while at < piece.len() {
+        at += feed_next(terminal, decoder, &piece[at..], out);
+    }
+}
+
+/// Plays the front of a chunk that isn't empty: the ASCII bytes there if nothing is pending, otherwise a byte. Returns how
+/// many bytes it played.
+#[inline(always)]
+fn feed_next(
+    terminal: &mut Terminal,
+    decoder: &mut Decoder,
+    piece: &[u8],
+    out: &mut Vec<u8>,
+) -> usize
+    requires some { 1 ≤ length piece.now }
+    requires room { vec_len out.old + 10 * length piece.now ≤ vec_capacity out.old }
+    ensures some { 1 ≤ result }
+    ensures within { result ≤ length piece.now }
+    ensures fed { FeedsUtf8 terminal.old decoder.old (take result piece.now) terminal.new decoder.new
+        out.old.items out.new.items }
+    ensures bounded { vec_len out.new ≤ vec_len out.old + 10 * result }
+    ensures capacity { vec_capacity out.old ≤ vec_capacity out.new }
+{
+    if decoder.is_empty() {
+        let run = ascii_run(piece);
+        if run > 0 {
+            feed_ascii(terminal, decoder, &piece[..run], out);
+            return run;
+        }
+    }
+    feed_byte(terminal, decoder, piece[0], out);
+    1
+}
+
+/// Returns how many bytes at the front of a piece are ASCII.
+#[inline(always)]
+fn ascii_run(piece: &[u8]) -> usize
+    ensures within { result ≤ length piece.now }
+    ensures ascii { All (λ b. b < 0x80) (take result piece.now) }
+{
+    piece.find_non_ascii_byte().unwrap_or(piece.len())
+}
+
+/// Plays ASCII bytes with nothing pending.
+#[inline(always)]
+fn feed_ascii(terminal: &mut Terminal, decoder: &Decoder, run: &[u8], out: &mut Vec<u8>)
+    requires nothing { decoder.now ≡ [] }
+    requires ascii { All (λ b. b < 0x80) run.now }
+    requires room { vec_len out.old + 10 * length run.now ≤ vec_capacity out.old }
+    ensures fed { FeedsUtf8 terminal.old decoder.now run.now terminal.new decoder.now out.old.items out.new.items }
+    ensures bounded { vec_len out.new ≤ vec_len out.old + 10 * length run.now }
+    ensures capacity { vec_capacity out.old ≤ vec_capacity out.new }
+{
+    ascii();
+    let _ = decoder;
+    terminal.feed_reserved(run, out);
+}
+
+/// Plays a byte.
+fn feed_byte(terminal: &mut Terminal, decoder: &mut Decoder, b: u8, out: &mut Vec<u8>)
+    requires { vec_len out.old + 10 ≤ vec_capacity out.old }
+    ensures fed { FeedsUtf8 terminal.old decoder.old (b ∷ []) terminal.new decoder.new out.old.items out.new.items }
+    ensures bounded { vec_len out.new ≤ vec_len out.old + 10 }
+    ensures capacity { vec_capacity out.old ≤ vec_capacity out.new }
+{
+    let _ = terminal.width();
+    played_cuts();
+    played_soundness();
+    let (is_lost, character) = decoder.push(b);
+    feed_lost(terminal, is_lost, out);
+    feed_completed(terminal, character, out);
+}
+
+/// Plays U+FFFD if what was pending is ill-formed.
+#[inline(always)]
+fn feed_lost(terminal: &mut Terminal, is_lost: bool, out: &mut Vec<u8>)
+    requires { vec_len out.old + 10 ≤ vec_capacity out.old }
+    ensures state { terminal.new ≡ (play terminal.old (translated_all terminal.old
+        (if is_lost then replacement ∷ [] else []))).state }
+    ensures silent { (play terminal.old (translated_all terminal.old
+        (if is_lost then replacement ∷ [] else []))).reports ≡ [] }
+    ensures out { out.new.items ≡ out.old.items }
+    ensures capacity { vec_capacity out.old ≤ vec_capacity out.new }
+{
+    let _ = terminal.width();
+    played_cuts();
+    if is_lost {
+        feed_beyond_ascii(terminal, '\u{FFFD}', out);
+    }
+}
+
+/// Plays the character that a byte completes, if it completes one.
+#[inline(always)]
+fn feed_completed(terminal: &mut Terminal, character: Option<char>, out: &mut Vec<u8>)
+    requires { vec_len out.old + 10 ≤ vec_capacity out.old }
+    ensures state { terminal.new
+        ≡ (play terminal.old (translated_all terminal.old (option_to_list character))).state }
+    ensures reports { out.new.items ≡ out.old.items
+        ++ (play terminal.old (translated_all terminal.old (option_to_list character))).reports }
+    ensures bounded { vec_len out.new ≤ vec_len out.old + 10 }
+    ensures capacity { vec_capacity out.old ≤ vec_capacity out.new }
+{
+    let _ = terminal.width();
+    played_cuts();
+    if let Some(c) = character {
+        feed_character(terminal, c, out);
+    }
+}
+
+/// Plays a character.
+fn feed_character(terminal: &mut Terminal, c: char, out: &mut Vec<u8>)
+    requires { vec_len out.old + 10 ≤ vec_capacity out.old }
+    ensures state { terminal.new ≡ (play terminal.old (translation terminal.old c)).state }
+    ensures reports { out.new.items ≡ out.old.items ++ (play terminal.old (translation terminal.old c)).reports }
+    ensures bounded { vec_len out.new ≤ vec_len out.old + 10 }
+    ensures capacity { vec_capacity out.old ≤ vec_capacity out.new }
+{
+    if (c as u32) < 0x80 {
+        terminal.feed_reserved(&[c as u8], out);
+    } else {
+        feed_beyond_ascii(terminal, c, out);
+    }
+}
+
+/// Plays a character beyond ASCII, which causes no report.
+fn feed_beyond_ascii(terminal: &mut Terminal, c: char, out: &mut Vec<u8>)
+    requires beyond { 0x80 ≤ c }
+    requires room { vec_len out.old + 10 ≤ vec_capacity out.old }
+    ensures state { terminal.new ≡ (play terminal.old (translation terminal.old c)).state }
+    ensures silent { (play terminal.old (translation terminal.old c)).reports ≡ [] }
+    ensures out { out.new.items ≡ out.old.items }
+    ensures capacity { vec_capacity out.old ≤ vec_capacity out.new }
+{
+    let _ = terminal.width();
+    played_cuts();
+    spelled();
+    glyphs();
+    spelling();
+    let bytes = translation(terminal, c);
+    feed_silently(terminal, bytes.as_slice(), out);
+}
+
+/// Plays bytes that cause no report. `out` may have capacity for the reports of only one of them.
+fn feed_silently(terminal: &mut Terminal, bytes: &[u8], out: &mut Vec<u8>)
+    requires silent { (play terminal.old bytes.now).reports ≡ [] }
+    requires room { vec_len out.old + 10 ≤ vec_capacity out.old }
+    ensures state { terminal.new ≡ (play terminal.old bytes.now).state }
+    ensures out { out.new.items ≡ out.old.items }
+    ensures capacity { vec_capacity out.old ≤ vec_capacity out.new }
+{
+    let _ = terminal.width();
+    played_cuts();
+    let most = (out.capacity() - out.len()) / REPORT_LIMIT;
+    let mut at = 0;
+    while at < bytes.len() {
+        let count = most.min(bytes.len() - at);
+        terminal.feed_reserved(&bytes[at..at + count], out);
+        at += count;
+    }
+}

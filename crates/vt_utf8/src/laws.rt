@@ -1,0 +1,42 @@
+//! Laws over the definitions alone. A caller cites a law by a call of its function.
+ghost use Rattle.std.specs.Prelude.{◌≡◌, ◌<◌, ℕ, List, [], ◌++◌, All};
+ghost use Rattle.vt_term.specs.State.{State};
+ghost use Rattle.vt_term.specs.Sound.{IsSound};
+ghost use Rattle.vt_term.specs.Play.{play, both, joined};
+ghost use Rattle.vt_utf8.specs.Decoding.{pending_after};
+ghost use Rattle.vt_utf8.specs.Play.{translated, play_utf8, play_utf8_all};
+
+use vt_term::laws::{cuts as played_cuts, soundness as played_soundness};
+
+/// States that each state that UTF-8 leaves is sound: it is one that the terminal's bytes leave.
+pub fn soundness()
+    ensures { (s : State) (pending bytes : List ℕ) → IsSound s → IsSound (play_utf8 s pending bytes).state }
+{
+    played_soundness();
+}
+
+/// States that UTF-8 may be cut anywhere: chunks in turn leave the state, the pending part and the reports of the chunks
+/// joined.
+pub fn cuts()
+    ensures none { (s : State) (pending : List ℕ) → IsSound s
+        → play_utf8 s pending [] ≡ record { state = s; reports = [] } }
+    ensures two { (s : State) (pending a b : List ℕ) → IsSound s → play_utf8 s pending (a ++ b)
+        ≡ both (play_utf8 s pending a) (play_utf8 (play_utf8 s pending a).state (pending_after pending a) b) }
+    ensures pending { (pending a b : List ℕ)
+        → pending_after pending (a ++ b) ≡ pending_after (pending_after pending a) b }
+    ensures all { (s : State) (pending : List ℕ) (pieces : List (List ℕ)) → IsSound s
+        → play_utf8_all s pending pieces ≡ play_utf8 s pending (joined pieces) }
+{
+    played_cuts();
+    played_soundness();
+}
+
+/// States that ASCII with nothing pending is played as today, and leaves nothing pending. So a repaint and an update,
+/// which are ASCII, do the same in UTF-8.
+pub fn ascii()
+    ensures translated { (s : State) (bytes : List ℕ) → All (λ b. b < 0x80) bytes
+        → translated s [] bytes ≡ bytes }
+    ensures played { (s : State) (bytes : List ℕ) → All (λ b. b < 0x80) bytes
+        → play_utf8 s [] bytes ≡ play s bytes }
+    ensures pending { (bytes : List ℕ) → All (λ b. b < 0x80) bytes → pending_after [] bytes ≡ [] }
+{}

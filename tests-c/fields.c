@@ -1,94 +1,119 @@
-/* fields: one mode, one attribute and one place at a time, so that two fields of a struct can't stand in each other's place. */
+/* fields FILE: what each reader returns, one field at a time, as tests-c/fields.txt has it. So two fields of a struct can't be swapped. */
 #include "check.h"
 
-typedef struct mode {
-    const char *name;
-    size_t at;        /* of its field */
-    bool at_power_up; /* whether it is set then (VT220 manual, chapter 5; SPECIFICATION.md) */
-    const char *turn; /* what turns it */
-} mode;
+typedef struct field {
+    char name[40];
+    unsigned long value;
+} field;
 
-#define MODE(field, at_power_up, turn) {#field, offsetof(vt220_mode_set, field), at_power_up, turn}
+/* The fields of one terminal: 132 stops, and below 100 others. */
+typedef struct fields {
+    field all[240];
+    size_t count;
+} fields;
 
-static const mode all[] = {
-    MODE(kam, false, "\033[2h"),
-    MODE(irm, false, "\033[4h"),
-    MODE(srm, true, "\033[12l"),
-    MODE(lnm, false, "\033[20h"),
-    MODE(decckm, false, "\033[?1h"),
-    MODE(decsclm, false, "\033[?4h"),
-    MODE(decscnm, false, "\033[?5h"),
-    MODE(decom, false, "\033[?6h"),
-    MODE(decawm, true, "\033[?7l"),
-    MODE(decarm, true, "\033[?8l"),
-    MODE(dectcem, true, "\033[?25l"),
-    MODE(keypad_application, false, "\033="),
-    MODE(reports_8bit, false, "\033 G"),
-};
-enum { MODES = sizeof all / sizeof all[0] };
-
-static bool field(const vt220_mode_set *modes, size_t at) { return *((const bool *)modes + at); }
-
-static void play_text(vt220 *t, const char *text) {
-    uint8_t reports[64];
-    size_t written, len = strlen(text);
-    CHECK(vt220_feed(t, (const uint8_t *)text, len, reports, sizeof reports, &written) == len && written == 0);
+/* Sets a field, which is new or there already. */
+static void put(fields *f, const char *of, const char *name, unsigned long value) {
+    char whole[40];
+    size_t at = 0;
+    snprintf(whole, sizeof whole, "%s%s", of, name);
+    while (at < f->count && strcmp(f->all[at].name, whole) != 0) at++;
+    if (at == sizeof f->all / sizeof f->all[0]) abort();
+    if (at == f->count) f->count++;
+    snprintf(f->all[at].name, sizeof f->all[at].name, "%s", whole);
+    f->all[at].value = value;
 }
 
-/* After each turn that field alone differs from power-up. */
-static void one_mode_at_a_time(void) {
-    CHECK(offsetof(vt220_mode_set, reserved) == MODES * sizeof(bool));
-    for (size_t turned = 0; turned < MODES; turned++) {
-        vt220 t = VT220_INIT;
-        vt220_mode_set modes;
-        memset(&modes, 0, sizeof modes);
-        CHECK(vt220_open(&t) == VT220_OK);
-        play_text(&t, all[turned].turn);
-        CHECK(vt220_modes(&t, &modes));
-        for (size_t i = 0; i < MODES; i++)
-            check(field(&modes, all[i].at) == (all[i].at_power_up != (i == turned)), all[i].name, all[turned].name);
-        vt220_close(&t);
-    }
+static void put_stop(fields *f, size_t column, bool is_set) {
+    char name[8];
+    snprintf(name, sizeof name, "%zu", column);
+    put(f, "stop.", name, is_set);
 }
 
-/* A letter in each attribute: the field of that attribute alone is set. */
-static void one_attribute_at_a_time(void) {
-    static const struct {
-        const char *bytes;
-        bool bold, underline, blink, reverse, is_protected;
-    } rows[] = {
-        {"A", false, false, false, false, false},
-        {"\033[1mA", true, false, false, false, false},
-        {"\033[4mA", false, true, false, false, false},
-        {"\033[5mA", false, false, true, false, false},
-        {"\033[7mA", false, false, false, true, false},
-        {"\033[1\"qA", false, false, false, false, true},
-    };
-    static vt220_cell cells[VT220_COLUMNS];
-    for (size_t i = 0; i < sizeof rows / sizeof rows[0]; i++) {
-        vt220 t = VT220_INIT;
-        CHECK(vt220_open(&t) == VT220_OK);
-        play_text(&t, rows[i].bytes);
-        CHECK(vt220_row(&t, 1, cells, VT220_COLUMNS) == 80 && cells[0].glyph == 'A' && cells[1].glyph == ' ');
-        CHECK(cells[0].bold == rows[i].bold);
-        CHECK(cells[0].underline == rows[i].underline);
-        CHECK(cells[0].blink == rows[i].blink);
-        CHECK(cells[0].reverse == rows[i].reverse);
-        CHECK(cells[0].is_protected == rows[i].is_protected);
-        vt220_close(&t);
-    }
+#define PUT(of, from, name) put(f, of ".", #name, (from).name)
+#define PUT_BRUSH(of, from) (PUT(of, from, bold), PUT(of, from, underline), PUT(of, from, blink), PUT(of, from, reverse), PUT(of, from, is_protected))
+#define PUT_SETS(of, from) (PUT(of, from, g0), PUT(of, from, g1), PUT(of, from, g2), PUT(of, from, g3), PUT(of, from, gl), PUT(of, from, gr))
+#define PUT_CURSOR(of, from) (PUT(of, from, row), PUT(of, from, col), PUT(of, from, wrap))
+
+static void put_modes(fields *f, const vt220 *t) {
+    vt220_mode_set modes;
+    CHECK(vt220_modes(t, &modes));
+    PUT("modes", modes, kam), PUT("modes", modes, irm), PUT("modes", modes, srm), PUT("modes", modes, lnm);
+    PUT("modes", modes, decckm), PUT("modes", modes, decsclm), PUT("modes", modes, decscnm), PUT("modes", modes, decom);
+    PUT("modes", modes, decawm), PUT("modes", modes, decarm), PUT("modes", modes, dectcem);
+    PUT("modes", modes, keypad_application), PUT("modes", modes, reports_8bit);
 }
 
-/* Places whose numbers all differ. */
-static void places(void) {
-    vt220 t = VT220_INIT;
+static void put_parts(fields *f, const vt220 *t) {
     vt220_cursor_place cursor;
     vt220_margin_rows margins;
+    vt220_brush_look brush;
+    vt220_graphic_sets sets;
+    vt220_saved_record saved;
+    vt220_tab_stops stops;
+    static vt220_cell cells[VT220_COLUMNS];
+    CHECK(vt220_cursor(t, &cursor) && vt220_margins(t, &margins) && vt220_brush(t, &brush) && vt220_sets(t, &sets));
+    CHECK(vt220_saved(t, &saved) && vt220_stops(t, &stops) && vt220_row(t, 1, cells, VT220_COLUMNS) == vt220_width(t));
+    PUT_CURSOR("cursor", cursor), PUT("margins", margins, top), PUT("margins", margins, bottom);
+    PUT("cell", cells[0], glyph), PUT_BRUSH("cell", cells[0]), PUT_BRUSH("brush", brush);
+    PUT_SETS("sets", sets), PUT("sets", sets, single_shift);
+    PUT_CURSOR("saved", saved), PUT("saved", saved, origin), PUT_BRUSH("saved", saved), PUT_SETS("saved", saved);
+    for (size_t column = 1; column <= VT220_COLUMNS; column++) put_stop(f, column, stops.stop[column - 1]);
+}
+
+/* Compares the fields of a terminal that has played a row's bytes with those that are wanted. */
+static void compare(const char *row, const fields *wanted, const uint8_t *data, size_t len) {
+    static fields found;
+    uint8_t reports[64];
+    size_t written;
+    vt220 t = VT220_INIT;
+    found.count = 0;
     CHECK(vt220_open(&t) == VT220_OK);
-    play_text(&t, "\033[3;17r\033[5;80HA");
-    CHECK(vt220_cursor(&t, &cursor) && cursor.row == 5 && cursor.col == 80 && cursor.wrap);
-    CHECK(vt220_margins(&t, &margins) && margins.top == 3 && margins.bottom == 17);
+    CHECK(vt220_feed(&t, data, len, reports, sizeof reports, &written) == len && written == 0);
+    put(&found, "", "width", vt220_width(&t));
+    put(&found, "", "bells", (unsigned long)vt220_bells(&t));
+    put(&found, "", "held", vt220_held_kind(&t));
+    put_modes(&found, &t);
+    put_parts(&found, &t);
     vt220_close(&t);
+    size_t count = found.count;
+    check(wanted->count == count, "the number of fields", row);
+    for (size_t i = 0; i < wanted->count; i++) {
+        size_t at = 0;
+        while (at < count && strcmp(found.all[at].name, wanted->all[i].name) != 0) at++;
+        check(at < count && found.all[at].value == wanted->all[i].value, wanted->all[i].name, row);
+    }
+}
+
+/* Reads a row: its name, its bytes in hex, and its fields, with tabs between. The fields of the first row are those at power-up. */
+static void one_row(char *line, fields *at_power_up, bool is_first) {
+    static fields wanted;
+    uint8_t data[64];
+    size_t len = 0;
+    char *name = line, *at = strchr(line, '\t') + 1;
+    at[-1] = 0;
+    for (; *at != '\t'; at += *at == ' ') data[len++] = (uint8_t)strtoul(at, &at, 16);
+    wanted = *at_power_up;
+    for (char *part = strtok(at, "\t\n"); part != NULL; part = strtok(NULL, "\t\n")) {
+        char *value = strchr(part, '=');
+        *value = 0;
+        put(&wanted, "", part, strtoul(value + 1, NULL, 10));
+    }
+    if (is_first) *at_power_up = wanted;
+    compare(name, &wanted, data, len);
+}
+
+static void one_field_at_a_time(const char *path) {
+    static fields at_power_up;
+    static char line[4096];
+    size_t count = 0;
+    FILE *file = fopen(path, "r");
+    if (file == NULL) abort();
+    for (size_t column = 1; column <= VT220_COLUMNS; column++) put_stop(&at_power_up, column, false);
+    while (fgets(line, sizeof line, file) != NULL)
+        if (line[0] != '#') one_row(line, &at_power_up, count++ == 0);
+    fclose(file);
+    CHECK(count >= 50);
 }
 
 /* Ten bytes of room for each byte take a whole piece: each byte here (DECID) is answered by ten. */
@@ -105,10 +130,9 @@ static void whole_pieces(void) {
     vt220_close(&t);
 }
 
-int main(void) {
+int main(int count, char **words) {
+    if (count != 2) return 2;
     whole_pieces();
-    one_mode_at_a_time();
-    one_attribute_at_a_time();
-    places();
+    one_field_at_a_time(words[1]);
     return finish("fields");
 }

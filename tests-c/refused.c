@@ -73,6 +73,10 @@ static void none_taken(void) {
     CHECK(vt220_feed(&t, BYTES("\033[?3h\033[6nx\n"), out, 110, &written) == 11 && written == 6);
     CHECK(vt220_text(&t, &s, out, sizeof out, &written) == VT220_OK && vt220_repaint(&t, &s, out, sizeof out, &written) == VT220_OK);
     CHECK(vt220_update(&to, &t, &s, out, sizeof out, &written) == VT220_OK && vt220_same_state(&t, &to));
+    static uint8_t lines[VT220_ROW_TEXT_LIMIT];
+    size_t logged;
+    CHECK(vt220_feed_log(&t, &s, BYTES("y\033[24H\n"), out, 100, &written, lines, sizeof lines, &logged) == 7 && logged > 0);
+    CHECK(vt220_update(&to, &t, &s, out, sizeof out, &written) == VT220_OK && vt220_same_state(&t, &to));
     CHECK(vt220_row(&t, 1, cells, VT220_COLUMNS) == 132 && vt220_cursor(&t, &cursor) && vt220_margins(&t, &margins) && vt220_modes(&t, &modes));
     CHECK(vt220_width(&t) == 132 && vt220_is_between(&t) && vt220_held_kind(&t) == VT220_HELD_NOTHING && vt220_version() > 0);
     vt220_brush_look brush;

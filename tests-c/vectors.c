@@ -90,6 +90,6 @@ int main(int argc, char **argv) {
     }
     fclose(file);
     vt220_scratch_close(&scratch);
-    CHECK(count >= 147);
+    CHECK(count >= 162);
     return finish("vectors");
 }

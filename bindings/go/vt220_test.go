@@ -51,7 +51,7 @@ func TestVectors(t *testing.T) {
 		t.Fatal(err)
 	}
 	lines := strings.Split(strings.TrimSuffix(string(file), "\n"), "\n")[1:]
-	if len(lines) < 147 {
+	if len(lines) < 162 {
 		t.Fatalf("%d vectors", len(lines))
 	}
 	s := scratch(t)

@@ -1,6 +1,10 @@
 """The vectors through Python: python3 test_vt220.py VECTORS."""
+import pathlib
 import sys
 import vt220
+
+# What each reader returns, as all bindings are tested with.
+FIELDS = pathlib.Path(__file__).resolve().parents[2] / "tests-c/fields.txt"
 
 passed = failed = 0
 
@@ -93,6 +97,34 @@ def parts():
     check(vt220.status_text(4) == "a terminal is inside a sequence", "parts", "a status")
 
 
+def fields_of(terminal):
+    """Returns what each reader returns, by the names of tests-c/fields.txt."""
+    held = ("nothing", "escape", "control", "string").index(terminal.held())
+    found = {"width": terminal.width(), "bells": terminal.bells(), "held": held}
+    readers = {"cursor": terminal.cursor(), "margins": terminal.margins(), "modes": terminal.modes(), "cell": terminal.row(1)[0],
+               "brush": terminal.brush(), "sets": terminal.sets(), "saved": terminal.saved()}
+    for of, parts in readers.items():
+        found.update((f"{of}.{name}", ord(value) if name == "glyph" else int(value)) for name, value in parts._asdict().items())
+    stops = terminal.stops()
+    found.update((f"stop.{column}", int(column in stops)) for column in range(1, vt220.COLUMNS + 1))
+    return found
+
+
+def one_field_at_a_time():
+    """Each row of tests-c/fields.txt on a new terminal."""
+    at_power_up = {f"stop.{column}": 0 for column in range(1, vt220.COLUMNS + 1)}
+    rows = [line.split("\t") for line in FIELDS.read_text().splitlines() if not line.startswith("#")]
+    for name, data, *changed in rows:
+        wanted = at_power_up | {of: int(value) for of, value in (field.split("=") for field in changed)}
+        at_power_up = wanted if name == "power-up" else at_power_up
+        with vt220.Terminal() as terminal:
+            terminal.feed(bytes.fromhex(data))
+            found = fields_of(terminal)
+        differs = {of for of in found.keys() | wanted.keys() if found.get(of) != wanted.get(of)}
+        check(not differs, "fields", f"{name}: {' '.join(sorted(differs))}")
+    check(len(rows) >= 50, "fields", f"{len(rows)} rows")
+
+
 with open(sys.argv[1]) as file:
     next(file)
     for line in file:
@@ -100,5 +132,6 @@ with open(sys.argv[1]) as file:
         vector(name, *(None if field == "-" else bytes.fromhex(field) for field in fields))
 readers()
 parts()
+one_field_at_a_time()
 print(f"python: {passed} passed, {failed} failed")
 sys.exit(failed != 0)

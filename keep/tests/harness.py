@@ -269,12 +269,18 @@ class Raw:
         if first is None:
             self.hello = self.frame()
 
+    def exactly(self, count):
+        """Reads so many bytes, or fewer if the socket ends. (MSG_WAITALL has no effect on a socket with a limit of time.)"""
+        got = b""
+        while len(got) < count and (more := self.socket.recv(count - len(got))):
+            got += more
+        return got
+
     def frame(self):
         with contextlib.suppress(ConnectionResetError):
-            head = self.socket.recv(5, socket.MSG_WAITALL)
+            head = self.exactly(5)
             if len(head) == 5:
-                length = struct.unpack("=I", head[1:])[0]
-                return head[:1], self.socket.recv(length, socket.MSG_WAITALL) if length else b""
+                return head[:1], self.exactly(struct.unpack("=I", head[1:])[0])
         return b"", b""
 
     def keys(self, keys):

@@ -3,4 +3,5 @@
 mod common;
 mod files;
 mod pages;
+mod reserved;
 mod rows;

@@ -3,5 +3,6 @@ mod functions;
 mod ignored;
 mod lines;
 mod names;
+mod reserved;
 mod summaries;
 mod traces;

@@ -150,9 +150,9 @@ fn push_group(t: &Terminal, out: &mut Vec<u8>)
     push_bytes(b"</g>\n", out);
 }
 
-/// Appends the screen to `out` as a picture: an SVG document in UTF-8. The screen's text is its text alternative. A
-/// column is 10 units wide and a row 18 high, and each run of cells has its position and its length. An HTML page may hold
-/// several pictures.
+/// Appends the screen to `out` as a picture: an SVG document in UTF-8. Its text alternative is each row without the blank
+/// cells at its end. A column is 10 units wide and a row 18 high, and each run of cells has its position and its length. An
+/// HTML page may hold several pictures.
 ///
 /// It first reserves `PICTURE_LIMIT` bytes of capacity. Returns `Err` if that fails. Then the contents of `out` are
 /// unchanged.

@@ -51,7 +51,7 @@ fn vectors() {
         }
         count += 1;
     }
-    assert!(count >= 147);
+    assert!(count >= 162);
 }
 
 #[test]

@@ -186,15 +186,38 @@ fn shifts_choose_the_set(rt: HostRuntime) {
     holds(&rt, "DECRC", restored_sets_keep_a_shift());
 }
 
-/// A set in G0, bytes, and what they show.
-const CHARTS: [(Set, &[u8], &str); 7] = [
-    (Set::Ascii, b"\xA8\xD7\xDD\xF7\xFD\xA3\xE9", "¤ŒŸœÿ£é"),
-    (Set::Ascii, b"\xA4\xFE", "␦␦"),
-    (Set::Ascii, b"#$", "#$"),
-    (Set::Special, b"_x}", " │£"),
-    (Set::British, b"#$", "£$"),
-    (Set::German, b"@[\\]{|}~", "§ÄÖÜäöüß"),
-    (Set::German, b"$A", "$A"),
+/// All codes 21 to 7E, which have a glyph in each set.
+const CODES: &[u8] =
+    b"!\"#$%&'()*+,-./0123456789:;<=>?@ABCDEFGHIJKLMNOPQRSTUVWXYZ[\\]^_`abcdefghijklmnopqrstuvwxyz{|}~";
+
+/// A set in G0, and what it shows for all codes, by the charts of EK-VT220-RM, chapter 2.
+const CHARTS: [(Set, &str); 5] = [
+    (
+        Set::Ascii,
+        "!\"#$%&'()*+,-./0123456789:;<=>?@ABCDEFGHIJKLMNOPQRSTUVWXYZ[\\]^_`abcdefghijklmnopqrstuvwxyz{|}~",
+    ),
+    (
+        Set::British,
+        "!\"£$%&'()*+,-./0123456789:;<=>?@ABCDEFGHIJKLMNOPQRSTUVWXYZ[\\]^_`abcdefghijklmnopqrstuvwxyz{|}~",
+    ),
+    (
+        Set::German,
+        "!\"#$%&'()*+,-./0123456789:;<=>?§ABCDEFGHIJKLMNOPQRSTUVWXYZÄÖÜ^_`abcdefghijklmnopqrstuvwxyzäöüß",
+    ),
+    (
+        Set::Special,
+        "!\"#$%&'()*+,-./0123456789:;<=>?@ABCDEFGHIJKLMNOPQRSTUVWXYZ[\\]^ ◆▒␉␌␍␊°±␤␋┘┐┌└┼⎺⎻─⎼⎽├┤┴┬│≤≥π≠£·",
+    ),
+    (
+        Set::Supplemental,
+        "¡¢£␦¥␦§¤©ª«␦␦␦␦°±²³␦µ¶·␦¹º»¼½␦¿ÀÁÂÃÄÅÆÇÈÉÊËÌÍÎÏ␦ÑÒÓÔÕÖŒØÙÚÛÜŸ␦ßàáâãäåæçèéêëìíîï␦ñòóôõöœøùúûüÿ␦",
+    ),
+];
+
+/// Bytes of the right half at power-up, and what they show.
+const RIGHT: [(&[u8], &str); 2] = [
+    (b"\xA8\xD7\xDD\xF7\xFD\xA3\xE9", "¤ŒŸœÿ£é"),
+    (b"\xA4\xFE", "␦␦"),
 ];
 
 /// German in the right half.
@@ -207,8 +230,11 @@ fn right_half_shows_german() -> bool {
 
 #[test]
 fn sets_show_their_charts(rt: HostRuntime) {
-    for (set, bytes, text) in &CHARTS {
-        holds(&rt, text, set_shows(*set, bytes, text));
+    for (set, text) in &CHARTS {
+        holds(&rt, text, set_shows(*set, CODES, text));
+    }
+    for (bytes, text) in &RIGHT {
+        holds(&rt, text, set_shows(Set::Ascii, bytes, text));
     }
     holds(&rt, "GR", right_half_shows_german());
 }

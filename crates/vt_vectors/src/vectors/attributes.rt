@@ -2,7 +2,7 @@
 use super::Row;
 use super::parts::joined;
 
-pub(super) const ROWS: [Row; 6] = [
+pub(super) const ROWS: [Row; 13] = [
     Row {
         name: "attributes: a 17th parameter is dropped",
         input: b"\x1b[0;0;0;0;0;0;0;0;0;0;0;0;0;0;0;0;7mX",
@@ -46,5 +46,68 @@ pub(super) const ROWS: [Row; 6] = [
         text: joined!(EMPTY 24),
         reports: b"",
         repaint: Some(joined!("\x1bc\x1b[1;1H" REVERSE SETS)),
+    },
+    Row {
+        name: "attributes: 1 sets bold",
+        input: b"\x1b[1mA",
+        text: joined!("A\n" EMPTY 23),
+        reports: b"",
+        repaint: Some(joined!(
+            "\x1bc" HEAD "\x1b[1;1H\x1b[0;1m\x1b[0\"qA\x1b[1;2H\x1b[0;1m\x1b[0\"q" SETS
+        )),
+    },
+    Row {
+        name: "attributes: 4 sets underline",
+        input: b"\x1b[4mA",
+        text: joined!("A\n" EMPTY 23),
+        reports: b"",
+        repaint: Some(joined!(
+            "\x1bc" HEAD "\x1b[1;1H\x1b[0;4m\x1b[0\"qA\x1b[1;2H\x1b[0;4m\x1b[0\"q" SETS
+        )),
+    },
+    Row {
+        name: "attributes: 5 sets blink",
+        input: b"\x1b[5mA",
+        text: joined!("A\n" EMPTY 23),
+        reports: b"",
+        repaint: Some(joined!(
+            "\x1bc" HEAD "\x1b[1;1H\x1b[0;5m\x1b[0\"qA\x1b[1;2H\x1b[0;5m\x1b[0\"q" SETS
+        )),
+    },
+    Row {
+        name: "attributes: 22 resets bold alone",
+        input: b"\x1b[1;4;5;7m\x1b[22mA",
+        text: joined!("A\n" EMPTY 23),
+        reports: b"",
+        repaint: Some(joined!(
+            "\x1bc" HEAD "\x1b[1;1H\x1b[0;4;5;7m\x1b[0\"qA\x1b[1;2H\x1b[0;4;5;7m\x1b[0\"q" SETS
+        )),
+    },
+    Row {
+        name: "attributes: 24 resets underline alone",
+        input: b"\x1b[1;4;5;7m\x1b[24mA",
+        text: joined!("A\n" EMPTY 23),
+        reports: b"",
+        repaint: Some(joined!(
+            "\x1bc" HEAD "\x1b[1;1H\x1b[0;1;5;7m\x1b[0\"qA\x1b[1;2H\x1b[0;1;5;7m\x1b[0\"q" SETS
+        )),
+    },
+    Row {
+        name: "attributes: 25 resets blink alone",
+        input: b"\x1b[1;4;5;7m\x1b[25mA",
+        text: joined!("A\n" EMPTY 23),
+        reports: b"",
+        repaint: Some(joined!(
+            "\x1bc" HEAD "\x1b[1;1H\x1b[0;1;4;7m\x1b[0\"qA\x1b[1;2H\x1b[0;1;4;7m\x1b[0\"q" SETS
+        )),
+    },
+    Row {
+        name: "attributes: 27 resets reverse alone",
+        input: b"\x1b[1;4;5;7m\x1b[27mA",
+        text: joined!("A\n" EMPTY 23),
+        reports: b"",
+        repaint: Some(joined!(
+            "\x1bc" HEAD "\x1b[1;1H\x1b[0;1;4;5m\x1b[0\"qA\x1b[1;2H\x1b[0;1;4;5m\x1b[0\"q" SETS
+        )),
     },
 ];

@@ -2,7 +2,7 @@
 use super::Row;
 use super::parts::joined;
 
-pub(super) const ROWS: [Row; 16] = [
+pub(super) const ROWS: [Row; 22] = [
     Row {
         name: "cursor: under origin mode the cursor stays inside the margins, and its report counts from them",
         input: b"\x1b[5;10r\x1b[?6h\x1b[99;99H\x1b[6n",
@@ -139,5 +139,49 @@ pub(super) const ROWS: [Row; 16] = [
         text: joined!(EMPTY 24),
         reports: b"",
         repaint: Some(joined!("\x1bc\x1b[7;3H" PLAIN SETS "\x1b[?7l")),
+    },
+    Row {
+        name: "cursor: up from the top margin: stays",
+        input: b"\x1b[5;10r\x1b[5;1H\x1b[AX",
+        text: joined!("\n\n\n\nX" EMPTY 20),
+        reports: b"",
+        repaint: Some(joined!("\x1bc" HEAD "\x1b[5;1H" PLAIN "X\x1b[5;10r\x1b[5;2H" PLAIN SETS)),
+    },
+    Row {
+        name: "cursor: down from the bottom margin: stays",
+        input: b"\x1b[5;10r\x1b[10;1H\x1b[BX",
+        text: joined!("\n\n\n\n\n\n\n\n\nX\n\n\n\n\n\n\n\n\n\n\n\n\n\n\n"),
+        reports: b"",
+        repaint: Some(joined!("\x1bc" HEAD "\x1b[10;1H" PLAIN "X\x1b[5;10r\x1b[10;2H" PLAIN SETS)),
+    },
+    Row {
+        name: "cursor: up from below the margins: to the top margin",
+        input: b"\x1b[5;10r\x1b[12;1H\x1b[99AX",
+        text: joined!("\n\n\n\nX" EMPTY 20),
+        reports: b"",
+        repaint: Some(joined!("\x1bc" HEAD "\x1b[5;1H" PLAIN "X\x1b[5;10r\x1b[5;2H" PLAIN SETS)),
+    },
+    Row {
+        name: "cursor: down from above the margins: to the bottom margin",
+        input: b"\x1b[5;10r\x1b[3;1H\x1b[99BX",
+        text: joined!("\n\n\n\n\n\n\n\n\nX\n\n\n\n\n\n\n\n\n\n\n\n\n\n\n"),
+        reports: b"",
+        repaint: Some(joined!("\x1bc" HEAD "\x1b[10;1H" PLAIN "X\x1b[5;10r\x1b[10;2H" PLAIN SETS)),
+    },
+    Row {
+        name: "cursor: up from the row under the bottom margin, by one: into the margins",
+        input: b"\x1b[5;10r\x1b[11;1H\x1b[AX",
+        text: joined!("\n\n\n\n\n\n\n\n\nX\n\n\n\n\n\n\n\n\n\n\n\n\n\n\n"),
+        reports: b"",
+        repaint: Some(joined!("\x1bc" HEAD "\x1b[10;1H" PLAIN "X\x1b[5;10r\x1b[10;2H" PLAIN SETS)),
+    },
+    Row {
+        name: "cursor: a tab resets the wrap flag",
+        input: b"xxxxxxxxxxxxxxxxxxxxxxxxxxxxxxxxxxxxxxxxxxxxxxxxxxxxxxxxxxxxxxxxxxxxxxxxxxxxxxxx\tY",
+        text: joined!(X_78 "xY\n" EMPTY 23),
+        reports: b"",
+        repaint: Some(joined!(
+            "\x1bc" HEAD "\x1b[1;1H" PLAIN X_78 "xY\x1b[1;80H" PLAIN "Y" PLAIN SETS
+        )),
     },
 ];

@@ -2,7 +2,7 @@
 use super::Row;
 use super::parts::joined;
 
-pub(super) const ROWS: [Row; 14] = [
+pub(super) const ROWS: [Row; 16] = [
     Row {
         name: "editing: a cell is erased",
         input: b"ABC\x1b[1;2H\x1b[X",
@@ -124,5 +124,23 @@ pub(super) const ROWS: [Row; 14] = [
         repaint: Some(
             joined!("\x1bc" HEAD "\x1b[1;1H" PLAIN X_80 "\x1b[2;3r\x1b[1;80H" PLAIN SETS),
         ),
+    },
+    Row {
+        name: "editing: a line is inserted: the cursor goes to column 1",
+        input: b"A\x1b[2;5H\x1b[LX",
+        text: joined!("A\nX\n" EMPTY 22),
+        reports: b"",
+        repaint: Some(joined!(
+            "\x1bc" HEAD "\x1b[1;1H" PLAIN "A\x1b[2;1H" PLAIN "X\x1b[2;2H" PLAIN SETS
+        )),
+    },
+    Row {
+        name: "editing: a line is deleted: the cursor goes to column 1",
+        input: b"A\x1b[2;5H\x1b[MX",
+        text: joined!("A\nX\n" EMPTY 22),
+        reports: b"",
+        repaint: Some(joined!(
+            "\x1bc" HEAD "\x1b[1;1H" PLAIN "A\x1b[2;1H" PLAIN "X\x1b[2;2H" PLAIN SETS
+        )),
     },
 ];

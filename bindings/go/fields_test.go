@@ -1,0 +1,164 @@
+package vt220
+
+import (
+	"fmt"
+	"os"
+	"runtime"
+	"strconv"
+	"strings"
+	"testing"
+	"time"
+)
+
+// fieldsOf returns what each reader returns, by the names of tests-c/fields.txt.
+func fieldsOf(t *Terminal) map[string]int {
+	is := func(set bool) int {
+		if set {
+			return 1
+		}
+		return 0
+	}
+	found := map[string]int{"width": t.Width(), "bells": int(t.Bells()), "held": int(t.Held())}
+	attributes := func(of string, b Brush) {
+		found[of+".bold"], found[of+".underline"], found[of+".blink"] = is(b.Bold), is(b.Underline), is(b.Blink)
+		found[of+".reverse"], found[of+".is_protected"] = is(b.Reverse), is(b.IsProtected)
+	}
+	place := func(of string, c Cursor) {
+		found[of+".row"], found[of+".col"], found[of+".wrap"] = c.Row, c.Col, is(c.Wrap)
+	}
+	sets := func(of string, g [4]byte, gl, gr int) {
+		for i, final := range g {
+			found[fmt.Sprintf("%s.g%d", of, i)] = int(final)
+		}
+		found[of+".gl"], found[of+".gr"] = gl, gr
+	}
+	place("cursor", t.Cursor())
+	margins := t.Margins()
+	found["margins.top"], found["margins.bottom"] = margins.Top, margins.Bottom
+	m := t.Modes()
+	found["modes.kam"], found["modes.irm"], found["modes.srm"], found["modes.lnm"] = is(m.KAM), is(m.IRM), is(m.SRM), is(m.LNM)
+	found["modes.decckm"], found["modes.decsclm"], found["modes.decscnm"] = is(m.DECCKM), is(m.DECSCLM), is(m.DECSCNM)
+	found["modes.decom"], found["modes.decawm"], found["modes.decarm"] = is(m.DECOM), is(m.DECAWM), is(m.DECARM)
+	found["modes.dectcem"], found["modes.keypad_application"] = is(m.DECTCEM), is(m.KeypadApplication)
+	found["modes.reports_8bit"] = is(m.Reports8Bit)
+	c := t.Row(1)[0]
+	found["cell.glyph"] = int(c.Glyph)
+	attributes("cell", Brush{c.Bold, c.Underline, c.Blink, c.Reverse, c.IsProtected})
+	attributes("brush", t.Brush())
+	s := t.Sets()
+	sets("sets", s.G, s.GL, s.GR)
+	found["sets.single_shift"] = s.SingleShift
+	r := t.Saved()
+	place("saved", r.Cursor)
+	found["saved.origin"] = is(r.Origin)
+	attributes("saved", r.Brush)
+	sets("saved", r.G, r.GL, r.GR)
+	for i, isSet := range t.Stops() {
+		found[fmt.Sprintf("stop.%d", i+1)] = is(isSet)
+	}
+	return found
+}
+
+// Each row of the file that VT220_FIELDS names. Without it, this repository's file is read.
+func TestFields(t *testing.T) {
+	path := os.Getenv("VT220_FIELDS")
+	if path == "" {
+		path = "../../tests-c/fields.txt"
+	}
+	file, err := os.ReadFile(path)
+	if err != nil {
+		t.Skip("no rows: VT220_FIELDS names their file")
+	}
+	atPowerUp := map[string]int{}
+	for column := 1; column <= Columns; column++ {
+		atPowerUp[fmt.Sprintf("stop.%d", column)] = 0
+	}
+	count := 0
+	for _, line := range strings.Split(strings.TrimSuffix(string(file), "\n"), "\n") {
+		if line[0] == '#' {
+			continue
+		}
+		fields := strings.Split(line, "\t")
+		wanted := map[string]int{}
+		for name, value := range atPowerUp {
+			wanted[name] = value
+		}
+		for _, field := range fields[2:] {
+			name, value, _ := strings.Cut(field, "=")
+			if wanted[name], err = strconv.Atoi(value); err != nil {
+				t.Fatal(err)
+			}
+		}
+		if count == 0 {
+			atPowerUp = wanted
+		}
+		terminal := open(t, string(unhex(t, strings.ReplaceAll(fields[1], " ", ""))))
+		found := fieldsOf(terminal)
+		for name := range wanted {
+			if value, has := found[name]; !has || value != wanted[name] {
+				t.Errorf("%s: %s is %d, and not %d", fields[0], name, value, wanted[name])
+			}
+		}
+		if len(found) != len(wanted) {
+			t.Errorf("%s: %d fields, and not %d", fields[0], len(found), len(wanted))
+		}
+		terminal.Close()
+		count++
+	}
+	if count < 50 {
+		t.Errorf("%d rows", count)
+	}
+}
+
+// resident returns how many bytes of memory the process has.
+func resident(t *testing.T) int {
+	statm, err := os.ReadFile("/proc/self/statm")
+	if err != nil {
+		t.Skip("no /proc")
+	}
+	pages, err := strconv.Atoi(strings.Fields(string(statm))[1])
+	if err != nil {
+		t.Fatal(err)
+	}
+	return pages * os.Getpagesize()
+}
+
+// collect waits until the finalizers of what nothing refers to have run.
+func collect(t *testing.T) {
+	done := make(chan bool)
+	runtime.SetFinalizer(new([16]byte), func(*[16]byte) { close(done) })
+	for tries := 0; ; tries++ {
+		runtime.GC()
+		select {
+		case <-done:
+			return
+		case <-time.After(100 * time.Millisecond):
+			if tries == 600 {
+				t.Fatal("no finalizer runs")
+			}
+		}
+	}
+}
+
+// Terminals and scratch buffers that are dropped without Close give back their memory: without that, these take 300 MB and 200 MB.
+func TestDropped(t *testing.T) {
+	const limit = 100 << 20
+	for name, drop := range map[string]func(){
+		"terminals":       func() { open(t, "x") },
+		"scratch buffers": func() { scratch(t) },
+	} {
+		collect(t)
+		before := resident(t)
+		batches := map[string]int{"terminals": 100, "scratch buffers": 100}[name]
+		size := map[string]int{"terminals": 100, "scratch buffers": 3}[name]
+		for i := 0; i < batches; i++ {
+			for j := 0; j < size; j++ {
+				drop()
+			}
+			collect(t)
+		}
+		if grown := resident(t) - before; grown > limit {
+			t.Errorf("%s: %d bytes more", name, grown)
+		}
+	}
+}

@@ -1,0 +1,118 @@
+//! The readers through Rust: VT220_FIELDS names the file of rows. Without it, this repository's file is read.
+use std::collections::BTreeMap;
+use std::{env, fs};
+use vt220::{Brush, Cursor, Held, Terminal, COLUMNS};
+
+type Fields = BTreeMap<String, u32>;
+
+fn put(fields: &mut Fields, of: &str, name: &str, value: impl Into<u32>) {
+    fields.insert(format!("{of}.{name}"), value.into());
+}
+
+fn put_brush(fields: &mut Fields, of: &str, brush: &Brush) {
+    put(fields, of, "bold", brush.bold);
+    put(fields, of, "underline", brush.underline);
+    put(fields, of, "blink", brush.blink);
+    put(fields, of, "reverse", brush.reverse);
+    put(fields, of, "is_protected", brush.is_protected);
+}
+
+fn put_cursor(fields: &mut Fields, of: &str, cursor: &Cursor) {
+    put(fields, of, "row", cursor.row as u32);
+    put(fields, of, "col", cursor.col as u32);
+    put(fields, of, "wrap", cursor.wrap);
+}
+
+fn put_sets(fields: &mut Fields, of: &str, g: &[u8; 4], gl: u8, gr: u8) {
+    for (i, set) in g.iter().enumerate() {
+        put(fields, of, &format!("g{i}"), *set);
+    }
+    put(fields, of, "gl", gl);
+    put(fields, of, "gr", gr);
+}
+
+fn put_modes(fields: &mut Fields, terminal: &Terminal) {
+    let modes = terminal.modes();
+    let all = [
+        ("kam", modes.kam),
+        ("irm", modes.irm),
+        ("srm", modes.srm),
+        ("lnm", modes.lnm),
+        ("decckm", modes.decckm),
+        ("decsclm", modes.decsclm),
+        ("decscnm", modes.decscnm),
+        ("decom", modes.decom),
+        ("decawm", modes.decawm),
+        ("decarm", modes.decarm),
+        ("dectcem", modes.dectcem),
+        ("keypad_application", modes.keypad_application),
+        ("reports_8bit", modes.reports_8bit),
+    ];
+    for (name, is_set) in all {
+        put(fields, "modes", name, is_set);
+    }
+}
+
+/// Returns what each reader returns, by the names of tests-c/fields.txt.
+fn fields_of(terminal: &Terminal) -> Fields {
+    let mut fields = Fields::new();
+    fields.insert("width".to_string(), terminal.width() as u32);
+    fields.insert("bells".to_string(), terminal.bells() as u32);
+    let held = match terminal.held() {
+        Held::Nothing => 0,
+        Held::Escape => 1,
+        Held::Control => 2,
+        Held::String => 3,
+    };
+    fields.insert("held".to_string(), held);
+    put_cursor(&mut fields, "cursor", &terminal.cursor());
+    put(&mut fields, "margins", "top", terminal.margins().top as u32);
+    put(&mut fields, "margins", "bottom", terminal.margins().bottom as u32);
+    put_modes(&mut fields, terminal);
+    let cell = &terminal.row(1).unwrap()[0];
+    put(&mut fields, "cell", "glyph", cell.glyph);
+    put_brush(&mut fields, "cell", &cell.brush);
+    put_brush(&mut fields, "brush", &terminal.brush());
+    let sets = terminal.sets();
+    put_sets(&mut fields, "sets", &sets.g, sets.gl, sets.gr);
+    put(&mut fields, "sets", "single_shift", sets.single_shift.unwrap_or(0));
+    let saved = terminal.saved();
+    put_cursor(&mut fields, "saved", &saved.cursor);
+    put(&mut fields, "saved", "origin", saved.origin);
+    put_brush(&mut fields, "saved", &saved.brush);
+    put_sets(&mut fields, "saved", &saved.g, saved.gl, saved.gr);
+    for (i, is_set) in terminal.stops().iter().enumerate() {
+        put(&mut fields, "stop", &format!("{}", i + 1), *is_set);
+    }
+    fields
+}
+
+#[test]
+fn rows() {
+    // What is packed has no rows beside it.
+    let here = concat!(env!("CARGO_MANIFEST_DIR"), "/../../../tests-c/fields.txt");
+    let path = env::var("VT220_FIELDS").unwrap_or_else(|_| here.to_string());
+    let all = match fs::read_to_string(path) {
+        Ok(all) => all,
+        Err(_) => return,
+    };
+    let mut at_power_up: Fields = (1..=COLUMNS).map(|column| (format!("stop.{column}"), 0)).collect();
+    let mut count = 0;
+    for line in all.lines().filter(|line| !line.starts_with('#')) {
+        let columns: Vec<&str> = line.split('\t').collect();
+        let input: Vec<u8> = columns[1].split_whitespace().map(|byte| u8::from_str_radix(byte, 16).unwrap()).collect();
+        let mut wanted = at_power_up.clone();
+        for field in &columns[2..] {
+            let (name, value) = field.split_once('=').unwrap();
+            wanted.insert(name.to_string(), value.parse().unwrap());
+        }
+        if count == 0 {
+            at_power_up = wanted.clone();
+        }
+        let mut terminal = Terminal::new().unwrap();
+        terminal.feed(&input);
+        assert_eq!(fields_of(&terminal), wanted, "{}", columns[0]);
+        count += 1;
+    }
+    assert!(count >= 50);
+}

@@ -1,0 +1,122 @@
+"""The store's scripts one by one, each at the edge of what it promises, and checkpoints of which each byte counts."""
+from harness import Source, check, compare, keys, played, until, worker
+from fleet import claims
+
+TRIES = claims.TRIES
+
+
+def bury_spares_a_worker_that_lives(url, _):
+    """A worker's count moves between the look at it and its burial."""
+    name, source = "bury", Source(url, "bury")
+    store = source.store
+    store.run("enter", "a")
+    check(store.run("take", "a", 16, TRIES)[2:] == [source.incarnation.encode()], name, "a worker has a session")
+    seen = store.hget(keys.WORKERS, "a")
+    store.run("beat", "a")
+    check(store.run("bury", "a", seen, 500) == -1, name, "the one who looked before is told that it lives")
+    check(store.smembers(keys.of("a")) == {source.incarnation.encode()}, name, "it keeps its session")
+    check(store.hexists(keys.WORKERS, "a") and store.zcard(keys.WAITING) == 0, name, "and its name")
+    check(store.run("bury", "a", store.hget(keys.WORKERS, "a"), 500) == 0, name, "with the count of now it is buried")
+    check(store.zcard(keys.WAITING) == 1 and not store.smembers(keys.of("a")), name, "and its session waits")
+
+
+def finish_leaves_the_name_of_another(url, _):
+    """A host whose lease ran out ends while another has its name."""
+    name, source = "finish", Source(url, "finish")
+    store, lease = source.store, "fleet:lease:finish"
+    check(store.get(lease) == source.incarnation.encode(), name, "it has the name")
+    store.set(lease, "another")
+    ending = ("finish", source.name, source.incarnation, 0, 0, keys.version())
+    check(store.run(*ending)[0] == "ok", name, "it ends")
+    check(store.get(lease) == b"another", name, "the other still has the name")
+    store.set(lease, source.incarnation)
+    check(store.run(*ending)[0] == "ok", name, "it ends once more, as after an outage")
+    check(store.get(lease) is None, name, "and frees the name that is its own")
+
+
+def tell_keeps_what_it_is_to_keep(url, _):
+    """The bytes before a checkpoint are dropped, but the last `keep` of them."""
+    name, piece, keep = "tell", 100, 1000
+    one, source = worker(url, every=500, keep=keep), Source(url, "tell")
+    source.send(b"0123456789" * 500, piece=piece)
+    until(lambda: any(each.at == source.host.at for each in one.kept.values()) and source.store.exists(source.part("checkpoint")), one)
+    at = int(source.store.hget(source.part("checkpoint"), "at"))
+    first = int(source.store.xrange(source.part("bytes"), count=1)[0][0].split(b"-")[0])
+    check(at > 2 * keep, name, f"a checkpoint at {at}")
+    check(at - keep <= first <= at - keep + piece, name, f"the first entry that is kept ends at {first}")
+
+
+def take_gives_up_after_so_many(url, _):
+    """The last worker that may die of a session gets it, and the next one doesn't."""
+    name, source = "take", Source(url, "take").send(b"x")
+    store = source.store
+    for number in range(1, TRIES + 2):
+        one = f"doomed-{number}"
+        store.run("enter", one)
+        taken = store.run("take", one, 16, TRIES)[2:]
+        check((taken == [source.incarnation.encode()]) == (number <= TRIES), name, f"worker {number} of {TRIES}")
+        check(source.fault().startswith("Poison") == (number > TRIES), name, f"a fault after worker {number}")
+        store.run("bury", one, store.hget(keys.WORKERS, one), 500)
+
+
+class Clock:
+    """Stands for the module `time`: its time passes when the test says so."""
+
+    now = 1000.0
+
+    def monotonic(self):
+        return self.now
+
+
+def a_pause_forgets_what_was_seen(url, _):
+    """A worker that was stopped for a lease can't know who lives: it buries nobody by what it saw before."""
+    name, source, clock = "beat", Source(url, "beat"), Clock()
+    real, claims.time = claims.time, clock
+    try:
+        one = claims.Claims(source.store, 1.0)
+        source.store.run("enter", "still")
+        buried = []
+        one.bury = lambda other, count: buried.append(other)
+        for _ in range(4):
+            one.beat(0)
+            clock.now += 0.2
+        clock.now += 10.0
+        one.beat(0)
+        check(buried == [], name, "nobody is buried at once after a pause")
+        for _ in range(8):
+            clock.now += 0.2
+            one.beat(0)
+        check(set(buried) == {"still"}, name, "a count that then stands still for a lease is")
+    finally:
+        claims.time = real
+
+
+def each_byte_of_a_checkpoint_counts(url, _):
+    """Every byte of the session is still on its screen at the end: one that is played twice, or left out, shows."""
+    name, one = "each byte", worker(url, every=100)
+    data = b"".join(b"%03d" % number for number in range(600))  # 1800 of 1920 cells
+    half, source = 907, Source(url, "each byte")
+    source.send(data[:half], piece=64)
+    until(lambda: any(each.at == half for each in one.kept.values()), one)
+    stored = source.store.hgetall(source.part("checkpoint"))
+    at = int(stored[b"at"])
+    check(half - 200 <= at <= half, name, f"a checkpoint at {at}")
+    check(stored[b"repaint"] == played(data[:at])[0].repaint(), name, "it is the screen at its position")
+    one.claims.leave()
+    other = worker(url, every=100)
+    until(lambda: other.kept, other)
+    source.send(data[half:]).end(0)
+    check(until(source.is_ended, other), name, "another worker ends it")
+    source.receive()
+    compare(source, name)
+    check(source.store.hget(source.part("ended"), "text").decode() == played(data)[0].text(), name, "its text")
+
+
+CASES = [
+    bury_spares_a_worker_that_lives,
+    finish_leaves_the_name_of_another,
+    tell_keeps_what_it_is_to_keep,
+    take_gives_up_after_so_many,
+    a_pause_forgets_what_was_seen,
+    each_byte_of_a_checkpoint_counts,
+]

@@ -177,16 +177,16 @@ static int control_of(char key) {
     case '5': return 0x1D;
     case '6':
     case '~': return 0x1E;
-    case '7': return 0x1F;
-    case '8':
-    case '?': return 0x7F;
+    case '7':
+    case '?': return 0x1F;
+    case '8': return 0x7F;
     default: return -1;
     }
 }
 
-/* Returns what C-X or ^X sends, or -1 if the text is neither. */
+/* Returns what C-X or ^X sends, or -1 if the text is neither. In caret notation ^? is DEL, which the key ? with Ctrl doesn't send. */
 static int control_named(const char *text, size_t len) {
-    if (len == 2 && text[0] == '^') return control_of(text[1]);
+    if (len == 2 && text[0] == '^') return text[1] == '?' ? 0x7F : control_of(text[1]);
     if (len == 3 && upper(text[0]) == 'C' && text[1] == '-') return control_of(text[2]);
     return -1;
 }

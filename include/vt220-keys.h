@@ -48,7 +48,8 @@
  *      F17 to F20                  CSI 31 ~, CSI 32 ~, CSI 33 ~, CSI 34 ~
  *
  *    Ctrl and the key X: C-X, or ^X. X is a letter (01 to 1A) or one of these:
- *      @ 2 and the space (00), [ 3 (1B), \ 4 (1C), ] 5 (1D), ^ 6 ~ (1E), _ 7 (1F), ? 8 (7F)
+ *      @ 2 and the space (00), [ 3 (1B), \ 4 (1C), ] 5 (1D), ^ 6 ~ (1E), _ 7 ? (1F), 8 (7F)
+ *    As an exception ^? is 7F: it is the usual notation of DEL.
  *
  *    CSI is ESC [ and SS3 is ESC O. If S8C1T is set, CSI is the byte 9B and SS3 is the byte 8F. The keys F1 to F5 of a VT220 send
  *    nothing: they are local.

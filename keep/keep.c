@@ -1,5 +1,5 @@
 /* vt220-keep: keeps programs running in the background, each on an emulated VT220.
- *   ./build-c && gcc -O2 -Iinclude -o out/vt220-keep keep/[a-z]*.c out/libvt220.a */
+ *   make keeper */
 #include "keep.h"
 #include <errno.h>
 #include <fcntl.h>

@@ -2,7 +2,7 @@
 
 package vt220
 
-// The library that ./build-c builds into out/ of this repository.
+// The library that make lib builds into out/ of this repository.
 
 // #cgo CFLAGS: -I${SRCDIR}/../../include
 // #cgo LDFLAGS: ${SRCDIR}/../../out/libvt220.a

@@ -31,7 +31,7 @@ class NoSource(sdist):
     """Refuses: a source distribution would be without the library, whose build needs the whole repository."""
 
     def run(self):
-        raise BaseError("vt220 has no source distribution, since its library is built in the repository: run ./build-c there, "
+        raise BaseError("vt220 has no source distribution, since its library is built in the repository: run make lib there, "
                         "copy out/libvt220.so to bindings/python/vt220/, and build a wheel (python3 -m build --wheel)")
 
 

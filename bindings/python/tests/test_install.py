@@ -82,8 +82,7 @@ def repository(tmp_path):
     shutil.copy(HEADER, directory / "include")
     (directory / "out").mkdir()
     shutil.copy(vt220._find(), directory / "out" / "libvt220.so")
-    (directory / "build-c").write_text("#!/bin/sh\n# The gate has built it.\n")
-    (directory / "build-c").chmod(0o755)
+    (directory / "Makefile").write_text("lib:\n# The gate has built it.\n")
     return directory
 
 

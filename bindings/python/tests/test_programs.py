@@ -1,9 +1,6 @@
 """Tests real programs, and that each test fails with a picture when any one of its keys is left out."""
 import concurrent.futures
-import os
 import pathlib
-import subprocess
-import sys
 
 import pytest
 from programs import PROGRAMS, SCREENS, Forgetful
@@ -56,10 +53,3 @@ def test_each_key_that_is_left_out_is_a_failure_with_a_picture(tmp_path, name):
         rig, fault = done.result()
         assert fault is not None, f"key {number} isn't missed"
         assert shown_by(fault, tmp_path / str(number), rig), fault
-
-
-def test_many_runs_under_load():
-    """Runs the script that runs each program's test many times, with a small count."""
-    words = [sys.executable, str(pathlib.Path(__file__).parent / "many"), "2", "--busy", "1"]
-    done = subprocess.run(words, capture_output=True, text=True, env={**os.environ, "PYTHONPATH": str(pathlib.Path(vt220.__file__).parents[1])})
-    assert done.returncode == 0 and done.stdout.endswith(f"{2 * len(PROGRAMS)} passed, 0 failed\n"), done.stdout + done.stderr

@@ -112,7 +112,7 @@ class NoCharacter(Error, ValueError):
 class NoLibrary(Error, ImportError):
     """Reports that libvt220.so isn't found, can't be loaded, or is of another version."""
 
-    words = "libvt220.so isn't found: name it in VT220_LIBRARY, copy it into the package, or build it with ./build-c"
+    words = "libvt220.so isn't found: name it in VT220_LIBRARY, copy it into the package, or build it with make lib"
 
 
 _STATUSES: Dict[int, Type[Error]] = {

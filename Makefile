@@ -1,0 +1,88 @@
+# Builds and installs. crates.txt is the graph of the crates. The toolchain proves what isn't proved before it builds.
+#
+#   make              the program, the library for C and the session keeper
+#   make program      crates/vt220/out/vt220, which ./vt220 runs
+#   make lib          the library for C in out/: libvt220.a, libvt220.so and vt220.pc, with its headers
+#   make keeper       out/vt220-keep
+#   make install      installs these under PREFIX with their manual pages and completions, and prints each file
+#   make uninstall    removes it, and the directories that are then empty
+#   make crates OF=.. prints the crates of this repository that some crates depend on, and themselves, lowest first
+#   make version      prints the version
+#   make help         prints this text
+#
+# Variables: PREFIX (/usr/local) and LIBDIR (PREFIX/lib), absolute paths; DESTDIR, which is put before each path; CC (gcc), CFLAGS (-O2)
+# and LDFLAGS for the files in C; OUT (out), the directory of the library and the keeper.
+MAKEFLAGS += --no-builtin-rules
+SHELL := bash
+.SHELLFLAGS := -eu -o pipefail -c
+.DELETE_ON_ERROR:
+.SECONDEXPANSION:
+
+PREFIX ?= /usr/local
+LIBDIR ?= $(PREFIX)/lib
+OUT ?= out
+CFLAGS ?= -O2
+ifeq ($(origin CC),default)
+CC := gcc
+endif
+VERSION := $(shell awk '$$2 == "VT220_VERSION" { printf "%d.%d.%d", $$3 / 10000, $$3 / 100 % 100, $$3 % 100 }' include/vt220.h)
+SONAME := libvt220.so.$(firstword $(subst ., ,$(VERSION)))
+HEADERS := include/vt220.h include/vt220-keys.h
+
+# crates.txt: CRATES, lowest first, and deps_NAME of each.
+comma := ,
+space := $(subst ,, )
+CRATES := $(foreach line,$(shell sed -n 's/ staticlib//; s/^\([a-z0-9_]*\): */\1:=/; /:=/ { s/  */,/g; p }' crates.txt),$(firstword $(subst :=, ,$(line)))$(eval deps_$(subst $(comma),$(space),$(line))))
+# The crates that a crate depends on, with itself; and their sources, with the directories, in which files are added and deleted.
+below = $(1) $(foreach dep,$(filter $(CRATES),$(deps_$(1))),$(call below,$(dep)))
+chain = $(filter $(foreach crate,$(1),$(call below,$(crate))),$(CRATES))
+sources = crates.txt $(shell find $(addprefix crates/,$(call chain,$(1))) -mindepth 1 -name out -prune -o -print)
+
+PROGRAM := crates/vt220/out/vt220
+ARCHIVE := crates/vt220_c/out/libvt220_c.a
+
+.PHONY: everything program lib keeper install uninstall crates version help
+everything: program lib keeper
+program: $(PROGRAM)
+lib: $(OUT)/libvt220.a $(OUT)/libvt220.so $(OUT)/vt220.pc $(addprefix $(OUT)/,$(notdir $(HEADERS)))
+keeper: $(OUT)/vt220-keep
+
+# The time of what the toolchain builds is that of the beginning. So a source that changes meanwhile is newer.
+$(PROGRAM): $$(call sources,vt220)
+	@begun=$$(mktemp); trap 'rm -f "$$begun"' EXIT; tools/prove vt220 rt run -- --help >&2; touch -r "$$begun" $@
+$(ARCHIVE): $$(call sources,vt220_c)
+	@begun=$$(mktemp); trap 'rm -f "$$begun"' EXIT; DEPS='$(filter $(CRATES),$(deps_vt220_c))' tools/archive $(filter-out vt220_c,$(call chain,vt220_c)); touch -r "$$begun" $@
+
+# One object, in which only the library's own calls are global: two such libraries then link into one program.
+$(OUT)/objects/%.o: c/%.c $(HEADERS)
+	@mkdir -p $(@D)
+	$(CC) -std=c11 $(CFLAGS) -fPIC -fasynchronous-unwind-tables -Iinclude -c -o $@ $<
+$(OUT)/vt220.o: $(OUT)/objects/vt220.o $(OUT)/objects/vt220-keys.o $(ARCHIVE)
+	@tools/link-object $@ $^
+$(OUT)/libvt220.a: $(OUT)/vt220.o
+	@rm -f $@
+	ar rcsD $@ $<
+$(OUT)/libvt220.so: $(OUT)/vt220.o packaging/libvt220.map
+	@rm -f $@*
+	$(CC) $(CFLAGS) $(LDFLAGS) -shared -Wl,-soname,$(SONAME) -Wl,--version-script=packaging/libvt220.map -Wl,-z,defs,-z,relro,-z,now -o $@.$(VERSION) $<
+	@ln -s libvt220.so.$(VERSION) $(OUT)/$(SONAME)
+	@ln -s $(SONAME) $@
+$(OUT)/vt220.pc: packaging/vt220.pc.in include/vt220.h
+	@sed 's,@PREFIX@,$(PREFIX),; s,@LIBDIR@,$(LIBDIR),; s,@VERSION@,$(VERSION),' $< >$@
+$(OUT)/%.h: include/%.h
+	@cp $< $@
+$(OUT)/vt220-keep: $(wildcard keep/*.[ch]) $(HEADERS) $(OUT)/libvt220.a
+	$(CC) $(CFLAGS) $(LDFLAGS) -Iinclude -o $@ keep/*.c $(OUT)/libvt220.a
+
+INSTALLING = PREFIX='$(PREFIX)' LIBDIR='$(LIBDIR)' DESTDIR='$(DESTDIR)' VERSION=$(VERSION) OUT='$(OUT)' packaging/install
+install: everything
+	@$(INSTALLING)
+uninstall:
+	@$(INSTALLING) --remove
+
+crates:
+	@printf '%s\n' $(call chain,$(OF))
+version:
+	@echo $(VERSION)
+help:
+	@sed -n '/^#/!q; s/^# \{0,1\}//p' Makefile

@@ -1,0 +1,21 @@
+//! Prints the constants of the crates that include/vt220.h repeats, each with the header's name.
+#![tactic(auto)]
+
+use std::io;
+use vt_paint::PAINT_LIMIT;
+use vt_picture::{PICTURE_LIMIT, SHOW_LIMIT};
+use vt_screen::{COLUMNS, ROWS};
+use vt_term::{REPORT_LIMIT, ROW_TEXT_LIMIT, TEXT_LIMIT};
+use vt_update::UPDATE_LIMIT;
+
+fn main(rt: HostRuntime) -> io::Result<()> {
+    println!(rt; "VT220_ROWS {ROWS}")?;
+    println!(rt; "VT220_COLUMNS {COLUMNS}")?;
+    println!(rt; "VT220_REPORT_LIMIT {REPORT_LIMIT}")?;
+    println!(rt; "VT220_ROW_TEXT_LIMIT {ROW_TEXT_LIMIT}")?;
+    println!(rt; "VT220_TEXT_LIMIT {TEXT_LIMIT}")?;
+    println!(rt; "VT220_PAINT_LIMIT {PAINT_LIMIT}")?;
+    println!(rt; "VT220_UPDATE_LIMIT {UPDATE_LIMIT}")?;
+    println!(rt; "VT220_SHOW_LIMIT {SHOW_LIMIT}")?;
+    println!(rt; "VT220_PICTURE_LIMIT {PICTURE_LIMIT}")
+}

@@ -65,7 +65,7 @@ def list_tells_how_sessions_are(machine, data):
     Source(url, "over").end(3)
     check(wait_for(lambda: state(store, "over")["state"] == "ended 3"), name, "one that ended")
     bad = Source(url, "bad\u00e4 <b>&")
-    store.xadd(bad.part("bytes"), {"v": "9.9"}, id="5-0")
+    store.xadd(bad.part("bytes"), {"v": "9"}, id="5-0")
     wait_for(lambda: store.hget(bad.part("about"), "owner") or bad.fault())
     owner = store.hget(bad.part("about"), "owner")
     store.publish(keys.wake(owner.decode() if owner else "nobody"), bad.incarnation)

@@ -236,6 +236,13 @@ def do_prepare(words, settings):
     return 0
 
 
+def do_metrics(words, settings):
+    from .metrics import WholeFleet, server
+
+    server(WholeFleet(settings.connect()), words.address).serve_forever()
+    return 0
+
+
 def do_web(words, settings):
     from .web import serve
 
@@ -307,6 +314,8 @@ def add_operators(add):
     each = add("drain", do_drain, "moves a worker's sessions to other workers, and ends it")
     each.add_argument("--patience", type=seconds, default=10, help="the longest wait, such as 30s (10s)")
     each.add_argument("worker", help="its name, or the beginning of its name")
+    each = add("metrics", do_metrics, "serves metrics of the whole fleet for Prometheus, at /metrics, and /healthz")
+    each.add_argument("address", metavar="HOST:PORT", help="the address on which it listens")
     add("check-store", do_check, "checks whether the store can keep a fleet")
     each = add("prepare-store", do_prepare, "loads this version's functions into the store; its user is the operator")
     each.add_argument("--alone", action="store_true", help="removes the functions of other versions")

@@ -12,6 +12,7 @@ import vt220
 from . import keys
 from .claims import HANDFUL, Claims
 from .frames import Frames
+from .latency import Latency
 from .inbox import Inbox
 from .keys import key
 from .session import Session, restored
@@ -48,6 +49,7 @@ class Kept(Session):
         self.checkpoint = None  # one that the store hasn't
         self.told = -1  # the position that the store knows to be played
         self.shown, self.step = None, 0  # what viewers have
+        self.read_at = 0.0  # when its last bytes were read
         self.watched = 0.0  # until when somebody looks
         self.is_dirty = True  # something was played since viewers were sent a frame
         self.taken = time.monotonic()
@@ -103,6 +105,7 @@ class Worker:
         self.frames = Frames(store)
         self.counts = {"entries": 0, "bytes": 0, "reports": 0, "checkpoints": 0, "faults": 0, "taken": 0, "lost": 0}
         self.is_leaving = self.is_gone = self.is_behind = self.is_stale = False
+        self.latency = Latency()
         store.minds_runs = True
         self.generation = store.generation()
 
@@ -369,6 +372,7 @@ class Worker:
             session.is_read_out = True
         for stream, entries in self.store.read_streams(READ, {session.stream: session.last for session in sessions}):
             session = streams[stream]
+            session.read_at = time.monotonic()
             session.queue = [(entry_id, dict(zip(fields[::2], fields[1::2]))) for entry_id, fields in entries]
             session.is_read_out, session.last = len(entries) < READ, entries[-1][0]
 
@@ -431,6 +435,8 @@ class Worker:
 
     def was_told(self, session, unread):
         self.counts["reports"] += len(session.reports)
+        if session.reports:
+            self.latency.note(time.monotonic() - session.read_at)
         session.reports, session.told, session.is_on_trial = [], session.at, False
         if session.checkpoint:
             self.counts["checkpoints"] += 1

@@ -1,5 +1,6 @@
 """What is replaced while sessions live: formats, leases, hosts; and what is removed in the end."""
 import os
+import random
 import signal
 import stat
 import subprocess
@@ -33,6 +34,7 @@ from fleet import claims, wire
 from fleet.operate import Typist
 from fleet.worker import Worker
 
+seed = 1
 NEXT = (2, 3)  # the formats that the next version's programs know
 
 
@@ -253,6 +255,42 @@ def a_program_outlives_its_host(machine, data):
 
 
 @with_machine
+def a_storm_with_hosts_among_the_victims(machine, data):
+    """Hosts, workers and the store are killed in turn, each time once a session has gone on. No clock decides."""
+    name, chance = "host storm", random.Random(seed)
+    with configured(machine, *PATIENT, "[worker]", "lease = 1", "every = 300", "keep = 2000", "[host]", "lease = 3600"):
+        workers = Processes(machine, 3)
+        runs = [Run(machine, f"victim-{number}", asking(data[number * 500 :] + data * 9, 250)) for number in range(6)]
+        for each in runs:
+            wait_for(each.end)
+        firsts, kills = [each.incarnation() for each in runs], {"host": 0, "worker": 0, "store": 0}
+        for victim in ("host", "worker", "host", "host", "store", "worker", "host", "store", "host", "worker", "host") * 2:
+            going = [each for each in runs if each.host.poll() is None]
+            if not going:
+                break
+            one = chance.choice(going)
+            before = one.end()
+            wait_for(lambda: one.end() > before or one.host.poll() is not None, 0)
+            if victim == "worker":
+                workers.kill(chance.randrange(3))
+            elif victim == "store":
+                machine.kill()
+                machine.start()
+            elif one.host.poll() is None:
+                one.kill()
+                one.start()
+            kills[victim] += 1
+        for each, first in zip(runs, firsts):
+            check(each.host.wait(PATIENCE) == 3, each.name, f"its last host has the program's status: {each.host.returncode}")
+            check(each.incarnation() == first, each.name, "it is one session")
+            each.hold()
+    check(min(kills.values()) > 0, name, f"all kinds were killed: {kills}")
+    said = workers.said()
+    check(not any("Traceback" in line or "gives up" in line for line in said), name, "no worker has a fault")
+    workers.stop()
+
+
+@with_machine
 def a_host_is_replaced_by_a_newer_one(machine, _):
     name, workers = "replaced", Processes(machine, 1)
     command = ["sh", "-c", 'stty -echo; echo on; while read x; do echo "got $x"; done; exit 4']
@@ -342,6 +380,7 @@ CASES = [
     a_worker_is_dead_by_its_own_lease,
     what_nobody_needs_is_removed,
     a_program_outlives_its_host,
+    a_storm_with_hosts_among_the_victims,
     a_host_is_replaced_by_a_newer_one,
     an_old_host_writes_nothing_once_there_is_a_new_one,
     a_program_without_a_host_is_ended_in_time,

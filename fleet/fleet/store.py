@@ -236,6 +236,13 @@ class Store(redis.Redis):
     def facts(self):
         return self.execute_command("INFO", "server", "stats", "persistence", "memory")
 
+    def facts_when_loaded(self):
+        """Returns what the store is. While it reads its file, it says that it has none."""
+        facts = super().execute_command("INFO", "server", "stats", "persistence", "memory")
+        if facts.get("loading"):
+            raise BusyLoadingError("the store reads its file")
+        return facts
+
     def generation(self):
         """Returns what changes when the store may have lost something: its run, and how many keys it evicted."""
         facts = self.facts()
@@ -243,7 +250,7 @@ class Store(redis.Redis):
 
     def examine(self, is_any_allowed=False):
         """Raises Unfit if the store forgets by design: a cluster, eviction, no append-only file."""
-        facts = self.facts()
+        facts = self.patiently(self.facts_when_loaded)
         if facts.get("redis_mode") == "cluster":
             raise Unfit("this store is a Redis Cluster, which the fleet doesn't support: give each fleet a store of its own")
         policy, is_kept = facts.get("maxmemory_policy", "noeviction"), facts.get("aof_enabled") == 1

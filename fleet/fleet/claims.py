@@ -2,6 +2,7 @@
 in the store stood still for a lease."""
 import logging
 import os
+import re
 import secrets
 import time
 from collections import namedtuple
@@ -14,24 +15,27 @@ HANDFUL = 16  # sessions that are taken at once, at least
 TRIES = 10  # workers that may die of a session before it is given up
 LOOKS = 2  # at a worker's count, besides the lease, until it counts as dead
 COMPARE = 10.0  # seconds between comparisons of all sessions with the store
+SHOWN = re.compile(rb"[0-9]+ ([0-9]+) [0-9,]+")  # what a worker shows: a count, its lease in milliseconds, formats
 
 News = namedtuple("News", "has_beaten is_dead is_draining is_to_be_compared excess", defaults=(False,) * 4 + (0,))
 
 
 class Claims:
-    def __init__(self, store, lease):
-        self.store, self.lease = store, lease
+    def __init__(self, store, lease, retain=None, formats=keys.FORMATS):
+        self.store, self.lease, self.formats = store, lease, formats
+        self.retain = -1 if retain is None else int(retain * 1000)
+        self.format = max(formats)  # that is written
         self.enter()
 
     def enter(self):
         """Begins as a worker with a name that no other ever had."""
         self.me = f"{os.uname().nodename}-{os.getpid()}-{secrets.token_hex(4)}"
-        self.others = {}  # worker -> (its count, since when, how often it was looked at since)
+        self.others = {}  # worker -> (what it shows, since when, how often it was looked at since)
         self.due = self.beaten = 0.0
         self.compared = time.monotonic()
         self.outages, self.cursor = self.store.outages, b"0"
         self.is_anything_waiting, self.handful = True, HANDFUL
-        self.store.run("enter", self.me)
+        self.store.run("enter", self.me, int(self.lease * 1000), ",".join(map(str, self.formats)))
 
     def mine(self):
         return {each.decode("utf-8", "replace") for each in self.store.smembers(keys.of(self.me))}
@@ -47,7 +51,8 @@ class Claims:
             self.others, self.outages = {}, self.store.outages
         self.beaten = time.monotonic()
         self.due = self.beaten + self.lease / 4
-        _, draining, count, waiting, share, workers = answer
+        _, draining, count, waiting, share, said, workers = answer
+        self.format = keys.agreed(said, self.formats)
         self.watch_over({w.decode("utf-8", "replace"): c for w, c in zip(workers[::2], workers[1::2])})
         self.audit()
         self.expect(waiting, len(self.others) + 1)
@@ -56,17 +61,22 @@ class Claims:
         return News(True, False, bool(draining), is_to_be_compared, count - share)
 
     def watch_over(self, counts):
-        """Buries the workers whose count stood still for a lease. All of their sessions wait then, however many these are."""
+        """Buries the workers whose count stood still for a lease of theirs. All of their sessions wait then, however many these are."""
         now = time.monotonic()
         for worker, count in counts.items():
             if worker == self.me:
                 continue
             before, since, looks = self.others.get(worker, (None, now, 0))
             self.others[worker] = (count, since, looks + 1) if count == before else (count, now, 0)
-            if count == before and now - since > self.lease and looks >= LOOKS:
+            if count == before and now - since > self.lease_of(count) and looks >= LOOKS:
                 self.bury(worker, count)
         for gone in self.others.keys() - counts.keys():
             del self.others[gone]
+
+    def lease_of(self, count):
+        """Returns the lease of a worker, which its count carries: two workers may have different ones."""
+        shown = SHOWN.fullmatch(count)
+        return int(shown[1]) / 1000 if shown else self.lease
 
     def bury(self, worker, count):
         left = 1
@@ -77,7 +87,7 @@ class Claims:
 
     def audit(self):
         """Looks whether living sessions have a worker, some at a time."""
-        self.cursor, found = self.store.run("audit", self.cursor, 100)
+        self.cursor, found = self.store.run("audit", self.cursor, 100, self.retain, keys.version(self.format))
         if found:
             log.warning("%s found %d sessions that no worker had", self.me, found)
 
@@ -96,6 +106,10 @@ class Claims:
 
     def release(self, incarnations):
         self.store.run("release", self.me, *incarnations)
+
+    def decline(self, incarnation, number):
+        """Hands a session over to a worker that knows its format."""
+        self.store.run("decline", self.me, incarnation, number)
 
     def leave(self):
         self.store.run("leave", self.me)

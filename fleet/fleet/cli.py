@@ -56,26 +56,53 @@ def on_end(call):
 
 def do_host(words, settings):
     from .host import Host
-    from .program import Program, hide
+    from .program import hide
 
     if bool(words.replay) == bool(words.command):
         raise Unclear("host needs a command, or --replay FILE")
     hide()
     store = settings.connect(waits=True)
     store.examine(settings.store.unsafe)
-    command = " ".join(words.command) or words.replay
-    host = Host(store, words.name, settings.host.lease, words.input or settings.host.input, command)
+    made = store, words.name, settings.host.lease, words.input or settings.host.input
+    if not words.replay:
+        return keep_running(made, words, settings)
+    host = Host(*made, words.replay)
     host.register()
-    if words.replay:
-        status = replay(host, words.replay, words.rate)
+    host.end(replay(host, words.replay, words.rate))
+    return 0
+
+
+def keep_running(made, words, settings):
+    """Runs a command as a session, or goes on with it if its host was killed or is another version's. Returns its exit status."""
+    from . import wire
+    from .host import Host
+    from .program import Program, held, started
+
+    path = wire.path_of(settings.store.url, words.name)
+    link, state = held(path, words.command)
+    host = Host(*made, " ".join(words.command), state["incarnation"] if state else None)
+    try:
+        host.resume()
+    except Exception:
+        if link:  # the session was closed, or its name is another's
+            link.sendall(wire.packed(wire.STOP) + wire.packed(wire.DONE))
+        raise
+    if link:
+        program = Program(host, link, state)
     else:
-        program = Program(host, words.command)
-        on_end(lambda: (program.stop(), setattr(store, "patience", LEAVING)))
-        status = program.run()
-    if host.fault:
-        raise host.fault
-    host.end(status)
-    return status
+        program = started(host, words.command, path, words.user or settings.host.user, settings.host.orphan)
+    on_end(lambda: (program.stop(), setattr(made[0], "patience", LEAVING)))
+    signal.signal(signal.SIGUSR1, lambda *_: program.leave())
+    status = program.run()
+    if program.is_leaving and status is None and not host.fault:
+        os.execv(sys.executable, [sys.executable, *sys.orig_argv[1:]])
+    try:
+        if host.fault:
+            raise host.fault
+        host.end("lost" if status is None else status)
+    finally:
+        program.done()
+    return 1 if status is None else status
 
 
 def replay(host, path, rate):
@@ -161,7 +188,9 @@ def do_type(store, incarnation, words):
     keys = typed(data, modes)
     if keys.refused:
         raise ValueError(f"no key of a VT220 sends {keys.refused!r}")
-    Typist(store, incarnation).type(keys.sent + keys.held + (spelled(Key.ENTER, modes) if words.enter else b""))
+    typist = Typist(store, incarnation)
+    typist.type(keys.sent + keys.held + (spelled(Key.ENTER, modes) if words.enter else b""))
+    typist.leave()
 
 
 def do_list(words, settings):
@@ -200,6 +229,20 @@ def do_check(words, settings):
     return 0
 
 
+def do_prepare(words, settings):
+    store = settings.connect()
+    store.examine(settings.store.unsafe)
+    print(f"the store has the functions of {store.prepare(words.alone)} version(s)")
+    return 0
+
+
+def do_metrics(words, settings):
+    from .metrics import WholeFleet, server
+
+    server(WholeFleet(settings.connect()), words.address).serve_forever()
+    return 0
+
+
 def do_web(words, settings):
     from .web import serve
 
@@ -223,6 +266,7 @@ def add_hosts(add):
     each = add("host", do_host, "runs a command on a pseudo-terminal of 24 rows by 80 columns, as a session")
     each.add_argument("--input", action="store_true", help="allows viewers to type")
     each.add_argument("--replay", metavar="FILE", help="sends a file's bytes instead of running a command")
+    each.add_argument("--user", help="runs the command as this user, which needs root: so it can't read what this host reads")
     each.add_argument("--rate", type=int, default=9600, help="bytes a second for --replay (9600)")
     each.add_argument("name")
     each.add_argument("command", nargs=argparse.REMAINDER)
@@ -270,7 +314,11 @@ def add_operators(add):
     each = add("drain", do_drain, "moves a worker's sessions to other workers, and ends it")
     each.add_argument("--patience", type=seconds, default=10, help="the longest wait, such as 30s (10s)")
     each.add_argument("worker", help="its name, or the beginning of its name")
+    each = add("metrics", do_metrics, "serves metrics of the whole fleet for Prometheus, at /metrics, and /healthz")
+    each.add_argument("address", metavar="HOST:PORT", help="the address on which it listens")
     add("check-store", do_check, "checks whether the store can keep a fleet")
+    each = add("prepare-store", do_prepare, "loads this version's functions into the store; its user is the operator")
+    each.add_argument("--alone", action="store_true", help="removes the functions of other versions")
 
 
 def parser():

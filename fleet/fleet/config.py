@@ -40,6 +40,8 @@ class Worker:
 class Host:
     lease: float = 10.0
     input: bool = False
+    user: str = ""
+    orphan: float = 7 * 86400.0
 
 
 @dataclass

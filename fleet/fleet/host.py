@@ -7,6 +7,7 @@ import collections
 import logging
 import os
 import re
+import secrets
 import threading
 import time
 
@@ -22,6 +23,7 @@ WAITING = 1 << 20  # bytes that may wait for a worker; then the program is made 
 HELD = 1 << 20  # bytes that a host could send again if the store went back
 TRIM = 512  # reports that were passed on until they are dropped from the store
 KEYS = 4096  # bytes of one thing that a viewer types
+BEAT = 2.5  # seconds between two looks at the store, at most
 
 
 class Taken(keys.Fault):
@@ -39,22 +41,25 @@ class WentBack(keys.Fault):
 class Host:
     """A session's only writer."""
 
-    def __init__(self, store, name, lease=10.0, takes_input=False, command=""):
+    def __init__(self, store, name, lease=10.0, takes_input=False, command="", incarnation=None):
         self.store, self.name, self.lease = store, keys.checked_name(name), lease
-        self.incarnation = keys.new_id()
-        self.about = ["host", f"{os.uname().nodename}:{os.getpid()}", "input", int(takes_input), "command", command[:500]]
-        self.about += ["signals", 1]  # viewers send signals apart from keys
+        self.incarnation = incarnation or keys.new_id()
+        self.me = f"{os.uname().nodename}:{os.getpid()}:{secrets.token_hex(2)}"  # the store takes bytes from this host alone
+        self.about = ["host", self.me, "input", int(takes_input), "command", command[:500]]
+        self.formats, self.format = keys.FORMATS, keys.FORMAT
+        # Seconds between two renewals, which are also those that a read of what comes for the program waits.
+        self.beat = min(BEAT, lease / 4, (store.connection_pool.connection_kwargs.get("socket_timeout") or BEAT) / 2)
         self.takes_input = takes_input
         self.at = 0
         self.played = 0
         self.held = collections.deque()  # what was sent last: (position after it, moment, bytes)
         self.held_bytes = 0
-        self.held_from = 0  # the position of the first byte that is held
+        self.held_from = self.held_to = 0  # the positions between which bytes are held
         self.fault = None
         self.is_ended = False
         self.said_fault = None
         self.lock = threading.RLock()  # one call to the store that writes at a time
-        self.last_answer, self.last_key, self.last_signal = b"0-0", b"0-0", b"0-0"
+        self.last = {"answers": b"0-0", "keys": b"0-0", "signals": b"0-0"}  # the last entry of each stream that was read
         self.passed_on = 0
         self.rebuilt = 0  # how often the store had to be sent something again
         self.renewed = 0.0
@@ -65,10 +70,45 @@ class Host:
 
     def register(self):
         """Takes the name, and asks for a worker. Raises Taken if another host holds the name."""
-        answer = self.store.run("register", self.name, self.incarnation, int(self.lease * 1000), keys.version(), *self.about)
+        answer = self.store.run("register", self.name, self.incarnation, int(self.lease * 1000), self.version(), *self.about)
         if answer[0] != "ok":
             raise Taken(f"the name {self.name!r} is held by the host {keys.shown(answer[1])}")
-        self.renewed = time.monotonic()
+        self.renewed, self.format = time.monotonic(), keys.agreed(answer[3], self.formats)
+        return int(answer[1]), int(answer[2])
+
+    def version(self):
+        return keys.version(self.format)
+
+    # Another host's session, whose program lives.
+
+    def resume(self):
+        """Takes over a session from its last host, which is no more. Raises Taken if the session isn't there to be taken."""
+        self.at, self.played = self.register()
+
+    def adopt(self, begin, end, last):
+        """Takes in what the program's holder has: the bytes from a position to another, and the last inputs that it took."""
+        self.held_from = self.held_to = begin
+        if self.at < begin:
+            self.fail(WentBack(f"the store lost the bytes from {self.at}, and the program's holder has those from {begin}"))
+        if self.at > end:
+            self.fail(keys.Differs(f"the store has bytes up to {self.at}, and the program wrote {end}"))
+        for stream, entry_id in last.items():
+            self.last[stream] = entry_id.encode()
+            if stream != "answers":  # its last host may have ended before it removed them
+                moment, number = entry_id.split("-")
+                self.store.execute_command("XTRIM", self.part(stream), "MINID", f"{moment}-{int(number) + 1}")
+
+    def is_whole(self):
+        """Returns whether this host holds all that the store has and the program's holder had."""
+        return self.held_to >= self.at
+
+    def send_up_to(self, at, data):
+        """Appends the bytes before a position that the store doesn't have. Those that it has are held, as if this host had sent them."""
+        known = max(0, len(data) - max(0, at - self.at))
+        if known:
+            self.hold(at - len(data) + known, keys.now(), data[:known])
+        if known < len(data):
+            self.send(data[known:])
 
     # Bytes to the store.
 
@@ -88,12 +128,13 @@ class Host:
     def hold(self, at, moment, data):
         self.held.append((at, moment, data))
         self.held_bytes += len(data)
+        self.held_to = at
         while self.held_bytes - len(self.held[0][2]) >= HELD:
             self.held_from, _, dropped = self.held.popleft()
             self.held_bytes -= len(dropped)
 
     def append(self, at, moment, data):
-        words = self.incarnation, at - len(data), at, keys.version(), moment, data
+        words = self.incarnation, at - len(data), at, self.version(), moment, data, self.me
         answer = self.store.run("append", *words)
         if answer[0] == "ok":
             self.played = int(answer[1] or 0)
@@ -119,9 +160,8 @@ class Host:
             self.register_again()
             for at, moment, data in list(self.held):
                 if at > there:
-                    answer = self.store.run(
-                        "append", self.incarnation, max(there, at - len(data)), at, keys.version(), moment, data
-                    )
+                    words = max(there, at - len(data)), at, self.version(), moment, data, self.me
+                    answer = self.store.run("append", self.incarnation, *words)
                     if answer[0] != "ok":
                         self.fail(WentBack(f"the store has the bytes up to {there} and takes none after them: {answer[0]}"))
             log.warning("%s: sent again from %d to %d", self.name, there, self.at)
@@ -158,10 +198,11 @@ class Host:
         """Closes the session with the program's exit status."""
         with self.lock:
             self.is_ended = True
-            answer = self.store.run("finish", self.name, self.incarnation, self.at, status, keys.version())
+            words = self.name, self.incarnation, self.at, status, self.version(), self.me
+            answer = self.store.run("finish", *words)
             if answer[0] in ("lost", "back"):
                 self.rebuild(0 if answer[0] == "lost" else int(answer[1]))
-                answer = self.store.run("finish", self.name, self.incarnation, self.at, status, keys.version())
+                answer = self.store.run("finish", *words)
             if answer[0] != "ok":
                 self.fail(self.fault_of(answer))
 
@@ -169,13 +210,13 @@ class Host:
 
     def renew_if_due(self):
         """Renews the lease on the name, and looks whether the store still has what was sent."""
-        if time.monotonic() - self.renewed < min(1.0, self.lease / 4):
+        if time.monotonic() - self.renewed < self.beat:
             return
         with self.lock:
             if self.is_ended:
                 return
             self.renewed = time.monotonic()
-            answer = self.store.run("renew", self.name, self.incarnation, int(self.lease * 1000))
+            answer = self.store.run("renew", self.name, self.incarnation, int(self.lease * 1000), self.me)
             if answer[0] == "taken":
                 self.fail(
                     Taken(f"the name {self.name!r} or the session was taken by another ({keys.shown(answer[1])})")
@@ -183,57 +224,65 @@ class Host:
             there = 0 if answer[0] == "lost" else int(answer[1])
             if answer[0] == "lost" or there < self.at:
                 self.rebuild(there)
-            elif len(answer) > 3 and not self.said_fault:
-                self.said_fault = keys.shown(answer[3])
+            elif len(answer) > 4 and not self.said_fault:
+                self.said_fault = keys.shown(answer[4])
                 log.error("%s: no worker can continue this session: %s", self.name, self.said_fault)
             else:
-                self.played = int(answer[2] or 0)
+                self.played, self.format = int(answer[2] or 0), keys.agreed(answer[3], self.formats)
 
     # What comes for the program.
 
     def receive(self, patience=0.5):
         """Waits for what comes for the program. Returns it, as a list of ("report", bytes), ("keys", bytes), ("signal", number),
         each one once and in order."""
-        takes = {
-            self.part("answers"): (self.report_of, self.last_answer),
-            self.part("keys"): (self.key_of, self.last_key),
-            self.part("signals"): (self.signal_of, self.last_signal),
-        }
-        streams, got = {stream: last for stream, (_, last) in takes.items()}, []
-        for stream, entries in self.store.xread(streams, count=256, block=int(patience * 1000) or None):
-            take = takes[stream.decode()][0]
-            for entry_id, fields in entries:
-                got += take(entry_id, fields)
+        got = self.receive_entries(patience)
+        for _, stream, entry_id, _ in got:
+            self.forget(stream, entry_id)
+        return [(kind, what) for kind, _, _, what in got]
+
+    def receive_entries(self, patience, names=("answers", "keys", "signals")):
+        """Waits for what comes for the program. Returns it, as a list of (kind, stream, id, what). Each one is to be given to `forget`
+        once the program has it."""
+        parts, got = {self.part(name): name for name in names}, []
+        streams = {part: self.last[name] for part, name in parts.items()}
+        for part, entries in self.store.xread(streams, count=256, block=int(patience * 1000) or None):
+            name = parts[part.decode()]
+            for self.last[name], fields in entries:
+                found = self.read_entry(name, self.last[name], fields)
+                if found:
+                    got.append((found[0], name, self.last[name], found[1]))
+                else:
+                    self.forget(name, self.last[name])
         return got
 
     def receive_signals(self):
         """Returns the signals that came for the program, without waiting: it may read none of what came before them."""
-        came = self.store.xread({self.part("signals"): self.last_signal}, count=16)
-        return [signal for _, entries in came for entry in entries for signal in self.signal_of(*entry)]
+        return self.receive_entries(0, ("signals",))
+
+    def read_entry(self, name, entry_id, fields):
+        """Returns the kind of an entry for the program, and what it is, or None if it isn't one."""
+        if name == "answers":
+            return self.report_of(entry_id, fields)
+        if name == "signals":
+            is_known = fields.get(b"signal") in (b"1", b"2", b"9", b"15")
+            return ("signal", int(fields[b"signal"])) if is_known else None
+        takes = b"keys" in fields and self.takes_input and len(fields[b"keys"]) <= KEYS
+        return ("keys", fields[b"keys"]) if takes else None
 
     def report_of(self, entry_id, fields):
         """Returns a report, if it is one: of the form of a VT220's, to a byte that this host has sent."""
-        self.last_answer = entry_id
         report = fields.get(b"report", b"")
         is_report = len(report) <= REPORT_LIMIT and REPORT.fullmatch(report) and entry_id.endswith(b"-0")
-        if not is_report or keys.position(entry_id) > self.at:
-            log.error("%s: not passed on: %r at %s isn't a report to this session", self.name, report[:40], entry_id.decode())
-            return []
+        if is_report and keys.position(entry_id) <= self.at:
+            return "report", report
+        log.error("%s: not passed on: %r at %s isn't a report to this session", self.name, report[:40], entry_id.decode())
+        return None
+
+    def forget(self, name, entry_id):
+        """Removes from the store what the program has: the bounds on what waits count what is there."""
+        if name != "answers":
+            self.store.xdel(self.part(name), entry_id)
+            return
         self.passed_on += 1
         if self.passed_on % TRIM == 0:
             self.store.execute_command("XTRIM", self.part("answers"), "MINID", entry_id)
-        return [("report", report)]
-
-    def key_of(self, entry_id, fields):
-        self.last_key = entry_id
-        # Dropped once it is passed on: the bound on what waits counts what is there.
-        self.store.xdel(self.part("keys"), entry_id)
-        if b"keys" in fields and self.takes_input and len(fields[b"keys"]) <= KEYS:
-            return [("keys", fields[b"keys"])]
-        return []
-
-    def signal_of(self, entry_id, fields):
-        self.last_signal = entry_id
-        self.store.xdel(self.part("signals"), entry_id)
-        is_known = fields.get(b"signal") in (b"1", b"2", b"9", b"15")
-        return [("signal", int(fields[b"signal"]))] if is_known else []

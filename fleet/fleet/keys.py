@@ -10,7 +10,8 @@ the incarnation, so that a name can be used again without meeting anything of it
     fleet:waiting                sorted set of those that want a worker
     fleet:suspects               sorted set of those in whose company workers died: they are taken alone
     fleet:trying                 hash: worker -> the suspect that it plays alone
-    fleet:workers                hash: worker -> a count that it raises four times a lease
+    fleet:foreign                hash: incarnation -> the format that it needs; it waits for a worker that knows this format
+    fleet:workers                hash: worker -> a count that it raises four times a lease, the lease, and the formats that it knows
     fleet:draining               set of the workers that are to hand their sessions over
     fleet:of:WORKER              set of the incarnations that a worker owns
 
@@ -22,7 +23,7 @@ the incarnation, so that a name can be used again without meeting anything of it
     fleet:INCARNATION:view       stream for viewers: a repaint, then updates
     fleet:INCARNATION:keys       stream of what viewers typed
     fleet:INCARNATION:signals    stream of the signals that viewers sent
-    fleet:INCARNATION:typed      hash: viewer -> the number of the last thing that it typed
+    fleet:INCARNATION:typed:VIEWER  the number of the last thing that a viewer typed; goes when the viewer leaves, or after a day
     fleet:INCARNATION:ended      hash: where and how it ended, and the screen's text
     fleet:INCARNATION:fault      why no worker can go on with it
 
@@ -30,26 +31,28 @@ Channels: fleet:new (a session waits), fleet:wake:WORKER (one of its sessions ha
 """
 import functools
 import hashlib
+import re
 import secrets
 import time
 import unicodedata
 
 import vt220
 
-FORMAT = 2
-ALL, LIVE, NAMES, WAITING, SUSPECTS, TRYING, WORKERS, DRAINING = (
+FORMATS = (2,)  # the formats that this program reads and writes
+FORMAT = max(FORMATS)
+ALL, LIVE, NAMES, WAITING, SUSPECTS, TRYING, FOREIGN, WORKERS, DRAINING = (
     "fleet:all",
     "fleet:live",
     "fleet:names",
     "fleet:waiting",
     "fleet:suspects",
     "fleet:trying",
+    "fleet:foreign",
     "fleet:workers",
     "fleet:draining",
 )
 NEW = "fleet:new"
 NAME_LIMIT = 200
-PARTS = ("about", "bytes", "answers", "checkpoint", "view", "keys", "signals", "typed", "ended", "fault")
 SHOWN = 1000  # characters of what the store says that are shown at most
 
 
@@ -70,7 +73,13 @@ class Wrong(Fault):
 
 
 class Version(Fault):
-    """An entry or a checkpoint is of a format that this program doesn't know."""
+    """An entry or a checkpoint is of no format, or of one that this program doesn't know: `format` is that one's number."""
+
+    format = 0
+
+    def __init__(self, what, said):
+        super().__init__(f"{what} of version {said.decode('ascii', 'replace')[:40]!r}; this program knows the format {FORMAT}")
+        self.format = format_of(said)
 
 
 class Forged(Fault):
@@ -121,16 +130,22 @@ def now():
     return int(time.time() * 1000)
 
 
-def version():
-    """Returns the version of the format and of the library, as entries carry it."""
-    return f"{FORMAT}.{vt220.version()}"
+def version(number=FORMAT):
+    """Returns the version of a format and of the library, as entries carry it."""
+    return f"{number}.{vt220.version()}"
 
 
 @functools.lru_cache(maxsize=64)
-def is_known(said):
-    """Returns whether a version that an entry carries is of this format. Any library's version is."""
-    first, _, library = said.decode("ascii", "replace").partition(".")
-    return first == str(FORMAT) and library.isdigit()
+def format_of(said):
+    """Returns the number of the format in a version that an entry carries, of any library's version. Returns 0 if it is no version."""
+    words = re.fullmatch(rb"([1-9][0-9]{0,3})\.[0-9]{1,9}", said)
+    return int(words[1]) if words else 0
+
+
+def agreed(said, formats=FORMATS):
+    """Returns the format to write: the newest one that all living workers know, as the store says, if this program knows it."""
+    number = int(said) if said.isdigit() else max(formats)
+    return number if number in formats else max(formats)
 
 
 def checked_name(name):
@@ -153,16 +168,16 @@ def checksum(at, repaint):
     return hashlib.sha256(b"%d:%d:" % (at, len(repaint)) + repaint).hexdigest()
 
 
-def checkpoint(at, repaint):
+def checkpoint(at, repaint, number=FORMAT):
     """Returns the fields of a checkpoint."""
-    return {"at": at, "length": len(repaint), "sha256": checksum(at, repaint), "v": version(), "repaint": repaint}
+    return {"at": at, "length": len(repaint), "sha256": checksum(at, repaint), "v": version(number), "repaint": repaint}
 
 
-def read_checkpoint(fields):
-    """Returns the position and the repaint of a checkpoint. Raises Damaged if it isn't as it was stored, and Version if another
-    format's program stored it."""
-    if b"v" in fields and not is_known(fields[b"v"]):
-        raise Version(f"a checkpoint of version {fields[b'v'].decode('ascii', 'replace')}; this program writes {version()}")
+def read_checkpoint(fields, formats=FORMATS):
+    """Returns the position and the repaint of a checkpoint. Raises Damaged if it isn't as it was stored, and Version if it isn't of
+    one of these formats."""
+    if b"v" in fields and format_of(fields[b"v"]) not in formats:
+        raise Version("a checkpoint", fields[b"v"])
     try:
         at, length, repaint = int(fields[b"at"]), int(fields[b"length"]), fields[b"repaint"]
         is_sound = length == len(repaint) and fields[b"sha256"].decode() == checksum(at, repaint) and b"v" in fields

@@ -8,6 +8,7 @@ import sys
 import tempfile
 import time
 
+from . import wire
 from .store import connect
 
 HERE = os.path.dirname(os.path.abspath(__file__))
@@ -34,7 +35,12 @@ class LocalStore:
         self.server.kill()
         self.server.wait()
 
+    def holders(self):
+        """Returns the directory of the programs whose sessions are here: they end with the store."""
+        return os.path.join(self.folder, "holders")
+
     def stop(self):
+        wire.end_all(self.holders())
         self.kill()
         shutil.rmtree(self.folder, ignore_errors=True)
 
@@ -75,10 +81,11 @@ def run(count, command):
         signal.signal(ends, lambda *_: sys.exit(1))
     store = LocalStore()
     workers = Workers(count, store.folder, store.url)
-    print(f"export FLEET_REDIS={store.url}", file=sys.stderr, flush=True)
+    where = {"FLEET_REDIS": store.url, "FLEET_HOLDERS": store.holders()}
+    print("export", *(f"{name}={value}" for name, value in where.items()), file=sys.stderr, flush=True)
     try:
         if command:
-            return subprocess.call(command, env=os.environ | {"FLEET_REDIS": store.url})
+            return subprocess.call(command, env=os.environ | where)
         while True:
             time.sleep(1)
             workers.all = [each if each.poll() is None else workers.another() for each in workers.all]

@@ -6,6 +6,7 @@ import threading
 import time
 
 from . import keys
+from .claims import SHOWN
 from .keys import key
 
 FIELDS = ("name", "host", "owner", "end", "played", "seen", "closed", "started", "input", "command")
@@ -46,11 +47,12 @@ def about(store, incarnations):
                 together.hmget(key(each, "about"), *FIELDS)
                 together.get(key(each, "fault"))
                 together.hget(key(each, "ended"), "status")
+                together.hget(keys.FOREIGN, each)
             answers = store.all_of(together)
         for number, each in enumerate(some):
-            fields, fault, status = answers[3 * number : 3 * number + 3]
+            fields, fault, status, foreign = answers[4 * number : 4 * number + 4]
             if isinstance(fields, list) and fields[0] is not None:
-                listed.append(described(each, dict(zip(FIELDS, fields)), fault, status))
+                listed.append(described(each, dict(zip(FIELDS, fields)), fault, status) | {"format": keys.shown(foreign)})
     add_leases(store, listed)
     return listed
 
@@ -131,6 +133,8 @@ def show_list(store, is_json, is_all):
     for each in listed:
         if each["fault"]:
             print(f"{each['name']}: {each['fault']}", file=sys.stderr)
+        elif each["format"]:
+            print(f"{each['name']}: waits for a worker that knows the format {each['format']}", file=sys.stderr)
     return 0
 
 
@@ -186,6 +190,11 @@ class Typist:
     def signal(self, number):
         self.send("signal", number)
 
+    def leave(self):
+        """Has the store forget this typist, whose last thing arrived."""
+        if self.number > 1:
+            self.store.delete(key(self.incarnation, f"typed:{self.me}"))
+
 
 class Sender(threading.Thread):
     """Types in a thread, so that a keyboard is read on whatever the store and the program do."""
@@ -207,6 +216,7 @@ class Sender(threading.Thread):
             except Refused as refused:
                 self.fault = str(refused)
                 self.drop()
+        self.typist.leave()
 
     def drop(self):
         """Forgets what waits: it was typed for a program that reads nothing."""
@@ -231,7 +241,9 @@ def kill(store, name, signal, patience):
     state = about(store, [incarnation])[0]["state"]
     if state == "no host":
         raise Refused(f"the host of {name} is silent; end the session with fleet end")
-    Typist(store, incarnation, patience).signal(SIGNALS[signal])
+    typist = Typist(store, incarnation, patience)
+    typist.signal(SIGNALS[signal])
+    typist.leave()
     end = time.monotonic() + patience
     while not store.hexists(key(incarnation, "about"), "closed") and not is_over(store, incarnation):
         if time.monotonic() > end:
@@ -271,6 +283,7 @@ def workers(store, is_json=False):
     """Prints each worker with the count of its sessions."""
     for each, count in sorted(store.hgetall(keys.WORKERS).items()):
         sessions = store.scard(keys.of("").encode() + each)
-        made = {"worker": keys.shown(each), "sessions": sessions, "count": int(count) if count.isdigit() else None}
+        shown = count.split()[0] if SHOWN.fullmatch(count) else b"-"
+        made = {"worker": keys.shown(each), "sessions": sessions, "count": int(shown) if shown.isdigit() else None}
         print(json.dumps(made) if is_json else f"{made['worker']}  {made['sessions']} sessions")
     return 0

@@ -1,21 +1,23 @@
-"""A program behind a pseudo-terminal of 24 rows by 80 columns, whose bytes a Host sends."""
+"""A program behind a pseudo-terminal, whose bytes a Host sends. Its holder, a separate process, outlives the host: another host goes on
+where this one stopped."""
 import ctypes
-import fcntl
+import json
 import logging
 import os
-import pty
+import queue
 import select
-import signal
-import struct
-import termios
+import subprocess
+import sys
 import threading
 import time
 
-from .host import PIECE
+from . import wire
+from .host import PIECE, Taken
 from .keys import Fault
 
 log = logging.getLogger("fleet.host")
 
+HOLDER = os.path.join(os.path.dirname(os.path.abspath(__file__)), "holder.py")
 GATHER = 0.003  # seconds that a host waits for more of the same output
 PR_SET_DUMPABLE = 4
 
@@ -31,116 +33,184 @@ def hide():
     ctypes.CDLL(None).prctl(PR_SET_DUMPABLE, 0, 0, 0, 0)
 
 
-class Program:
-    def __init__(self, host, command):
-        self.host, self.is_reaped = host, False
-        self.child, self.master = pty.fork()
-        if self.child == 0:
-            try:
-                fcntl.ioctl(0, termios.TIOCSWINSZ, struct.pack("HHHH", 24, 80, 0, 0))
-                os.execvpe(command[0], command, clean_environment())
-            except OSError as refused:
-                os.write(2, f"{command[0]}: {refused.strerror}\r\n".encode())
-            finally:
-                os._exit(127)
-        self.is_over = threading.Event()
-        host.is_program_over = self.has_ended
+def start_holder(path, name, incarnation, command, user=None, orphan=None):
+    """Starts the holder of a session's program. Raises OSError if it can't be."""
+    if os.path.exists(path) and not wire.connected(path):
+        os.unlink(path)  # of one that was killed
+    said = {"path": path, "name": name, "incarnation": incarnation, "command": command, "user": user, "orphan": orphan}
+    words = [sys.executable, "-I", "-S", HOLDER]
+    pipes = {"stdin": subprocess.PIPE, "stdout": subprocess.PIPE, "stderr": subprocess.DEVNULL}
+    made = subprocess.Popen(words, env=clean_environment(), start_new_session=True, **pipes)
+    made.stdin.write(json.dumps(said).encode())
+    made.stdin.close()
+    answer = made.stdout.readline().decode().strip()
+    made.stdout.close()
+    if answer != "ready":
+        raise OSError(5, f"the program's holder doesn't start: {answer}")
 
-    def has_ended(self):
-        """Returns whether the program itself has ended. Its exit status stays for `run`."""
-        return os.waitid(os.P_PID, self.child, os.WEXITED | os.WNOHANG | os.WNOWAIT) is not None
+
+def held(path, command):
+    """Returns a connection to the holder of a session's program and what it says, or None and None if there is none. Raises Taken if
+    it has a host, or runs another command."""
+    link = wire.connected(path)
+    if not link:
+        return None, None
+    reader, found = wire.Reader(), []
+    while not found and (data := link.recv(65536)):
+        found = list(reader.feed(data))
+    if not found:  # it has just ended
+        return None, None
+    state = json.loads(found[0][2])
+    if state["busy"] or command and state["command"] != command:
+        link.close()
+        why = "a host of this machine" if state["busy"] else f"another command here: {' '.join(state['command'])}"
+        raise Taken(f"the name {state['name']!r} is held by {why}")
+    return link, state | {"reader": reader, "early": found[1:]}
+
+
+def started(host, command, path, user=None, orphan=None):
+    """Starts a command behind a holder, for a host that is registered. Returns it as a Program."""
+    start_holder(path, host.name, host.incarnation, command, user, orphan)
+    return Program(host, *held(path, command))
+
+
+class Program:
+    """A host's side of the program: what comes from the holder, and what goes there."""
+
+    def __init__(self, host, link, state):
+        self.host, self.link = host, link
+        self.reader, self.early = state["reader"], state["early"]
+        self.came = queue.SimpleQueue()  # (position after them, bytes), and None if there is something else to look at
+        self.is_over, self.was_taken = threading.Event(), threading.Event()
+        self.is_leaving = self.passes_on = self.is_gone = False
+        self.lock = threading.Lock()
+        host.is_program_over = lambda: self.is_ended
+        self.is_ended, self.status = False, None
+        host.adopt(state["base"], state["end"], state["last"])
+        threading.Thread(target=self.listen, daemon=True).start()
+
+    def listen(self):
+        """Takes in what the holder says."""
+        for message in self.early:
+            self.hear(*message)
+        while data := self.received():
+            for message in self.reader.feed(data):
+                self.hear(*message)
+        self.is_gone = True
+        self.came.put(None)
+
+    def received(self):
+        try:
+            return self.link.recv(1 << 17)
+        except OSError:
+            return b""
+
+    def hear(self, letter, number, data):
+        if letter == wire.BYTES:
+            self.came.put((number, data))
+        elif letter == wire.TAKEN:
+            self.was_taken.set()
+        elif letter == wire.OVER:
+            self.is_ended = True
+        elif letter == wire.ENDED:
+            self.status = number
+            self.came.put(None)
+
+    def say(self, letter, number=0, data=b""):
+        with self.lock:
+            try:
+                self.link.sendall(wire.packed(letter, number, data))
+            except OSError:
+                pass
 
     def run(self):
-        """Sends what the program writes until it ends. Returns its exit status, as a shell has it."""
-        back = threading.Thread(target=self.pass_on, daemon=True)
-        back.start()
+        """Sends what the program writes until it ends. Returns its exit status, as a shell has it; None if this host leaves it."""
         try:
-            while data := self.gathered():
-                self.host.send(data)
+            self.begin_to_pass_on()
+            while came := self.next():
+                self.host.send_up_to(*came)
+                self.say(wire.KEPT, self.host.at)
+                self.begin_to_pass_on()
         except Fault as fault:
             log.error("%s: %s: %s", self.host.name, type(fault).__name__, fault)
-            self.signal(signal.SIGHUP)
             self.host.fault = self.host.fault or fault
         self.is_over.set()
         if self.host.fault:
             self.stop()
-        code = os.waitstatus_to_exitcode(os.waitpid(self.child, 0)[1])
-        self.is_reaped = True
-        return code if code >= 0 else 128 - code
+            self.drop()
+        return self.status
 
-    def stop(self):
-        """Hangs up on the program. If it doesn't end within three seconds, it is killed."""
-        self.signal(signal.SIGHUP)
-        killer = threading.Timer(3, self.signal, (signal.SIGKILL,))
-        killer.daemon = True
-        killer.start()
+    def begin_to_pass_on(self):
+        """Begins to pass on what comes for the program, once this host has all that it may have to send again."""
+        if not self.passes_on and self.host.is_whole():
+            self.passes_on = True
+            threading.Thread(target=self.pass_on, daemon=True).start()
 
-    def gathered(self):
-        """Reads what the program writes: what comes within some milliseconds is one entry."""
-        data = self.read()
-        end = time.monotonic() + GATHER
-        while data and len(data) < PIECE and (left := end - time.monotonic()) > 0:
-            if not select.select([self.master], [], [], left)[0]:
+    def next(self):
+        """Returns what the program wrote: (position after them, bytes), all that come within some milliseconds; or None if the program
+        or this host is to end."""
+        came, end = self.came.get(), time.monotonic() + GATHER
+        while came and len(came[1]) < PIECE and (left := end - time.monotonic()) > 0:
+            try:
+                more = self.came.get(timeout=left)
+            except queue.Empty:
                 break
-            more = self.read(PIECE - len(data))
-            if not more:
+            if more is None:
+                self.came.put(None)
                 break
-            data += more
-        return data
+            came = more[0], came[1] + more[1]
+        return came
 
-    def read(self, most=PIECE):
-        while not select.select([self.master], [], [], 0.5)[0]:
-            if self.host.fault:
-                raise self.host.fault
-        try:
-            return os.read(self.master, most)
-        except OSError:  # the other side is closed
-            return b""
+    def drop(self):
+        """Waits for the end of the program, and drops what it still writes."""
+        while self.status is None and not self.is_gone:
+            came = self.came.get()
+            if came:
+                self.say(wire.KEPT, came[0])
 
     def pass_on(self):
         """Gives the program what comes for it, and renews the lease, until the program is over."""
         while not self.is_over.is_set():
             try:
-                for kind, what in self.host.receive():
-                    if kind == "signal":
-                        self.signal(what)
-                    else:
-                        self.write(what)
+                for kind, stream, entry_id, what in self.host.receive_entries(self.host.beat):
+                    self.give(kind, stream, entry_id, what)
                 self.host.renew_if_due()
             except Fault as fault:
                 self.host.fault = self.host.fault or fault
+                self.came.put(None)
                 return
             except Exception:
                 log.exception("%s: what came for the program", self.host.name)
                 time.sleep(0.5)
 
-    def write(self, data):
-        """Writes to the program, as fast as it reads; the lease is renewed meanwhile, and signals are passed on."""
-        while data and not self.is_over.is_set():
-            if not select.select([], [self.master], [], 0.5)[1]:
+    def give(self, kind, stream, entry_id, what):
+        """Gives the program one thing, and waits until the program has read it. The lease is renewed meanwhile, and signals are passed
+        on."""
+        head = f"{stream} {entry_id.decode()}\n".encode()
+        if kind == "signal":
+            self.say(wire.SIGNAL, 0, head + str(what).encode())
+        else:
+            self.was_taken.clear()
+            self.say(wire.INPUT, 0, head + what)
+            while not self.was_taken.wait(0.5) and not self.is_over.is_set():
                 self.host.renew_if_due()
-                for _, number in self.host.receive_signals():
-                    self.signal(number)
-                continue
-            try:
-                data = data[os.write(self.master, data[:256]) :]
-            except OSError:
-                return
+                for signalled in self.host.receive_signals():
+                    self.give(*signalled)
+        self.host.forget(stream, entry_id)
+
+    def stop(self):
+        """Hangs up on the program. If it doesn't end within three seconds, it is killed."""
+        self.say(wire.STOP)
 
     def signal(self, number):
-        """Sends a signal to the program, and to what runs in its foreground."""
-        for send in (self.signal_foreground, self.signal_child):
-            try:
-                send(number)
-            except OSError:
-                pass
+        """Ends the program at once, by the holder."""
+        self.say(wire.STOP, 1)
 
-    def signal_foreground(self, number):
-        group = os.tcgetpgrp(self.master)
-        if group > 1:  # 0 is nobody's there, and would be this process's own
-            os.killpg(group, number)
+    def leave(self):
+        """Leaves the program to its holder. Another host goes on with it."""
+        self.is_leaving = True
+        self.came.put(None)
 
-    def signal_child(self, number):
-        if self.is_reaped:
-            return
-        os.kill(self.child, number)
+    def done(self):
+        """Ends the holder, whose session's end is in the store."""
+        self.say(wire.DONE)

@@ -5,22 +5,25 @@ may be cut anywhere. So a checkpoint and the bytes after its position are the se
 """
 import vt220
 
-from .keys import Damaged, Long, Lost, Trimmed, Version, Wrong, is_known, key, position, read_checkpoint
+from .keys import FORMATS, Damaged, Long, Lost, Trimmed, Version, Wrong, format_of, key, position, read_checkpoint
 
 
 class Session:
     """A session's terminal, played up to the position `at`."""
 
-    def __init__(self, incarnation, at=0, repaint=b""):
-        self.incarnation, self.at = incarnation, at
+    def __init__(self, incarnation, at=0, repaint=b"", formats=FORMATS):
+        self.incarnation, self.at, self.formats = incarnation, at, formats
+        self.newest = 0  # the newest format of what was read
         self.terminal = vt220.Terminal()
         self.terminal.feed(repaint)
         self.status = None
 
     def data_of(self, entry_id, fields):
         """Returns what of an entry wasn't played yet. Raises a fault if it isn't a host's, or if bytes before it are missing."""
-        if not is_known(fields.get(b"v", b"")):
-            raise Version(f"entry {entry_id.decode('ascii', 'replace')} is of another format")
+        said = fields.get(b"v", b"")
+        if format_of(said) not in self.formats:
+            raise Version(f"entry {entry_id.decode('ascii', 'replace')} is", said)
+        self.newest = max(self.newest, format_of(said))
         at, number = map(int, entry_id.split(b"-"))
         data = fields.get(b"bytes", b"")
         if not is_formed(at, number, fields):
@@ -52,14 +55,16 @@ def is_formed(at, number, fields):
     return (at, number) == (0, 1) and b"begin" in fields and b"bytes" not in fields
 
 
-def restored(incarnation, fields):
+def restored(incarnation, fields, formats=FORMATS):
     """Returns a session as its checkpoint has it, and whether that was damaged: then the session is at its start."""
     if not fields:
-        return Session(incarnation), False
+        return Session(incarnation, formats=formats), False
     try:
-        return Session(incarnation, *read_checkpoint(fields)), False
+        made = Session(incarnation, *read_checkpoint(fields, formats), formats)
+        made.newest = format_of(fields[b"v"])
+        return made, False
     except Damaged:
-        return Session(incarnation), True
+        return Session(incarnation, formats=formats), True
 
 
 def look_up(store, incarnation):

@@ -1,6 +1,9 @@
-"""The store: Redis, whose calls wait for as long as it is away, and whose scripts are ours."""
+"""The store: Redis, whose calls wait for as long as it is away, and which has our functions."""
+import functools
+import hashlib
 import logging
 import os
+import re
 import time
 from urllib.parse import urlsplit
 
@@ -10,7 +13,6 @@ from redis.exceptions import (
     BusyLoadingError,
     ConnectionError,
     NoPermissionError,
-    NoScriptError,
     ReadOnlyError,
     ResponseError,
     TimeoutError,
@@ -23,6 +25,9 @@ FOR_NOW = ("OOM", "MISCONF", "MASTERDOWN", "NOREPLICAS", "CLUSTERDOWN", "TRYAGAI
 DENIALS = ("WRONGPASS", "NOPERM", "can't run this command", "can't access")
 TIMEOUT = 5.0  # seconds until a connection that says nothing counts as dead
 LUA = os.path.join(os.path.dirname(os.path.abspath(__file__)), "lua")
+LIBRARY = "fleet_"
+MISSING = "Function not found"
+UNPREPARED = "the store lacks the functions of this version: an operator loads them with fleet prepare-store"
 UNSAFE = "appendonly is off: what the store acknowledges is lost when it stops"
 
 
@@ -48,34 +53,43 @@ def is_for_now(error):
     return isinstance(error, ResponseError) and any(word in str(error)[:60] for word in FOR_NOW)
 
 
+def is_missing(error):
+    """Returns whether an error says that the store lacks our functions."""
+    return isinstance(error, ResponseError) and MISSING in str(error)
+
+
 def is_denial(error):
     """Returns whether an error says that the store's user has no right to something."""
     return isinstance(error, NoPermissionError) or any(word in str(error) for word in DENIALS)
 
 
-def scripts():
-    """Returns the text of each script by its name."""
+@functools.cache
+def library():
+    """Returns the name of the functions' library, and its text. The names of the library and of all functions end with a hash of
+    the text. So two versions of the fleet have their functions in one store, next to each other."""
     read = {}
-    for file in os.listdir(LUA):
+    for file in sorted(os.listdir(LUA)):
         with open(os.path.join(LUA, file)) as text:
             read[file.removesuffix(".lua")] = text.read()
-    common = read.pop("common")
-    made = {}
+    made = read.pop("common")
     for name, text in read.items():
-        first, rest = text.split("\n", 1) if text.startswith("#!") else ("", text)
-        made[name] = (first + "\n" if first else "") + common + rest
-    return made
+        flags = "".join(f"'{flag}'" for flag in re.findall(r"^-- Flags: (\S+)", text))
+        words = f"function_name='{name}_HASH', flags={{{flags}}}, callback=function(_, ARGV)"
+        made += f"\nredis.register_function{{{words}\n{text}end}}\n"
+    mark = hashlib.sha256(made.encode()).hexdigest()[:8]
+    return mark, f"#!lua name={LIBRARY}{mark}\n" + made.replace("_HASH", f"_{mark}")
 
 
 class Store(redis.Redis):
     """Redis. Whatever is called waits until the store answers, for any time. So all that is written must bear being written
     twice."""
 
+    had_functions = False  # they were there once: if they aren't any more, the store lost them
+
     def __init__(self, *words, **options):
         super().__init__(*words, **options)
         self.away_since = None
         self.outages = 0  # how often the store was away
-        self.hashes = {}
         self.run_id, self.minds_runs = None, False
         self.password_file = None
         self.was_let_in = False  # a password was accepted once: if it isn't any more, it is being changed
@@ -141,9 +155,9 @@ class Store(redis.Redis):
             together.command_stack = list(commands)
             answers = together.execute(raise_on_error=False)
             for answer in answers:
-                if isinstance(answer, NoScriptError):
+                if is_missing(answer):
                     self.load()
-                    raise ConnectionError("the store forgot its scripts")
+                    raise ConnectionError("the store had no functions")
                 if isinstance(answer, Exception) and is_for_now(answer):
                     raise answer
                 if isinstance(answer, Exception) and is_denial(answer):
@@ -171,33 +185,63 @@ class Store(redis.Redis):
 
         return self.patiently(once)
 
-    # Scripts.
+    # Functions.
 
     def load(self):
-        self.hashes = {name: self.execute_command("SCRIPT LOAD", text) for name, text in scripts().items()}
+        """Loads the functions, which a store has that is new, or that lost them. Only an operator may do that. Whoever had them
+        before waits for the operator."""
+        try:
+            super().execute_command("FUNCTION", "LOAD", "REPLACE", library()[1])
+        except (ResponseError, NoPermissionError) as refused:
+            if not is_denial(refused):
+                raise
+            raise ConnectionError(UNPREPARED) if self.had_functions else Unfit(UNPREPARED)
+
+    def prepare(self, is_alone=False):
+        """Loads the functions. If `is_alone` is true, removes those of other versions. Returns how many versions there are."""
+        self.load()
+        mine = (LIBRARY + library()[0]).encode()
+        listed = self.execute_command("FUNCTION", "LIST", "LIBRARYNAME", LIBRARY + "*")
+        others = {each[each.index(b"library_name") + 1] for each in listed} - {mine}
+        for each in others if is_alone else ():
+            self.execute_command("FUNCTION", "DELETE", each)
+        return 1 if is_alone else 1 + len(others)
 
     def call_of(self, name, *arguments):
-        """Returns the words of a script's call, for a pipeline."""
-        if not self.hashes:
-            self.load()
-        return ("EVALSHA", self.hashes[name], 0, *arguments)
+        """Returns the words of a function's call, for a pipeline."""
+        return ("FCALL", f"{name}_{library()[0]}", 0, *arguments)
 
     def run(self, name, *arguments):
-        """Runs a script. Returns its answer, whose first word is text."""
-        while True:
-            try:
-                answer = self.execute_command(*self.call_of(name, *arguments))
-                break
-            except NoScriptError:
-                self.load()
+        """Runs a function. Returns its answer, whose first word is text."""
+        words = self.call_of(name, *arguments)
+        answer = self.patiently(lambda: self.call(words))
         if isinstance(answer, list) and isinstance(answer[0], bytes):
             answer[0] = answer[0].decode()
+        return answer
+
+    def call(self, words):
+        """Calls a function, which is loaded if the store lacks it."""
+        try:
+            answer = super().execute_command(*words)
+        except ResponseError as error:
+            if not is_missing(error):
+                raise
+            self.load()
+            answer = super().execute_command(*words)
+        self.had_functions = True
         return answer
 
     # What the store is.
 
     def facts(self):
         return self.execute_command("INFO", "server", "stats", "persistence", "memory")
+
+    def facts_when_loaded(self):
+        """Returns what the store is. While it reads its file, it says that it has none."""
+        facts = super().execute_command("INFO", "server", "stats", "persistence", "memory")
+        if facts.get("loading"):
+            raise BusyLoadingError("the store reads its file")
+        return facts
 
     def generation(self):
         """Returns what changes when the store may have lost something: its run, and how many keys it evicted."""
@@ -206,7 +250,7 @@ class Store(redis.Redis):
 
     def examine(self, is_any_allowed=False):
         """Raises Unfit if the store forgets by design: a cluster, eviction, no append-only file."""
-        facts = self.facts()
+        facts = self.patiently(self.facts_when_loaded)
         if facts.get("redis_mode") == "cluster":
             raise Unfit("this store is a Redis Cluster, which the fleet doesn't support: give each fleet a store of its own")
         policy, is_kept = facts.get("maxmemory_policy", "noeviction"), facts.get("aof_enabled") == 1

@@ -84,6 +84,7 @@ class Typing:
     def cancel(self):
         if self.task:
             self.task.cancel()
+        asyncio.get_running_loop().run_in_executor(self.page.threads, self.typist.leave)
 
 
 def problem(error):

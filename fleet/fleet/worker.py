@@ -12,6 +12,7 @@ import vt220
 from . import keys
 from .claims import HANDFUL, Claims
 from .frames import Frames
+from .latency import Latency
 from .inbox import Inbox
 from .keys import key
 from .session import Session, restored
@@ -35,10 +36,10 @@ class Kept(Session):
 
     def __init__(self, session, end, was_damaged):
         self.__dict__.update(session.__dict__)
+        self.replaces = was_damaged  # the next checkpoint replaces the stored one, also at the same position
         self.name = ""
         self.end = end  # where the bytes ended when it was taken
         self.seen = str(self.at) if self.at or not was_damaged else ""  # the checkpoint's position, as it was read
-        self.was_damaged = was_damaged
         self.stream = key(self.incarnation, "bytes").encode()
         self.last = b"%d-0" % self.at  # the last entry that was read
         self.queue = []  # what was read and isn't played: (id, fields), the first one perhaps in part
@@ -48,12 +49,13 @@ class Kept(Session):
         self.checkpoint = None  # one that the store hasn't
         self.told = -1  # the position that the store knows to be played
         self.shown, self.step = None, 0  # what viewers have
+        self.read_at = 0.0  # when its last bytes were read
         self.watched = 0.0  # until when somebody looks
         self.is_dirty = True  # something was played since viewers were sent a frame
         self.taken = time.monotonic()
         self.is_on_trial = False  # workers died in its company; this one takes no other until it caught up
 
-    def play_some(self, every, budget):
+    def play_some(self, every, budget, number=keys.FORMAT):
         """Plays what was read, up to so many bytes, and makes a checkpoint if one is due. Returns what is left of the bytes."""
         while self.queue and budget > 0 and len(self.reports) < REPORTS:
             entry_id, fields = self.queue[0]
@@ -63,10 +65,23 @@ class Kept(Session):
             self.is_dirty = self.is_dirty or played > 0
             if played == len(data):
                 self.queue.pop(0)
-        is_due = self.at - self.checked >= (1 if self.is_over() else every)
-        if is_due and self.terminal.is_between():
-            self.checked, self.checkpoint = self.at, keys.checkpoint(self.at, self.terminal.repaint())
+        if self.at - self.checked >= (1 if self.is_over() else every):
+            self.check(number)
+        else:
+            self.check_again(number)
         return budget
+
+    def check(self, number):
+        """Makes a checkpoint in a format, if the terminal is between sequences."""
+        if self.terminal.is_between():
+            self.checked, self.checkpoint = self.at, keys.checkpoint(self.at, self.terminal.repaint(), number)
+            self.newest = number
+
+    def check_again(self, number):
+        """Makes a checkpoint if the last one, or an entry after it, is of a newer format than all workers know."""
+        if self.newest > number:
+            self.check(number)
+            self.replaces = True
 
     def is_over(self):
         return self.status is not None and not self.queue
@@ -79,17 +94,18 @@ class Kept(Session):
 class Worker:
     """One worker. `turn` does what is due and waits for what comes."""
 
-    def __init__(self, store, settings):
-        self.store, self.settings = store, settings
+    def __init__(self, store, settings, formats=keys.FORMATS):
+        self.store, self.settings, self.formats = store, settings, formats
         self.kept = {}  # by incarnation
         self.due = set()  # incarnations that have something to read or to play
         self.choked = set()  # those whose hosts don't read their reports
         self.begun = self.noted = self.swept = self.asked = 0.0
-        self.claims = Claims(store, settings.lease)
+        self.claims = Claims(store, settings.lease, settings.retain, formats)
         self.inbox = Inbox(store, self.claims.me)
         self.frames = Frames(store)
         self.counts = {"entries": 0, "bytes": 0, "reports": 0, "checkpoints": 0, "faults": 0, "taken": 0, "lost": 0}
         self.is_leaving = self.is_gone = self.is_behind = self.is_stale = False
+        self.latency = Latency()
         store.minds_runs = True
         self.generation = store.generation()
 
@@ -100,7 +116,10 @@ class Worker:
         it is called between sessions, too."""
         if time.monotonic() < self.claims.due:
             return
+        number = self.claims.format
         news = self.claims.beat(len(self.kept))
+        if self.claims.format < number:
+            self.write_older()
         if news.is_dead:
             self.begin_anew("other workers took its sessions, since its count didn't change for a lease")
         elif news.is_to_be_compared:
@@ -111,6 +130,12 @@ class Worker:
             self.share(news.excess)
         if news.has_beaten:
             self.look_at_store()
+
+    def write_older(self):
+        """Has all checkpoints in the format of a worker that came, and that knows no newer one."""
+        for session in self.kept.values():
+            session.check_again(self.claims.format)
+        self.due.update(each for each, session in self.kept.items() if session.checkpoint)
 
     def share(self, excess):
         """Hands over what it has beyond its share, to workers that have less: some at a time, and each session only if it has been
@@ -196,7 +221,7 @@ class Worker:
                 raise answer
         if about[0] is None or not is_there:
             raise keys.Lost("the store no longer has this session's bytes")
-        session, was_damaged = restored(incarnation, checkpoint)
+        session, was_damaged = restored(incarnation, checkpoint, self.formats)
         kept = self.kept[incarnation] = Kept(session, int(about[0]), was_damaged)
         kept.seen = checkpoint.get(b"at", b"").decode("ascii", "replace")
         kept.name = keys.shown(about[1] or b"?")
@@ -219,10 +244,21 @@ class Worker:
             time.sleep(0.1)
         except (AnotherRun, AuthenticationError, NoPermissionError, *GONE):
             raise
+        except keys.Version as fault:
+            if fault.format:
+                self.decline(incarnation, fault)
+            else:
+                self.give_up(incarnation, f"Version: {fault}")
         except Exception as fault:
             if not isinstance(fault, keys.Fault):
                 log.exception("%s: session %s", self.claims.me, incarnation)
             self.give_up(incarnation, f"{type(fault).__name__}: {fault}")
+
+    def decline(self, incarnation, fault):
+        """Hands over a session of a format that this worker doesn't know: another version's worker goes on with it."""
+        log.warning("%s hands %s over: %s", self.claims.me, incarnation, fault)
+        self.claims.decline(incarnation, fault.format)
+        self.drop(incarnation)
 
     def give_up(self, incarnation, fault):
         """Says in the store that no worker can go on with a session. If the store says that it is another's, it is let go;
@@ -336,6 +372,7 @@ class Worker:
             session.is_read_out = True
         for stream, entries in self.store.read_streams(READ, {session.stream: session.last for session in sessions}):
             session = streams[stream]
+            session.read_at = time.monotonic()
             session.queue = [(entry_id, dict(zip(fields[::2], fields[1::2]))) for entry_id, fields in entries]
             session.is_read_out, session.last = len(entries) < READ, entries[-1][0]
 
@@ -347,7 +384,7 @@ class Worker:
                 raise keys.Trimmed(f"the bytes from {session.at} to {session.end} are gone")
             return
         begin, entries = session.at, len(session.queue)
-        if session.play_some(self.settings.every, budget) <= 0:
+        if session.play_some(self.settings.every, budget, self.claims.format) <= 0:
             self.is_behind = True
         self.counts["bytes"] += session.at - begin
         self.counts["entries"] += entries - len(session.queue)
@@ -371,10 +408,10 @@ class Worker:
 
     def words_of(self, session):
         made, settings = session.checkpoint, self.settings
-        words = [self.claims.me, session.incarnation, session.at, keys.version()]
+        words = [self.claims.me, session.incarnation, session.at, made["v"] if made else keys.version(self.claims.format)]
         words += [-1 if settings.keep is None else settings.keep, -1 if settings.retain is None else int(settings.retain * 1000)]
         if made:
-            words += ["always" if session.was_damaged else "newer", made["at"], made["length"], made["sha256"], made["repaint"]]
+            words += ["always" if session.replaces else "newer", made["at"], made["length"], made["sha256"], made["repaint"]]
         else:
             words += ["none", 0, 0, "", ""]
         words += [session.status, session.terminal.text()] if session.is_over() else ["none", ""]
@@ -398,10 +435,12 @@ class Worker:
 
     def was_told(self, session, unread):
         self.counts["reports"] += len(session.reports)
+        if session.reports:
+            self.latency.note(time.monotonic() - session.read_at)
         session.reports, session.told, session.is_on_trial = [], session.at, False
         if session.checkpoint:
             self.counts["checkpoints"] += 1
-            session.seen, session.was_damaged, session.checkpoint = str(session.checkpoint["at"]), False, None
+            session.seen, session.replaces, session.checkpoint = str(session.checkpoint["at"]), False, None
         if unread > UNREAD:
             self.choked.add(session.incarnation)
         if session.is_over():

@@ -7,6 +7,8 @@ import select
 import signal
 import struct
 import subprocess
+import threading
+import urllib.error
 import urllib.request
 
 from harness import (
@@ -30,7 +32,9 @@ from harness import (
     with_machine,
     worker,
 )
+from fleet import claims, host
 from fleet.config import Settings, Unclear
+from fleet.metrics import WholeFleet, server
 from safety import conf, fleet, free_port
 from stores_faults import program
 
@@ -65,7 +69,7 @@ def list_tells_how_sessions_are(machine, data):
     Source(url, "over").end(3)
     check(wait_for(lambda: state(store, "over")["state"] == "ended 3"), name, "one that ended")
     bad = Source(url, "bad\u00e4 <b>&")
-    store.xadd(bad.part("bytes"), {"v": "9.9"}, id="5-0")
+    store.xadd(bad.part("bytes"), {"v": "9"}, id="5-0")
     wait_for(lambda: store.hget(bad.part("about"), "owner") or bad.fault())
     owner = store.hget(bad.part("about"), "owner")
     store.publish(keys.wake(owner.decode() if owner else "nobody"), bad.incarnation)
@@ -329,12 +333,60 @@ def metrics_and_logs(machine, data):
     reports, entries = wanted("reports", data)[1].count(b"\033["), 1 + -(-len(data) // 700)
     check(float(found["fleet_reports_total"]) == reports and float(found["fleet_entries_total"]) == entries, name, str(found))
     check(found["fleet_sessions"] == "1.0" and found["fleet_faults_total"] == "0.0", name, str(found))
+    check(float(found["fleet_report_seconds_count"]) > 0 == float(found['fleet_report_seconds_bucket{le="+Inf"}']) - float(found["fleet_report_seconds_count"]), name, "latencies")
+    check(asked(port, "healthz") == (200, "ok\n"), name, "it is well")
     check(
         all(re.match(r"\d{4}-\d\d-\d\d \d\d:\d\d:\d\d,\d{3} (INFO|WARNING|ERROR) ", line) for line in workers.said()),
         name,
         "logs have times",
     )
     workers.stop()
+
+
+def asked(port, what):
+    """Returns the status and the text of a page."""
+    try:
+        with urllib.request.urlopen(f"http://127.0.0.1:{port}/{what}", timeout=PATIENCE) as answer:
+            return answer.status, answer.read().decode()
+    except urllib.error.HTTPError as refused:
+        return refused.code, refused.read().decode()
+
+
+@with_machine
+def metrics_of_the_whole_fleet(machine, _):
+    name = "fleet metrics"
+    whole = WholeFleet(stores.connect(machine.url, socket_timeout=2))
+    served = server(whole, "127.0.0.1:0")
+    threading.Thread(target=served.serve_forever, daemon=True).start()
+    port = served.server_address[1]
+    check(asked(port, "healthz") == (503, "no worker lives\n"), name, "without a worker it isn't well")
+    Source(machine.url, "waits").send(b"abc")
+    bad, gone = Source(machine.url, "bad"), Source(machine.url, "gone")
+    bad.store.set(bad.part("fault"), "Poison: so")
+    gone.store.delete(keys.lease("gone"))
+    claims.Claims(stores.connect(machine.url), 60)
+    whole.read = -1e9
+    check(asked(port, "healthz") == (200, "ok\n"), name, "with one it is")
+    found = dict(line.rsplit(" ", 1) for line in asked(port, "metrics")[1].splitlines() if not line.startswith("#"))
+    wanted = {'fleet_states{state="waiting"}': 1, 'fleet_states{state="no host"}': 1, 'fleet_states{state="fault"}': 1, "fleet_workers": 1}
+    wanted |= {'fleet_session_faults{fault="Poison"}': 1, "fleet_lag_bytes": 3, "fleet_lag_most_bytes": 3, "fleet_store_up": 1}
+    check(all(float(found.get(each, -1)) == value for each, value in wanted.items()), name, str(found))
+    check(float(found["fleet_waiting_seconds"]) >= 0 < float(found["fleet_store_round_trip_seconds"]), name, str(found))
+    with open(os.path.join(HERE, "..", "alerts.yml")) as rules:
+        text = rules.read()
+    names = {re.sub(r"_(bucket|total)$", "", each) for each in re.findall(r"\bfleet_\w+", text)}
+    known = {re.sub(r"\{.*|_(bucket|sum|count|total)$", "", each) for each in found} | {"fleet_report_seconds"}
+    check(names <= known, name, f"the alerts are of metrics that there are: {names - known}")
+    check(text.count("- alert:") == 5, name, "five alerts")
+    with open(os.path.join(HERE, "..", "RUNBOOK.md")) as book:
+        pages = set(re.findall(r"^## (\w+)", book.read(), re.MULTILINE))
+    faults = {each.__name__ for each in keys.Fault.__subclasses__()} | {host.Taken.__name__} | {"Poison"} | set(re.findall(r"- alert: (\w+)", text))
+    check(faults <= pages, name, f"the runbook has a page for each fault and each alert: {faults - pages}")
+    machine.kill()
+    whole.read, whole.store.patience = -1e9, 0.1
+    check(asked(port, "healthz")[0] == 503 and "fleet_store_up 0.0" in asked(port, "metrics")[1], name, "without a store")
+    machine.start()
+    served.shutdown()
 
 
 @with_machine
@@ -365,6 +417,8 @@ def the_configuration_is_read_and_checked(machine, _):
     for unit in os.listdir(units):
         text = open(os.path.join(units, unit)).read()
         check("ExecStart=" in text and "[Service]" in text, name, unit)
+        check("StartLimitIntervalSec=0" in text and "Restart=" in text, name, f"{unit} is started again for ever")
+        check(all(f"{word}=" in text for word in ("SystemCallFilter", "UMask", "NoNewPrivileges", "ProtectSystem")), name, f"{unit} is hardened")
 
 
 CASES = [
@@ -376,5 +430,6 @@ CASES = [
     a_viewer_follows_and_types_on_a_terminal,
     sessions_are_looked_at_and_exported,
     metrics_and_logs,
+    metrics_of_the_whole_fleet,
     the_configuration_is_read_and_checked,
 ]

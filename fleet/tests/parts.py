@@ -7,7 +7,8 @@ from harness import Source, check, key, keys, played, raises, session, stores, u
 import vt220
 from fleet import frames
 from fleet.host import Host
-from fleet.program import Program
+from fleet import wire
+from fleet.program import started
 from fleet.view import Viewer
 
 
@@ -89,13 +90,13 @@ def damaged_checkpoints_are_noticed(url, data):
 
 
 def other_formats_are_named(url, data):
-    for part, name in (("checkpoint", "a checkpoint of another format"), ("bytes", "an entry of another format")):
+    for part, name in (("checkpoint", "a checkpoint of no format"), ("bytes", "an entry of no format")):
         one = worker(url)
         source = Source(url, name)
         if part == "checkpoint":
-            source.store.hset(source.part(part), mapping=keys.checkpoint(0, b"") | {"v": "9.200"})
+            source.store.hset(source.part(part), mapping=keys.checkpoint(0, b"") | {"v": "9"})
         else:
-            source.store.xadd(source.part(part), {"v": "9.200", "bytes": "abc"}, id="3-0")
+            source.store.xadd(source.part(part), {"v": "9", "bytes": "abc"}, id="3-0")
         check(until(source.fault, one), name, "is a fault")
         check(source.fault().startswith("Version"), name, source.fault())
     source = Source(url, "versions").send(b"\033[c")
@@ -174,11 +175,13 @@ def a_program_gets_its_answers(url, _):
     host = Host(stores.connect(url), name)
     host.register()
     one = worker(url)
-    runs = threading.Thread(target=lambda: host.end(Program(host, ["sh", "-c", asks]).run()))
+    program = started(host, ["sh", "-c", asks], wire.path_of(url, name))
+    runs = threading.Thread(target=lambda: host.end(program.run()))
     runs.start()
     store = stores.connect(url)
     check(until(lambda: store.exists(key(host.incarnation, "ended")), one), name, "it ends")
     runs.join()
+    program.done()
     ended = store.hgetall(key(host.incarnation, "ended"))
     check(ended[b"status"] == b"3", name, "its status")
     check(" ".join(ended[b"text"].decode().split()) == "ab 033 [ 1 ; 3 R", name, "the answer")
@@ -187,8 +190,10 @@ def a_program_gets_its_answers(url, _):
 def a_killed_program_has_a_shell_s_status(url, _):
     host = Host(stores.connect(url), "killed")
     host.register()
-    check(Program(host, ["sh", "-c", "kill -9 $$"]).run() == 137, "killed", "137, as a shell has it")
+    program = started(host, ["sh", "-c", "kill -9 $$"], wire.path_of(url, "killed"))
+    check(program.run() == 137, "killed", "137, as a shell has it")
     host.end(137)
+    program.done()
 
 
 CASES = [

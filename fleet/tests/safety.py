@@ -176,6 +176,10 @@ def users_have_the_rights_that_they_need(machine, _):
     urls = {user: f"unix://{user}:{user.upper()}-PASSWORD@{machine.socket}" for user in USERS}
     machine.url = urls["operator"]
     machine.start("--aclfile", acl)
+    check(fleet(urls["viewer"], "prepare-store")[0] == 69, "users", "only an operator loads the functions")
+    status, _, said = fleet(urls["worker"], "worker")
+    check(status == 69 and "prepare-store" in said, "users", f"without them a worker ends: {status} {said}")
+    check(fleet(urls["operator"], "prepare-store")[0] == 0, "users", "an operator loads them")
     workers = Processes(machine, 1, "--lease", "1", "--retain", "1h", url=urls["worker"])
     words = [local.PYTHON, local.COMMAND, "host", "--input", "roles", "sh", "-c", PROGRAM_THAT_ASKS]
     host = subprocess.Popen(words, env=os.environ | {"FLEET_REDIS": urls["host"]}, stderr=subprocess.DEVNULL)
@@ -203,6 +207,7 @@ def rights_of_commands(urls):
     check(fleet(urls["viewer"], "type", "--enter", "roles", "hello")[0] == 77, "users", "a viewer cannot type")
     check(fleet(urls["typist"], "type", "--enter", "roles", "hello")[0] == 0, "users", "a typist can")
     check(wait_for(lambda: "got hello" in fleet(urls["viewer"], "text", "roles")[1]), "users", "and the program reads it")
+    check(fleet(urls["typist"], "kill", "roles")[0] == 77, "users", "but sends no signal")
     check(fleet(urls["viewer"], "end", "--force", "roles")[0] == 77, "users", "a viewer ends nothing")
     check(fleet(urls["viewer"], "host", "other", "true")[0] == 77, "users", "and is no host")
 
@@ -215,6 +220,9 @@ def rights_of_calls(urls):
         "typist": [("XADD", "fleet:x:answers", "*", "a", "b"), ("SET", "fleet:x:fault", "x")],
         "operator": [("FLUSHALL",), ("CONFIG", "GET", "*")],
     }
+    endless = ("while true do end", "#!lua name=fleet_x\nredis.register_function('x', function() while true do end end)")
+    for user in USERS[:-1]:
+        denied[user] += [("EVAL", endless[0], 0), ("SCRIPT LOAD", endless[0]), ("FUNCTION LOAD", endless[1]), ("FUNCTION FLUSH",)]
     for user, calls in denied.items():
         for words in calls:
             call = stores.connect(urls[user]).execute_command

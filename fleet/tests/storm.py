@@ -127,7 +127,7 @@ class Weather:
 
     def beats(self, victim):
         """Returns the counts of all workers but one."""
-        return {worker: int(count) for worker, count in self.store.hgetall(keys.WORKERS).items() if b"-%d-" % victim.pid not in worker}
+        return {worker: int(count.split()[0]) for worker, count in self.store.hgetall(keys.WORKERS).items() if b"-%d-" % victim.pid not in worker}
 
     def kill_a_worker(self):
         self.workers.kill(self.chance.randrange(4))

@@ -216,7 +216,7 @@ def changes_arrive(browser, store, name):
 def ended_and_faulty_sessions_are_shown(machine, data):
     name, workers, served = "states", Processes(machine, 1, "--lease", "1"), Served(machine)
     done, bad = Source(machine.url, "done").send(data).end(7), Source(machine.url, "bad").send(b"ab")
-    bad.store.xadd(bad.part("bytes"), {"v": "9.9", "bytes": "c"}, id="3-0")
+    bad.store.xadd(bad.part("bytes"), {"v": "9", "bytes": "c"}, id="3-0")
     Source(machine.url, "gone", lease=0.3).send(b"gone")
     many = [Source(machine.url, f"many-{number:03}").send(b"Session %d" % number) for number in range(60)]
     wait_for(lambda: done.is_ended() and all(source.store.hget(source.part("about"), "owner") for source in many))

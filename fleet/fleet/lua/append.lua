@@ -1,9 +1,10 @@
--- A host appends bytes: INCARNATION BEFORE POSITION VERSION MOMENT BYTES
+-- A host appends bytes: INCARNATION BEFORE POSITION VERSION MOMENT BYTES [HOST]
 -- ok, with the position that a worker has played; or taken, lost, other (another entry is there), back (with the end there).
 local inc, before, at = ARGV[1], tonumber(ARGV[2]), tonumber(ARGV[3])
-local about = redis.call('HMGET', key(inc, 'about'), 'end', 'played', 'owner', 'closed')
+local about = redis.call('HMGET', key(inc, 'about'), 'end', 'played', 'owner', 'closed', 'host')
 if about[4] then return {'taken', about[4]} end
 if not about[1] then return {'lost'} end
+if ARGV[7] and about[5] ~= ARGV[7] then return {'taken', about[5] or ''} end
 local there = tonumber(about[1])
 if there >= at then
   local entry = redis.call('XRANGE', key(inc, 'bytes'), ARGV[3] .. '-0', ARGV[3] .. '-0')[1]

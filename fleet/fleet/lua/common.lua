@@ -1,4 +1,4 @@
--- What the scripts share. It is put before each of them.
+-- What the functions share.
 local function key(inc, part) return 'fleet:' .. inc .. ':' .. part end
 
 local function moment()
@@ -7,7 +7,7 @@ local function moment()
 end
 
 -- A field of a session's hash; nil if there is none, or if the key is no hash: nothing that is wrong with one session stops a
--- script that is about many.
+-- function that is about many.
 local function field(inc, part, name)
   local found = redis.pcall('HGET', key(inc, part), name)
   if type(found) == 'string' then return found end
@@ -32,6 +32,35 @@ end
 -- Returns whether a session is among those that want a worker.
 local function is_waiting(inc)
   return redis.call('ZSCORE', 'fleet:waiting', inc) or redis.call('ZSCORE', 'fleet:suspects', inc)
+    or redis.call('HEXISTS', 'fleet:foreign', inc) == 1
+end
+
+-- What a worker shows of itself is COUNT LEASE(ms) FORMATS, such as 12 5000 2,3. Returns the formats; nil if it shows none.
+local function formats_in(shown)
+  return string.match(shown, '^%d+ %d+ ([%d,]+)$')
+end
+
+-- Returns whether a worker knows a format.
+local function knows(worker, format)
+  local known = formats_in(redis.call('HGET', 'fleet:workers', worker) or '')
+  return known and string.find(',' .. known .. ',', ',' .. format .. ',', 1, true) ~= nil
+end
+
+-- Returns the newest format that all living workers know, as text; empty if there is none. All write this one, so that each can go
+-- on with what another one wrote.
+local function common_format()
+  local workers, count, newest = 0, {}, 0
+  for _, shown in ipairs(redis.call('HVALS', 'fleet:workers')) do
+    local known = formats_in(shown)
+    if known then
+      workers = workers + 1
+      for format in string.gmatch(known, '%d+') do count[format] = (count[format] or 0) + 1 end
+    end
+  end
+  for format, times in pairs(count) do
+    if times == workers then newest = math.max(newest, tonumber(format)) end
+  end
+  return newest > 0 and tostring(newest) or ''
 end
 
 -- So many workers may die with a session in a handful, before it caught up. Then it is taken alone, so that a death counts against
@@ -59,6 +88,7 @@ local function unclaim(inc)
   disown(inc)
   redis.call('ZREM', 'fleet:waiting', inc)
   redis.call('ZREM', 'fleet:suspects', inc)
+  redis.call('HDEL', 'fleet:foreign', inc)
 end
 
 -- How long a session that was removed by force is remembered: longer than its host may be cut off from the store.
@@ -79,4 +109,13 @@ local function close(inc, status, version)
   if about[3] then redis.call('PUBLISH', 'fleet:wake:' .. about[3], inc) end
 end
 
-local parts = {'about', 'bytes', 'answers', 'checkpoint', 'view', 'keys', 'signals', 'typed', 'ended', 'fault'}
+local parts = {'about', 'bytes', 'answers', 'checkpoint', 'view', 'keys', 'signals', 'ended', 'fault'}
+
+-- Removes all that there is of a session.
+local function forget(inc)
+  local name = field(inc, 'about', 'name')
+  retire(inc)
+  for _, part in ipairs(parts) do redis.call('UNLINK', key(inc, part)) end
+  redis.call('ZREM', 'fleet:all', inc)
+  if name and redis.call('HGET', 'fleet:names', name) == inc then redis.call('HDEL', 'fleet:names', name) end
+end

@@ -1,4 +1,4 @@
-#!lua flags=allow-oom
+-- Flags: allow-oom
 -- An operator ends a session that has no host: INCARNATION FORCE(0|1) VERSION EXPIRE(ms; 0 at once, -1 never)
 -- ok; or lost, alive (its host holds the name). Its worker plays what is there first, unless the keys go at once.
 local inc = ARGV[1]
@@ -10,10 +10,7 @@ if redis.call('GET', 'fleet:lease:' .. name) == inc then
   redis.call('DEL', 'fleet:lease:' .. name)
 end
 if expire == 0 then
-  retire(inc)
-  for _, part in ipairs(parts) do redis.call('UNLINK', key(inc, part)) end
-  redis.call('ZREM', 'fleet:all', inc)
-  if redis.call('HGET', 'fleet:names', name) == inc then redis.call('HDEL', 'fleet:names', name) end
+  forget(inc)
   -- Its host, if it lives, is told so, and doesn't take this for a store that went back.
   redis.call('HSET', key(inc, 'about'), 'closed', 'ended')
   redis.call('PEXPIRE', key(inc, 'about'), REMEMBERED)

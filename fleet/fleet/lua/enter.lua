@@ -1,3 +1,3 @@
--- A worker begins: WORKER
-redis.call('HSETNX', 'fleet:workers', ARGV[1], 0)
+-- A worker begins: WORKER LEASE(ms) FORMATS(such as 2,3)
+redis.call('HSETNX', 'fleet:workers', ARGV[1], '0 ' .. ARGV[2] .. ' ' .. ARGV[3])
 return {'ok'}

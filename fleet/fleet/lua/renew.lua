@@ -1,19 +1,20 @@
--- A host renews its lease: NAME INCARNATION LEASE(ms)
--- ok, with the end of the bytes, what is played, and how it ended or failed; or taken, lost.
+-- A host renews its lease: NAME INCARNATION LEASE(ms) [HOST]
+-- ok, with the end of the bytes, what is played, the format to write, and the fault; or taken, lost.
 -- A session that no living worker has, and that doesn't wait, waits again: its claim was lost.
 local name, inc = ARGV[1], ARGV[2]
-local about = redis.call('HMGET', key(inc, 'about'), 'end', 'played', 'owner', 'closed')
+local about = redis.call('HMGET', key(inc, 'about'), 'end', 'played', 'owner', 'closed', 'host')
 if about[4] then return {'taken', about[4]} end
 if not about[1] or redis.call('EXISTS', key(inc, 'bytes')) == 0 then return {'lost'} end
+if ARGV[4] and about[5] ~= ARGV[4] then return {'taken', about[5] or ''} end
 local held = redis.call('GET', 'fleet:lease:' .. name)
 if held and held ~= inc then return {'taken', held} end
 redis.call('SET', 'fleet:lease:' .. name, inc, 'PX', ARGV[3])
 redis.call('HSETNX', 'fleet:names', name, inc)
 local fault = redis.call('GET', key(inc, 'fault'))
-if fault then return {'ok', about[1], about[2], fault} end
+if fault then return {'ok', about[1], about[2], common_format(), fault} end
 redis.call('SADD', 'fleet:live', inc)
 redis.call('ZADD', 'fleet:all', 'NX', moment(), inc)
 local owner = about[3]
 local is_had = owner and redis.call('HEXISTS', 'fleet:workers', owner) == 1 and redis.call('SISMEMBER', 'fleet:of:' .. owner, inc) == 1
 if not is_had then queue(inc) end
-return {'ok', about[1], about[2]}
+return {'ok', about[1], about[2], common_format()}

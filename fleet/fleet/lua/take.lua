@@ -44,9 +44,17 @@ while suspect do
   end
   suspect = redis.call('ZPOPMIN', 'fleet:suspects')[1]
 end
+local taken = {'ok', 0}
+-- Those of a format that this worker knows, and those that handed them over don't.
+local foreign = redis.call('HRANDFIELD', 'fleet:foreign', 64, 'WITHVALUES')
+for at = 1, #foreign, 2 do
+  if knows(me, foreign[at + 1]) then
+    redis.call('HDEL', 'fleet:foreign', foreign[at])
+    if own(foreign[at]) then taken[#taken + 1] = foreign[at] end
+  end
+end
 local room = math.min(tonumber(ARGV[2]), share() - redis.call('SCARD', 'fleet:of:' .. me))
 local latest = room > 0 and '+inf' or moment() - 1000
-local taken = {'ok', 0}
 for _, inc in ipairs(redis.call('ZRANGE', 'fleet:waiting', '-inf', latest, 'BYSCORE', 'LIMIT', 0, room > 0 and room or ARGV[2])) do
   redis.call('ZREM', 'fleet:waiting', inc)
   if own(inc) then taken[#taken + 1] = inc end

@@ -1,3 +1,4 @@
+-- Flags: allow-oom
 -- Somebody looks at a session: INCARNATION. Its worker is told.
 -- Returns its worker, its fault, whether it has ended, and the last id for viewers; or lost.
 local inc = ARGV[1]

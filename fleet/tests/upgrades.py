@@ -1,0 +1,389 @@
+"""What is replaced while sessions live: formats, leases, hosts; and what is removed in the end."""
+import os
+import random
+import signal
+import stat
+import subprocess
+import sys
+
+from harness import (
+    HERE,
+    PATIENCE,
+    PATIENT,
+    Processes,
+    Source,
+    check,
+    compare,
+    configured,
+    key,
+    keys,
+    local,
+    raises,
+    settings,
+    stores,
+    until,
+    wait_for,
+    wanted,
+    with_machine,
+    worker,
+)
+from operators import written
+from safety import conf, fleet
+from stores_faults import program
+from fleet import claims, wire
+from fleet.operate import Typist
+from fleet.worker import Worker
+
+seed = 1
+NEXT = (2, 3)  # the formats that the next version's programs know
+
+
+def newer(url, **chosen):
+    """A worker of the next version."""
+    return Worker(stores.connect(url), settings(**chosen), formats=NEXT)
+
+
+def version_of(source):
+    """Returns the format of a session's checkpoint, as text."""
+    return (source.store.hget(source.part("checkpoint"), "v") or b"").split(b".")[0]
+
+
+def entries_of(source):
+    """Returns the formats of a session's entries."""
+    return {fields[b"v"].split(b".")[0] for _, fields in source.store.xrange(source.part("bytes")) if b"bytes" in fields}
+
+
+def renew(source):
+    source.host.renewed = -1e9
+    source.host.renew_if_due()
+
+
+def formats_are_rolled_out_and_back(url, data):
+    """Workers and a host of the next version come, all others go, and then the older ones come back."""
+    name, old = "formats", worker(url, every=100)
+    source = Source(url, name).send(data[:1000])
+    source.host.formats = NEXT
+    check(until(lambda: version_of(source) == b"2", old), name, "the format of all")
+    new = newer(url, every=100)
+    for part in (data[1000:2000], data[2000:3000]):
+        source.send(part + b"\030\033[6n")
+        renew(source)
+        check(until(lambda: source.store.hget(source.part("about"), "played") == b"%d" % source.host.at, old, new), name, "both play")
+    check(version_of(source) == b"2" and entries_of(source) == {b"2"}, name, "while one knows the older format only, it is written")
+    old.is_leaving = True
+    old.turn(0.01)
+    check(until(lambda: new.claims.format == 3, new), name, "the other one notices that")
+    renew(source)
+    source.send(data[3000:4000] + b"\030\033[6n")
+    check(until(lambda: version_of(source) == b"3", new), name, "then the newer one is")
+    check(entries_of(source) == {b"2", b"3"}, name, "by hosts, too")
+    back = worker(url, every=100)
+    check(until(lambda: version_of(source) == b"2", new), name, "an older worker comes: all checkpoints are of its format again")
+    renew(source)
+    source.send(data[4000:5000] + b"\030\033[6n")
+    check(until(lambda: source.store.hget(source.part("about"), "played") == b"%d" % source.host.at, new, back), name, "it is played")
+    new.is_leaving = True
+    new.turn(0.01)
+    source.send(b"\033[6n").end(0)
+    check(until(source.is_ended, back), name, "and the older one goes on alone")
+    source.receive()
+    check(source.fault() == "", name, source.fault())
+    compare(source, name)
+
+
+def a_session_of_another_format_waits_for_its_worker(url, data):
+    """The last worker of its format was killed. Those of the other one hand it over, and it isn't a fault."""
+    name, new = "foreign", newer(url, every=100)
+    source = Source(url, name).send(data[:1000] + b"\030")
+    check(until(lambda: version_of(source) == b"3" and not new.due, new), name, "it is of the next format")
+    store = source.store
+    old = worker(url)
+    store.run("bury", new.claims.me, store.hget(keys.WORKERS, new.claims.me), 500)
+    check(until(lambda: store.hget(keys.FOREIGN, source.incarnation) == b"3", old), name, "the other one hands it over")
+    other = Source(url, "other").send(b"x")
+    check(until(lambda: other.incarnation in old.kept, old), name, "and plays others")
+    status, out, said = fleet(url, "list")
+    check("waiting" in out and "foreign: waits for a worker that knows the format 3" in said, name, f"list says so: {out} {said}")
+    source.send(data[1000:2000] + b"\033[6n")
+    check(source.fault() == "" and store.hexists(keys.FOREIGN, source.incarnation), name, "it has no fault")
+    again = newer(url)
+    source.end(0)
+    check(until(source.is_ended, old, again), name, "a worker that knows it goes on")
+    source.receive()
+    compare(source, name)
+    check(store.hlen(keys.FOREIGN) == 0, name, "and nothing is left")
+
+
+class Clock:
+    """A clock that the test moves."""
+
+    def __init__(self):
+        self.now = 1000.0
+
+    def monotonic(self):
+        return self.now
+
+
+def a_worker_is_dead_by_its_own_lease(url, _):
+    """Two workers have different leases: that of the silent one counts."""
+    name, clock, before = "leases", Clock(), claims.time
+    claims.time = clock
+    try:
+        long, short = worker(url, lease=60), worker(url, lease=1)
+        source = Source(url, name).send(b"x")
+        check(long.claims.take(10) == [source.incarnation], name, "the one with the long lease has a session")
+        for _ in range(120):
+            clock.now += 0.45
+            short.claims.beat(0)
+        check(source.store.hexists(keys.WORKERS, long.claims.me), name, "after 54 s of silence it lives")
+        for _ in range(30):
+            clock.now += 0.45
+            short.claims.beat(0)
+        check(not source.store.hexists(keys.WORKERS, long.claims.me), name, "after its lease it is dead")
+    finally:
+        claims.time = before
+
+
+def what_nobody_needs_is_removed(url, _):
+    """With `retain`: names, sessions with a fault, sessions without a host; and what typists leave."""
+    name, one = "retain", worker(url, retain=0)
+    store = stores.connect(url)
+    for number in range(30):
+        Source(url, f"job-{number}").send(b"x").end(0)
+    lost, bad, lives = Source(url, "lost").send(b"y"), Source(url, "bad"), Source(url, "lives", takes_input=True)
+    for source in (bad, lives):
+        store.set(source.part("fault"), "Wrong: so")
+        store.srem(keys.LIVE, source.incarnation)
+    store.delete(keys.lease("lost"), keys.lease("bad"))
+
+    def look():
+        one.turn(0.01)
+        one.claims.audit()
+        return store.hlen(keys.NAMES) == 1 and store.zcard(keys.ALL) == 1
+
+    check(wait_for(look), name, f"the names and the sessions go: {store.hgetall(keys.NAMES)} {store.zcard(keys.ALL)}")
+    check(not store.keys(f"fleet:{bad.incarnation}:*") and not store.keys(f"fleet:{lost.incarnation}:*"), name, "with all keys")
+    check(store.exists(lives.part("fault")), name, "that one stays whose host lives")
+    store.delete(lives.part("fault"))
+    for number in range(3):
+        typist = Typist(store, lives.incarnation)
+        typist.type(b"x")
+        check(0 < store.ttl(lives.part(f"typed:{typist.me}")) <= 86400, name, "a typist's number goes after a day")
+        typist.leave()
+    check(not store.keys(lives.part("typed*")), name, "or when the typist leaves")
+
+
+# A program that writes a file in parts of so many bytes. Each part ends with a question; what comes up to its answer is written down.
+ASKER = r"""
+import os, sys, tty
+tty.setraw(0)
+data, size = open(sys.argv[1], "rb").read(), int(sys.argv[3])
+got = open(sys.argv[2], "ab", buffering=0)
+for at in range(0, len(data), size):
+    part, came = data[at : at + size], b""
+    while part:
+        part = part[os.write(1, part):]
+    while not came.endswith(b"0n"):
+        came += os.read(0, 4096)
+    got.write(came)
+sys.exit(3)
+"""
+
+
+class Run:
+    """A host with a program that writes bytes and writes down the reports. It may be killed, and started again."""
+
+    def __init__(self, machine, name, parts, *words):
+        self.machine, self.name, self.data, self.words = machine, name, b"".join(parts), words
+        self.store = stores.connect(machine.url)
+        self.file, self.got = os.path.join(machine.folder, f"{name}.data"), os.path.join(machine.folder, f"{name}.got")
+        with open(self.file, "wb") as file:
+            file.write(self.data)
+        self.reports = wanted("reports", self.data)[1]
+        self.command = [sys.executable, "-c", ASKER, self.file, self.got, str(len(parts[0]))]
+        self.start()
+
+    def start(self):
+        self.host = program(self.machine, self.name, self.command, *self.words)
+
+    def kill(self):
+        self.host.kill()
+        self.host.wait()
+
+    def incarnation(self):
+        found = self.store.hget(keys.NAMES, self.name)
+        return found.decode() if found else None
+
+    def end(self):
+        """Returns how many bytes the store has."""
+        return int(self.store.hget(key(self.incarnation() or "", "about"), "end") or 0)
+
+    def hold(self):
+        """Compares all with the program vt220."""
+        incarnation = self.incarnation()
+        check(wait_for(lambda: self.store.exists(key(incarnation, "ended"))), self.name, "it ends")
+        ended = self.store.hgetall(key(incarnation, "ended"))
+        check((ended[b"at"], ended[b"status"]) == (b"%d" % len(self.data), b"3"), self.name, f"place, status: {ended[b'at']} {ended[b'status']}")
+        check(ended[b"text"] == wanted("text", self.data)[1], self.name, "text")
+        with open(self.got, "rb") as got:
+            check(got.read() == self.reports, self.name, "each report reached the program once")
+        kept = written(self.store, self.name)
+        check(kept and self.data.endswith(kept), self.name, f"each byte of the program, once: {len(kept)}")
+
+
+def asking(data, times, size=100):
+    """Returns parts of the same length, each with a question at its end."""
+    return [data[at : at + size].ljust(size) + b"\030\033[5n" for at in range(0, size * times, size)]
+
+
+@with_machine
+def a_program_outlives_its_host(machine, data):
+    """The host is killed again and again, at no moment in particular, and started again."""
+    name, workers = "outlives", Processes(machine, 1)
+    run, kills = Run(machine, name, asking(data * 20, 200)), 8
+    wait_for(run.end, 0)
+    first = run.incarnation()
+    for _ in range(kills):
+        before = run.end()
+        wait_for(lambda: run.end() > before, 0)
+        run.kill()
+        run.start()
+    check(run.host.wait(PATIENCE) == 3, name, f"the last host has the program's status: {run.host.returncode}")
+    check(run.incarnation() == first, name, f"it is one session over {kills + 1} hosts")
+    run.hold()
+    check(not os.listdir(machine.holders()), name, "the holder has ended")
+    workers.stop()
+
+
+@with_machine
+def a_storm_with_hosts_among_the_victims(machine, data):
+    """Hosts, workers and the store are killed in turn, each time once a session has gone on. No clock decides."""
+    name, chance = "host storm", random.Random(seed)
+    with configured(machine, *PATIENT, "[worker]", "lease = 1", "every = 300", "keep = 2000", "[host]", "lease = 3600"):
+        workers = Processes(machine, 3)
+        runs = [Run(machine, f"victim-{number}", asking(data[number * 500 :] + data * 9, 250)) for number in range(4)]
+        for each in runs:
+            wait_for(each.end)
+        firsts, kills = [each.incarnation() for each in runs], {"host": 0, "worker": 0, "store": 0}
+        for victim in ("host", "worker", "host", "host", "store", "worker", "host", "store", "host", "worker", "host"):
+            going = [each for each in runs if each.host.poll() is None]
+            if not going:
+                break
+            one = chance.choice(going)
+            before = one.end()
+            wait_for(lambda: one.end() > before or one.host.poll() is not None, 0)
+            if victim == "worker":
+                workers.kill(chance.randrange(3))
+            elif victim == "store":
+                machine.kill()
+                machine.start()
+            elif one.host.poll() is None:
+                one.kill()
+                one.start()
+            kills[victim] += 1
+        for each, first in zip(runs, firsts):
+            check(each.host.wait(PATIENCE) == 3, each.name, f"its last host has the program's status: {each.host.returncode}")
+            check(each.incarnation() == first, each.name, "it is one session")
+            each.hold()
+    check(min(kills.values()) > 0, name, f"all kinds were killed: {kills}")
+    said = workers.said()
+    check(not any("Traceback" in line or "gives up" in line for line in said), name, "no worker has a fault")
+    workers.stop()
+
+
+@with_machine
+def a_host_is_replaced_by_a_newer_one(machine, _):
+    name, workers = "replaced", Processes(machine, 1)
+    command = ["sh", "-c", 'stty -echo; echo on; while read x; do echo "got $x"; done; exit 4']
+    host = program(machine, name, command, "--input")
+    store = stores.connect(machine.url)
+    wait_for(lambda: b"on" in written(store, name))
+    incarnation = store.hget(keys.NAMES, name).decode()
+
+    def held_by():
+        return store.hget(key(incarnation, "about"), "host")
+
+    check(fleet(machine.url, "host", name, *command)[0] == 5, name, "a second host is refused while the first one lives")
+    before = held_by()
+    for number in range(3):
+        host.send_signal(signal.SIGUSR1)
+        check(wait_for(lambda: held_by() != before), name, "SIGUSR1: it is another one")
+        before = held_by()
+        check(fleet(machine.url, "type", "--enter", name, f"line {number}")[0] == 0, name, "which takes keys")
+        check(wait_for(lambda: b"got line %d" % number in written(store, name)), name, "for the same program")
+    check(written(store, name).count(b"got") == 3, name, "each once")
+    host.kill()
+    host.wait()
+    check(fleet(machine.url, "host", name, "sleep", "1")[0] == 5, name, "another command doesn't take the name")
+    host = program(machine, name, command, "--input")
+    check(wait_for(lambda: held_by() != before), name, "the same one goes on")
+    check(fleet(machine.url, "kill", "--patience", str(PATIENCE), name)[0] == 0 and host.wait(PATIENCE) == 129, name, "signals reach it")
+    workers.stop()
+
+
+@with_machine
+def an_old_host_writes_nothing_once_there_is_a_new_one(machine, _):
+    """What the old one had sent arrives late."""
+    name = "fenced"
+    old = Source(machine.url, name, lease=600).send(b"abc")
+    new = Source.__new__(Source)
+    new.store = stores.connect(machine.url)
+    from fleet.host import Host, Taken
+
+    new.host = Host(new.store, name, 600, incarnation=old.incarnation)
+    new.host.resume()
+    check(new.host.at == 3, name, f"the new one goes on where the old one stopped: {new.host.at}")
+    check(raises(Taken, old.send, b"late"), name, "the old one writes nothing more")
+    new.host.adopt(0, 6, {})
+    check(not new.host.is_whole(), name, "the new one first takes in what the store has")
+    new.host.send_up_to(2, b"ab")
+    new.host.send_up_to(6, b"cdef")
+    check(new.host.is_whole() and new.host.at == 6, name, "and then sends the rest")
+    check(b"".join(fields.get(b"bytes", b"") for _, fields in new.store.xrange(old.part("bytes"))) == b"abcdef", name, "once")
+    new.store.delete(old.part("bytes"), old.part("about"))
+    new.host.renewed = -1e9
+    new.host.renew_if_due()
+    check(b"".join(fields.get(b"bytes", b"") for _, fields in new.store.xrange(old.part("bytes"))) == b"abcdef", name, "it can send all again")
+
+
+@with_machine
+def a_program_without_a_host_is_ended_in_time(machine, _):
+    name, marker = "orphan", os.path.join(machine.folder, "hung up")
+    with configured(machine, *PATIENT, "[host]", "orphan = 0.1"):
+        host = program(machine, name, ["sh", "-c", f"trap ': >{marker}; exit' HUP; echo on; while :; do sleep 0.05; done"])
+        store = stores.connect(machine.url)
+        wait_for(lambda: b"on" in written(store, name))
+        host.kill()
+        host.wait()
+        check(wait_for(lambda: not os.listdir(machine.holders())), name, "its holder ends")
+        check(wait_for(lambda: os.path.exists(marker)), name, "and hangs up on it")
+
+
+@with_machine
+def a_program_of_another_user_reads_no_password(machine, _):
+    if os.getuid() != 0:
+        return
+    name, password = "user", conf(machine, "password", "secret")
+    stores.connect(machine.url).config_set("requirepass", "secret")
+    config = conf(machine, "conf", *PATIENT, f"password-file = {password}", "[host]", "user = nobody")
+    os.chmod(machine.folder, stat.S_IRWXU | stat.S_IXOTH)  # so that only the file's own mode keeps the program from it
+    read = f"id -un; cat {password}; cat {machine.holders()}/*; exit 7"
+    status, _, _ = fleet(machine.url, "host", name, "sh", "-c", read, config=config)
+    store = stores.connect(machine.url, password)
+    said = written(store, name)
+    check(status == 7 and said.startswith(b"nobody"), name, f"it runs as that user: {status} {said}")
+    check(b"secret" not in said and said.count(b"denied") == 2, name, f"and reads neither the password nor a socket: {said}")
+
+
+CASES = [
+    formats_are_rolled_out_and_back,
+    a_session_of_another_format_waits_for_its_worker,
+    a_worker_is_dead_by_its_own_lease,
+    what_nobody_needs_is_removed,
+    a_program_outlives_its_host,
+    a_storm_with_hosts_among_the_victims,
+    a_host_is_replaced_by_a_newer_one,
+    an_old_host_writes_nothing_once_there_is_a_new_one,
+    a_program_without_a_host_is_ended_in_time,
+    a_program_of_another_user_reads_no_password,
+]

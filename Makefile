@@ -4,6 +4,7 @@
 #   make program      crates/vt220/out/vt220, which ./vt220 runs
 #   make lib          the library for C in out/: libvt220.a, libvt220.so and vt220.pc, with its headers
 #   make keeper       out/vt220-keep
+#   make js           the package for JavaScript in out/js/: vt220.wasm, package/ and vt220-VERSION.tgz
 #   make install      installs these under PREFIX with their manual pages and completions, and prints each file
 #   make uninstall    removes it, and the directories that are then empty
 #   make crates OF=.. prints the crates of this repository that some crates depend on, and themselves, lowest first
@@ -11,7 +12,8 @@
 #   make help         prints this text
 #
 # Variables: PREFIX (/usr/local) and LIBDIR (PREFIX/lib), absolute paths; DESTDIR, which is put before each path; CC (gcc), CFLAGS (-O2)
-# and LDFLAGS for the files in C; OUT (out), the directory of the library and the keeper.
+# and LDFLAGS for the files in C; OUT (out), the directory of the library and the keeper; TARGET (x86_64), the processor of `make lib`.
+# `make TARGET=aarch64 lib` builds over the same proofs into out/aarch64/.
 MAKEFLAGS += --no-builtin-rules
 SHELL := bash
 .SHELLFLAGS := -eu -o pipefail -c
@@ -20,10 +22,25 @@ SHELL := bash
 
 PREFIX ?= /usr/local
 LIBDIR ?= $(PREFIX)/lib
-OUT ?= out
+TARGET ?= x86_64
 CFLAGS ?= -O2
+NATIVE := crates/vt220_c/out/libvt220_c.a
+# What allocates for the proved code: the toolchain's own shim, which is for x86-64, or c/heap.c.
+ifeq ($(TARGET),aarch64)
+OUT ?= out/aarch64
+TOOLS := aarch64-linux-gnu-
+ARCHIVE := crates/vt220_c/out/libvt220_c-aarch64.a
+HEAP := heap
+else ifeq ($(TARGET),x86_64)
+OUT ?= out
+TOOLS :=
+ARCHIVE := $(NATIVE)
+HEAP :=
+else
+$(error TARGET is x86_64 or aarch64)
+endif
 ifeq ($(origin CC),default)
-CC := gcc
+CC := $(TOOLS)gcc
 endif
 VERSION := $(shell awk '$$2 == "VT220_VERSION" { printf "%d.%d.%d", $$3 / 10000, $$3 / 100 % 100, $$3 % 100 }' include/vt220.h)
 SONAME := libvt220.so.$(firstword $(subst ., ,$(VERSION)))
@@ -39,9 +56,8 @@ chain = $(filter $(foreach crate,$(1),$(call below,$(crate))),$(CRATES))
 sources = crates.txt $(shell find $(addprefix crates/,$(call chain,$(1))) -mindepth 1 -name out -prune -o -print)
 
 PROGRAM := crates/vt220/out/vt220
-ARCHIVE := crates/vt220_c/out/libvt220_c.a
 
-.PHONY: everything program lib keeper install uninstall crates version help
+.PHONY: everything program lib keeper js install uninstall crates version help
 everything: program lib keeper
 program: $(PROGRAM)
 lib: $(OUT)/libvt220.a $(OUT)/libvt220.so $(OUT)/vt220.pc $(addprefix $(OUT)/,$(notdir $(HEADERS)))
@@ -50,18 +66,21 @@ keeper: $(OUT)/vt220-keep
 # The time of what the toolchain builds is that of the beginning. So a source that changes meanwhile is newer.
 $(PROGRAM): $$(call sources,vt220)
 	@begun=$$(mktemp); trap 'rm -f "$$begun"' EXIT; tools/prove vt220 rt run -- --help >&2; touch -r "$$begun" $@
-$(ARCHIVE): $$(call sources,vt220_c)
-	@begun=$$(mktemp); trap 'rm -f "$$begun"' EXIT; DEPS='$(filter $(CRATES),$(deps_vt220_c))' tools/archive $(filter-out vt220_c,$(call chain,vt220_c)); touch -r "$$begun" $@
+$(NATIVE): $$(call sources,vt220_c)
+	@begun=$$(mktemp); trap 'rm -f "$$begun"' EXIT; tools/archive $(filter-out vt220_c,$(call chain,vt220_c)); touch -r "$$begun" $@
+
+crates/vt220_c/out/libvt220_c-aarch64.a: $(NATIVE)
+	@tools/compile-core aarch64-unknown-linux-gnu $@
 
 # One object, in which only the library's own calls are global: two such libraries then link into one program.
 $(OUT)/objects/%.o: c/%.c $(HEADERS)
 	@mkdir -p $(@D)
 	$(CC) -std=c11 $(CFLAGS) -fPIC -fasynchronous-unwind-tables -Iinclude -c -o $@ $<
-$(OUT)/vt220.o: $(OUT)/objects/vt220.o $(OUT)/objects/vt220-keys.o $(ARCHIVE)
-	@tools/link-object $@ $^
+$(OUT)/vt220.o: $(addprefix $(OUT)/objects/,$(addsuffix .o,vt220 vt220-keys $(HEAP))) $(ARCHIVE)
+	@TOOLS=$(TOOLS) tools/link-object $@ $^
 $(OUT)/libvt220.a: $(OUT)/vt220.o
 	@rm -f $@
-	ar rcsD $@ $<
+	$(TOOLS)ar rcsD $@ $<
 $(OUT)/libvt220.so: $(OUT)/vt220.o packaging/libvt220.map
 	@rm -f $@*
 	$(CC) $(CFLAGS) $(LDFLAGS) -shared -Wl,-soname,$(SONAME) -Wl,--version-script=packaging/libvt220.map -Wl,-z,defs,-z,relro,-z,now -o $@.$(VERSION) $<
@@ -73,6 +92,9 @@ $(OUT)/%.h: include/%.h
 	@cp $< $@
 $(OUT)/vt220-keep: $(wildcard keep/*.[ch]) $(HEADERS) $(OUT)/libvt220.a
 	$(CC) $(CFLAGS) $(LDFLAGS) -Iinclude -o $@ keep/*.c $(OUT)/libvt220.a
+
+js: lib
+	@js/build
 
 INSTALLING = PREFIX='$(PREFIX)' LIBDIR='$(LIBDIR)' DESTDIR='$(DESTDIR)' VERSION=$(VERSION) OUT='$(OUT)' packaging/install
 install: everything

@@ -1,0 +1,105 @@
+/* The heap of the module: rattle_alloc, rattle_realloc and rattle_dealloc, which the proved code calls, and what c/ needs of string.h.
+ * A block has a head of 16 bytes. A freed block is taken again by a request for the same size: a terminal, a scratch buffer and the
+ * buffers of src/vt220.js have few sizes, and nothing else allocates. */
+#include "heap.h"
+#include <string.h>
+
+typedef struct block {
+    size_t size;
+    struct block *next; /* in the list of freed blocks */
+} block;
+
+extern uint8_t __heap_base;
+
+/* PAGE is WebAssembly's. LIMIT is the end of a memory of 32 bits, without its last page. */
+static const uintptr_t PAGE = 65536, LIMIT = 0xFFFF0000;
+
+static block *freed;
+static uintptr_t end; /* of the last block, or 0 before the first */
+
+static size_t rounded(size_t n) { return (n + 15) & ~(size_t)15; }
+
+/* Returns whether the memory reaches so far, if necessary after it has grown. */
+static bool reaches(uintptr_t to) {
+    size_t wanted = (to + PAGE - 1) / PAGE, now = __builtin_wasm_memory_size(0);
+    return wanted <= now || __builtin_wasm_memory_grow(0, wanted - now) != (size_t)-1;
+}
+
+static block *new_block(size_t size) {
+    if (end == 0) end = rounded((uintptr_t)&__heap_base);
+    if (end + sizeof(block) + size > LIMIT || !reaches(end + sizeof(block) + size)) return NULL;
+    block *made = (block *)end;
+    made->size = size;
+    end += sizeof(block) + size;
+    return made;
+}
+
+static void *take(size_t n) {
+    if (n > LIMIT) return NULL;
+    size_t size = rounded(n);
+    for (block **link = &freed; *link != NULL; link = &(*link)->next) {
+        block *found = *link;
+        if (found->size != size) continue;
+        *link = found->next;
+        return found + 1;
+    }
+    block *made = new_block(size);
+    return made == NULL ? NULL : made + 1;
+}
+
+tried rattle_alloc(size_t n, size_t align) {
+    void *p = take(n == 0 ? align : n);
+    return (tried){p != NULL, p};
+}
+
+void rattle_dealloc(void *p) {
+    block *old = (block *)p - 1;
+    old->next = freed;
+    freed = old;
+}
+
+tried rattle_realloc(void *p, size_t kept, size_t n, size_t align) {
+    tried made = rattle_alloc(n, align);
+    if (!made.ok) return made;
+    memcpy(made.p, p, kept < n ? kept : n);
+    rattle_dealloc(p);
+    return made;
+}
+
+/* The processor has instructions for these two (bulk memory). */
+void *memcpy(void *to, const void *from, size_t n) { return __builtin_memcpy(to, from, n); }
+
+void *memset(void *to, int byte, size_t n) { return __builtin_memset(to, byte, n); }
+
+/* Returns whether one of eight bytes is 0. */
+static bool has_zero(uint64_t word) {
+    const uint64_t ones = 0x0101010101010101;
+    return ((word - ones) & ~word & (ones << 7)) != 0;
+}
+
+/* Speed: it compares eight bytes at a time, since c/vt220.c searches all input for BEL. */
+void *memchr(const void *from, int byte, size_t n) {
+    const uint8_t *at = from;
+    const uint64_t wanted = 0x0101010101010101 * (uint8_t)byte;
+    for (; n >= 8; n -= 8, at += 8) {
+        uint64_t word;
+        memcpy(&word, at, 8);
+        if (has_zero(word ^ wanted)) break;
+    }
+    for (; n > 0; n--, at++)
+        if (*at == (uint8_t)byte) return (void *)at;
+    return NULL;
+}
+
+int memcmp(const void *a, const void *b, size_t n) {
+    const uint8_t *x = a, *y = b;
+    for (; n > 0; n--, x++, y++)
+        if (*x != *y) return *x < *y ? -1 : 1;
+    return 0;
+}
+
+size_t strlen(const char *text) {
+    size_t n = 0;
+    while (text[n] != 0) n++;
+    return n;
+}

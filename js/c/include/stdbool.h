@@ -1,0 +1,4 @@
+/* The C11 header. */
+#define bool _Bool
+#define true 1
+#define false 0

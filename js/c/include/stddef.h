@@ -1,0 +1,3 @@
+/* What c/ needs of the C11 header. */
+typedef __SIZE_TYPE__ size_t;
+#define NULL ((void *)0)

@@ -1,0 +1,250 @@
+// page.js: the page. It wires the controls, the keys, the links and an embedding page to a player.
+import { load } from "../src/vt220.js";
+import { Timeline } from "../src/timeline.js";
+import { Player } from "./player.js";
+import { Screen } from "./screen.js";
+
+const SPEEDS = [0.25, 0.5, 1, 2, 4, 8, 16];
+const FAR = 5; // seconds of the arrow keys
+
+const $ = (id) => document.getElementById(id);
+
+async function unpacked(id) {
+  const packed = Uint8Array.from(atob($(id).textContent), (c) => c.charCodeAt(0));
+  const stream = new Blob([packed]).stream().pipeThrough(new DecompressionStream("gzip"));
+  return new Uint8Array(await new Response(stream).arrayBuffer());
+}
+
+/** Returns a recording of its bytes, and of the lines 'MICROS BYTES' of its chunks. */
+function recording(bytes, list) {
+  const lines = new TextDecoder().decode(list).split("\n").filter(Boolean).map((line) => line.split(" ").map(Number));
+  let end = 0;
+  return { bytes, times: lines.map(([micros]) => micros / 1e6), ends: lines.map(([, size]) => (end += size)) };
+}
+
+/** Returns a time as hours, minutes and seconds with a tenth. */
+function clock(time) {
+  const tenths = Math.floor(time * 10 + 1e-6), hours = Math.floor(tenths / 36000), minutes = Math.floor(tenths / 600) % 60;
+  const seconds = ((tenths % 600) / 10).toFixed(1).padStart(4, "0");
+  return hours > 0 ? `${hours}:${String(minutes).padStart(2, "0")}:${seconds}` : `${minutes}:${seconds}`;
+}
+
+const rounded = (time) => String(Math.round(time * 1e6) / 1e6);
+
+function save(name, type, text) {
+  const link = document.createElement("a");
+  link.href = URL.createObjectURL(new Blob([text], { type }));
+  link.download = name;
+  link.click();
+  setTimeout(() => URL.revokeObjectURL(link.href), 60000);
+}
+
+class Page {
+  constructor(core, line, options) {
+    this.line = line;
+    this.options = options;
+    this.screen = new Screen(core, $("screen"));
+    this.player = new Player(line, { changed: () => this.draw(), told: (event, time) => this.tell(event, time) });
+    this.player.loops = options.loop;
+    for (const speed of SPEEDS) $("speed").add(new Option(`${speed}×`, speed));
+    this.setSpeed(options.speed);
+    $("time").max = line.duration;
+    this.listMarkers();
+    this.listen();
+  }
+
+  listen() {
+    const { player } = this;
+    const clicks = {
+      play: () => this.toggle(), back: () => player.step(-1), forth: () => player.step(1), previous: () => this.hit(-1), next: () => this.hit(1),
+      picture: () => this.savePicture(), copy: () => this.copy(this.text(), "The text is copied"), link: () => this.copy(this.link(), "The link is copied"),
+    };
+    for (const [id, act] of Object.entries(clicks)) $(id).addEventListener("click", act);
+    $("time").addEventListener("input", (event) => player.go(event.target.value));
+    $("speed").addEventListener("change", (event) => this.setSpeed(event.target.value));
+    $("skip").addEventListener("change", (event) => (player.skips = event.target.checked));
+    $("needle").addEventListener("input", (event) => event.target.value === "" && this.search(""));
+    $("search").addEventListener("submit", (event) => (event.preventDefault(), this.submit()));
+    document.addEventListener("keydown", (event) => this.key(event));
+    addEventListener("hashchange", () => this.follow());
+    addEventListener("resize", () => this.drawMarks());
+    addEventListener("message", (event) => event.source === parent && parent !== window && this.obey(event.data));
+  }
+
+  /** Shows the moment of the link, or the poster; then perhaps plays. */
+  start() {
+    const { options, player } = this;
+    if (!this.follow()) player.go(options.poster ?? options.start);
+    this.waitsAt = location.hash === "" ? options.start : null;
+    this.tell("ready", player.now);
+    if (options.autoplay) this.toggle();
+  }
+
+  follow() {
+    const [, name, value] = /^#([tq])=(.*)$/.exec(location.hash) ?? [];
+    if (name === "t") this.player.go(value);
+    if (name === "q") this.search(decodeURIComponent(value));
+    return name !== undefined;
+  }
+
+  link() {
+    const { needle, now } = this.player;
+    return location.href.replace(/#.*/, "") + (needle === "" ? `#t=${rounded(now)}` : `#q=${encodeURIComponent(needle)}`);
+  }
+
+  toggle() {
+    const { player } = this;
+    if (player.isPlaying) return player.pause();
+    if (this.waitsAt !== null) player.now = this.waitsAt;
+    this.waitsAt = null;
+    player.play();
+    let before = performance.now();
+    const frame = (now) => {
+      player.advance(Math.max(0, now - before) / 1000);
+      before = now;
+      if (player.isPlaying) requestAnimationFrame(frame);
+    };
+    requestAnimationFrame(frame);
+  }
+
+  setSpeed(speed) {
+    const known = SPEEDS.includes(Number(speed)) ? Number(speed) : 1;
+    this.player.speed = known;
+    $("speed").value = known;
+  }
+
+  search(needle) {
+    this.screen.find(needle);
+    $("needle").value = needle;
+    this.player.search(needle);
+    this.drawMarks();
+    this.say(needle === "" ? "" : this.found());
+  }
+
+  /** Searches for what was typed, or goes to the next span of it. */
+  submit() {
+    const needle = $("needle").value;
+    if (needle === this.player.needle) this.hit(1);
+    else this.search(needle);
+  }
+
+  found() {
+    const { spans, span } = this.player;
+    if (spans.length === 0) return "This text is never on the screen.";
+    return `${spans.length === 1 ? "Once" : `${spans.length} times`} on the screen; this is number ${span + 1}, in row ${spans[Math.max(0, span)].row}.`;
+  }
+
+  hit(by) {
+    if (by > 0) this.player.nextSpan();
+    else this.player.previousSpan();
+    if (this.player.needle !== "") this.say(this.found());
+  }
+
+  marker(by) {
+    const times = this.options.markers.map(([time]) => time), { now } = this.player;
+    const to = by > 0 ? times.find((time) => time > now) : times.findLast((time) => time < now);
+    if (to !== undefined) this.player.go(to);
+  }
+
+  key(event) {
+    if (event.ctrlKey || event.altKey || event.metaKey) return;
+    if (event.target.matches("input[type=search], select") && event.key !== "Escape") return;
+    if (event.key === " " && event.target.matches("button, summary, input")) return;
+    const { player } = this;
+    const acts = {
+      " ": () => this.toggle(), ArrowLeft: () => player.go(player.now - FAR), ArrowRight: () => player.go(player.now + FAR), ",": () => player.step(-1),
+      ".": () => player.step(1), Home: () => player.go(0), End: () => player.go(this.line.duration), "/": () => $("needle").focus(), n: () => this.hit(1),
+      N: () => this.hit(-1), "[": () => this.marker(-1), "]": () => this.marker(1), "<": () => this.faster(-1), ">": () => this.faster(1), s: () => $("skip").click(),
+      Escape: () => $("screen").focus(),
+    };
+    const act = /^[0-9]$/.test(event.key) ? () => player.go((this.line.duration * Number(event.key)) / 10) : acts[event.key];
+    if (act === undefined) return;
+    event.preventDefault();
+    act();
+  }
+
+  faster(by) {
+    const at = SPEEDS.indexOf(this.player.speed) + by;
+    this.setSpeed(SPEEDS[Math.max(0, Math.min(SPEEDS.length - 1, at))]);
+    this.say(`Speed ${this.player.speed}`);
+  }
+
+  text() {
+    return this.line.terminal.text().trimEnd() + "\n";
+  }
+
+  async copy(text, done) {
+    try {
+      await navigator.clipboard.writeText(text);
+      this.say(done);
+    } catch {
+      this.say(text);
+    }
+  }
+
+  savePicture() {
+    save(`vt220-${rounded(this.player.now)}.svg`, "image/svg+xml", this.line.terminal.picture());
+  }
+
+  say(text) {
+    $("said").textContent = text;
+  }
+
+  listMarkers() {
+    for (const [time, label] of this.options.markers) {
+      const button = document.createElement("button");
+      button.textContent = `${clock(time)} ${label}`;
+      button.addEventListener("click", () => this.player.go(time));
+      $("markers").append(button);
+    }
+    $("markers").hidden = this.options.markers.length === 0;
+  }
+
+  /** Tells the page that embeds this one. */
+  tell(event, time) {
+    if (parent !== window) parent.postMessage({ vt220: event, time }, "*");
+  }
+
+  /** Does what the page that embeds this one asks for. */
+  obey(asked) {
+    if (asked?.vt220 === "play" && !this.player.isPlaying) this.toggle();
+    if (asked?.vt220 === "pause") this.player.pause();
+    if (asked?.vt220 === "seek") this.player.go(asked.time);
+    if (asked?.vt220 === "search") this.search(String(asked.text));
+  }
+
+  draw() {
+    const { player, line } = this, time = clock(player.now);
+    this.screen.draw(line.seekTime(player.now));
+    $("time").value = player.now;
+    $("time").setAttribute("aria-valuetext", `${time} of ${clock(line.duration)}`);
+    $("clock").textContent = `${time} / ${clock(line.duration)}`;
+    $("play").textContent = player.isPlaying ? "Pause" : "Play";
+  }
+
+  /** Draws the spans of the search, and the markers, under the bar. */
+  drawMarks() {
+    const canvas = $("marks"), context = canvas.getContext("2d"), { duration } = this.line;
+    const place = (time) => (Math.min(time, duration) / (duration || 1)) * canvas.width;
+    canvas.width = canvas.clientWidth;
+    canvas.height = canvas.clientHeight;
+    context.fillStyle = getComputedStyle(canvas).color;
+    for (const span of this.player.spans) context.fillRect(place(span.time), 0, Math.max(2, place(span.until) - place(span.time)), canvas.height / 2);
+    for (const [time] of this.options.markers) context.fillRect(place(time) - 1, canvas.height / 2, 2, canvas.height / 2);
+  }
+}
+
+async function begin() {
+  const [wasm, bytes, list] = await Promise.all(["wasm", "bytes", "chunks"].map(unpacked));
+  const core = await load(wasm);
+  const page = new Page(core, new Timeline(core, recording(bytes, list)), JSON.parse($("options").textContent));
+  page.start();
+  page.drawMarks();
+  globalThis.page = page;
+  document.documentElement.dataset.state = "ready";
+}
+
+begin().catch((error) => {
+  document.documentElement.dataset.state = "failed";
+  $("said").textContent = `This page needs a browser of 2023 or later with WebAssembly. (${error.message})`;
+});

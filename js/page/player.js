@@ -1,0 +1,106 @@
+// player.js: a position in time that moves, and the spans of a search.
+
+/** In seconds: the longest pause that is played if pauses are skipped. */
+const LONGEST_PAUSE = 1;
+
+export class Player {
+  constructor(line, { changed = () => {}, told = () => {} } = {}) {
+    this.line = line;
+    this.changed = changed;
+    this.told = told;
+    this.now = 0;
+    this.speed = 1;
+    this.skips = true;
+    this.loops = false;
+    this.isPlaying = false;
+    this.spans = [];
+    this.needle = "";
+  }
+
+  tell(event) {
+    this.told(event, this.now);
+  }
+
+  play() {
+    if (this.isPlaying) return;
+    if (this.now >= this.line.duration) this.now = 0;
+    this.isPlaying = true;
+    this.tell("play");
+    this.changed();
+  }
+
+  pause() {
+    if (!this.isPlaying) return;
+    this.isPlaying = false;
+    this.tell("pause");
+    this.changed();
+  }
+
+  /** Goes on by seconds of the clock on the wall, if it plays. */
+  advance(seconds) {
+    if (!this.isPlaying) return;
+    this.now += seconds * this.speed;
+    if (this.skips) this.skipPause();
+    if (this.now >= this.line.duration) this.finish();
+    this.changed();
+  }
+
+  skipPause() {
+    const next = this.line.chunksAt(this.now), last = next === 0 ? 0 : this.line.time(next - 1);
+    if (next < this.line.chunks && this.now - last > LONGEST_PAUSE) this.now = this.line.time(next);
+  }
+
+  finish() {
+    this.tell("ended");
+    if (this.loops && this.line.duration > 0) {
+      this.now = 0;
+      return;
+    }
+    this.now = this.line.duration;
+    this.isPlaying = false;
+  }
+
+  go(time) {
+    this.now = Math.max(0, Math.min(Number(time) || 0, this.line.duration));
+    this.tell("seek");
+    this.changed();
+  }
+
+  /** Stops, and goes to the chunk after the one that is shown, or to the one before it. Chunks of one time are one. */
+  step(by) {
+    const { line } = this;
+    this.pause();
+    let count = line.chunksAt(this.now);
+    if (by > 0) return this.go(count < line.chunks ? line.time(count) : line.duration);
+    const shown = count === 0 ? 0 : line.time(count - 1);
+    while (count > 0 && line.time(count - 1) >= shown) count--;
+    this.go(count === 0 ? 0 : line.time(count - 1));
+  }
+
+  /** Searches all time, and goes to the span at this time, or the last one before it, or the first one. */
+  search(needle) {
+    this.needle = needle;
+    this.spans = needle === "" ? [] : this.line.search(needle);
+    if (this.spans.length > 0) this.goToSpan(Math.max(0, this.spans.findLastIndex((span) => span.time <= this.now)));
+    else this.changed();
+  }
+
+  /** Returns the index of the span that is shown, or -1. */
+  get span() {
+    return this.spans.findIndex((span) => span.time <= this.now && this.now < span.until);
+  }
+
+  goToSpan(index) {
+    if (this.spans.length > 0) this.go(this.spans[(index + this.spans.length) % this.spans.length].time);
+  }
+
+  nextSpan() {
+    const next = this.spans.findIndex((span) => span.time > this.now);
+    this.goToSpan(next < 0 ? 0 : next);
+  }
+
+  previousSpan() {
+    const at = this.spans.findLastIndex((span) => span.time < this.now);
+    this.goToSpan(at < 0 ? this.spans.length - 1 : at);
+  }
+}

@@ -1,0 +1,68 @@
+// screen.js: the screen as 24 elements with text, of which only those that changed are written again.
+import { ROWS, Terminal } from "../src/vt220.js";
+
+/** Returns the classes of a cell. */
+function look(cell, isCursor) {
+  const names = [];
+  if (cell.bold) names.push("b");
+  if (cell.underline) names.push("u");
+  if (cell.blink) names.push("k");
+  if (cell.reverse) names.push("r");
+  if (isCursor) names.push("c");
+  return names.join(" ");
+}
+
+/** Cuts the cells of a row into runs of equal looks. `hit` is the span of columns of a text that was found, from 0, or null. */
+function runs(cells, cursor, hit) {
+  const made = [];
+  cells.forEach((cell, i) => {
+    const name = look(cell, i + 1 === cursor), isHit = hit !== null && i >= hit.from && i < hit.to, last = made.at(-1);
+    if (last && last.name === name && last.isHit === isHit) last.text += cell.glyph;
+    else made.push({ text: cell.glyph, name, isHit });
+  });
+  return made;
+}
+
+function element({ text, name, isHit }) {
+  if (name === "" && !isHit) return document.createTextNode(text);
+  const made = document.createElement(isHit ? "mark" : "span");
+  if (name !== "") made.className = name;
+  made.textContent = text;
+  return made;
+}
+
+export class Screen {
+  constructor(core, place) {
+    this.place = place;
+    this.drawn = new Terminal(core);
+    this.rows = Array.from({ length: ROWS }, () => place.appendChild(document.createElement("div")));
+    this.needle = "";
+    this.cursorRow = 0;
+    this.isStale = true;
+  }
+
+  /** Marks a text wherever it is on the screen, from the next draw on. */
+  find(needle) {
+    this.needle = needle.toLowerCase();
+    this.isStale = true;
+  }
+
+  draw(terminal) {
+    const cursor = terminal.cursor, { dectcem, decscnm } = terminal.modes;
+    const changed = new Set(this.isStale ? this.rows.keys() : this.drawn.changedRows(terminal).map((row) => row - 1));
+    changed.add(cursor.row - 1);
+    if (this.cursorRow > 0) changed.add(this.cursorRow - 1);
+    for (const row of changed) this.drawRow(terminal, row, dectcem && cursor.row === row + 1 ? cursor.column : 0);
+    this.place.style.setProperty("--columns", terminal.width);
+    this.place.classList.toggle("reversed", decscnm);
+    this.drawn.copyFrom(terminal);
+    this.cursorRow = cursor.row;
+    this.isStale = false;
+  }
+
+  drawRow(terminal, row, cursor) {
+    const from = this.needle === "" ? -1 : terminal.rowText(row + 1).toLowerCase().indexOf(this.needle);
+    const hit = from < 0 ? null : { from, to: from + this.needle.length };
+    this.rows[row].replaceChildren(...runs(terminal.cells(row + 1), cursor, hit).map(element));
+  }
+}

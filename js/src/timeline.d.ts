@@ -1,0 +1,66 @@
+import type { Core, Terminal } from "./vt220.js";
+
+/** A recording: what came at each time. */
+export interface Recording {
+  /** What the host sent. */
+  bytes: Uint8Array;
+  /** The time of each chunk, in seconds from the beginning. They never fall. */
+  times: ArrayLike<number>;
+  /** The position at which each chunk ends. The last one is the number of bytes. */
+  ends: ArrayLike<number>;
+}
+
+/** A span of time in which a text was on the screen, as seen after each chunk. */
+export interface Span {
+  /** When the chunk came after which the text was there, in seconds, and the position at its end. */
+  time: number;
+  position: number;
+  /** When the chunk came after which it was gone, and the position at its end; Infinity if it stayed. */
+  until: number;
+  end: number;
+  /** Where it first stood: the uppermost row, and the column of its first character there. */
+  row: number;
+  column: number;
+}
+
+/**
+ * The terminal at each moment of a recording. A position is a number of bytes; the state there is that of the bytes before it, whichever
+ * way a seek got there.
+ */
+export declare class Timeline {
+  /** `every` is how many bytes lie between two checkpoints. Throws TypeError or RangeError if the recording isn't one. */
+  constructor(core: Core, recording: Recording, options?: { every?: number });
+  /** Closes the terminal. */
+  close(): void;
+  /** The terminal at the position. Only look at it: seek() feeds it. */
+  readonly terminal: Terminal;
+  readonly position: number;
+  /** The number of bytes. */
+  readonly length: number;
+  /** The time of the last chunk, in seconds. */
+  readonly duration: number;
+  /** The number of chunks. */
+  readonly chunks: number;
+  /** The number of checkpoints so far. */
+  readonly checkpoints: number;
+  /** Returns the time of a chunk, counted from 0. */
+  time(chunk: number): number;
+  /** Returns the position at the end of a chunk. */
+  end(chunk: number): number;
+  /** Returns how many chunks have come at a time. */
+  chunksAt(time: number): number;
+  /** Returns the position at a time. */
+  positionAt(time: number): number;
+  /** Returns the time of the chunk that has the byte before a position. */
+  timeOf(position: number): number;
+  /** Brings the terminal to a position, and returns it. A position outside of the recording means its nearest end. */
+  seek(position: number): Terminal;
+  /** Brings the terminal to the position at a time, and returns it. */
+  seekTime(time: number): Terminal;
+  /**
+   * Returns each span of time in which a text was on the screen, within one row. Without `matchCase`, upper and lower case are equal.
+   * The result depends on the recording and the arguments alone.
+   */
+  search(text: string, options?: { matchCase?: boolean; limit?: number }): Span[];
+}
+export interface Timeline extends Disposable {}

@@ -1,0 +1,178 @@
+/** The number of rows of the screen. */
+export declare const ROWS: 24;
+/** The most columns of the screen. */
+export declare const COLUMNS: 132;
+
+/** What a call could not do. `BROKEN`: an earlier call ended in a fault of WebAssembly, and the core can't be used any more. */
+export type Code = "MEMORY" | "CLOSED" | "PARTIAL" | "NO_ROW" | "NO_KEY" | "NO_CHARACTER" | "BROKEN";
+
+/** Reports a call that changed nothing. */
+export declare class Vt220Error extends Error {
+  readonly code: Code;
+}
+
+/** Holds a module with its memory. Its terminals belong together: a call that takes two needs both of one core. */
+export interface Core {
+  /** The version: 10000 * major + 100 * minor + patch. */
+  readonly version: number;
+  /**
+   * Returns what a key sends under these modes. The key is one character, a name such as "Up" or "C-c", or the sequence that a modern
+   * terminal sends for it. Throws NO_KEY or NO_CHARACTER.
+   */
+  key(key: string, modes: Partial<Modes>): Uint8Array;
+  /** Returns how many bytes the first key has of what was typed on a modern terminal, and 0 if its end is missing. */
+  keyLength(typed: Uint8Array): number;
+}
+
+/**
+ * Loads the core. The source is the bytes of vt220.wasm, its module, or a response with it, or a promise of one of these. Without one,
+ * it is the file of this package.
+ */
+export declare function load(
+  source?: BufferSource | WebAssembly.Module | Response | Promise<BufferSource | WebAssembly.Module | Response>
+): Promise<Core>;
+
+export interface Attributes {
+  bold: boolean;
+  underline: boolean;
+  blink: boolean;
+  reverse: boolean;
+  /** Whether a selective erase leaves it. */
+  isProtected: boolean;
+}
+
+export interface Cell extends Attributes {
+  /** One character; a space if the cell is erased. */
+  glyph: string;
+}
+
+export interface Cursor {
+  row: number;
+  column: number;
+  /** Whether the last column was written, so that the next character begins a new line. */
+  wrap: boolean;
+}
+
+/** The first and the last row of the scroll region. */
+export interface Margins {
+  top: number;
+  bottom: number;
+}
+
+/** The modes: true if set. */
+export interface Modes {
+  kam: boolean;
+  irm: boolean;
+  srm: boolean;
+  lnm: boolean;
+  decckm: boolean;
+  decsclm: boolean;
+  decscnm: boolean;
+  decom: boolean;
+  decawm: boolean;
+  decarm: boolean;
+  dectcem: boolean;
+  /** DECKPAM. */
+  keypadApplication: boolean;
+  /** S8C1T. */
+  reports8bit: boolean;
+}
+
+/** The final byte of the sequence that designates a set: ASCII, British, German, DEC Special Graphics or DEC Supplemental. */
+export type SetName = "B" | "A" | "K" | "0" | "<";
+
+interface Designations {
+  g0: SetName;
+  g1: SetName;
+  g2: SetName;
+  g3: SetName;
+  /** Which of these is in GL, 0 to 3. */
+  gl: number;
+  /** Which of these is in GR, 1 to 3. */
+  gr: number;
+}
+
+export interface Sets extends Designations {
+  /** 2 or 3 if a single shift to G2 or G3 is pending, otherwise 0. */
+  singleShift: number;
+}
+
+/** The state that DECRC restores. */
+export interface Saved extends Cursor, Attributes, Designations {
+  /** DECOM. */
+  origin: boolean;
+}
+
+/** The kind of an unfinished sequence. */
+export type Held = "nothing" | "escape" | "control" | "string";
+
+/**
+ * A terminal, at first in its power-up state. It is closed by close(), by `using` at the end of a block, or when nothing refers to it any
+ * more. A closed terminal throws CLOSED, except from close() and isOpen. On an error nothing has changed.
+ */
+export declare class Terminal {
+  constructor(core: Core);
+  /** Frees the terminal's memory. Does nothing if it is closed. */
+  close(): void;
+  readonly isOpen: boolean;
+
+  /** Processes input from the host, in chunks of any size. Returns the replies to it. */
+  feed(bytes: Uint8Array): Uint8Array;
+  /** Does the same, and also returns the lines that scroll off the top of the screen, each as rowText returns it. */
+  feedLog(bytes: Uint8Array): { replies: Uint8Array; lines: string[] };
+  /** Resets the terminal to its power-up state, as RIS does, also inside a sequence. */
+  reset(): void;
+  /** Brings this terminal into the state of `from`, also inside a sequence. */
+  copyFrom(from: Terminal): void;
+
+  /** Returns the screen as 24 lines, each without the spaces at its end, and LF. */
+  text(): string;
+  /** Returns the line of a row, without its LF. Throws NO_ROW. */
+  rowText(row: number): string;
+  /** Returns the screen as text with SGR sequences. */
+  show(): string;
+  /** Returns the screen as an SVG document. */
+  picture(): string;
+  /** Returns bytes that leave any terminal of this library in exactly this state. Throws PARTIAL inside a sequence. */
+  repaint(): Uint8Array;
+  /**
+   * Returns bytes that lead from this state to that of `to`, and brings this terminal there. They are empty exactly if the two are
+   * equal. Throws PARTIAL if one of the two is inside a sequence.
+   */
+  update(to: Terminal): Uint8Array;
+  /** Returns whether two terminals are in the same state, hidden parts included. */
+  sameState(other: Terminal): boolean;
+  /** Returns the rows of `to` to be drawn again if the screen of this terminal is shown: all of them if the widths differ. */
+  changedRows(to: Terminal): number[];
+  /** Returns for each cell of a row of `to` whether this terminal has another cell there, or none. Throws NO_ROW. */
+  rowChanges(to: Terminal, row: number): boolean[];
+
+  /** Returns the cells of a row. Throws NO_ROW. */
+  cells(row: number): Cell[];
+  readonly cursor: Cursor;
+  readonly margins: Margins;
+  readonly modes: Modes;
+  /** The attributes with which the next character is written. */
+  readonly brush: Attributes;
+  readonly sets: Sets;
+  readonly saved: Saved;
+  /** The columns of the tab stops, of the columns 1 to 132. */
+  readonly stops: number[];
+  readonly width: 80 | 132;
+  /** How often BEL was carried out since the terminal was made. */
+  readonly bells: number;
+  /** Whether the terminal is between sequences. */
+  readonly isBetween: boolean;
+  readonly held: Held;
+}
+export interface Terminal extends Disposable {}
+
+// What TypeScript's own library declares from version 5.2 on.
+declare global {
+  interface SymbolConstructor {
+    readonly dispose: unique symbol;
+  }
+  interface Disposable {
+    [Symbol.dispose](): void;
+  }
+}

@@ -1,0 +1,354 @@
+// vt220.js: a DEC VT220 terminal core. You feed it the bytes of a host, and read the screen, the replies and the repaint.
+// Rows, columns and margins count from 1. vt220.d.ts documents each call.
+
+export const ROWS = 24;
+export const COLUMNS = 132;
+
+const CODES = ["OK", "MEMORY", "IN_USE", "CLOSED", "PARTIAL", "ROOM", "UNSUPPORTED", "NO_ROW", "NO_KEY", "NO_CHARACTER"];
+const MEMORY = 1, CLOSED = 3, NO_ROW = 7;
+const HELD = ["nothing", "escape", "control", "string"];
+const CURSOR = ["row", "column", "wrap"];
+const MARGINS = ["top", "bottom"];
+const MODES = ["kam", "irm", "srm", "lnm", "decckm", "decsclm", "decscnm", "decom", "decawm", "decarm", "dectcem", "keypadApplication", "reports8bit"];
+const BRUSH = ["bold", "underline", "blink", "reverse", "isProtected"];
+const SETS = ["g0", "g1", "g2", "g3", "gl", "gr", "singleShift"];
+const SAVED = ["row", "column", "wrap", "origin", ...BRUSH, "g0", "g1", "g2", "g3", "gl", "gr"];
+const FLAGS = new Set(["wrap", "origin", ...BRUSH, ...MODES]);
+const SET_NAMES = new Set(["g0", "g1", "g2", "g3"]);
+const CELL = 12; // bytes: the number of the glyph, five attributes and three reserved bytes
+
+export class Vt220Error extends Error {
+  constructor(code, message) {
+    super(message);
+    this.name = "Vt220Error";
+    this.code = code;
+  }
+}
+
+/** Compiles the module: bytes, a module, a response, or the file next to this one. */
+async function compiled(source) {
+  source = await source;
+  if (source instanceof WebAssembly.Module) return source;
+  if (typeof Response !== "undefined" && source instanceof Response) {
+    if (!source.ok) throw new TypeError(`vt220.wasm could not be fetched: status ${source.status}`);
+    return WebAssembly.compile(await source.arrayBuffer());
+  }
+  return WebAssembly.compile(source);
+}
+
+/** Returns the bytes of vt220.wasm next to this module, in browsers and in node. */
+async function nearby() {
+  const url = new URL("../vt220.wasm", import.meta.url);
+  if (url.protocol !== "file:") return fetch(url);
+  const { readFile } = await import("node:fs/promises");
+  return readFile(url);
+}
+
+export async function load(source = nearby()) {
+  return new Core((await WebAssembly.instantiate(await compiled(source))).exports);
+}
+
+/** Returns the exports of the module. After a trap, which leaves the memory as it is, each of them throws. */
+function guarded(exports) {
+  let isInside = false;
+  const calls = {};
+  for (const [name, call] of Object.entries(exports)) {
+    if (typeof call !== "function") continue;
+    calls[name] = (a, b, c) => {
+      if (isInside) throw new Vt220Error("BROKEN", "an earlier call ended in a fault of WebAssembly; load the module again");
+      isInside = true;
+      const result = call(a, b, c);
+      isInside = false;
+      return result;
+    };
+  }
+  return calls;
+}
+
+function joined(parts) {
+  if (parts.length === 1) return parts[0];
+  const bytes = new Uint8Array(parts.reduce((sum, part) => sum + part.length, 0));
+  let at = 0;
+  for (const part of parts) {
+    bytes.set(part, at);
+    at += part.length;
+  }
+  return bytes;
+}
+
+/** Returns a field as the C library's: a flag, the character that names a set, or a number. */
+function field(name, value) {
+  if (FLAGS.has(name)) return value !== 0;
+  return SET_NAMES.has(name) ? String.fromCharCode(value) : value;
+}
+
+const encoder = new TextEncoder();
+const decoder = new TextDecoder();
+
+class Core {
+  #memory;
+  #bytes;
+  #left;
+
+  constructor(exports) {
+    this.#memory = exports.memory;
+    this.calls = guarded(exports);
+    this.expect(this.calls.start());
+    this.version = this.calls.version();
+    this.inputSize = this.calls.input_size();
+    this.#left = new FinalizationRegistry((at) => this.calls.close(at));
+  }
+
+  /** The memory, which has a new buffer after it has grown. */
+  get bytes() {
+    if (this.#bytes?.buffer !== this.#memory.buffer) this.#bytes = new Uint8Array(this.#memory.buffer);
+    return this.#bytes;
+  }
+
+  expect(status) {
+    if (status !== 0) throw new Vt220Error(CODES[status], this.statusText(status));
+  }
+
+  statusText(status) {
+    const at = this.calls.status_text(status);
+    return decoder.decode(this.bytes.subarray(at, this.bytes.indexOf(0, at)));
+  }
+
+  /** Returns a copy of bytes of a buffer. */
+  copied(buffer, size) {
+    const at = this.calls[buffer]();
+    return this.bytes.slice(at, at + size);
+  }
+
+  /** Returns what the last call wrote. */
+  out() {
+    return this.copied("out", this.calls.written());
+  }
+
+  /** Copies as many bytes as fit to the input, and returns their number. */
+  input(bytes) {
+    const front = bytes.subarray(0, this.inputSize);
+    this.bytes.set(front, this.calls.input());
+    return front.length;
+  }
+
+  words(buffer, count) {
+    return new Uint32Array(this.#memory.buffer, this.calls[buffer](), count);
+  }
+
+  open(terminal) {
+    const at = this.calls.open();
+    if (at === 0) this.expect(MEMORY);
+    this.#left.register(terminal, at, terminal);
+    return at;
+  }
+
+  close(terminal, at) {
+    this.#left.unregister(terminal);
+    this.calls.close(at);
+  }
+
+  key(key, modes) {
+    const len = this.input(encoder.encode(key));
+    const set = MODES.reduce((bits, name, i) => (modes[name] ? bits | (1 << i) : bits), 0);
+    this.expect(this.calls.key(set, len));
+    return this.out();
+  }
+
+  keyLength(typed) {
+    return this.calls.key_length(this.input(typed));
+  }
+}
+
+export class Terminal {
+  #core;
+  #at;
+
+  constructor(core) {
+    if (!(core instanceof Core)) throw new TypeError("a terminal needs the core that load() returns");
+    this.#core = core;
+    this.#at = core.open(this);
+  }
+
+  close() {
+    if (this.#at !== 0) this.#core.close(this, this.#at);
+    this.#at = 0;
+  }
+
+  get isOpen() {
+    return this.#at !== 0;
+  }
+
+  /** The address of the handle. */
+  get #handle() {
+    if (this.#at === 0) this.#core.expect(CLOSED);
+    return this.#at;
+  }
+
+  #other(terminal) {
+    if (!(terminal instanceof Terminal)) throw new TypeError("this call takes another terminal");
+    if (terminal.#core !== this.#core) throw new TypeError("the two terminals belong to different cores");
+    return terminal.#handle;
+  }
+
+  /** Feeds bytes by a call of the module, and passes the replies and the lines of each to `take`. */
+  #feed(call, bytes, take) {
+    if (!(bytes instanceof Uint8Array)) throw new TypeError("a terminal is fed a Uint8Array");
+    const core = this.#core, handle = this.#handle;
+    for (let at = 0; at < bytes.length; ) {
+      const size = core.input(bytes.subarray(at));
+      for (let fed = 0; fed < size; ) {
+        fed += core.calls[call](handle, fed, size);
+        take(core.calls.written());
+      }
+      at += size;
+    }
+  }
+
+  feed(bytes) {
+    const replies = [];
+    this.#feed("feed", bytes, (size) => {
+      if (size > 0) replies.push(this.#core.copied("reports", size));
+    });
+    return joined(replies);
+  }
+
+  feedLog(bytes) {
+    const core = this.#core, replies = [], texts = [];
+    this.#feed("feed_log", bytes, (size) => {
+      if (size > 0) replies.push(core.copied("reports", size));
+      const written = core.calls.lines_written();
+      if (written > 0) texts.push(core.copied("lines", written));
+    });
+    return { replies: joined(replies), lines: decoder.decode(joined(texts)).split("\n").slice(0, -1) };
+  }
+
+  #written(call, argument) {
+    this.#core.expect(this.#core.calls[call](this.#handle, argument));
+    return this.#core.out();
+  }
+
+  #row(row) {
+    if (!Number.isInteger(row) || row < 1 || row > ROWS) this.#core.expect(NO_ROW);
+    return row;
+  }
+
+  text() {
+    return decoder.decode(this.#written("text"));
+  }
+
+  rowText(row) {
+    return decoder.decode(this.#written("row_text", this.#row(row))).slice(0, -1);
+  }
+
+  show() {
+    return decoder.decode(this.#written("show"));
+  }
+
+  picture() {
+    return decoder.decode(this.#written("picture"));
+  }
+
+  repaint() {
+    return this.#written("repaint");
+  }
+
+  update(to) {
+    return this.#written("update", this.#other(to));
+  }
+
+  copyFrom(from) {
+    this.#core.expect(this.#core.calls.copy(this.#handle, this.#other(from)));
+  }
+
+  reset() {
+    this.#core.expect(this.#core.calls.reset(this.#handle));
+  }
+
+  sameState(other) {
+    return this.#core.calls.same_state(this.#handle, this.#other(other)) !== 0;
+  }
+
+  changedRows(to) {
+    const rows = this.#core.calls.changed_rows(this.#handle, this.#other(to)), numbers = [];
+    for (let row = 1; row <= ROWS; row++) if ((rows >> (row - 1)) & 1) numbers.push(row);
+    return numbers;
+  }
+
+  rowChanges(to, row) {
+    this.#core.expect(this.#core.calls.row_changes(this.#handle, this.#other(to), this.#row(row)));
+    return Array.from(this.#core.words("part", to.width), (changed) => changed !== 0);
+  }
+
+  cells(row) {
+    const core = this.#core, count = core.calls.row(this.#handle, this.#row(row)), at = core.calls.cells();
+    const glyphs = core.words("cells", (count * CELL) / 4), bytes = core.bytes, cells = new Array(count);
+    for (let i = 0; i < count; i++) {
+      const flags = at + i * CELL + 4;
+      cells[i] = {
+        glyph: String.fromCodePoint(glyphs[(i * CELL) / 4]),
+        bold: bytes[flags] !== 0,
+        underline: bytes[flags + 1] !== 0,
+        blink: bytes[flags + 2] !== 0,
+        reverse: bytes[flags + 3] !== 0,
+        isProtected: bytes[flags + 4] !== 0,
+      };
+    }
+    return cells;
+  }
+
+  /** Returns the fields of a part of the state. */
+  #part(call, names) {
+    this.#core.calls[call](this.#handle);
+    const words = this.#core.words("part", names.length);
+    return Object.fromEntries(names.map((name, i) => [name, field(name, words[i])]));
+  }
+
+  get cursor() {
+    return this.#part("cursor", CURSOR);
+  }
+
+  get margins() {
+    return this.#part("margins", MARGINS);
+  }
+
+  get modes() {
+    return this.#part("modes", MODES);
+  }
+
+  get brush() {
+    return this.#part("brush", BRUSH);
+  }
+
+  get sets() {
+    return this.#part("sets", SETS);
+  }
+
+  get saved() {
+    return this.#part("saved", SAVED);
+  }
+
+  get stops() {
+    this.#core.calls.stops(this.#handle);
+    return Array.from(this.#core.words("part", COLUMNS), (stop, i) => (stop ? i + 1 : 0)).filter(Boolean);
+  }
+
+  get width() {
+    return this.#core.calls.width(this.#handle);
+  }
+
+  get bells() {
+    return this.#core.calls.bells(this.#handle);
+  }
+
+  get isBetween() {
+    return this.#core.calls.is_between(this.#handle) !== 0;
+  }
+
+  get held() {
+    return HELD[this.#core.calls.held_kind(this.#handle)];
+  }
+}
+
+// `using t = new Terminal(core)` closes the terminal at the end of its block, in engines that have it.
+if (Symbol.dispose) Terminal.prototype[Symbol.dispose] = Terminal.prototype.close;

@@ -1,0 +1,185 @@
+"""Pages in headless browsers: Chromium by its DevTools protocol over a pipe, and Firefox by Marionette. They need no package of Python."""
+import base64
+import json
+import os
+import shutil
+import socket
+import subprocess
+import tempfile
+import time
+
+# No test depends on how fast the machine is: what is waited for comes, or hangs.
+PATIENCE = 300
+
+
+def until(holds, what):
+    """Waits until a call returns something true, and returns that."""
+    end = time.monotonic() + PATIENCE
+    while time.monotonic() < end:
+        if found := holds():
+            return found
+        time.sleep(0.02)
+    raise TimeoutError(what)
+
+
+class Page:
+    """What the pages of both browsers have. `evaluate` awaits a promise."""
+
+    def wait(self, script):
+        until(lambda: self.evaluate(script), script)
+
+    def end(self):
+        """Ends the browser, and removes its profile."""
+        try:
+            self.process.wait(PATIENCE)
+        finally:
+            shutil.rmtree(self.folder, ignore_errors=True)
+
+
+class Chromium(Page):
+    def __init__(self, url, width=1000, height=820, options=()):
+        to_read, self.to = os.pipe()
+        self.back, to_write = os.pipe()
+        self.folder = tempfile.mkdtemp(prefix="chromium-")
+        words = ["chromium", "--headless=new", "--no-sandbox", "--disable-gpu", "--disable-dev-shm-usage", "--no-first-run", "--hide-scrollbars",
+                 "--remote-debugging-pipe", f"--user-data-dir={self.folder}", f"--window-size={width},{height}", *options, "about:blank"]
+        # The browser reads from descriptor 3 and writes to 4. The shell moves them there.
+        shell = ["sh", "-c", f'exec "$@" 3<&{to_read} 4>&{to_write}', "sh", *words]
+        self.process = subprocess.Popen(shell, pass_fds=(to_read, to_write), stdin=subprocess.DEVNULL, stdout=subprocess.DEVNULL, stderr=subprocess.DEVNULL)
+        os.close(to_read)
+        os.close(to_write)
+        self.number, self.rest, self.session, self.said = 0, b"", None, []
+        target = until(lambda: next((t for t in self.call("Target.getTargets")["targetInfos"] if t["type"] == "page"), None), "a page")
+        self.session = self.call("Target.attachToTarget", targetId=target["targetId"], flatten=True)["sessionId"]
+        for domain in ("Page", "Runtime", "Log"):
+            self.call(f"{domain}.enable")
+        self.go(url)
+
+    def go(self, url):
+        self.call("Page.navigate", url=url)
+        self.wait(f"location.href === {json.dumps(url)} && document.readyState === 'complete'")
+
+    def _next(self):
+        while b"\0" not in self.rest:
+            data = os.read(self.back, 1 << 20)
+            if not data:
+                raise EOFError("Chromium ended")
+            self.rest += data
+        message, self.rest = self.rest.split(b"\0", 1)
+        return json.loads(message)
+
+    def call(self, method, **parameters):
+        self.number += 1
+        message = {"id": self.number, "method": method, "params": parameters, **({"sessionId": self.session} if self.session else {})}
+        data = json.dumps(message).encode() + b"\0"
+        while data:
+            data = data[os.write(self.to, data) :]
+        while True:
+            answer = self._next()
+            if answer.get("id") == self.number:
+                if "error" in answer:
+                    raise RuntimeError(f"{method}: {answer['error']}")
+                return answer["result"]
+            if answer.get("method") in ("Runtime.consoleAPICalled", "Runtime.exceptionThrown", "Log.entryAdded"):
+                self.said.append(answer["params"])
+
+    def evaluate(self, script):
+        got = self.call("Runtime.evaluate", expression=script, awaitPromise=True, returnByValue=True)
+        if "exceptionDetails" in got:
+            raise RuntimeError(got["exceptionDetails"].get("exception", {}).get("description", got["exceptionDetails"]))
+        return got["result"].get("value")
+
+    def press(self, key, code=None, text=None, shift=False):
+        words = {"key": key, "code": code or key, "modifiers": 8 if shift else 0, **({"text": text} if text else {})}
+        self.call("Input.dispatchKeyEvent", type="keyDown", **words)
+        self.call("Input.dispatchKeyEvent", type="keyUp", **words)
+
+    def names(self):
+        """Returns the accessibility tree as pairs of role and name."""
+        nodes = self.call("Accessibility.getFullAXTree")["nodes"]
+        return [(node.get("role", {}).get("value"), node.get("name", {}).get("value")) for node in nodes if not node.get("ignored")]
+
+    def media(self, **features):
+        self.call("Emulation.setEmulatedMedia", media=features.pop("media", ""), features=[{"name": n.replace("_", "-"), "value": v} for n, v in features.items()])
+
+    def size(self, width, height):
+        self.call("Emulation.setDeviceMetricsOverride", width=width, height=height, deviceScaleFactor=1, mobile=False)
+
+    def picture(self, path):
+        with open(path, "wb") as file:
+            file.write(base64.b64decode(self.call("Page.captureScreenshot", format="png")["data"]))
+
+    def close(self):
+        self.session = None
+        try:
+            self.call("Browser.close")
+        except (OSError, EOFError):
+            pass
+        self.end()
+
+
+class Firefox(Page):
+    def __init__(self, url):
+        self.folder = tempfile.mkdtemp(prefix="firefox-")
+        with open(os.path.join(self.folder, "user.js"), "w") as file:
+            file.write('user_pref("marionette.port", 0);\n')
+        environment = dict(os.environ, HOME=self.folder, MOZ_HEADLESS="1")
+        words = ["firefox-esr", "--headless", "--no-remote", "--marionette", "--profile", self.folder]
+        self.process = subprocess.Popen(words, env=environment, stdin=subprocess.DEVNULL, stdout=subprocess.DEVNULL, stderr=subprocess.DEVNULL)
+        self.wire = socket.create_connection(("127.0.0.1", until(self._port, "Firefox's port")), PATIENCE)
+        self.rest, self.number = b"", 0
+        self._next()
+        self.call("WebDriver:NewSession", capabilities={})
+        self.call("WebDriver:SetTimeouts", script=1000 * PATIENCE, pageLoad=1000 * PATIENCE)
+        self.go(url)
+
+    def _port(self):
+        """Returns the port that Firefox listens on, once it has written it into its profile."""
+        try:
+            with open(os.path.join(self.folder, "MarionetteActivePort")) as file:
+                return int(file.read())
+        except (OSError, ValueError):
+            return None
+
+    def go(self, url):
+        self.call("WebDriver:Navigate", url=url)
+
+    def _next(self):
+        while b":" not in self.rest:
+            self._read()
+        size, _, after = self.rest.partition(b":")
+        while len(after) < int(size):
+            self._read()
+            after = self.rest.partition(b":")[2]
+        self.rest = after[int(size) :]
+        return json.loads(after[: int(size)])
+
+    def _read(self):
+        data = self.wire.recv(1 << 20)
+        if not data:
+            raise EOFError("Firefox ended")
+        self.rest += data
+
+    def call(self, method, **parameters):
+        self.number += 1
+        message = json.dumps([0, self.number, method, parameters]).encode()
+        self.wire.sendall(b"%d:%s" % (len(message), message))
+        _, _, fault, result = self._next()
+        if fault:
+            raise RuntimeError(f"{method}: {fault['error']}: {fault['message']}")
+        return result
+
+    def evaluate(self, script):
+        asynchronous = f"const done = arguments[arguments.length - 1]; (async () => ({script}))().then(done, (fault) => done({{ fault: String(fault) }}));"
+        got = self.call("WebDriver:ExecuteAsyncScript", script=asynchronous, args=[])["value"]
+        if isinstance(got, dict) and "fault" in got:
+            raise RuntimeError(got["fault"])
+        return got
+
+    def close(self):
+        try:
+            self.call("Marionette:Quit", flags=["eForceQuit"])
+        except (OSError, EOFError, RuntimeError):
+            pass
+        self.wire.close()
+        self.end()

@@ -1,0 +1,151 @@
+// Tests each call of the package, its errors, and each export of the module.
+const bytes = (text) => Uint8Array.from(text, (c) => c.charCodeAt(0));
+const text = (data) => String.fromCharCode(...data);
+const json = JSON.stringify;
+
+function thrown(call) {
+  try {
+    call();
+  } catch (error) {
+    return error.code ?? error.name;
+  }
+  return null;
+}
+
+/** The calls and properties that a closed terminal refuses, with their arguments. */
+const OPEN = [
+  ["feed", [bytes("x")]], ["feedLog", [bytes("x")]], ["reset", []], ["text", []], ["rowText", [1]], ["show", []], ["picture", []], ["repaint", []],
+  ["cells", [1]], ["copyFrom", ["other"]], ["update", ["other"]], ["sameState", ["other"]], ["changedRows", ["other"]], ["rowChanges", ["other", 1]],
+];
+const PROPERTIES = ["cursor", "margins", "modes", "brush", "sets", "saved", "stops", "width", "bells", "isBetween", "held"];
+
+function values({ Terminal }, core, check) {
+  const t = new Terminal(core);
+  check("the stops at power-up", json(t.stops) === json(Array.from({ length: 16 }, (_, i) => 9 + 8 * i)));
+  check("the sets at power-up", json(t.sets) === json({ g0: "B", g1: "B", g2: "<", g3: "<", gl: 0, gr: 2, singleShift: 0 }));
+  t.feed(bytes("\x1b[3;7H\x1b(A\x1b)0\x0e\x1b[1m\x1b7\x1b[m\x1b[4m\x1bO\x07\x07"));
+  check("the sets", json(t.sets) === json({ g0: "A", g1: "0", g2: "<", g3: "<", gl: 1, gr: 2, singleShift: 3 }));
+  check("the brush", json(t.brush) === json({ bold: false, underline: true, blink: false, reverse: false, isProtected: false }));
+  const { saved } = t;
+  check("what is saved", saved.row === 3 && saved.column === 7 && saved.bold && !saved.wrap && !saved.origin && saved.g0 === "A" && saved.gl === 1);
+  check("the bells", t.bells === 2);
+  t.reset();
+  t.feed(bytes("\x1b[2;3H\x1b[1;4mx\x1b[5;9r\x1b[4h"));
+  check("a cell", json(t.cells(2)[2]) === json({ glyph: "x", bold: true, underline: true, blink: false, reverse: false, isProtected: false }));
+  check("the width", t.cells(24).length === 80 && t.width === 80);
+  check("the margins", json(t.margins) === json({ top: 5, bottom: 9 }));
+  check("the cursor", json(t.cursor) === json({ row: 1, column: 1, wrap: false }));
+  check("the modes", t.modes.irm && !t.modes.lnm && t.modes.dectcem && Object.keys(t.modes).length === 13);
+  check("replies", text(t.feed(bytes("\x1b[6n\x1b[c"))) === "\x1b[1;1R\x1b[?62;1;6c");
+  const many = t.feed(bytes("\x1b[c".repeat(40000)));
+  check("many replies", many.length === 400000 && text(many.subarray(-10)) === "\x1b[?62;1;6c");
+  t.close();
+}
+
+function logs({ Terminal }, core, check) {
+  const t = new Terminal(core), lines = Array.from({ length: 5000 }, (_, i) => `line ${i} ${"x".repeat(i % 70)}`.trimEnd());
+  const logged = t.feedLog(bytes(lines.join("\r\n") + "\x1b[6n"));
+  check("the lines that scroll off", json(logged.lines) === json(lines.slice(0, 4976)) && logged.replies.length > 0);
+  check("no lines", t.feedLog(new Uint8Array(0)).lines.length === 0);
+  const blank = t.feedLog(bytes("\x1bc\n".padEnd(40, "\n")));
+  check("blank lines", blank.lines.length === 15 && blank.lines.every((line) => line === ""));
+  t.close();
+}
+
+function pairs({ Terminal }, core, check) {
+  const a = new Terminal(core), b = new Terminal(core);
+  a.feed(bytes("\x1b[3;2Hhello"));
+  check("changed rows", json(b.changedRows(a)) === "[3]" && json(a.changedRows(b)) === "[3]");
+  check("changed cells", json(b.rowChanges(a, 3).flatMap((is, i) => (is ? [i + 1] : []))) === "[2,3,4,5,6]");
+  a.feed(bytes("\x1b[?3h"));
+  check("changed rows of another width", b.changedRows(a).length === 24 && b.rowChanges(a, 1).length === 132);
+  b.copyFrom(a);
+  check("the same state", a.sameState(b) && a.sameState(a) && a.update(a).length === 0);
+  a.feed(bytes("\x1b["));
+  check("inside a sequence", a.held === "control" && !a.isBetween && thrown(() => a.repaint()) === "PARTIAL");
+  b.copyFrom(a);
+  check("a copy inside a sequence", b.held === "control" && a.sameState(b));
+  a.close();
+  b.close();
+}
+
+function errors({ Terminal, Vt220Error, ROWS, COLUMNS }, core, other, check) {
+  const t = new Terminal(core), closed = new Terminal(core);
+  for (const row of [0, -1, 25, 1.5, NaN, "3", undefined, 2 ** 32 + 1])
+    for (const call of ["rowText", "cells"]) check(`${call} of row ${row}`, thrown(() => t[call](row)) === "NO_ROW");
+  check("a message", (() => { try { t.cells(25); } catch (error) { return error instanceof Vt220Error && error instanceof Error && error.message === "there is no such row"; } })());
+  for (const data of ["text", [1, 2], null, new Uint16Array(2)]) check(`fed ${data}`, thrown(() => t.feed(data)) === "TypeError");
+  check("another core", thrown(() => t.copyFrom(new Terminal(other))) === "TypeError" && thrown(() => t.update({})) === "TypeError");
+  check("no core", thrown(() => new Terminal()) === "TypeError" && thrown(() => new Terminal({})) === "TypeError");
+  closed.close();
+  closed.close();
+  check("a closed terminal", !closed.isOpen && t.isOpen);
+  for (const [call, given] of OPEN) {
+    const words = given.map((word) => (word === "other" ? t : word));
+    check(`closed: ${call}`, thrown(() => closed[call](...words)) === "CLOSED");
+    if (given.includes("other")) check(`closed: the argument of ${call}`, thrown(() => t[call](...given.map((word) => (word === "other" ? closed : word)))) === "CLOSED");
+  }
+  for (const name of PROPERTIES) check(`closed: ${name}`, thrown(() => closed[name]) === "CLOSED");
+  check("constants", ROWS === 24 && COLUMNS === 132 && core.version >= 300);
+  if (Symbol.dispose) closed[Symbol.dispose]();
+  t.close();
+}
+
+function keys(core, check) {
+  const set = { decckm: true, reports8bit: true };
+  const rows = [["a", {}, "a"], ["\u00e9", {}, "\xe9"], ["\u0153", {}, "\xf7"], ["Return", {}, "\r"], ["Return", { lnm: true }, "\r\n"], ["Up", {}, "\x1b[A"], ["Up", { decckm: true }, "\x1bOA"],
+    ["Up", set, "\x8fA"], ["F20", set, "\x9b34~"], ["C-c", {}, "\x03"], ["KP5", { keypadApplication: true }, "\x1bOu"], ["\x1b[A", { decckm: true }, "\x1bOA"]];
+  for (const [key, modes, sent] of rows) check(`the key ${key}`, text(core.key(key, modes)) === sent);
+  check("no such keys", thrown(() => core.key("F5", {})) === "NO_KEY" && thrown(() => core.key("\u00f7", {})) === "NO_CHARACTER");
+  check("a very long key", thrown(() => core.key("x".repeat(100000), {})) === "NO_KEY");
+  check("the length of keys", core.keyLength(bytes("\x1b[A\x1b[B")) === 3 && core.keyLength(bytes("\x1b[")) === 0 && core.keyLength(bytes("ab")) === 1);
+}
+
+/** Tests the module itself: that it imports nothing, and the exports that no call of the package needs. */
+async function modules({ load, Terminal }, wasm, check) {
+  const module = await WebAssembly.compile(wasm);
+  check("no imports", WebAssembly.Module.imports(module).length === 0);
+  const { exports } = await WebAssembly.instantiate(module);
+  for (const size of [0, 1, 16, 1000, 100000, 3000000]) check(`the heap, ${size} bytes`, exports.test_heap(size) === 1 && exports.test_heap(size) === 1);
+  check("a load from a module", new Terminal(await load(module)).width === 80);
+  check("a load from a promise", new Terminal(await load(Promise.resolve(wasm))).width === 80);
+  if (typeof Response !== "undefined") check("a load from a response", new Terminal(await load(new Response(wasm))).width === 80);
+  let isRefused = false;
+  await load(Uint8Array.of(1, 2, 3)).catch(() => (isRefused = true));
+  check("a load of other bytes", isRefused);
+}
+
+/** Tests many terminals, which are closed and made again in the same memory. */
+function memory({ Terminal }, core, check) {
+  const round = () => {
+    const made = Array.from({ length: 200 }, () => new Terminal(core));
+    made.forEach((terminal, i) => terminal.feed(bytes(`terminal ${i}`)));
+    const isRight = made.every((terminal, i) => terminal.rowText(1) === `terminal ${i}`);
+    made.forEach((terminal) => terminal.close());
+    return isRight;
+  };
+  check("200 terminals", round());
+  const size = core.bytes.length;
+  check("200 terminals again", round() && core.bytes.length === size);
+}
+
+/** Tests that a fault of WebAssembly ends the use of a core, and leaves others alone. */
+async function faults({ load, Terminal }, wasm, check) {
+  const core = await load(wasm), other = await load(wasm);
+  const t = new Terminal(core);
+  check("a fault", thrown(() => core.calls.text(0xfffffff0)) === "RuntimeError");
+  check("after a fault", thrown(() => t.text()) === "BROKEN" && thrown(() => new Terminal(core)) === "BROKEN");
+  check("another core after a fault", new Terminal(other).width === 80);
+}
+
+export async function calls(vt220, wasm, check) {
+  const core = await vt220.load(wasm), other = await vt220.load(wasm);
+  values(vt220, core, check);
+  logs(vt220, core, check);
+  pairs(vt220, core, check);
+  errors(vt220, core, other, check);
+  keys(core, check);
+  memory(vt220, core, check);
+  await modules(vt220, wasm, check);
+  await faults(vt220, wasm, check);
+}

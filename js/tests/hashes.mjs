@@ -1,0 +1,41 @@
+// What a terminal shows after each of many inputs, as hashes: tests/beside.py makes the same with the library for C.
+
+/** Returns a hash of 52 bits: two of 26 bits by multiplication, as numbers of JavaScript multiply exactly. */
+export function hash(parts) {
+  let a = 1, b = 2;
+  for (const part of parts)
+    for (const byte of part) {
+      a = (a * 31 + byte + 1) % 67108859;
+      b = (b * 37 + byte + 1) % 67108837;
+    }
+  return `${a}.${b}`;
+}
+
+const encoder = new TextEncoder();
+const words = (object) => Object.values(object).map((value) => (typeof value === "string" ? value.charCodeAt(0) : Number(value)));
+
+/** Returns everything that is read of a terminal, as text. `last` is an earlier one. */
+function described(terminal, last) {
+  const { cursor, margins, modes, brush, sets, saved, stops, bells, held, width } = terminal;
+  const parts = [cursor, margins, modes, brush, sets, saved].map(words).concat([stops, [bells, width]]);
+  const marks = [1, 12, 24].map((row) => last.rowChanges(terminal, row).map(Number).join(""));
+  const cells = terminal.cells(3).map((cell) => words(cell).join(".")).join(" ");
+  return [terminal.text(), terminal.show(), terminal.picture(), parts.join(" "), held, last.changedRows(terminal).join(), ...marks, cells].join("\n");
+}
+
+export function hashes({ Terminal }, core, inputs) {
+  let last = new Terminal(core);
+  return inputs.map((input) => {
+    const terminal = new Terminal(core), half = input.length >> 1;
+    const replies = terminal.feed(input.subarray(0, half)), logged = terminal.feedLog(input.subarray(half));
+    const text = described(terminal, last);
+    terminal.feed(Uint8Array.of(0x18));
+    const shown = new Terminal(core);
+    shown.copyFrom(last);
+    const repaint = terminal.repaint(), update = shown.update(terminal);
+    shown.close();
+    last.close();
+    last = terminal;
+    return hash([replies, logged.replies, encoder.encode(logged.lines.join("\n")), encoder.encode(text), repaint, update]);
+  });
+}

@@ -1,0 +1,41 @@
+// Tests the package in node: the vectors, inputs beside the library for C, each call, and the Timeline.
+//   node tests/modules.mjs PACKAGE VECTORS HASHES      the last line is 'N passed, M failed'
+import { readFile } from "node:fs/promises";
+import { pathToFileURL } from "node:url";
+import { Worker } from "node:worker_threads";
+import { calls } from "./calls.mjs";
+import { hashes } from "./hashes.mjs";
+import { timelines } from "./timelines.mjs";
+import { vectors } from "./vectors.mjs";
+
+const [place, vectorFile, hashFile] = process.argv.slice(2);
+const from = (name) => import(new URL(name, pathToFileURL(`${place}/`)));
+const vt220 = { ...(await from("src/vt220.js")), ...(await from("src/timeline.js")) };
+let passed = 0, failed = 0;
+const check = (what, isSo) => {
+  if (isSo) passed++;
+  else failed++, console.error(`failed: ${what}`);
+};
+
+const core = await vt220.load();
+const wasm = await readFile(`${place}/vt220.wasm`);
+const got = vectors(vt220, core, await readFile(vectorFile, "utf8"), (what) => console.error(`failed: ${what}`));
+passed += got.passed;
+failed += got.failed;
+
+const all = JSON.parse(await readFile(hashFile, "utf8"));
+const mine = hashes(vt220, core, all.map(([input]) => new Uint8Array(Buffer.from(input, "base64"))));
+all.forEach(([input, theirs], i) => check(`beside the library, ${input.slice(0, 200)}`, mine[i] === theirs));
+
+await calls(vt220, wasm, check);
+timelines(vt220, core, check);
+
+const script = `import { load, Terminal } from ${JSON.stringify(pathToFileURL(`${place}/src/vt220.js`).href)};
+import { parentPort } from "node:worker_threads";
+const terminal = new Terminal(await load());
+terminal.feed(new TextEncoder().encode("in a worker"));
+parentPort.postMessage(terminal.rowText(1));`;
+const worker = new Worker(new URL(`data:text/javascript,${encodeURIComponent(script)}`));
+check("a worker", (await new Promise((resolve, reject) => worker.once("message", resolve).once("error", reject))) === "in a worker");
+console.log(`${passed} passed, ${failed} failed`);
+process.exit(failed > 0 ? 1 : 0);

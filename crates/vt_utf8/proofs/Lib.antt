@@ -3,3 +3,4 @@ mod Reading
 mod Cuts
 mod Silence
 mod Fed
+mod Themselves

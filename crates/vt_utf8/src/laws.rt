@@ -1,11 +1,14 @@
 //! Laws over the definitions alone. A caller cites a law by a call of its function.
-ghost use Rattle.std.specs.Prelude.{◌≡◌, ◌<◌, ℕ, List, [], ◌++◌, All};
+ghost use Rattle.std.specs.Prelude.{◌≡◌, ◌<◌, ◌≤◌, ℕ, List, [], ◌++◌, All};
 ghost use Rattle.vt_term.specs.State.{State};
 ghost use Rattle.vt_term.specs.Sound.{IsSound};
 ghost use Rattle.vt_term.specs.Play.{play, both, joined};
+ghost use Rattle.vt_glyph.specs.Tables.{IsGlyph};
+ghost use Rattle.vt_utf8.specs.Similar.{shown};
 ghost use Rattle.vt_utf8.specs.Decoding.{pending_after};
 ghost use Rattle.vt_utf8.specs.Play.{translated, play_utf8, play_utf8_all};
 
+use vt_glyph::laws::glyphs as all_glyphs;
 use vt_term::laws::{cuts as played_cuts, soundness as played_soundness};
 
 /// States that each state that UTF-8 leaves is sound: it is one that the terminal's bytes leave.
@@ -40,3 +43,11 @@ pub fn ascii()
         → play_utf8 s [] bytes ≡ play s bytes }
     ensures pending { (bytes : List ℕ) → All (λ b. b < 0x80) bytes → pending_after [] bytes ≡ [] }
 {}
+
+/// States that each character is shown by one of the 204 glyphs, and each of these that isn't in ASCII by itself.
+pub fn glyphs()
+    ensures shown { (c : ℕ) → IsGlyph (shown c) }
+    ensures themselves { (n : ℕ) → IsGlyph n → 0xA0 ≤ n → shown n ≡ n }
+{
+    all_glyphs();
+}

@@ -4,3 +4,4 @@ mod Cuts
 mod Silence
 mod Fed
 mod Themselves
+mod Written

@@ -5,3 +5,4 @@ mod Silence
 mod Fed
 mod Themselves
 mod Written
+mod Lanes

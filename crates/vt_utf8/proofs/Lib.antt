@@ -3,3 +3,6 @@ mod Reading
 mod Cuts
 mod Silence
 mod Fed
+mod Themselves
+mod Written
+mod Lanes

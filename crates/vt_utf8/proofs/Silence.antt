@@ -120,7 +120,7 @@ quiet-ss3 = record {
   silent = (λ s. refl, tt);
 }
 
-final : (set : Set) → (0x30 ≤ final_of set) × (final_of set ≤ 0x7E)
+pub final : (set : Set) → (0x30 ≤ final_of set) × (final_of set ≤ 0x7E)
 final Ascii = (omega arith, omega arith)
 final British = (omega arith, omega arith)
 final German = (omega arith, omega arith)

@@ -1,6 +1,6 @@
 -- What a character is in the terminal's bytes, in a state. (EK-VT220-RM: SCS, the single shifts, NEL, DECAWM; ECMA-48: ST.
 -- The choice of bytes is this profile's.)
-use Rattle.std.specs.Prelude.{ℕ, List, [], ◌∷◌, ◌++◌, Bool, not, ◌==◌, ◌&&◌, nat_lt, is_none, if◌then◌else◌}
+use Rattle.std.specs.Prelude.{ℕ, List, [], ◌∷◌, ◌++◌, None, Bool, not, ◌==◌, ◌&&◌, nat_lt, is_none, if◌then◌else◌}
 use Rattle.vt_syntax.specs.declared.held.Held.{Held}
 use Rattle.vt_syntax.specs.declared.held.Held.TheVariants.{Nothing, Text}
 use Rattle.vt_glyph.specs.declared.set.Set.{Set}
@@ -89,3 +89,9 @@ beyond_ascii held bytes = 0x1B ∷ 0x5C ∷ bytes
 -- an ASCII character is its byte
 unfoldable pub translation : State → ℕ → List ℕ
 translation s c = if nat_lt c 0x80 then c ∷ [] else beyond_ascii s.held (put c s.display)
+
+-- ---- for laws
+
+-- no single shift is pending
+abbrev pub unshifted : Display → Display
+unshifted s = record s { sets = record s.sets { pending = None } }

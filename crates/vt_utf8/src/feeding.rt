@@ -10,10 +10,10 @@ ghost use Rattle.vt_utf8.specs.Translation.{translation};
 ghost use Rattle.vt_utf8.specs.Play.{translated_all, play_utf8};
 ghost use Rattle.vt_utf8.specs.Private.Feeds.{FeedsUtf8};
 
+use crate::ascii::ascii_run;
 use crate::decoder::Decoder;
 use crate::laws::{ascii, cuts};
 use crate::translation::translation;
-use bstr::ByteSlice;
 use std::alloc::AllocError;
 use vt_glyph::laws::{glyphs, spelling};
 use vt_syntax::laws::{one_split, spelled};
@@ -99,15 +99,6 @@ fn feed_next(
     }
     feed_byte(terminal, decoder, piece[0], out);
     1
-}
-
-/// Returns how many bytes at the front of a piece are ASCII.
-#[inline(always)]
-fn ascii_run(piece: &[u8]) -> usize
-    ensures within { result ≤ length piece.now }
-    ensures ascii { All (λ b. b < 0x80) (take result piece.now) }
-{
-    piece.find_non_ascii_byte().unwrap_or(piece.len())
 }
 
 /// Plays ASCII bytes with nothing pending.

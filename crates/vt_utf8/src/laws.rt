@@ -1,11 +1,19 @@
 //! Laws over the definitions alone. A caller cites a law by a call of its function.
-ghost use Rattle.std.specs.Prelude.{◌≡◌, ◌<◌, ℕ, List, [], ◌++◌, All};
+ghost use Rattle.std.specs.Prelude.{◌≡◌, ◌<◌, ◌≤◌, ℕ, List, [], ◌++◌, All};
 ghost use Rattle.vt_term.specs.State.{State};
 ghost use Rattle.vt_term.specs.Sound.{IsSound};
 ghost use Rattle.vt_term.specs.Play.{play, both, joined};
+ghost use Rattle.vt_glyph.specs.Tables.{IsGlyph};
+ghost use Rattle.vt_utf8.specs.Similar.{shown};
+ghost use Rattle.vt_syntax.specs.declared.held.Held.TheVariants.{Nothing};
+ghost use Rattle.vt_term.specs.Writing.{write_glyph};
+ghost use Rattle.vt_utf8.specs.Cells.{cells};
+ghost use Rattle.vt_utf8.specs.Translation.{written, unshifted, translation};
 ghost use Rattle.vt_utf8.specs.Decoding.{pending_after};
 ghost use Rattle.vt_utf8.specs.Play.{translated, play_utf8, play_utf8_all};
 
+use vt_glyph::laws::{glyphs as all_glyphs, spelling};
+use vt_syntax::laws::spelled;
 use vt_term::laws::{cuts as played_cuts, soundness as played_soundness};
 
 /// States that each state that UTF-8 leaves is sound: it is one that the terminal's bytes leave.
@@ -40,3 +48,28 @@ pub fn ascii()
         → play_utf8 s [] bytes ≡ play s bytes }
     ensures pending { (bytes : List ℕ) → All (λ b. b < 0x80) bytes → pending_after [] bytes ≡ [] }
 {}
+
+/// States that each character is shown by one of the 204 glyphs, and each of these that isn't in ASCII by itself.
+pub fn glyphs()
+    ensures shown { (c : ℕ) → IsGlyph (shown c) }
+    ensures themselves { (n : ℕ) → IsGlyph n → 0xA0 ≤ n → shown n ≡ n }
+{
+    all_glyphs();
+}
+
+/// States what a translation does between sequences. The bytes for a glyph write it as any glyph is written, whatever the
+/// sets are, use a pending single shift up and leave the sets. A character of one cell is its glyph, and one without a
+/// cell is no byte. None of this causes a report.
+pub fn writes()
+    ensures glyph { (s : State) (n : ℕ) → IsSound s → s.held ≡ Nothing → IsGlyph n
+        → play s (written n s.display.sets)
+        ≡ record { state = record s { display = write_glyph n (unshifted s.display) }; reports = [] } }
+    ensures one { (s : State) (c : ℕ) → IsSound s → s.held ≡ Nothing → 0x80 ≤ c → cells c ≡ 1
+        → play s (translation s c)
+        ≡ record { state = record s { display = write_glyph (shown c) (unshifted s.display) }; reports = [] } }
+    ensures none { (s : State) (c : ℕ) → s.held ≡ Nothing → 0x80 ≤ c → cells c ≡ 0 → translation s c ≡ [] }
+{
+    all_glyphs();
+    spelling();
+    spelled();
+}

@@ -1,6 +1,7 @@
 //! UTF-8 for a terminal: it is translated to the terminal's own bytes, in dependence on the terminal's state.
 #![tactic(auto)]
 
+mod ascii;
 mod decoder;
 mod feeding;
 pub mod laws;

@@ -1,0 +1,377 @@
+-- The bytes that write a glyph write it, and leave the sets with no single shift pending.
+use Rattle.std.proofs.Common.{◌≡◌, ℕ, ◌%◌, ◌≤◌, Bool, true, false, List, [], ◌∷◌, ◌++◌, All, length, Option, Some, None, inl, inr, refl, sym, ap, subst, ◌∙◌, arith, append_assoc}
+use Rattle.std.specs.Prelude.{nat_lt, ◌==◌, if◌then◌else◌, is_none, slice_set, slice_index_or}
+use Rattle.std.proofs.lemmas.Bool.{and_parts, eqb-true}
+use Rattle.std.proofs.lemmas.Bool.Decides.{nat_tests}
+use Rattle.std.proofs.lemmas.List.Elements.{All-append, All-from_recursion}
+use Rattle.std.proofs.lemmas.List.Sums.{fold-append}
+use Rattle.std.proofs.lemmas.Grind.{flat_map-append}
+use Rattle.vt_syntax.specs.declared.event.Event.{Event}
+use Rattle.vt_syntax.specs.declared.event.Event.TheVariants.{Print, Control, Escape}
+use Rattle.vt_syntax.specs.declared.held.Held.TheVariants.{Nothing}
+use Rattle.vt_syntax.specs.Class.{opens_string}
+use Rattle.vt_syntax.specs.Held.{held_after}
+use Rattle.vt_syntax.specs.Reading.{events_of}
+use Rattle.vt_syntax.specs.Spelling.{IsEvent, spell_event, spell_events}
+use Rattle.vt_syntax.specs.Laws.{SpellingLaw}
+use Rattle.vt_glyph.specs.declared.set.Set.{Set}
+use Rattle.vt_glyph.specs.declared.set.Set.TheVariants.{Ascii, British, German, Special, Supplemental}
+use Rattle.vt_glyph.specs.declared.glyph.Spelling.{Spelling}
+use Rattle.vt_glyph.specs.declared.glyph.Spelling.TheVariants.{Plain, Second, Third}
+use Rattle.vt_glyph.specs.Tables.{IsGlyph, glyph_of, space}
+use Rattle.vt_glyph.specs.Designation.{final_of, set_of_final}
+use Rattle.vt_glyph.specs.GraphicSets.{GraphicSets}
+use Rattle.vt_glyph.specs.Invocation.{set_at, invoked, has_no_glyph, glyph_read, after_read, shifted_once, designated}
+use Rattle.vt_glyph.specs.Spell.{spelling_of, code_of, shifted_for, AreSpellingSets}
+use Rattle.vt_glyph.specs.Laws.{GlyphLaws, SpellingLaws}
+use Rattle.vt_term.specs.State.{Display, State}
+use Rattle.vt_term.specs.Sound.{IsSound}
+use Rattle.vt_term.specs.Moving.{next_line}
+use Rattle.vt_term.specs.Writing.{write_glyph, put_glyph, print}
+use Rattle.vt_term.specs.Functions.{effect, control, escape_with, shift_once}
+use Rattle.vt_term.specs.Reports.{report, control_report}
+use Rattle.vt_term.specs.Play.{play, after_events, reports_of}
+use Rattle.vt_utf8.specs.Translation.{shifted, designation, through_g2, through_g3, reads_ascii}
+use Rattle.vt_utf8.specs.Translation.{spelled_in, written, unshifted, translation}
+use Rattle.vt_utf8.specs.Similar.{shown}
+use Rattle.vt_utf8.specs.Cells.{cells}
+use Rattle.vt_utf8.proofs.Silence.{final, shown-glyph}
+
+-- ---- bytes that make one display of another, without a report
+
+pub record Does (bytes : List ℕ) (d e : Display) : Type 0 where
+  pub events : List Event
+  pub spelled : spell_events events ≡ bytes
+  pub are_events : All IsEvent events
+  pub silent : reports_of events d ≡ []
+  pub after : after_events events d ≡ e
+
+reports-append : (xs ys : List Event) (d : Display)
+    → reports_of (xs ++ ys) d ≡ reports_of xs d ++ reports_of ys (after_events xs d)
+reports-append [] ys d = refl
+reports-append (x ∷ xs) ys d =
+    ap (λ (t : List ℕ). report x d ++ t) (reports-append xs ys (effect x d))
+    ∙ sym (append_assoc (report x d) (reports_of xs (effect x d)) (reports_of ys (after_events xs (effect x d))))
+
+does-append : (a b : List ℕ) (d e f : Display) → Does a d e → Does b e f → Does (a ++ b) d f
+does-append a b d e f x y = record {
+  events = x.events ++ y.events;
+  spelled = flat_map-append spell_event x.events y.events ∙ rw (x.spelled, y.spelled) refl;
+  are_events = All-append IsEvent x.events y.events x.are_events y.are_events;
+  silent = reports-append x.events y.events d ∙ rw (x.silent, x.after) y.silent;
+  after = fold-append (λ t event. effect event t) d x.events y.events ∙ rw x.after y.after;
+}
+
+module _ (d : Display) where
+  does-printed : (code : ℕ) → 0x20 ≤ code → code ≤ 0x7E → Does (code ∷ []) d (print code d)
+  does-printed code low high = record {
+    events = Print code ∷ [];
+    spelled = refl;
+    are_events = All-from_recursion IsEvent (Print code ∷ []) (inl (low, high), tt);
+    silent = refl;
+    after = refl;
+  }
+
+  does-ss2 : Does (0x1B ∷ 0x4E ∷ []) d (shift_once 2 d)
+  unfolding opens_string control_report control
+  does-ss2 = record {
+    events = Control 0x8E ∷ [];
+    spelled = refl;
+    are_events = All-from_recursion IsEvent (Control 0x8E ∷ []) (inr (omega arith, omega arith, refl), tt);
+    silent = refl;
+    after = refl;
+  }
+
+  does-ss3 : Does (0x1B ∷ 0x4F ∷ []) d (shift_once 3 d)
+  unfolding opens_string control_report control
+  does-ss3 = record {
+    events = Control 0x8F ∷ [];
+    spelled = refl;
+    are_events = All-from_recursion IsEvent (Control 0x8F ∷ []) (inr (omega arith, omega arith, refl), tt);
+    silent = refl;
+    after = refl;
+  }
+
+  effect-g2 : (set : Set) → effect (Escape (Some 0x2A) (final_of set)) d ≡ record d { sets = designated 2 set d.sets }
+  unfolding escape_with
+  effect-g2 Ascii = refl
+  effect-g2 British = refl
+  effect-g2 German = refl
+  effect-g2 Special = refl
+  effect-g2 Supplemental = refl
+
+  effect-g3 : (set : Set) → effect (Escape (Some 0x2B) (final_of set)) d ≡ record d { sets = designated 3 set d.sets }
+  unfolding escape_with
+  effect-g3 Ascii = refl
+  effect-g3 British = refl
+  effect-g3 German = refl
+  effect-g3 Special = refl
+  effect-g3 Supplemental = refl
+
+  does-g2 : (set : Set) → Does (designation 0x2A set) d (record d { sets = designated 2 set d.sets })
+  does-g2 set = record {
+    events = Escape (Some 0x2A) (final_of set) ∷ [];
+    spelled = refl;
+    are_events = All-from_recursion IsEvent (Escape (Some 0x2A) (final_of set) ∷ [])
+        (((omega arith, omega arith), final set), tt);
+    silent = refl;
+    after = effect-g2 set;
+  }
+
+  does-g3 : (set : Set) → Does (designation 0x2B set) d (record d { sets = designated 3 set d.sets })
+  does-g3 set = record {
+    events = Escape (Some 0x2B) (final_of set) ∷ [];
+    spelled = refl;
+    are_events = All-from_recursion IsEvent (Escape (Some 0x2B) (final_of set) ∷ [])
+        (((omega arith, omega arith), final set), tt);
+    silent = refl;
+    after = effect-g3 set;
+  }
+
+-- ---- a glyph doesn't look at the sets, and leaves them
+
+with-sets : (n : ℕ) (d : Display) (x : GraphicSets)
+    → record (write_glyph n d) { sets = x } ≡ write_glyph n (record d { sets = x })
+with-sets n d x = go d.cursor.wrap
+  where
+    go : (w : Bool) → record (put_glyph n (if w then next_line d else d)) { sets = x }
+        ≡ put_glyph n (if w then next_line (record d { sets = x }) else record d { sets = x })
+    go true = refl
+    go false = refl
+
+leaves-sets : (n : ℕ) (d : Display) → (write_glyph n d).sets ≡ d.sets
+leaves-sets n d = go d.cursor.wrap
+  where
+    go : (w : Bool) → (put_glyph n (if w then next_line d else d)).sets ≡ d.sets
+    go true = refl
+    go false = refl
+
+-- ---- a code after a shift
+
+-- the sets that the spellings are for
+abbrev spelling_sets : GraphicSets
+spelling_sets =
+    record { g = Ascii ∷ Ascii ∷ Supplemental ∷ Special ∷ []; left = 0; right = 2; pending = None }
+
+spelling_sets-are : AreSpellingSets spelling_sets
+spelling_sets-are = record { g0 = refl; g2 = refl; g3 = refl; left = refl; pending = refl }
+
+-- a byte is read through the set that it invokes
+same-read : (a b : GraphicSets) (code : ℕ) → invoked a code ≡ invoked b code → glyph_read a code ≡ glyph_read b code
+unfolding glyph_read
+same-read a b code e =
+    ap (λ (set : Set). if has_no_glyph code then None else (
+    if code == 0x20 then Some space else Some (glyph_of set (code % 0x80)))) e
+
+has-glyph : (code : ℕ) → 0x20 ≤ code → code ≤ 0x7E → has_no_glyph code ≡ false
+has-glyph code low high = let same : code % 0x80 ≡ code = omega arith in rw same (grind (arith, nat_tests))
+
+left-half : (code : ℕ) → code ≤ 0x7E → nat_lt code 0x80 ≡ true
+left-half code high = grind (arith, nat_tests)
+
+after-graphic : (sets : GraphicSets) (code : ℕ) → 0x20 ≤ code → code ≤ 0x7E
+    → after_read sets code ≡ record sets { pending = None }
+unfolding after_read
+after-graphic sets code low high = rw (has-glyph code low high) refl
+
+-- a graphic byte that is read as this glyph
+prints : (d : Display) (code n : ℕ) → 0x20 ≤ code → code ≤ 0x7E → glyph_read d.sets code ≡ Some n
+    → print code d ≡ write_glyph n (unshifted d)
+prints d code n low high read = rw (read, after-graphic d.sets code low high) refl
+
+-- the lists of four sets
+slot2 : (g : List Set) (set : Set) → length g ≡ 4 → slice_set (slice_set g 2 set) 2 (slice_index_or g 2 Ascii) ≡ g
+slot2 [] set four = absurd (omega arith)
+slot2 (a ∷ []) set four = absurd (omega arith)
+slot2 (a ∷ b ∷ []) set four = absurd (omega arith)
+slot2 (a ∷ b ∷ c ∷ rest) set four = refl
+
+slot3 : (g : List Set) (set : Set) → length g ≡ 4 → slice_set (slice_set g 3 set) 3 (slice_index_or g 3 Ascii) ≡ g
+slot3 [] set four = absurd (omega arith)
+slot3 (a ∷ []) set four = absurd (omega arith)
+slot3 (a ∷ b ∷ []) set four = absurd (omega arith)
+slot3 (a ∷ b ∷ c ∷ []) set four = absurd (omega arith)
+slot3 (a ∷ b ∷ c ∷ d ∷ rest) set four = refl
+
+at2 : (g : List Set) (set : Set) → length g ≡ 4 → slice_index_or (slice_set g 2 set) 2 Ascii ≡ set
+at2 [] set four = absurd (omega arith)
+at2 (a ∷ []) set four = absurd (omega arith)
+at2 (a ∷ b ∷ []) set four = absurd (omega arith)
+at2 (a ∷ b ∷ c ∷ rest) set four = refl
+
+at3 : (g : List Set) (set : Set) → length g ≡ 4 → slice_index_or (slice_set g 3 set) 3 Ascii ≡ set
+at3 [] set four = absurd (omega arith)
+at3 (a ∷ []) set four = absurd (omega arith)
+at3 (a ∷ b ∷ []) set four = absurd (omega arith)
+at3 (a ∷ b ∷ c ∷ []) set four = absurd (omega arith)
+at3 (a ∷ b ∷ c ∷ d ∷ rest) set four = refl
+
+-- a set is known by its final byte
+final-back : (set : Set) → set_of_final (final_of set) ≡ Some set
+final-back Ascii = refl
+final-back British = refl
+final-back German = refl
+final-back Special = refl
+final-back Supplemental = refl
+
+some-same : (a b : Set) → Some a ≡ Some b → a ≡ b
+some-same a b h = cc
+
+same-final : (a b : Set) → final_of a ≡ final_of b → a ≡ b
+same-final a b e = some-same a b (sym (final-back a) ∙ ap set_of_final e ∙ final-back b)
+
+module _ (code n : ℕ) (low : 0x20 ≤ code) (high : code ≤ 0x7E) where
+  does-shifted2 : (d : Display) → glyph_read (shifted_once 2 d.sets) code ≡ Some n
+      → Does (shifted 0x4E code) d (write_glyph n (unshifted d))
+  does-shifted2 d read =
+      let e = shift_once 2 d in
+      subst (λ (f : Display). Does (shifted 0x4E code) d f) (prints e code n low high read)
+      (does-append (0x1B ∷ 0x4E ∷ []) (code ∷ []) d e (print code e) (does-ss2 d) (does-printed e code low high))
+
+  does-shifted3 : (d : Display) → glyph_read (shifted_once 3 d.sets) code ≡ Some n
+      → Does (shifted 0x4F code) d (write_glyph n (unshifted d))
+  does-shifted3 d read =
+      let e = shift_once 3 d in
+      subst (λ (f : Display). Does (shifted 0x4F code) d f) (prints e code n low high read)
+      (does-append (0x1B ∷ 0x4F ∷ []) (code ∷ []) d e (print code e) (does-ss3 d) (does-printed e code low high))
+
+  module _ (d : Display) (four : length d.sets.g ≡ 4) (set : Set)
+      (reads : (sets : GraphicSets) → invoked sets code ≡ set → glyph_read sets code ≡ Some n) where
+    does-through2 : Does (through_g2 d.sets set code) d (write_glyph n (unshifted d))
+    does-through2 = go (final_of before == final_of set) refl
+      where
+        before : Set
+        before = set_at d.sets 2
+
+        d1 : Display
+        d1 = record d { sets = designated 2 set d.sets }
+
+        d3 : Display
+        d3 = write_glyph n (unshifted d1)
+
+        back : record d3 { sets = designated 2 before d3.sets } ≡ write_glyph n (unshifted d)
+        back =
+            ap (λ (x : GraphicSets). record d3 { sets = designated 2 before x }) (leaves-sets n (unshifted d1))
+            ∙ with-sets n (unshifted d1) (designated 2 before (unshifted d1).sets)
+            ∙ ap (λ (g : List Set). write_glyph n (record d { sets = record d.sets { g = g; pending = None } }))
+            (slot2 d.sets.g set four)
+
+        go : (b : Bool) → (final_of before == final_of set) ≡ b
+            → Does (if b then shifted 0x4E code
+            else designation 0x2A set ++ (shifted 0x4E code ++ designation 0x2A before)) d (write_glyph n (unshifted d))
+        go true e = does-shifted2 d (reads (shifted_once 2 d.sets) (same-final before set (eqb-true _ _ e)))
+        go false e =
+            subst (λ (f : Display). Does (designation 0x2A set ++ (shifted 0x4E code ++ designation 0x2A before)) d f) back
+            (does-append (designation 0x2A set) (shifted 0x4E code ++ designation 0x2A before) d d1
+            (record d3 { sets = designated 2 before d3.sets }) (does-g2 d set)
+            (does-append (shifted 0x4E code) (designation 0x2A before) d1 d3
+            (record d3 { sets = designated 2 before d3.sets })
+            (does-shifted2 d1 (reads (shifted_once 2 d1.sets) (at2 d.sets.g set four))) (does-g2 d3 before)))
+
+    does-through3 : Does (through_g3 d.sets set code) d (write_glyph n (unshifted d))
+    does-through3 = go (final_of before == final_of set) refl
+      where
+        before : Set
+        before = set_at d.sets 3
+
+        d1 : Display
+        d1 = record d { sets = designated 3 set d.sets }
+
+        d3 : Display
+        d3 = write_glyph n (unshifted d1)
+
+        back : record d3 { sets = designated 3 before d3.sets } ≡ write_glyph n (unshifted d)
+        back =
+            ap (λ (x : GraphicSets). record d3 { sets = designated 3 before x }) (leaves-sets n (unshifted d1))
+            ∙ with-sets n (unshifted d1) (designated 3 before (unshifted d1).sets)
+            ∙ ap (λ (g : List Set). write_glyph n (record d { sets = record d.sets { g = g; pending = None } }))
+            (slot3 d.sets.g set four)
+
+        go : (b : Bool) → (final_of before == final_of set) ≡ b
+            → Does (if b then shifted 0x4F code
+            else designation 0x2B set ++ (shifted 0x4F code ++ designation 0x2B before)) d (write_glyph n (unshifted d))
+        go true e = does-shifted3 d (reads (shifted_once 3 d.sets) (same-final before set (eqb-true _ _ e)))
+        go false e =
+            subst (λ (f : Display). Does (designation 0x2B set ++ (shifted 0x4F code ++ designation 0x2B before)) d f) back
+            (does-append (designation 0x2B set) (shifted 0x4F code ++ designation 0x2B before) d d1
+            (record d3 { sets = designated 3 before d3.sets }) (does-g3 d set)
+            (does-append (shifted 0x4F code) (designation 0x2B before) d1 d3
+            (record d3 { sets = designated 3 before d3.sets })
+            (does-shifted3 d1 (reads (shifted_once 3 d1.sets) (at3 d.sets.g set four))) (does-g3 d3 before)))
+
+-- ---- a glyph by its spelling
+
+none-is : (o : Option ℕ) → is_none o ≡ true → o ≡ None
+none-is None h = refl
+none-is (Some x) h = absurd cc
+
+-- ASCII is read as itself
+invokes-ascii : (sets : GraphicSets) (code : ℕ) → code ≤ 0x7E → reads_ascii sets ≡ true → invoked sets code ≡ Ascii
+invokes-ascii sets code high h =
+    let parts = and_parts (final_of (set_at sets sets.left) == final_of Ascii) (is_none sets.pending) h in
+    rw (none-is sets.pending parts.1, left-half code high)
+    (same-final (set_at sets sets.left) Ascii (eqb-true _ _ parts.0))
+
+does-spelled : (d : Display) (s : Spelling) (n : ℕ) → length d.sets.g ≡ 4 → 0x20 ≤ code_of s → code_of s ≤ 0x7E
+    → glyph_read (shifted_for s spelling_sets) (code_of s) ≡ Some n
+    → Does (spelled_in d.sets s) d (write_glyph n (unshifted d))
+does-spelled d (Plain code) n four low high law = go (reads_ascii d.sets) refl
+  where
+    reads : (sets : GraphicSets) → invoked sets code ≡ Ascii → glyph_read sets code ≡ Some n
+    reads sets e =
+        same-read sets spelling_sets code (e ∙ sym (invokes-ascii spelling_sets code high refl)) ∙ law
+
+    go : (b : Bool) → reads_ascii d.sets ≡ b
+        → Does (if b then code ∷ [] else through_g2 d.sets Ascii code) d (write_glyph n (unshifted d))
+    go true e =
+        subst (λ (f : Display). Does (code ∷ []) d f)
+        (prints d code n low high (reads d.sets (invokes-ascii d.sets code high e))) (does-printed d code low high)
+    go false e = does-through2 code n low high d four Ascii reads
+does-spelled d (Second code) n four low high law =
+    does-through2 code n low high d four Supplemental
+    (λ sets e. same-read sets (shifted_once 2 spelling_sets) code e ∙ law)
+does-spelled d (Third code) n four low high law =
+    does-through3 code n low high d four Special
+    (λ sets e. same-read sets (shifted_once 3 spelling_sets) code e ∙ law)
+
+module _ (spelled : SpellingLaw) (spelling : SpellingLaws) where
+  plays : (d e : Display) (bytes : List ℕ) → Does bytes d e
+      → play (record { display = d; held = Nothing }) bytes
+      ≡ record { state = record { display = e; held = Nothing }; reports = [] }
+  unfolding play
+  plays d e bytes does =
+      let are : events_of bytes ≡ does.events =
+      ap events_of (sym does.spelled) ∙ spelled.all_events does.events does.are_events in
+      let left : held_after bytes ≡ Nothing =
+      ap held_after (sym does.spelled) ∙ spelled.all_held does.events does.are_events in
+      rw (are, left, does.after, does.silent) refl
+
+  pub writes : (s : State) (n : ℕ) → IsSound s → s.held ≡ Nothing → IsGlyph n
+      → play s (written n s.display.sets)
+      ≡ record { state = record s { display = write_glyph n (unshifted s.display) }; reports = [] }
+  writes s n sound between is =
+      let d = s.display in
+      let code = spelling.code n is in
+      let does = does-spelled d (spelling_of n) n sound.display.sets.four code.0 code.1
+      (spelling.writes spelling_sets n spelling_sets-are is) in
+      ap (λ h. play (record { display = d; held = h }) (written n d.sets)) between
+      ∙ plays d (write_glyph n (unshifted d)) (written n d.sets) does
+      ∙ ap (λ h. record { state = record { display = write_glyph n (unshifted d); held = h }; reports = [] })
+      (sym between)
+
+  -- a character of one cell
+  pub writes-one : GlyphLaws → (s : State) (c : ℕ) → IsSound s → s.held ≡ Nothing → 0x80 ≤ c → cells c ≡ 1
+      → play s (translation s c)
+      ≡ record { state = record s { display = write_glyph (shown c) (unshifted s.display) }; reports = [] }
+  unfolding translation
+  writes-one glyphs s c sound between beyond one =
+      let high : nat_lt c 0x80 ≡ false = grind (arith, nat_tests) in
+      let bytes : translation s c ≡ written (shown c) s.display.sets = rw (high, between, one) refl in
+      ap (λ (b : List ℕ). play s b) bytes ∙ writes s (shown c) sound between (shown-glyph glyphs c)
+
+  -- a character without a cell
+  pub writes-none : (s : State) (c : ℕ) → s.held ≡ Nothing → 0x80 ≤ c → cells c ≡ 0 → translation s c ≡ []
+  unfolding translation
+  writes-none s c between beyond none =
+      let high : nat_lt c 0x80 ≡ false = grind (arith, nat_tests) in
+      rw (high, between, none) refl

@@ -13,10 +13,10 @@ use Rattle.vt_trace.specs.Summary.{summary}
 use Rattle.vt_replay.specs.declared.fault.Fault.{Fault}
 use Rattle.vt_replay.specs.declared.fault.Fault.TheVariants.{Memory, Partial, Read, Write, TooLong}
 use Rattle.vt_replay.specs.Run.{Table}
-use Rattle.vt_replay.specs.Log.{LogTable}
+use Rattle.vt_replay.specs.Log.{lines, screen}
 use Rattle.vt_replay.specs.Output.{OutputTable}
 use Rattle.vt_commands.specs.declared.requests.Outcome.{Outcome}
-use Rattle.vt_commands.specs.Words.{WordTable, pages_written, screen, trace_written, trace_ending, all, nothing}
+use Rattle.vt_commands.specs.Words.{WordTable, pages_written, trace_written, trace_ending, all, nothing}
 use Rattle.vt_commands.specs.Request.{UnreadTable, IsUnread, OutcomeBy, AllPlayed, unread_fault}
 
 -- the fault says why
@@ -48,15 +48,6 @@ module _ (piece : ℕ) (c rest w : List ℕ) (at_end failed : Bool) (limit : ℕ
   run_whole (Err Write) what table = tt
   run_whole (Err TooLong) what table = let long = table.1 in omega (arith, long)
 
-  log_whole : (played : Result (Unit {0}) Fault) → LogTable played piece c w (in_memory at_end failed) limit
-      → AllPlayed played limit c rest
-  log_whole (Ok u) table = none table.0.reader_ended
-  log_whole (Err Memory) table = tt
-  log_whole (Err Partial) table = absurd table
-  log_whole (Err Read) table = let e = table.0.reader_failed in search (rules, e)
-  log_whole (Err Write) table = tt
-  log_whole (Err TooLong) table = let long = table.1 in omega (arith, long)
-
   output_whole : (written ending : List ℕ → List ℕ) (played : Result (Unit {0}) Fault)
       → OutputTable written ending played piece c w (in_memory at_end failed) limit → AllPlayed played limit c rest
   output_whole written ending (Ok u) table = none table.0.reader_ended
@@ -69,7 +60,7 @@ module _ (piece : ℕ) (c rest w : List ℕ) (at_end failed : Bool) (limit : ℕ
   pub word_whole : (played : Result (Unit {0}) Fault) (word : Word) → WordTable played word piece c w (in_memory at_end failed) limit
       → AllPlayed played limit c rest
   word_whole played (Replay what) table = run_whole played what table
-  word_whole played Log table = log_whole played table
+  word_whole played Log table = output_whole lines screen played table
   word_whole played Pages table = output_whole pages_written screen played table
   word_whole played Trace table = output_whole trace_written trace_ending played table
   word_whole played Summary table = output_whole nothing summary played table

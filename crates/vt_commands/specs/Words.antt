@@ -2,8 +2,6 @@
 use Rattle.std.specs.Prelude.{ℕ, List, [], Result, false}
 use Rattle.vt_device.specs.Runs.{Flags}
 use Rattle.vt_term.specs.State.{power_up}
-use Rattle.vt_term.specs.Play.{play}
-use Rattle.vt_term.specs.Text.{text}
 use Rattle.vt_log.specs.Pages.{pages}
 use Rattle.vt_trace.specs.Trace.{trace, tracer_all, text_end}
 use Rattle.vt_trace.specs.declared.tracing.Tracer.{Tracer}
@@ -12,17 +10,13 @@ use Rattle.vt_cli.specs.declared.what.Word.{Word}
 use Rattle.vt_cli.specs.declared.what.Word.TheVariants.{Replay, Log, Pages, Trace, Summary, Content}
 use Rattle.vt_replay.specs.declared.fault.Fault.{Fault}
 use Rattle.vt_replay.specs.Run.{Table}
-use Rattle.vt_replay.specs.Log.{LogTable}
+use Rattle.vt_replay.specs.Log.{LogTable, screen}
 use Rattle.vt_replay.specs.Output.{OutputTable}
 
 -- ---- pages
 
 abbrev pub pages_written : List ℕ → List ℕ
 pages_written bytes = pages power_up bytes
-
--- the text of the screen
-abbrev pub screen : List ℕ → List ℕ
-screen bytes = text (play power_up bytes).state
 
 -- ---- trace
 

@@ -4,7 +4,8 @@ ghost use Rattle.std.specs.Io.KnownBytes.{IsAtEnd};
 ghost use Rattle.vt_device.specs.Runs.{Moves, Takes};
 ghost use Rattle.vt_device.specs.Writing.{Gives};
 ghost use Rattle.vt_replay.specs.Output.{OutputTable};
-ghost use Rattle.vt_commands.specs.Words.{WordTable, pages_written, screen, trace_written, trace_ending, all, nothing};
+ghost use Rattle.vt_commands.specs.Words.{WordTable, pages_written, trace_written, trace_ending, all, nothing};
+ghost use Rattle.vt_replay.specs.Log.{screen};
 ghost use Rattle.vt_commands.specs.declared.fault.Fault.TheVariants.{Replay};
 ghost use Rattle.vt_commands.specs.Request.{is_streamed, format_of, lacks_times, unread_fault, ended_of, IsStreamed, IsPlayed, OutcomeTable, TimingTable};
 

@@ -15,7 +15,7 @@ ghost use Rattle.vt_term.specs.Observing.{Feeds};
 use crate::codes::{CR, LF, RIGHT};
 use crate::observing::{Nobody, Observer};
 use crate::terminal::{REPORT_LIMIT, Terminal};
-use crate::unseen::Passed;
+use crate::unseen::{LEAST, Passed};
 use std::alloc::AllocError;
 use vt_glyph::laws::in_use;
 use vt_syntax::laws::{one_split, spelled};
@@ -69,6 +69,22 @@ impl Terminal {
     /// Plays a chunk of the host's bytes, and appends the reports to `out`. `out` has capacity for ten more bytes for
     /// each byte of the chunk. It never fails and allocates nothing.
     pub fn feed_reserved(&mut self, piece: &[u8], out: &mut Vec<u8>)
+        requires { vec_len out.old + 10 * length piece.now ≤ vec_capacity out.old }
+        ensures state { self.new ≡ (play self.old piece.now).state }
+        ensures reports { out.new.items ≡ out.old.items ++ (play self.old piece.now).reports }
+        ensures bounded { vec_len out.new ≤ vec_len out.old + 10 * length piece.now }
+        ensures capacity { vec_capacity out.old ≤ vec_capacity out.new }
+    {
+        if piece.len() < LEAST {
+            self.feed_observed(piece, &mut Nobody, out);
+            return;
+        }
+        self.feed_large(piece, out);
+    }
+
+    /// Does the same for a chunk in which lines may be passed. (Speed: a small chunk needs no loop over blocks.)
+    #[inline(never)]
+    fn feed_large(&mut self, piece: &[u8], out: &mut Vec<u8>)
         requires { vec_len out.old + 10 * length piece.now ≤ vec_capacity out.old }
         ensures state { self.new ≡ (play self.old piece.now).state }
         ensures reports { out.new.items ≡ out.old.items ++ (play self.old piece.now).reports }

@@ -174,7 +174,7 @@ impl Observer for Lines<'_> {
 
     #[inline(always)]
     fn lets(&self, terminal: &Terminal, kind: EventKind, values: &[u16]) -> bool {
-        !terminal.scrolls_off(kind) || self.has_room()
+        self.has_room() || !terminal.scrolls_off(kind)
     }
 
     #[inline(always)]

@@ -15,7 +15,7 @@ use vt_syntax::laws::{one_split, spelled};
 use vt_syntax::lines_run;
 
 /// The fewest bytes of lines in which it is worth while to look for lines that nobody sees.
-const LEAST: usize = 1024;
+pub(crate) const LEAST: usize = 1024;
 
 /// How far the first CR may be. Where lines end with LF alone, none is passed.
 const NEAR: usize = 512;

@@ -3,7 +3,7 @@ use Rattle.std.proofs.Common.{◌≡◌, ◌∙◌, ◌++◌, ap, sym, arith, ap
 use Rattle.std.proofs.lemmas.Bool.Decides.{nat_tests}
 use Rattle.vt_term.specs.Play.{Played}
 use Rattle.vt_term.proofs.Passing.{block-played, all-of-block, nothing-left}
-use Rattle.vt_term.proofs.terminal.Terminal.feed_reserved.Goals as goal
+use Rattle.vt_term.proofs.terminal.Terminal.feed_large.Goals as goal
 
 pub loop-rest-preserved : goal.loop-rest-preserved
 loop-rest-preserved c =

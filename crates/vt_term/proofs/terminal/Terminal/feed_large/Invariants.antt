@@ -1,7 +1,7 @@
 -- Playing the rest leaves what playing the piece does.
 use Rattle.std.proofs.Common.{◌≡◌, ◌+◌, ◌*◌, ◌≤◌, ◌++◌, length, vec_len, vec_capacity}
 use Rattle.vt_term.specs.Play.{play}
-use Rattle.vt_term.proofs.terminal.Terminal.feed_reserved.Given as goal
+use Rattle.vt_term.proofs.terminal.Terminal.feed_large.Given as goal
 
 abbrev pub invariant-loop-rest : goal.invariant-loop-rest
 invariant-loop-rest l = record {

@@ -110,13 +110,13 @@ func TestFields(t *testing.T) {
 	}
 }
 
-// resident returns how many bytes of memory the process has.
-func resident(t *testing.T) int {
+// mapped returns how many bytes of memory the process has, also those that it never touched.
+func mapped(t *testing.T) int {
 	statm, err := os.ReadFile("/proc/self/statm")
 	if err != nil {
 		t.Skip("no /proc")
 	}
-	pages, err := strconv.Atoi(strings.Fields(string(statm))[1])
+	pages, err := strconv.Atoi(strings.Fields(string(statm))[0])
 	if err != nil {
 		t.Fatal(err)
 	}
@@ -140,25 +140,27 @@ func collect(t *testing.T) {
 	}
 }
 
-// Terminals and scratch buffers that are dropped without Close give back their memory: without that, these take 300 MB and 200 MB.
+// Terminals and scratch buffers that are dropped without Close give back their memory. Otherwise these take 300 MB and 690 MB.
 func TestDropped(t *testing.T) {
-	const limit = 100 << 20
-	for name, drop := range map[string]func(){
-		"terminals":       func() { open(t, "x") },
-		"scratch buffers": func() { scratch(t) },
+	const limit = 200 << 20
+	for _, kind := range []struct {
+		name string
+		size int
+		drop func()
+	}{
+		{"terminals", 100, func() { open(t, "x") }},
+		{"scratch buffers", 10, func() { scratch(t) }},
 	} {
 		collect(t)
-		before := resident(t)
-		batches := map[string]int{"terminals": 100, "scratch buffers": 100}[name]
-		size := map[string]int{"terminals": 100, "scratch buffers": 3}[name]
-		for i := 0; i < batches; i++ {
-			for j := 0; j < size; j++ {
-				drop()
+		before := mapped(t)
+		for batch := 0; batch < 100; batch++ {
+			for i := 0; i < kind.size; i++ {
+				kind.drop()
 			}
 			collect(t)
 		}
-		if grown := resident(t) - before; grown > limit {
-			t.Errorf("%s: %d bytes more", name, grown)
+		if grown := mapped(t) - before; grown > limit {
+			t.Errorf("%s: %d bytes more", kind.name, grown)
 		}
 	}
 }

@@ -3,6 +3,7 @@
  * Outer terminals send the cursor keys as `ESC [ A` or `ESC O A`, whichever their own mode asks for, and characters beyond ASCII as
  * UTF-8. vt220_key turns each key into what the program's terminal asks for. */
 #include "keep.h"
+#include <stdio.h>
 #include <stdlib.h>
 #include <string.h>
 
@@ -66,6 +67,29 @@ size_t keys_named(const vt220 *t, const char *name, uint8_t *to) {
     size_t put;
     vt220_key(&modes, name, strlen(name), to, VT220_KEY_LIMIT, &put);
     return put;
+}
+
+/* Returns whether a word that begins with a capital becomes a key's name by one character more, less or another one. Then it was hardly
+ * meant as text. F and a number, or ^ and a character, is such a word, too. Writes the name that was found, or nothing. */
+bool keys_meant(const vt220 *t, const char *word, char *meant, size_t room) {
+    static const char letters[] = "ABCDEFGHIJKLMNOPQRSTUVWXYZabcdefghijklmnopqrstuvwxyz0123456789";
+    uint8_t key[VT220_KEY_LIMIT];
+    size_t len = strlen(word);
+    *meant = 0;
+    if (word[0] == '^' && len == 2) return true;
+    if (len < 2 || len + 2 > room || strspn(word, letters) != len || word[0] < 'A' || word[0] > 'Z') return false;
+    if (word[0] == 'F' && strspn(word + 1, "0123456789") == len - 1) return true;
+    for (size_t at = 0; at <= len && len > 3; at++) {
+        for (size_t i = 0; i < 2 * sizeof letters - 1; i++) { /* a letter more, a letter less, another letter */
+            size_t left = i < sizeof letters - 1 ? at : at + 1;
+            if (left > len) break;
+            int letter = letters[i < sizeof letters - 1 ? i : i - (sizeof letters - 1)];
+            snprintf(meant, room, letter != 0 ? "%.*s%c%s" : "%.*s%.0d%s", (int)at, word, letter, word + left);
+            if (keys_named(t, meant, key) > 0) return true;
+        }
+    }
+    *meant = 0;
+    return false;
 }
 
 /* --- the key that detaches --- */

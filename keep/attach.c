@@ -233,12 +233,60 @@ static void read_frames(int flags) {
 
 /* --- the loop --- */
 
+/* Lets go of the outer terminal, and takes it again. */
+static void release_terminal(void) {
+    draw_leave();
+    tcsetattr(STDIN_FILENO, TCSADRAIN, &it.before);
+}
+
+static void take_terminal(void) {
+    set_raw();
+    if (!draw_enter()) it.why = 'm';
+    it.is_behind = true;
+}
+
+/* Runs the pager in a process of its own, with the log as its input. */
+static noreturn void become_pager(int log) {
+    const char *pager = getenv("PAGER");
+    sigset_t none;
+    sigemptyset(&none);
+    for (int number = 1; number < NSIG; number++) signal(number, SIG_DFL);
+    sigprocmask(SIG_SETMASK, &none, NULL);
+    if (dup2(log, STDIN_FILENO) < 0) _exit(126);
+    execl("/bin/sh", "sh", "-c", pager != NULL && *pager != 0 ? pager : "less", (char *)NULL);
+    _exit(127);
+}
+
+/* Shows the log in a pager, which can search it. Meanwhile Ctrl-C is the pager's. A pager that is stopped goes on at once, since nobody
+ * else reads the keyboard. */
+static void page_log(void) {
+    size_t len;
+    const uint8_t *log = scroll_log(&len);
+    FILE *file = tmpfile();
+    int status;
+    if (file == NULL || fwrite(log, 1, len, file) != len || fflush(file) != 0 || lseek(fileno(file), 0, SEEK_SET) != 0) {
+        if (file != NULL) fclose(file);
+        draw_bell();
+        return;
+    }
+    struct sigaction ignored = {.sa_handler = SIG_IGN}, interrupt, quit;
+    release_terminal();
+    sigaction(SIGINT, &ignored, &interrupt);
+    sigaction(SIGQUIT, &ignored, &quit);
+    pid_t pager = fork();
+    if (pager == 0) become_pager(fileno(file));
+    while (pager > 0 && (waitpid(pager, &status, WUNTRACED) < 0 ? errno == EINTR : WIFSTOPPED(status))) kill(pager, SIGCONT);
+    sigaction(SIGINT, &interrupt, NULL);
+    sigaction(SIGQUIT, &quit, NULL);
+    fclose(file);
+    take_terminal();
+}
+
 /* Stops as a program without a handler for SIGTSTP does, after the outer terminal is restored. */
 static void stop(void) {
     struct sigaction normal = {.sa_handler = SIG_DFL}, before;
     sigset_t only, mask;
-    draw_leave();
-    tcsetattr(STDIN_FILENO, TCSADRAIN, &it.before);
+    release_terminal();
     sigemptyset(&only);
     sigaddset(&only, SIGTSTP);
     sigaction(SIGTSTP, &normal, &before);
@@ -246,9 +294,7 @@ static void stop(void) {
     raise(SIGTSTP);
     sigprocmask(SIG_SETMASK, &mask, NULL);
     sigaction(SIGTSTP, &before, NULL);
-    set_raw();
-    if (!draw_enter()) it.why = 'm';
-    it.is_behind = true;
+    take_terminal();
 }
 
 static void obey_signals(void) {
@@ -286,6 +332,7 @@ static void turn(const sigset_t *open_mask) {
     obey_signals();
     if (polled[1].revents & (POLLIN | POLLHUP | POLLERR)) read_frames(MSG_DONTWAIT);
     if (polled[0].revents && it.why == 0) read_keys();
+    if (scroll_is_to_page() && it.why == 0) page_log();
     obey_clock();
     send_keys();
     if (polled[2].revents) draw_on();
@@ -365,8 +412,7 @@ static int follow(const char *name) {
     set_raw();
     if (!draw_enter()) it.why = 'm';
     while (it.why == 0) turn(&open_mask);
-    draw_leave();
-    tcsetattr(STDIN_FILENO, TCSADRAIN, &it.before);
+    release_terminal();
     /* The outer terminal shows what was there before, so what the command said last is printed there. */
     if (it.why == FRAME_ENDED) print_screen();
     int status = say(name);

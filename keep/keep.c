@@ -30,7 +30,8 @@ static const char usage[] =
     "       vt220-keep help | --help        print this help\n"
     "       vt220-keep version | --version  print the version\n"
     "Ctrl-\\ detaches; pressed twice, it is sent. KEEP_KEY=^A makes Ctrl-A that key.\n"
-    "PageUp with Shift, Alt or Ctrl scrolls back while attached; PageUp, PageDown, Up, Down, Home and End move, any other key returns.\n"
+    "PageUp with Shift, Alt or Ctrl scrolls back while attached; PageUp, PageDown, Up, Down, Home and End move,\n"
+    "/ opens the log in PAGER (less), any other key returns.\n"
     "Sockets are in $KEEP_DIR (default /tmp/keep-UID).\n";
 
 noreturn void fail(int status, const char *why, ...) {

@@ -95,6 +95,7 @@ enum { KEYS_GROWTH = 2 /* a key has at most this many times the bytes that were 
 size_t keys_translate(struct keys *keys, const vt220 *t, const uint8_t *typed, size_t len, uint8_t *to);
 size_t keys_length(const uint8_t *typed, size_t len);
 size_t keys_flush(struct keys *keys, uint8_t *to); /* what is held isn't the beginning of a key */
+bool keys_meant(const vt220 *t, const char *word, char *meant, size_t room); /* a word is a key's name but for one character */
 size_t keys_named(const vt220 *t, const char *name, uint8_t *to); /* 0 if there is no such key; at most VT220_KEY_LIMIT bytes */
 int keys_detach(void); /* the key that detaches, as KEEP_KEY says */
 
@@ -105,6 +106,8 @@ void scroll_wait(void);                              /* the log was asked for */
 void scroll_take(char letter, const uint8_t *bytes, size_t len); /* a frame of the log */
 size_t scroll_type(const uint8_t *typed, size_t len); /* returns how many bytes it took: not those after the key that leaves */
 void scroll_draw(void);
+bool scroll_is_to_page(void);                /* the log is to be shown in a pager; true once */
+const uint8_t *scroll_log(size_t *len);      /* all of it, and the screen */
 void scroll_leave(void);
 
 /* --- attach.c and send.c --- */

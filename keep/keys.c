@@ -3,6 +3,7 @@
  * Outer terminals send the cursor keys as `ESC [ A` or `ESC O A`, whichever their own mode asks for, and characters beyond ASCII as
  * UTF-8. vt220_key turns each key into what the program's terminal asks for. */
 #include "keep.h"
+#include <stdio.h>
 #include <stdlib.h>
 #include <string.h>
 
@@ -66,6 +67,36 @@ size_t keys_named(const vt220 *t, const char *name, uint8_t *to) {
     size_t put;
     vt220_key(&modes, name, strlen(name), to, VT220_KEY_LIMIT, &put);
     return put;
+}
+
+/* Tries a word with one character more, less or another one at a place. Returns whether that is a key's name, which `meant` then has. */
+static bool is_near(const vt220 *t, const char *word, size_t at, char *meant, size_t room) {
+    static const char others[] = "abcdefghijklmnopqrstuvwxyz0123456789";
+    uint8_t key[VT220_KEY_LIMIT];
+    snprintf(meant, room, "%.*s%s", (int)at, word, word + at + 1);
+    if (keys_named(t, meant, key) > 0) return true;
+    for (const char *other = others; *other != 0; other++) {
+        snprintf(meant, room, "%.*s%c%s", (int)at, word, *other, word + at + 1);
+        if (keys_named(t, meant, key) > 0) return true;
+        snprintf(meant, room, "%.*s%c%s", (int)at, word, *other, word + at);
+        if (keys_named(t, meant, key) > 0) return true;
+    }
+    return false;
+}
+
+/* Returns whether a word that is no key was hardly meant as text: ^ and a character, F and a number, or a word with a capital that differs
+ * from a key's name by one character. `meant` then has that name, or nothing. */
+bool keys_meant(const vt220 *t, const char *word, char *meant, size_t room) {
+    size_t len = strlen(word);
+    bool is_function = word[0] == 'F' && len > 1 && strspn(word + 1, "0123456789") == len - 1;
+    *meant = 0;
+    if ((word[0] == '^' && len == 2) || is_function) return true;
+    if (len < 4 || len + 2 > room || word[0] < 'A' || word[0] > 'Z') return false;
+    for (size_t at = 0; at < len; at++) {
+        if (is_near(t, word, at, meant, room)) return true;
+    }
+    *meant = 0;
+    return false;
 }
 
 /* --- the key that detaches --- */

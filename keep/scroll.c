@@ -15,6 +15,7 @@ static struct {
     size_t count, top; /* how many lines there are, and which one is in the first row */
     uint8_t held[VT220_TYPED_LIMIT]; /* the beginning of a key whose end hasn't come */
     size_t held_len;
+    bool is_to_page; /* the log is to be shown in a pager */
 } it;
 
 bool scroll_is_on(void) {
@@ -84,8 +85,9 @@ void scroll_take(char letter, const uint8_t *bytes, size_t len) {
     }
 }
 
-/* The keys that move. A number is a count of lines; a page is one line less than the screen. */
+/* The keys that move, and the one that opens a pager. A number is a count of lines; a page is one line less than the screen. */
 static bool move(const uint8_t *key, size_t len) {
+    if (len == 1 && *key == '/') return it.is_to_page = true;
     long page = draw_rows() > 1 ? (long)draw_rows() - 1 : 1, by = 0, top = (long)it.top, most = (long)last_top();
     char final = (char)key[len - 1];
     if (len < 3 || key[0] != 0x1B) return false;
@@ -119,6 +121,17 @@ size_t scroll_type(const uint8_t *typed, size_t len) {
         if (!moves) scroll_leave();
     }
     return given - len;
+}
+
+bool scroll_is_to_page(void) {
+    bool is_so = it.state == ON && it.is_to_page;
+    it.is_to_page = false;
+    return is_so;
+}
+
+const uint8_t *scroll_log(size_t *len) {
+    *len = it.len;
+    return it.bytes;
 }
 
 void scroll_draw(void) {

@@ -46,6 +46,17 @@ static void play_repaint(const struct folder *folder) {
     for (size_t at = 0; at < len;) at += vt220_feed(&it.terminal, it.bytes + at, len - at, none, sizeof none, &reports);
 }
 
+/* Ends the program if one of these words was hardly meant as text. Nothing is sent then. */
+static void look_at_names(char **keys) {
+    uint8_t key[VT220_KEY_LIMIT];
+    char meant[NAME_LIMIT];
+    for (; *keys != NULL; keys++) {
+        if (keys_named(&it.terminal, *keys, key) > 0 || !keys_meant(&it.terminal, *keys, meant, sizeof meant)) continue;
+        if (*meant != 0) fail(2, "a VT220 has no key %s; is it %s? With -l it is sent as text", *keys, meant);
+        fail(2, "a VT220 has no key %s; with -l it is sent as text", *keys);
+    }
+}
+
 /* Sends `keys`: each is a key's name, otherwise text. If `is_text` is true, all are text. Without any, sends standard input. */
 void send_keys_to(const struct folder *folder, const char *name, char **keys, bool is_text) {
     char why[WHY_LIMIT] = "doesn't answer", letter;
@@ -54,6 +65,7 @@ void send_keys_to(const struct folder *folder, const char *name, char **keys, bo
     size_t len;
     it.name = name;
     play_repaint(folder);
+    if (!is_text) look_at_names(keys);
     it.socket = existing(folder, name);
     if (wire_begin(it.socket, ASK_SEND, 0, &hello, why) != WIRE_OK) fail(1, "%s %s", name, why);
     if (hello.is_over) fail(1, "the command of %s has ended", name);

@@ -28,7 +28,8 @@
  *
  * Stack. A call uses at most 8 KB of stack.
  *
- * Processor. The library needs x86-64-v2 (SSE4.2, of 2009). On an older processor the two open calls return VT220_UNSUPPORTED.
+ * Processor. On x86-64 the library needs x86-64-v2 (SSE4.2, of 2009). On an older processor the two open calls return
+ * VT220_UNSUPPORTED. On aarch64 it needs nothing beyond ARMv8-A.
  *
  * Versions. A program and a library go together if the major version is the same, which the SONAME has, and the library isn't older
  * than the header. Version 0.3.0 is the first of which this holds.

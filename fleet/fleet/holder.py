@@ -68,6 +68,7 @@ class Holder:
         self.kept = self.sent = 0  # positions: that the store has, that the host was sent
         self.last = {}  # stream -> the id of the last input that was taken
         self.input = b""  # what is being written to the program
+        self.heard = 0  # inputs of this host
         self.host, self.reader, self.out = None, None, b""
         self.is_closed = self.is_over = self.is_done = False
         self.status, self.kill_at = None, None
@@ -92,13 +93,13 @@ class Holder:
 
     def write_program(self):
         try:
-            self.input = self.input[os.write(self.master, self.input[:256]) :]
+            self.input = self.input[os.write(self.master, self.input[:4096]) :]
         except BlockingIOError:
             return
         except OSError:
             self.input = b""
         if not self.input:
-            self.say(wire.TAKEN)
+            self.say(wire.TAKEN, self.heard)
 
     def reap(self):
         """Notes that the program itself has ended, and its status."""
@@ -138,7 +139,7 @@ class Holder:
             came.close()
             return
         came.setblocking(False)
-        self.host, self.reader, self.out = came, wire.Reader(), b""
+        self.host, self.reader, self.out, self.heard = came, wire.Reader(), b"", 0
         self.sent, self.is_told = self.base, False
         if self.is_over:
             self.say(wire.OVER)
@@ -178,6 +179,7 @@ class Holder:
 
     def take(self, letter, words, data):
         """Takes an input or a signal once."""
+        self.heard += letter == wire.INPUT
         stream, entry_id = words.decode().split(" ")
         if wire.order(entry_id.encode()) <= wire.order(self.last.get(stream, b"0-0")):
             data = b""
@@ -188,7 +190,7 @@ class Holder:
         elif letter == wire.INPUT and data and not self.is_closed:
             self.input += data
         elif letter == wire.INPUT and not self.input:
-            self.say(wire.TAKEN)
+            self.say(wire.TAKEN, self.heard)
 
     def send_host(self):
         """Sends what the program wrote, and how it ended."""

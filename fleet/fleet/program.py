@@ -83,6 +83,7 @@ class Program:
         self.came = queue.SimpleQueue()  # (position after them, bytes), and None if there is something else to look at
         self.is_over, self.was_taken = threading.Event(), threading.Event()
         self.is_leaving = self.passes_on = self.is_gone = False
+        self.given = self.taken = 0  # inputs, that the holder was sent and that the program has read
         self.lock = threading.Lock()
         host.is_program_over = lambda: self.is_ended
         self.is_ended, self.status = False, None
@@ -109,6 +110,7 @@ class Program:
         if letter == wire.BYTES:
             self.came.put((number, data))
         elif letter == wire.TAKEN:
+            self.taken = number
             self.was_taken.set()
         elif letter == wire.OVER:
             self.is_ended = True
@@ -172,8 +174,7 @@ class Program:
         """Gives the program what comes for it, and renews the lease, until the program is over."""
         while not self.is_over.is_set():
             try:
-                for kind, stream, entry_id, what in self.host.receive_entries(self.host.beat):
-                    self.give(kind, stream, entry_id, what)
+                self.give(self.host.receive_entries(self.host.beat))
                 self.host.renew_if_due()
             except Fault as fault:
                 self.host.fault = self.host.fault or fault
@@ -183,20 +184,24 @@ class Program:
                 log.exception("%s: what came for the program", self.host.name)
                 time.sleep(0.5)
 
-    def give(self, kind, stream, entry_id, what):
-        """Gives the program one thing, and waits until the program has read it. The lease is renewed meanwhile, and signals are passed
-        on."""
-        head = f"{stream} {entry_id.decode()}\n".encode()
-        if kind == "signal":
-            self.say(wire.SIGNAL, 0, head + str(what).encode())
-        else:
-            self.was_taken.clear()
-            self.say(wire.INPUT, 0, head + what)
-            while not self.was_taken.wait(0.5) and not self.is_over.is_set():
+    def give(self, entries):
+        """Gives the program what came for it, and waits until the program has read it. The lease is renewed meanwhile, and signals are
+        passed on."""
+        self.send_all(entries)
+        while self.taken < self.given and not self.is_over.is_set():
+            if not self.was_taken.wait(0.5):
                 self.host.renew_if_due()
-                for signalled in self.host.receive_signals():
-                    self.give(*signalled)
-        self.host.forget(stream, entry_id)
+                self.send_all(self.host.receive_signals())
+            self.was_taken.clear()
+
+    def send_all(self, entries):
+        """Sends what came for the program to its holder. What the holder was sent reaches it also if this host dies."""
+        for kind, stream, entry_id, what in entries:
+            is_signal = kind == "signal"
+            data = f"{stream} {entry_id.decode()}\n".encode() + (str(what).encode() if is_signal else what)
+            self.given += not is_signal
+            self.say(wire.SIGNAL if is_signal else wire.INPUT, 0, data)
+            self.host.forget(stream, entry_id)
 
     def stop(self):
         """Hangs up on the program. If it doesn't end within three seconds, it is killed."""

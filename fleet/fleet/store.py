@@ -5,7 +5,7 @@ import logging
 import os
 import re
 import time
-from urllib.parse import urlsplit
+from urllib.parse import unquote, urlsplit
 
 import redis
 from redis.exceptions import (
@@ -17,6 +17,7 @@ from redis.exceptions import (
     ResponseError,
     TimeoutError,
 )
+from redis.sentinel import Sentinel, SentinelConnectionPool
 
 log = logging.getLogger("fleet")
 
@@ -253,6 +254,8 @@ class Store(redis.Redis):
         facts = self.patiently(self.facts_when_loaded)
         if facts.get("redis_mode") == "cluster":
             raise Unfit("this store is a Redis Cluster, which the fleet doesn't support: give each fleet a store of its own")
+        if facts.get("redis_mode") == "sentinel":
+            raise Unfit("this is a sentinel: the address is sentinel://HOST:PORT,HOST:PORT/MASTER")
         policy, is_kept = facts.get("maxmemory_policy", "noeviction"), facts.get("aof_enabled") == 1
         found = [] if policy == "noeviction" else [f"maxmemory-policy is {policy}: the store drops keys when it is full"]
         found += [] if is_kept else [UNSAFE]
@@ -262,11 +265,26 @@ class Store(redis.Redis):
             log.warning("unsafe store: %s", each)
 
 
+def of_sentinels(url, words):
+    """Returns the store that sentinels know as a master: sentinel://[USER@]HOST:PORT,HOST:PORT/MASTER. Each new connection asks them."""
+    parts = urlsplit(url)
+    user, _, hosts = parts.netloc.rpartition("@")
+    found = [each.rpartition(":") for each in hosts.split(",")]
+    if not parts.path.strip("/") or not all(host and port.isdigit() for host, _, port in found):
+        raise ValueError(f"{hosts}{parts.path}: expected sentinel://HOST:PORT,HOST:PORT/MASTER")
+    name, _, password = user.partition(":")
+    words = words | ({"username": unquote(name)} if name else {}) | ({"password": unquote(password)} if password else {})
+    asked = {each: words[each] for each in ("socket_timeout", "socket_connect_timeout")}
+    sentinel = Sentinel([(host, int(port)) for host, _, port in found], sentinel_kwargs=asked)
+    return Store(connection_pool=SentinelConnectionPool(parts.path.strip("/"), sentinel, **words))
+
+
 def connect(url, password_file=None, **options):
-    """Returns the store at an address: unix:///PATH, redis://HOST:PORT or rediss://HOST:PORT (TLS)."""
+    """Returns the store at an address: unix:///PATH, redis://HOST:PORT, rediss://HOST:PORT (TLS) or that of sentinels."""
     words = {"socket_timeout": TIMEOUT} | options
-    if urlsplit(url).scheme != "unix":
+    scheme = urlsplit(url).scheme
+    if scheme != "unix":
         words = {"socket_keepalive": True, "socket_connect_timeout": TIMEOUT} | words
-    store = Store.from_url(url, **words)
+    store = of_sentinels(url, words) if scheme == "sentinel" else Store.from_url(url, **words)
     store.password_file = password_file
     return store

@@ -14,7 +14,7 @@ HELD = 1 << 20  # bytes that a host hasn't acknowledged; then the program is mad
 # Of a holder:
 STATE = b"S"  # JSON: what is held; "busy" if it has a host
 BYTES = b"B"  # the number is the position after them
-TAKEN = b"W"  # an input was written to the program
+TAKEN = b"W"  # the number is how many inputs of this host were written to the program
 OVER = b"C"  # the program itself has ended; others may still have its terminal
 ENDED = b"E"  # the number is the exit status, as a shell has it
 

@@ -27,6 +27,7 @@ from harness import (
     with_machine,
     worker,
 )
+from safety import free_port
 from fleet.host import WAITING, WentBack
 from fleet.view import Viewer
 
@@ -350,6 +351,42 @@ def the_clock_may_jump(machine, data):
 
 
 @with_machine
+def a_failover_is_followed(machine, data):
+    """The store's address is that of a sentinel. The master is killed, and the replica takes its place."""
+    name, ports, processes = "failover", [free_port() for _ in range(3)], []
+    machine.kill()
+    machine.start("--port", str(ports[0]), "--repl-diskless-sync-delay", "0")
+    replica, conf = os.path.join(machine.folder, "replica"), os.path.join(machine.folder, "sentinel.conf")
+    os.mkdir(replica)
+    with open(conf, "w") as file:
+        file.write(f"port {ports[2]}\nsentinel monitor fleet 127.0.0.1 {ports[0]} 1\n")
+        file.write("sentinel down-after-milliseconds fleet 3000\nsentinel failover-timeout fleet 10000\n")
+    words = ["--port", str(ports[1]), "--dir", replica, "--replicaof", "127.0.0.1", str(ports[0])]
+    for each in (["redis-server", *words, "--appendonly", "yes", "--appendfsync", "always"], ["redis-server", conf, "--sentinel"]):
+        processes.append(subprocess.Popen(each, stdout=subprocess.DEVNULL))
+    url = f"sentinel://127.0.0.1:{ports[2]}/fleet"
+    asked, second = stores.connect(f"redis://127.0.0.1:{ports[2]}"), stores.connect(f"redis://127.0.0.1:{ports[1]}")
+    check(raises(stores.Unfit, asked.examine), name, "a sentinel's own address is refused")
+    check(raises(ValueError, stores.connect, "sentinel://127.0.0.1/fleet"), name, "so is an address that is none")
+    wait_for(lambda: asked.execute_command("SENTINEL", "REPLICAS", "fleet"))
+    stores.connect(url).examine()
+    one = worker(url, lease=20)
+    source = Source(url, name).send(data)
+    check(until(lambda: one.kept and not one.due, one), name, "it is played")
+    wait_for(lambda: second.info("replication").get("master_link_status") == "up")
+    source.store.execute_command("WAIT", 1, 0)
+    machine.kill()
+    source.send(b"abc\033[6n").end(0)
+    check(until(source.is_ended, one), name, "host and worker go on with the replica")
+    check(source.store.info("replication")["role"] == "master" and second.info("replication")["role"] == "master", name, "as the master")
+    source.receive()
+    compare(source, name)
+    for each in processes:
+        each.kill()
+        each.wait()
+
+
+@with_machine
 def a_cluster_is_refused(machine, _):
     machine.kill()
     for path, _, names in os.walk(machine.folder):
@@ -370,5 +407,6 @@ CASES = [
     evicted_keys_are_named_or_sent_again,
     without_a_worker_bytes_wait_within_a_bound,
     the_clock_may_jump,
+    a_failover_is_followed,
     a_cluster_is_refused,
 ]

@@ -23,6 +23,7 @@ import wire
 
 PIECE = 16384
 IGNORED = (signal.SIGHUP, signal.SIGINT, signal.SIGTERM)  # by the holder, and not by its program
+FIRST = 60.0  # seconds until the first host must have come
 KILL_AFTER = 3.0  # seconds that a program has to end after a hang-up
 
 
@@ -72,7 +73,7 @@ class Holder:
         self.host, self.reader, self.out = None, None, b""
         self.is_closed = self.is_over = self.is_done = False
         self.status, self.kill_at = None, None
-        self.alone = time.monotonic()  # since when it has no host
+        self.alone = time.monotonic() + FIRST  # since when it has no host; its first one has some time to come
 
     # The program.
 

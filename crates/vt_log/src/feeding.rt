@@ -50,7 +50,7 @@ pub fn feed_log(
 /// Plays the front of a chunk of the host's bytes, and appends the reports to `reports` and the lines that scroll off to
 /// `lines`. Returns how many bytes it played.
 ///
-/// It stops before a line that scrolls off if `lines` has no capacity for it, `LINE_LIMIT` bytes. With capacity for a line
+/// If it stops early, `lines` has fewer than `LINE_LIMIT` bytes free, the capacity of one line. With capacity for a line
 /// for each byte, it plays the whole chunk. `reports` has capacity for ten bytes for each byte of the chunk. It never fails,
 /// and it allocates nothing.
 #[tactic(auto, unfolding(crate::specs::Log::log))]

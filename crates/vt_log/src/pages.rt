@@ -57,7 +57,7 @@ pub fn feed_pages(
 /// Plays the front of a piece of the host's bytes, and appends the reports to `reports`, and to `lines` the lines that
 /// scroll off and the 24 lines of the screen before each event that blanks all of it. Returns how many bytes it played.
 ///
-/// It stops before an event that takes lines off the screen if `lines` has no capacity for a page, `PAGE_LIMIT` bytes. With
+/// If it stops early, `lines` has fewer than `PAGE_LIMIT` bytes free, the capacity of one page. With
 /// capacity for a page for each byte, it plays the whole chunk. `reports` has capacity for ten bytes for each byte of the
 /// chunk. It never fails, and it allocates nothing.
 pub fn feed_pages_reserved(

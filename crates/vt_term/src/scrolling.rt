@@ -36,7 +36,7 @@ impl Terminal {
     /// Plays the front of a chunk of the host's bytes. Appends the reports to `out`, and the text of each line that scrolls
     /// off the top of the screen to `lines`. Returns how many bytes it played.
     ///
-    /// It stops before a line that scrolls off if `lines` has no capacity for it, `ROW_TEXT_LIMIT` bytes. With capacity for a
+    /// If it stops early, `lines` has fewer than `ROW_TEXT_LIMIT` bytes free, the capacity of one line. With capacity for a
     /// line for each byte, it plays the whole chunk. `out` has capacity for ten more bytes for each byte of the chunk. It
     /// never fails and allocates nothing.
     pub fn feed_lines_reserved(

@@ -256,23 +256,20 @@ feeds-one bytes feed at before within is =
 
 -- ---- the rest of a piece, after what nobody sees of it was passed and a block was played
 
-pub block-played : SplitLaw → (s t u : State) (rest before after : List ℕ) (n e k : ℕ) → n ≤ e → e ≤ length rest
-    → k ≡ e - n → play t (drop n rest) ≡ play s rest
-    → u ≡ (play t (take k (take (e - n) (drop n rest)))).state
-    → after ≡ before ++ (play t (take k (take (e - n) (drop n rest)))).reports
+pub block-played : SplitLaw → (s t u : State) (rest before after : List ℕ) (n e : ℕ) → n ≤ e → e ≤ length rest
+    → play t (drop n rest) ≡ play s rest
+    → u ≡ (play t (take (e - n) (drop n rest))).state
+    → after ≡ before ++ (play t (take (e - n) (drop n rest))).reports
     → ((play u (take (length rest - e) (drop e rest))).state ≡ (play s rest).state)
     × (after ++ (play u (take (length rest - e) (drop e rest))).reports ≡ before ++ (play s rest).reports)
-block-played split s t u rest before after n e k order within all same state told =
+block-played split s t u rest before after n e order within same state told =
+    let k : ℕ = e - n in
     let xs : List ℕ = drop n rest in
-    let block : take k (take (e - n) xs) ≡ take k xs = take-take k (e - n) xs (omega (arith, all)) in
     let left : drop k xs ≡ take (length rest - e) (drop e rest) =
-    drop-drop k n rest ∙ ap (λ (i : ℕ). drop i rest) (omega (arith, all, order)) ∙ sym (rest-of rest e) in
-    let here : u ≡ (play t (take k xs)).state = state ∙ ap (λ (ys : List ℕ). (play t ys).state) block in
-    let said : after ≡ before ++ (play t (take k xs)).reports =
-    told ∙ ap (λ (ys : List ℕ). before ++ (play t ys).reports) block in
+    drop-drop k n rest ∙ ap (λ (i : ℕ). drop i rest) (omega (arith, order)) ∙ sym (rest-of rest e) in
     let whole : both (play t (take k xs)) (play (play t (take k xs)).state (drop k xs)) ≡ play s rest =
     sym (play-append split t (take k xs) (drop k xs)) ∙ ap (play t) (take-append-drop k xs) ∙ same in
-    rw (← left, here, said) (
+    rw (← left, state, told) (
       ap (λ (p : Played). p.state) whole,
       append_assoc before (play t (take k xs)).reports (play (play t (take k xs)).state (drop k xs)).reports
           ∙ ap (λ (p : Played). before ++ p.reports) whole,
@@ -283,17 +280,6 @@ pub nothing-left : SplitLaw → (s : State) (rest : List ℕ) → length rest �
     → play s rest ≡ record { state = s; reports = [] }
 nothing-left split s [] none sound = play-nothing split s sound
 nothing-left split s (b ∷ rest) none sound = absurd (omega (arith, none))
-
--- a block that is played up to its end
-pub all-of-block : (rest : List ℕ) (n e k : ℕ) → n ≤ e → e ≤ length rest → k ≤ length (take (e - n) (drop n rest))
-    → (k < length (take (e - n) (drop n rest)) → ⊥) → k ≡ e - n
-all-of-block rest n e k order within fits all =
-    let long : length (take (e - n) (drop n rest)) ≡ e - n =
-    length-take-le (e - n) (drop n rest) (omega (arith, order, within, length-drop n rest)) in
-    elim (leb_tells (length (take (e - n) (drop n rest))) k) [
-      | inl h ↦ omega (arith, fits, long, h.1)
-      | inr h ↦ absurd (all h.1)
-    ]
 
 -- the display after CR, as the parser's state stays
 pub passed-state : PlaceLaws → SplitLaw → SpellingLaw → (s t : Display) (h : Held) (piece : List ℕ) (run at : ℕ)

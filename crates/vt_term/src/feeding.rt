@@ -76,10 +76,22 @@ impl Terminal {
         ensures capacity { vec_capacity out.old ≤ vec_capacity out.new }
     {
         if piece.len() < LEAST {
-            self.feed_observed(piece, &mut Nobody, out);
-            return;
+            self.feed_unobserved(piece, out);
+        } else {
+            self.feed_large(piece, out);
         }
-        self.feed_large(piece, out);
+    }
+
+    /// Does the same, and passes no lines. (Speed: as the only place with this feed, it has the whole dispatcher inline.)
+    #[inline(never)]
+    fn feed_unobserved(&mut self, piece: &[u8], out: &mut Vec<u8>)
+        requires { vec_len out.old + 10 * length piece.now ≤ vec_capacity out.old }
+        ensures state { self.new ≡ (play self.old piece.now).state }
+        ensures reports { out.new.items ≡ out.old.items ++ (play self.old piece.now).reports }
+        ensures bounded { vec_len out.new ≤ vec_len out.old + 10 * length piece.now }
+        ensures capacity { vec_capacity out.old ≤ vec_capacity out.new }
+    {
+        self.feed_observed(piece, &mut Nobody, out);
     }
 
     /// Does the same for a chunk in which lines may be passed. (Speed: a small chunk needs no loop over blocks.)
@@ -97,7 +109,7 @@ impl Terminal {
         while !rest.is_empty() {
             let Passed { unseen, looked_at } = self.pass_unseen(rest);
             let end = looked_at.max(BLOCK).min(rest.len());
-            self.feed_observed(&rest[unseen..end], &mut Nobody, out);
+            self.feed_unobserved(&rest[unseen..end], out);
             rest = &rest[end..];
         }
         self.soundness();

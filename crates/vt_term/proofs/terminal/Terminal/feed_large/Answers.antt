@@ -2,7 +2,7 @@
 use Rattle.std.proofs.Common.{◌≡◌, ◌∙◌, ◌++◌, ap, sym, arith, append-nil, length}
 use Rattle.std.proofs.lemmas.Bool.Decides.{nat_tests}
 use Rattle.vt_term.specs.Play.{Played}
-use Rattle.vt_term.proofs.Passing.{block-played, all-of-block, nothing-left}
+use Rattle.vt_term.proofs.Passing.{block-played, nothing-left}
 use Rattle.vt_term.proofs.terminal.Terminal.feed_large.Goals as goal
 
 pub loop-rest-preserved : goal.loop-rest-preserved
@@ -10,16 +10,14 @@ loop-rest-preserved c =
     let rest = c.loop-rest.rest.now in
     let n = c.pass_unseen-unseen.result.unseen in
     let e = c.min-end.result in
-    let k = c.feed_observed.result in
-    let all = all-of-block rest n e k (omega arith) (omega arith) c.feed_observed.ensures.within c.feed_observed.ensures.all in
     let played =
-    block-played c.one_split.ensures c.loop-rest.self c.pass_unseen-unseen.new.self c.feed_observed.new.self rest
-    c.loop-rest.out.items c.feed_observed.new.out.items n e k (omega arith) (omega arith) all
-    c.pass_unseen-unseen.ensures.same c.feed_observed.ensures.state c.feed_observed.ensures.reports in
+    block-played c.one_split.ensures c.loop-rest.self c.pass_unseen-unseen.new.self c.feed_unobserved.new.self rest
+    c.loop-rest.out.items c.feed_unobserved.new.out.items n e (omega arith) (omega arith)
+    c.pass_unseen-unseen.ensures.same c.feed_unobserved.ensures.state c.feed_unobserved.ensures.reports in
     record {
       state = played.0 ∙ c.loop-rest.invariant.state;
       reports = played.1 ∙ c.loop-rest.invariant.reports;
-      bounded = omega (arith, all);
+      bounded = omega arith;
       capacity = omega arith;
     }
 

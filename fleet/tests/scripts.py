@@ -3,13 +3,14 @@ from harness import Source, check, compare, keys, played, until, worker
 from fleet import claims
 
 TRIES = claims.TRIES
+SHOWN = 1000, keys.FORMAT  # what a worker shows: its lease in milliseconds, and the formats that it knows
 
 
 def bury_spares_a_worker_that_lives(url, _):
     """A worker's count moves between the look at it and its burial."""
     name, source = "bury", Source(url, "bury")
     store = source.store
-    store.run("enter", "a")
+    store.run("enter", "a", *SHOWN)
     check(store.run("take", "a", 16, TRIES)[2:] == [source.incarnation.encode()], name, "a worker has a session")
     seen = store.hget(keys.WORKERS, "a")
     store.run("beat", "a")
@@ -52,7 +53,7 @@ def take_gives_up_after_so_many(url, _):
     store = source.store
     for number in range(1, TRIES + 2):
         one = f"doomed-{number}"
-        store.run("enter", one)
+        store.run("enter", one, *SHOWN)
         taken = store.run("take", one, 16, TRIES)[2:]
         check((taken == [source.incarnation.encode()]) == (number <= TRIES), name, f"worker {number} of {TRIES}")
         check(source.fault().startswith("Poison") == (number > TRIES), name, f"a fault after worker {number}")
@@ -74,7 +75,7 @@ def a_pause_forgets_what_was_seen(url, _):
     real, claims.time = claims.time, clock
     try:
         one = claims.Claims(source.store, 1.0)
-        source.store.run("enter", "still")
+        source.store.run("enter", "still", *SHOWN)
         buried = []
         one.bury = lambda other, count: buried.append(other)
         for _ in range(4):

@@ -4,7 +4,7 @@
 #   make program      crates/vt220/out/vt220, which ./vt220 runs
 #   make lib          the library for C in out/: libvt220.a, libvt220.so and vt220.pc, with its headers
 #   make keeper       out/vt220-keep
-#   make js           the package for JavaScript in out/js/: vt220.wasm, package/ and vt220-VERSION.tgz
+#   make js           the package for JavaScript in out/js/: vt220.wasm, package/ and vt220-VERSION.tgz; and what js/vt220-page needs
 #   make install      installs these under PREFIX with their manual pages and completions, and prints each file
 #   make uninstall    removes it, and the directories that are then empty
 #   make crates OF=.. prints the crates of this repository that some crates depend on, and themselves, lowest first
@@ -56,6 +56,7 @@ chain = $(filter $(foreach crate,$(1),$(call below,$(crate))),$(CRATES))
 sources = crates.txt $(shell find $(addprefix crates/,$(call chain,$(1))) -mindepth 1 -name out -prune -o -print)
 
 PROGRAM := crates/vt220/out/vt220
+CHUNKS := crates/chunks/out/chunks
 
 .PHONY: everything program lib keeper js install uninstall crates version help
 everything: program lib keeper
@@ -64,8 +65,8 @@ lib: $(OUT)/libvt220.a $(OUT)/libvt220.so $(OUT)/vt220.pc $(addprefix $(OUT)/,$(
 keeper: $(OUT)/vt220-keep
 
 # The time of what the toolchain builds is that of the beginning. So a source that changes meanwhile is newer.
-$(PROGRAM): $$(call sources,vt220)
-	@begun=$$(mktemp); trap 'rm -f "$$begun"' EXIT; tools/prove vt220 rt run -- --help >&2; touch -r "$$begun" $@
+$(PROGRAM) $(CHUNKS): $$(call sources,$$(notdir $$@))
+	@begun=$$(mktemp); trap 'rm -f "$$begun"' EXIT; tools/prove $(notdir $@) rt run -- --help </dev/null >&2; touch -r "$$begun" $@
 $(NATIVE): $$(call sources,vt220_c)
 	@begun=$$(mktemp); trap 'rm -f "$$begun"' EXIT; tools/archive $(filter-out vt220_c,$(call chain,vt220_c)); touch -r "$$begun" $@
 
@@ -93,7 +94,7 @@ $(OUT)/%.h: include/%.h
 $(OUT)/vt220-keep: $(wildcard keep/*.[ch]) $(HEADERS) $(OUT)/libvt220.a
 	$(CC) $(CFLAGS) $(LDFLAGS) -Iinclude -o $@ keep/*.c $(OUT)/libvt220.a
 
-js: lib
+js: program lib $(CHUNKS)
 	@js/build
 
 INSTALLING = PREFIX='$(PREFIX)' LIBDIR='$(LIBDIR)' DESTDIR='$(DESTDIR)' VERSION=$(VERSION) OUT='$(OUT)' packaging/install

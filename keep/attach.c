@@ -276,6 +276,9 @@ static void page_log(void) {
     pid_t pager = fork();
     if (pager == 0) become_pager(fileno(file));
     while (pager > 0 && (waitpid(pager, &status, WUNTRACED) < 0 ? errno == EINTR : WIFSTOPPED(status))) kill(pager, SIGCONT);
+    /* A signal that is blocked waits even if it is ignored. To ignore it once more drops it. */
+    sigaction(SIGINT, &ignored, NULL);
+    sigaction(SIGQUIT, &ignored, NULL);
     sigaction(SIGINT, &interrupt, NULL);
     sigaction(SIGQUIT, &quit, NULL);
     fclose(file);

@@ -55,7 +55,7 @@ def test_texts():
     with pytest.raises(TypeError):
         spelled(5, POWER_UP)
     assert spelled("a\r", POWER_UP._replace(lnm=True)) == b"a\r\n"
-    assert [ctrl(letter) for letter in "c@[\\]^_?"] == ["\x03", "\x00", "\x1b", "\x1c", "\x1d", "\x1e", "\x1f", "\x7f"]
+    assert [ctrl(letter) for letter in "c@[\\]^_?"] == ["\x03", "\x00", "\x1b", "\x1c", "\x1d", "\x1e", "\x1f", "\x1f"]
     for letter in ("1", "ab", ""):
         with pytest.raises(ValueError):
             ctrl(letter)

@@ -1,7 +1,6 @@
 //! The terminal: it reads a host's bytes, and has a screen, a cursor and report bytes.
 #![tactic(auto)]
 
-mod ascii_text;
 mod codes;
 mod copying;
 mod cursor;
@@ -10,6 +9,7 @@ mod editing;
 mod feeding;
 mod functions;
 pub mod laws;
+mod line;
 mod modes;
 mod observing;
 mod readers;

@@ -11,15 +11,22 @@ import signal
 import sys
 import time
 
-from .config import Settings, Unclear, seconds
+from .config import Beyond, Settings, Unclear, seconds, within
 
 LEAVING = 10.0  # seconds to wait for a store after a signal to end
 TAKEN, FAULT, NONE, REFUSED, UNFIT, DENIED, CONFIGURATION = 5, 4, 3, 6, 69, 77, 78
 
 
-def size(word):
-    """Reads a size: a number of bytes, or all."""
-    return word if word == "all" else int(word)
+def option(read, name):
+    """Returns a reader of an option's number, which is within its bounds. A number of bytes may be all."""
+
+    def number(word):
+        try:
+            return word if name == "keep" and word == "all" and read is int else within(name, read(word))
+        except Beyond as error:
+            raise argparse.ArgumentTypeError(error) from None
+
+    return number
 
 
 def do_run(words, settings):
@@ -257,20 +264,20 @@ def do_web(words, settings):
 
 def add_hosts(add):
     each = add("run", do_run, "starts a store and workers on this machine, until Ctrl-C or the end of COMMAND")
-    each.add_argument("--workers", type=int, default=4, help="the number of workers (4)")
+    each.add_argument("--workers", type=option(int, "workers"), default=4, help="the number of workers (4)")
     each.add_argument("command", nargs=argparse.REMAINDER)
     each = add("worker", do_worker, "plays sessions until SIGTERM, and then moves them to other workers")
-    each.add_argument("--every", type=int, help="bytes between two checkpoints of a session (4096)")
-    each.add_argument("--lease", type=float, help="seconds of silence after which other workers take its sessions (5)")
-    each.add_argument("--keep", type=size, help="bytes before a checkpoint that stay in the store: a number, or all (all)")
-    each.add_argument("--most", type=int, help="the most sessions that it plays (1000000)")
-    each.add_argument("--retain", type=seconds, help="how long an ended session stays in the store, such as 7d (for ever)")
+    each.add_argument("--every", type=option(int, "every"), help="bytes between two checkpoints of a session (4096)")
+    each.add_argument("--lease", type=option(float, "lease"), help="seconds of silence after which other workers take its sessions (5)")
+    each.add_argument("--keep", type=option(int, "keep"), help="bytes before a checkpoint that stay in the store: a number, or all (all)")
+    each.add_argument("--most", type=option(int, "most"), help="the most sessions that it plays (1000000)")
+    each.add_argument("--retain", type=option(seconds, "retain"), help="how long an ended session stays in the store, such as 7d (for ever)")
     each.add_argument("--metrics", metavar="HOST:PORT", help="serves metrics for Prometheus at this address")
     each = add("host", do_host, "runs a command on a pseudo-terminal of 24 rows by 80 columns, as a session")
     each.add_argument("--input", action="store_true", help="allows viewers to type")
     each.add_argument("--replay", metavar="FILE", help="sends a file's bytes instead of running a command")
     each.add_argument("--user", help="runs the command as this user, which needs root: so it can't read what this host reads")
-    each.add_argument("--rate", type=int, default=9600, help="bytes a second for --replay (9600)")
+    each.add_argument("--rate", type=option(int, "rate"), default=9600, help="bytes a second for --replay (9600)")
     each.add_argument("name")
     each.add_argument("command", nargs=argparse.REMAINDER)
 
@@ -298,7 +305,7 @@ def add_viewers(add):
     each.add_argument("text", nargs="?", help="the text; without it, standard input")
     each = add("web", do_web, "serves a page with live pictures of all sessions")
     each.add_argument("--address", help="the address on which it listens (127.0.0.1)")
-    each.add_argument("--port", type=int, help="the port on which it listens (8220)")
+    each.add_argument("--port", type=option(int, "port"), help="the port on which it listens (8220)")
     each.add_argument("--typing", action="store_true", default=None, help="allows the page to type, if the session's host does")
 
 
@@ -310,14 +317,14 @@ def add_operators(add):
     each.add_argument("--json", action="store_true", help="prints a line of JSON for each")
     each = add("kill", do_kill, "sends a signal to a session's program, and waits until it ends")
     each.add_argument("--signal", choices=("HUP", "INT", "TERM", "KILL"), default="HUP", help="the signal (HUP)")
-    each.add_argument("--patience", type=seconds, default=10, help="the longest wait, such as 30s (10s)")
+    each.add_argument("--patience", type=option(seconds, "patience"), default=10, help="the longest wait, such as 30s (10s)")
     each.add_argument("name")
     each = add("end", do_end, "ends a session that has no host")
-    each.add_argument("--keep", type=seconds, help="how long it stays in the store, such as 7d, or 0 (for ever)")
+    each.add_argument("--keep", type=option(seconds, "keep"), help="how long it stays in the store, such as 7d, or 0 (for ever)")
     each.add_argument("--force", action="store_true", help="also if its host is alive")
     each.add_argument("name")
     each = add("drain", do_drain, "moves a worker's sessions to other workers, and ends it")
-    each.add_argument("--patience", type=seconds, default=10, help="the longest wait, such as 30s (10s)")
+    each.add_argument("--patience", type=option(seconds, "patience"), default=10, help="the longest wait, such as 30s (10s)")
     each.add_argument("worker", help="its name, or the beginning of its name")
     each = add("metrics", do_metrics, "serves metrics of the whole fleet for Prometheus, at /metrics, and /healthz")
     each.add_argument("address", metavar="HOST:PORT", help="the address on which it listens")

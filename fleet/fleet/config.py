@@ -17,6 +17,10 @@ class Unclear(Exception):
     """Reports a wrong configuration."""
 
 
+class Beyond(ValueError):
+    """Reports a number that a setting can't be."""
+
+
 @dataclass
 class Store:
     url: str = ""
@@ -63,16 +67,30 @@ def seconds(word):
 
 
 EXPECTED = {bool: "yes or no", int: "a number", float: "a time, such as 30, 10m or 7d"}
+NO_LIMIT = ("all", "never", "")
+# The least number and the largest of a setting or an option. Others have 0 and MOST.
+BOUNDS = {"every": (1, 10**9), "lease": (0.01, 10**7), "most": (1, 10**9), "timeout": (0.01, 10**7), "port": (0, 65535), "rate": (1, 10**9), "workers": (1, 1000)}
+MOST = 10**12
 
 
-def value_of(kind, text, where):
+def within(name, value):
+    """Returns a number that a setting or an option may have. Raises Beyond if it may not."""
+    least, most = BOUNDS.get(name, (0, MOST))
+    if not least <= value <= most:
+        raise Beyond(f"{name} is from {least} to {most}")
+    return value
+
+
+def value_of(kind, text, where, name):
     """Returns a setting's value. `where` names the file, the section and the setting."""
     try:
         if kind is bool:
             return YES[text.lower()]
-        if text.lower() in ("all", "never", "") and kind in (int, float):
+        if text.lower() in NO_LIMIT and kind in (int, float):
             return None
-        return seconds(text) if kind is float else kind(text)
+        return kind(text) if kind is str else within(name, seconds(text) if kind is float else kind(text))
+    except Beyond as error:
+        raise Unclear(f"{where} = {text}: {error}") from None
     except (KeyError, ValueError):
         raise Unclear(f"{where} = {text}: expected {EXPECTED[kind]}") from None
 
@@ -109,7 +127,7 @@ class Settings:
             name = name.replace("-", "_")
             if name not in kinds:
                 raise Unclear(f"{path}: [{section}] has no setting {name}; its settings are {', '.join(kinds)}")
-            setattr(getattr(self, section), name, value_of(kinds[name], text, f"{path}: [{section}] {name}"))
+            setattr(getattr(self, section), name, value_of(kinds[name], text, f"{path}: [{section}] {name}", name))
 
     def connect(self, waits=False):
         """Returns the store. If `waits` is true, its calls wait for ever, otherwise at most give-up seconds. The password is from

@@ -13,6 +13,7 @@ import time
 
 from . import keys
 from .keys import key
+from .store import RedisError, is_for_now
 
 log = logging.getLogger("fleet.host")
 
@@ -23,7 +24,9 @@ WAITING = 1 << 20  # bytes that may wait for a worker; then the program is made 
 HELD = 1 << 20  # bytes that a host could send again if the store went back
 TRIM = 512  # reports that were passed on until they are dropped from the store
 KEYS = 4096  # bytes of one thing that a viewer types
-BEAT = 2.5  # seconds between two looks at the store, at most
+COUNT = 256  # entries of a stream that are read at once
+BEAT = 10 / 3  # seconds between two looks at the store, at most
+INPUTS = ("answers", "keys", "signals")  # the streams with what comes for the program
 
 
 class Taken(keys.Fault):
@@ -48,7 +51,7 @@ class Host:
         self.about = ["host", self.me, "input", int(takes_input), "command", command[:500]]
         self.formats, self.format = keys.FORMATS, keys.FORMAT
         # Seconds between two renewals, which are also those that a read of what comes for the program waits.
-        self.beat = min(BEAT, lease / 4, (store.connection_pool.connection_kwargs.get("socket_timeout") or BEAT) / 2)
+        self.beat = min(BEAT, lease / 3)
         self.takes_input = takes_input
         self.at = 0
         self.played = 0
@@ -59,7 +62,7 @@ class Host:
         self.is_ended = False
         self.said_fault = None
         self.lock = threading.RLock()  # one call to the store that writes at a time
-        self.last = {"answers": b"0-0", "keys": b"0-0", "signals": b"0-0"}  # the last entry of each stream that was read
+        self.last = dict.fromkeys(INPUTS, b"0-0")  # the last entry of each stream that was read
         self.passed_on = 0
         self.rebuilt = 0  # how often the store had to be sent something again
         self.renewed = 0.0
@@ -208,27 +211,33 @@ class Host:
 
     # The lease.
 
+    def is_due(self):
+        return time.monotonic() - self.renewed >= self.beat
+
     def renew_if_due(self):
         """Renews the lease on the name, and looks whether the store still has what was sent."""
-        if time.monotonic() - self.renewed < self.beat:
+        if not self.is_due():
             return
         with self.lock:
-            if self.is_ended:
-                return
-            self.renewed = time.monotonic()
-            answer = self.store.run("renew", self.name, self.incarnation, int(self.lease * 1000), self.me)
-            if answer[0] == "taken":
-                self.fail(
-                    Taken(f"the name {self.name!r} or the session was taken by another ({keys.shown(answer[1])})")
-                )
-            there = 0 if answer[0] == "lost" else int(answer[1])
-            if answer[0] == "lost" or there < self.at:
-                self.rebuild(there)
-            elif len(answer) > 4 and not self.said_fault:
-                self.said_fault = keys.shown(answer[4])
-                log.error("%s: no worker can continue this session: %s", self.name, self.said_fault)
-            else:
-                self.played, self.format = int(answer[2] or 0), keys.agreed(answer[3], self.formats)
+            if not self.is_ended:
+                self.renewed = time.monotonic()
+                self.heed(self.store.run(*self.renewal()))
+
+    def renewal(self):
+        return "renew", self.name, self.incarnation, int(self.lease * 1000), self.me
+
+    def heed(self, answer):
+        """Takes in what the store said to a renewal."""
+        if answer[0] == "taken":
+            self.fail(Taken(f"the name {self.name!r} or the session was taken by another ({keys.shown(answer[1])})"))
+        there = 0 if answer[0] == "lost" else int(answer[1])
+        if answer[0] == "lost" or there < self.at:
+            self.rebuild(there)
+        elif len(answer) > 4 and not self.said_fault:
+            self.said_fault = keys.shown(answer[4])
+            log.error("%s: no worker can continue this session: %s", self.name, self.said_fault)
+        else:
+            self.played, self.format = int(answer[2] or 0), keys.agreed(answer[3], self.formats)
 
     # What comes for the program.
 
@@ -240,15 +249,49 @@ class Host:
             self.forget(stream, entry_id)
         return [(kind, what) for kind, _, _, what in got]
 
-    def receive_entries(self, patience, names=("answers", "keys", "signals")):
+    def receive_entries(self, patience, names=INPUTS):
         """Waits for what comes for the program. Returns it, as a list of (kind, stream, id, what). Each one is to be given to `forget`
         once the program has it."""
-        parts, got = {self.part(name): name for name in names}, []
-        streams = {part: self.last[name] for part, name in parts.items()}
-        for part, entries in self.store.xread(streams, count=256, block=int(patience * 1000) or None):
-            name = parts[part.decode()]
+        return self.read_entries(self.store.read_streams(COUNT, self.streams(names), patience))
+
+    def receive_next(self):
+        """Waits for what comes for the program until the lease is to be renewed, and otherwise renews it. Returns what came."""
+        left = self.renewed + self.beat - time.monotonic()
+        return self.receive_entries(left) if left > 0 else self.renew_and_receive()
+
+    def renew_and_receive(self):
+        """Renews the lease, and waits for what comes for the program: the store is told both at once. So an idle host costs it one
+        message with each renewal."""
+        with self.lock:
+            if self.is_ended:
+                return []
+            self.renewed = time.monotonic()
+            words = self.store.call_of(*self.renewal())
+            answer, awaited = self.store.call_and_read(words, COUNT, self.streams(), self.beat)
+            try:
+                self.heed(answer)
+            except BaseException:
+                awaited.drop()
+                raise
+        try:
+            came = awaited.answer()
+        except (RedisError, OSError) as error:
+            if isinstance(error, RedisError) and not is_for_now(error):
+                raise
+            self.store.is_away(error)
+            self.renewed, came = 0.0, []
+        return self.read_entries(came)
+
+    def streams(self, names=INPUTS):
+        return {self.part(name).encode(): self.last[name] for name in names}
+
+    def read_entries(self, came):
+        """Takes in what came in streams, and returns what of it is for the program."""
+        got = []
+        for part, entries in came:
+            name = part.decode().rpartition(":")[2]
             for self.last[name], fields in entries:
-                found = self.read_entry(name, self.last[name], fields)
+                found = self.read_entry(name, self.last[name], dict(zip(fields[::2], fields[1::2])))
                 if found:
                     got.append((found[0], name, self.last[name], found[1]))
                 else:

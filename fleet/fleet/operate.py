@@ -276,6 +276,8 @@ def drain(store, worker, patience):
         if time.monotonic() > end_at:
             raise Refused(f"{found[0]} still has {store.scard(keys.of(found[0]))} sessions after {patience:g} s")
         time.sleep(0.02)
+    if not store.hlen(keys.WORKERS):
+        print(f"no other worker lives: {store.zcard(keys.WAITING)} sessions wait for one", file=sys.stderr)
     return 0
 
 

@@ -174,8 +174,7 @@ class Program:
         """Gives the program what comes for it, and renews the lease, until the program is over."""
         while not self.is_over.is_set():
             try:
-                self.give(self.host.receive_entries(self.host.beat))
-                self.host.renew_if_due()
+                self.give(self.host.receive_next())
             except Fault as fault:
                 self.host.fault = self.host.fault or fault
                 self.came.put(None)

@@ -14,6 +14,7 @@ from redis.exceptions import (
     ConnectionError,
     NoPermissionError,
     ReadOnlyError,
+    RedisError,
     ResponseError,
     TimeoutError,
 )
@@ -41,7 +42,7 @@ class Unfit(Exception):
     """This store cannot keep a fleet."""
 
 
-class AnotherRun(redis.RedisError):
+class AnotherRun(RedisError):
     """The store was started anew, or is another one, since it was last asked. It may have lost what it acknowledged."""
 
 
@@ -79,6 +80,50 @@ def library():
         made += f"\nredis.register_function{{{words}\n{text}end}}\n"
     mark = hashlib.sha256(made.encode()).hexdigest()[:8]
     return mark, f"#!lua name={LIBRARY}{mark}\n" + made.replace("_HASH", f"_{mark}")
+
+
+def packed(words):
+    """Returns a command as the store reads it."""
+    return b"*%d\r\n" % len(words) + b"".join([b"$%d\r\n%b\r\n" % (len(word), word) for word in words])
+
+
+def words_of_read(count, streams, patience):
+    """Returns the words of XREAD, with {stream: the last id}."""
+    wait = [b"BLOCK", b"%d" % max(1, int(patience * 1000))] if patience else []
+    return [b"XREAD", b"COUNT", b"%d" % count, *wait, b"STREAMS", *streams.keys(), *streams.values()]
+
+
+def drop(pool, connection):
+    """Closes a connection of which more may come than was read."""
+    connection.disconnect()
+    pool.release(connection)
+
+
+class Awaited:
+    """What the store was asked for, and says when something came, or after some seconds."""
+
+    def __init__(self, store, connection, patience):
+        self.pool, self.connection = store.connection_pool, connection
+        timeout = connection.socket_timeout or TIMEOUT
+        self.patience = max(timeout, patience + timeout / 2) if patience else 0
+
+    def answer(self):
+        """Returns what came. Raises what the store's calls raise."""
+        try:
+            if self.patience and not self.connection.can_read(self.patience):
+                raise TimeoutError("the store says nothing")
+            came = self.connection.read_response() or []
+        except ResponseError:
+            self.pool.release(self.connection)
+            raise
+        except BaseException:
+            drop(self.pool, self.connection)
+            raise
+        self.pool.release(self.connection)
+        return came
+
+    def drop(self):
+        drop(self.pool, self.connection)
 
 
 class Store(redis.Redis):
@@ -128,7 +173,7 @@ class Store(redis.Redis):
             try:
                 answer = call()
                 break
-            except (redis.RedisError, OSError) as error:
+            except (RedisError, OSError) as error:
                 is_being_changed = self.was_let_in and isinstance(error, AuthenticationError)
                 if not (isinstance(error, OSError) or is_for_now(error) or is_being_changed):
                     raise
@@ -167,22 +212,39 @@ class Store(redis.Redis):
 
         return self.patiently(once)
 
-    def read_streams(self, count, streams):
-        """Returns what came in streams, as [[stream, [[id, [field, value, ..]], ..]], ..]: XREAD, with {stream: the last id}. The
-        client's own call packs and unpacks each word by itself, which takes as long as playing what was read."""
-        words = [b"XREAD", b"COUNT", b"%d" % count, b"STREAMS", *streams.keys(), *streams.values()]
-        packed = b"*%d\r\n" % len(words) + b"".join([b"$%d\r\n%b\r\n" % (len(word), word) for word in words])
+    def read_streams(self, count, streams, patience=0):
+        """Returns what came in streams, as [[stream, [[id, [field, value, ..]], ..]], ..], with {stream: the last id}. With patience it
+        waits for something, for at most so many seconds. The client's own call packs and unpacks each word by itself, which takes as
+        long as playing what was read."""
+        words = packed(words_of_read(count, streams, patience))
 
         def once():
             connection = self.connection_pool.get_connection("XREAD")
             try:
-                connection.send_packed_command([packed])
-                return connection.read_response() or []
-            except (ConnectionError, TimeoutError, OSError):
-                connection.disconnect()
+                connection.send_packed_command([words])
+            except BaseException:
+                drop(self.connection_pool, connection)
                 raise
-            finally:
-                self.connection_pool.release(connection)
+            return Awaited(self, connection, patience).answer()
+
+        return self.patiently(once)
+
+    def call_and_read(self, call, count, streams, patience):
+        """Calls a function, and begins to wait for something in streams: both with one message. Returns the function's answer, and
+        what the streams are awaited with."""
+        read = packed(words_of_read(count, streams, patience))
+
+        def once():
+            connection = self.connection_pool.get_connection("XREAD")
+            try:
+                connection.send_packed_command([b"".join(connection.pack_command(*call)) + read])
+                return self.checked(connection.read_response()), Awaited(self, connection, patience)
+            except BaseException as error:
+                drop(self.connection_pool, connection)
+                if not is_missing(error):
+                    raise
+            self.load()
+            raise ConnectionError("the store had no functions")
 
         return self.patiently(once)
 
@@ -215,10 +277,7 @@ class Store(redis.Redis):
     def run(self, name, *arguments):
         """Runs a function. Returns its answer, whose first word is text."""
         words = self.call_of(name, *arguments)
-        answer = self.patiently(lambda: self.call(words))
-        if isinstance(answer, list) and isinstance(answer[0], bytes):
-            answer[0] = answer[0].decode()
-        return answer
+        return self.patiently(lambda: self.call(words))
 
     def call(self, words):
         """Calls a function, which is loaded if the store lacks it."""
@@ -229,7 +288,13 @@ class Store(redis.Redis):
                 raise
             self.load()
             answer = super().execute_command(*words)
+        return self.checked(answer)
+
+    def checked(self, answer):
+        """Returns a function's answer, whose first word becomes text. The store has the functions."""
         self.had_functions = True
+        if isinstance(answer, list) and isinstance(answer[0], bytes):
+            answer[0] = answer[0].decode()
         return answer
 
     # What the store is.

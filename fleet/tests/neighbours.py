@@ -237,7 +237,8 @@ def a_viewer_can_leave_a_session_that_reads_nothing(machine, _):
         view = OnTerminal(machine.url, "view", "--type", name)
         wait_for(lambda: view.has(b"here"))
         os.kill(view.child, number)
-        check(view.status() == 128 + number, name, "a signal ends it, too, and the screen is restored")
+        check(view.status() == 128 + number, name, "a signal ends it, too")
+        check(view.has(b"\033[?25h\033[?1049l"), name, "and the screen and the cursor are restored")
     workers.stop()
 
 

@@ -155,6 +155,9 @@ def drain_hands_over(machine, data):
         wait_for(lambda: all(store.hget(s.part("about"), "owner") not in (None, second) for s in sources)), name, "another has all"
     )
     check(fleet(url, "drain", "nosuch")[0] == 3, name, "no such worker: 3")
+    [last] = [each for each in store.hkeys(keys.WORKERS) if each != second]
+    status, _, said = fleet(url, "drain", "--patience", str(PATIENCE), last.decode())
+    check(status == 0 and "100 sessions wait" in said, name, f"without another worker, they wait: {status} {said}")
     workers.stop()
 
 
@@ -420,6 +423,10 @@ def the_configuration_is_read_and_checked(machine, _):
         "[worker]\nlease = soon\n": "lease",
         "x\n": "",
         "[host]\ninput = maybe\n": "input",
+        "[worker]\nlease = 0\n": "lease",
+        "[worker]\nevery = 0\n": "every",
+        "[worker]\nkeep = -5\n": "keep",
+        "[web]\nport = 99999\n": "port",
     }
     for number, (text, word) in enumerate(wrong.items()):
         status, _, said = fleet(url, "list", config=conf(machine, f"wrong-{number}", text))
@@ -430,6 +437,9 @@ def the_configuration_is_read_and_checked(machine, _):
         name,
         "no store: 69",
     )
+    for words in ("worker --lease 0", "worker --every x", "worker --keep -5", "worker --lease nan", "host --rate 0 x y", "web --port 99999", "end --keep -1 x"):
+        status, _, said = fleet(url, *words.split())
+        check(status == 2 and words.split()[1] in said, name, f"a number that cannot be: {words}: {status} {said}")
     check(fleet(url, "nosuch")[0] == 2 and fleet(url, "host", "x")[0] == 78, name, "a wrong command line")
     for bad in ("", "a\nb", "x" * 201, "a\x1b[31m"):
         check(fleet(url, "host", bad, "true")[0] == 2, name, f"a name that cannot be: {bad!r}")

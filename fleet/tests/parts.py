@@ -6,7 +6,8 @@ import threading
 from harness import Source, check, key, keys, played, raises, session, stores, until, wanted, worker, compare
 import vt220
 from fleet import frames
-from fleet.host import Host
+from fleet.host import Host, Taken
+from fleet.operate import Typist
 from fleet import wire
 from fleet.program import started
 from fleet.view import Viewer
@@ -196,7 +197,42 @@ def a_killed_program_has_a_shell_s_status(url, _):
     program.done()
 
 
+def commands(store):
+    """Returns how often each command was called, also inside functions, without the call that asks."""
+    return {name[8:]: each["calls"] for name, each in store.info("commandstats").items() if name != "cmdstat_info"}
+
+
+def an_idle_host_costs_the_store_one_message_a_beat(url, _):
+    name, one = "idle", worker(url)
+    source = Source(url, name, takes_input=True).send(b"x")
+    until(lambda: source.incarnation in one.kept and not one.due, one)
+    host, typist = source.host, Typist(source.store, source.incarnation)
+
+    def next_beat(seconds=0.01):
+        host.renewed, host.beat = -1e9, seconds
+        return host.receive_next()
+
+    next_beat()
+    before = commands(source.store)
+    check(next_beat() == [], name, "nothing comes")
+    counts = {each: count - before.get(each, 0) for each, count in commands(source.store).items() if count != before.get(each)}
+    check((counts.get("fcall"), counts.get("xread")) == (1, 1) and sum(counts.values()) <= 9, name, f"few commands: {counts}")
+    typist.type(b"key")
+    check([what for *_, what in next_beat(3600)] == [b"key"], name, "what is there comes at once")
+    source.store.delete(keys.lease(name))
+    next_beat()
+    check(source.store.get(keys.lease(name)) == source.incarnation.encode(), name, "the lease is renewed")
+    for part in (keys.NAMES, keys.ALL, keys.LIVE):
+        source.store.delete(part)
+        next_beat()
+        check(source.store.exists(part), name, f"{part} comes back")
+    source.store.run("end", source.incarnation, 1, keys.version(), 0)
+    check(raises(Taken, next_beat), name, "an end by force is noticed")
+    check(source.store.ping() and not host.receive_entries(0.01), name, "and no answer is left on a connection")
+
+
 CASES = [
+    an_idle_host_costs_the_store_one_message_a_beat,
     a_worker_ends_a_session,
     reports_are_at_what_they_answer,
     another_worker_goes_on,

@@ -34,7 +34,7 @@ from fleet import claims, wire
 from fleet.operate import Typist
 from fleet.worker import Worker
 
-seed = 1
+seed, rounds = 1, 20
 NEXT = (2, 3)  # the formats that the next version's programs know
 
 
@@ -255,17 +255,21 @@ def a_program_outlives_its_host(machine, data):
     workers.stop()
 
 
+VICTIMS = ("host", "worker", "host", "host", "store", "worker", "host", "store", "host", "worker", "host")
+
+
 @with_machine
 def a_storm_with_hosts_among_the_victims(machine, data):
-    """Hosts, workers and the store are killed in turn, each time once a session has gone on. No clock decides."""
-    name, chance = "host storm", random.Random(seed)
+    """Hosts, workers and the store are killed in turn, each time once a session has gone on. No clock decides. More rounds are more kills
+    of longer sessions."""
+    name, chance, times = "host storm", random.Random(seed), max(1, rounds // 20)
     with configured(machine, *PATIENT, "[worker]", "lease = 1", "every = 300", "keep = 2000", "[host]", "lease = 3600"):
         workers = Processes(machine, 3)
-        runs = [Run(machine, f"victim-{number}", asking(data[number * 500 :] + data * 9, 250)) for number in range(4)]
+        runs = [Run(machine, f"victim-{number}", asking(data[number * 500 :] + data * 9 * times, 250 * times)) for number in range(4)]
         for each in runs:
             wait_for(each.end)
         firsts, kills = [each.incarnation() for each in runs], {"host": 0, "worker": 0, "store": 0}
-        for victim in ("host", "worker", "host", "host", "store", "worker", "host", "store", "host", "worker", "host"):
+        for victim in VICTIMS * times:
             going = [each for each in runs if each.host.poll() is None]
             if not going:
                 break

@@ -46,12 +46,19 @@ local function knows(worker, format)
   return known and string.find(',' .. known .. ',', ',' .. format .. ',', 1, true) ~= nil
 end
 
+-- Returns what each worker shows.
+local function workers_shown()
+  local found, shown = redis.call('HGETALL', 'fleet:workers'), {}
+  for at = 1, #found, 2 do shown[found[at]] = found[at + 1] end
+  return shown
+end
+
 -- Returns the newest format that all living workers know, as text; empty if there is none. All write this one, so that each can go
 -- on with what another one wrote.
-local function common_format()
+local function common_format(shown)
   local workers, count, newest = 0, {}, 0
-  for _, shown in ipairs(redis.call('HVALS', 'fleet:workers')) do
-    local known = formats_in(shown)
+  for _, each in pairs(shown or workers_shown()) do
+    local known = formats_in(each)
     if known then
       workers = workers + 1
       for format in string.gmatch(known, '%d+') do count[format] = (count[format] or 0) + 1 end

@@ -1,8 +1,10 @@
-"""What a session wrote, for other programs: its bytes, or a recording with the moments, as asciicast 2 or ttyrec."""
+"""What a session wrote, for other programs: its bytes, or a recording with the moments, as asciicast 2, ttyrec or a page that plays it."""
 import json
 import os
 import struct
 import subprocess
+
+import vt220.page
 
 from .session import bytes_of
 
@@ -39,6 +41,13 @@ def ttyrec(store, incarnation, out):
     """Writes a ttyrec: frames of seconds, microseconds, length and bytes."""
     for _, moment, data in bytes_of(store, incarnation):
         out.write(struct.pack("<III", moment // 1000, moment % 1000 * 1000, len(data)) + data)
+
+
+def page(store, incarnation, title, out):
+    """Writes a page that plays the session in a browser."""
+    parts = [(moment, data) for _, moment, data in bytes_of(store, incarnation)]
+    chunks = [((moment - parts[0][0]) * 1000, len(data)) for moment, data in parts]
+    out.write(vt220.page.page(b"".join(data for _, data in parts), chunks, title).encode())
 
 
 def picture(repaint):

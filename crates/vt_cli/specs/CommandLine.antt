@@ -75,7 +75,9 @@ flag_option name = record (new_rule name) { long = Some name; action = Some SetT
 
 -- with the options of a recording
 abbrev pub with_source : App → App
-with_source a = with_rule (with_rule (with_format a) (text_option (codes "until"))) (flag_option (codes "quiet"))
+with_source a =
+    with_rule (with_rule (with_rule (with_format a) (text_option (codes "until"))) (text_option (codes "encoding")))
+    (flag_option (codes "quiet"))
 
 -- a subcommand: the options with a number, the file, and the options of a recording
 abbrev pub subcommand : Text → App
@@ -137,7 +139,8 @@ is_set option matches = is_true (first_of option matches)
 abbrev pub is_plain : List Row → Bool
 is_plain matches =
     not (is_some (first_of (codes "format") matches)) && (not (is_some (first_of (codes "timing") matches))
-    && (not (is_some (first_of (codes "until") matches)) && not (is_set (codes "quiet") matches)))
+    && (not (is_some (first_of (codes "until") matches)) && (not (is_some (first_of (codes "encoding") matches))
+    && not (is_set (codes "quiet") matches))))
 
 -- s is what the subcommand that clap found, and its matches, ask for: a replay of bytes that no recorder wrote
 pub record AreSettings (found : Option (Text × List Row)) (s : Settings) : Type 0 where

@@ -27,7 +27,7 @@ pub record IsFound (found : Option (Text × List Row)) (r : Request) : Type 0 wh
   pub matches : List Row
   pub word : found ≡ Some (word_name r.word, matches)
   pub options : AreOptions matches r.piece r.limit r.file
-  pub source : source_in matches ≡ Ok (record { format = r.format; until = r.until })
+  pub source : source_in (word_name r.word) matches ≡ Ok (record { format = r.format; until = r.until; encoding = r.encoding })
   pub timing : option_map (λ f. string_bytes f) r.timing ≡ first_of (codes "timing") matches
   pub quiet : r.quiet ≡ is_set (codes "quiet") matches
 
@@ -56,7 +56,7 @@ pub record IsMisfit (faults : Kinds) (found : Option (Text × List Row)) (r : Re
   pub matches : List Row
   pub found_is : found ≡ Some (name, matches)
   pub complaint : Complaint
-  pub why : source_in matches ≡ Err complaint
+  pub why : source_in name matches ≡ Err complaint
   pub status : r.status ≡ 2
   pub text : string_bytes r.text ≡ line_of complaint
 

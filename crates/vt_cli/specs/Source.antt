@@ -4,11 +4,13 @@ use Rattle.std.specs.Prelude.{bytes_eq, is_some}
 use Rattle.clap.specs.Words.{Row, Text, first_of}
 use Rattle.vt_recording.specs.declared.format.Format.{Format}
 use Rattle.vt_recording.specs.declared.format.Format.TheVariants.{Raw, Script, Ttyrec, Asciicast}
+use Rattle.vt_recording.specs.declared.format.Encoding.{Encoding}
+use Rattle.vt_recording.specs.declared.format.Encoding.TheVariants.{Dec, Utf8}
 use Rattle.vt_recording.specs.declared.format.Moment.{Moment}
 use Rattle.vt_recording.specs.declared.format.Moment.TheVariants.{Micros, Bytes}
 use Rattle.vt_cli.specs.declared.source.Source.{Source}
 use Rattle.vt_cli.specs.declared.source.Complaint.{Complaint}
-use Rattle.vt_cli.specs.declared.source.Complaint.TheVariants.{NoFormat, NoTimingFile, NoMoment, NoTimes}
+use Rattle.vt_cli.specs.declared.source.Complaint.TheVariants.{NoFormat, NoTimingFile, NoMoment, NoTimes, NoEncoding, OnlyDec}
 use Rattle.vt_cli.specs.Moment.{moment}
 
 -- the format of a name, or none for the name that lets the beginning of the input decide
@@ -50,30 +52,57 @@ abbrev pub until_of : Option Format → (timed : Bool) → Option Text → Resul
 until_of format timed None = Ok None
 until_of format timed (Some text) = until_given format timed (moment text)
 
-abbrev pub with_until : Option Format → Result (Option Moment) Complaint → Result Source Complaint
-with_until format (Ok until) = Ok (record { format = format; until = until })
-with_until format (Err complaint) = Err complaint
+-- ---- the encoding
 
--- by the format, whether there is a timing file, and the text of `--until`
-abbrev pub source_by : Result (Option Format) Complaint → (timed : Bool) → Option Text → Result Source Complaint
-source_by (Err complaint) timed until = Err complaint
-source_by (Ok format) timed until =
-    cond (timed && not (takes_timing format)) (Err NoTimingFile) (with_until format (until_of format timed until))
+-- the command of this name reads UTF-8
+abbrev pub reads_utf8 : Text → Bool
+reads_utf8 command = not (bytes_eq command (codes "trace")) && not (bytes_eq command (codes "summary"))
+
+-- the encoding of a name, for a command
+abbrev pub encoding_named : (command name : Text) → Result (Option Encoding) Complaint
+encoding_named command name =
+    cond (bytes_eq name (codes "dec")) (Ok (Some Dec))
+    (cond (bytes_eq name (codes "utf-8")) (cond (reads_utf8 command) (Ok (Some Utf8)) (Err OnlyDec)) (Err NoEncoding))
+
+-- without a name none is asked for
+abbrev pub encoding_of : (command : Text) → Option Text → Result (Option Encoding) Complaint
+encoding_of command None = Ok None
+encoding_of command (Some name) = encoding_named command name
+
+-- ---- all of them
+
+abbrev pub with_encoding : Option Format → Option Moment → Result (Option Encoding) Complaint → Result Source Complaint
+with_encoding format until (Ok encoding) = Ok (record { format = format; until = until; encoding = encoding })
+with_encoding format until (Err complaint) = Err complaint
+
+abbrev pub with_until : Option Format → Result (Option Moment) Complaint → Result (Option Encoding) Complaint
+    → Result Source Complaint
+with_until format (Ok until) encoding = with_encoding format until encoding
+with_until format (Err complaint) encoding = Err complaint
+
+-- by the format, whether there is a timing file, the text of `--until`, and the encoding
+abbrev pub source_by : Result (Option Format) Complaint → (timed : Bool) → Option Text
+    → Result (Option Encoding) Complaint → Result Source Complaint
+source_by (Err complaint) timed until encoding = Err complaint
+source_by (Ok format) timed until encoding =
+    cond (timed && not (takes_timing format)) (Err NoTimingFile)
+    (with_until format (until_of format timed until) encoding)
 
 -- without a name it is raw
 abbrev pub named : Option Text → Result (Option Format) Complaint
 named None = Ok (Some Raw)
 named (Some name) = format_named name
 
--- by the texts of the options
-abbrev pub source_of : (format : Option Text) → (timed : Bool) → (until : Option Text) → Result Source Complaint
-source_of format timed until = source_by (named format) timed until
+-- by the name of the command, and the texts of the options
+abbrev pub source_of : (command : Text) → (format : Option Text) → (timed : Bool) → (until encoding : Option Text)
+    → Result Source Complaint
+source_of command format timed until encoding = source_by (named format) timed until (encoding_of command encoding)
 
--- by a subcommand's matches
-abbrev pub source_in : List Row → Result Source Complaint
-source_in matches =
-    source_of (first_of (codes "format") matches) (is_some (first_of (codes "timing") matches))
-    (first_of (codes "until") matches)
+-- by a subcommand's name and matches
+abbrev pub source_in : (command : Text) → List Row → Result Source Complaint
+source_in command matches =
+    source_of command (first_of (codes "format") matches) (is_some (first_of (codes "timing") matches))
+    (first_of (codes "until") matches) (first_of (codes "encoding") matches)
 
 -- what is said of options that don't fit: the fault, and after some of them a line with a way out
 abbrev pub line_of : Complaint → List ℕ
@@ -83,3 +112,6 @@ line_of NoTimingFile = codes "vt220: --timing goes with --format script alone" +
 line_of NoMoment = codes "vt220: --until is seconds, as 12.5 or 12:31, or bytes, as 4096b" ++ 0x0A ∷ []
 line_of NoTimes =
     codes "vt220: the input has no times; give --until in bytes, as 4096b, or script its --timing FILE" ++ 0x0A ∷ codes "vt220: a recording by ttyrec or asciinema has times: add --format ttyrec, asciicast or auto" ++ 0x0A ∷ []
+line_of NoEncoding = codes "vt220: --encoding is dec or utf-8" ++ 0x0A ∷ []
+line_of OnlyDec =
+    codes "vt220: trace and summary read no UTF-8" ++ 0x0A ∷ codes "vt220: they read what vt220 content --encoding utf-8 writes" ++ 0x0A ∷ []

@@ -95,6 +95,7 @@ Each command but help takes FILE, or standard input if no file is named, and the
   --format FORMAT  how FILE was recorded: raw, script, ttyrec, asciicast or auto [default: raw]
   --timing FILE    the times of a recording by script(1)
   --until MOMENT   only what came before: seconds, as 12.5 or 12:31, or bytes, as 4096b
+  --encoding NAME  how the host's bytes are read: dec or utf-8 [default: dec]
   --quiet          no notes on standard error; faults are printed all the same
 
 Example, with a recording made by script(1):
@@ -212,6 +213,15 @@ fn until_option<'a>(alloc: Global) -> Arg<'a>
     text_option(alloc, "until", "MOMENT", help)
 }
 
+/// Returns the option for the encoding.
+fn encoding_option<'a>(alloc: Global) -> Arg<'a>
+    ensures rule { rule_of result ≡ text_option (codes "encoding") }
+    ensures local { result.global ≡ false }
+{
+    let help = "How the host's bytes are read: dec or utf-8 [default: dec]";
+    text_option(alloc, "encoding", "NAME", help)
+}
+
 /// Returns the option that leaves out the notes.
 fn quiet_option<'a>(alloc: Global) -> Arg<'a>
     ensures rule { rule_of result ≡ flag_option (codes "quiet") }
@@ -240,7 +250,9 @@ fn with_source<'a>(alloc: Global, command: Command<'a>) -> Result<Command<'a>, A
     ensures local { IfOk result (λ c. (out-Command c).has_globals ≡ false) }
 {
     let command = with_format(alloc, command)?.arg(until_option(alloc))?;
-    command.arg(quiet_option(alloc))
+    command
+        .arg(encoding_option(alloc))?
+        .arg(quiet_option(alloc))
 }
 
 /// Returns a subcommand with its options and the file.
@@ -439,6 +451,7 @@ fn is_plain(matches: &ArgMatches<'_>) -> bool
     !is_given(matches, "format")
         && !is_given(matches, "timing")
         && !is_given(matches, "until")
+        && !is_given(matches, "encoding")
         && !is_set(matches, "quiet")
 }
 

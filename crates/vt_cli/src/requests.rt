@@ -38,7 +38,7 @@ fn request_of(
     matches: &ArgMatches<'_>,
     source: Source,
 ) -> Result<Option<Request>, AllocError>
-    requires { source_in (rows_of (found_of matches.now)) ≡ Ok source }
+    requires { source_in name.now (rows_of (found_of matches.now)) ≡ Ok source }
     ensures some { IfOk result (λ o. IfSome o (IsFound (Some (name.now, rows_of (found_of matches.now))))) }
     ensures none { IfOk result (λ o. IfNone o (HasNoRequest (Some (name.now, rows_of (found_of matches.now))))) }
 {
@@ -57,6 +57,7 @@ fn request_of(
         format: source.format,
         timing,
         until: source.until,
+        encoding: source.encoding,
         quiet: is_set(matches, "quiet"),
     }))
 }
@@ -73,7 +74,7 @@ fn request_in(alloc: Global, words: &[String]) -> Result<Request, Refused>
     let Some((name, inner)) = matches.subcommand() else {
         return Err(refusal(alloc, 2, BAD_COMMAND_LINE));
     };
-    let source = match source_in(inner) {
+    let source = match source_in(name, inner) {
         Ok(source) => source,
         Err(complaint) => return Err(refusal(alloc, 2, complaint.line())),
     };
@@ -88,13 +89,13 @@ fn request_in(alloc: Global, words: &[String]) -> Result<Request, Refused>
 ///
 /// The arguments are those of clap's command `vt220`: one of the eleven subcommands, those of `settings` and `log`, `pages`,
 /// `trace`, `summary` and `content`. Each takes `--piece N`, `--limit N` and at most one FILE, and the options of a
-/// recording: `--format FORMAT` (raw, script, ttyrec, asciicast or auto, otherwise raw), `--timing FILE`, `--until MOMENT`
-/// and `--quiet`. With auto the beginning of the input decides. A moment is seconds (`12.5`), minutes and seconds (`12:31`),
+/// recording: `--format FORMAT` (raw, script, ttyrec, asciicast or auto, otherwise raw), `--timing FILE`, `--until MOMENT`,
+/// `--encoding NAME` (dec or utf-8) and `--quiet`. With auto the beginning of the input decides on the format. A moment is seconds (`12.5`), minutes and seconds (`12:31`),
 /// hours, minutes and seconds (`1:02:03`), or a number of bytes (`4096b`). Seconds have up to six decimals.
 ///
 /// `Err` is what to end with if there is no request: the help or the version that was asked for (status 0), a failed
-/// allocation (1), or what is wrong with the arguments (2). Such are also `--timing` with a format other than script, and
-/// a moment in seconds with raw, or with script without `--timing`. (this profile)
+/// allocation (1), or what is wrong with the arguments (2). Such are also `--timing` with a format other than script, a
+/// moment in seconds with raw, or with script without `--timing`, and utf-8 with `trace` or `summary`. (this profile)
 pub fn request(alloc: Global, words: Vec<String>) -> Result<Request, Refused>
     ensures ok { IfOk result (IsRequest words.items) }
     ensures err { IfErr result (IsNoRequest words.items) }

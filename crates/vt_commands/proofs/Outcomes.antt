@@ -2,7 +2,6 @@
 use Rattle.std.proofs.Common.{arith, rules, ◌≡◌, ℕ, List, [], Bool, true, false, Option, inr, Result, Ok, Err}
 use Rattle.vt_device.specs.Runs.{Flags}
 use Rattle.vt_cli.specs.declared.asked.Request.{Request}
-use Rattle.vt_cli.specs.declared.what.What.{What}
 use Rattle.vt_cli.specs.declared.what.Word.{Word}
 use Rattle.vt_cli.specs.declared.what.Word.TheVariants.{Replay, Log, Pages, Trace, Summary, Content}
 use Rattle.vt_recording.specs.declared.format.Format.{Format}
@@ -12,9 +11,11 @@ use Rattle.vt_recording.specs.Reading.{ReadTable}
 use Rattle.vt_trace.specs.Summary.{summary}
 use Rattle.vt_replay.specs.declared.fault.Fault.{Fault}
 use Rattle.vt_replay.specs.declared.fault.Fault.TheVariants.{Memory, Partial, Read, Write, TooLong}
-use Rattle.vt_replay.specs.Run.{Table}
+use Rattle.vt_recording.specs.declared.format.Encoding.{Encoding}
+use Rattle.vt_replay.specs.Due.{sent_for, end_for, there_for}
+use Rattle.vt_replay.specs.Encoding.{decoded}
 use Rattle.vt_replay.specs.Log.{lines, screen}
-use Rattle.vt_replay.specs.Output.{OutputTable}
+use Rattle.vt_replay.specs.Output.{OutputTable, EncodedTable, always}
 use Rattle.vt_commands.specs.declared.requests.Outcome.{Outcome}
 use Rattle.vt_commands.specs.Words.{WordTable, pages_written, trace_written, trace_ending, all, nothing}
 use Rattle.vt_commands.specs.Request.{UnreadTable, IsUnread, OutcomeBy, AllPlayed, unread_fault}
@@ -39,29 +40,29 @@ abbrev in_memory : (at_end writer_failed : Bool) → Flags
 in_memory at_end writer_failed = record { reader_failed = false; reader_ended = at_end; writer_failed = writer_failed }
 
 module _ (piece : ℕ) (c rest w : List ℕ) (at_end failed : Bool) (limit : ℕ) (none : at_end ≡ true → rest ≡ []) where
-  run_whole : (played : Result (Unit {0}) Fault) (what : What) → Table played what piece c w (in_memory at_end failed) limit
-      → AllPlayed played limit c rest
-  run_whole (Ok u) what table = none table.0.reader_ended
-  run_whole (Err Memory) what table = tt
-  run_whole (Err Partial) what table = none table.1.reader_ended
-  run_whole (Err Read) what table = let e = table.0.reader_failed in search (rules, e)
-  run_whole (Err Write) what table = tt
-  run_whole (Err TooLong) what table = let long = table.1 in omega (arith, long)
+  output_whole : (written ending : List ℕ → List ℕ) (there : List ℕ → Bool) (played : Result (Unit {0}) Fault)
+      → OutputTable written ending there played piece c w (in_memory at_end failed) limit → AllPlayed played limit c rest
+  output_whole written ending there (Ok u) table = none table.0.reader_ended
+  output_whole written ending there (Err Memory) table = tt
+  output_whole written ending there (Err Partial) table = none table.0.reader_ended
+  output_whole written ending there (Err Read) table = let e = table.0.reader_failed in search (rules, e)
+  output_whole written ending there (Err Write) table = tt
+  output_whole written ending there (Err TooLong) table = let long = table.1 in omega (arith, long)
 
-  output_whole : (written ending : List ℕ → List ℕ) (played : Result (Unit {0}) Fault)
-      → OutputTable written ending played piece c w (in_memory at_end failed) limit → AllPlayed played limit c rest
-  output_whole written ending (Ok u) table = none table.0.reader_ended
-  output_whole written ending (Err Memory) table = tt
-  output_whole written ending (Err Partial) table = absurd table
-  output_whole written ending (Err Read) table = let e = table.0.reader_failed in search (rules, e)
-  output_whole written ending (Err Write) table = tt
-  output_whole written ending (Err TooLong) table = let long = table.1 in omega (arith, long)
-
-  pub word_whole : (played : Result (Unit {0}) Fault) (word : Word) → WordTable played word piece c w (in_memory at_end failed) limit
+  encoded_whole : (encoding : Encoding) (written ending : List ℕ → List ℕ) (there : List ℕ → Bool)
+      (played : Result (Unit {0}) Fault)
+      → EncodedTable encoding written ending there played piece c w (in_memory at_end failed) limit
       → AllPlayed played limit c rest
-  word_whole played (Replay what) table = run_whole played what table
-  word_whole played Log table = output_whole lines screen played table
-  word_whole played Pages table = output_whole pages_written screen played table
-  word_whole played Trace table = output_whole trace_written trace_ending played table
-  word_whole played Summary table = output_whole nothing summary played table
-  word_whole played Content table = output_whole all nothing played table
+  encoded_whole encoding written ending there played table =
+      output_whole (λ x. written (decoded encoding x)) (λ x. ending (decoded encoding x)) (λ x. there (decoded encoding x))
+      played table
+
+  pub word_whole : (played : Result (Unit {0}) Fault) (word : Word) (encoding : Encoding)
+      → WordTable played word encoding piece c w (in_memory at_end failed) limit → AllPlayed played limit c rest
+  word_whole played (Replay what) encoding table =
+      encoded_whole encoding (sent_for what) (end_for what) (there_for what) played table
+  word_whole played Log encoding table = encoded_whole encoding lines screen always played table
+  word_whole played Pages encoding table = encoded_whole encoding pages_written screen always played table
+  word_whole played Trace encoding table = output_whole trace_written trace_ending always played table
+  word_whole played Summary encoding table = output_whole nothing summary always played table
+  word_whole played Content encoding table = encoded_whole encoding all nothing always played table

@@ -4,6 +4,8 @@ use Rattle.std.specs.declared.alloc.Global.{Global}
 use Rattle.std.specs.declared.vec.Vec.{Vec}
 use Rattle.vt_device.specs.Runs.{Flags}
 use Rattle.vt_cli.specs.declared.asked.Request.{Request}
+use Rattle.vt_recording.specs.declared.format.Encoding.{Encoding}
+use Rattle.vt_recording.specs.declared.format.Encoding.TheVariants.{Dec}
 use Rattle.vt_recording.specs.declared.format.Format.{Format}
 use Rattle.vt_recording.specs.declared.format.Format.TheVariants as format
 use Rattle.vt_recording.specs.declared.format.Moment.{Moment}
@@ -22,6 +24,18 @@ use Rattle.vt_commands.specs.declared.fault.Fault.TheVariants.{Replay, Broken, N
 use Rattle.vt_commands.specs.declared.requests.Outcome.{Outcome}
 use Rattle.vt_commands.specs.Words.{WordTable}
 
+-- the encoding that was asked for, otherwise dec
+abbrev pub encoding_wanted : Option Encoding → Encoding
+encoding_wanted (Some encoding) = encoding
+encoding_wanted None = Dec
+
+-- the encoding of the content of a recording in a format: asciinema keeps characters, of which the content has the bytes
+abbrev pub encoding_of : Option Encoding → Format → Encoding
+encoding_of wanted format.Raw = encoding_wanted wanted
+encoding_of wanted format.Script = encoding_wanted wanted
+encoding_of wanted format.Ttyrec = encoding_wanted wanted
+encoding_of wanted format.Asciicast = Dec
+
 -- the input is played as it comes: it is the host's bytes, and all of them are wanted
 abbrev pub is_streamed : Format → Option Moment → Bool
 is_streamed format.Raw None = true
@@ -39,7 +53,7 @@ ended_of broken (Err fault) = Err (Replay fault)
 -- the word was carried out on the input as it came
 pub record IsStreamed (o : Outcome) (r : Request) (b w : List ℕ) (f : Flags) : Type 0 where
   pub played : Result (Unit {0}) ReplayFault
-  pub table : WordTable played r.word r.piece b w f r.limit
+  pub table : WordTable played r.word (encoding_wanted r.encoding) r.piece b w f r.limit
   pub ended : o.ended ≡ ended_of None played
   pub none_replaced : o.replaced ≡ 0
 
@@ -54,7 +68,7 @@ AllPlayed (Err replay.Write) limit c rest = ⊤
 AllPlayed (Err replay.TooLong) limit c rest = limit < length c
 
 -- the word was carried out on the content of a recording, of which c was played, from memory
-pub record IsPlayed (o : Outcome) (r : Request) (content : List ℕ) (broken : Option Break) (replaced : ℕ) (w : List ℕ)
+pub record IsPlayed (o : Outcome) (r : Request) (encoding : Encoding) (content : List ℕ) (broken : Option Break) (replaced : ℕ) (w : List ℕ)
     (writer_failed : Bool) : Type 0 where
   pub c : List ℕ
   pub rest : List ℕ
@@ -63,7 +77,7 @@ pub record IsPlayed (o : Outcome) (r : Request) (content : List ℕ) (broken : O
   pub none_left : at_end ≡ true → rest ≡ []
   pub played : Result (Unit {0}) ReplayFault
   pub whole : AllPlayed played r.limit c rest
-  pub table : WordTable played r.word r.piece c w (record { reader_failed = false; reader_ended = at_end; writer_failed = writer_failed }) r.limit
+  pub table : WordTable played r.word encoding r.piece c w (record { reader_failed = false; reader_ended = at_end; writer_failed = writer_failed }) r.limit
   pub ended : o.ended ≡ ended_of broken played
   pub replaces : o.replaced ≡ replaced
 
@@ -76,7 +90,7 @@ pub record IsTakenApart (o : Outcome) (r : Request) (format : Format) (timing : 
   pub broken : Option Break
   pub replaced : ℕ
   pub taken : IsTaken format r.until timing b content broken replaced
-  pub played : IsPlayed o r content broken replaced w f.writer_failed
+  pub played : IsPlayed o r (encoding_of r.encoding format) content broken replaced w f.writer_failed
 
 -- why an input wasn't read whole or taken apart
 abbrev pub UnreadTable : ReplayFault → (b : List ℕ) → (failed ended : Bool) → (limit : ℕ) → Type 0

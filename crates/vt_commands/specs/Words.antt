@@ -9,9 +9,10 @@ use Rattle.vt_trace.specs.Summary.{summary}
 use Rattle.vt_cli.specs.declared.what.Word.{Word}
 use Rattle.vt_cli.specs.declared.what.Word.TheVariants.{Replay, Log, Pages, Trace, Summary, Content}
 use Rattle.vt_replay.specs.declared.fault.Fault.{Fault}
-use Rattle.vt_replay.specs.Run.{Table}
-use Rattle.vt_replay.specs.Log.{LogTable, screen}
-use Rattle.vt_replay.specs.Output.{OutputTable}
+use Rattle.vt_recording.specs.declared.format.Encoding.{Encoding}
+use Rattle.vt_replay.specs.Due.{sent_for, end_for, there_for}
+use Rattle.vt_replay.specs.Log.{lines, screen}
+use Rattle.vt_replay.specs.Output.{OutputTable, EncodedTable, always}
 
 -- ---- pages
 
@@ -40,11 +41,12 @@ nothing bytes = []
 
 -- ---- words
 
--- what each answer says, by the word
-abbrev pub WordTable : Result (Unit {0}) Fault → Word → (piece : ℕ) → (b w : List ℕ) → Flags → (limit : ℕ) → Type 0
-WordTable result (Replay what) piece b w f limit = Table result what piece b w f limit
-WordTable result Log piece b w f limit = LogTable result piece b w f limit
-WordTable result Pages piece b w f limit = OutputTable pages_written screen result piece b w f limit
-WordTable result Trace piece b w f limit = OutputTable trace_written trace_ending result piece b w f limit
-WordTable result Summary piece b w f limit = OutputTable nothing summary result piece b w f limit
-WordTable result Content piece b w f limit = OutputTable all nothing result piece b w f limit
+-- what each answer says, by the word, of a host's bytes in an encoding. A trace and a summary are of the bytes as they are
+abbrev pub WordTable : Result (Unit {0}) Fault → Word → Encoding → (piece : ℕ) → (b w : List ℕ) → Flags → (limit : ℕ) → Type 0
+WordTable result (Replay what) encoding piece b w f limit =
+    EncodedTable encoding (sent_for what) (end_for what) (there_for what) result piece b w f limit
+WordTable result Log encoding piece b w f limit = EncodedTable encoding lines screen always result piece b w f limit
+WordTable result Pages encoding piece b w f limit = EncodedTable encoding pages_written screen always result piece b w f limit
+WordTable result Trace encoding piece b w f limit = OutputTable trace_written trace_ending always result piece b w f limit
+WordTable result Summary encoding piece b w f limit = OutputTable nothing summary always result piece b w f limit
+WordTable result Content encoding piece b w f limit = EncodedTable encoding all nothing always result piece b w f limit

@@ -2,7 +2,7 @@
 ghost use Rattle.std.specs.Prelude.{◌≡◌, ◌≤◌, [], true, false, length, vec_capacity, IfOk, IfErr};
 ghost use Rattle.std.specs.Io.KnownBytes.{IsAtEnd};
 ghost use Rattle.vt_device.specs.Runs.{Moves, Takes};
-ghost use Rattle.vt_replay.specs.Output.{OutputTable};
+ghost use Rattle.vt_replay.specs.Output.{OutputTable, always};
 ghost use Rattle.vt_trace.specs.Counted.{HasCounted};
 ghost use Rattle.vt_trace.specs.Summary.{summary};
 ghost use Rattle.vt_commands.specs.Words.{nothing};
@@ -29,7 +29,7 @@ pub(crate) fn write_summary<S: Source, W: Write>(
     requires limit_in_range { limit ≤ 1099511627776 }
     ensures answer { Moves (S.remaining reader.old) (S.remaining reader.new) (W.contents writer.old.device)
         (W.contents writer.new.device)
-        (λ b w. OutputTable nothing summary result piece b w (record { reader_failed = S.failed reader.new; reader_ended = S.ended reader.new; writer_failed = writer.new.failed }) limit) }
+        (λ b w. OutputTable nothing summary always result piece b w (record { reader_failed = S.failed reader.new; reader_ended = S.ended reader.new; writer_failed = writer.new.failed }) limit) }
     ensures whole { S.ended reader.new ≡ true → IsAtEnd (S.remaining reader.new) }
 {
     let mut room = Room::new(alloc, piece)?;
@@ -87,7 +87,7 @@ fn summary_in_room<S: Source, W: Write>(
     requires room { 309351 ≤ vec_capacity out.old }
     ensures answer { Moves (S.remaining reader.old) (S.remaining reader.new) (W.contents writer.old.device)
         (W.contents writer.new.device)
-        (λ b w. OutputTable nothing summary result (length buffer.old) b w (record { reader_failed = S.failed reader.new; reader_ended = S.ended reader.new; writer_failed = writer.new.failed }) limit) }
+        (λ b w. OutputTable nothing summary always result (length buffer.old) b w (record { reader_failed = S.failed reader.new; reader_ended = S.ended reader.new; writer_failed = writer.new.failed }) limit) }
     ensures whole { S.ended reader.new ≡ true → IsAtEnd (S.remaining reader.new) }
 {
     count_input(reader, limit, counts, buffer)?;

@@ -1,5 +1,5 @@
 //! The outputs: what each word writes of the host's bytes as they come, and at their end.
-ghost use Rattle.std.specs.Prelude.{◌≡◌, ◌+◌, ◌*◌, ◌/◌, ◌^◌, ◌≤◌, ◌<◌, [], length, take, vec_capacity, IfOk, List, ℕ};
+ghost use Rattle.std.specs.Prelude.{◌≡◌, ◌+◌, ◌*◌, ◌/◌, ◌^◌, ◌≤◌, ◌<◌, [], true, length, take, vec_capacity, IfOk, List, ℕ};
 ghost use Rattle.vt_term.specs.State.{power_up};
 ghost use Rattle.vt_term.specs.Play.{play};
 ghost use Rattle.vt_term.specs.Text.{text};
@@ -10,7 +10,7 @@ ghost use Rattle.vt_commands.specs.Words.{tracer_at_start};
 use std::alloc::{AllocError, Global};
 use vt_log::laws::pages_cut;
 use vt_log::{PAGE_LIMIT, feed_pages_reserved};
-use vt_replay::Output;
+use vt_replay::{Output, front_for};
 use vt_term::laws::{cuts, soundness};
 use vt_term::{REPORT_LIMIT, Terminal};
 use vt_trace::laws::cuts as trace_cuts;
@@ -43,13 +43,17 @@ impl Output for PageOutput {
 
     ghost ending = { λ o bytes. text (play o.terminal bytes).state };
 
+    ghost there = { λ o bytes. true };
+
     ghost most = { λ o. vec_capacity o.reports / 10 };
 
     ghost counted = { λ o. 0 };
 
-    const CAPACITY: usize = 4 * PAGE_LIMIT;
+    ghost reserve = { λ o. 38112 };
 
-    ghost CAPACITY = { 38112 };
+    fn capacity(&self) -> usize {
+        4 * PAGE_LIMIT
+    }
 
     fn feed(&mut self, chunk: &[u8], out: &mut Vec<u8>) -> usize {
         let _ = self.terminal.width();
@@ -57,7 +61,12 @@ impl Output for PageOutput {
         pages_cut();
         soundness();
         self.reports.clear();
-        feed_pages_reserved(&mut self.terminal, chunk, &mut self.reports, out)
+        let count = front_for(chunk, &self.reports);
+        feed_pages_reserved(&mut self.terminal, &chunk[..count], &mut self.reports, out)
+    }
+
+    fn is_there(&self) -> bool {
+        true
     }
 
     fn end(&self, out: &mut Vec<u8>) {
@@ -97,25 +106,34 @@ impl Output for TraceOutput {
 
     ghost ending = { λ o bytes. text_end (tracer_all o.terminal o.tracer bytes).in_text };
 
+    ghost there = { λ o bytes. true };
+
     ghost most = { λ o. vec_capacity o.reports / 10 };
 
     ghost counted = { λ o. o.tracer.place };
 
-    const CAPACITY: usize = 256 * TRACE_LIMIT;
+    ghost reserve = { λ o. 61440 };
 
-    ghost CAPACITY = { 61440 };
+    fn capacity(&self) -> usize {
+        256 * TRACE_LIMIT
+    }
 
     fn feed(&mut self, chunk: &[u8], out: &mut Vec<u8>) -> usize {
         let _ = self.terminal.width();
         trace_cuts();
         self.reports.clear();
+        let count = front_for(chunk, &self.reports);
         trace_reserved(
             &mut self.terminal,
             &mut self.tracer,
-            chunk,
+            &chunk[..count],
             &mut self.reports,
             out,
         )
+    }
+
+    fn is_there(&self) -> bool {
+        true
     }
 
     fn end(&self, out: &mut Vec<u8>) {
@@ -123,7 +141,10 @@ impl Output for TraceOutput {
     }
 }
 
-/// The host's bytes.
+/// The most bytes of the content that are written at once.
+const CONTENT_LIMIT: usize = 65536;
+
+/// The bytes.
 #[derive(Drop)]
 pub(crate) struct ContentOutput;
 
@@ -132,17 +153,26 @@ impl Output for ContentOutput {
 
     ghost ending = { λ o bytes. [] };
 
+    ghost there = { λ o bytes. true };
+
     ghost most = { λ o. 65536 };
 
     ghost counted = { λ o. 0 };
 
-    const CAPACITY: usize = 65536;
+    ghost reserve = { λ o. 65536 };
 
-    ghost CAPACITY = { 65536 };
+    fn capacity(&self) -> usize {
+        CONTENT_LIMIT
+    }
 
     fn feed(&mut self, chunk: &[u8], out: &mut Vec<u8>) -> usize {
-        out.extend_from_slice(chunk).unwrap();
-        chunk.len()
+        let count = chunk.len().min(CONTENT_LIMIT);
+        out.extend_from_slice(&chunk[..count]).unwrap();
+        count
+    }
+
+    fn is_there(&self) -> bool {
+        true
     }
 
     fn end(&self, _out: &mut Vec<u8>) {}

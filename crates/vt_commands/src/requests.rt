@@ -3,18 +3,18 @@ ghost use Rattle.std.specs.Prelude.{◌≡◌, ◌≤◌, true, false, Err, opti
 ghost use Rattle.std.specs.Io.KnownBytes.{IsAtEnd};
 ghost use Rattle.vt_device.specs.Runs.{Moves, Takes};
 ghost use Rattle.vt_device.specs.Writing.{Gives};
-ghost use Rattle.vt_replay.specs.Output.{OutputTable};
+ghost use Rattle.vt_replay.specs.Output.{OutputTable, EncodedTable, always};
 ghost use Rattle.vt_commands.specs.Words.{WordTable, pages_written, trace_written, trace_ending, all, nothing};
 ghost use Rattle.vt_replay.specs.Log.{screen};
 ghost use Rattle.vt_commands.specs.declared.fault.Fault.TheVariants.{Replay};
-ghost use Rattle.vt_commands.specs.Request.{is_streamed, format_of, lacks_times, unread_fault, ended_of, IsStreamed, IsPlayed, OutcomeTable, TimingTable};
+ghost use Rattle.vt_commands.specs.Request.{encoding_wanted, encoding_of, is_streamed, format_of, lacks_times, unread_fault, ended_of, IsStreamed, IsPlayed, OutcomeTable, TimingTable};
 
 use crate::counting::write_summary;
 use crate::fault::Fault;
 use crate::outputs::{ContentOutput, PageOutput, TraceOutput};
 use std::alloc::{AllocError, Global};
 use std::io::{Read, Write};
-use vt_cli::{Format, Moment, Request, Word};
+use vt_cli::{Encoding, Format, Moment, Request, Word};
 use vt_device::{Source, Watched};
 use vt_log::laws::pages_cut;
 use vt_recording::{Break, Content, Detected, Taken, detect, read_recording, take_apart};
@@ -26,6 +26,7 @@ fn write_pages<S: Source, W: Write>(
     alloc: Global,
     reader: &mut S,
     writer: &mut Watched<W>,
+    encoding: Encoding,
     piece: usize,
     limit: u64,
 ) -> Result<(), vt_replay::Fault>
@@ -36,13 +37,13 @@ fn write_pages<S: Source, W: Write>(
     requires limit_in_range { limit ≤ 1099511627776 }
     ensures answer { Moves (S.remaining reader.old) (S.remaining reader.new) (W.contents writer.old.device)
         (W.contents writer.new.device)
-        (λ b w. OutputTable pages_written screen result piece b w (record { reader_failed = S.failed reader.new; reader_ended = S.ended reader.new; writer_failed = writer.new.failed }) limit) }
+        (λ b w. EncodedTable encoding pages_written screen always result piece b w (record { reader_failed = S.failed reader.new; reader_ended = S.ended reader.new; writer_failed = writer.new.failed }) limit) }
     ensures whole { S.ended reader.new ≡ true → IsAtEnd (S.remaining reader.new) }
 {
     pages_cut();
     soundness();
     let mut output = PageOutput::new(alloc, piece)?;
-    write_output_from(alloc, &mut output, reader, writer, piece, limit)
+    write_output_from(alloc, &mut output, encoding, reader, writer, piece, limit)
 }
 
 /// Plays the reader's bytes on a new terminal, and writes the trace.
@@ -60,11 +61,19 @@ fn write_trace<S: Source, W: Write>(
     requires limit_in_range { limit ≤ 1099511627776 }
     ensures answer { Moves (S.remaining reader.old) (S.remaining reader.new) (W.contents writer.old.device)
         (W.contents writer.new.device)
-        (λ b w. OutputTable trace_written trace_ending result piece b w (record { reader_failed = S.failed reader.new; reader_ended = S.ended reader.new; writer_failed = writer.new.failed }) limit) }
+        (λ b w. OutputTable trace_written trace_ending always result piece b w (record { reader_failed = S.failed reader.new; reader_ended = S.ended reader.new; writer_failed = writer.new.failed }) limit) }
     ensures whole { S.ended reader.new ≡ true → IsAtEnd (S.remaining reader.new) }
 {
     let mut output = TraceOutput::new(alloc, piece)?;
-    write_output_from(alloc, &mut output, reader, writer, piece, limit)
+    write_output_from(
+        alloc,
+        &mut output,
+        Encoding::Dec,
+        reader,
+        writer,
+        piece,
+        limit,
+    )
 }
 
 /// Writes the reader's bytes.
@@ -72,6 +81,7 @@ fn write_content<S: Source, W: Write>(
     alloc: Global,
     reader: &mut S,
     writer: &mut Watched<W>,
+    encoding: Encoding,
     piece: usize,
     limit: u64,
 ) -> Result<(), vt_replay::Fault>
@@ -82,11 +92,11 @@ fn write_content<S: Source, W: Write>(
     requires limit_in_range { limit ≤ 1099511627776 }
     ensures answer { Moves (S.remaining reader.old) (S.remaining reader.new) (W.contents writer.old.device)
         (W.contents writer.new.device)
-        (λ b w. OutputTable all nothing result piece b w (record { reader_failed = S.failed reader.new; reader_ended = S.ended reader.new; writer_failed = writer.new.failed }) limit) }
+        (λ b w. EncodedTable encoding all nothing always result piece b w (record { reader_failed = S.failed reader.new; reader_ended = S.ended reader.new; writer_failed = writer.new.failed }) limit) }
     ensures whole { S.ended reader.new ≡ true → IsAtEnd (S.remaining reader.new) }
 {
     let mut output = ContentOutput;
-    write_output_from(alloc, &mut output, reader, writer, piece, limit)
+    write_output_from(alloc, &mut output, encoding, reader, writer, piece, limit)
 }
 
 /// Carries out a word on the reader's bytes. Neither device has failed before, and the reader hasn't ended.
@@ -95,6 +105,7 @@ fn carry_out_word<S: Source, W: Write>(
     reader: &mut S,
     writer: &mut Watched<W>,
     word: Word,
+    encoding: Encoding,
     piece: usize,
     limit: u64,
 ) -> Result<(), vt_replay::Fault>
@@ -105,16 +116,16 @@ fn carry_out_word<S: Source, W: Write>(
     requires limit_in_range { limit ≤ 1099511627776 }
     ensures answer { Moves (S.remaining reader.old) (S.remaining reader.new) (W.contents writer.old.device)
         (W.contents writer.new.device)
-        (λ b w. WordTable result word piece b w (record { reader_failed = S.failed reader.new; reader_ended = S.ended reader.new; writer_failed = writer.new.failed }) limit) }
+        (λ b w. WordTable result word encoding piece b w (record { reader_failed = S.failed reader.new; reader_ended = S.ended reader.new; writer_failed = writer.new.failed }) limit) }
     ensures whole { S.ended reader.new ≡ true → IsAtEnd (S.remaining reader.new) }
 {
     match word {
-        Word::Replay(what) => run_from(alloc, reader, writer, what, piece, limit),
-        Word::Log => write_log_from(alloc, reader, writer, piece, limit),
-        Word::Pages => write_pages(alloc, reader, writer, piece, limit),
+        Word::Replay(what) => run_from(alloc, reader, writer, what, encoding, piece, limit),
+        Word::Log => write_log_from(alloc, reader, writer, encoding, piece, limit),
+        Word::Pages => write_pages(alloc, reader, writer, encoding, piece, limit),
         Word::Trace => write_trace(alloc, reader, writer, piece, limit),
         Word::Summary => write_summary(alloc, reader, writer, piece, limit),
-        Word::Content => write_content(alloc, reader, writer, piece, limit),
+        Word::Content => write_content(alloc, reader, writer, encoding, piece, limit),
     }
 }
 
@@ -125,6 +136,27 @@ pub struct Outcome {
     pub replaced: u64,
     /// Why the request ended early, if it did.
     pub ended: Result<(), Fault>,
+}
+
+/// Returns the encoding that was asked for, otherwise dec.
+fn encoding_wanted(wanted: Option<Encoding>) -> Encoding
+    ensures { result ≡ encoding_wanted wanted }
+{
+    match wanted {
+        Some(encoding) => encoding,
+        None => Encoding::Dec,
+    }
+}
+
+/// Returns the encoding of the content of a recording in a format. asciinema keeps characters, of which the content has the
+/// bytes.
+fn encoding_of(wanted: Option<Encoding>, format: Format) -> Encoding
+    ensures { result ≡ encoding_of wanted format }
+{
+    match format {
+        Format::Raw | Format::Script | Format::Ttyrec => encoding_wanted(wanted),
+        Format::Asciicast => Encoding::Dec,
+    }
 }
 
 /// Returns whether the input is played as it comes.
@@ -227,6 +259,9 @@ pub fn lacks_times(format: Format, timed: bool, until: Option<Moment>) -> bool
 /// `format_of`. It doesn't look at the request's files: the caller opens its file as the reader, and reads its timing file.
 /// Neither device has failed before, and the reader hasn't ended.
 ///
+/// The word is carried out on the host's bytes in the request's encoding. A trace and a summary are of the bytes as they
+/// are, and so is everything of a recording by asciinema, which keeps characters.
+///
 /// If the format is raw and all of the input is wanted, the word is carried out on the bytes as they come. Otherwise the
 /// input is read whole, and the word is carried out on its content up to the moment. If the recording is broken, that is
 /// the fault, after what came before was played and written.
@@ -251,7 +286,10 @@ pub fn carry_out<R: Read, W: Write>(
     }
     match read_recording(alloc, reader, request.limit as usize) {
         Ok(bytes) => match take_apart(alloc, &bytes, timing, format, request.until) {
-            Ok(taken) => play_taken(alloc, taken, writer, request),
+            Ok(taken) => {
+                let encoding = encoding_of(request.encoding, format);
+                play_taken(alloc, taken, encoding, writer, request)
+            }
             Err(AllocError) => unread(vt_replay::Fault::Memory),
         },
         Err(fault) => unread(unread_fault(fault)),
@@ -278,6 +316,7 @@ fn stream<R: Read, W: Write>(
         reader,
         writer,
         request.word,
+        encoding_wanted(request.encoding),
         request.piece,
         request.limit,
     );
@@ -287,16 +326,17 @@ fn stream<R: Read, W: Write>(
     }
 }
 
-/// Carries out the request's word on the content of a recording.
+/// Carries out the request's word on the content of a recording, in an encoding.
 fn play_taken<W: Write>(
     alloc: Global,
     taken: Taken,
+    encoding: Encoding,
     writer: &mut Watched<W>,
     request: &Request,
 ) -> Outcome
     requires writer_works { writer.old.failed ≡ false }
     ensures { Gives (W.contents writer.old.device) (W.contents writer.new.device)
-        (λ w. IsPlayed result request.now taken.content.items taken.broken taken.replaced w writer.new.failed) }
+        (λ w. IsPlayed result request.now encoding taken.content.items taken.broken taken.replaced w writer.new.failed) }
 {
     let broken = taken.broken;
     let replaced = taken.replaced;
@@ -306,6 +346,7 @@ fn play_taken<W: Write>(
         &mut content,
         writer,
         request.word,
+        encoding,
         request.piece,
         request.limit,
     );

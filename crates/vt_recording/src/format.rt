@@ -13,6 +13,15 @@ pub enum Format {
     Asciicast,
 }
 
+/// How a host's bytes are read.
+#[derive(Clone, Copy, Debug, PartialEq, Eq)]
+pub enum Encoding {
+    /// As a VT220 reads them.
+    Dec,
+    /// As UTF-8, which is translated to a VT220's bytes.
+    Utf8,
+}
+
 /// The end of what is wanted of a recording.
 #[derive(Clone, Copy, Debug, PartialEq, Eq)]
 pub enum Moment {

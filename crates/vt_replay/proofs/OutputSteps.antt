@@ -1,5 +1,5 @@
 -- What an output writes of bytes in turn.
-use Rattle.std.proofs.Common.{◌≡◌, ℕ, ◌+◌, ◌-◌, ◌≤◌, ◌++◌, List, [], length, take, drop, arith, refl, sym, ap, ◌∙◌}
+use Rattle.std.proofs.Common.{◌≡◌, ℕ, Bool, ◌+◌, ◌-◌, ◌≤◌, ◌++◌, List, [], length, take, drop, arith, refl, sym, ap, ◌∙◌}
 use Rattle.std.proofs.Common.{append_assoc, append-nil, length-append, length-drop}
 use Rattle.std.proofs.lemmas.List.{take-append-drop}
 use Rattle.std.proofs.Math.Seq.{take-add, take-length}
@@ -10,13 +10,18 @@ use Rattle.vt_replay.proofs.Steps.{behind}
 abbrev pub Writes : Type 0
 Writes = List ℕ → List ℕ
 
+-- what is written at the end is there
+abbrev pub Holds : Type 0
+Holds = List ℕ → Bool
+
 -- bytes, and then more of them
-pub then_more : (written ending : Writes) (b c : List ℕ) (middle middle_ending last last_ending : Writes)
-    → IsAfter written ending b middle middle_ending → IsAfter middle middle_ending c last last_ending
-    → IsAfter written ending (b ++ c) last last_ending
-then_more written ending b c middle middle_ending last last_ending first second = record {
+pub then_more : (written ending : Writes) (there : Holds) (b c : List ℕ) (middle middle_ending : Writes) (middle_there : Holds) (last last_ending : Writes) (last_there : Holds)
+    → IsAfter written ending there b middle middle_ending middle_there → IsAfter middle middle_ending middle_there c last last_ending last_there
+    → IsAfter written ending there (b ++ c) last last_ending last_there
+then_more written ending there b c middle middle_ending middle_there last last_ending last_there first second = record {
   on = λ more. rw (append_assoc, first.on (c ++ more), second.on more, first.on c, append_assoc) refl;
   end_on = λ more. rw (append_assoc, first.end_on (c ++ more)) (second.end_on more);
+  there_on = λ more. rw (append_assoc, first.there_on (c ++ more)) (second.there_on more);
   none = second.none;
 }
 
@@ -27,27 +32,27 @@ rest-of chunk at =
     rw e (take-length (drop at chunk))
 
 -- one more turn of a chunk
-pub next_turn : (written ending : Writes) (chunk : List ℕ) (at n : ℕ) (middle middle_ending last last_ending : Writes)
-    → IsAfter written ending (take at chunk) middle middle_ending
-    → IsAfter middle middle_ending (take n (drop at chunk)) last last_ending
-    → IsAfter written ending (take (at + n) chunk) last last_ending
-next_turn written ending chunk at n middle middle_ending last last_ending first second =
+pub next_turn : (written ending : Writes) (there : Holds) (chunk : List ℕ) (at n : ℕ) (middle middle_ending : Writes) (middle_there : Holds) (last last_ending : Writes) (last_there : Holds)
+    → IsAfter written ending there (take at chunk) middle middle_ending middle_there
+    → IsAfter middle middle_ending middle_there (take n (drop at chunk)) last last_ending last_there
+    → IsAfter written ending there (take (at + n) chunk) last last_ending last_there
+next_turn written ending there chunk at n middle middle_ending middle_there last last_ending last_there first second =
     rw (take-add at n chunk)
-    (then_more written ending (take at chunk) _ middle middle_ending last last_ending first second)
+    (then_more written ending there (take at chunk) _ middle middle_ending middle_there last last_ending last_there first second)
 
-pub turn_written : (written ending : Writes) (chunk : List ℕ) (at n : ℕ) (middle middle_ending : Writes)
-    → IsAfter written ending (take at chunk) middle middle_ending
+pub turn_written : (written ending : Writes) (there : Holds) (chunk : List ℕ) (at n : ℕ) (middle middle_ending : Writes) (middle_there : Holds)
+    → IsAfter written ending there (take at chunk) middle middle_ending middle_there
     → written (take at chunk) ++ middle (take n (drop at chunk)) ≡ written (take (at + n) chunk)
-turn_written written ending chunk at n middle middle_ending first =
+turn_written written ending there chunk at n middle middle_ending middle_there first =
     sym (ap written (take-add at n chunk) ∙ first.on (take n (drop at chunk)))
 
 -- a write of a turn failed
-pub turn_cut : (written ending : Writes) (chunk part : List ℕ) (at n : ℕ) (middle middle_ending last last_ending : Writes)
-    → IsAfter written ending (take at chunk) middle middle_ending
-    → IsAfter middle middle_ending (take n (drop at chunk)) last last_ending
+pub turn_cut : (written ending : Writes) (there : Holds) (chunk part : List ℕ) (at n : ℕ) (middle middle_ending : Writes) (middle_there : Holds) (last last_ending : Writes) (last_there : Holds)
+    → IsAfter written ending there (take at chunk) middle middle_ending middle_there
+    → IsAfter middle middle_ending middle_there (take n (drop at chunk)) last last_ending last_there
     → IsProperBeginning part (middle (take n (drop at chunk)))
     → IsProperBeginning (written (take at chunk) ++ part) (written chunk)
-turn_cut written ending chunk part at n middle middle_ending last last_ending first second p =
+turn_cut written ending there chunk part at n middle middle_ending middle_there last last_ending last_there first second p =
     let rest : List ℕ = last (drop n (drop at chunk)) in
     behind (written (take at chunk)) part _ _ _ refl
     (ap written (sym (take-append-drop at chunk)) ∙ first.on (drop at chunk))
@@ -59,16 +64,16 @@ turn_cut written ending chunk part at n middle middle_ending last last_ending fi
     })
 
 -- one more chunk is written
-pub chunk_written : (written ending : Writes) (b chunk w part : List ℕ) (middle middle_ending : Writes)
-    → IsAfter written ending b middle middle_ending → w ≡ written b → part ≡ middle chunk
+pub chunk_written : (written ending : Writes) (there : Holds) (b chunk w part : List ℕ) (middle middle_ending : Writes) (middle_there : Holds)
+    → IsAfter written ending there b middle middle_ending middle_there → w ≡ written b → part ≡ middle chunk
     → w ++ part ≡ written (b ++ chunk)
-chunk_written written ending b chunk w part middle middle_ending first is then = rw (is, then, first.on chunk) refl
+chunk_written written ending there b chunk w part middle middle_ending middle_there first is then = rw (is, then, first.on chunk) refl
 
 -- a write of a chunk failed
-pub chunk_cut : (written ending : Writes) (piece : ℕ) (b chunk w part : List ℕ) (middle middle_ending : Writes)
-    → IsAfter written ending b middle middle_ending → w ≡ written b → length chunk ≤ piece
+pub chunk_cut : (written ending : Writes) (there : Holds) (piece : ℕ) (b chunk w part : List ℕ) (middle middle_ending : Writes) (middle_there : Holds)
+    → IsAfter written ending there b middle middle_ending middle_there → w ≡ written b → length chunk ≤ piece
     → IsProperBeginning part (middle chunk) → IsCutBefore written piece (b ++ chunk) (w ++ part)
-chunk_cut written ending piece b chunk w part middle middle_ending first is short p = record {
+chunk_cut written ending there piece b chunk w part middle middle_ending middle_there first is short p = record {
   before = b;
   last = chunk;
   joined = refl;
@@ -79,6 +84,26 @@ chunk_cut written ending piece b chunk w part middle middle_ending first is shor
 }
 
 -- what is left of the end
-pub ends_so : (written ending : Writes) (b : List ℕ) (last last_ending : Writes)
-    → IsAfter written ending b last last_ending → last_ending [] ≡ ending b
-ends_so written ending b last last_ending after = sym (after.end_on []) ∙ ap ending (append-nil b)
+pub ends_so : (written ending : Writes) (there : Holds) (b : List ℕ) (last last_ending : Writes) (last_there : Holds)
+    → IsAfter written ending there b last last_ending last_there → last_ending [] ≡ ending b
+ends_so written ending there b last last_ending last_there after = sym (after.end_on []) ∙ ap ending (append-nil b)
+
+-- whether what is written at the end is there
+pub there_so : (written ending : Writes) (there : Holds) (b : List ℕ) (last last_ending : Writes) (last_there : Holds)
+    → IsAfter written ending there b last last_ending last_there → there b ≡ last_there []
+there_so written ending there b last last_ending last_there after = sym (ap there (append-nil b)) ∙ after.there_on []
+
+-- an output that is given what a chunk is decoded to
+pub through : (decoded decoded_after : Writes) (chunk : List ℕ) (written ending : Writes) (there : Holds)
+    (last last_ending : Writes) (last_there : Holds)
+    → ((more : List ℕ) → decoded (chunk ++ more) ≡ decoded chunk ++ decoded_after more) → decoded_after [] ≡ []
+    → IsAfter written ending there (decoded chunk) last last_ending last_there
+    → IsAfter (λ bytes. written (decoded bytes)) (λ bytes. ending (decoded bytes)) (λ bytes. there (decoded bytes)) chunk
+    (λ bytes. last (decoded_after bytes)) (λ bytes. last_ending (decoded_after bytes))
+    (λ bytes. last_there (decoded_after bytes))
+through decoded decoded_after chunk written ending there last last_ending last_there on none after = record {
+  on = λ more. ap written (on more) ∙ after.on (decoded_after more);
+  end_on = λ more. ap ending (on more) ∙ after.end_on (decoded_after more);
+  there_on = λ more. ap there (on more) ∙ after.there_on (decoded_after more);
+  none = ap last none ∙ after.none;
+}

@@ -1,5 +1,6 @@
 -- What a replay of bytes has to write. (this profile)
-use Rattle.std.specs.Prelude.{◌≡◌, ℕ, List, [], ◌++◌, length}
+use Rattle.std.specs.Prelude.{◌≡◌, ℕ, List, [], ◌++◌, length, Bool, true, false}
+use Rattle.vt_syntax.specs.declared.held.Held.{Held}
 use Rattle.vt_syntax.specs.declared.held.Held.TheVariants.{Nothing}
 use Rattle.vt_term.specs.State.{State, power_up}
 use Rattle.vt_term.specs.Play.{play}
@@ -56,3 +57,36 @@ room_for Picture = PICTURE_LIMIT
 -- a repaint is there between sequences only, all else always
 abbrev pub IsThere : What → State → Type 0
 IsThere what s = what ≡ Repaint → s.held ≡ Nothing
+
+-- ---- a replay as an output
+
+-- reports go out
+abbrev pub is_sent : What → Bool
+is_sent Text = false
+is_sent Reports = true
+is_sent Repaint = false
+is_sent Status = false
+is_sent Show = false
+is_sent Picture = false
+
+-- nothing is held
+abbrev pub is_nothing : Held → Bool
+is_nothing Nothing = true
+is_nothing held = false
+
+-- what is asked for is there, as `IsThere` says
+abbrev pub is_there : What → State → Bool
+is_there Text s = true
+is_there Reports s = true
+is_there Repaint s = is_nothing s.held
+is_there Status s = true
+is_there Show s = true
+is_there Picture s = true
+
+-- what goes out for bytes at their end
+abbrev pub end_for : What → List ℕ → List ℕ
+end_for what bytes = due_at_end what (play power_up bytes).state (length (play power_up bytes).reports)
+
+-- it is there
+abbrev pub there_for : What → List ℕ → Bool
+there_for what bytes = is_there what (play power_up bytes).state

@@ -1,4 +1,5 @@
 pub mod Due
+pub mod Encoding
 pub mod Fault
 pub mod Log
 pub mod Output

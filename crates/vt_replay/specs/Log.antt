@@ -6,7 +6,7 @@ use Rattle.vt_term.specs.Play.{play}
 use Rattle.vt_term.specs.Text.{text}
 use Rattle.vt_log.specs.Log.{log}
 use Rattle.vt_replay.specs.declared.fault.Fault.{Fault}
-use Rattle.vt_replay.specs.Output.{OutputTable}
+use Rattle.vt_replay.specs.Output.{OutputTable, always}
 
 -- the lines that scroll off
 abbrev pub lines : List ℕ → List ℕ
@@ -18,4 +18,4 @@ screen bytes = text (play power_up bytes).state
 
 -- what each answer of a log says: lines go out as they come, and the screen at the end
 abbrev pub LogTable : Result (Unit {0}) Fault → (piece : ℕ) → (b w : List ℕ) → Flags → (limit : ℕ) → Type 0
-LogTable result piece b w f limit = OutputTable lines screen result piece b w f limit
+LogTable result piece b w f limit = OutputTable lines screen always result piece b w f limit

@@ -1,14 +1,23 @@
 -- What an output takes from its reader and gives to its writer. (this profile)
-use Rattle.std.specs.Prelude.{◌≡◌, ◌⊎◌, ℕ, ◌≤◌, ◌+◌, ◌++◌, List, [], length, take, true, false, Result, Ok, Err}
+use Rattle.std.specs.Prelude.{◌≡◌, ◌⊎◌, ℕ, ◌≤◌, ◌+◌, ◌++◌, List, [], length, take, Bool, true, false, Result, Ok, Err}
 use Rattle.vt_device.specs.Runs.{Flags, AreFlags}
 use Rattle.vt_device.specs.Writing.{IsProperBeginning}
+use Rattle.vt_recording.specs.declared.format.Encoding.{Encoding}
+use Rattle.vt_replay.specs.Encoding.{decoded}
 use Rattle.vt_replay.specs.declared.fault.Fault.{Fault}
 use Rattle.vt_replay.specs.declared.fault.Fault.TheVariants.{Memory, Partial, Read, Write, TooLong}
 
--- two outputs, one before bytes and the other after them: what each writes of bytes that come, and at their end
-pub record IsAfter (written ending : List ℕ → List ℕ) (b : List ℕ) (written_after ending_after : List ℕ → List ℕ) : Type 0 where
+-- what an output writes at the end is always there
+abbrev pub always : List ℕ → Bool
+always bytes = true
+
+-- two outputs, one before bytes and the other after them: what each writes of bytes that come, and at their end, and
+-- whether that is there
+pub record IsAfter (written ending : List ℕ → List ℕ) (there : List ℕ → Bool) (b : List ℕ)
+    (written_after ending_after : List ℕ → List ℕ) (there_after : List ℕ → Bool) : Type 0 where
   pub on : (more : List ℕ) → written (b ++ more) ≡ written b ++ written_after more
   pub end_on : (more : List ℕ) → ending (b ++ more) ≡ ending_after more
+  pub there_on : (more : List ℕ) → there (b ++ more) ≡ there_after more
   pub none : written_after [] ≡ []
 
 -- a write failed before the end: w has all that is written of the chunks before the last one, which has at most so many
@@ -28,34 +37,41 @@ pub record IsCutAtEnd (written ending : List ℕ → List ℕ) (b w : List ℕ) 
   pub begins : w ≡ written b ++ more
   pub part : IsProperBeginning more (ending b)
 
-abbrev pub IsCutOutput : (written ending : List ℕ → List ℕ) → (piece : ℕ) → (b w : List ℕ) → Flags → Type 0
-IsCutOutput written ending piece b w f =
+abbrev pub IsCutOutput : (written ending : List ℕ → List ℕ) → (there : List ℕ → Bool) → (piece : ℕ) → (b w : List ℕ) → Flags → Type 0
+IsCutOutput written ending there piece b w f =
     (AreFlags f false false true × IsCutBefore written piece b w)
-    ⊎ (AreFlags f false true true × IsCutAtEnd written ending b w)
+    ⊎ (AreFlags f false true true × (there b ≡ true) × IsCutAtEnd written ending b w)
 
 -- what each answer of an output says, b being the bytes read and w the bytes written
-abbrev pub OutputTable : (written ending : List ℕ → List ℕ) → Result (Unit {0}) Fault → (piece : ℕ) → (b w : List ℕ) → Flags → (limit : ℕ) → Type 0
-OutputTable written ending (Ok u) piece b w f limit = AreFlags f false true false × (length b ≤ limit)
-    × (w ≡ written b ++ ending b)
-OutputTable written ending (Err Memory) piece b w f limit = AreFlags f false false false × (b ≡ []) × (w ≡ [])
-OutputTable written ending (Err Partial) piece b w f limit = ⊥
-OutputTable written ending (Err Read) piece b w f limit = AreFlags f true false false × (length b ≤ limit)
+abbrev pub OutputTable : (written ending : List ℕ → List ℕ) → (there : List ℕ → Bool) → Result (Unit {0}) Fault → (piece : ℕ) → (b w : List ℕ) → Flags → (limit : ℕ) → Type 0
+OutputTable written ending there (Ok u) piece b w f limit = AreFlags f false true false × (length b ≤ limit)
+    × (there b ≡ true) × (w ≡ written b ++ ending b)
+OutputTable written ending there (Err Memory) piece b w f limit = AreFlags f false false false × (b ≡ []) × (w ≡ [])
+OutputTable written ending there (Err Partial) piece b w f limit = AreFlags f false true false × (length b ≤ limit)
+    × (there b ≡ false) × (w ≡ written b)
+OutputTable written ending there (Err Read) piece b w f limit = AreFlags f true false false × (length b ≤ limit)
     × (w ≡ written b)
-OutputTable written ending (Err Write) piece b w f limit = IsCutOutput written ending piece b w f × (length b ≤ limit)
-OutputTable written ending (Err TooLong) piece b w f limit = AreFlags f false false false × (length b ≡ limit + 1)
+OutputTable written ending there (Err Write) piece b w f limit = IsCutOutput written ending there piece b w f × (length b ≤ limit)
+OutputTable written ending there (Err TooLong) piece b w f limit = AreFlags f false false false × (length b ≡ limit + 1)
     × (w ≡ written (take limit b))
+
+-- what each answer says of a host's bytes in an encoding, of which the terminal's bytes are given to the output
+abbrev pub EncodedTable : Encoding → (written ending : List ℕ → List ℕ) → (there : List ℕ → Bool) → Result (Unit {0}) Fault → (piece : ℕ) → (b w : List ℕ) → Flags → (limit : ℕ) → Type 0
+EncodedTable encoding written ending there result piece b w f limit =
+    OutputTable (λ bytes. written (decoded encoding bytes)) (λ bytes. ending (decoded encoding bytes))
+    (λ bytes. there (decoded encoding bytes)) result piece b w f limit
 
 -- ---- the parts of an output
 
 -- what each answer of the reading part says, of an output that then writes so of bytes that come
-abbrev pub ComingTable : (written ending : List ℕ → List ℕ) → Result (Unit {0}) Fault → (written_after ending_after : List ℕ → List ℕ) → (piece : ℕ) → (b w : List ℕ) → Flags → (limit : ℕ) → Type 0
-ComingTable written ending (Ok u) written_after ending_after piece b w f limit = AreFlags f false true false
-    × (length b ≤ limit) × (w ≡ written b) × IsAfter written ending b written_after ending_after
-ComingTable written ending (Err Memory) written_after ending_after piece b w f limit = ⊥
-ComingTable written ending (Err Partial) written_after ending_after piece b w f limit = ⊥
-ComingTable written ending (Err Read) written_after ending_after piece b w f limit = AreFlags f true false false
+abbrev pub ComingTable : (written ending : List ℕ → List ℕ) → (there : List ℕ → Bool) → Result (Unit {0}) Fault → (written_after ending_after : List ℕ → List ℕ) → (there_after : List ℕ → Bool) → (piece : ℕ) → (b w : List ℕ) → Flags → (limit : ℕ) → Type 0
+ComingTable written ending there (Ok u) written_after ending_after there_after piece b w f limit = AreFlags f false true false
+    × (length b ≤ limit) × (w ≡ written b) × IsAfter written ending there b written_after ending_after there_after
+ComingTable written ending there (Err Memory) written_after ending_after there_after piece b w f limit = ⊥
+ComingTable written ending there (Err Partial) written_after ending_after there_after piece b w f limit = ⊥
+ComingTable written ending there (Err Read) written_after ending_after there_after piece b w f limit = AreFlags f true false false
     × (length b ≤ limit) × (w ≡ written b)
-ComingTable written ending (Err Write) written_after ending_after piece b w f limit = AreFlags f false false true
+ComingTable written ending there (Err Write) written_after ending_after there_after piece b w f limit = AreFlags f false false true
     × (length b ≤ limit) × IsCutBefore written piece b w
-ComingTable written ending (Err TooLong) written_after ending_after piece b w f limit = AreFlags f false false false
+ComingTable written ending there (Err TooLong) written_after ending_after there_after piece b w f limit = AreFlags f false false false
     × (length b ≡ limit + 1) × (w ≡ written (take limit b))

@@ -3,7 +3,7 @@ use Rattle.std.specs.Prelude.{◌≡◌, ◌≢◌, ℕ, ◌≤◌, ◌+◌, ◌
 use Rattle.vt_device.specs.Runs.{Flags, AreFlags}
 use Rattle.vt_device.specs.Writing.{IsProperBeginning}
 use Rattle.vt_syntax.specs.declared.held.Held.TheVariants.{Nothing}
-use Rattle.vt_term.specs.State.{State, power_up}
+use Rattle.vt_term.specs.State.{power_up}
 use Rattle.vt_term.specs.Play.{play}
 use Rattle.vt_replay.specs.declared.fault.Fault.{Fault}
 use Rattle.vt_replay.specs.declared.fault.Fault.TheVariants.{Memory, Partial, Read, Write, TooLong}
@@ -41,24 +41,4 @@ Table (Err Read) what piece b w f limit = AreFlags f true false false × (length
 Table (Err Write) what piece b w f limit = WriteRow what piece b w f × (length b ≤ limit)
     × IsProperBeginning w (due what b)
 Table (Err TooLong) what piece b w f limit = AreFlags f false false false × (length b ≡ limit + 1)
-    × (w ≡ sent_for what (take limit b))
-
--- ---- the parts of a replay
-
--- the bytes were played, their reports counted, and sent where they are asked for
-pub record IsPlayed (what : What) (t : State) (reported : ℕ) (b w : List ℕ) : Type 0 where
-  pub state : t ≡ (play power_up b).state
-  pub counted : reported ≡ length (play power_up b).reports
-  pub sent : w ≡ sent_for what b
-
--- what each answer of the reading part says
-abbrev pub ReadTable : Result ℕ Fault → What → (t : State) → (piece : ℕ) → (b w : List ℕ) → Flags → (limit : ℕ) → Type 0
-ReadTable (Ok reported) what t piece b w f limit = AreFlags f false true false × (length b ≤ limit)
-    × IsPlayed what t reported b w
-ReadTable (Err Memory) what t piece b w f limit = ⊥
-ReadTable (Err Partial) what t piece b w f limit = ⊥
-ReadTable (Err Read) what t piece b w f limit = AreFlags f true false false × (length b ≤ limit) × (w ≡ sent_for what b)
-ReadTable (Err Write) what t piece b w f limit = (what ≡ Reports) × AreFlags f false false true
-    × HasEarlierReports piece b w × (length b ≤ limit) × IsProperBeginning w (play power_up b).reports
-ReadTable (Err TooLong) what t piece b w f limit = AreFlags f false false false × (length b ≡ limit + 1)
     × (w ≡ sent_for what (take limit b))

@@ -1,20 +1,21 @@
-//! The replay of an input: it allocates all memory first, and its loops allocate none.
-ghost use Rattle.std.specs.Prelude.{◌≡◌, ◌≢◌, IsTrue, ◌+◌, ◌*◌, ◌≤◌, ◌<◌, ◌++◌, [], true, false, length, vec_len};
-ghost use Rattle.std.specs.Prelude.{vec_capacity, IfOk};
+//! The replay of an input: what is due of a terminal is an output.
+ghost use Rattle.std.specs.Prelude.{◌≡◌, ◌+◌, ◌*◌, ◌≤◌, [], ℕ, true, false, length, max, vec_len, vec_capacity, IfOk};
+ghost use Rattle.std.specs.Prelude.{◌++◌};
 ghost use Rattle.std.specs.Io.KnownBytes.{IsAtEnd};
 ghost use Rattle.vt_term.specs.State.{power_up};
-ghost use Rattle.vt_syntax.specs.declared.held.Held.TheVariants.{Nothing};
-ghost use Rattle.vt_replay.specs.Due.{sent, due_at_end, room_for, IsThere};
+ghost use Rattle.vt_term.specs.Play.{play};
+ghost use Rattle.vt_replay.specs.Due.{sent, due_at_end, room_for, is_there, is_sent, sent_for, end_for, there_for};
 ghost use Rattle.vt_device.specs.Runs.{Moves};
-ghost use Rattle.vt_device.specs.Writing.{Gives, WriteTable};
-ghost use Rattle.vt_replay.specs.Run.{Table, ReadTable};
+ghost use Rattle.vt_replay.specs.Output.{EncodedTable};
+ghost use Rattle.vt_replay.specs.Run.{Table};
 
 use crate::fault::Fault;
+use crate::output::{Output, write_output_from};
 use crate::status::{STATUS_LIMIT, push_status};
 use std::alloc::{AllocError, Global};
 use std::io::{Read, Write};
-use vt_cli::{Settings, What};
-use vt_device::{Source, Watched, write_whole};
+use vt_cli::{Encoding, Settings, What};
+use vt_device::{Source, Watched};
 use vt_paint::{PAINT_LIMIT, repaint_reserved};
 use vt_picture::{PICTURE_LIMIT, SHOW_LIMIT, picture_reserved, show_reserved};
 use vt_term::laws::{cuts, soundness};
@@ -52,10 +53,12 @@ pub fn run<R: Read, W: Write>(
         (λ b w. Table result what piece b w (record { reader_failed = reader.new.failed; reader_ended = reader.new.ended; writer_failed = writer.new.failed }) limit) }
     ensures whole { reader.new.ended ≡ true → IsAtEnd (R.remaining reader.new.device) }
 {
-    run_from(alloc, reader, writer, what, piece, limit)
+    run_from(alloc, reader, writer, what, Encoding::Dec, piece, limit)
 }
 
-/// Plays a source's bytes as `run` does a reader's: memory never fails. The source hasn't failed or ended before.
+/// Plays a source's bytes in an encoding on a new terminal, and writes what is due, as `run` does of a reader's. The source
+/// hasn't failed or ended before. In UTF-8 the terminal's bytes are played, and what is pending at the end isn't. `piece`
+/// and `limit` count the host's bytes.
 ///
 /// `Err` is what `run` returns.
 pub fn run_from<S: Source, W: Write>(
@@ -63,6 +66,7 @@ pub fn run_from<S: Source, W: Write>(
     reader: &mut S,
     writer: &mut Watched<W>,
     what: What,
+    encoding: Encoding,
     piece: usize,
     limit: u64,
 ) -> Result<(), Fault>
@@ -73,47 +77,13 @@ pub fn run_from<S: Source, W: Write>(
     requires limit_in_range { limit ≤ 1099511627776 }
     ensures answer { Moves (S.remaining reader.old) (S.remaining reader.new) (W.contents writer.old.device)
         (W.contents writer.new.device)
-        (λ b w. Table result what piece b w (record { reader_failed = S.failed reader.new; reader_ended = S.ended reader.new; writer_failed = writer.new.failed }) limit) }
+        (λ b w. EncodedTable encoding (sent_for what) (end_for what) (there_for what) result piece b w (record { reader_failed = S.failed reader.new; reader_ended = S.ended reader.new; writer_failed = writer.new.failed }) limit) }
     ensures whole { S.ended reader.new ≡ true → IsAtEnd (S.remaining reader.new) }
 {
-    let mut room = Room::new(alloc, what, piece)?;
-    run_in_room(
-        reader,
-        writer,
-        what,
-        limit,
-        &mut room.terminal,
-        room.buffer.as_mut_slice(),
-        &mut room.out,
-    )
-}
-
-/// All the memory of a run.
-#[derive(Drop)]
-struct Room {
-    terminal: Terminal,
-    /// One chunk.
-    buffer: Vec<u8>,
-    /// What is to be written.
-    out: Vec<u8>,
-}
-
-impl Room {
-    /// Allocates the memory for chunks of so many bytes and for what is due at the end, with a terminal as at power-up.
-    /// `Err` means that allocation failed.
-    fn new(alloc: Global, what: What, piece: usize) -> Result<Room, AllocError>
-        requires { piece ≤ 65536 }
-        ensures terminal { IfOk result (λ room. room.terminal ≡ power_up) }
-        ensures buffer { IfOk result (λ room. length room.buffer.items ≡ piece) }
-        ensures reports { IfOk result (λ room. 10 * piece ≤ vec_capacity room.out) }
-        ensures at_end { IfOk result (λ room. room_for what ≤ vec_capacity room.out) }
-    {
-        Ok(Room {
-            terminal: Terminal::new(alloc)?,
-            buffer: vec![in alloc; 0u8; piece]?,
-            out: Vec::with_capacity(alloc, (REPORT_LIMIT * piece).max(room_for(what)))?,
-        })
-    }
+    cuts();
+    soundness();
+    let mut output = DueOutput::new(alloc, what, piece)?;
+    write_output_from(alloc, &mut output, encoding, reader, writer, piece, limit)
 }
 
 /// Plays the reader's bytes as the settings ask, and writes what is due: by `run`, with their kind, chunk size and limit.
@@ -145,46 +115,92 @@ pub fn replay<R: Read, W: Write>(
     )
 }
 
-/// Plays the reader's bytes, and writes what is due. The buffers have the capacity for it.
-fn run_in_room<S: Source, W: Write>(
-    reader: &mut S,
-    writer: &mut Watched<W>,
+/// What is due of a terminal: its reports as they come, or all else at the end.
+#[derive(Drop)]
+struct DueOutput {
     what: What,
-    limit: u64,
-    terminal: &mut Terminal,
-    buffer: &mut [u8],
-    out: &mut Vec<u8>,
-) -> Result<(), Fault>
-    requires reader_works { S.failed reader.old ≡ false }
-    requires reader_goes_on { S.ended reader.old ≡ false }
-    requires writer_works { writer.old.failed ≡ false }
-    requires limit_in_range { limit ≤ 1099511627776 }
-    requires new { terminal.old ≡ power_up }
-    requires some_room { 1 ≤ length buffer.old }
-    requires room_for_reports { 10 * length buffer.old ≤ vec_capacity out.old }
-    requires room_at_end { room_for what ≤ vec_capacity out.old }
-    ensures answer { Moves (S.remaining reader.old) (S.remaining reader.new) (W.contents writer.old.device)
-        (W.contents writer.new.device)
-        (λ b w. Table result what (length buffer.old) b w (record { reader_failed = S.failed reader.new; reader_ended = S.ended reader.new; writer_failed = writer.new.failed }) limit) }
-    ensures whole { S.ended reader.new ≡ true → IsAtEnd (S.remaining reader.new) }
-{
-    let reported = play_input(reader, writer, what, limit, terminal, buffer, out)?;
-    if !is_there(terminal, what) {
-        return Err(Fault::Partial);
+    terminal: Terminal,
+    /// The number of report bytes.
+    reported: u64,
+    /// The capacity for the reports of one chunk.
+    room: usize,
+}
+
+impl DueOutput {
+    /// Returns the output of a new terminal, with capacity for the reports of chunks of so many bytes. `Err` means that
+    /// allocation failed.
+    fn new(alloc: Global, what: What, piece: usize) -> Result<DueOutput, AllocError>
+        requires { piece ≤ 65536 }
+        ensures what { IfOk result (λ o. o.what ≡ what) }
+        ensures terminal { IfOk result (λ o. o.terminal ≡ power_up) }
+        ensures reported { IfOk result (λ o. o.reported ≡ 0) }
+    {
+        Ok(DueOutput {
+            what,
+            terminal: Terminal::new(alloc)?,
+            reported: 0,
+            room: REPORT_LIMIT * piece,
+        })
     }
-    out.clear();
-    push_due_at_end(terminal, what, reported, out);
-    if write_whole(writer, out) {
-        Ok(())
-    } else {
-        Err(Fault::Write)
+}
+
+impl Output for DueOutput {
+    ghost written = { λ o bytes. sent o.what (play o.terminal bytes).reports };
+
+    ghost ending = { λ o bytes. due_at_end o.what (play o.terminal bytes).state
+        (o.reported + length (play o.terminal bytes).reports) };
+
+    ghost there = { λ o bytes. is_there o.what (play o.terminal bytes).state };
+
+    ghost most = { λ o. 65536 };
+
+    ghost counted = { λ o. o.reported };
+
+    ghost reserve = { λ o. max o.room (room_for o.what + 10) };
+
+    fn capacity(&self) -> usize {
+        self.room.max(room_for(self.what) + REPORT_LIMIT)
+    }
+
+    fn feed(&mut self, chunk: &[u8], out: &mut Vec<u8>) -> usize {
+        let _ = self.terminal.width();
+        cuts();
+        soundness();
+        let count = chunk.len().min(out.capacity() / REPORT_LIMIT);
+        self.terminal.feed_reserved(&chunk[..count], out);
+        self.reported += out.len() as u64;
+        if !is_sent(self.what) {
+            out.clear();
+        }
+        count
+    }
+
+    fn is_there(&self) -> bool {
+        let _ = self.terminal.width();
+        cuts();
+        is_there(&self.terminal, self.what)
+    }
+
+    fn end(&self, out: &mut Vec<u8>) {
+        let _ = self.terminal.width();
+        cuts();
+        push_due_at_end(&self.terminal, self.what, self.reported, out);
+    }
+}
+
+/// Returns whether the reports go out.
+fn is_sent(what: What) -> bool
+    ensures { result ≡ is_sent what }
+{
+    match what {
+        What::Reports => true,
+        What::Text | What::Repaint | What::Status | What::Show | What::Picture => false,
     }
 }
 
 /// Returns whether what is asked for is there: a repaint between sequences only, everything else always.
 fn is_there(terminal: &Terminal, what: What) -> bool
-    ensures yes { IsTrue result → IsThere what terminal.now }
-    ensures no { result ≡ false → (what ≡ What.Repaint) × (terminal.now.held ≢ Nothing) }
+    ensures { result ≡ is_there what terminal.now }
 {
     match what {
         What::Repaint => terminal.is_between(),
@@ -210,7 +226,7 @@ fn room_for(what: What) -> usize
 /// status, or nothing.
 fn push_due_at_end(terminal: &Terminal, what: What, reported: u64, out: &mut Vec<u8>)
     requires room { vec_len out.old + room_for what ≤ vec_capacity out.old }
-    requires there { IsThere what terminal.now }
+    requires there { is_there what terminal.now ≡ true }
     ensures { out.new.items ≡ out.old.items ++ due_at_end what terminal.now reported }
 {
     match what {
@@ -220,68 +236,5 @@ fn push_due_at_end(terminal: &Terminal, what: What, reported: u64, out: &mut Vec
         What::Status => push_status(terminal, reported, out),
         What::Show => show_reserved(terminal, out),
         What::Picture => picture_reserved(terminal, out),
-    }
-}
-
-/// Plays the reader's bytes to their end. Returns how many report bytes they gave.
-fn play_input<S: Source, W: Write>(
-    reader: &mut S,
-    writer: &mut Watched<W>,
-    what: What,
-    limit: u64,
-    terminal: &mut Terminal,
-    buffer: &mut [u8],
-    out: &mut Vec<u8>,
-) -> Result<u64, Fault>
-    requires reader_works { S.failed reader.old ≡ false }
-    requires reader_goes_on { S.ended reader.old ≡ false }
-    requires writer_works { writer.old.failed ≡ false }
-    requires limit_in_range { limit ≤ 1099511627776 }
-    requires new { terminal.old ≡ power_up }
-    requires some_room { 1 ≤ length buffer.old }
-    requires room_for_reports { 10 * length buffer.old ≤ vec_capacity out.old }
-    ensures moves { Moves (S.remaining reader.old) (S.remaining reader.new) (W.contents writer.old.device)
-        (W.contents writer.new.device)
-        (λ b w. ReadTable result what terminal.new (length buffer.old) b w (record { reader_failed = S.failed reader.new; reader_ended = S.ended reader.new; writer_failed = writer.new.failed }) limit) }
-    ensures whole { S.ended reader.new ≡ true → IsAtEnd (S.remaining reader.new) }
-    ensures capacity { vec_capacity out.old ≤ vec_capacity out.new }
-{
-    cuts();
-    soundness();
-    let mut reported = 0u64;
-    let mut left = limit as usize;
-    while left > 0 {
-        let want = left.min(buffer.len());
-        let Ok(count) = reader.read_chunk(&mut buffer[..want]) else {
-            return Err(Fault::Read);
-        };
-        if count == 0 {
-            return Ok(reported);
-        }
-        out.clear();
-        terminal.feed_reserved(&buffer[..count], out);
-        reported += out.len() as u64;
-        if !send(writer, what, out) {
-            return Err(Fault::Write);
-        }
-        left -= count;
-    }
-    match reader.read_chunk(&mut buffer[..1]) {
-        Ok(0) => Ok(reported),
-        Ok(_) => Err(Fault::TooLong),
-        Err(_) => Err(Fault::Read),
-    }
-}
-
-/// Writes the reports of a chunk, if reports are asked for. Returns whether the writer took them.
-fn send<W: Write>(writer: &mut Watched<W>, what: What, reports: &[u8]) -> bool
-    requires { writer.old.failed ≡ false }
-    ensures gives { Gives (W.contents writer.old.device) (W.contents writer.new.device)
-        (WriteTable result writer.new.failed (sent what reports.now)) }
-    ensures ended { writer.new.ended ≡ writer.old.ended }
-{
-    match what {
-        What::Reports => write_whole(writer, reports),
-        What::Text | What::Repaint | What::Status | What::Show | What::Picture => true,
     }
 }

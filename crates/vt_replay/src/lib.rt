@@ -2,6 +2,7 @@
 //! line of the crate vt_cli.
 #![tactic(auto)]
 
+mod decoding;
 mod engine;
 mod fault;
 mod logging;
@@ -11,6 +12,8 @@ mod status;
 pub use engine::{replay, run, run_from};
 pub use fault::Fault;
 pub use logging::{write_log, write_log_from};
-pub use output::{Output, write_output, write_output_from};
-pub use vt_cli::{Format, Moment, Refused, Request, Settings, What, Word, request, settings};
+pub use output::{Output, front_for, write_output, write_output_from};
+pub use vt_cli::{
+    Encoding, Format, Moment, Refused, Request, Settings, What, Word, request, settings,
+};
 pub use vt_device::Watched;

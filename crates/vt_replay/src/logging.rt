@@ -6,12 +6,14 @@ ghost use Rattle.vt_term.specs.Play.{play};
 ghost use Rattle.vt_term.specs.Text.{text};
 ghost use Rattle.vt_log.specs.Log.{log};
 ghost use Rattle.vt_device.specs.Runs.{Moves};
-ghost use Rattle.vt_replay.specs.Log.{LogTable};
+ghost use Rattle.vt_replay.specs.Log.{LogTable, lines, screen};
+ghost use Rattle.vt_replay.specs.Output.{EncodedTable, always};
 
 use crate::fault::Fault;
-use crate::output::{Output, write_output_from};
+use crate::output::{Output, front_for, write_output_from};
 use std::alloc::{AllocError, Global};
 use std::io::{Read, Write};
+use vt_cli::Encoding;
 use vt_device::{Source, Watched};
 use vt_log::laws::cuts as log_cuts;
 use vt_log::{LINE_LIMIT, feed_log_reserved};
@@ -48,17 +50,19 @@ pub fn write_log<R: Read, W: Write>(
         (λ b w. LogTable result piece b w (record { reader_failed = reader.new.failed; reader_ended = reader.new.ended; writer_failed = writer.new.failed }) limit) }
     ensures whole { reader.new.ended ≡ true → IsAtEnd (R.remaining reader.new.device) }
 {
-    write_log_from(alloc, reader, writer, piece, limit)
+    write_log_from(alloc, reader, writer, Encoding::Dec, piece, limit)
 }
 
-/// Writes the log of a source's bytes, as `write_log` does of a reader's: memory never fails. The source hasn't failed or
-/// ended before.
+/// Writes the log of a source's bytes in an encoding, as `write_log` does of a reader's. The source hasn't failed or ended
+/// before. In UTF-8 the terminal's bytes are played, and what is pending at the end isn't. `piece` and `limit` count the
+/// host's bytes.
 ///
 /// `Err` is what `write_log` returns.
 pub fn write_log_from<S: Source, W: Write>(
     alloc: Global,
     reader: &mut S,
     writer: &mut Watched<W>,
+    encoding: Encoding,
     piece: usize,
     limit: u64,
 ) -> Result<(), Fault>
@@ -69,13 +73,13 @@ pub fn write_log_from<S: Source, W: Write>(
     requires limit_in_range { limit ≤ 1099511627776 }
     ensures answer { Moves (S.remaining reader.old) (S.remaining reader.new) (W.contents writer.old.device)
         (W.contents writer.new.device)
-        (λ b w. LogTable result piece b w (record { reader_failed = S.failed reader.new; reader_ended = S.ended reader.new; writer_failed = writer.new.failed }) limit) }
+        (λ b w. EncodedTable encoding lines screen always result piece b w (record { reader_failed = S.failed reader.new; reader_ended = S.ended reader.new; writer_failed = writer.new.failed }) limit) }
     ensures whole { S.ended reader.new ≡ true → IsAtEnd (S.remaining reader.new) }
 {
     log_cuts();
     soundness();
     let mut output = LogOutput::new(alloc, piece)?;
-    write_output_from(alloc, &mut output, reader, writer, piece, limit)
+    write_output_from(alloc, &mut output, encoding, reader, writer, piece, limit)
 }
 
 /// The lines that scroll off, and at the end the screen.
@@ -105,13 +109,17 @@ impl Output for LogOutput {
 
     ghost ending = { λ o bytes. text (play o.terminal bytes).state };
 
+    ghost there = { λ o bytes. true };
+
     ghost most = { λ o. vec_capacity o.reports / 10 };
 
     ghost counted = { λ o. 0 };
 
-    const CAPACITY: usize = LINES_LIMIT;
+    ghost reserve = { λ o. 25408 };
 
-    ghost CAPACITY = { 25408 };
+    fn capacity(&self) -> usize {
+        LINES_LIMIT
+    }
 
     fn feed(&mut self, chunk: &[u8], out: &mut Vec<u8>) -> usize {
         let _ = self.terminal.width();
@@ -119,7 +127,12 @@ impl Output for LogOutput {
         log_cuts();
         soundness();
         self.reports.clear();
-        feed_log_reserved(&mut self.terminal, chunk, &mut self.reports, out)
+        let count = front_for(chunk, &self.reports);
+        feed_log_reserved(&mut self.terminal, &chunk[..count], &mut self.reports, out)
+    }
+
+    fn is_there(&self) -> bool {
+        true
     }
 
     fn end(&self, out: &mut Vec<u8>) {

@@ -1,15 +1,18 @@
 //! An output: what is written of the host's bytes as they come, and at their end.
-ghost use Rattle.std.specs.Prelude.{◌≡◌, ◌+◌, ◌*◌, ◌^◌, ◌≤◌, ◌<◌, ◌++◌, [], true, false, length, take, vec_capacity, IfOk, List, ℕ};
+ghost use Rattle.std.specs.Prelude.{◌≡◌, ◌+◌, ◌*◌, ◌^◌, ◌≤◌, ◌<◌, ◌++◌, [], true, false, length, take, vec_capacity, IfOk, List, ℕ, Bool};
 ghost use Rattle.std.specs.Bool.{OnTrue};
 ghost use Rattle.std.specs.Io.KnownBytes.{IsAtEnd};
 ghost use Rattle.vt_device.specs.Runs.{Moves};
 ghost use Rattle.vt_device.specs.Writing.{Gives, WriteTable};
-ghost use Rattle.vt_replay.specs.Output.{IsAfter, OutputTable, ComingTable};
+ghost use Rattle.vt_replay.specs.Output.{IsAfter, OutputTable, EncodedTable, ComingTable};
 
+use crate::decoding::{Decoding, Plain, Utf8};
 use crate::fault::Fault;
 use std::alloc::{AllocError, Global};
 use std::io::{Read, Write};
+use vt_cli::Encoding;
 use vt_device::{Source, Watched, write_whole};
+use vt_term::REPORT_LIMIT;
 
 /// What is written of the host's bytes as they come, and at their end.
 pub trait Output: Drop {
@@ -19,50 +22,70 @@ pub trait Output: Drop {
     /// What is written at the end of bytes that come.
     ghost ending: { Self → List ℕ → List ℕ };
 
-    /// The most bytes of a chunk.
+    /// Whether what is written at the end of bytes that come is there.
+    ghost there: { Self → List ℕ → Bool };
+
+    /// The most bytes that it takes at once.
     ghost most: { Self → ℕ };
 
-    /// How many bytes were counted.
+    /// How many bytes and report bytes were counted.
     ghost counted: { Self → ℕ };
 
     /// The capacity of what is written at once.
-    const CAPACITY: usize;
+    ghost reserve: { Self → ℕ };
 
-    ghost CAPACITY: { ℕ };
+    /// Returns the capacity of what is written at once.
+    fn capacity(&self) -> usize
+        ensures { result ≡ reserve self.now };
 
     /// Takes the front of a chunk that isn't empty, and appends what is to be written of it. Returns how many bytes it
-    /// took. `out` is empty, and has `CAPACITY` bytes of capacity. It allocates nothing.
+    /// took. `out` is empty, and has the capacity of what is written at once. It allocates nothing.
     fn feed(&mut self, chunk: &[u8], out: &mut Vec<u8>) -> usize
         requires some { 1 ≤ length chunk.now }
-        requires short { length chunk.now ≤ most self.old }
-        requires counts { counted self.old + length chunk.now < 2 ^ 64 }
+        requires takes { 1 ≤ most self.old }
+        requires counts { counted self.old + 10 * length chunk.now < 2 ^ 64 }
         requires empty { out.old.items ≡ [] }
-        requires room { CAPACITY ≤ vec_capacity out.old }
+        requires room { reserve self.old ≤ vec_capacity out.old }
         ensures some { 1 ≤ result }
         ensures within { result ≤ length chunk.now }
         ensures written { out.new.items ≡ written self.old (take result chunk.now) }
-        ensures after { IsAfter (written self.old) (ending self.old) (take result chunk.now) (written self.new) (ending self.new) }
+        ensures after { IsAfter (written self.old) (ending self.old) (there self.old) (take result chunk.now)
+            (written self.new) (ending self.new) (there self.new) }
         ensures most { most self.old ≤ most self.new }
-        ensures counted { counted self.new ≤ counted self.old + result }
+        ensures counted { counted self.new ≤ counted self.old + 10 * result }
+        ensures reserve { reserve self.new ≡ reserve self.old }
         ensures capacity { vec_capacity out.old ≤ vec_capacity out.new };
 
-    /// Appends what is to be written at the end of the input. `out` is empty, and has `CAPACITY` bytes of capacity. It
-    /// allocates nothing.
+    /// Returns whether what is to be written at the end of the input is there.
+    fn is_there(&self) -> bool
+        ensures { result ≡ there self.now [] };
+
+    /// Appends what is to be written at the end of the input, which is there. `out` is empty, and has the capacity of what
+    /// is written at once. It allocates nothing.
     fn end(&self, out: &mut Vec<u8>)
+        requires there { there self.now [] ≡ true }
         requires empty { out.old.items ≡ [] }
-        requires room { CAPACITY ≤ vec_capacity out.old }
+        requires room { reserve self.now ≤ vec_capacity out.old }
         ensures { out.new.items ≡ ending self.now [] };
+}
+
+/// Returns how many bytes at the front of a chunk have so few reports that these have capacity.
+pub fn front_for(chunk: &[u8], reports: &Vec<u8>) -> usize
+    ensures within { result ≤ length chunk.now }
+    ensures room { 10 * result ≤ vec_capacity reports.now }
+    ensures some { 1 ≤ length chunk.now → 10 ≤ vec_capacity reports.now → 1 ≤ result }
+{
+    chunk.len().min(reports.capacity() / REPORT_LIMIT)
 }
 
 /// Gives the reader's bytes to an output, and writes what it makes of them. Neither device has failed before, and the
 /// reader hasn't ended.
 ///
 /// It reads and counts bytes as `run` does. It allocates all memory before the first read: its memory doesn't grow with
-/// the input. It writes what is written of a chunk before the next read. The output has capacity for chunks of `piece`
-/// bytes, and has counted none.
+/// the input. It writes what is written of a chunk before the next read. The output takes bytes, and has counted none.
 ///
 /// `Err` is `Memory` if allocation fails, `Read` or `Write` if that device failed, and `TooLong` if the input has more than
-/// `limit` bytes. It is never `Partial`.
+/// `limit` bytes. It is `Partial` if the output has nothing to write at the end of such an input.
 pub fn write_output<O: Output, R: Read, W: Write>(
     alloc: Global,
     output: &mut O,
@@ -71,7 +94,7 @@ pub fn write_output<O: Output, R: Read, W: Write>(
     piece: usize,
     limit: u64,
 ) -> Result<(), Fault>
-    requires short { piece ≤ O.most output.old }
+    requires takes { 1 ≤ O.most output.old }
     requires counts { O.counted output.old ≡ 0 }
     requires none { O.written output.old [] ≡ [] }
     requires reader_works { reader.old.failed ≡ false }
@@ -81,25 +104,27 @@ pub fn write_output<O: Output, R: Read, W: Write>(
     requires limit_in_range { limit ≤ 1099511627776 }
     ensures answer { Moves (R.remaining reader.old.device) (R.remaining reader.new.device) (W.contents writer.old.device)
         (W.contents writer.new.device)
-        (λ b w. OutputTable (O.written output.old) (O.ending output.old) result piece b w (record { reader_failed = reader.new.failed; reader_ended = reader.new.ended; writer_failed = writer.new.failed }) limit) }
+        (λ b w. OutputTable (O.written output.old) (O.ending output.old) (O.there output.old) result piece b w (record { reader_failed = reader.new.failed; reader_ended = reader.new.ended; writer_failed = writer.new.failed }) limit) }
     ensures whole { reader.new.ended ≡ true → IsAtEnd (R.remaining reader.new.device) }
 {
-    write_output_from(alloc, output, reader, writer, piece, limit)
+    write_by(alloc, output, &mut Plain, reader, writer, piece, limit)
 }
 
-/// Gives a source's bytes to an output, and writes what it makes of them, as `write_output` does of a reader's: memory
-/// never fails. The source hasn't failed or ended before.
+/// Gives a source's bytes in an encoding to an output, and writes what it makes of them, as `write_output` does of a
+/// reader's. The source hasn't failed or ended before. In UTF-8 the output is given the terminal's bytes, and what is
+/// pending at the end isn't given. `piece` and `limit` count the host's bytes.
 ///
 /// `Err` is what `write_output` returns.
 pub fn write_output_from<O: Output, S: Source, W: Write>(
     alloc: Global,
     output: &mut O,
+    encoding: Encoding,
     reader: &mut S,
     writer: &mut Watched<W>,
     piece: usize,
     limit: u64,
 ) -> Result<(), Fault>
-    requires short { piece ≤ O.most output.old }
+    requires takes { 1 ≤ O.most output.old }
     requires counts { O.counted output.old ≡ 0 }
     requires none { O.written output.old [] ≡ [] }
     requires reader_works { S.failed reader.old ≡ false }
@@ -109,12 +134,47 @@ pub fn write_output_from<O: Output, S: Source, W: Write>(
     requires limit_in_range { limit ≤ 1099511627776 }
     ensures answer { Moves (S.remaining reader.old) (S.remaining reader.new) (W.contents writer.old.device)
         (W.contents writer.new.device)
-        (λ b w. OutputTable (O.written output.old) (O.ending output.old) result piece b w (record { reader_failed = S.failed reader.new; reader_ended = S.ended reader.new; writer_failed = writer.new.failed }) limit) }
+        (λ b w. EncodedTable encoding (O.written output.old) (O.ending output.old) (O.there output.old) result piece b w (record { reader_failed = S.failed reader.new; reader_ended = S.ended reader.new; writer_failed = writer.new.failed }) limit) }
     ensures whole { S.ended reader.new ≡ true → IsAtEnd (S.remaining reader.new) }
 {
-    let mut room = Room::new(alloc, piece, O::CAPACITY)?;
+    match encoding {
+        Encoding::Dec => write_by(alloc, output, &mut Plain, reader, writer, piece, limit),
+        Encoding::Utf8 => {
+            let mut decoding = Utf8::new(alloc, piece)?;
+            write_by(alloc, output, &mut decoding, reader, writer, piece, limit)
+        }
+    }
+}
+
+/// Gives a source's bytes, decoded, to an output, and writes what it makes of them.
+fn write_by<O: Output, D: Decoding, S: Source, W: Write>(
+    alloc: Global,
+    output: &mut O,
+    decoding: &mut D,
+    reader: &mut S,
+    writer: &mut Watched<W>,
+    piece: usize,
+    limit: u64,
+) -> Result<(), Fault>
+    requires takes { 1 ≤ O.most output.old }
+    requires counts { O.counted output.old ≡ 0 }
+    requires none { O.written output.old [] ≡ [] }
+    requires decodes { piece ≤ D.most decoding.old }
+    requires none_decoded { D.decoded decoding.old [] ≡ [] }
+    requires reader_works { S.failed reader.old ≡ false }
+    requires reader_goes_on { S.ended reader.old ≡ false }
+    requires writer_works { writer.old.failed ≡ false }
+    requires piece_in_range { (1 ≤ piece) × (piece ≤ 65536) }
+    requires limit_in_range { limit ≤ 1099511627776 }
+    ensures answer { Moves (S.remaining reader.old) (S.remaining reader.new) (W.contents writer.old.device)
+        (W.contents writer.new.device)
+        (λ b w. OutputTable (λ bytes. O.written output.old (D.decoded decoding.old bytes)) (λ bytes. O.ending output.old (D.decoded decoding.old bytes)) (λ bytes. O.there output.old (D.decoded decoding.old bytes)) result piece b w (record { reader_failed = S.failed reader.new; reader_ended = S.ended reader.new; writer_failed = writer.new.failed }) limit) }
+    ensures whole { S.ended reader.new ≡ true → IsAtEnd (S.remaining reader.new) }
+{
+    let mut room = Room::new(alloc, piece, output.capacity())?;
     write_in_room(
         output,
+        decoding,
         reader,
         writer,
         limit,
@@ -145,30 +205,36 @@ impl Room {
     }
 }
 
-/// Gives the reader's bytes to the output, and writes what it makes of them. The buffers have the capacity for it.
-fn write_in_room<O: Output, S: Source, W: Write>(
+/// Gives the reader's bytes, decoded, to the output, and writes what it makes of them. The buffers have the capacity for it.
+fn write_in_room<O: Output, D: Decoding, S: Source, W: Write>(
     output: &mut O,
+    decoding: &mut D,
     reader: &mut S,
     writer: &mut Watched<W>,
     limit: u64,
     buffer: &mut [u8],
     out: &mut Vec<u8>,
 ) -> Result<(), Fault>
-    requires short { length buffer.old ≤ O.most output.old }
+    requires takes { 1 ≤ O.most output.old }
     requires counts { O.counted output.old ≡ 0 }
     requires none { O.written output.old [] ≡ [] }
+    requires decodes { length buffer.old ≤ D.most decoding.old }
+    requires none_decoded { D.decoded decoding.old [] ≡ [] }
     requires reader_works { S.failed reader.old ≡ false }
     requires reader_goes_on { S.ended reader.old ≡ false }
     requires writer_works { writer.old.failed ≡ false }
     requires limit_in_range { limit ≤ 1099511627776 }
     requires some_room { (1 ≤ length buffer.old) × (length buffer.old ≤ 65536) }
-    requires room { O.CAPACITY ≤ vec_capacity out.old }
+    requires room { O.reserve output.old ≤ vec_capacity out.old }
     ensures answer { Moves (S.remaining reader.old) (S.remaining reader.new) (W.contents writer.old.device)
         (W.contents writer.new.device)
-        (λ b w. OutputTable (O.written output.old) (O.ending output.old) result (length buffer.old) b w (record { reader_failed = S.failed reader.new; reader_ended = S.ended reader.new; writer_failed = writer.new.failed }) limit) }
+        (λ b w. OutputTable (λ bytes. O.written output.old (D.decoded decoding.old bytes)) (λ bytes. O.ending output.old (D.decoded decoding.old bytes)) (λ bytes. O.there output.old (D.decoded decoding.old bytes)) result (length buffer.old) b w (record { reader_failed = S.failed reader.new; reader_ended = S.ended reader.new; writer_failed = writer.new.failed }) limit) }
     ensures whole { S.ended reader.new ≡ true → IsAtEnd (S.remaining reader.new) }
 {
-    write_coming(output, reader, writer, limit, buffer, out)?;
+    write_coming(output, decoding, reader, writer, limit, buffer, out)?;
+    if !output.is_there() {
+        return Err(Fault::Partial);
+    }
     out.clear();
     output.end(out);
     if write_whole(writer, out) {
@@ -178,29 +244,35 @@ fn write_in_room<O: Output, S: Source, W: Write>(
     }
 }
 
-/// Gives the reader's bytes to the output to their end, and writes what is written of each chunk before it reads the next.
-fn write_coming<O: Output, S: Source, W: Write>(
+/// Gives the reader's bytes, decoded, to the output to their end, and writes what is written of each chunk before it reads
+/// the next.
+fn write_coming<O: Output, D: Decoding, S: Source, W: Write>(
     output: &mut O,
+    decoding: &mut D,
     reader: &mut S,
     writer: &mut Watched<W>,
     limit: u64,
     buffer: &mut [u8],
     out: &mut Vec<u8>,
 ) -> Result<(), Fault>
-    requires short { length buffer.old ≤ O.most output.old }
+    requires takes { 1 ≤ O.most output.old }
     requires counts { O.counted output.old ≡ 0 }
     requires none { O.written output.old [] ≡ [] }
+    requires decodes { length buffer.old ≤ D.most decoding.old }
+    requires none_decoded { D.decoded decoding.old [] ≡ [] }
     requires reader_works { S.failed reader.old ≡ false }
     requires reader_goes_on { S.ended reader.old ≡ false }
     requires writer_works { writer.old.failed ≡ false }
     requires limit_in_range { limit ≤ 1099511627776 }
     requires some_room { (1 ≤ length buffer.old) × (length buffer.old ≤ 65536) }
-    requires room { O.CAPACITY ≤ vec_capacity out.old }
+    requires room { O.reserve output.old ≤ vec_capacity out.old }
     ensures moves { Moves (S.remaining reader.old) (S.remaining reader.new) (W.contents writer.old.device)
         (W.contents writer.new.device)
-        (λ b w. ComingTable (O.written output.old) (O.ending output.old) result (O.written output.new) (O.ending output.new) (length buffer.old) b w (record { reader_failed = S.failed reader.new; reader_ended = S.ended reader.new; writer_failed = writer.new.failed }) limit) }
+        (λ b w. ComingTable (λ bytes. O.written output.old (D.decoded decoding.old bytes)) (λ bytes. O.ending output.old (D.decoded decoding.old bytes)) (λ bytes. O.there output.old (D.decoded decoding.old bytes)) result (λ bytes. O.written output.new (D.decoded decoding.new bytes)) (λ bytes. O.ending output.new (D.decoded decoding.new bytes)) (λ bytes. O.there output.new (D.decoded decoding.new bytes)) (length buffer.old) b w (record { reader_failed = S.failed reader.new; reader_ended = S.ended reader.new; writer_failed = writer.new.failed }) limit) }
+    ensures none_decoded { D.decoded decoding.new [] ≡ [] }
     ensures whole { S.ended reader.new ≡ true → IsAtEnd (S.remaining reader.new) }
     ensures capacity { vec_capacity out.old ≤ vec_capacity out.new }
+    ensures reserve { O.reserve output.new ≡ O.reserve output.old }
 {
     let mut left = limit as usize;
     while left > 0 {
@@ -211,7 +283,8 @@ fn write_coming<O: Output, S: Source, W: Write>(
         if count == 0 {
             return Ok(());
         }
-        if !write_chunk(output, writer, &buffer[..count], out) {
+        decoding.decode(&buffer[..count]);
+        if !write_chunk(output, writer, decoding.bytes(&buffer[..count]), out) {
             return Err(Fault::Write);
         }
         left -= count;
@@ -230,18 +303,20 @@ fn write_chunk<O: Output, W: Write>(
     chunk: &[u8],
     out: &mut Vec<u8>,
 ) -> bool
-    requires short { length chunk.now ≤ O.most output.old }
-    requires counts { O.counted output.old + length chunk.now < 2 ^ 64 }
+    requires takes { 1 ≤ O.most output.old }
+    requires counts { O.counted output.old + 10 * length chunk.now < 2 ^ 64 }
     requires writer_works { writer.old.failed ≡ false }
     requires none { O.written output.old [] ≡ [] }
-    requires room { O.CAPACITY ≤ vec_capacity out.old }
-    ensures after { OnTrue result (IsAfter (O.written output.old) (O.ending output.old) chunk.now (O.written output.new) (O.ending output.new)) }
+    requires room { O.reserve output.old ≤ vec_capacity out.old }
+    ensures after { OnTrue result (IsAfter (O.written output.old) (O.ending output.old) (O.there output.old) chunk.now
+        (O.written output.new) (O.ending output.new) (O.there output.new)) }
     ensures gives { Gives (W.contents writer.old.device) (W.contents writer.new.device)
         (WriteTable result writer.new.failed (O.written output.old chunk.now)) }
     ensures ended { writer.new.ended ≡ writer.old.ended }
     ensures most { O.most output.old ≤ O.most output.new }
-    ensures counted { O.counted output.new ≤ O.counted output.old + length chunk.now }
+    ensures counted { O.counted output.new ≤ O.counted output.old + 10 * length chunk.now }
     ensures capacity { vec_capacity out.old ≤ vec_capacity out.new }
+    ensures reserve { O.reserve output.new ≡ O.reserve output.old }
 {
     let mut at = 0;
     while at < chunk.len() {

@@ -93,6 +93,7 @@ fn replayed(
         limit: replay.bounds.limit,
         file: None,
         format: Some(Format::Raw),
+        encoding: None,
         timing: None,
         until: None,
         quiet: false,

@@ -4,7 +4,7 @@ ghost use Rattle.std.specs.Prelude.{◌≤◌};
 use std::alloc::Global;
 use std::test::Fail;
 use vt_commands::{Break, Fault, Outcome, Part, carry_out};
-use vt_replay::{Format, Moment, Request, Watched, Word};
+use vt_replay::{Encoding, Format, Moment, Request, Watched, What, Word};
 
 /// What a request asks for, besides its piece.
 #[derive(Clone, Copy)]
@@ -13,6 +13,7 @@ struct Asked {
     format: Format,
     timing: Option<&'static [u8]>,
     until: Option<Moment>,
+    encoding: Option<Encoding>,
 }
 
 /// The outcome of a request that reads so many bytes at a time, and what was written.
@@ -32,6 +33,7 @@ fn carried_out(
         limit: 268435456,
         file: None,
         format: Some(asked.format),
+        encoding: asked.encoding,
         timing: None,
         until: asked.until,
         quiet: false,
@@ -58,6 +60,18 @@ const fn of_raw(word: Word) -> Asked {
         format: Format::Raw,
         timing: None,
         until: None,
+        encoding: None,
+    }
+}
+
+/// A word on the host's UTF-8.
+const fn of_utf8(word: Word) -> Asked {
+    Asked {
+        word,
+        format: Format::Raw,
+        timing: None,
+        until: None,
+        encoding: Some(Encoding::Utf8),
     }
 }
 
@@ -85,6 +99,7 @@ const fn content_of(format: Format, until: Option<Moment>) -> Asked {
         format,
         timing: None,
         until,
+        encoding: None,
     }
 }
 
@@ -157,6 +172,75 @@ fn rows() -> [Row; 9] {
     ]
 }
 
+/// Rows by hand in UTF-8, from Unicode and docs/SPECIFICATION.md.
+fn utf8_rows() -> [Row; 9] {
+    [
+        (
+            "a letter of the supplemental set, in G2 at power-up",
+            b"\xc3\xa9",
+            of_utf8(Word::Content),
+            DONE,
+            b"\x1bNi",
+        ),
+        (
+            "a letter as a character of the screen",
+            b"A\xc3\xa9",
+            of_utf8(Word::Replay(What::Text)),
+            DONE,
+            b"A\xc3\xa9\n\n\n\n\n\n\n\n\n\n\n\n\n\n\n\n\n\n\n\n\n\n\n\n",
+        ),
+        (
+            "quotes are shown by a similar glyph",
+            b"\xe2\x80\x9cA\xe2\x80\x9d",
+            of_utf8(Word::Replay(What::Text)),
+            DONE,
+            b"\"A\"\n\n\n\n\n\n\n\n\n\n\n\n\n\n\n\n\n\n\n\n\n\n\n\n",
+        ),
+        (
+            "what is pending at the end is left out",
+            b"A\xe2\x80",
+            of_utf8(Word::Content),
+            DONE,
+            b"A",
+        ),
+        (
+            "an ill-formed byte is shown as U+2426, and the byte after it is read",
+            b"\xc3A",
+            of_utf8(Word::Replay(What::Text)),
+            DONE,
+            b"\xe2\x90\xa6A\n\n\n\n\n\n\n\n\n\n\n\n\n\n\n\n\n\n\n\n\n\n\n\n",
+        ),
+        (
+            "a character in a title ends nothing, and has no byte",
+            b"\x1b]0;\xc2\x9c\x1b\\A",
+            of_utf8(Word::Content),
+            DONE,
+            b"\x1b]0;\x1b\\A",
+        ),
+        (
+            "a report after a letter of one cell",
+            b"\xc3\xa9\x1b[6n",
+            of_utf8(Word::Replay(What::Reports)),
+            DONE,
+            b"\x1b[1;2R",
+        ),
+        (
+            "a report after a character of two cells",
+            b"\xe4\xb8\x96\x1b[6n",
+            of_utf8(Word::Replay(What::Reports)),
+            DONE,
+            b"\x1b[1;3R",
+        ),
+        (
+            "a page with a letter, and the screen",
+            b"\xc3\xa9\x1b[H\x1b[2JB",
+            of_utf8(Word::Pages),
+            DONE,
+            b"\xc3\xa9\n\n\n\n\n\n\n\n\n\n\n\n\n\n\n\n\n\n\n\n\n\n\n\nB\n\n\n\n\n\n\n\n\n\n\n\n\n\n\n\n\n\n\n\n\n\n\n\n",
+        ),
+    ]
+}
+
 /// Returns whether a request is carried out as its row says, in chunks of so many bytes.
 fn is_due(alloc: Global, row: &Row, piece: usize) -> Result<bool, Fail>
     requires { (1 ≤ piece) × (piece ≤ 65536) }
@@ -167,7 +251,17 @@ fn is_due(alloc: Global, row: &Row, piece: usize) -> Result<bool, Fail>
 
 #[test]
 fn words_are_carried_out(rt: HostRuntime) -> Result<(), Fail> {
-    for row in &rows() {
+    are_due(&rt, &rows())
+}
+
+#[test]
+fn words_are_carried_out_in_utf8(rt: HostRuntime) -> Result<(), Fail> {
+    are_due(&rt, &utf8_rows())
+}
+
+/// Checks that each request is carried out as its row says, in chunks of three sizes.
+fn are_due(rt: &HostRuntime, rows: &[Row]) -> Result<(), Fail> {
+    for row in rows {
         let name = row.0;
         assert!(rt; is_due(rt.alloc(), row, 1)?, "{name}");
         assert!(rt; is_due(rt.alloc(), row, 7)?, "{name}");

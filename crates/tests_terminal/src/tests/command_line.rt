@@ -2,7 +2,7 @@
 use super::common::holds;
 use std::alloc::{AllocError, Global};
 use std::test::Fail;
-use vt_replay::{Format, Moment, Request, Settings, What, Word, request, settings};
+use vt_replay::{Encoding, Format, Moment, Request, Settings, What, Word, request, settings};
 
 /// The words of a line, cut at each space.
 pub(super) fn words_of(alloc: Global, line: &str) -> Result<Vec<String>, AllocError> {
@@ -297,8 +297,39 @@ fn words_leave_out_the_notes(rt: HostRuntime) -> Result<(), Fail> {
     Ok(())
 }
 
+/// Lines, and the encoding that each asks for.
+const ENCODED: [(&str, Option<Encoding>); 5] = [
+    ("vt220 text a", None),
+    ("vt220 text --encoding utf-8 a", Some(Encoding::Utf8)),
+    ("vt220 content --encoding=dec", Some(Encoding::Dec)),
+    (
+        "vt220 log --format script --encoding utf-8",
+        Some(Encoding::Utf8),
+    ),
+    ("vt220 trace --encoding dec a", Some(Encoding::Dec)),
+];
+
+/// Returns whether the line of a row asks for its encoding.
+fn is_encoded(alloc: Global, (line, encoding): &(&str, Option<Encoding>)) -> Result<bool, Fail> {
+    let asked = request(alloc, words_of(alloc, line)?);
+    Ok(match &asked {
+        Ok(found) => found.encoding == *encoding,
+        Err(_) => false,
+    })
+}
+
+#[test]
+fn words_ask_for_an_encoding(rt: HostRuntime) -> Result<(), Fail> {
+    for row in &ENCODED {
+        holds(&rt, row.0, is_encoded(rt.alloc(), row)?);
+    }
+    let line = "vt220 text --encoding dec";
+    holds(&rt, line, is_refused(rt.alloc(), line, 2, NO_SETTINGS)?);
+    Ok(())
+}
+
 /// A line that is refused, and the sentences that say why.
-const MISFITS: [(&str, &str); 15] = [
+const MISFITS: [(&str, &str); 19] = [
     (
         "vt220 text --format cast",
         "vt220: --format is raw, script, ttyrec or asciicast\n\
@@ -327,7 +358,16 @@ const MISFITS: [(&str, &str); 15] = [
     ("vt220 text --format ttyrec --until 1:2:3:4", NO_MOMENT),
     ("vt220 text --format ttyrec --until :5", NO_MOMENT),
     ("vt220 text --format ttyrec --until 1000000000", NO_MOMENT),
+    ("vt220 text --encoding latin-1", NO_ENCODING),
+    ("vt220 trace --encoding UTF-8", NO_ENCODING),
+    ("vt220 trace --encoding utf-8", NO_UTF8),
+    ("vt220 summary --encoding=utf-8 a", NO_UTF8),
 ];
+
+const NO_ENCODING: &str = "vt220: --encoding is dec or utf-8\n";
+
+const NO_UTF8: &str = "vt220: trace and summary read no UTF-8\n\
+     vt220: they read what vt220 content --encoding utf-8 writes\n";
 
 const NO_MOMENT: &str = "vt220: --until is seconds, as 12.5 or 12:31, or bytes, as 4096b\n";
 

@@ -313,6 +313,7 @@ fn request_is_refused(alloc: Global, input: &[u8], word: Word, what: What) -> Re
             limit: LIMIT,
             file: None,
             format: Some(Format::Raw),
+            encoding: None,
             timing: None,
             until: None,
             quiet: false,

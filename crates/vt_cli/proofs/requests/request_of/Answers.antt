@@ -9,7 +9,7 @@ returns-clause-some c = record {
   matches = rows_of (found_of c.args.matches.now);
   word = search rules;
   options = search rules;
-  source = c.requires;
+  source = rw (← c.in-Some.ensures.some) c.requires;
   timing = c.in_ok-timing.ensures ∙ first_value-rows (found_of c.args.matches.now) (codes "timing");
   quiet = search rules;
 }

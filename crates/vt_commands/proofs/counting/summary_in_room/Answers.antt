@@ -14,6 +14,7 @@ returns-then-write_whole-clause-answer g c =
       holds = (
         record { reader_failed = takes.holds.0; reader_ended = takes.holds.1; writer_failed = gives.holds.0 },
         takes.holds.2,
+        refl,
         gives.holds.1 ∙ c.deref.ensures.value ∙ items,
       );
     }
@@ -31,6 +32,7 @@ returns-else-write_whole-clause-answer g c =
       holds = (
         inr (
           record { reader_failed = takes.holds.0; reader_ended = takes.holds.1; writer_failed = gives.holds.0 },
+          refl,
           record { more = gives.w; begins = refl; part = rw (c.deref.ensures.value ∙ items) at gives.holds.1 },
         ),
         takes.holds.2,

@@ -12,13 +12,14 @@ loop-at-preserved g c =
     let before = c.loop-at.invariant in
     record {
       within = omega (arith, inside);
-      after = next_turn _ _ _ _ _ _ _ _ _ before.after feed.after;
-      given = rw (← turn_written _ _ _ _ c.feed-at.result _ _ before.after)
+      after = next_turn _ _ _ _ _ _ _ _ _ _ _ _ before.after feed.after;
+      given = rw (← turn_written _ _ _ _ _ c.feed-at.result _ _ _ before.after)
           (rw writes at (Appends-trans _ _ _ _ _ before.given gives.given));
       works = gives.holds.0;
       ended = c.if-not-write_whole.ensures.ended ∙ before.ended;
       most = omega (arith, feed.most, before.most);
       counted = omega (arith, feed.counted, before.counted);
+      reserve = feed.reserve ∙ before.reserve;
       capacity = omega (arith, c.clear.ensures.capacity, feed.capacity, before.capacity);
     }
 
@@ -31,5 +32,5 @@ returns-then-not-write_whole-clause-gives g c =
     record {
       w = _;
       given = Appends-trans _ _ _ _ _ before.given gives.given;
-      holds = (gives.holds.0, turn_cut _ _ _ gives.w _ _ _ _ _ _ before.after feed.after part);
+      holds = (gives.holds.0, turn_cut _ _ _ _ gives.w _ _ _ _ _ _ _ _ before.after feed.after part);
     }

@@ -1,11 +1,11 @@
-use Rattle.std.proofs.Common.{◌≡◌, ℕ, ◌≤◌, ◌<◌, List, length, take, nat_lt, true, false, ap, refl, ◌∙◌}
+use Rattle.std.proofs.Common.{◌≡◌, ℕ, ◌*◌, ◌≤◌, ◌<◌, List, length, take, nat_lt, true, false, ap, refl, ◌∙◌}
 use Rattle.std.proofs.Common.{arith, length-append, length-drop}
 use Rattle.std.proofs.lemmas.List.{length-take, take-append-le}
 use Rattle.std.proofs.lemmas.Grind.{common_steps}
 use Rattle.std.proofs.KnownBytes.{Consumes-trans}
 use Rattle.std.proofs.lemmas.Bool.Decides.{nat_tests}
 use Rattle.vt_replay.proofs.Steps.{Moves-step, Moves-end, counted, passed, within-limit}
-use Rattle.vt_replay.proofs.OutputSteps.{then_more, chunk_written, chunk_cut}
+use Rattle.vt_replay.proofs.OutputSteps.{then_more, chunk_written, chunk_cut, through}
 use Rattle.vt_replay.proofs.output.write_coming.Goals as goal
 
 pub loop-left-preserved : goal.loop-left-preserved
@@ -14,29 +14,40 @@ loop-left-preserved g c =
     let long = simp length-take at c.read_chunk.auto.buf in
     let bound : c.in-Ok.count ≤ length c.read_chunk.new.buf = c.in-Ok.ensures.bound.0 in
     let within : c.in-Ok.count ≤ c.loop-left.left = omega (arith, long, bound, c.min-want.ensures) in
-    let after = rw take-append-le at c.if-not-write_chunk.ensures.after in
-    let writes = rw take-append-le at gives.holds.1 in
-    let counts = simp length-take at c.if-not-write_chunk.ensures.counted in
+    let decodes = rw take-append-le at c.decode.ensures in
+    let given = c.bytes.ensures in
+    let all = rw take-append-le at given ∙ decodes.held in
+    let after = rw all at c.if-not-write_chunk.ensures.after in
+    let writes = rw all at gives.holds.1 in
+    let few = simp length-take at decodes.few in
+    let size : length c.bytes.result.now ≤ 44 * c.in-Ok.count =
+    rw (rw take-append-le at given) (omega (arith, few)) in
     record {
       moved = Moves-step _ _ _ _ _ _ _ _ _ gives.w c.loop-left.invariant.moved c.in-Ok.ensures.bytes.0 gives.given
           (λ b w h. (
             counted b _ _ _ _ h.0 bound within,
-            chunk_written _ _ b _ w _ _ _ h.2 h.1 writes,
-            then_more _ _ b _ _ _ _ _ h.2 after,
+            chunk_written _ _ _ b _ w _ _ _ _ h.2 h.1 writes,
+            then_more _ _ _ b _ _ _ _ _ _ _ h.2
+                (through _ _ _ _ _ _ _ _ _ decodes.on decodes.none after),
           ));
       within = omega (arith, c.loop-left.invariant.within);
       reader_works = grind (arith, common_steps, c.in-Ok.ensures);
       reader_goes_on = grind (arith, common_steps, c.in-Ok.ensures);
       writer_works = gives.holds.0;
-      most = simp (length-append, length-drop)
-          (omega (
-            arith,
-            long,
-            c.min-want.ensures,
-            c.if-not-write_chunk.ensures.most,
-            c.loop-left.invariant.most,
-          ));
-      counted = omega (arith, counts, within, c.loop-left.invariant.counted, c.loop-left.invariant.within);
+      takes = omega (arith, c.if-not-write_chunk.ensures.most, c.loop-left.invariant.takes);
+      decodes = simp (length-append, length-drop)
+          (omega (arith, long, c.min-want.ensures, decodes.most, c.loop-left.invariant.decodes));
+      nothing = after.none;
+      none_decoded = decodes.none;
+      reserve = c.if-not-write_chunk.ensures.reserve ∙ c.loop-left.invariant.reserve;
+      counted = omega (
+        arith,
+        size,
+        within,
+        c.if-not-write_chunk.ensures.counted,
+        c.loop-left.invariant.counted,
+        c.loop-left.invariant.within,
+      );
       capacity = omega (arith, c.if-not-write_chunk.ensures.capacity, c.loop-left.invariant.capacity);
     }
 
@@ -46,7 +57,9 @@ returns-then-not-write_chunk-clause-moves g c =
     let long = simp length-take at c.read_chunk.auto.buf in
     let bound : c.in-Ok.count ≤ length c.read_chunk.new.buf = c.in-Ok.ensures.bound.0 in
     let within : c.in-Ok.count ≤ c.loop-left.left = omega (arith, long, bound, c.min-want.ensures) in
-    let part = rw take-append-le at gives.holds.1 in
+    let decodes = rw take-append-le at c.decode.ensures in
+    let all = rw take-append-le at c.bytes.ensures ∙ decodes.held in
+    let part = rw all at gives.holds.1 in
     let works : g.S.Source.failed c.read_chunk.new.self ≡ false = grind (arith, common_steps, c.in-Ok.ensures) in
     let goes_on : g.S.Source.ended c.read_chunk.new.self ≡ false = grind (arith, common_steps, c.in-Ok.ensures) in
     let short : length (take c.in-Ok.count c.read_chunk.new.buf) ≤ length c.args.buffer.now =
@@ -56,7 +69,7 @@ returns-then-not-write_chunk-clause-moves g c =
     let size = counted b _ _ _ _ h.0 bound within in (
       record { reader_failed = works; reader_ended = goes_on; writer_failed = gives.holds.0 },
       omega (arith, size),
-      chunk_cut _ _ _ b _ w _ _ _ h.2 h.1 short part,
+      chunk_cut _ _ _ _ b _ w _ _ _ _ h.2 h.1 short part,
     ))
 
 pub returns-in-Ok-eq0-clause-moves : goal.returns-in-Ok-eq0-clause-moves
@@ -92,6 +105,6 @@ returns-in-Ok-read_chunk-clause-moves g c =
         record { reader_failed = works; reader_ended = goes_on; writer_failed = c.loop-left.invariant.writer_works },
         passed moved.b _ _ _ total c.in-Ok-read_chunk.ensures.bound.0 (omega (arith, long)) c.in-Ok-read_chunk.field-0-test.1,
         moved.holds.1
-            ∙ ap (λ (x : List ℕ). g.O.Output.written c.args.output.now x) (within-limit moved.b _ c.args.limit total),
+            ∙ ap (λ (x : List ℕ). g.O.Output.written c.args.output.now (g.D.Decoding.decoded c.args.decoding.now x)) (within-limit moved.b _ c.args.limit total),
       );
     }

@@ -1,29 +1,54 @@
-use Rattle.std.proofs.Common.{◌∙◌, inr, refl}
-use Rattle.vt_replay.proofs.OutputSteps.{ends_so}
+use Rattle.std.proofs.Common.{◌∙◌, ap, sym, inr, refl}
+use Rattle.vt_replay.proofs.OutputSteps.{ends_so, there_so}
 use Rattle.vt_replay.proofs.Steps.{Moves-write}
 use Rattle.vt_replay.proofs.output.write_in_room.Goals as goal
+
+pub returns-then-not-is_there-clause-answer : goal.returns-then-not-is_there-clause-answer
+returns-then-not-is_there-clause-answer g c =
+    let none = c.in_ok-write_coming.ensures.none_decoded in
+    let moved = c.in_ok-write_coming.ensures.moves in
+    let h = moved.holds in
+    record {
+      b = moved.b;
+      w = moved.w;
+      taken = moved.taken;
+      given = moved.given;
+      holds = (
+        h.0,
+        h.1,
+        there_so _ _ _ _ _ _ _ h.3 ∙ ap (g.O.Output.there c.write_coming.new.output) none
+            ∙ sym c.if-not-is_there.ensures,
+        h.2,
+      );
+    }
 
 pub returns-then-write_whole-clause-answer : goal.returns-then-write_whole-clause-answer
 returns-then-write_whole-clause-answer g c =
     let gives = c.if-write_whole.ensures.gives in
+    let none = c.in_ok-write_coming.ensures.none_decoded in
     let last = gives.holds.1 ∙ c.deref.ensures.value ∙ c.end.ensures in
     Moves-write _ _ _ _ _ _ _ _ c.in_ok-write_coming.ensures.moves gives.given (λ b w h. (
       record { reader_failed = h.0.reader_failed; reader_ended = h.0.reader_ended; writer_failed = gives.holds.0 },
       h.1,
-      rw (h.2, last, ends_so _ _ _ _ _ h.3) refl,
+      there_so _ _ _ _ _ _ _ h.3 ∙ ap (g.O.Output.there c.write_coming.new.output) none
+          ∙ sym c.if-not-is_there.ensures,
+      rw (h.2, last, ← none, ends_so _ _ _ _ _ _ _ h.3) refl,
     ))
 
 pub returns-else-write_whole-clause-answer : goal.returns-else-write_whole-clause-answer
 returns-else-write_whole-clause-answer g c =
     let gives = c.if-write_whole.ensures.gives in
-    let last = c.deref.ensures.value ∙ c.end.ensures in
+    let none = c.in_ok-write_coming.ensures.none_decoded in
+    let last = c.deref.ensures.value ∙ c.end.ensures ∙ sym (ap (g.O.Output.ending c.write_coming.new.output) none) in
     Moves-write _ _ _ _ _ _ _ _ c.in_ok-write_coming.ensures.moves gives.given (λ b w h. (
       inr (
         record { reader_failed = h.0.reader_failed; reader_ended = h.0.reader_ended; writer_failed = gives.holds.0 },
+        there_so _ _ _ _ _ _ _ h.3 ∙ ap (g.O.Output.there c.write_coming.new.output) none
+            ∙ sym c.if-not-is_there.ensures,
         record {
           more = gives.w;
           begins = rw h.2 refl;
-          part = rw (last ∙ ends_so _ _ _ _ _ h.3) at gives.holds.1;
+          part = rw (last ∙ ends_so _ _ _ _ _ _ _ h.3) at gives.holds.1;
         },
       ),
       h.1,

@@ -1,0 +1,19 @@
+-- The terminal's bytes for the host's. (this profile)
+use Rattle.std.specs.Prelude.{◌≡◌, ℕ, List, [], ◌++◌}
+use Rattle.vt_term.specs.State.{State, power_up}
+use Rattle.vt_term.specs.Play.{play}
+use Rattle.vt_utf8.specs.Decoding.{pending_after}
+use Rattle.vt_utf8.specs.Play.{translated}
+use Rattle.vt_recording.specs.declared.format.Encoding.{Encoding}
+use Rattle.vt_recording.specs.declared.format.Encoding.TheVariants.{Dec, Utf8}
+
+-- a host's bytes, of which none were read before, as the terminal's. What is pending at their end is left out
+abbrev pub decoded : Encoding → List ℕ → List ℕ
+decoded Dec bytes = bytes
+decoded Utf8 bytes = translated power_up [] bytes
+
+-- bytes of UTF-8 were decoded; private contracts alone speak of this
+pub record Decodes (s : State) (pending bytes : List ℕ) (t : State) (after before out : List ℕ) : Type 0 where
+  pub state : t ≡ (play s (translated s pending bytes)).state
+  pub left : after ≡ pending_after pending bytes
+  pub bytes_are : out ≡ before ++ translated s pending bytes

@@ -103,12 +103,12 @@ static bool same_pending(const vt220_utf8 *u, const vt220_utf8 *v) { return u->l
  * in the struct before. `b` and `c` are left in any state. */
 static void look_at_utf8(const uint8_t *bytes, size_t len, unsigned cut) {
     static uint8_t lines_b[2 * VT220_ROW_TEXT_LIMIT * LONGEST], lines_c[2 * VT220_ROW_TEXT_LIMIT * LONGEST];
-    vt220_utf8 u = {{0}, 0}, v = {{0}, 0};
+    vt220_utf8 before = {{0}, 0}, u, v;
     size_t logged_b, logged_c, all;
     bool is_ascii = true;
     for (size_t i = 0; i < len; i++) is_ascii = is_ascii && bytes[i] < 0x80;
-    memcpy(&u, bytes, len < 4 ? len : 4);
-    v = u;
+    memcpy(&before, bytes, len < sizeof before ? len : sizeof before);
+    u = before, v = before;
     MUST(vt220_reset(&b) == VT220_OK && vt220_reset(&c) == VT220_OK);
     uint64_t bells_b = vt220_bells(&b), bells_c = vt220_bells(&c);
     all = feed_utf8(&b, &u, bytes, len, 0, reports_a, lines_b, &logged_b);
@@ -116,7 +116,7 @@ static void look_at_utf8(const uint8_t *bytes, size_t len, unsigned cut) {
     MUST(logged_b == logged_c && memcmp(lines_b, lines_c, logged_b) == 0 && vt220_same_state(&b, &c) && same_pending(&u, &v));
     MUST(vt220_bells(&b) - bells_b == vt220_bells(&c) - bells_c);
     bells_b = vt220_bells(&b) - bells_b, bells_c = vt220_bells(&c);
-    memcpy(&v, bytes, len < 4 ? len : 4);
+    v = before;
     MUST(vt220_reset(&c) == VT220_OK);
     MUST(feed_utf8(&c, &v, bytes, len, cut, reports_b, NULL, &logged_c) == all && memcmp(reports_a, reports_b, all) == 0);
     MUST(vt220_same_state(&b, &c) && same_pending(&u, &v) && vt220_bells(&c) - bells_c == bells_b);

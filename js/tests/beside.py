@@ -39,14 +39,25 @@ def charts():
     return [b"".join(b"\x1b" + set_ + bytes([name]) + shift + shown + b"\r\n" for set_, shift, shown in shifts) for name in range(0x30, 0x7F)]
 
 
+def functions():
+    """Returns an input for each final byte of a control sequence and each intermediate of an escape sequence; one of controls, and two of modes."""
+    text, end = b"one two\r\n\tthree\x1b[7mfour\x1b[m\x1b[4;9H", b"\x1b\\"
+    control = [(marker, numbers, between) for marker in (b"", b"?", b">") for numbers in (b"", b"2", b"3;7", b"0;1;4;5") for between in (b"", b" ", b"!", b'"', b"$")]
+    made = [b"".join(text + b"\x1b[" + marker + numbers + between + bytes([final]) for marker, numbers, between in control) for final in range(0x40, 0x7F)]
+    made += [b"".join(text + b"\x1b" + between + bytes([final]) + end for final in range(0x30, 0x7F)) for between in (b"", b" ", b"#", b"%", b"(")]
+    made += [b"".join(text + bytes([byte]) + end for byte in (*range(0x20), *range(0x7F, 0xA0)))]
+    modes = [marker + b"%d" % number for marker in (b"", b"?") for number in (*range(45), 66, 67, 80)]
+    return made + [b"".join(text + b"\x1b[" + mode + final + b"x" * 90 for mode in modes) for final in (b"h", b"l")]
+
+
 def inputs(count, seed=1):
-    """Returns inputs: the recordings of bench, its workloads, all characters of all sets, and random ones."""
+    """Returns inputs: the recordings of bench, its workloads, all characters of all sets, all functions, and random ones."""
     import workloads
 
     source = random.Random(seed)
     large = [open(path, "rb").read() for path in sorted(glob.glob(os.path.join(TOP, "bench/recordings/*.raw")))]
     large += [prefix + workloads.make(name, 30000) for prefix in (b"", b"\x1b[?3h") for name in workloads.WORKLOADS]
-    large += charts()
+    large += charts() + functions()
     return large + [b"".join(part(source) for _ in range(source.randrange(1, 90))) for _ in range(count - len(large))]
 
 

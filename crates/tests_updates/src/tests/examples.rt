@@ -12,7 +12,7 @@ const LINE: &[u8] =
 /// A name, what the client shows, what is asked for, and what is sent.
 type Example = (&'static str, &'static [u8], &'static [u8], &'static [u8]);
 
-const EXAMPLES: [Example; 25] = [
+const EXAMPLES: [Example; 26] = [
     ("nothing at power-up", b"", b"", b""),
     ("nothing", b"\x1b[1mA\x1b7", b"\x1b[1mA\x1b7", b""),
     ("one letter", b"", b"A", b"A"),
@@ -66,6 +66,12 @@ const EXAMPLES: [Example; 25] = [
         b"\x1b[4hA",
         b"\x1b[4lA\x1b[4h",
     ),
+    (
+        "a move over four cells under insert mode",
+        b"abcdef\x1b[4h\x1b[H",
+        b"abcdef\x1b[4h\x1b[1;5H",
+        b"\x1b[4C",
+    ),
     ("a single shift to come", b"", b"\x1bN", b"\x1bN"),
     ("modes", b"", b"\x1b[?25l\x1b=", b"\x1b[?25l\x1b="),
     ("a saved place", b"", b"\x1b[3;4H\x1b7", b"\x1b[3;4H\x1b7"),
@@ -106,6 +112,10 @@ fn a_line_is_scrolled_in(rt: HostRuntime) -> Result<(), Fail> {
         b"\x1b[H\x1b[Lline number 10\x1b[24;15H",
     )?;
     holds(&rt, "scrolled down", down);
+    let mut below = lines(rt.alloc(), 10)?;
+    below.extend_from_slice(b"\x1b[5;1H\x1b[Lnew")?;
+    let part = sends(rt.alloc(), &from, &below, b"\x1b[5H\x1b[Lnew")?;
+    holds(&rt, "scrolled down from line 5", part);
     Ok(())
 }
 

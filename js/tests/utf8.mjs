@@ -91,7 +91,7 @@ function timelines({ Terminal, Timeline }, core, check) {
       check(`a seek to byte ${to} of UTF-8`, line.seek(to).sameState(plain) && equal(line.terminal.pending, plain.pending));
       plain.close();
     }
-    check("a search in UTF-8", line.search("\u201cW\u201d")[0]?.time === 2 && line.search("\u4e16")[0]?.row === 2 && line.search("\u4e16\u{1f600}\u00e9")[0]?.column === 1);
+    check("a search in UTF-8", line.search("\u201cW\u201d")[0]?.time === 2 && line.search("\u4e16\u{1f600}")[0]?.row === 2 && line.search("\u{1f600}\u00e9")[0]?.column === 3);
     line.close();
   }
 }

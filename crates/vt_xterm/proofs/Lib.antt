@@ -1,0 +1,4 @@
+mod Colours
+mod Cuts
+mod Terminals
+mod Fed

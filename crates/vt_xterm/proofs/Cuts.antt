@@ -9,7 +9,7 @@ use Rattle.vt_syntax.specs.Laws.{SplitLaw}
 use Rattle.vt_term.specs.Reports.{report}
 use Rattle.vt_term.specs.Play.{joined}
 use Rattle.vt_utf8.specs.Decoding.{read, characters, pending_after}
-use Rattle.vt_utf8.proofs.Cuts.{characters-append}
+use Rattle.vt_utf8.proofs.Cuts.{characters-append, ascii-characters}
 use Rattle.vt_xterm.specs.Pages.{Screens}
 use Rattle.vt_xterm.specs.Front.{xterm_effect}
 use Rattle.vt_xterm.specs.Play.{Whole, WholePlayed, screens_of, after_events, reports_of, play_bytes, play_character, both}
@@ -100,3 +100,9 @@ characters-ascii split w (b ∷ bytes) held all =
     ∙ ap (λ (p : WholePlayed). both first p)
     (characters-ascii split first.whole bytes (bytes-held split w (b ∷ [])) rest)
     ∙ sym (bytes-two split w (b ∷ []) bytes)
+
+pub xterm-ascii : SplitLaw → (w : Whole) (bytes : List ℕ) → IsHeldPart w.state.held → All (λ b. b < 0x80) bytes
+    → play_xterm w [] bytes ≡ play_bytes w bytes
+unfolding play_xterm
+xterm-ascii split w bytes held all =
+    ap (λ (cs : List ℕ). play_characters w cs) (ascii-characters bytes all) ∙ characters-ascii split w bytes held all

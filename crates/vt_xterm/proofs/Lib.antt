@@ -2,3 +2,5 @@ mod Colours
 mod Cuts
 mod Terminals
 mod Fed
+mod Times
+mod Screens

@@ -1,4 +1,6 @@
 pub mod Columns
+pub mod Repeating
+pub mod Tabs
 pub mod Scroll
 pub mod Attributes
 pub mod Pages

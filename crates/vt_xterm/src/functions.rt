@@ -6,7 +6,8 @@ ghost use Rattle.vt_syntax.specs.declared.event.Event.TheVariants.{Escape, Seque
 ghost use Rattle.vt_term.specs.Reports.{report};
 ghost use Rattle.vt_xterm.specs.Pages.{screens, shown_by};
 ghost use Rattle.vt_xterm.specs.Front.{plain_functions, private_functions, exclamation_functions, plain_escapes};
-ghost use Rattle.vt_xterm.specs.Front.{functions_of, function_in, xterm_effect};
+ghost use Rattle.vt_xterm.specs.Scroll.{rows_down_by};
+ghost use Rattle.vt_xterm.specs.Front.{is_bare, save_if_bare, restore_if_bare, functions_of, function_in, xterm_effect};
 
 use crate::attributes::select_attributes;
 use crate::columns::{
@@ -15,6 +16,8 @@ use crate::columns::{
 };
 use crate::front::Pages;
 use crate::modes::change_modes;
+use crate::repeating::repeat;
+use crate::tabs::{cursor_backward_tabulation, cursor_forward_tabulation};
 use vt_syntax::EventKind;
 use vt_term::{Terminal, count};
 
@@ -133,11 +136,19 @@ fn plain_sequence(
         b'E' => cursor_next_line(terminal, count(values)),
         b'F' => cursor_preceding_line(terminal, count(values)),
         b'G' => cursor_character_absolute(terminal, count(values)),
+        b'I' => cursor_forward_tabulation(terminal, count(values), out),
+        b'S' => terminal.scroll_up(count(values)),
+        b'T' => scroll_down_by(terminal, values),
+        b'Z' => cursor_backward_tabulation(terminal, count(values)),
+        b'^' => terminal.scroll_down(count(values)),
         b'`' => cursor_character_absolute(terminal, count(values)),
         b'a' => character_position_forward(terminal, count(values)),
+        b'b' => repeat(terminal, count(values)),
         b'd' => line_position_absolute(terminal, count(values)),
         b'e' => line_position_forward(terminal, count(values)),
         b'm' => select_attributes(terminal, values),
+        b's' => save_if_bare(terminal, values),
+        b'u' => restore_if_bare(terminal, values),
         _ => {
             let kind = EventKind::Sequence {
                 marker: None,
@@ -146,6 +157,40 @@ fn plain_sequence(
             };
             terminal.carry_out(kind, values, out);
         }
+    }
+}
+
+/// Returns whether the only parameter is empty, or 0.
+fn is_bare(values: &[u16]) -> bool
+    ensures { result ≡ is_bare values.now }
+{
+    values.len() == 1 && values[0] == 0
+}
+
+/// Carries out SCP without parameters: saves the cursor.
+fn save_if_bare(terminal: &mut Terminal, values: &[u16])
+    ensures { terminal.new ≡ record terminal.old { display = save_if_bare values.now terminal.old.display } }
+{
+    if is_bare(values) {
+        terminal.save_cursor();
+    }
+}
+
+/// Carries out RCP without parameters: restores the cursor.
+fn restore_if_bare(terminal: &mut Terminal, values: &[u16])
+    ensures { terminal.new ≡ record terminal.old { display = restore_if_bare values.now terminal.old.display } }
+{
+    if is_bare(values) {
+        terminal.restore_cursor();
+    }
+}
+
+/// Carries out SD by `T`, with one parameter.
+fn scroll_down_by(terminal: &mut Terminal, values: &[u16])
+    ensures { terminal.new ≡ record terminal.old { display = rows_down_by values.now terminal.old.display } }
+{
+    if values.len() == 1 {
+        terminal.scroll_down(count(values));
     }
 }
 

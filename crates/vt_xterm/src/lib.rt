@@ -12,6 +12,8 @@ mod front;
 mod functions;
 pub mod laws;
 mod modes;
+mod repeating;
+mod tabs;
 
 pub use feeding::{feed_xterm, feed_xterm_reserved};
 pub use front::Front;

@@ -107,7 +107,7 @@ pub ascii-pending : (bytes : List ℕ) → All (λ b. b < 0x80) bytes → pendin
 ascii-pending [] all = refl
 ascii-pending (b ∷ bytes) all = rw (read-ascii b (first-of b bytes all)) (ascii-pending bytes (rest-of b bytes all))
 
-ascii-characters : (bytes : List ℕ) → All (λ b. b < 0x80) bytes → characters [] bytes ≡ bytes
+pub ascii-characters : (bytes : List ℕ) → All (λ b. b < 0x80) bytes → characters [] bytes ≡ bytes
 ascii-characters [] all = refl
 ascii-characters (b ∷ bytes) all =
     rw (read-ascii b (first-of b bytes all))

@@ -1,6 +1,6 @@
 mod Tables
 mod Reading
-mod Cuts
+pub mod Cuts
 mod Silence
 mod Plain
 mod Fed

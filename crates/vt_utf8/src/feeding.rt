@@ -181,7 +181,7 @@ fn feed_character(terminal: &mut Terminal, c: char, out: &mut Vec<u8>)
 }
 
 /// Plays a character beyond ASCII, which causes no report.
-fn feed_beyond_ascii(terminal: &mut Terminal, c: char, out: &mut Vec<u8>)
+pub fn feed_beyond_ascii(terminal: &mut Terminal, c: char, out: &mut Vec<u8>)
     requires beyond { 0x80 ≤ c }
     requires room { vec_len out.old + 10 ≤ vec_capacity out.old }
     ensures state { terminal.new ≡ (play terminal.old (translation terminal.old c)).state }

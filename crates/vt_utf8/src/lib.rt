@@ -11,6 +11,6 @@ mod translation;
 
 pub use ascii::ascii_run;
 pub use decoder::Decoder;
-pub use feeding::{feed_utf8, feed_utf8_reserved};
+pub use feeding::{feed_beyond_ascii, feed_utf8, feed_utf8_reserved};
 pub use showing::shown_as;
 pub use translation::{BYTE_LIMIT, Bytes, TRANSLATION_LIMIT, cells, translated};

@@ -1,0 +1,215 @@
+-- What feeding leaves.
+use Rattle.std.proofs.Common.{◌≡◌, ℕ, ◌+◌, List, [], ◌∷◌, ◌++◌, All, ◌<◌, take, drop, length, refl, sym, ap, ◌∙◌, append_assoc, subst, false, arith}
+use Rattle.std.specs.Prelude.{◌≤◌, nat_lt}
+use Rattle.std.proofs.lemmas.Bool.Decides.{nat_tests}
+use Rattle.std.proofs.Common.{append-nil}
+use Rattle.std.proofs.Math.Seq.{take-add}
+use Rattle.vt_syntax.specs.declared.event.Event.{Event}
+use Rattle.vt_syntax.specs.Held.{IsHeldPart, events_from, held_from}
+use Rattle.vt_syntax.specs.Laws.{SplitLaw}
+use Rattle.vt_term.specs.State.{State}
+use Rattle.vt_term.specs.Reports.{report}
+use Rattle.vt_term.specs.Play.{play}
+use Rattle.vt_utf8.specs.Decoding.{read, characters, pending_after}
+use Rattle.vt_utf8.specs.Translation.{translation}
+use Rattle.vt_utf8.proofs.Cuts.{ascii-characters, ascii-pending, pending-append}
+use Rattle.vt_xterm.specs.Pages.{PagesState, Screens, screens, shown_by}
+use Rattle.vt_xterm.specs.Front.{xterm_effect}
+use Rattle.vt_xterm.specs.Play.{Whole, WholePlayed, FrontState, behind, screens_of, both, play_bytes}
+use Rattle.vt_xterm.specs.Play.{play_character, play_characters, play_xterm}
+use Rattle.vt_xterm.specs.Private.Finding.{PlaysTerminals}
+use Rattle.vt_xterm.specs.Private.Feeds.{whole_of, Leaves, FeedsBytes, FeedsXterm}
+use Rattle.vt_xterm.proofs.Cuts.{bytes-two, bytes-nothing, character-ascii, characters-ascii, characters-two, xterm-nothing, xterm-two}
+use Rattle.vt_xterm.proofs.Terminals.{bytes-terminals}
+
+-- one play after another
+leaves-both : (p q r : WholePlayed) (v u : Whole) (before mid after : List ℕ) → Leaves p v before mid
+    → Leaves q u mid after → r ≡ both p q → Leaves r u before after
+leaves-both p q r v u before mid after first second is = record {
+  whole = second.whole ∙ ap (λ (x : WholePlayed). x.whole) (sym is);
+  reports = second.reports ∙ ap (λ (o : List ℕ). o ++ q.reports) first.reports
+      ∙ append_assoc before p.reports q.reports
+      ∙ ap (λ (x : WholePlayed). before ++ x.reports) (sym is);
+}
+
+leaves-nothing : (p : WholePlayed) (w : Whole) (out : List ℕ) → p ≡ record { whole = w; reports = [] } → Leaves p w out out
+leaves-nothing p w out is = record {
+  whole = ap (λ (x : WholePlayed). x.whole) (sym is);
+  reports = sym (append-nil out) ∙ ap (λ (x : WholePlayed). out ++ x.reports) (sym is);
+}
+
+-- ---- bytes of the terminal
+
+pub feeds-nothing : SplitLaw → (w : Whole) (out : List ℕ) → IsHeldPart w.state.held → FeedsBytes w [] w out out
+feeds-nothing split w out held = leaves-nothing (play_bytes w []) w out (bytes-nothing split w held)
+
+pub feeds-more : SplitLaw → (w v u : Whole) (piece : List ℕ) (at n : ℕ) (before out after : List ℕ)
+    → FeedsBytes w (take at piece) v before out → FeedsBytes v (take n (drop at piece)) u out after
+    → FeedsBytes w (take (at + n) piece) u before after
+feeds-more split w v u piece at n before out after first second =
+    let a = take at piece in
+    let b = take n (drop at piece) in
+    let two : play_bytes w (a ++ b) ≡ both (play_bytes w a) (play_bytes v b) =
+    bytes-two split w a b ∙ ap (λ (x : Whole). both (play_bytes w a) (play_bytes x b)) (sym first.whole) in
+    rw (take-add at n piece) (leaves-both (play_bytes w a) (play_bytes v b) (play_bytes w (a ++ b)) v u before out after
+    first second two)
+
+-- bytes whose events are a VT220's
+pub feeds-terminals : (s t : State) (pages : PagesState) (bytes before after : List ℕ) → PlaysTerminals s bytes
+    → t ≡ (play s bytes).state → after ≡ before ++ (play s bytes).reports
+    → FeedsBytes (whole_of s pages) bytes (whole_of t pages) before after
+feeds-terminals s t pages bytes before after all left told =
+    let is = bytes-terminals (whole_of s pages) bytes all in record {
+      whole = ap (λ (x : State). whole_of x pages) left ∙ ap (λ (p : WholePlayed). p.whole) (sym is);
+      reports = told ∙ ap (λ (p : WholePlayed). before ++ p.reports) (sym is);
+    }
+
+-- bytes without an event, and bytes that are one event
+pub feeds-part : (w : Whole) (t : State) (bytes out : List ℕ) → events_from w.state.held bytes ≡ []
+    → t ≡ record w.state { held = held_from w.state.held bytes }
+    → FeedsBytes w bytes (whole_of t w.pages) out out
+unfolding play_bytes
+feeds-part w t bytes out none left = record {
+  whole = rw (none, left) refl;
+  reports = rw none (sym (append-nil out));
+}
+
+feeds-effect : (s t : State) (pages q : PagesState) (bytes : List ℕ) (event : Event) (before after : List ℕ)
+    → events_from s.held bytes ≡ event ∷ []
+    → t ≡ shown_by (xterm_effect event (screens s pages)) (held_from s.held bytes)
+    → q ≡ (xterm_effect event (screens s pages)).pages → after ≡ before ++ report event s.display
+    → FeedsBytes (whole_of s pages) bytes (whole_of t q) before after
+unfolding play_bytes
+feeds-effect s t pages q bytes event before after is left kept told = record {
+  whole = rw (is, left, kept) refl;
+  reports = rw is (told ∙ ap (λ (r : List ℕ). before ++ r) (sym (append-nil (report event s.display))));
+}
+
+-- the event is carried out when its bytes are read
+pub feeds-event : (s mid t : State) (pages q : PagesState) (bytes : List ℕ) (event : Event) (before after : List ℕ)
+    → events_from s.held bytes ≡ event ∷ [] → mid ≡ record s { held = held_from s.held bytes }
+    → t ≡ shown_by (xterm_effect event (screens mid pages)) mid.held
+    → q ≡ (xterm_effect event (screens mid pages)).pages → after ≡ before ++ report event mid.display
+    → FeedsBytes (whole_of s pages) bytes (whole_of t q) before after
+feeds-event s mid t pages q bytes event before after is read left kept told =
+    subst (λ (m : State). t ≡ shown_by (xterm_effect event (screens m pages)) m.held
+    → q ≡ (xterm_effect event (screens m pages)).pages → after ≡ before ++ report event m.display
+    → FeedsBytes (whole_of s pages) bytes (whole_of t q) before after) (sym read)
+    (λ one two three. feeds-effect s t pages q bytes event before after is one two three) left kept told
+
+-- ---- UTF-8
+
+ascii-fed : SplitLaw → (s t : State) (front new : FrontState) (bytes before after : List ℕ) → IsHeldPart s.held
+    → front.pending ≡ [] → new.pending ≡ [] → All (λ b. b < 0x80) bytes
+    → FeedsBytes (whole_of s front.pages) bytes (whole_of t new.pages) before after
+    → FeedsXterm s front bytes t new before after
+unfolding play_xterm
+ascii-fed split s t front new bytes before after held none still all fed =
+    let w = whole_of s front.pages in
+    let is : play_characters w (characters front.pending bytes) ≡ play_bytes w bytes =
+    ap (λ (p : List ℕ). play_characters w (characters p bytes)) none
+    ∙ ap (λ (cs : List ℕ). play_characters w cs) (ascii-characters bytes all)
+    ∙ characters-ascii split w bytes held all in
+    record {
+      leaves = record {
+        whole = fed.whole ∙ ap (λ (p : WholePlayed). p.whole) (sym is);
+        reports = fed.reports ∙ ap (λ (p : WholePlayed). before ++ p.reports) (sym is);
+      };
+      left = still ∙ sym (ap (λ (p : List ℕ). pending_after p bytes) none ∙ ascii-pending bytes all);
+    }
+
+pub feeds-ascii : SplitLaw → (s t : State) (inside front new : FrontState) (bytes before after : List ℕ)
+    → inside ≡ front → IsHeldPart s.held → front.pending ≡ [] → new.pending ≡ inside.pending → All (λ b. b < 0x80) bytes
+    → FeedsBytes (whole_of s inside.pages) bytes (whole_of t new.pages) before after
+    → FeedsXterm s front bytes t new before after
+feeds-ascii split s t inside front new bytes before after is held none still all fed =
+    subst (λ (f : FrontState). f.pending ≡ [] → FeedsXterm s f bytes t new before after) is
+    (λ empty. ascii-fed split s t inside new bytes before after held empty (still ∙ empty) all fed) none
+
+-- what was given up, and the character after it
+byte-fed : (s t u : State) (front new : FrontState) (b : ℕ) (xs ys before mid after : List ℕ)
+    → xs ++ ys ≡ (read front.pending b).characters → new.pending ≡ (read front.pending b).pending
+    → Leaves (play_characters (whole_of s front.pages) xs) (whole_of t front.pages) before mid
+    → Leaves (play_characters (whole_of t front.pages) ys) (whole_of u new.pages) mid after
+    → FeedsXterm s front (b ∷ []) u new before after
+unfolding play_xterm
+byte-fed s t u front new b xs ys before mid after are left first second =
+    let w = whole_of s front.pages in
+    let p = play_characters w xs in
+    let q = play_characters (whole_of t front.pages) ys in
+    let all : characters front.pending (b ∷ []) ≡ xs ++ ys = append-nil (read front.pending b).characters ∙ sym are in
+    record {
+      leaves = leaves-both p q (play_characters w (characters front.pending (b ∷ []))) (whole_of t front.pages)
+          (whole_of u new.pages) before mid after first second
+          (ap (λ (cs : List ℕ). play_characters w cs) all ∙ characters-two w xs ys
+          ∙ ap (λ (x : Whole). both p (play_characters x ys)) (sym first.whole));
+      left = left;
+    }
+
+pub feeds-byte : (s t u : State) (inside front new : FrontState) (b : ℕ) (xs ys before mid after : List ℕ)
+    → inside ≡ front → xs ++ ys ≡ (read inside.pending b).characters → new.pending ≡ (read inside.pending b).pending
+    → Leaves (play_characters (whole_of s inside.pages) xs) (whole_of t inside.pages) before mid
+    → Leaves (play_characters (whole_of t inside.pages) ys) (whole_of u new.pages) mid after
+    → FeedsXterm s front (b ∷ []) u new before after
+feeds-byte s t u inside front new b xs ys before mid after is are left first second =
+    subst (λ (f : FrontState). FeedsXterm s f (b ∷ []) u new before after) is
+    (byte-fed s t u inside new b xs ys before mid after are left first second)
+
+pub xterm-none : (s : State) (front : FrontState) (out : List ℕ) → FeedsXterm s front [] s front out out
+xterm-none s front out = record {
+  leaves = leaves-nothing (play_xterm (behind s front) front.pending []) (behind s front) out
+      (xterm-nothing (behind s front) front.pending);
+  left = refl;
+}
+
+pub xterm-more : (s t u : State) (front mid new : FrontState) (piece : List ℕ) (at n : ℕ) (before out after : List ℕ)
+    → FeedsXterm s front (take at piece) t mid before out → FeedsXterm t mid (take n (drop at piece)) u new out after
+    → FeedsXterm s front (take (at + n) piece) u new before after
+xterm-more s t u front mid new piece at n before out after first second =
+    let a = take at piece in
+    let b = take n (drop at piece) in
+    let p = play_xterm (behind s front) front.pending a in
+    let q = play_xterm (behind t mid) mid.pending b in
+    let two : play_xterm (behind s front) front.pending (a ++ b) ≡ both p q =
+    xterm-two (behind s front) front.pending a b
+    ∙ ap (λ (x : Whole). both p (play_xterm x (pending_after front.pending a) b)) (sym first.leaves.whole)
+    ∙ ap (λ (x : List ℕ). both p (play_xterm (behind t mid) x b)) (sym first.left) in
+    rw (take-add at n piece) (record {
+      leaves = leaves-both p q (play_xterm (behind s front) front.pending (a ++ b)) (behind t mid) (behind u new) before out
+          after first.leaves second.leaves two;
+      left = second.left ∙ ap (λ (x : List ℕ). pending_after x b) first.left ∙ sym (pending-append front.pending a b);
+    })
+
+-- ---- a character
+
+pub leaves-ascii : (w v : Whole) (c : ℕ) (before after : List ℕ) → c < 0x80 → FeedsBytes w (c ∷ []) v before after
+    → Leaves (play_characters w (c ∷ [])) v before after
+leaves-ascii w v c before after low fed =
+    leaves-both (play_bytes w (c ∷ [])) (record { whole = v; reports = [] }) (play_characters w (c ∷ [])) v v before after
+    after fed (record { whole = refl; reports = sym (append-nil after) })
+    (ap (λ (p : WholePlayed). both p (record { whole = p.whole; reports = [] })) (character-ascii w c low)
+    ∙ ap (λ (x : Whole). both (play_bytes w (c ∷ [])) (record { whole = x; reports = [] })) (sym fed.whole))
+
+-- beyond ASCII it is played as on a VT220
+character-beyond : (s : State) (pages : PagesState) (c : ℕ) → 0x80 ≤ c → play_character (whole_of s pages) c
+    ≡ record {
+      whole = whole_of (play s (translation s c)).state pages;
+      reports = (play s (translation s c)).reports;
+    }
+unfolding play_character
+character-beyond s pages c high = let is : nat_lt c 0x80 ≡ false = grind (arith, nat_tests) in rw is refl
+
+pub silent-beyond : (s : State) (pages : PagesState) (c : ℕ) → 0x80 ≤ c → (play s (translation s c)).reports ≡ []
+    → (play_characters (whole_of s pages) (c ∷ [])).reports ≡ []
+silent-beyond s pages c high silent =
+    append-nil (play_character (whole_of s pages) c).reports
+    ∙ ap (λ (p : WholePlayed). p.reports) (character-beyond s pages c high) ∙ silent
+
+pub leaves-beyond : (s t : State) (pages : PagesState) (c : ℕ) (out after : List ℕ) → 0x80 ≤ c
+    → t ≡ (play s (translation s c)).state → (play s (translation s c)).reports ≡ [] → after ≡ out
+    → Leaves (play_characters (whole_of s pages) (c ∷ [])) (whole_of t pages) out after
+leaves-beyond s t pages c out after high left silent same = record {
+  whole = ap (λ (x : State). whole_of x pages) left
+      ∙ ap (λ (p : WholePlayed). p.whole) (sym (character-beyond s pages c high));
+  reports = same ∙ sym (ap (λ (r : List ℕ). out ++ r) (silent-beyond s pages c high silent) ∙ append-nil out);
+}

@@ -1,0 +1,6 @@
+mod Colours
+mod Cuts
+mod Terminals
+mod Fed
+mod Times
+mod Screens

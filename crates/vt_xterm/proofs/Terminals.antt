@@ -1,0 +1,79 @@
+-- Bytes whose events all have a VT220's effect are played as on a VT220.
+use Rattle.std.proofs.Common.{◌≡◌, ℕ, List, [], ◌∷◌, ◌++◌, All, map, refl, sym, ap, ◌∙◌, subst, Bool, true, false, None}
+use Rattle.std.specs.Bool.{OnFalse}
+use Rattle.std.specs.List.{list_any}
+use Rattle.vt_syntax.specs.declared.event.Event.{Event}
+use Rattle.vt_syntax.specs.declared.event.Event.TheVariants.{Print, Sequence}
+use Rattle.vt_syntax.specs.declared.held.Held.{Held}
+use Rattle.vt_syntax.specs.declared.held.Held.TheVariants.{Nothing}
+use Rattle.vt_syntax.specs.Held.{events_from}
+use Rattle.vt_syntax.specs.Laws.{SpellingLaw}
+use Rattle.vt_glyph.specs.Invocation.{HasGlyph}
+use Rattle.vt_term.specs.State.{State}
+use Rattle.vt_term.specs.Functions.{effect, sequence_in, sequences_of}
+use Rattle.vt_term.specs.Rendition.{select_graphic_rendition}
+use Rattle.vt_term.specs.Reports.{report}
+use Rattle.vt_term.specs.Play.{play, after_events, reports_of}
+use Rattle.vt_term.proofs.Bytes.{graphic-events}
+use Rattle.vt_xterm.specs.Pages.{Screens, on_display}
+use Rattle.vt_xterm.specs.Attributes.{begins_colour}
+use Rattle.vt_xterm.specs.Front.{xterm_effect, functions_of, function_in}
+use Rattle.vt_xterm.specs.Play as xterm
+use Rattle.vt_xterm.specs.Play.{Whole, play_bytes}
+use Rattle.vt_xterm.specs.Private.Finding.{IsTerminals, AreTerminals, PlaysTerminals}
+use Rattle.vt_xterm.proofs.Colours.{without-colours}
+
+-- SGR without a colour
+plain-rendition : (values : List ℕ) → list_any begins_colour values ≡ false
+    → IsTerminals (Sequence None (record { items = values }) None 0x6D)
+unfolding functions_of function_in sequence_in sequences_of
+plain-rendition values none = λ s.
+    ap (λ (params : List ℕ). on_display (select_graphic_rendition params) s) (without-colours values none)
+
+pub rendition-own : (values : List ℕ) (last : ℕ) (r : Bool) → last ≡ 0x6D → r ≡ list_any begins_colour values
+    → OnFalse r (IsTerminals (Sequence None (record { items = values }) None last))
+rendition-own values last true is found = tt
+rendition-own values last false is found =
+    subst (λ (n : ℕ). IsTerminals (Sequence None (record { items = values }) None n)) (sym is)
+    (plain-rendition values (sym found))
+
+pub terminals-one : (events : List Event) (event : Event) → events ≡ event ∷ [] → IsTerminals event → AreTerminals events
+unfolding AreTerminals
+terminals-one events event is own = subst AreTerminals (sym is) (own, tt)
+
+prints-terminals : (bytes : List ℕ) → AreTerminals (map Print bytes)
+unfolding AreTerminals
+prints-terminals [] = tt
+prints-terminals (b ∷ bytes) = (λ s. refl, prints-terminals bytes)
+
+pub terminals-run : SpellingLaw → (s : State) (bytes : List ℕ) → s.held ≡ Nothing → All HasGlyph bytes
+    → PlaysTerminals s bytes
+terminals-run spelling s bytes between have =
+    subst AreTerminals (sym (ap (λ (h : Held). events_from h bytes) between ∙ graphic-events spelling bytes have))
+    (prints-terminals bytes)
+
+after-terminals : (events : List Event) (s : Screens) → AreTerminals events
+    → xterm.after_events events s ≡ on_display (after_events events) s
+unfolding AreTerminals
+after-terminals [] s all = refl
+after-terminals (event ∷ events) s all =
+    ap (λ (t : Screens). xterm.after_events events t) (all.0 s)
+    ∙ after-terminals events (on_display (effect event) s) all.1
+
+reports-terminals : (events : List Event) (s : Screens) → AreTerminals events
+    → xterm.reports_of events s ≡ reports_of events s.display
+unfolding AreTerminals
+reports-terminals [] s all = refl
+reports-terminals (event ∷ events) s all =
+    ap (λ (r : List ℕ). report event s.display ++ r)
+    (ap (λ (t : Screens). xterm.reports_of events t) (all.0 s)
+    ∙ reports-terminals events (on_display (effect event) s) all.1)
+
+pub bytes-terminals : (w : Whole) (bytes : List ℕ) → PlaysTerminals w.state bytes → play_bytes w bytes
+    ≡ record { whole = record w { state = (play w.state bytes).state }; reports = (play w.state bytes).reports }
+unfolding play_bytes play
+bytes-terminals w bytes all =
+    rw (
+      after-terminals (events_from w.state.held bytes) (xterm.screens_of w) all,
+      reports-terminals (events_from w.state.held bytes) (xterm.screens_of w) all,
+    ) refl

@@ -1,0 +1,28 @@
+-- Moving the cursor, by functions that a VT220 lacks. Each of these resets the wrap flag. (ECMA-48 8.3; DECOM and the margins as
+-- in xterm's control sequences)
+use Rattle.std.specs.Prelude.{ℕ, ◌+◌, min, if◌then◌else◌}
+use Rattle.vt_screen.specs.Grid.{last_row}
+use Rattle.vt_term.specs.State.{Display, last_column, at_place}
+use Rattle.vt_term.specs.Moving.{row_of_line, cursor_up, cursor_down, carriage_return}
+
+-- CHA and HPA: to column n, not past the last column
+abbrev pub cursor_character_absolute : ℕ → Display → Display
+cursor_character_absolute n s = record s { cursor = at_place s.cursor.row (min n (last_column s)) }
+
+-- VPA: to line n, in the same column
+abbrev pub line_position_absolute : ℕ → Display → Display
+line_position_absolute n s = record s { cursor = at_place (row_of_line n s) s.cursor.col }
+
+-- VPR: down n, not past the last row, or under DECOM not past the bottom margin
+abbrev pub line_position_forward : ℕ → Display → Display
+line_position_forward n s = record s {
+  cursor = at_place (min (s.cursor.row + n) (if s.modes.decom then s.margins.bottom else last_row)) s.cursor.col;
+}
+
+-- CNL: CUD, and then CR
+abbrev pub cursor_next_line : ℕ → Display → Display
+cursor_next_line n s = carriage_return (cursor_down n s)
+
+-- CPL: CUU, and then CR
+abbrev pub cursor_preceding_line : ℕ → Display → Display
+cursor_preceding_line n s = carriage_return (cursor_up n s)

@@ -1,0 +1,95 @@
+-- Which function an event asks for under TERM=xterm: one of these tables, or else a VT220's. (ECMA-48 8.3; xterm's control
+-- sequences)
+use Rattle.std.specs.Prelude.{ℕ, List, [], ◌∷◌, Bool, true, false, Option, Some, None, ◌==◌, ◌&&◌, length, unwrap_or, codes, if◌then◌else◌}
+use Rattle.vt_syntax.specs.declared.event.Event.{Event}
+use Rattle.vt_syntax.specs.declared.event.Event.TheVariants.{Print, Control, Escape, Sequence}
+use Rattle.vt_glyph.specs.LookUp.{look_up}
+use Rattle.vt_term.specs.State.{Display}
+use Rattle.vt_term.specs.Parameters.{first, count}
+use Rattle.vt_term.specs.Saving.{save_cursor, restore_cursor}
+use Rattle.vt_term.specs.Moving.{cursor_forward}
+use Rattle.vt_term.specs.Modes.{autowrap_mode}
+use Rattle.vt_term.specs.Resets.{soft_reset}
+use Rattle.vt_term.specs.Functions.{byte, effect}
+use Rattle.vt_xterm.specs.Columns.{cursor_character_absolute, line_position_absolute, line_position_forward}
+use Rattle.vt_xterm.specs.Columns.{cursor_next_line, cursor_preceding_line}
+use Rattle.vt_xterm.specs.Scroll.{rows_up, rows_down, rows_down_by}
+use Rattle.vt_xterm.specs.Repeating.{repeat}
+use Rattle.vt_xterm.specs.Tabs.{cursor_forward_tabulation, cursor_backward_tabulation}
+use Rattle.vt_xterm.specs.Attributes.{select_attributes}
+use Rattle.vt_xterm.specs.Pages.{Screens, on_display, change_page_modes, reset_to_initial_state}
+
+-- the functions of control sequences, by their final bytes
+abbrev pub FunctionTable : Type 0
+FunctionTable = List (ℕ × (List ℕ → Screens → Screens))
+
+-- the only parameter is empty, or 0
+abbrev pub is_bare : List ℕ → Bool
+is_bare params = length params == 1 && first params == 0
+
+-- SCP and RCP: DECSC and DECRC; with parameters they are other functions
+abbrev pub save_if_bare : List ℕ → Display → Display
+save_if_bare params s = if is_bare params then save_cursor s else s
+
+abbrev pub restore_if_bare : List ℕ → Display → Display
+restore_if_bare params s = if is_bare params then restore_cursor s else s
+
+-- CNL, CPL, CHA, CHT, SU, SD, CBT, SD, HPA, HPR, REP, VPA, VPR, SGR, SCP and RCP
+abbrev pub plain_functions : FunctionTable
+plain_functions =
+    (byte (codes "E"), λ params. on_display (cursor_next_line (count params)))
+    ∷ (byte (codes "F"), λ params. on_display (cursor_preceding_line (count params)))
+    ∷ (byte (codes "G"), λ params. on_display (cursor_character_absolute (count params)))
+    ∷ (byte (codes "I"), λ params. on_display (cursor_forward_tabulation (count params)))
+    ∷ (byte (codes "S"), λ params. on_display (rows_up (count params)))
+    ∷ (byte (codes "T"), λ params. on_display (rows_down_by params))
+    ∷ (byte (codes "Z"), λ params. on_display (cursor_backward_tabulation (count params)))
+    ∷ (byte (codes "^"), λ params. on_display (rows_down (count params)))
+    ∷ (byte (codes "`"), λ params. on_display (cursor_character_absolute (count params)))
+    ∷ (byte (codes "a"), λ params. on_display (cursor_forward (count params)))
+    ∷ (byte (codes "b"), λ params. on_display (repeat (count params)))
+    ∷ (byte (codes "d"), λ params. on_display (line_position_absolute (count params)))
+    ∷ (byte (codes "e"), λ params. on_display (line_position_forward (count params)))
+    ∷ (byte (codes "m"), λ params. on_display (select_attributes params))
+    ∷ (byte (codes "s"), λ params. on_display (save_if_bare params))
+    ∷ (byte (codes "u"), λ params. on_display (restore_if_bare params))
+    ∷ []
+
+-- after `?`: SM and RM of private modes
+abbrev pub private_functions : FunctionTable
+private_functions = (byte (codes "h"), change_page_modes true) ∷ (byte (codes "l"), change_page_modes false) ∷ []
+
+-- DECSTR: a soft reset that leaves DECAWM set
+abbrev pub soft_reset_wrapping : Display → Display
+soft_reset_wrapping s = autowrap_mode true (soft_reset s)
+
+-- after `!`
+abbrev pub exclamation_functions : FunctionTable
+exclamation_functions = (byte (codes "p"), λ params. on_display soft_reset_wrapping) ∷ []
+
+abbrev pub table_after : List (ℕ × FunctionTable) → ℕ → FunctionTable
+table_after tables b = unwrap_or (look_up tables b) []
+
+-- by the marker and the intermediate
+unfoldable pub functions_of : Option ℕ → Option ℕ → FunctionTable
+functions_of None None = plain_functions
+functions_of (Some marker) None = table_after ((byte (codes "?"), private_functions) ∷ []) marker
+functions_of None (Some inter) = table_after ((byte (codes "!"), exclamation_functions) ∷ []) inter
+functions_of (Some marker) (Some inter) = []
+
+-- what the table has for the final byte, or else the event's effect on a VT220
+unfoldable pub function_in : FunctionTable → Event → ℕ → List ℕ → Screens → Screens
+function_in table event last params = unwrap_or (look_up table last) (λ params. on_display (effect event)) params
+
+-- of an escape sequence without intermediate: RIS, which also resets the pages
+abbrev pub plain_escapes : FunctionTable
+plain_escapes = (byte (codes "c"), λ params. reset_to_initial_state) ∷ []
+
+-- the effect of an event
+abbrev pub xterm_effect : Event → Screens → Screens
+xterm_effect (Print b) = on_display (effect (Print b))
+xterm_effect (Control b) = on_display (effect (Control b))
+xterm_effect (Escape None last) = function_in plain_escapes (Escape None last) last []
+xterm_effect (Escape (Some inter) last) = on_display (effect (Escape (Some inter) last))
+xterm_effect (Sequence marker params inter last) =
+    function_in (functions_of marker inter) (Sequence marker params inter last) last params.items

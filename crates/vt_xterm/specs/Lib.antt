@@ -1,0 +1,9 @@
+pub mod Columns
+pub mod Repeating
+pub mod Tabs
+pub mod Scroll
+pub mod Attributes
+pub mod Pages
+pub mod Front
+pub mod Play
+pub mod Private

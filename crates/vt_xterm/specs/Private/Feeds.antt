@@ -1,0 +1,24 @@
+-- What feeding leaves: the state, the pages, the pending part, and the reports appended.
+use Rattle.std.specs.Prelude.{◌≡◌, ℕ, List, ◌++◌}
+use Rattle.vt_term.specs.State.{State}
+use Rattle.vt_utf8.specs.Decoding.{pending_after}
+use Rattle.vt_xterm.specs.Pages.{PagesState}
+use Rattle.vt_xterm.specs.Play.{Whole, WholePlayed, FrontState, behind, play_bytes, play_xterm}
+
+abbrev pub whole_of : State → PagesState → Whole
+whole_of s pages = record { state = s; pages = pages }
+
+-- what is left is what a play leaves, and its reports are behind what was before
+pub record Leaves (played : WholePlayed) (w : Whole) (before after : List ℕ) : Type 0 where
+  pub whole : w ≡ played.whole
+  pub reports : after ≡ before ++ played.reports
+
+-- bytes of the terminal
+abbrev pub FeedsBytes : Whole → List ℕ → Whole → List ℕ → List ℕ → Type 0
+FeedsBytes w bytes v before after = Leaves (play_bytes w bytes) v before after
+
+-- bytes of UTF-8
+pub record FeedsXterm (s : State) (front : FrontState) (bytes : List ℕ) (t : State) (new : FrontState)
+    (before after : List ℕ) : Type 0 where
+  pub leaves : Leaves (play_xterm (behind s front) front.pending bytes) (behind t new) before after
+  pub left : new.pending ≡ pending_after front.pending bytes

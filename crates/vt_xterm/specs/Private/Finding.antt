@@ -1,0 +1,50 @@
+-- Events that a front leaves to the terminal, and the law of the observer that finds the others. Contracts of private functions
+-- cite this, and no public clause does.
+use Rattle.std.specs.Prelude.{◌≡◌, ℕ, ◌++◌, ◌∷◌, List, [], ⊤}
+use Rattle.std.proofs.Common.{subst, sym}
+use Rattle.vt_syntax.specs.declared.event.Event.{Event}
+use Rattle.vt_syntax.specs.Held.{events_from}
+use Rattle.vt_syntax.specs.Laws.{SplitLaw}
+use Rattle.vt_term.specs.State.{State}
+use Rattle.vt_term.specs.Sound.{IsSound}
+use Rattle.vt_term.specs.Functions.{effect}
+use Rattle.vt_term.specs.Play.{play}
+use Rattle.vt_term.specs.Observing.{AreCut}
+use Rattle.vt_xterm.specs.Pages.{Screens, on_display}
+use Rattle.vt_xterm.specs.Front.{xterm_effect}
+
+-- the event has a VT220's effect
+abbrev pub IsTerminals : Event → Type 0
+IsTerminals event = (s : Screens) → xterm_effect event s ≡ on_display (effect event) s
+
+unfoldable pub AreTerminals : List Event → Type 0
+AreTerminals [] = ⊤
+AreTerminals (event ∷ events) = IsTerminals event × AreTerminals events
+
+pub terminals-append : (xs ys : List Event) → AreTerminals xs → AreTerminals ys → AreTerminals (xs ++ ys)
+unfolding AreTerminals
+terminals-append [] ys first second = second
+terminals-append (x ∷ xs) ys first second = (first.0, terminals-append xs ys first.1 second)
+
+pub terminals-none : (events : List Event) → events ≡ [] → AreTerminals events
+unfolding AreTerminals
+terminals-none events is = subst AreTerminals (sym is) tt
+
+-- all events of bytes have a VT220's effect
+abbrev pub PlaysTerminals : State → List ℕ → Type 0
+PlaysTerminals s bytes = AreTerminals (events_from s.held bytes)
+
+plays-more : SplitLaw → (s : State) (a b : List ℕ) → PlaysTerminals s a → PlaysTerminals (play s a).state b
+    → PlaysTerminals s (a ++ b)
+unfolding play
+plays-more split s a b first second =
+    subst AreTerminals (sym (split.events_append s.held a b))
+    (terminals-append (events_from s.held a) (events_from (play s a).state.held b) first second)
+
+pub finder_cut : {O : Type 0} → AreCut {O = O} (λ o s bytes p. PlaysTerminals s bytes) (λ o n. ⊤)
+finder_cut = record {
+  nothing = λ split o s sound. terminals-none (events_from s.held []) (split.events_nil s.held sound.held);
+  more = λ split o p q s a b sound first second. plays-more split s a b first second;
+  fewer = λ o m n few takes. tt;
+  left = λ o p s bytes n saw takes. tt;
+}

@@ -1,0 +1,44 @@
+//! SGR with colours, which have no effect.
+ghost use Rattle.std.specs.Prelude.{◌≡◌, ◌≤◌, length};
+ghost use Rattle.std.specs.List.{list_any};
+ghost use Rattle.vt_xterm.specs.Attributes.{begins_colour, colour_length, select_attributes};
+
+use vt_term::Terminal;
+
+/// Returns whether a parameter begins a colour.
+pub(crate) fn begins_colour(p: u16) -> bool
+    ensures { result ≡ begins_colour p }
+{
+    p == 38 || p == 48 || p == 58
+}
+
+/// Returns how many of these parameters, which come after the one that begins a colour, belong to it.
+fn colour_length(params: &[u16]) -> usize
+    ensures { result ≡ colour_length params.now }
+{
+    match params.first() {
+        None => 0,
+        Some(5) => 2,
+        Some(2) => 4,
+        Some(_) => 1,
+    }
+}
+
+/// Carries out SGR without its colours.
+pub(crate) fn select_attributes(terminal: &mut Terminal, params: &[u16])
+    ensures { terminal.new ≡ record terminal.old { display = select_attributes params.now terminal.old.display } }
+{
+    let mut skipped = 0;
+    let mut at = 0;
+    while at < params.len() {
+        let p = params[at];
+        at += 1;
+        if skipped > 0 {
+            skipped -= 1;
+        } else if begins_colour(p) {
+            skipped = colour_length(&params[at..]);
+        } else {
+            terminal.select_graphic_rendition(&[p]);
+        }
+    }
+}

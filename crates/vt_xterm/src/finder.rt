@@ -1,0 +1,134 @@
+//! The observer that finds the functions of a front: a feed stops before each event that isn't a VT220's.
+ghost use Rattle.std.specs.Prelude.{◌≡◌, ◌≤◌, ◌∷◌, [], false, true, length, Some, None};
+ghost use Rattle.std.specs.Bool.{OnFalse};
+ghost use Rattle.std.specs.List.{list_any};
+ghost use Rattle.vt_syntax.specs.Event.{event_of};
+ghost use Rattle.vt_syntax.specs.declared.event.Event.TheVariants.{Escape, Sequence};
+ghost use Rattle.vt_xterm.specs.Attributes.{begins_colour};
+ghost use Rattle.vt_xterm.specs.Private.Finding.{IsTerminals};
+
+use crate::attributes::begins_colour;
+use vt_syntax::EventKind;
+use vt_syntax::laws::spelled;
+use vt_term::{Observer, Terminal};
+
+/// Returns whether a parameter begins a colour.
+fn has_colour(values: &[u16]) -> bool
+    ensures { result ≡ list_any begins_colour values.now }
+{
+    for value in values {
+        if begins_colour(*value) {
+            return true;
+        }
+    }
+    false
+}
+
+/// Returns whether a control sequence without marker and intermediate isn't a VT220's.
+#[inline(always)]
+#[tactic(auto, unfolding(crate::specs::Front::functions_of, crate::specs::Front::function_in))]
+fn is_own_plain(values: &[u16], last: u8) -> bool
+    ensures { OnFalse result (IsTerminals (Sequence None (record { items = values.now }) None last)) }
+{
+    match last {
+        b'm' => has_colour(values),
+        b'E' => true,
+        b'F' => true,
+        b'G' => true,
+        b'I' => true,
+        b'Z' => true,
+        b'S' => true,
+        b'T' => true,
+        b'^' => true,
+        b'b' => true,
+        b's' => true,
+        b'u' => true,
+        b'`' => true,
+        b'a' => true,
+        b'd' => true,
+        b'e' => true,
+        _ => false,
+    }
+}
+
+/// Returns whether a control sequence isn't a VT220's.
+#[inline(always)]
+#[tactic(auto, unfolding(crate::specs::Front::functions_of, crate::specs::Front::function_in))]
+fn is_own_sequence(marker: Option<u8>, values: &[u16], inter: Option<u8>, last: u8) -> bool
+    ensures { OnFalse result (IsTerminals (Sequence marker (record { items = values.now }) inter last)) }
+{
+    match (marker, inter) {
+        (None, None) => is_own_plain(values, last),
+        (Some(b'?'), None) => last == b'h' || last == b'l',
+        (None, Some(b'!')) => last == b'p',
+        _ => false,
+    }
+}
+
+/// Returns whether an event isn't a VT220's.
+#[inline(always)]
+#[tactic(auto, unfolding(crate::specs::Front::function_in))]
+fn is_own(kind: EventKind, values: &[u16]) -> bool
+    ensures { OnFalse result (IsTerminals (event_of kind values.now)) }
+{
+    match kind {
+        EventKind::Print(_) => false,
+        EventKind::Control(_) => false,
+        EventKind::Escape { inter: None, last } => last == b'c',
+        EventKind::Escape { inter: Some(_), .. } => false,
+        EventKind::Sequence {
+            marker,
+            inter,
+            last,
+        } => is_own_sequence(marker, values, inter, last),
+    }
+}
+
+/// The observer.
+#[derive(Drop)]
+pub(crate) struct Finder;
+
+impl Observer for Finder {
+    ghost use Rattle.std.specs.Prelude.{⊤, true};
+    ghost use Rattle.vt_xterm.specs.Private.Finding.{IsTerminals, PlaysTerminals, finder_cut};
+
+    ghost Saw = { λ o s bytes p. PlaysTerminals s bytes };
+
+    ghost Takes = { λ o n. ⊤ };
+
+    ghost Lets = { λ o s event. IsTerminals event };
+
+    ghost Fits = { λ o s n. ⊤ };
+
+    ghost Stopped = { λ o. ⊤ };
+
+    ghost Stops = { true };
+
+    ghost cut = { finder_cut };
+
+    #[inline(always)]
+    fn stops(&self) -> bool {
+        true
+    }
+
+    #[inline(always)]
+    fn lets(&self, terminal: &Terminal, kind: EventKind, values: &[u16]) -> bool {
+        !is_own(kind, values)
+    }
+
+    #[inline(always)]
+    fn event(&mut self, terminal: &Terminal, bytes: &[u8], kind: EventKind, values: &[u16]) {}
+
+    #[inline(always)]
+    fn limit(&self, terminal: &Terminal) -> usize {
+        usize::MAX
+    }
+
+    #[inline(always)]
+    fn run(&mut self, terminal: &Terminal, bytes: &[u8]) {
+        spelled();
+    }
+
+    #[inline(always)]
+    fn part(&mut self, bytes: &[u8]) {}
+}

@@ -1,0 +1,95 @@
+//! What a front keeps.
+ghost use Rattle.std.specs.Prelude.{◌≡◌, ◌≤◌, IfOk, length};
+ghost use Rattle.vt_xterm.specs.Pages.{pages_at_power_up};
+ghost use Rattle.vt_xterm.specs.Play.{front_at_power_up};
+
+use std::alloc::{AllocError, Global};
+use std::marker::Model;
+use vt_term::Page;
+use vt_utf8::Decoder;
+
+/// The page that isn't shown, and which page is.
+#[derive(Debug, Drop)]
+pub(crate) struct Pages {
+    /// The page that isn't shown.
+    pub(crate) other: Page,
+    /// Whether the alternate page is shown.
+    pub(crate) alternate: bool,
+    /// Whether DECCOLM has an effect.
+    pub(crate) resizes: bool,
+}
+
+impl Model for Pages {
+    ghost use Rattle.vt_xterm.specs.Pages.{PagesState};
+
+    ghost Value = { PagesState };
+
+    ghost view = { λ p. record { other = p.other; alternate = p.alternate; resizes = p.resizes } };
+}
+
+impl Pages {
+    /// Makes the pages as at power-up: both blank, and the main one shown.
+    pub(crate) fn reset(&mut self)
+        ensures { self.new ≡ pages_at_power_up }
+    {
+        self.other.reset();
+        self.alternate = false;
+        self.resizes = false;
+    }
+}
+
+/// What a front keeps beside its terminal: what is pending of UTF-8, the page that isn't shown, and two modes. `new` allocates
+/// its memory, and nothing else does.
+#[derive(Debug, Drop)]
+pub struct Front {
+    pub(crate) decoder: Decoder,
+    pub(crate) pages: Pages,
+}
+
+impl Model for Front {
+    ghost use Rattle.vt_xterm.specs.Play.{FrontState};
+
+    ghost Value = { FrontState };
+
+    ghost view = { λ f. record { pending = f.decoder; pages = f.pages } };
+}
+
+impl Front {
+    /// Returns a front at power-up, for a terminal at power-up: nothing is pending, and the main page is shown. Returns `Err`
+    /// if allocation fails.
+    pub fn new(alloc: Global) -> Result<Front, AllocError>
+        ensures { IfOk result (λ front. front ≡ front_at_power_up) }
+    {
+        let other = Page::new(alloc)?;
+        Ok(Front {
+            decoder: Decoder::new(),
+            pages: Pages {
+                other,
+                alternate: false,
+                resizes: false,
+            },
+        })
+    }
+
+    /// Returns the pending bytes of UTF-8: at most three.
+    pub fn pending(&self) -> &[u8]
+        ensures value { result.now ≡ self.now.pending }
+        ensures few { length result.now ≤ 3 }
+    {
+        self.decoder.pending()
+    }
+
+    /// Returns whether the alternate page is shown.
+    pub fn is_alternate(&self) -> bool
+        ensures { result ≡ self.now.pages.alternate }
+    {
+        self.pages.alternate
+    }
+
+    /// Returns whether DECCOLM has an effect.
+    pub fn resizes(&self) -> bool
+        ensures { result ≡ self.now.pages.resizes }
+    {
+        self.pages.resizes
+    }
+}

@@ -1,0 +1,267 @@
+//! The function that an event asks for.
+ghost use Rattle.std.specs.Prelude.{◌≡◌, ◌≤◌, ◌+◌, ◌++◌, [], vec_len, vec_capacity, Some, None};
+ghost use Rattle.vt_syntax.specs.Event.{event_of};
+ghost use Rattle.vt_syntax.specs.Spelling.{IsEvent};
+ghost use Rattle.vt_syntax.specs.declared.event.Event.TheVariants.{Escape, Sequence};
+ghost use Rattle.vt_term.specs.Reports.{report};
+ghost use Rattle.vt_xterm.specs.Pages.{screens, shown_by};
+ghost use Rattle.vt_xterm.specs.Front.{plain_functions, private_functions, exclamation_functions, plain_escapes};
+ghost use Rattle.vt_xterm.specs.Scroll.{rows_down_by};
+ghost use Rattle.vt_xterm.specs.Front.{is_bare, save_if_bare, restore_if_bare, functions_of, function_in, xterm_effect};
+
+use crate::attributes::select_attributes;
+use crate::columns::{
+    character_position_forward, cursor_character_absolute, cursor_next_line, cursor_preceding_line,
+    line_position_absolute, line_position_forward,
+};
+use crate::front::Pages;
+use crate::modes::change_modes;
+use crate::repeating::repeat;
+use crate::tabs::{cursor_backward_tabulation, cursor_forward_tabulation};
+use vt_syntax::EventKind;
+use vt_term::{Terminal, count};
+
+/// The number of DECAWM.
+const DECAWM: u16 = 7;
+
+/// Carries out an event, and appends its report to `out`, which has capacity for ten more bytes.
+pub(crate) fn carry_out(
+    terminal: &mut Terminal,
+    pages: &mut Pages,
+    kind: EventKind,
+    values: &[u16],
+    out: &mut Vec<u8>,
+)
+    requires event { IsEvent (event_of kind values.now) }
+    requires room { vec_len out.old + 10 ≤ vec_capacity out.old }
+    ensures terminal { terminal.new
+        ≡ shown_by (xterm_effect (event_of kind values.now) (screens terminal.old pages.old)) terminal.old.held }
+    ensures pages { pages.new ≡ (xterm_effect (event_of kind values.now) (screens terminal.old pages.old)).pages }
+    ensures reports { out.new.items ≡ out.old.items ++ report (event_of kind values.now) terminal.old.display }
+    ensures bounded { vec_len out.new ≤ vec_len out.old + 10 }
+    ensures capacity { vec_capacity out.old ≤ vec_capacity out.new }
+{
+    match kind {
+        EventKind::Print(_) => terminal.carry_out(kind, values, out),
+        EventKind::Control(_) => terminal.carry_out(kind, values, out),
+        EventKind::Escape { inter: None, last } => plain_escape(terminal, pages, last, out),
+        EventKind::Escape { inter: Some(_), .. } => terminal.carry_out(kind, values, out),
+        EventKind::Sequence {
+            marker,
+            inter,
+            last,
+        } => sequence(terminal, pages, marker, values, inter, last, out),
+    }
+}
+
+/// Carries out an escape sequence without an intermediate.
+#[tactic(auto, unfolding(crate::specs::Front::function_in, vt_term::specs::Functions::plain_escape))]
+fn plain_escape(terminal: &mut Terminal, pages: &mut Pages, last: u8, out: &mut Vec<u8>)
+    requires event { IsEvent (Escape None last) }
+    requires room { vec_len out.old + 10 ≤ vec_capacity out.old }
+    ensures terminal { terminal.new
+        ≡ shown_by (function_in plain_escapes (Escape None last) last [] (screens terminal.old pages.old)) terminal.old.held }
+    ensures pages { pages.new
+        ≡ (function_in plain_escapes (Escape None last) last [] (screens terminal.old pages.old)).pages }
+    ensures reports { out.new.items ≡ out.old.items }
+    ensures capacity { vec_capacity out.old ≤ vec_capacity out.new }
+{
+    terminal.carry_out(EventKind::Escape { inter: None, last }, &[], out);
+    if last == b'c' {
+        pages.reset();
+    }
+}
+
+/// Carries out a control sequence.
+#[tactic(auto, unfolding(crate::specs::Front::functions_of, crate::specs::Front::function_in))]
+fn sequence(
+    terminal: &mut Terminal,
+    pages: &mut Pages,
+    marker: Option<u8>,
+    values: &[u16],
+    inter: Option<u8>,
+    last: u8,
+    out: &mut Vec<u8>,
+)
+    requires event { IsEvent (Sequence marker (record { items = values.now }) inter last) }
+    requires room { vec_len out.old + 10 ≤ vec_capacity out.old }
+    ensures terminal { terminal.new ≡ shown_by (function_in (functions_of marker inter)
+        (Sequence marker (record { items = values.now }) inter last) last values.now (screens terminal.old pages.old))
+        terminal.old.held }
+    ensures pages { pages.new ≡ (function_in (functions_of marker inter)
+        (Sequence marker (record { items = values.now }) inter last) last values.now (screens terminal.old pages.old)).pages }
+    ensures reports { out.new.items
+        ≡ out.old.items ++ report (Sequence marker (record { items = values.now }) inter last) terminal.old.display }
+    ensures bounded { vec_len out.new ≤ vec_len out.old + 10 }
+    ensures capacity { vec_capacity out.old ≤ vec_capacity out.new }
+{
+    match (marker, inter) {
+        (None, None) => plain_sequence(terminal, pages, values, last, out),
+        (Some(b'?'), None) => private_sequence(terminal, pages, values, last, out),
+        (None, Some(b'!')) => exclamation_sequence(terminal, pages, values, last, out),
+        _ => {
+            let kind = EventKind::Sequence {
+                marker,
+                inter,
+                last,
+            };
+            terminal.carry_out(kind, values, out);
+        }
+    }
+}
+
+/// Carries out a control sequence without marker and intermediate.
+#[tactic(auto, unfolding(crate::specs::Front::function_in, vt_term::specs::Reports::sequence_report))]
+fn plain_sequence(
+    terminal: &mut Terminal,
+    pages: &mut Pages,
+    values: &[u16],
+    last: u8,
+    out: &mut Vec<u8>,
+)
+    requires event { IsEvent (Sequence None (record { items = values.now }) None last) }
+    requires room { vec_len out.old + 10 ≤ vec_capacity out.old }
+    ensures terminal { terminal.new ≡ shown_by (function_in plain_functions
+        (Sequence None (record { items = values.now }) None last) last values.now (screens terminal.old pages.old))
+        terminal.old.held }
+    ensures pages { pages.new ≡ (function_in plain_functions
+        (Sequence None (record { items = values.now }) None last) last values.now (screens terminal.old pages.old)).pages }
+    ensures reports { out.new.items
+        ≡ out.old.items ++ report (Sequence None (record { items = values.now }) None last) terminal.old.display }
+    ensures bounded { vec_len out.new ≤ vec_len out.old + 10 }
+    ensures capacity { vec_capacity out.old ≤ vec_capacity out.new }
+{
+    let _ = pages;
+    match last {
+        b'E' => cursor_next_line(terminal, count(values)),
+        b'F' => cursor_preceding_line(terminal, count(values)),
+        b'G' => cursor_character_absolute(terminal, count(values)),
+        b'I' => cursor_forward_tabulation(terminal, count(values), out),
+        b'S' => terminal.scroll_up(count(values)),
+        b'T' => scroll_down_by(terminal, values),
+        b'Z' => cursor_backward_tabulation(terminal, count(values)),
+        b'^' => terminal.scroll_down(count(values)),
+        b'`' => cursor_character_absolute(terminal, count(values)),
+        b'a' => character_position_forward(terminal, count(values)),
+        b'b' => repeat(terminal, count(values)),
+        b'd' => line_position_absolute(terminal, count(values)),
+        b'e' => line_position_forward(terminal, count(values)),
+        b'm' => select_attributes(terminal, values),
+        b's' => save_if_bare(terminal, values),
+        b'u' => restore_if_bare(terminal, values),
+        _ => {
+            let kind = EventKind::Sequence {
+                marker: None,
+                inter: None,
+                last,
+            };
+            terminal.carry_out(kind, values, out);
+        }
+    }
+}
+
+/// Returns whether the only parameter is empty, or 0.
+fn is_bare(values: &[u16]) -> bool
+    ensures { result ≡ is_bare values.now }
+{
+    values.len() == 1 && values[0] == 0
+}
+
+/// Carries out SCP without parameters: saves the cursor.
+fn save_if_bare(terminal: &mut Terminal, values: &[u16])
+    ensures { terminal.new ≡ record terminal.old { display = save_if_bare values.now terminal.old.display } }
+{
+    if is_bare(values) {
+        terminal.save_cursor();
+    }
+}
+
+/// Carries out RCP without parameters: restores the cursor.
+fn restore_if_bare(terminal: &mut Terminal, values: &[u16])
+    ensures { terminal.new ≡ record terminal.old { display = restore_if_bare values.now terminal.old.display } }
+{
+    if is_bare(values) {
+        terminal.restore_cursor();
+    }
+}
+
+/// Carries out SD by `T`, with one parameter.
+fn scroll_down_by(terminal: &mut Terminal, values: &[u16])
+    ensures { terminal.new ≡ record terminal.old { display = rows_down_by values.now terminal.old.display } }
+{
+    if values.len() == 1 {
+        terminal.scroll_down(count(values));
+    }
+}
+
+/// Carries out a control sequence with the marker `?`.
+#[tactic(auto, unfolding(crate::specs::Front::function_in, vt_term::specs::Reports::sequence_report))]
+fn private_sequence(
+    terminal: &mut Terminal,
+    pages: &mut Pages,
+    values: &[u16],
+    last: u8,
+    out: &mut Vec<u8>,
+)
+    requires event { IsEvent (Sequence (Some 0x3F) (record { items = values.now }) None last) }
+    requires room { vec_len out.old + 10 ≤ vec_capacity out.old }
+    ensures terminal { terminal.new ≡ shown_by (function_in private_functions
+        (Sequence (Some 0x3F) (record { items = values.now }) None last) last values.now (screens terminal.old pages.old))
+        terminal.old.held }
+    ensures pages { pages.new ≡ (function_in private_functions
+        (Sequence (Some 0x3F) (record { items = values.now }) None last) last values.now
+        (screens terminal.old pages.old)).pages }
+    ensures reports { out.new.items ≡ out.old.items
+        ++ report (Sequence (Some 0x3F) (record { items = values.now }) None last) terminal.old.display }
+    ensures bounded { vec_len out.new ≤ vec_len out.old + 10 }
+    ensures capacity { vec_capacity out.old ≤ vec_capacity out.new }
+{
+    match last {
+        b'h' => change_modes(terminal, pages, values, true),
+        b'l' => change_modes(terminal, pages, values, false),
+        _ => {
+            let kind = EventKind::Sequence {
+                marker: Some(b'?'),
+                inter: None,
+                last,
+            };
+            terminal.carry_out(kind, values, out);
+        }
+    }
+}
+
+/// Carries out a control sequence with the intermediate `!`: DECSTR, which leaves DECAWM set.
+#[tactic(auto, unfolding(crate::specs::Front::function_in, vt_term::specs::Modes::with_mode, vt_term::specs::Reports::sequence_report))]
+fn exclamation_sequence(
+    terminal: &mut Terminal,
+    pages: &mut Pages,
+    values: &[u16],
+    last: u8,
+    out: &mut Vec<u8>,
+)
+    requires event { IsEvent (Sequence None (record { items = values.now }) (Some 0x21) last) }
+    requires room { vec_len out.old + 10 ≤ vec_capacity out.old }
+    ensures terminal { terminal.new ≡ shown_by (function_in exclamation_functions
+        (Sequence None (record { items = values.now }) (Some 0x21) last) last values.now (screens terminal.old pages.old))
+        terminal.old.held }
+    ensures pages { pages.new ≡ (function_in exclamation_functions
+        (Sequence None (record { items = values.now }) (Some 0x21) last) last values.now
+        (screens terminal.old pages.old)).pages }
+    ensures reports { out.new.items ≡ out.old.items
+        ++ report (Sequence None (record { items = values.now }) (Some 0x21) last) terminal.old.display }
+    ensures bounded { vec_len out.new ≤ vec_len out.old + 10 }
+    ensures capacity { vec_capacity out.old ≤ vec_capacity out.new }
+{
+    let _ = pages;
+    if last == b'p' {
+        terminal.soft_reset();
+        terminal.change_private_modes(&[DECAWM], true);
+    } else {
+        let kind = EventKind::Sequence {
+            marker: None,
+            inter: Some(b'!'),
+            last,
+        };
+        terminal.carry_out(kind, values, out);
+    }
+}

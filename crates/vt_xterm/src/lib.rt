@@ -1,0 +1,19 @@
+//! A front for what programs send under TERM=xterm: UTF-8, and functions that a VT220 lacks.
+//!
+//! The front reads the host's bytes by the terminal's own syntax. It has another table of functions, and the page that isn't
+//! shown. What its table lacks is a VT220's.
+#![tactic(auto)]
+
+mod attributes;
+mod columns;
+mod feeding;
+mod finder;
+mod front;
+mod functions;
+pub mod laws;
+mod modes;
+mod repeating;
+mod tabs;
+
+pub use feeding::{feed_xterm, feed_xterm_reserved};
+pub use front::Front;

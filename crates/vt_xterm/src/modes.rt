@@ -1,0 +1,115 @@
+//! The pages, and the private modes that choose between them.
+ghost use Rattle.std.specs.Prelude.{◌≡◌};
+ghost use Rattle.vt_xterm.specs.Pages.{screens, shown_by, exchanged, show_page, show_or_clear, save_or_restore};
+ghost use Rattle.vt_xterm.specs.Pages.{show_and_save, allowed_column_mode, with_page_mode, change_page_modes};
+
+use crate::front::Pages;
+use vt_term::Terminal;
+
+/// Shows the other page.
+fn exchange(terminal: &mut Terminal, pages: &mut Pages, alternate: bool)
+    ensures terminal { terminal.new
+        ≡ shown_by (exchanged alternate (screens terminal.old pages.old)) terminal.old.held }
+    ensures pages { pages.new ≡ (exchanged alternate (screens terminal.old pages.old)).pages }
+{
+    terminal.exchange_page(&mut pages.other);
+    pages.alternate = alternate;
+}
+
+/// Carries out ?47: shows the alternate page, or the main one.
+fn show_page(terminal: &mut Terminal, pages: &mut Pages, alternate: bool)
+    ensures terminal { terminal.new
+        ≡ shown_by (show_page alternate (screens terminal.old pages.old)) terminal.old.held }
+    ensures pages { pages.new ≡ (show_page alternate (screens terminal.old pages.old)).pages }
+{
+    if pages.alternate {
+        if !alternate {
+            exchange(terminal, pages, false);
+        }
+    } else if alternate {
+        exchange(terminal, pages, true);
+    }
+}
+
+/// Carries out ?1047: shows the alternate page, or leaves it blank and shows the main one.
+fn show_or_clear(terminal: &mut Terminal, pages: &mut Pages, alternate: bool)
+    ensures terminal { terminal.new
+        ≡ shown_by (show_or_clear alternate (screens terminal.old pages.old)) terminal.old.held }
+    ensures pages { pages.new ≡ (show_or_clear alternate (screens terminal.old pages.old)).pages }
+{
+    if alternate {
+        show_page(terminal, pages, true);
+    } else if pages.alternate {
+        exchange(terminal, pages, false);
+        pages.other.blank();
+    }
+}
+
+/// Carries out ?1048: saves the cursor, or restores it.
+fn save_or_restore(terminal: &mut Terminal, pages: &Pages, save: bool)
+    ensures { terminal.new
+        ≡ shown_by (save_or_restore save (screens terminal.old pages.now)) terminal.old.held }
+{
+    let _ = pages;
+    if save {
+        terminal.save_cursor();
+    } else {
+        terminal.restore_cursor();
+    }
+}
+
+/// Carries out ?1049: saves the cursor and shows the alternate page blank, or shows the main one and restores the cursor.
+fn show_and_save(terminal: &mut Terminal, pages: &mut Pages, alternate: bool)
+    ensures terminal { terminal.new
+        ≡ shown_by (show_and_save alternate (screens terminal.old pages.old)) terminal.old.held }
+    ensures pages { pages.new ≡ (show_and_save alternate (screens terminal.old pages.old)).pages }
+{
+    if alternate {
+        terminal.save_cursor();
+        show_page(terminal, pages, true);
+        terminal.erase_in_display(2);
+    } else {
+        show_page(terminal, pages, false);
+        terminal.restore_cursor();
+    }
+}
+
+/// Carries out ?3: DECCOLM, if it has an effect.
+#[tactic(auto, unfolding(vt_term::specs::Modes::with_mode))]
+fn column_mode(terminal: &mut Terminal, pages: &Pages, wide: bool)
+    ensures { terminal.new
+        ≡ shown_by (allowed_column_mode wide (screens terminal.old pages.now)) terminal.old.held }
+{
+    if pages.resizes {
+        terminal.change_private_modes(&[3], wide);
+    }
+}
+
+/// Sets or resets a private mode.
+#[tactic(auto, unfolding(crate::specs::Pages::with_page_mode))]
+fn change_mode(terminal: &mut Terminal, pages: &mut Pages, p: u16, on: bool)
+    ensures terminal { terminal.new
+        ≡ shown_by (with_page_mode on p (screens terminal.old pages.old)) terminal.old.held }
+    ensures pages { pages.new ≡ (with_page_mode on p (screens terminal.old pages.old)).pages }
+{
+    match p {
+        3 => column_mode(terminal, pages, on),
+        40 => pages.resizes = on,
+        47 => show_page(terminal, pages, on),
+        1047 => show_or_clear(terminal, pages, on),
+        1048 => save_or_restore(terminal, pages, on),
+        1049 => show_and_save(terminal, pages, on),
+        _ => terminal.change_private_modes(&[p], on),
+    }
+}
+
+/// Carries out SM and RM of private modes: each parameter in order.
+pub(crate) fn change_modes(terminal: &mut Terminal, pages: &mut Pages, params: &[u16], on: bool)
+    ensures terminal { terminal.new
+        ≡ shown_by (change_page_modes on params.now (screens terminal.old pages.old)) terminal.old.held }
+    ensures pages { pages.new ≡ (change_page_modes on params.now (screens terminal.old pages.old)).pages }
+{
+    for p in params {
+        change_mode(terminal, pages, *p, on);
+    }
+}

@@ -1,0 +1,74 @@
+//! Tabs, by functions that a VT220 lacks.
+ghost use Rattle.std.specs.Prelude.{◌≡◌, ◌≤◌, ◌+◌, vec_len, vec_capacity};
+ghost use Rattle.vt_term.specs.Tabs.{horizontal_tab};
+ghost use Rattle.vt_xterm.specs.Tabs.{stop_before, back_tab, cursor_forward_tabulation, cursor_backward_tabulation};
+
+use vt_syntax::EventKind;
+use vt_term::{STOPS, Terminal};
+
+/// The control HT.
+const HT: u8 = 0x09;
+
+/// Returns the nearest stop left of a column, or else column 1.
+fn stop_before(stops: &[bool; STOPS], col: usize) -> usize
+    requires { (1 ≤ col) × (col ≤ STOPS) }
+    ensures value { result ≡ stop_before stops.now col }
+    ensures some { 1 ≤ result }
+    ensures within { result ≤ col }
+{
+    let mut c = col;
+    while c > 1 {
+        c -= 1;
+        if c > 1 && stops[c - 1] {
+            return c;
+        }
+    }
+    1
+}
+
+/// Moves the cursor to the stop before it.
+fn back_tab(terminal: &mut Terminal)
+    ensures { terminal.new ≡ record terminal.old { display = back_tab terminal.old.display } }
+{
+    let cursor = terminal.cursor();
+    let _ = terminal.width();
+    let col = stop_before(terminal.stops(), cursor.col);
+    terminal.move_to(cursor.row, col);
+}
+
+/// Carries out HT, which causes no report.
+#[tactic(auto, unfolding(vt_term::specs::Functions::control, vt_term::specs::Reports::control_report))]
+fn forward_tab(terminal: &mut Terminal, out: &mut Vec<u8>)
+    requires { vec_len out.old + 10 ≤ vec_capacity out.old }
+    ensures terminal { terminal.new ≡ record terminal.old { display = horizontal_tab terminal.old.display } }
+    ensures out { out.new.items ≡ out.old.items }
+    ensures len { vec_len out.new ≡ vec_len out.old }
+    ensures capacity { vec_capacity out.old ≤ vec_capacity out.new }
+{
+    terminal.carry_out(EventKind::Control(HT), &[], out);
+}
+
+/// Carries out CHT: HT `n` times. `out` stays, and has capacity for ten more bytes.
+pub(crate) fn cursor_forward_tabulation(terminal: &mut Terminal, n: u16, out: &mut Vec<u8>)
+    requires { vec_len out.old + 10 ≤ vec_capacity out.old }
+    ensures terminal { terminal.new
+        ≡ record terminal.old { display = cursor_forward_tabulation n terminal.old.display } }
+    ensures out { out.new.items ≡ out.old.items }
+    ensures len { vec_len out.new ≡ vec_len out.old }
+    ensures capacity { vec_capacity out.old ≤ vec_capacity out.new }
+{
+    let count = (n as usize).min(terminal.width());
+    for _ in 0..count {
+        forward_tab(terminal, out);
+    }
+}
+
+/// Carries out CBT: moves the cursor to the stop before it, `n` times.
+pub(crate) fn cursor_backward_tabulation(terminal: &mut Terminal, n: u16)
+    ensures { terminal.new ≡ record terminal.old { display = cursor_backward_tabulation n terminal.old.display } }
+{
+    let count = (n as usize).min(terminal.width());
+    for _ in 0..count {
+        back_tab(terminal);
+    }
+}

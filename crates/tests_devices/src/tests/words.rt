@@ -2,6 +2,7 @@
 ghost use Rattle.std.specs.Prelude.{◌≤◌};
 
 use std::alloc::Global;
+use std::process::Abort;
 use std::test::Fail;
 use vt_commands::{Break, Fault, Outcome, Part, carry_out};
 use vt_replay::{Encoding, Format, Moment, Request, Watched, What, Word};
@@ -260,7 +261,7 @@ fn words_are_carried_out_in_utf8(rt: HostRuntime) -> Result<(), Fail> {
 }
 
 /// Checks that each request is carried out as its row says, in chunks of three sizes.
-fn are_due(rt: &HostRuntime, rows: &[Row]) -> Result<(), Fail> {
+fn are_due<R: Abort + AllocGlobal>(rt: &R, rows: &[Row]) -> Result<(), Fail> {
     for row in rows {
         let name = row.0;
         assert!(rt; is_due(rt.alloc(), row, 1)?, "{name}");

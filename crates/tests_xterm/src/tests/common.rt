@@ -1,0 +1,70 @@
+//! What the tests share. The tests are of small functions that return whether a row holds, since the proof of one long
+//! function takes far more time than those of its parts.
+ghost use Rattle.std.specs.Prelude.{◌≤◌};
+
+use std::alloc::Global;
+use std::process::Abort;
+use std::test::Fail;
+use vt_term::Terminal;
+use vt_xterm::{Front, feed_xterm};
+
+/// A terminal behind a front, that was fed.
+#[derive(Drop)]
+pub(super) struct Reader {
+    pub(super) terminal: Terminal,
+    pub(super) front: Front,
+    pub(super) reports: Vec<u8>,
+}
+
+/// Asserts what a test has found of a row, which it names.
+pub(super) fn holds(rt: &impl Abort, row: &str, found: bool) {
+    assert!(rt; found, "{row}");
+}
+
+/// Returns a new terminal that was fed the input, so many bytes at a time.
+pub(super) fn fed(alloc: Global, input: &[u8], size: usize) -> Result<Reader, Fail>
+    requires { 1 ≤ size }
+{
+    let mut terminal = Terminal::new(alloc)?;
+    let mut front = Front::new(alloc)?;
+    let mut reports = Vec::new(alloc);
+    for piece in input.chunks(size) {
+        feed_xterm(&mut terminal, &mut front, piece, &mut reports)?;
+    }
+    Ok(Reader {
+        terminal,
+        front,
+        reports,
+    })
+}
+
+/// Returns whether the screen begins with this text, if the input is fed so many bytes at a time, and the cursor is here.
+fn shows_in(
+    alloc: Global,
+    input: &[u8],
+    size: usize,
+    text: &str,
+    place: (u16, u16),
+) -> Result<bool, Fail>
+    requires { 1 ≤ size }
+{
+    let fed = fed(alloc, input, size)?;
+    let mut screen = Vec::new(alloc);
+    fed.terminal.text(&mut screen)?;
+    let cursor = fed.terminal.cursor();
+    let is_there = (cursor.row as u16, cursor.col as u16) == place;
+    Ok(is_there && screen.as_slice().starts_with(text.as_bytes()))
+}
+
+/// Returns whether the screen begins with this text and the cursor is here, byte by byte, by threes and all at once.
+pub(super) fn shows(
+    alloc: Global,
+    input: &[u8],
+    text: &str,
+    place: (u16, u16),
+) -> Result<bool, Fail> {
+    let is_right = shows_in(alloc, input, 1, text, place)?
+        && shows_in(alloc, input, 3, text, place)?
+        && shows_in(alloc, input, 4096, text, place)?;
+    Ok(is_right)
+}

@@ -1,9 +1,11 @@
 """What a session wrote, for other programs: its bytes, or a recording with the moments, as asciicast 2 or ttyrec."""
+import codecs
 import json
 import os
 import struct
 import subprocess
 
+from .keys import encoding_of, key
 from .session import bytes_of
 
 PROGRAM = os.path.join(os.path.dirname(os.path.abspath(__file__)), "..", "..", "crates", "vt220", "out", "vt220")
@@ -25,14 +27,23 @@ def log(store, incarnation, out):
 
 
 def asciicast(store, incarnation, title, out):
-    """Writes an asciicast, version 2. C1 controls and what is no UTF-8 are carried as the code points U+0080 to U+00FF."""
+    """Writes an asciicast, version 2. Of a session in UTF-8 the characters are written, with U+FFFD for what is ill-formed. Otherwise
+    the bytes 80 to FF are the code points U+0080 to U+00FF."""
     begin = None
+    encoding = encoding_of(store.hget(key(incarnation, "about"), "encoding"))
+    decode = codecs.getincrementaldecoder("utf-8" if encoding == "utf-8" else "latin-1")("replace").decode
     for _, moment, data in bytes_of(store, incarnation):
         if begin is None:
             begin = moment
             head = {"version": 2, "width": 80, "height": 24, "timestamp": begin // 1000, "title": title, "env": {"TERM": "vt220"}}
             out.write(json.dumps(head).encode() + b"\n")
-        out.write(json.dumps([round((moment - begin) / 1000, 3), "o", data.decode("latin-1")]).encode() + b"\n")
+        out.write(event(moment - begin, decode(data)))
+    if begin is not None and (rest := decode(b"", True)):
+        out.write(event(moment - begin, rest))
+
+
+def event(milliseconds, text):
+    return json.dumps([round(milliseconds / 1000, 3), "o", text]).encode() + b"\n"
 
 
 def ttyrec(store, incarnation, out):

@@ -1,13 +1,15 @@
 """Sessions whose programs write UTF-8: where checkpoints are, who plays them, and what programs and viewers get."""
 import json
-import os
+import random
 
 from harness import PATIENCE, Processes, Source, check, key, keys, raises, session, settings, stores, until, wait_for, with_machine, worker
 from operators import written
 from safety import fleet
 from stores_faults import program
 from fleet.worker import Worker
+import vt220
 
+seed = 1
 UTF8 = keys.NEEDED["utf-8"]
 # Characters that a VT220 has, of one to three bytes, and a question.
 TEXT = "Gr\u00fc\u00dfe \u250c\u2500\u2510\r\n\u00bfqu\u00e9?"
@@ -61,6 +63,32 @@ def what_is_pending_at_the_end_is_played_again(url, _):
     check(source.store.hget(source.part("ended"), "text").startswith("\u250c\n".encode()), name, "the character is whole")
     check([entry_id for entry_id, _ in source.store.xrange(source.part("answers"))] == [b"4-0", b"11-0"], name, "positions")
     check(source.receive().reports() == b"\033[1;1R\033[1;2R", name, "reports")
+
+
+PIECES = [TEXT.encode(), b"\xe2\x94", b"\xff", b"\xc2\x9b6n", b"\033[6n", b"\033[c", "\u65e5\u0301".encode(), b"\033]0;\xc2\x9c\xe2\033\\", b"\xf0\x9f\x98\x80"]
+
+
+def ill_formed_bytes_are_cut_anywhere(url, _):
+    """Parts of characters, sequences and strings, cut at random, while workers die. The library plays them at once."""
+    name, chance, at = "ill-formed", random.Random(seed), 0
+    data = b"".join(chance.choice(PIECES)[: chance.randint(1, 12)] for _ in range(400)) + b"\030"
+    whole = vt220.Terminal("utf-8")
+    reports = whole.feed(data)
+    source, one = Source(url, name, encoding="utf-8"), worker(url, every=1, keep=0)
+    while at < len(data):
+        size = chance.randint(1, 30)
+        source.send(data[at : at + size])
+        at += len(data[at : at + size])
+        until(lambda: played(source) == at and not one.due, one)
+        source.receive()
+        if chance.random() < 0.3:
+            one.store.run("bury", one.claims.me, one.store.hget(keys.WORKERS, one.claims.me), 500)
+            one = worker(url, every=1, keep=0)
+    source.end(0)
+    check(until(source.is_ended, one), name, f"it ends: {source.fault()}")
+    check(source.store.hget(source.part("ended"), "text").decode() == whole.text(), name, "the text")
+    check(session.as_it_is(source.store, source.incarnation).terminal.repaint() == whole.repaint(), name, "the repaint")
+    check(source.receive().reports() == reports and len(reports) > 100, name, f"the reports: {len(reports)} bytes")
 
 
 def an_older_worker_takes_no_session_in_utf_8(url, _):
@@ -123,6 +151,7 @@ def a_program_writes_and_reads_utf_8(machine, _):
 CASES = [
     a_checkpoint_is_before_what_is_pending,
     what_is_pending_at_the_end_is_played_again,
+    ill_formed_bytes_are_cut_anywhere,
     an_older_worker_takes_no_session_in_utf_8,
     a_wrong_encoding_is_a_fault,
     a_program_writes_and_reads_utf_8,

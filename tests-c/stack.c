@@ -43,6 +43,16 @@ static void *logs(void *unused) {
     return unused;
 }
 
+static void *feeds_utf8(void *unused) {
+    static uint8_t lines[100000];
+    static vt220_utf8 u;
+    size_t lines_written;
+    vt220_feed_utf8(&b, &u, input, sizeof input, NULL, 0, NULL);
+    for (size_t at = 0; at < sizeof input;)
+        at += vt220_feed_log_utf8(&b, &s, &u, input + at, sizeof input - at, NULL, 0, NULL, lines, sizeof lines, &lines_written);
+    return unused;
+}
+
 static void *writes(void *unused) {
     vt220_text(&b, &s, out, sizeof out, &written);
     vt220_row_text(&b, &s, 1, out, sizeof out, &written);

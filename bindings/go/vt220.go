@@ -150,6 +150,14 @@ func Key(key string, modes Modes) ([]byte, error) {
 	return C.GoBytes(unsafe.Pointer(&out[0]), C.int(written)), nil
 }
 
+// Shown returns the glyph with which UTF-8 input shows a character, and how many cells it has: 0, 1 or 2. The second cell is a space. The
+// glyph of a character without a cell, such as a control or a combining mark, is 0.
+func Shown(character rune) (glyph rune, cells int) {
+	var count C.size_t
+	glyph = rune(C.vt220_shown(C.uint32_t(character), &count))
+	return glyph, int(count)
+}
+
 // KeyLength returns how many bytes the first key has of what was typed on a modern terminal, and 0 if its end is missing.
 func KeyLength(typed []byte) int { return int(C.vt220_key_length(chars(typed), C.size_t(len(typed)))) }
 
@@ -195,6 +203,24 @@ func (s *Scratch) written(call func(length *C.size_t) C.uint32_t) ([]byte, error
 	return C.GoBytes(unsafe.Pointer(&s.out[0]), C.int(length)), nil
 }
 
+// Decoder holds what is pending of UTF-8 input: the bytes of a character that isn't complete yet. Its zero value has nothing pending. It
+// belongs to the input of one terminal. A nil Decoder forgets what is pending after each call.
+type Decoder struct{ pending C.vt220_utf8 }
+
+// Pending returns the pending bytes, at most three. After a repaint they complete a checkpoint: feed both to a new terminal and decoder.
+func (d *Decoder) Pending() []byte {
+	pending := d.handle()
+	return C.GoBytes(unsafe.Pointer(&pending.bytes[0]), C.int(pending.len))
+}
+
+// handle returns what is pending as the library takes it.
+func (d *Decoder) handle() *C.vt220_utf8 {
+	if d == nil {
+		return new(C.vt220_utf8)
+	}
+	return &d.pending
+}
+
 // Terminal is a VT220. It is closed by Close, or when nothing refers to it any more.
 type Terminal struct {
 	_       noCopy
@@ -231,34 +257,63 @@ func (t *Terminal) Close() { C.vt220_close(&t.handle) }
 // IsOpen returns whether the terminal is open.
 func (t *Terminal) IsOpen() bool { return bool(C.vt220_is_open(&t.handle)) }
 
-// Feed plays all bytes of the host, and returns the reports to it.
-func (t *Terminal) Feed(bytes []byte) (reports []byte) {
+// feed plays all bytes by a call of the library. The call is given what is left, and where it writes the length of the reports.
+func (t *Terminal) feed(bytes []byte, call func(at *C.uint8_t, length C.size_t, written *C.size_t) C.size_t) (reports []byte) {
 	var written C.size_t
 	for len(bytes) > 0 && t.IsOpen() {
-		at := (*C.uint8_t)(&bytes[0])
-		played := C.vt220_feed(&t.handle, at, C.size_t(len(bytes)), &t.reports[0], C.size_t(len(t.reports)), &written)
+		played := call((*C.uint8_t)(&bytes[0]), C.size_t(len(bytes)), &written)
 		reports = append(reports, C.GoBytes(unsafe.Pointer(&t.reports[0]), C.int(written))...)
 		bytes = bytes[played:]
 	}
 	return reports
 }
 
-// FeedLog plays all bytes of the host as Feed does. It returns the reports, and the lines that scroll off the top of the screen, each
-// as RowText returns it. It returns ErrClosed if the terminal or the scratch buffer is closed, and has then played nothing.
-func (t *Terminal) FeedLog(bytes []byte, s *Scratch) (reports, lines []byte, err error) {
-	var written, linesWritten C.size_t
+// Feed plays all bytes of the host, and returns the reports to it.
+func (t *Terminal) Feed(bytes []byte) (reports []byte) {
+	return t.feed(bytes, func(at *C.uint8_t, length C.size_t, written *C.size_t) C.size_t {
+		return C.vt220_feed(&t.handle, at, length, &t.reports[0], C.size_t(len(t.reports)), written)
+	})
+}
+
+// FeedUTF8 plays all bytes of a host that sends UTF-8, and returns the reports to it. A character that a VT220 lacks is shown as Shown
+// returns it. What is pending before and after the bytes is in the decoder.
+func (t *Terminal) FeedUTF8(d *Decoder, bytes []byte) (reports []byte) {
+	pending := d.handle()
+	return t.feed(bytes, func(at *C.uint8_t, length C.size_t, written *C.size_t) C.size_t {
+		return C.vt220_feed_utf8(&t.handle, pending, at, length, &t.reports[0], C.size_t(len(t.reports)), written)
+	})
+}
+
+// feedLog does as feed. The call also writes lines into the scratch buffer, and is given where it writes their length.
+func (t *Terminal) feedLog(bytes []byte, s *Scratch, call func(at *C.uint8_t, length C.size_t, written, logged *C.size_t) C.size_t) (reports, lines []byte, err error) {
+	var logged C.size_t
 	if !t.IsOpen() || s == nil || !bool(C.vt220_scratch_is_open(&s.handle)) {
 		return nil, nil, ErrClosed
 	}
-	for len(bytes) > 0 {
-		at := (*C.uint8_t)(&bytes[0])
-		played := C.vt220_feed_log(&t.handle, &s.handle, at, C.size_t(len(bytes)), &t.reports[0], C.size_t(len(t.reports)), &written,
-			&s.out[0], C.size_t(len(s.out)), &linesWritten)
-		reports = append(reports, C.GoBytes(unsafe.Pointer(&t.reports[0]), C.int(written))...)
-		lines = append(lines, C.GoBytes(unsafe.Pointer(&s.out[0]), C.int(linesWritten))...)
-		bytes = bytes[played:]
-	}
+	reports = t.feed(bytes, func(at *C.uint8_t, length C.size_t, written *C.size_t) C.size_t {
+		played := call(at, length, written, &logged)
+		lines = append(lines, C.GoBytes(unsafe.Pointer(&s.out[0]), C.int(logged))...)
+		return played
+	})
 	return reports, lines, nil
+}
+
+// FeedLog plays all bytes of the host as Feed does. It returns the reports, and the lines that scroll off the top of the screen, each
+// as RowText returns it. It returns ErrClosed if the terminal or the scratch buffer is closed, and has then played nothing.
+func (t *Terminal) FeedLog(bytes []byte, s *Scratch) (reports, lines []byte, err error) {
+	return t.feedLog(bytes, s, func(at *C.uint8_t, length C.size_t, written, logged *C.size_t) C.size_t {
+		return C.vt220_feed_log(&t.handle, &s.handle, at, length, &t.reports[0], C.size_t(len(t.reports)), written,
+			&s.out[0], C.size_t(len(s.out)), logged)
+	})
+}
+
+// FeedLogUTF8 plays all bytes of a host that sends UTF-8, and otherwise does as FeedLog.
+func (t *Terminal) FeedLogUTF8(d *Decoder, bytes []byte, s *Scratch) (reports, lines []byte, err error) {
+	pending := d.handle()
+	return t.feedLog(bytes, s, func(at *C.uint8_t, length C.size_t, written, logged *C.size_t) C.size_t {
+		return C.vt220_feed_log_utf8(&t.handle, &s.handle, pending, at, length, &t.reports[0], C.size_t(len(t.reports)), written,
+			&s.out[0], C.size_t(len(s.out)), logged)
+	})
 }
 
 // Text returns the screen as text: 24 lines, each without the spaces at its end, and with a line feed.

@@ -3,8 +3,9 @@ import pathlib
 import sys
 import vt220
 
-# What each reader returns, as all bindings are tested with.
+# What each reader returns, and how UTF-8 is fed, as all bindings are tested with.
 FIELDS = pathlib.Path(__file__).resolve().parents[2] / "tests-c/fields.txt"
+UTF8 = FIELDS.parent / "utf8.txt"
 
 passed = failed = 0
 
@@ -67,7 +68,7 @@ def readers():
     other = vt220.Terminal()
     for name, arguments in [("feed", [b"x"]), ("feed_until_report", [b"x"]), ("text", []), ("repaint", []), ("update", [other]), ("row", [1]), ("cursor", []),
                             ("row_text", [1]), ("show", []), ("picture", []), ("changed", [other, 1]), ("copy_from", [other]), ("reset", []),
-                            ("bells", []), ("brush", []), ("sets", []), ("stops", []), ("saved", []), ("margins", []), ("modes", []), ("width", []), ("is_between", []), ("held", []), ("same_state", [other])]:
+                            ("bells", []), ("pending", []), ("brush", []), ("sets", []), ("stops", []), ("saved", []), ("margins", []), ("modes", []), ("width", []), ("is_between", []), ("held", []), ("same_state", [other])]:
         check(raises(vt220.Closed, getattr(terminal, name), *arguments), "closed", name)
     check(raises(vt220.Closed, other.update, terminal), "closed", "update to it")
     terminal.close()
@@ -125,6 +126,65 @@ def one_field_at_a_time():
     check(len(rows) >= 50, "fields", f"{len(rows)} rows")
 
 
+def fed(data, size, feed):
+    """Returns what a new terminal that is fed chunks of a size has and returned, by the names of tests-c/utf8.txt."""
+    with vt220.Terminal("utf-8") as terminal:
+        told = [feed(terminal, data[at : at + size]) for at in range(0, len(data), size)]
+        return {"text": terminal.text().rstrip("\n"), "pending": terminal.pending(), "reports": b"".join(reports for reports, _ in told),
+                "lines": "".join(lines for _, lines in told)}
+
+
+def resumed(data, at):
+    """Returns whether a checkpoint after so many bytes leads to the same end, if one can be made there."""
+    with vt220.Terminal("utf-8") as whole, vt220.Terminal("utf-8") as first, vt220.Terminal("utf-8") as second:
+        whole.feed(data)
+        first.feed(data[:at])
+        copied = first.copy()
+        if not first.is_between():
+            return True
+        second.feed(first.repaint() + first.pending())
+        copied.feed(data[at:])
+        second.feed(data[at:])
+        return all(one.same_state(whole) and one.pending() == whole.pending() for one in (second, copied))
+
+
+def utf8():
+    """Each row of tests-c/utf8.txt, whole and byte by byte, and from a checkpoint at each byte."""
+    rows = [line.split("\t") for line in UTF8.read_text(encoding="utf-8").splitlines() if not line.startswith("#")]
+    for name, data, *fields in rows:
+        data, wanted = bytes.fromhex(data), {"text": "", "pending": "", "reports": "", "lines": ""} | dict(field.split("=", 1) for field in fields)
+        wanted = {of: bytes.fromhex(value) if of in ("pending", "reports") else value.replace("\\n", "\n") for of, value in wanted.items()}
+        for size in (len(data), 1):
+            check(fed(data, size, vt220.Terminal.feed_log) == wanted, "utf8", f"{name}: chunks of {size}")
+            found = fed(data, size, lambda terminal, piece: (terminal.feed(piece), ""))
+            check(found == {**wanted, "lines": ""}, "utf8", f"{name}: chunks of {size} without the log")
+        check(all(resumed(data, at) for at in range(len(data))), "utf8", f"{name}: checkpoints")
+    check(len(rows) >= 30, "utf8", f"{len(rows)} rows")
+
+
+def encodings():
+    with vt220.Terminal("utf-8") as terminal, vt220.Terminal() as other:
+        check((terminal.encoding, other.encoding) == ("utf-8", "dec"), "encodings", "names")
+        terminal.feed(b"caf\xc3")
+        other.copy_from(terminal)
+        check(terminal.pending() == b"\xc3" and other.pending() == b"" and other.same_state(terminal), "encodings", "what is pending is next to the state")
+        check(terminal.feed_until_report(b"\xa9\033[6n\xe2\x80") == (5, b"\033[1;5R") and terminal.pending() == b"", "encodings", "a report")
+        check(terminal.feed_until_report(b"\xe2\x80") == (2, b"") and terminal.copy().pending() == b"\xe2\x80", "encodings", "a copy")
+        terminal.copy_from(other)
+        check(terminal.pending() == b"" and other.update(terminal) == b"", "encodings", "a copy of other bytes has nothing pending")
+        terminal.feed(b"\xe2")
+        terminal.reset()
+        check(terminal.pending() == b"" and terminal.text() == "\n" * 24, "encodings", "a reset")
+        check(other.feed(b"\r\xc3\xa9") == b"" and other.row_text(1) == "\u00c3\u00a9f\n", "encodings", "the VT220's own bytes")
+    check(all(raises(ValueError, vt220.Terminal, name) for name in ("utf8", "latin-1", "", None)), "encodings", "another one")
+    check(raises(vt220.Closed, terminal.pending) and raises(vt220.Closed, terminal.feed_log, b"x"), "encodings", "closed")
+    # By the tables of docs/SPECIFICATION.md, 'UTF-8'.
+    shown = {"Welt": "Welt", "\u201cWelt\u201d": '"Welt"', "\u2501\u251b": "\u2500\u2518", "\u4e16x": "\u2426 x", "e\u0301": "e", "\u00ad": "-",
+             "\uff21": "A ", "a\n\t\x7f": "a\n\t\x7f", "\u0085": "", "": ""}
+    for text, cells in shown.items():
+        check(vt220.shown(text) == cells, "encodings", f"{text!r} is shown as {vt220.shown(text)!r}")
+
+
 with open(sys.argv[1]) as file:
     next(file)
     for line in file:
@@ -133,5 +193,7 @@ with open(sys.argv[1]) as file:
 readers()
 parts()
 one_field_at_a_time()
+utf8()
+encodings()
 print(f"python: {passed} passed, {failed} failed")
 sys.exit(failed != 0)

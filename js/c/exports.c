@@ -161,6 +161,32 @@ EXPORT(key) uint32_t js_key(uint32_t modes, uint32_t len) {
 
 EXPORT(key_length) uint32_t js_key_length(uint32_t len) { return (uint32_t)vt220_key_length((const char *)input, len); }
 
+/* --- UTF-8 --- */
+
+/* The pending part. JavaScript writes it before a feed of UTF-8, and reads it afterwards. */
+static vt220_utf8 utf8;
+
+_Static_assert(sizeof utf8 == 4 && LINES >= VT220_UTF8_LINES_LIMIT, "JavaScript copies four bytes; a call takes at least one byte");
+
+EXPORT(utf8) uint32_t js_utf8(void) { return address(&utf8); }
+
+EXPORT(feed_utf8) uint32_t js_feed_utf8(uint32_t t, uint32_t from, uint32_t to) {
+    return (uint32_t)vt220_feed_utf8(AT(vt220, t), &utf8, input + from, to - from, reports, REPORTS, &written);
+}
+
+EXPORT(feed_log_utf8) uint32_t js_feed_log_utf8(uint32_t t, uint32_t from, uint32_t to) {
+    return (uint32_t)vt220_feed_log_utf8(AT(vt220, t), &scratch, &utf8, input + from, to - from, reports, REPORTS, &written, lines, LINES,
+                                         &lines_written);
+}
+
+/* Returns the glyph with which UTF-8 shows a character, and writes to `part` how many cells it has. */
+EXPORT(shown) uint32_t js_shown(uint32_t character) {
+    size_t count;
+    uint32_t glyph = vt220_shown(character, &count);
+    part[0] = (uint32_t)count;
+    return glyph;
+}
+
 /* --- for tests --- */
 
 /* Allocates, moves and frees a block, which the library does with no size but its own. Returns whether the heap did as it should. */

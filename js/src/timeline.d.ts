@@ -1,4 +1,4 @@
-import type { Core, Terminal } from "./vt220.js";
+import type { Core, Encoding, Terminal } from "./vt220.js";
 
 /** A recording: what came at each time. */
 export interface Recording {
@@ -28,8 +28,11 @@ export interface Span {
  * way a seek got there.
  */
 export declare class Timeline {
-  /** `every` is how many bytes lie between two checkpoints. Throws TypeError or RangeError if the recording isn't one. */
-  constructor(core: Core, recording: Recording, options?: { every?: number });
+  /**
+   * `every` is how many bytes lie between two checkpoints. `encoding` is that of the recording, as a Terminal takes it. Throws TypeError
+   * or RangeError if the recording isn't one.
+   */
+  constructor(core: Core, recording: Recording, options?: { every?: number; encoding?: Encoding });
   /** Closes the terminal. */
   close(): void;
   /** The terminal at the position. Only look at it: seek() feeds it. */
@@ -58,7 +61,8 @@ export declare class Timeline {
   /** Brings the terminal to the position at a time, and returns it. */
   seekTime(time: number): Terminal;
   /**
-   * Returns each span of time in which a text was on the screen, within one row. Without `matchCase`, upper and lower case are equal.
+   * Returns each span of time in which a text was on the screen, within one row. Without `matchCase`, upper and lower case are equal. In a
+   * recording in UTF-8 a character is found by what is shown for it.
    * The result depends on the recording and the arguments alone.
    */
   search(text: string, options?: { matchCase?: boolean; limit?: number }): Span[];

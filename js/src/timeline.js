@@ -1,5 +1,6 @@
 // timeline.js: the terminal at each moment of a recording. A position is a number of bytes, and the state there is that of the bytes
-// before it. So it doesn't depend on how a seek got there: from the beginning, or from a checkpoint, which is a repaint.
+// before it. So it doesn't depend on how a seek got there: from the beginning, or from a checkpoint, which is a repaint and the pending
+// bytes of UTF-8.
 import { ROWS, Terminal } from "./vt220.js";
 
 /** How many bytes lie between two checkpoints. A seek plays at most about as many. */
@@ -34,16 +35,16 @@ export class Timeline {
   #every;
   #checkpoints;
 
-  constructor(core, recording, { every = EVERY } = {}) {
+  constructor(core, recording, { every = EVERY, encoding } = {}) {
     checked(recording);
     this.#core = core;
     this.#bytes = recording.bytes;
     this.#times = Float64Array.from(recording.times);
     this.#ends = Float64Array.from(recording.ends);
     this.#every = Math.max(1, every);
-    this.terminal = new Terminal(core);
+    this.terminal = new Terminal(core, { encoding });
     this.position = 0;
-    this.#checkpoints = [{ position: 0, repaint: this.terminal.repaint() }];
+    this.#checkpoints = [this.#checkpoint()];
   }
 
   close() {
@@ -89,6 +90,10 @@ export class Timeline {
     return position <= 0 ? 0 : this.#times[Math.min(chunk, this.#times.length - 1)] ?? 0;
   }
 
+  #checkpoint() {
+    return { position: this.position, repaint: this.terminal.repaint(), pending: this.terminal.pending };
+  }
+
   /** Plays up to a position. Sets a checkpoint at the first place between sequences that is far enough from the last one. */
   #play(to) {
     while (this.position < to) {
@@ -96,7 +101,7 @@ export class Timeline {
       const next = Math.min(to, Math.max(due, this.position + 1));
       this.terminal.feed(this.#bytes.subarray(this.position, next));
       this.position = next;
-      if (next >= due && this.terminal.isBetween) this.#checkpoints.push({ position: next, repaint: this.terminal.repaint() });
+      if (next >= due && this.terminal.isBetween) this.#checkpoints.push(this.#checkpoint());
     }
   }
 
@@ -106,6 +111,7 @@ export class Timeline {
     if (to < this.position || from.position > this.position) {
       this.terminal.reset();
       this.terminal.feed(from.repaint);
+      this.terminal.feed(from.pending);
       this.position = from.position;
     }
     this.#play(to);
@@ -118,12 +124,14 @@ export class Timeline {
 
   search(text, { matchCase = false, limit = Infinity } = {}) {
     const fold = (line) => (matchCase ? line : line.toLowerCase());
-    const wanted = fold(text), screens = new Screens(this.#core), spans = [];
+    const { encoding } = this.terminal, wanted = fold(encoding === "utf-8" ? this.#core.shown(text) : text);
+    // A row's text has no spaces at its end, and the second cell of a character is one.
+    const screens = new Screens(this.#core, encoding), spans = [], end = encoding === "utf-8" ? " " : "";
     if (wanted === "") return spans;
     const places = new Array(ROWS).fill(-1);
     let open = null, at = 0;
     for (let chunk = 0; chunk < this.#ends.length && spans.length < limit; chunk++) {
-      for (const row of screens.feed(this.#bytes.subarray(at, this.#ends[chunk]))) places[row - 1] = fold(screens.rowText(row)).indexOf(wanted);
+      for (const row of screens.feed(this.#bytes.subarray(at, this.#ends[chunk]))) places[row - 1] = fold(screens.rowText(row) + end).indexOf(wanted);
       at = this.#ends[chunk];
       const row = places.findIndex((place) => place >= 0);
       if (row >= 0) open ??= { time: this.#times[chunk], position: at, row: row + 1, column: places[row] + 1 };
@@ -142,8 +150,8 @@ if (Symbol.dispose) Timeline.prototype[Symbol.dispose] = Timeline.prototype.clos
 
 /** A terminal, and one in the state in which its rows were last looked at. */
 class Screens {
-  constructor(core) {
-    this.terminal = new Terminal(core);
+  constructor(core, encoding) {
+    this.terminal = new Terminal(core, { encoding });
     this.seen = new Terminal(core);
   }
 

@@ -22,7 +22,15 @@ export interface Core {
   key(key: string, modes: Partial<Modes>): Uint8Array;
   /** Returns how many bytes the first key has of what was typed on a modern terminal, and 0 if its end is missing. */
   keyLength(typed: Uint8Array): number;
+  /**
+   * Returns how a text in UTF-8 is shown: each character beyond ASCII as its glyph, with a space after it if it has two cells. A
+   * character that a VT220 lacks has a similar glyph, or U+2426. One that has no cell, such as a combining mark, is left out.
+   */
+  shown(text: string): string;
 }
+
+/** The encoding of what a host sends: the VT220's own bytes, or UTF-8. */
+export type Encoding = "dec" | "utf-8";
 
 /**
  * Loads the core. The source is the bytes of vt220.wasm, its module, or a response with it, or a promise of one of these. Without one,
@@ -111,7 +119,9 @@ export type Held = "nothing" | "escape" | "control" | "string";
  * more. A closed terminal throws CLOSED, except from close() and isOpen. On an error nothing has changed.
  */
 export declare class Terminal {
-  constructor(core: Core);
+  /** Without an encoding the host sends the VT220's own bytes. */
+  constructor(core: Core, options?: { encoding?: Encoding });
+  readonly encoding: Encoding;
   /** Frees the terminal's memory. Does nothing if it is closed. */
   close(): void;
   readonly isOpen: boolean;
@@ -120,9 +130,14 @@ export declare class Terminal {
   feed(bytes: Uint8Array): Uint8Array;
   /** Does the same, and also returns the lines that scroll off the top of the screen, each as rowText returns it. */
   feedLog(bytes: Uint8Array): { replies: Uint8Array; lines: string[] };
-  /** Resets the terminal to its power-up state, as RIS does, also inside a sequence. */
+  /**
+   * The bytes at the end of the input that begin a character of UTF-8, at most three. Nothing shows them yet. They aren't part of the
+   * state: a checkpoint is repaint() and, after it, pending. Fed to a new terminal of the same encoding, the two lead on as here.
+   */
+  readonly pending: Uint8Array;
+  /** Resets the terminal to its power-up state, as RIS does, also inside a sequence. Nothing is pending then. */
   reset(): void;
-  /** Brings this terminal into the state of `from`, also inside a sequence. */
+  /** Brings this terminal into the state of `from`, also inside a sequence. If its encoding is UTF-8, `pending` is copied, too. */
   copyFrom(from: Terminal): void;
 
   /** Returns the screen as 24 lines, each without the spaces at its end, and LF. */

@@ -15,6 +15,8 @@ const SETS = ["g0", "g1", "g2", "g3", "gl", "gr", "singleShift"];
 const SAVED = ["row", "column", "wrap", "origin", ...BRUSH, "g0", "g1", "g2", "g3", "gl", "gr"];
 const FLAGS = new Set(["wrap", "origin", ...BRUSH, ...MODES]);
 const SET_NAMES = new Set(["g0", "g1", "g2", "g3"]);
+const ENCODINGS = ["dec", "utf-8"];
+const PENDING = 4; // bytes: three of a character of UTF-8, and how many of them are pending
 const CELL = 12; // bytes: the number of the glyph, five attributes and three reserved bytes
 
 export class Vt220Error extends Error {
@@ -158,16 +160,33 @@ class Core {
   keyLength(typed) {
     return this.calls.key_length(this.input(typed));
   }
+
+  #shownCharacter(character) {
+    const glyph = this.calls.shown(character.codePointAt(0)), [cells] = this.words("part", 1);
+    return cells === 0 ? "" : String.fromCodePoint(glyph).padEnd(cells);
+  }
+
+  shown(text) {
+    return text.replace(/[^\0-\x7f]/gu, (character) => this.#shownCharacter(character));
+  }
 }
 
 export class Terminal {
   #core;
   #at;
+  #isUtf8;
+  #pending = new Uint8Array(PENDING);
 
-  constructor(core) {
+  constructor(core, { encoding = "dec" } = {}) {
     if (!(core instanceof Core)) throw new TypeError("a terminal needs the core that load() returns");
+    if (!ENCODINGS.includes(encoding)) throw new TypeError(`an encoding is one of ${ENCODINGS.join(", ")}`);
     this.#core = core;
+    this.#isUtf8 = encoding === "utf-8";
     this.#at = core.open(this);
+  }
+
+  get encoding() {
+    return ENCODINGS[Number(this.#isUtf8)];
   }
 
   close() {
@@ -192,9 +211,10 @@ export class Terminal {
   }
 
   /** Feeds bytes by a call of the module, and passes the replies and the lines of each to `take`. */
-  #feed(call, bytes, take) {
+  #feed(name, bytes, take) {
     if (!(bytes instanceof Uint8Array)) throw new TypeError("a terminal is fed a Uint8Array");
-    const core = this.#core, handle = this.#handle;
+    const core = this.#core, handle = this.#handle, call = this.#isUtf8 ? `${name}_utf8` : name;
+    if (this.#isUtf8) core.bytes.set(this.#pending, core.calls.utf8());
     for (let at = 0; at < bytes.length; ) {
       const size = core.input(bytes.subarray(at));
       for (let fed = 0; fed < size; ) {
@@ -203,6 +223,7 @@ export class Terminal {
       }
       at += size;
     }
+    if (this.#isUtf8) this.#pending = core.copied("utf8", PENDING);
   }
 
   feed(bytes) {
@@ -259,10 +280,16 @@ export class Terminal {
 
   copyFrom(from) {
     this.#core.expect(this.#core.calls.copy(this.#handle, this.#other(from)));
+    if (this.#isUtf8) this.#pending = from.#pending.slice();
   }
 
   reset() {
     this.#core.expect(this.#core.calls.reset(this.#handle));
+    this.#pending.fill(0);
+  }
+
+  get pending() {
+    return this.#handle && this.#pending.slice(0, this.#pending[PENDING - 1]);
   }
 
   sameState(other) {

@@ -1,4 +1,4 @@
-// Tests the package in node: the vectors, inputs beside the library for C, each call, and the Timeline.
+// Tests the package in node: the vectors, inputs beside the library for C, each call, the Timeline, and UTF-8.
 //   node tests/modules.mjs PACKAGE VECTORS HASHES      the last line is 'N passed, M failed'
 import { readFile } from "node:fs/promises";
 import { pathToFileURL } from "node:url";
@@ -6,6 +6,7 @@ import { Worker } from "node:worker_threads";
 import { calls } from "./calls.mjs";
 import { hashes } from "./hashes.mjs";
 import { timelines } from "./timelines.mjs";
+import { utf8 } from "./utf8.mjs";
 import { vectors } from "./vectors.mjs";
 
 const [place, vectorFile, hashFile] = process.argv.slice(2);
@@ -29,6 +30,7 @@ all.forEach(([input, theirs], i) => check(`beside the library, ${input.slice(0, 
 
 await calls(vt220, wasm, check);
 timelines(vt220, core, check);
+utf8(vt220, core, await readFile(new URL("../../tests-c/utf8.txt", import.meta.url), "utf8"), check);
 
 const script = `import { load, Terminal } from ${JSON.stringify(pathToFileURL(`${place}/src/vt220.js`).href)};
 import { parentPort } from "node:worker_threads";

@@ -72,7 +72,7 @@ def test_dropped_terminals_leave_no_memory():
 # A crash ends its process, so each of these runs in one of its own.
 HAMMER = """
 import threading, vt220
-terminal, other = vt220.Terminal(), vt220.Terminal()
+terminal, other, text = vt220.Terminal(), vt220.Terminal(), vt220.Terminal("utf-8")
 stop = threading.Event()
 def hammer(call):
     while not stop.is_set():
@@ -80,7 +80,7 @@ def hammer(call):
             call()
         except vt220.Error:
             pass
-data = b"\\033[?3habc\\033[6n\\033[4h\\033(0lqk\\033[2J" * 300
+data = b"\\033[?3habc\\033[6n\\033[4h\\033(0lqk\\033[2J\\xe4\\xb8\\x96\\xe2" * 300
 calls = {calls}
 threads = [threading.Thread(target=hammer, args=[call]) for call in calls for _ in range(2)]
 for thread in threads: thread.start()
@@ -96,6 +96,7 @@ print("alive")
     "[lambda: terminal.feed(data), terminal.repaint, lambda: terminal.row(5), lambda: other.update(terminal), terminal.modes]",
     "[lambda: terminal.feed(data), lambda: terminal.close(), lambda: terminal.__init__(), terminal.text]",
     "[lambda: other.update(terminal), lambda: terminal.update(other), lambda: other.same_state(terminal), lambda: other.feed(data)]",
+    "[lambda: text.feed(data), lambda: text.feed_log(data), text.pending, text.copy, text.reset, lambda: text.copy_from(other), lambda: text.__init__('utf-8')]",
 ])
 def test_threads_cannot_crash_python(calls):
     done = python(HAMMER.format(calls=calls))
@@ -174,6 +175,14 @@ def test_a_library_of_another_version_is_refused(tmp_path):
     assert done.returncode == 1 and f"NoLibrary: {library} is of version 0.99.0, and this module is for 0." in done.stderr
 
 
+def test_an_older_library_is_refused(tmp_path):
+    (tmp_path / "older.c").write_text(f"unsigned vt220_version(void) {{ return {vt220.VERSION}; }}\n")
+    library = tmp_path / "libvt220.so"
+    subprocess.run(["gcc", "-shared", "-fPIC", "-o", str(library), str(tmp_path / "older.c")], check=True)
+    done = python("import vt220; vt220.Terminal()", VT220_LIBRARY=str(library))
+    assert done.returncode == 1 and f"NoLibrary: {library} is older than this module: " in done.stderr
+
+
 def test_a_file_that_is_no_library_is_refused(tmp_path):
     (tmp_path / "text").write_text("text\n")
     for path in (tmp_path / "nothing", tmp_path / "text", ctypes.util.find_library("c")):
@@ -183,7 +192,7 @@ def test_a_file_that_is_no_library_is_refused(tmp_path):
 
 
 def test_an_import_needs_no_library():
-    modules = ["vt220", "vt220.keyboard", "vt220.picture", "vt220.process", "vt220.pytest_plugin", "vt220.rig", "vt220.screen", "vt220.__main__"]
+    modules = ["vt220", "vt220.expected", "vt220.keyboard", "vt220.picture", "vt220.process", "vt220.pytest_plugin", "vt220.rig", "vt220.screen", "vt220.__main__"]
     for module in modules:
         done = python(f"import {module}; print('imported')", VT220_LIBRARY="/no/such/file")
         assert (done.returncode, done.stdout) == (0, "imported\n"), done.stderr

@@ -69,6 +69,19 @@ def test_what_is_typed_on_a_modern_terminal():
     assert vt220.key_length(b"\033O") == 0 and vt220.key_length(b"\033OAB") == 3
 
 
+def test_texts_in_utf_8():
+    assert spelled("a\u00e4\u0153\u201c\u4e16\U0001f600", POWER_UP, "utf-8") == "a\u00e4\u0153\u201c\u4e16\U0001f600".encode()
+    assert spelled("a\r\t", POWER_UP._replace(lnm=True), "utf-8") == b"a\r\n\t" and spelled(Key.UP, POWER_UP._replace(reports_8bit=True), "utf-8") == b"\x9bA"
+    for text in ("x\u009b", "\u0085", "\ud800"):
+        with pytest.raises(ValueError, match="no key of a VT220 sends"):
+            spelled(text, POWER_UP, "utf-8")
+
+
+def test_what_is_typed_on_a_modern_terminal_for_one_in_utf_8():
+    modes = POWER_UP._replace(decckm=True)
+    assert typed("\033[A\u0153\u201cx\u4e16".encode() + b"\xe2\x80", modes, "utf-8") == (b"\033OA" + "\u0153\u201cx\u4e16".encode(), b"\xe2\x80", "")
+
+
 def test_f5_sends_nothing_on_a_vt220():
     assert "F5" not in Key.__members__
 

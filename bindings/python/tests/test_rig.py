@@ -74,7 +74,7 @@ def until(met):
 def test_a_program_has_the_line_of_a_vt220():
     with shell("stty size; tty; echo $TERM $LC_ALL $LINES$COLUMNS; ps -o pid= -o sid= -o tpgid= -p $$") as rig:
         rows = rig.ended().rows
-    assert rows[0] == "24 80" and rows[1].startswith("/dev/pts/") and rows[2] == "vt220 C"
+    assert rows[0] == "24 80" and rows[1].startswith("/dev/pts/") and rows[2] == "vt220 C.UTF-8"
     assert len(set(rows[3].split())) == 1  # it leads its session, and its group is in the foreground
 
 
@@ -124,7 +124,7 @@ def test_signals_are_as_at_first():
 
 @pytest.mark.parametrize("modes, key, shown", [
     ("", UP, "1b 5b 41"), ("\\033[?1h", UP, "1b 4f 41"), ("\\033[?1h\\033 G", UP, "8f 41"), ("\\033 G", F6, "9b 31 37 7e"),
-    ("", Key.KP_5, "35"), ("\\033=", Key.KP_5, "1b 4f 75"), ("", ENTER, "0d"), ("\\033[20h", ENTER, "0d 0a"), ("", "a\u00e4", "61 e4"),
+    ("", Key.KP_5, "35"), ("\\033=", Key.KP_5, "1b 4f 75"), ("", ENTER, "0d"), ("\\033[20h", ENTER, "0d 0a"),
 ])
 def test_keys_go_as_the_modes_ask(modes, key, shown):
     with shell(SHOWS, modes + "ready") as rig:
@@ -224,7 +224,7 @@ def test_no_state_is_looked_at_inside_a_sequence():
         return screen.at("end")
 
     pieces = ("a\\033", "[2", ";5", "Hb\\033P1$", "q\\033", "\\\\c\\233", "10;1", "Hend")
-    with shell("stty -echo; printf .; " + "".join(f"read line; printf '{piece}'; " for piece in pieces) + "read line") as rig:
+    with shell("stty -echo; printf .; " + "".join(f"read line; printf '{piece}'; " for piece in pieces) + "read line", encoding="dec") as rig:
         rig.wait("^.$", row=1)
 
         def let_it_go_on():
@@ -278,16 +278,16 @@ def test_a_program_that_ends_is_not_waited_for():
 @pytest.mark.parametrize("output, is_told", [("caf\\303\\251", True), ("caf\\351", False), ("cafe", False),
                                              ("\\303\\251 \\351", False)])
 def test_a_failure_says_that_the_output_looks_like_utf_8(output, is_told):
-    with shell(f"printf '{output} end'; sleep 1000") as rig:
+    with shell(f"printf '{output} end'; sleep 1000", encoding="dec") as rig:
         rig.wait("end")
         with pytest.raises(Failure) as caught:
             rig.wait("caf\u00e9s", timeout=0.1)
     words = str(caught.value)
-    assert ("UTF-8" in words and "VT220" in words and "DEC Multinational" in words.replace("\n", " ")) == is_told
+    assert ("UTF-8" in words and 'encoding="dec"' in words and "DEC Multinational" in words.replace("\n", " ")) == is_told
 
 
 def test_a_character_of_utf_8_that_is_cut_is_one_too():
-    with shell("printf 'caf\\303\\251 \\342\\224'; sleep 1000") as rig:
+    with shell("printf 'caf\\303\\251 \\342\\224'; sleep 1000", encoding="dec") as rig:
         rig.wait("\u00e2$")
         with pytest.raises(Failure, match="looks like UTF-8"):
             rig.wait("never", timeout=0.1)

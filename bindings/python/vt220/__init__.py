@@ -8,6 +8,8 @@ The shared library is the file that VT220_LIBRARY names. If that isn't set, it i
 this module, out/libvt220.so of the repository that this module is in, and the system's. It is loaded by the first call that needs it.
 Rows and columns count from 1.
 
+A terminal reads the bytes of a VT220, or UTF-8 with Terminal(encoding="utf-8"). shown() returns how UTF-8 is shown.
+
 Any thread may use any terminal at any time. The interpreter's lock is held during each call of the library, so calls don't run in
 parallel. feed() and feed_log() let other threads run after each 64 KB.
 """
@@ -23,8 +25,9 @@ from typing import Any, Callable, Dict, List, NamedTuple, Tuple, Type, Union
 
 __all__ = [
     "ROWS", "COLUMNS", "REPORT_LIMIT", "TEXT_LIMIT", "ROW_TEXT_LIMIT", "SHOW_LIMIT", "PICTURE_LIMIT", "PAINT_LIMIT", "UPDATE_LIMIT",
-    "KEY_LIMIT", "TYPED_LIMIT", "VERSION", "HELD", "Error", "Memory", "InUse", "Closed", "Partial", "Room", "Unsupported", "NoRow", "NoKey", "NoCharacter",
-    "NoLibrary", "Brush", "Cell", "Cursor", "Margins", "Modes", "Saved", "Sets", "Terminal", "key", "key_length", "status_text", "version",
+    "KEY_LIMIT", "TYPED_LIMIT", "VERSION", "HELD", "ENCODINGS", "Error", "Memory", "InUse", "Closed", "Partial", "Room", "Unsupported", "NoRow", "NoKey", "NoCharacter",
+    "NoLibrary", "Brush", "Cell", "Cursor", "Margins", "Modes", "Saved", "Sets", "Terminal", "key", "key_length", "shown", "status_text",
+    "version",
 ]
 
 ROWS = 24
@@ -40,6 +43,8 @@ KEY_LIMIT = 5
 TYPED_LIMIT = 16
 VERSION = 300
 HELD = ("nothing", "escape", "control", "string")
+# The encodings of what a host sends: the VT220's own bytes, and UTF-8.
+ENCODINGS = ("dec", "utf-8")
 # The most bytes that one call of the library plays: other threads wait for its end.
 _PIECE = 65536
 
@@ -212,6 +217,12 @@ class _Handle(ctypes.Structure):
     _fields_ = [("inside", ctypes.c_void_p), ("is_open", ctypes.c_bool), ("bells", ctypes.c_uint64)]
 
 
+class _Utf8(ctypes.Structure):
+    """Holds the pending bytes of UTF-8 input."""
+
+    _fields_ = [("bytes", ctypes.c_uint8 * 3), ("len", ctypes.c_uint8)]
+
+
 def _struct(names: Tuple[str, ...], kinds: Dict[str, Any], other: Any, reserved: int) -> Any:
     """Makes a structure of the header: its fields and the bytes that are reserved."""
     fields = [(name, kinds.get(name, other)) for name in names]
@@ -255,6 +266,7 @@ def _declare(library: ctypes.PyDLL) -> None:
     """Sets the result and the arguments of each call."""
     handle, size, status = ctypes.POINTER(_Handle), ctypes.c_size_t, ctypes.c_uint32
     buffer, told, boolean = ctypes.c_void_p, ctypes.POINTER(ctypes.c_size_t), ctypes.c_bool
+    pending = ctypes.POINTER(_Utf8)
     calls: List[Tuple[str, Any, List[Any]]] = [
         ("open", status, [handle]),
         ("close", None, [handle]),
@@ -264,6 +276,9 @@ def _declare(library: ctypes.PyDLL) -> None:
         ("scratch_is_open", boolean, [handle]),
         ("feed", size, [handle, buffer, size, buffer, size, told]),
         ("feed_log", size, [handle, handle, buffer, size, buffer, size, told, buffer, size, told]),
+        ("feed_utf8", size, [handle, pending, buffer, size, buffer, size, told]),
+        ("feed_log_utf8", size, [handle, handle, pending, buffer, size, buffer, size, told, buffer, size, told]),
+        ("shown", ctypes.c_uint32, [ctypes.c_uint32, told]),
         ("text", status, [handle, handle, buffer, size, told]),
         ("row_text", status, [handle, handle, size, buffer, size, told]),
         ("show", status, [handle, handle, buffer, size, told]),
@@ -310,7 +325,10 @@ def _load() -> ctypes.PyDLL:
     found = library.vt220_version()
     if found // 100 != VERSION // 100:
         raise NoLibrary(f"{path} is of version {_spelled(found)}, and this module is for {_spelled(VERSION)}")
-    _declare(library)
+    try:
+        _declare(library)
+    except AttributeError as fault:
+        raise NoLibrary(f"{path} is older than this module: {fault}") from None
     return library
 
 
@@ -364,6 +382,22 @@ def key_length(typed: Bytes) -> int:
     """Returns how many bytes the first key has of what was typed on a modern terminal, and 0 if its end is missing."""
     typed = bytes(memoryview(typed))
     return int(_library.vt220_key_length(typed, len(typed)))
+
+
+@functools.lru_cache(maxsize=4096)
+def _shown_character(character: str) -> str:
+    """Returns the cells that a character has on the screen: its glyph, and a space if it has two. It is empty if the character has none."""
+    cells = ctypes.c_size_t()
+    glyph = chr(_library.vt220_shown(ord(character), cells))
+    return glyph.ljust(cells.value) if cells.value else ""
+
+
+def shown(text: str) -> str:
+    """Returns how a text in UTF-8 is shown: each character beyond ASCII as its glyph, with a space after it if it has two cells.
+
+    A character that a VT220 lacks has a similar glyph, or U+2426. One that has no cell, such as a combining mark, is left out.
+    """
+    return text if text.isascii() else "".join(one if one.isascii() else _shown_character(one) for one in text)
 
 
 def _whole(data: Bytes) -> bytes:
@@ -432,15 +466,31 @@ _cells, _rows = _Cells(), _Rows()
 
 
 class Terminal:
-    """Opens a terminal in its power-up state.
+    """Opens a terminal in its power-up state. Its host sends the VT220's own bytes ("dec"), or UTF-8 ("utf-8").
 
     It is closed by close(), by the end of a with statement, or when nothing refers to it any more. Raises Memory if an allocation
     fails. Each call of a closed terminal except close() raises Closed.
+
+    In UTF-8 the last bytes of a chunk may begin a character. They are kept next to the terminal until its other bytes come: pending()
+    returns them. A checkpoint is repaint() and, after it, pending(): fed to a new Terminal of the same encoding, the two lead on as here.
     """
 
-    def __init__(self) -> None:
+    def __init__(self, encoding: str = "dec") -> None:
+        if encoding not in ENCODINGS:
+            raise ValueError(f"an encoding is one of {', '.join(ENCODINGS)}, not {encoding!r}")
         self._owned = _Owned(_library.vt220_open, _library.vt220_close)
         self._handle = self._owned.handle
+        self._utf8 = None if encoding == "dec" else _Utf8()
+
+    @property
+    def encoding(self) -> str:
+        """The encoding of what the host sends, one of ENCODINGS."""
+        return ENCODINGS[self._utf8 is not None]
+
+    def pending(self) -> bytes:
+        """Returns the bytes at the end of the input that begin a character of UTF-8, at most three. Nothing shows them yet."""
+        self._opened()
+        return b"" if self._utf8 is None else bytes(self._utf8.bytes[: self._utf8.len])
 
     def close(self) -> None:
         """Frees the terminal's memory. A closed terminal stays closed."""
@@ -457,13 +507,19 @@ class Terminal:
             raise Closed()
         return self._handle
 
+    def _playing(self, name: str, *handles: _Handle) -> Callable[..., int]:
+        """Returns the library's call that plays bytes in this encoding, with the handles and the pending part that it takes."""
+        if self._utf8 is None:
+            return functools.partial(getattr(_library, name), *handles)
+        return functools.partial(getattr(_library, f"{name}_utf8"), *handles, self._utf8)
+
     def feed(self, data: Bytes) -> bytes:
         """Plays all bytes of the host, and returns the reports to it. Raises TypeError if `data` isn't bytes-like."""
-        handle, data, room = self._opened(), _whole(data), _work.reports
+        play, data, room = self._playing("vt220_feed", self._opened()), _whole(data), _work.reports
         start = ctypes.cast(ctypes.c_char_p(data), ctypes.c_void_p).value or 0
         reports, written, at = [], ctypes.c_size_t(), 0
         while at < len(data):
-            played = _library.vt220_feed(handle, start + at, min(len(data) - at, _PIECE), room, len(room), written)
+            played = play(start + at, min(len(data) - at, _PIECE), room, len(room), written)
             if not played:  # another thread has closed the terminal
                 raise Closed()
             at += played
@@ -476,12 +532,12 @@ class Terminal:
 
         Each line is as row_text() returns it. Raises TypeError if `data` isn't bytes-like.
         """
-        handle, data, work = self._opened(), _whole(data), _work
+        work = _work
+        play, data = self._playing("vt220_feed_log", self._opened(), work.scratch.handle), _whole(data)
         start = ctypes.cast(ctypes.c_char_p(data), ctypes.c_void_p).value or 0
         reports, lines, written, logged, at = [], [], ctypes.c_size_t(), ctypes.c_size_t(), 0
         while at < len(data):
-            played = _library.vt220_feed_log(handle, work.scratch.handle, start + at, min(len(data) - at, _PIECE), work.reports,
-                                             len(work.reports), written, work.out, PICTURE_LIMIT, logged)
+            played = play(start + at, min(len(data) - at, _PIECE), work.reports, len(work.reports), written, work.out, PICTURE_LIMIT, logged)
             if not played:  # another thread has closed the terminal
                 raise Closed()
             at += played
@@ -494,12 +550,13 @@ class Terminal:
 
         Returns the number of bytes played, and the report. Without a report all bytes are played, and the report is empty.
         """
-        handle, data, room, written = self._opened(), _whole(data), _work.reports, ctypes.c_size_t()
+        play, data = self._playing("vt220_feed", self._opened()), _whole(data)
+        room, written = _work.reports, ctypes.c_size_t()
         start = ctypes.cast(ctypes.c_char_p(data), ctypes.c_void_p).value or 0
         at = 0
         while at < len(data) and not written.value:
             # With capacity for one report alone the call ends after the byte that asked for it.
-            played = _library.vt220_feed(handle, start + at, min(len(data) - at, _PIECE), room, REPORT_LIMIT, written)
+            played = play(start + at, min(len(data) - at, _PIECE), room, REPORT_LIMIT, written)
             if not played:  # another thread has closed the terminal
                 raise Closed()
             at += played
@@ -554,12 +611,14 @@ class Terminal:
         return [place + 1 for place, changed in enumerate(marks.changed) if changed]
 
     def copy_from(self, other: "Terminal") -> None:
-        """Brings this terminal into the state of another one, also if the other is inside a sequence."""
+        """Brings this terminal into the state of another one, also if the other is inside a sequence. In UTF-8 pending() is copied, too."""
         _expect(_library.vt220_copy(self._opened(), other._opened()))
+        if self._utf8 is not None:
+            self._utf8 = _Utf8.from_buffer_copy(other._utf8 or _Utf8())
 
     def copy(self) -> "Terminal":
-        """Returns a new terminal in the state of this one, also inside a sequence. Its bells() counts from 0."""
-        copied = Terminal()
+        """Returns a new terminal of this encoding in the state of this one, also inside a sequence. Its bells() counts from 0."""
+        copied = Terminal(self.encoding)
         copied.copy_from(self)
         return copied
 
@@ -569,8 +628,10 @@ class Terminal:
         return self.copy()
 
     def reset(self) -> None:
-        """Brings this terminal into its power-up state, also inside a sequence."""
+        """Brings this terminal into its power-up state, also inside a sequence. Nothing is pending then."""
         _expect(_library.vt220_reset(self._opened()))
+        if self._utf8 is not None:
+            self._utf8 = _Utf8()
 
     def bells(self) -> int:
         """Returns how often BEL was carried out since the terminal was opened."""
@@ -640,5 +701,5 @@ class Terminal:
         return HELD[_library.vt220_held_kind(self._opened())]
 
     def same_state(self, other: "Terminal") -> bool:
-        """Returns whether two terminals are in the same state, hidden parts included."""
+        """Returns whether two terminals are in the same state, hidden parts included. What is pending of UTF-8 isn't a part of it."""
         return bool(_library.vt220_same_state(self._opened(), other._opened()))

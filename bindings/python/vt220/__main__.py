@@ -1,17 +1,22 @@
-"""Prints the screen after a recording: python3 -m vt220 FILE [BYTES]. BYTES is the number of bytes that are played (all)."""
+"""Prints the screen after a recording: python3 -m vt220 [--encoding ENCODING] FILE [BYTES].
+
+ENCODING is that of the recording: dec, the bytes of a VT220, or utf-8 (dec). BYTES is the number of bytes that are played (all).
+"""
 import sys
 
-from . import NoLibrary, Terminal
+from . import ENCODINGS, NoLibrary, Terminal
 
 
 def main() -> int:
     """Plays the recording that the command line names, and prints the screen. Returns the exit status."""
-    words = sys.argv[1:]
+    words, encoding = sys.argv[1:], "dec"
     if words in (["-h"], ["--help"]):
-        print(__doc__)
+        print(__doc__, end="")
         return 0
-    if len(words) not in (1, 2) or words[0].startswith("-") or not all(word.isdecimal() for word in words[1:]):
-        print(__doc__, file=sys.stderr)
+    if words[:1] == ["--encoding"] and len(words) > 1:
+        encoding, words = words[1], words[2:]
+    if encoding not in ENCODINGS or len(words) not in (1, 2) or words[0].startswith("-") or not all(word.isdecimal() for word in words[1:]):
+        print(__doc__, end="", file=sys.stderr)
         return 2
     try:
         with open(words[0], "rb") as file:
@@ -20,7 +25,7 @@ def main() -> int:
         print(f"vt220: {words[0]}: {error.strerror}", file=sys.stderr)
         return 1
     try:
-        terminal = Terminal()
+        terminal = Terminal(encoding)
     except NoLibrary as fault:
         print(f"vt220: {fault}", file=sys.stderr)
         return 1

@@ -76,8 +76,18 @@ def ctrl(letter: str) -> str:
         raise ValueError(f"there is no Ctrl-{letter}") from None
 
 
-def spelled(keys: Union[str, Key], modes: Modes) -> bytes:
-    """Returns the bytes that a key, or each character of a text, sends under these modes. Raises ValueError if no key sends it."""
+def _sent(character: str, modes: Modes, encoding: str) -> bytes:
+    """Returns the bytes that a character sends. In UTF-8 each one that isn't a control can be sent, as it is."""
+    if encoding == "utf-8" and character >= "\u00a0":
+        return character.encode()
+    return key(character, modes)
+
+
+def spelled(keys: Union[str, Key], modes: Modes, encoding: str = "dec") -> bytes:
+    """Returns the bytes that a key, or each character of a text, sends under these modes. Raises ValueError if no key sends it.
+
+    The encoding is that of the terminal. In UTF-8 a text may have any characters but C1 controls.
+    """
     if isinstance(keys, Key):
         return key(keys.value, modes)
     if not isinstance(keys, str):
@@ -85,20 +95,23 @@ def spelled(keys: Union[str, Key], modes: Modes) -> bytes:
     sent = []
     for character in keys:
         try:
-            sent.append(key(character, modes))
-        except (NoCharacter, NoKey):
+            sent.append(_sent(character, modes, encoding))
+        except (NoCharacter, NoKey, UnicodeEncodeError):
             raise ValueError(f"no key of a VT220 sends {character!r}") from None
     return b"".join(sent)
 
 
-def typed(data: bytes, modes: Modes) -> Typed:
-    """Returns what the keys send that were typed on a modern terminal. A key that a VT220 doesn't have is sent as it came."""
+def typed(data: bytes, modes: Modes, encoding: str = "dec") -> Typed:
+    """Returns what the keys send that were typed on a modern terminal. A key that a VT220 doesn't have is sent as it came.
+
+    The encoding is that of the terminal that they are sent to. In UTF-8 each character beyond ASCII is sent as it came.
+    """
     sent: List[bytes] = []
     refused: List[str] = []
     while length := key_length(data):
         one, data = data[:length], data[length:]
         try:
-            sent.append(key(one, modes))
+            sent.append(one if encoding == "utf-8" and one[0] >= 0x80 else key(one, modes))
         except NoKey:
             sent.append(one)
         except NoCharacter:

@@ -21,6 +21,10 @@ from . import watchdog
 
 # What a command gets of this process's environment; everything else comes from the test, so that a test runs alike everywhere.
 KEPT = ("PATH", "HOME", "USER", "LOGNAME", "TMPDIR")
+# The locale of a command by the encoding of its terminal. It isn't that of whoever runs the test, so that a test runs alike everywhere.
+LOCALES = {"dec": "C", "utf-8": "C.UTF-8"}
+# The flag of the line by which it erases whole characters of UTF-8 (termios(3)). Python's module has no name for it.
+_IUTF8 = 0o40000
 _SETSIGDEF, _SETSIGMASK, _SETSID = 4, 8, 0x80
 _libc = ctypes.CDLL(None, use_errno=True)
 
@@ -71,10 +75,10 @@ class _Watchdog:
 _watchdog = _Watchdog()
 
 
-def environment(term: str, given: Optional[Dict[str, str]]) -> Dict[str, str]:
-    """Returns the environment of a command: PATH and the home of this process, TERM, LC_ALL=C, and what the test gives."""
+def environment(term: str, encoding: str, given: Optional[Dict[str, str]]) -> Dict[str, str]:
+    """Returns the environment of a command: PATH and the home of this process, TERM, LC_ALL by the encoding, and what the test gives."""
     kept = {name: os.environ[name] for name in KEPT if name in os.environ}
-    return {**kept, "TERM": term, "LC_ALL": "C", **(given or {})}
+    return {**kept, "TERM": term, "LC_ALL": LOCALES[encoding], **(given or {})}
 
 
 def _pointers(words: Sequence[str]) -> "ctypes.Array[ctypes.c_char_p]":
@@ -120,10 +124,19 @@ def _spawn(path: str, argv: Sequence[str], env: Dict[str, str], cwd: Optional[st
     return pid.value
 
 
+def _set_line(line: int, columns: int, encoding: str) -> None:
+    """Gives a pseudo-terminal its size, and tells it whether characters are of UTF-8."""
+    fcntl.ioctl(line, termios.TIOCSWINSZ, struct.pack("4H", 24, columns, 0, 0))
+    if encoding == "utf-8":
+        modes = termios.tcgetattr(line)
+        modes[0] |= _IUTF8
+        termios.tcsetattr(line, termios.TCSANOW, modes)
+
+
 class Process:
     """Starts a command on a pseudo-terminal of 24 rows. `line` is the descriptor of the pseudo-terminal's other side."""
 
-    def __init__(self, argv: Sequence[str], env: Dict[str, str], cwd: Optional[Union[str, "os.PathLike[str]"]], columns: int) -> None:
+    def __init__(self, argv: Sequence[str], env: Dict[str, str], cwd: Optional[Union[str, "os.PathLike[str]"]], columns: int, encoding: str) -> None:
         path = argv[0] if "/" in argv[0] else shutil.which(argv[0], path=env.get("PATH", os.defpath))
         directory = None if cwd is None else os.fspath(cwd)
         if path is None:
@@ -133,7 +146,7 @@ class Process:
         self.line, self.pid, self.ending = -1, -1, -1
         line, slave = os.openpty()
         try:
-            fcntl.ioctl(line, termios.TIOCSWINSZ, struct.pack("4H", 24, columns, 0, 0))
+            _set_line(line, columns, encoding)
             os.set_blocking(line, False)
             self.pid = _spawn(path, argv, {**env, watchdog.MARK: self.mark}, directory, os.ttyname(slave))
         except BaseException:

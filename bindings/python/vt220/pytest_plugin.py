@@ -7,6 +7,7 @@ from typing import Any, Dict, Iterator, List, Optional, Set
 
 import pytest
 
+from . import ENCODINGS
 from .rig import TIMEOUT, Directory, Failure, Reports, Rig
 
 _KEY = "vt220_screens"
@@ -33,6 +34,7 @@ class Session:
         self.screens = pathlib.Path(request.path).parent / "screens"
         self.update = bool(config.getoption("--update-screens"))
         self.timeout = float(config.getoption("--vt-timeout"))
+        self.encoding = str(config.getoption("--vt-encoding"))
         self.directory = pathlib.Path(config.rootpath) / config.getoption("--vt-reports")
         self.name = file_name(request.node.nodeid)
         self.colour = config.get_terminal_writer().hasmarkup
@@ -42,11 +44,11 @@ class Session:
                 old.unlink(missing_ok=True)
 
     def run(self, *argv: str, columns: int = 80, cwd: Optional[Directory] = None, env: Optional[Dict[str, str]] = None,
-            timeout: Optional[float] = None, term: str = "vt220") -> Rig:
-        """Runs a command on a VT220 of 80 or 132 columns, and returns its Rig."""
+            timeout: Optional[float] = None, term: str = "vt220", encoding: Optional[str] = None) -> Rig:
+        """Runs a command on a VT220 of 80 or 132 columns, in UTF-8 or with the bytes of a VT220, and returns its Rig."""
         reports = Reports(self.directory, f"{self.name}-{len(self.rigs) + 1}", self.colour)
-        rig = Rig(argv, columns=columns, cwd=cwd, env=env, timeout=timeout or self.timeout, term=term, screens=self.screens,
-                  update=self.update, reports=reports, used=lambda path: self.used.add(str(path)))
+        rig = Rig(argv, columns=columns, cwd=cwd, env=env, timeout=timeout or self.timeout, term=term, encoding=encoding or self.encoding,
+                  screens=self.screens, update=self.update, reports=reports, used=lambda path: self.used.add(str(path)))
         self.rigs.append(rig)
         return rig
 
@@ -89,6 +91,7 @@ def pytest_addoption(parser: pytest.Parser) -> None:
     group = parser.getgroup("vt220", "tests of terminal programs")
     group.addoption("--update-screens", action="store_true", help="store the screens that matches() compares with")
     group.addoption("--vt-reports", default="vt220-failures", metavar="DIR", help="where pictures and recordings of failures go")
+    group.addoption("--vt-encoding", choices=ENCODINGS, default="utf-8", help="the encoding of programs whose test doesn't choose one (%(default)s)")
     group.addoption("--vt-timeout", type=float, default=TIMEOUT, metavar="SECONDS", help="how long a wait takes at most (%(default)s)")
 
 

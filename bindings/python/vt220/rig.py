@@ -20,6 +20,7 @@ import time
 from typing import Callable, Dict, List, NamedTuple, Optional, Pattern, Sequence, Tuple, Union
 
 from . import Bytes, Modes, Terminal
+from .expected import expression_as_shown, expression_of_text, text_as_shown
 from .keyboard import Key, ctrl, spelled
 from .picture import svg
 from .process import Process, environment
@@ -124,28 +125,31 @@ class Reports(NamedTuple):
             pathlib.Path(picture).write_text(svg(rig.last, marks), encoding="utf-8")
         except OSError as fault:
             return f"no picture and no recording: {fault}"
-        word = shlex.quote(recording)
-        return f"picture:   {picture}\nrecording: {recording}\nplay it:   python3 -m vt220 {word}   (or: vt220 show {word})"
+        words = ([] if rig.encoding == "dec" else ["--encoding", rig.encoding]) + [shlex.quote(recording)]
+        return f"picture:   {picture}\nrecording: {recording}\nplay it:   python3 -m vt220 {' '.join(words)}   (or: vt220 show {' '.join(words)})"
 
 
 class Rig:
-    """Runs a command on a VT220. One thread uses it at a time; any number of them may run side by side."""
+    """Runs a command on a VT220. One thread uses it at a time; any number of them may run side by side.
+
+    The command is in UTF-8, and so are the keys that it gets. With the encoding "dec" it gets the bytes of a VT220, and sends them.
+    """
 
     def __init__(self, argv: Sequence[str], *, columns: int = 80, cwd: Optional[Directory] = None, env: Optional[Dict[str, str]] = None,
-                 timeout: float = TIMEOUT, term: str = "vt220", screens: Optional[Directory] = None, update: bool = False,
+                 timeout: float = TIMEOUT, term: str = "vt220", encoding: str = "utf-8", screens: Optional[Directory] = None, update: bool = False,
                  reports: Optional[Reports] = None, used: Optional[Callable[[pathlib.Path], None]] = None) -> None:
         if columns not in (80, 132):
             raise ValueError("a VT220 has 80 or 132 columns")
-        self.argv, self.timeout = [os.fspath(word) for word in argv], timeout
+        self.argv, self.timeout, self.encoding = [os.fspath(word) for word in argv], timeout, encoding
         self.screens, self.update = pathlib.Path(screens if screens is not None else "screens"), update
         self.reports, self._used = reports or Reports(), used
-        self.terminal, self.recording, self.events = Terminal(), bytearray(), []  # type: ignore[var-annotated]
+        self.terminal, self.recording, self.events = Terminal(encoding), bytearray(), []  # type: ignore[var-annotated]
         self._output, self._is_open, self._started = bytearray(), True, time.monotonic()
-        self.process = Process(self.argv, environment(term, env), cwd, columns)
+        self.process = Process(self.argv, environment(term, encoding, env), cwd, columns, encoding)
         if columns == 132:
             # The recording begins with it, so that it shows the same when it is played.
             self._play(b"\033[?3h")
-        self.last = Screen(self.terminal.repaint())
+        self.last = self._look()
         self._poll = select.poll()
         self._poll.register(self.process.ending, select.POLLIN)
         self._poll.register(self.process.line, select.POLLIN)
@@ -179,7 +183,11 @@ class Rig:
                 self._output += report
                 self._flush()
         if self.terminal.is_between():
-            self.last = Screen(self.terminal.repaint())
+            self.last = self._look()
+
+    def _look(self) -> Screen:
+        """Returns the screen as it is now. A character whose bytes aren't complete isn't on it."""
+        return Screen(self.terminal.repaint(), self.encoding)
 
     def _flush(self) -> None:
         """Writes as much of what waits for the program as the line takes now."""
@@ -264,27 +272,28 @@ class Rig:
         return modes
 
     def keys(self, *keys: Union[str, Key]) -> None:
-        """Presses keys: each character of a text, or a Key, as the terminal's modes ask for it now.
+        """Presses keys: each character of a text, in the program's encoding, or a Key, as the terminal's modes ask for it now.
 
         What the program has written by now is played first, since it may change the modes.
         """
         __tracebackhide__ = True
         modes = self._typing()
-        self.send(b"".join(spelled(key, modes) for key in keys))
+        self.send(b"".join(spelled(key, modes, self.encoding) for key in keys))
 
     def paste(self, text: str) -> None:
         """Sends a text as it would be typed quickly: each line feed as the Return key. A VT220 has no bracketed paste."""
         __tracebackhide__ = True
         modes = self._typing()
         lines = text.replace("\r\n", "\n").split("\n")
-        self.send(spelled(Key.ENTER, modes).join(spelled(line, modes) for line in lines))
+        self.send(spelled(Key.ENTER, modes).join(spelled(line, modes, self.encoding) for line in lines))
 
     def wait(self, what: Optional[Condition] = None, *, text: Optional[str] = None, row: Optional[int] = None, col: Optional[int] = None,
              cursor: Optional[Tuple[int, int]] = None, timeout: Optional[float] = None) -> Screen:
         """Waits until the screen meets every condition given, and returns it.
 
         `what` is a regular expression that is searched in each row, or a function of the Screen; `text` is a text as it is. `row`
-        and `col` say the row, and the column of the first character. `cursor` is the cursor's row and column.
+        and `col` say the row, and the column of the first character. `cursor` is the cursor's row and column. Characters that a
+        VT220 lacks are found as what is shown for them.
         """
         __tracebackhide__ = True
         check_row(row)
@@ -297,9 +306,9 @@ class Rig:
         if callable(what):
             conditions.append(what)
         elif what is not None:
-            expressions.append(re.compile(what))
+            expressions.append(expression_as_shown(what, self.encoding))
         if text is not None:
-            expressions.append(re.compile(re.escape(text)))
+            expressions.append(expression_of_text(text, self.encoding))
         if not expressions and (row is not None or col is not None):
             raise TypeError("row and col are of a text or an expression, and wait() has neither")
         conditions += [_search(expression, row, col) for expression in expressions]
@@ -307,7 +316,7 @@ class Rig:
             conditions.append(lambda screen: screen.cursor[:2] == cursor)
         if not conditions:
             raise TypeError("wait() needs a text, an expression, a function or a cursor")
-        self._until(lambda: all(condition(self.last) for condition in conditions), _wanted(what, text, row, col, cursor), timeout)
+        self._until(lambda: all(condition(self.last) for condition in conditions), _wanted(what, text, row, col, cursor, self.encoding), timeout)
         return self.last
 
     def still(self, ms: float = 200, timeout: Optional[float] = None) -> Screen:
@@ -393,14 +402,14 @@ class Rig:
         lines += [f"{row:2}|{line}" for row, line in enumerate(self.last.rows, 1) if line or row == self.last.cursor.row]
         lines.append("the last events:")
         lines += [f"  {event.at:8.3f} s  {event.who:8}{_short(event.data)}" for event in self.events[-8:]]
-        if _is_utf_8(self.recording):
+        if self.encoding == "dec" and _is_utf_8(self.recording):
             lines.append(_UTF_8)
         lines.append(self.reports.write(re.sub(r"\W+", "-", pathlib.Path(self.argv[0]).name), self, marks))
         return "\n".join(lines)
 
 
-_UTF_8 = ("note: the program's output looks like UTF-8. The rig's terminal is a VT220: it has no UTF-8, and reads each byte as a character of\n"
-          "DEC Multinational. Run the program in a locale without UTF-8, such as LC_ALL=C, and on texts without UTF-8.")
+_UTF_8 = ("note: the program's output looks like UTF-8. With encoding=\"dec\" the rig's terminal reads each byte as a character of\n"
+          "DEC Multinational. Leave the encoding out, or run the program on texts without UTF-8.")
 
 
 def _is_utf_8(data: bytes) -> bool:
@@ -428,16 +437,22 @@ def _search(expression: "Pattern[str]", row: Optional[int], col: Optional[int]) 
     return search
 
 
-def _wanted(what: Optional[Condition], text: Optional[str], row: Optional[int], col: Optional[int], cursor: Optional[Tuple[int, int]]) -> str:
+def _named(sign: str, given: str, shown: str) -> str:
+    """Returns a text or an expression between two signs, and what is shown for it if that is something else."""
+    return f"{sign}{given}{sign}" + (f" (shown as {sign}{shown}{sign})" if shown != given else "")
+
+
+def _wanted(what: Optional[Condition], text: Optional[str], row: Optional[int], col: Optional[int], cursor: Optional[Tuple[int, int]],
+            encoding: str) -> str:
     """Returns the words for what a test waits for."""
     parts = []
     if callable(what):
         code = getattr(what, "__code__", None)
         parts.append("what %s asks for" % (f"line {code.co_firstlineno} of {pathlib.Path(code.co_filename).name}" if code else what))
     elif what is not None:
-        parts.append(f"/{what if isinstance(what, str) else what.pattern}/")
+        parts.append(_named("/", re.compile(what).pattern, expression_as_shown(what, encoding).pattern))
     if text is not None:
-        parts.append(f"'{text}'")
+        parts.append(_named("'", text, text_as_shown(text, encoding)))
     if row is not None:
         parts.append(f"in row {row}")
     if col is not None:

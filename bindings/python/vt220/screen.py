@@ -5,6 +5,7 @@ import re
 from typing import Dict, Iterable, Iterator, List, NamedTuple, Optional, Sequence, Tuple, Union
 
 from . import COLUMNS, ROWS, Brush, Cell, Cursor, Margins, Modes, NoRow, Saved, Sets, Terminal
+from .expected import expression_as_shown, expression_of_text, text_as_shown
 
 # The name of each attribute in a stored screen, in the order of Cell's fields after the glyph.
 ATTRIBUTES = ("bold", "underline", "blink", "reverse", "protected")
@@ -76,10 +77,13 @@ class Place(_Position):
 
 
 class Screen:
-    """Holds the state of a terminal at one moment. Two screens are equal if and only if their repaints are equal bytes."""
+    """Holds the state of a terminal at one moment. Two screens are equal if and only if their repaints are equal bytes.
 
-    def __init__(self, repaint: bytes) -> None:
-        self.repaint = repaint
+    The encoding is that of the program. The texts that a test looks for are mapped to what a screen in this encoding shows of them.
+    """
+
+    def __init__(self, repaint: bytes, encoding: str = "dec") -> None:
+        self.repaint, self.encoding = repaint, encoding
 
     def __eq__(self, other: object) -> bool:
         return isinstance(other, Screen) and self.repaint == other.repaint
@@ -147,16 +151,16 @@ class Screen:
     def at(self, text: str, row: Optional[int] = None, nth: int = 1) -> Place:
         """Returns the place of a text, in one row or in any: the first one, or the `nth` from the top. False if there is none."""
         check_row(row)
-        left = nth
+        left, expression, length = nth, expression_of_text(text, self.encoding), len(text_as_shown(text, self.encoding))
         for number, line in enumerate(self.rows, 1):
             if row is not None and row != number:
                 continue
-            found = line.find(text)
-            while found >= 0:
+            found = expression.search(line)
+            while found:
                 left -= 1
                 if left == 0:
-                    return Place(number, found + 1, self.cells[number - 1][found : found + len(text)])
-                found = line.find(text, found + 1)
+                    return Place(number, found.start() + 1, self.cells[number - 1][found.start() : found.start() + length])
+                found = expression.search(line, found.start() + 1)
         where = "on the screen" if row is None else f"in row {row}"
         return Place(0, 0, (), f"{text!r} isn't {where}" + (f" {nth} times" if nth > 1 else ""))
 
@@ -176,8 +180,9 @@ class Screen:
         """Returns the row, the column and the length of each masked part."""
         for mask in masks:
             if isinstance(mask, str):
+                expression = expression_as_shown(mask, self.encoding)
                 for row, line in enumerate(self.rows, 1):
-                    for found in re.finditer(mask, line):
+                    for found in expression.finditer(line):
                         if found.end() > found.start():
                             yield row, found.start() + 1, found.end() - found.start()
             else:

@@ -18,7 +18,7 @@ ghost use Rattle.vt_paint.specs.Private.HeaderParts.{brush_number, lowest_word};
 
 use crate::line::{LINE, MANY, ROW_LIMIT, put, put_glyph, put_header};
 use crate::room::{push_bytes, push_when};
-use crate::tables::{cell_brush_number, cell_word};
+use crate::tables::cell_brush_number;
 use vt_screen::laws::rows;
 use vt_screen::{COLUMNS, Cell};
 use vt_term::{ROWS, Terminal};
@@ -45,7 +45,7 @@ pub(crate) fn row_cell(t: &Terminal, row: usize, col: usize) -> &Cell
 fn is_blank(cell: &Cell) -> bool
     ensures { result ≡ is_blank_cell cell.now }
 {
-    cell_word(cell) == BLANK
+    cell.word() == BLANK
 }
 
 /// The brush of a run, in the words of its cells.
@@ -80,7 +80,7 @@ impl Run {
         ensures blank { result ≡ true → is_blank_cell cell.now ≡ false }
         ensures plain { result ≡ true → (0x20 ≤ encoding_of cell.now.glyph) × (encoding_of cell.now.glyph < 0x80) }
     {
-        cell_word(cell).wrapping_sub(self.low) <= 0x5D
+        cell.word().wrapping_sub(self.low) <= 0x5D
     }
 
     /// Returns whether a cell isn't blank and is written with the run's brush.
@@ -90,7 +90,7 @@ impl Run {
         ensures { (brush : Brush) → self.now.number ≡ brush_number brush
             → result ≡ (same_brush brush (brush_of cell.now) && not (is_blank_cell cell.now)) }
     {
-        let word = cell_word(cell);
+        let word = cell.word();
         self.is_plain(cell) || word >> 24 == self.number && word != BLANK
     }
 

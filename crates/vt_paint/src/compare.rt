@@ -4,7 +4,6 @@ ghost use Rattle.vt_screen.specs.Cells.{blank};
 ghost use Rattle.vt_screen.specs.Grid.{Grid, row_of};
 ghost use Rattle.vt_paint.specs.Changes.{same_cell, differing_from, differing, AreMarked, AreCounted};
 
-use crate::tables::cell_word;
 use vt_screen::{COLUMNS, Cell, same_cells};
 use vt_term::{ROWS, STOPS, Terminal};
 
@@ -13,7 +12,7 @@ use vt_term::{ROWS, STOPS, Terminal};
 fn differ(a: &Cell, b: &Cell) -> bool
     ensures { result ≡ not (same_cell a.now b.now) }
 {
-    cell_word(a) != cell_word(b)
+    a.word() != b.word()
 }
 
 /// Marks the positions at which two rows of the same length have different cells, and counts them. (Most rows are

@@ -1,11 +1,10 @@
 //! Speed: the parts of a header, spelled: the row of a position, its column, and a brush. Each entry of a table is
 //! padded with spaces, so that it is copied whole.
 ghost use Rattle.std.specs.Prelude.{◌≡◌, ◌≤◌, ◌<◌, ◌^◌, take, length};
-ghost use Rattle.vt_glyph.specs.Encoding.{encoded_glyph, encoding_of};
 ghost use Rattle.vt_screen.specs.Cells.{brush_of};
-ghost use Rattle.vt_paint.specs.Private.HeaderParts.{row_part, column_part, brush_part, brush_number, brush_index, cell_word};
+ghost use Rattle.vt_paint.specs.Private.HeaderParts.{row_part, column_part, brush_part, brush_number, brush_index};
 
-use vt_screen::{Brush, COLUMNS, Cell, ROWS, Rendition};
+use vt_screen::{Brush, COLUMNS, Cell, ROWS};
 
 /// The number of bytes of an entry of each table.
 const ROW_LEN: usize = 8;
@@ -90,42 +89,13 @@ pub(crate) fn column_part(col: usize) -> (&'static [u8], usize)
     (&COLUMN_PARTS[from..from + COLUMN_LEN], len)
 }
 
-/// Returns the attributes and the protection as a number, with a byte for each. (The compiler reads them at once if
-/// they are those of the cell itself. Of a copy it makes vectors.)
-#[inline(always)]
-fn brush_number(rendition: &Rendition, protected: bool) -> u64
-    ensures { result ≡ brush_number (record { rendition = rendition.now; protected = protected }) }
-{
-    rendition.bold as u64
-        + 0x100 * rendition.underline as u64
-        + 0x1_0000 * rendition.blink as u64
-        + 0x100_0000 * rendition.reverse as u64
-        + 0x1_0000_0000 * protected as u64
-}
-
 /// Returns the number of the brush that writes a cell.
 #[inline(always)]
 pub(crate) fn cell_brush_number(cell: &Cell) -> u64
     ensures value { result ≡ brush_number (brush_of cell.now) }
     ensures small { result < 2 ^ 40 }
 {
-    cell_word(cell) >> 24
-}
-
-/// Returns a cell as one number, with a byte for each byte of the cell, so that it is read as one word. (Inlined
-/// `always`, it would be inlined before its loads become one.)
-#[inline]
-pub(crate) fn cell_word(cell: &Cell) -> u64
-    ensures word { result ≡ cell_word cell.now }
-    ensures glyph { encoded_glyph (encoding_of cell.now.glyph) ≡ cell.now.glyph }
-    ensures bound { encoding_of cell.now.glyph < 0x100 }
-{
-    cell.glyph.code() as u64
-        + 0x100_0000 * cell.rendition.bold as u64
-        + 0x1_0000_0000 * cell.rendition.underline as u64
-        + 0x100_0000_0000 * cell.rendition.blink as u64
-        + 0x1_0000_0000_0000 * cell.rendition.reverse as u64
-        + 0x100_0000_0000_0000 * cell.protected as u64
+    cell.word() >> 24
 }
 
 /// Returns the index of a brush in its table.
@@ -135,8 +105,7 @@ fn index_of(brush: Brush) -> usize
     ensures below { result < 32 }
 {
     // Each byte of the number becomes a separate bit, starting at bit 32.
-    (brush_number(&brush.rendition, brush.protected).wrapping_mul(0x01_0204_0810) >> 32
-        & 0x1F) as usize
+    (brush.number().wrapping_mul(0x01_0204_0810) >> 32 & 0x1F) as usize
 }
 
 /// Returns SGR after its 0, and DECSCA, and their length.

@@ -43,6 +43,7 @@ pub struct Brush {
 
 impl Brush {
     ghost use Rattle.vt_screen.specs.Cells.{plain_brush};
+    ghost use Rattle.vt_screen.specs.Words.{brush_number};
 
     /// Returns the brush without attributes and without protection.
     pub fn plain() -> Brush
@@ -52,6 +53,19 @@ impl Brush {
             rendition: Rendition::plain(),
             protected: false,
         }
+    }
+
+    /// Returns the brush as one number, with a byte for each attribute and one for the protection. No two brushes have the
+    /// same number.
+    #[inline(always)]
+    pub fn number(&self) -> u64
+        ensures { result ≡ brush_number self.now }
+    {
+        self.rendition.bold as u64
+            + 0x100 * self.rendition.underline as u64
+            + 0x1_0000 * self.rendition.blink as u64
+            + 0x100_0000 * self.rendition.reverse as u64
+            + 0x1_0000_0000 * self.protected as u64
     }
 }
 
@@ -67,7 +81,10 @@ pub struct Cell {
 }
 
 impl Cell {
+    ghost use Rattle.std.specs.Prelude.{◌<◌, ◌^◌};
+    ghost use Rattle.vt_glyph.specs.Encoding.{encoded_glyph, encoding_of};
     ghost use Rattle.vt_screen.specs.Cells.{blank, cell_of, brush_of};
+    ghost use Rattle.vt_screen.specs.Words.{cell_word};
 
     /// Returns an unprotected space without attributes.
     pub fn blank() -> Cell
@@ -95,5 +112,24 @@ impl Cell {
             rendition: self.rendition,
             protected: self.protected,
         }
+    }
+
+    /// Returns the cell as one number: the code of its glyph in three bytes, and above them the number of its brush. No two
+    /// cells have the same number.
+    ///
+    /// Speed: it is read as one word. (Each field is read from the cell itself: of copies of its parts the compiler makes
+    /// vectors. Inlined `always`, it would be inlined before its loads become one.)
+    #[inline]
+    pub fn word(&self) -> u64
+        ensures word { result ≡ cell_word self.now }
+        ensures glyph { encoded_glyph (encoding_of self.now.glyph) ≡ self.now.glyph }
+        ensures bound { encoding_of self.now.glyph < 0x100 }
+    {
+        self.glyph.code() as u64
+            + 0x100_0000 * self.rendition.bold as u64
+            + 0x1_0000_0000 * self.rendition.underline as u64
+            + 0x100_0000_0000 * self.rendition.blink as u64
+            + 0x1_0000_0000_0000 * self.rendition.reverse as u64
+            + 0x100_0000_0000_0000 * self.protected as u64
     }
 }

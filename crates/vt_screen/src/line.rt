@@ -2,7 +2,6 @@
 ghost use Rattle.std.specs.Prelude.{◌≡◌, ℕ, ◌+◌, ◌-◌, ◌<◌, ◌≤◌, ◌↔◌, IsTrue, length, slice_index, slice_index_or, All};
 ghost use Rattle.std.specs.Bool.{OnTrue};
 ghost use Rattle.vt_screen.specs.Cells.{blank, brush_of, plain_brush, erased, selectively_erased, cell_like};
-ghost use Rattle.vt_screen.specs.Words.{cell_word};
 ghost use Rattle.vt_glyph.specs.Encoding.{encoded_glyph, encoding_of};
 ghost use Rattle.vt_glyph.specs.Invocation.{HasGlyph, glyph_in_use};
 
@@ -321,29 +320,12 @@ fn write_four_graphics(cells: &mut [Cell], bytes: &[u8], at: usize, table: &InUs
     write_like(&mut cells[at + 3], like, table.glyph(bytes[at + 3]));
 }
 
-/// Returns a cell as one number, with a byte for each byte of the cell, so that it is read as one word. (Each field is
-/// read from the cell itself: of copies of its parts the compiler makes vectors. Inlined `always`, it would be inlined
-/// before its loads become one.)
-#[inline]
-fn word_of(cell: &Cell) -> u64
-    ensures word { result ≡ cell_word cell.now }
-    ensures glyph { encoded_glyph (encoding_of cell.now.glyph) ≡ cell.now.glyph }
-    ensures bound { encoding_of cell.now.glyph < 0x100 }
-{
-    cell.glyph.code() as u64
-        + 0x100_0000 * cell.rendition.bold as u64
-        + 0x1_0000_0000 * cell.rendition.underline as u64
-        + 0x100_0000_0000 * cell.rendition.blink as u64
-        + 0x1_0000_0000_0000 * cell.rendition.reverse as u64
-        + 0x100_0000_0000_0000 * cell.protected as u64
-}
-
 /// Returns whether two cells are equal, compared as words.
 #[inline(always)]
 fn same_cell(a: &Cell, b: &Cell) -> bool
     ensures { IsTrue result ↔ (a.now ≡ b.now) }
 {
-    word_of(a) == word_of(b)
+    a.word() == b.word()
 }
 
 /// Returns whether the four cells that begin at `at` are equal in both rows. Speed: one comparison of four cells.

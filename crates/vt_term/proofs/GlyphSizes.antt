@@ -1,6 +1,5 @@
--- A glyph's character takes at most three bytes of UTF-8, and a number below 1000 three digits.
-use Rattle.std.proofs.Common.{◌≡◌, ℕ, ◌≤◌, ◌<◌, Bool, true, length, nat_le, ◌==◌, refl, arith}
-use Rattle.std.specs.Char.{len_utf8}
+-- A glyph's character is below 10000, so it takes at most three bytes of UTF-8, and a number below 1000 three digits.
+use Rattle.std.proofs.Common.{◌≡◌, ℕ, ◌≤◌, ◌<◌, Bool, true, length, nat_lt, ◌==◌, refl, arith}
 use Rattle.std.specs.Fmt.{decimal}
 use Rattle.std.proofs.lemmas.Bool.Decides.{nat_tests}
 use Rattle.std.proofs.lemmas.Bool.{eqb-true}
@@ -11,7 +10,7 @@ use Rattle.vt_glyph.specs.Tables.{IsGlyph, is_glyph, glyph_of, set_codes, shows,
 use Rattle.vt_glyph.proofs.Lists.{either, all_taken}
 
 abbrev is_short : ℕ → Bool
-is_short n = nat_le (len_utf8 n) 3
+is_short n = nat_lt n 0x10000
 
 shown_short : (set : Set) (n : ℕ) → shows set n ≡ true → is_short n ≡ true
 unfolding glyph_of
@@ -21,7 +20,7 @@ shown_short German n = all_taken is_short (glyph_of German) set_codes n refl
 shown_short Special n = all_taken is_short (glyph_of Special) set_codes n refl
 shown_short Supplemental n = all_taken is_short (glyph_of Supplemental) set_codes n refl
 
-pub glyph_short : (n : ℕ) → IsGlyph n → len_utf8 n ≤ 3
+pub glyph_short : (n : ℕ) → IsGlyph n → n < 0x10000
 unfolding is_glyph
 glyph_short n is =
     let Goal : Type 0 = is_short n ≡ true in

@@ -7,8 +7,8 @@ mod Runs
 pub mod Bytes
 mod GlyphSizes
 mod Equal
-mod SoundEffects
-mod SoundPlay
+pub mod SoundEffects
+pub mod SoundPlay
 mod Playing
 mod Forgetting
 mod Passing

@@ -1,7 +1,7 @@
 -- Bytes of lines whose cells nobody sees: what they and the lines after them leave.
 use Rattle.std.proofs.Common.{◌≡◌, inl, inr, ℕ, zero, suc, ◌+◌, ◌-◌, ◌≤◌, ◌<◌, false, eqb, List, []}
-use Rattle.std.proofs.Common.{length-drop, ◌∷◌, ◌++◌, All, refl, sym, ap, ◌∙◌, subst, arith, None, length, take, drop, get_or, append_assoc}
-use Rattle.std.proofs.lemmas.Bool.Decides.{eqb_tells, leb_tells, nat_tests}
+use Rattle.std.proofs.Common.{◌∷◌, ◌++◌, All, refl, sym, ap, ◌∙◌, subst, arith, None, length, take, drop, get_or, append_assoc}
+use Rattle.std.proofs.lemmas.Bool.Decides.{eqb_tells, nat_tests}
 use Rattle.std.proofs.lemmas.List.Elements.{All-head, All-tail, All-take, All-drop}
 use Rattle.std.specs.List.{flat_map}
 use Rattle.std.proofs.lemmas.List.{length-append, get_or_append_left, length-take-le, take-append-drop, drop-append-le}

@@ -27,7 +27,7 @@ use Rattle.vt_term.proofs.SoundEffects.{Keeps, keeping, write_glyph-keeps}
 
 -- each function of a table has a property, and so does the one that is looked up
 module _ {X : Type 0} (kept : X → Type 0) where
-  AllKeep : List (ℕ × X) → Type 0
+  pub AllKeep : List (ℕ × X) → Type 0
   AllKeep [] = Unit {0}
   AllKeep (row ∷ rows) = kept row.1 × AllKeep rows
 
@@ -44,10 +44,10 @@ module _ {X : Type 0} (kept : X → Type 0) where
 
 -- ---- modes
 
-AllModesKeep : List (ℕ × (Bool → Display → Display)) → Type 0
+pub AllModesKeep : List (ℕ × (Bool → Display → Display)) → Type 0
 AllModesKeep table = AllKeep (λ f. (on : Bool) → Keeps (f on)) table
 
-change_modes-keeps : (table : List (ℕ × (Bool → Display → Display))) → AllModesKeep table → (on : Bool)
+pub change_modes-keeps : (table : List (ℕ × (Bool → Display → Display))) → AllModesKeep table → (on : Bool)
     → (params : List ℕ) → Keeps (change_modes table on params)
 unfolding with_mode AllModesKeep
 change_modes-keeps table all on [] s i = i
@@ -59,7 +59,7 @@ ansi_modes-keep : AllModesKeep ansi_modes
 unfolding AllKeep AllModesKeep
 ansi_modes-keep = search (keeping, rules)
 
-private_modes-keep : AllModesKeep private_modes
+pub private_modes-keep : AllModesKeep private_modes
 unfolding AllKeep AllModesKeep
 private_modes-keep = search (keeping, rules)
 
@@ -149,7 +149,7 @@ sequences_of-keep params (Some marker) (Some inter) = tt
 -- ---- bytes
 
 module _ (glyphs : GlyphLaws) (sets : SetsLaws) where
-  effect-keeps : (event : Event) → Keeps (effect event)
+  pub effect-keeps : (event : Event) → Keeps (effect event)
   unfolding sequence_in AllSequencesKeep
   effect-keeps (Print b) = print-keeps glyphs sets b
   effect-keeps (Control b) = control-keeps glyphs sets b

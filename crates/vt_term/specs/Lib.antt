@@ -1,5 +1,6 @@
 pub mod State
 pub mod Sound
+pub mod Pages
 pub mod Parameters
 pub mod Moving
 pub mod Tabs

@@ -32,7 +32,7 @@ fn second(params: &[u16]) -> u16
 }
 
 /// Returns the first parameter as a count: 0 means 1.
-fn count(params: &[u16]) -> u16
+pub fn count(params: &[u16]) -> u16
     ensures { result ≡ count params.now }
 {
     first(params).max(1)

@@ -1,17 +1,19 @@
 //! The terminal: it reads a host's bytes, and has a screen, a cursor and report bytes.
 #![tactic(auto)]
 
-mod ascii_text;
 mod codes;
 mod copying;
 mod cursor;
 mod display;
 mod editing;
 mod feeding;
+mod fronts;
 mod functions;
 pub mod laws;
+mod line;
 mod modes;
 mod observing;
+mod page;
 mod readers;
 mod rendition;
 mod reports;
@@ -27,7 +29,9 @@ mod unseen;
 mod writing;
 
 pub use display::{ROWS, STOPS, stops_at_power_up};
+pub use functions::count;
 pub use observing::{Both, Observer};
+pub use page::Page;
 pub use state::{Cursor, Margins, Modes, Saved};
 pub use terminal::{REPORT_LIMIT, ROW_TEXT_LIMIT, TEXT_LIMIT, Terminal};
 pub use unseen::Passed;

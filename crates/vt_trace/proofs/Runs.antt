@@ -1,5 +1,5 @@
 -- The trace of bytes that are taken at once.
-use Rattle.std.proofs.Common.{◌≡◌, ◌≢◌, ℕ, suc, ◌+◌, ◌-◌, ◌%◌, cond, ◌≤◌, ◌<◌, List, [], ◌∷◌, ◌++◌, Bool, true, false, not, ◌||◌}
+use Rattle.std.proofs.Common.{◌≡◌, ◌≢◌, inl, ℕ, suc, ◌+◌, ◌-◌, cond, ◌≤◌, ◌<◌, List, [], ◌∷◌, ◌++◌, Bool, true, false, not, ◌||◌}
 use Rattle.std.proofs.Common.{refl, sym, ap, ◌∙◌, arith, length, map, append-nil, append_assoc, drop, take, add-zero, Option, Some, None, eqb, length-take}
 use Rattle.std.proofs.lemmas.List.{take_more}
 use Rattle.std.proofs.Math.Seq.{take-length, take-take, take-add}
@@ -11,10 +11,11 @@ use Rattle.vt_syntax.specs.declared.event.Event.TheVariants.{Print, Control, Esc
 use Rattle.vt_syntax.specs.declared.held.Held.{Held}
 use Rattle.vt_syntax.specs.declared.held.Held.TheVariants.{Nothing}
 use Rattle.vt_syntax.specs.declared.held.Held.TheVariants as held
-use Rattle.vt_syntax.specs.Class.{IsPlain}
+use Rattle.vt_syntax.specs.Class.{IsPlain, is_opener, opens_string}
+use Rattle.vt_syntax.specs.Reading.{single_function}
 use Rattle.vt_syntax.specs.Held.{events_from, held_from}
 use Rattle.vt_syntax.specs.Laws.{SplitLaw, SpellingLaw}
-use Rattle.vt_glyph.specs.Invocation.{has_no_glyph}
+use Rattle.vt_glyph.specs.Invocation.{has_no_glyph, HasGlyph}
 use Rattle.vt_term.specs.State.{Display, State}
 use Rattle.vt_term.specs.Reports.{report, control_report, sequence_report}
 use Rattle.vt_term.specs.Parameters.{first}
@@ -48,12 +49,18 @@ pub shown-itself : (b : ℕ) → IsShown b → shown_byte b ≡ b ∷ []
 unfolding shown_byte
 shown-itself b i = grind (arith, nat_tests)
 
-pub shown-glyph : (b : ℕ) → IsShown b → has_no_glyph b ≡ false
-shown-glyph b i =
-    let low : 0x20 ≤ b = i.0 in
-    let high : b ≤ 0x7E = i.1 in
-    let same : b % 0x80 ≡ b = omega (arith, high) in
-    rw same (grind (arith, nat_tests, low, high))
+has-glyph : (b : ℕ) → HasGlyph b → has_no_glyph b ≡ false
+has-glyph b i = grind (arith, nat_tests, i)
+
+opens-nothing : (b : ℕ) → HasGlyph b → is_opener b ≡ false
+unfolding opens_string
+opens-nothing b i = grind (arith, nat_tests, i)
+
+printed : (b : ℕ) → HasGlyph b → single_function b ≡ Print b ∷ []
+printed b i = grind (arith, nat_tests, i)
+
+shown-glyph : (b : ℕ) → IsShown b → HasGlyph b
+shown-glyph b i = inl (i.0, i.1)
 
 none_plain : All IsPlain []
 none_plain k d low = absurd (omega (arith, low))
@@ -68,40 +75,55 @@ plain_events law b i = law.all_plain (b ∷ []) (one_plain b i)
 pub plain_held : SpellingLaw → (b : ℕ) → IsPlain b → held_from Nothing (b ∷ []) ≡ Nothing
 plain_held law b i = law.all_plain_held (b ∷ []) (one_plain b i)
 
--- the state after a plain byte
-pub still_nothing : SpellingLaw → (s : State) (b : ℕ) → s.held ≡ Nothing → IsPlain b → (play s (b ∷ [])).state.held ≡ Nothing
+-- a character between sequences, and the state after it
+glyph_events : SpellingLaw → (b : ℕ) → HasGlyph b → events_from Nothing (b ∷ []) ≡ Print b ∷ []
+glyph_events law b i = law.single b (opens-nothing b i) ∙ printed b i
+
+glyph_held : SpellingLaw → (b : ℕ) → HasGlyph b → held_from Nothing (b ∷ []) ≡ Nothing
+glyph_held law b i = law.single_held b (opens-nothing b i)
+
+still_nothing : SpellingLaw → (s : State) (b : ℕ) → s.held ≡ Nothing → IsShown b → (play s (b ∷ [])).state.held ≡ Nothing
 unfolding play
-still_nothing law s b nothing i = ap (λ (h : Held). held_from h (b ∷ [])) nothing ∙ plain_held law b i
+still_nothing law s b nothing i =
+    ap (λ (h : Held). held_from h (b ∷ [])) nothing ∙ glyph_held law b (shown-glyph b i)
 
-shown-text : (in_text : Bool) (b : ℕ) → IsShown b → text_after in_text (Print b ∷ []) ≡ true
-shown-text in_text b i = ap not (shown-glyph b i)
+glyph-text : (in_text : Bool) (b : ℕ) → HasGlyph b → text_after in_text (Print b ∷ []) ≡ true
+glyph-text in_text b i = ap not (has-glyph b i)
 
-text_written : (in_text : Bool) (place b : ℕ) (s : Display) (at : Event → ℕ) → IsShown b → at (Print b) ≡ place
+text_written : (in_text : Bool) (place b : ℕ) (s : Display) (at : Event → ℕ) → HasGlyph b → at (Print b) ≡ place
     → written_all in_text at (Print b ∷ []) s ≡ text_of in_text place b
 text_written in_text place b s at i here =
     ap (λ n. written in_text n (Print b) (report (Print b) s) ++ []) here
     ∙ append-nil (written in_text place (Print b) (report (Print b) s))
-    ∙ ap (λ (v : Bool). cond v (text_end in_text ++ event_line place (Print b)) (text_of in_text place b)) (shown-glyph b i)
+    ∙ ap (λ (v : Bool). cond v (text_end in_text ++ event_line place (Print b)) (text_of in_text place b)) (has-glyph b i)
 
 module _ (law : SpellingLaw) where
-  shown_events : (s : State) (b : ℕ) → s.held ≡ Nothing → IsShown b → events_from s.held (b ∷ []) ≡ Print b ∷ []
-  shown_events s b nothing i = ap (λ (h : Held). events_from h (b ∷ [])) nothing ∙ plain_events law b (i.0, i.1)
+  character_events : (s : State) (b : ℕ) → s.held ≡ Nothing → HasGlyph b → events_from s.held (b ∷ []) ≡ Print b ∷ []
+  character_events s b nothing i = ap (λ (h : Held). events_from h (b ∷ [])) nothing ∙ glyph_events law b i
 
-  pub traced_shown : (s : State) (t : Tracer) (b : ℕ) → s.held ≡ Nothing → IsShown b
+  pub traced_character : (s : State) (t : Tracer) (b : ℕ) → s.held ≡ Nothing → HasGlyph b
       → traced s t b ≡ text_of t.in_text t.place b
   unfolding traced
-  traced_shown s t b nothing i =
+  traced_character s t b nothing i =
       ap (λ (es : List Event). written_all t.in_text (place_of t.place (item_place t s.held b) b) es s.display)
-      (shown_events s b nothing i)
+      (character_events s b nothing i)
       ∙ text_written t.in_text t.place b s.display (place_of t.place (item_place t s.held b) b) i refl
 
-  pub tracer_shown : (s : State) (t : Tracer) (b : ℕ) → s.held ≡ Nothing → IsShown b
+  pub tracer_character : (s : State) (t : Tracer) (b : ℕ) → s.held ≡ Nothing → HasGlyph b
       → tracer_after s t b ≡ record { place = t.place + 1; begin = t.place; in_text = true }
   unfolding tracer_after
-  tracer_shown s t b nothing i =
+  tracer_character s t b nothing i =
       ap (λ (h : Held). tracer_at t (item_place t h b) (text_after t.in_text (events_from s.held (b ∷ [])))) nothing
-      ∙ ap (λ (es : List Event). tracer_at t t.place (text_after t.in_text es)) (shown_events s b nothing i)
-      ∙ ap (λ (v : Bool). tracer_at t t.place v) (shown-text t.in_text b i)
+      ∙ ap (λ (es : List Event). tracer_at t t.place (text_after t.in_text es)) (character_events s b nothing i)
+      ∙ ap (λ (v : Bool). tracer_at t t.place v) (glyph-text t.in_text b i)
+
+  traced_shown : (s : State) (t : Tracer) (b : ℕ) → s.held ≡ Nothing → IsShown b
+      → traced s t b ≡ text_of t.in_text t.place b
+  traced_shown s t b nothing i = traced_character s t b nothing (shown-glyph b i)
+
+  tracer_shown : (s : State) (t : Tracer) (b : ℕ) → s.held ≡ Nothing → IsShown b
+      → tracer_after s t b ≡ record { place = t.place + 1; begin = t.place; in_text = true }
+  tracer_shown s t b nothing i = tracer_character s t b nothing (shown-glyph b i)
 
   -- a text
   pub tracer_text : (s : State) (t : Tracer) (b : ℕ) (run : List ℕ) → s.held ≡ Nothing → All IsShown (b ∷ run)
@@ -114,7 +136,7 @@ module _ (law : SpellingLaw) where
       let first : IsShown b = all 0 0 (omega arith) in
       let u : Tracer = record { place = t.place + 1; begin = t.place; in_text = true } in
       ap (λ (u : Tracer). tracer_all (play s (b ∷ [])).state u (c ∷ run)) (tracer_shown s t b nothing first)
-      ∙ tracer_text (play s (b ∷ [])).state u c run (still_nothing law s b nothing (first.0, first.1)) (tail_of_all b (c ∷ run) all)
+      ∙ tracer_text (play s (b ∷ [])).state u c run (still_nothing law s b nothing first) (tail_of_all b (c ∷ run) all)
       ∙ same_tracer (t.place + 1 + length run) (t.place + length (c ∷ run)) (t.place + 1 + length run + 1)
       (t.place + length (c ∷ run) + 1) true (omega arith) (omega arith)
 
@@ -130,7 +152,7 @@ module _ (law : SpellingLaw) where
       (traced_shown s t b nothing first ∙ ap (λ (v : Bool). text_of v t.place b) text ∙ shown-itself b first)
       ∙ ap (λ (u : Tracer). b ∷ trace (play s (b ∷ [])).state u run) (tracer_shown s t b nothing first)
       ∙ ap (λ (l : List ℕ). b ∷ l)
-      (trace_on (play s (b ∷ [])).state u run (still_nothing law s b nothing (first.0, first.1)) refl (tail_of_all b run all))
+      (trace_on (play s (b ∷ [])).state u run (still_nothing law s b nothing first) refl (tail_of_all b run all))
 
   pub trace_text : (s : State) (t : Tracer) (b : ℕ) (run : List ℕ) → s.held ≡ Nothing → All IsShown (b ∷ run)
       → trace s t (b ∷ run) ≡ text_begin t.in_text t.place ++ b ∷ run
@@ -143,7 +165,7 @@ module _ (law : SpellingLaw) where
       ∙ ap (λ (u : Tracer). (text_begin t.in_text t.place ++ b ∷ []) ++ trace (play s (b ∷ [])).state u run)
       (tracer_shown s t b nothing first)
       ∙ ap (λ (l : List ℕ). (text_begin t.in_text t.place ++ b ∷ []) ++ l)
-      (trace_on (play s (b ∷ [])).state u run (still_nothing law s b nothing (first.0, first.1)) refl (tail_of_all b run all))
+      (trace_on (play s (b ∷ [])).state u run (still_nothing law s b nothing first) refl (tail_of_all b run all))
       ∙ append_assoc (text_begin t.in_text t.place) (b ∷ []) run
 
 -- ---- events
@@ -459,6 +481,20 @@ run_traces law t run old one two some all is then = record {
   lines = λ s sound nothing. text_lines law s t run old one two nothing some all is then;
   tracer = λ s sound nothing. text_tracer law s t run nothing some all;
   between = held_leads run (law.all_plain_held run (plain_of run all));
+}
+
+-- a character that a text may not show as itself
+pub character_traces : SpellingLaw → (t : Tracer) (b : ℕ) (old one two : List ℕ) → HasGlyph b
+    → one ≡ old ++ text_begin t.in_text t.place → two ≡ one ++ shown_byte b
+    → Traces t (made t.place (t.place + 1) true) (b ∷ []) old two
+unfolding trace tracer_all
+character_traces law t b old one two i is then = record {
+  lines = λ s sound nothing.
+      then ∙ ap (λ (l : List ℕ). l ++ shown_byte b) is ∙ append_assoc old (text_begin t.in_text t.place) (shown_byte b)
+      ∙ ap (λ (l : List ℕ). old ++ l)
+      (sym (append-nil (traced s t b) ∙ traced_character law s t b nothing i));
+  tracer = λ s sound nothing. sym (tracer_character law s t b nothing i);
+  between = held_leads (b ∷ []) (glyph_held law b i);
 }
 
 pub nothing_traced : SplitLaw → (t : Tracer) (old : List ℕ) → Traces t t [] old old

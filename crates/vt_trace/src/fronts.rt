@@ -3,6 +3,7 @@ ghost use Rattle.std.specs.Prelude.{◌≡◌, ℕ, List, All, false, Some, ◌+
 ghost use Rattle.std.specs.Prelude.{vec_len, vec_capacity};
 ghost use Rattle.std.specs.Bool.{OnTrue};
 ghost use Rattle.vt_syntax.specs.declared.held.Held.TheVariants.{Nothing};
+ghost use Rattle.vt_glyph.specs.Invocation.{HasGlyph};
 ghost use Rattle.vt_syntax.specs.Class.{IsPlain};
 ghost use Rattle.vt_syntax.specs.Event.{event_of, event_in};
 ghost use Rattle.vt_syntax.specs.Held.{events_from, held_from};
@@ -10,7 +11,7 @@ ghost use Rattle.vt_term.specs.Play.{play};
 ghost use Rattle.vt_trace.specs.Trace.{text_begin, text_end, written, trace, tracer_all};
 ghost use Rattle.vt_trace.specs.Runs.{IsShown, Traces, is_graphic, is_request};
 
-use crate::buffer::{BUFFER, put, put_bytes, put_number};
+use crate::buffer::{BUFFER, put, put_bytes, put_number, put_shown};
 use crate::bytes::push_bytes;
 use crate::laws::cuts;
 use crate::lines::put_line;
@@ -145,6 +146,7 @@ fn put_one(
     at: usize,
     buffer: &mut [u8; BUFFER],
 ) -> (usize, usize)
+    requires some { 1 ≤ length piece.now }
     requires place { tracer.old.place + length piece.now < 2 ^ 64 }
     requires at { at + TRACE_LIMIT ≤ room }
     requires room { room ≤ BUFFER }
@@ -159,6 +161,9 @@ fn put_one(
     let run = shown_run(piece).min(room - at - 30);
     if run > 0 {
         return (run, put_run(tracer, &piece[..run], at, buffer));
+    }
+    if is_character(piece[0]) {
+        return (1, put_character(tracer, piece[0], at, buffer));
     }
     let mut parser = Parser::new();
     let taken = parser.next(piece, values);
@@ -191,6 +196,14 @@ fn is_shown(b: u8) -> bool
     ensures { OnTrue result (IsShown b) }
 {
     0x20 <= b && b < 0x7F && b != b'\\'
+}
+
+/// Returns whether a byte has a glyph.
+#[inline(always)]
+fn is_character(b: u8) -> bool
+    ensures { OnTrue result (HasGlyph b) }
+{
+    (0x20 <= b && b <= 0x7E) || (0xA1 <= b && b <= 0xFE)
 }
 
 /// Returns whether an event is no graphic byte and no request, and its bytes after the first are plain.
@@ -262,6 +275,27 @@ fn put_run(tracer: &mut Tracer, run: &[u8], at: usize, buffer: &mut [u8; BUFFER]
     *tracer = Tracer {
         place: begin + 1,
         begin,
+        in_text: true,
+    };
+    end
+}
+
+/// Writes the trace of a character between sequences.
+#[inline(always)]
+fn put_character(tracer: &mut Tracer, b: u8, at: usize, buffer: &mut [u8; BUFFER]) -> usize
+    requires character { HasGlyph b }
+    requires place { tracer.old.place + 1 < 2 ^ 64 }
+    requires room { at + 34 ≤ BUFFER }
+    ensures traces { Traces tracer.old tracer.new (b ∷ []) (take at buffer.old) (take result buffer.new) }
+    ensures place { tracer.new.place ≡ tracer.old.place + 1 }
+    ensures bounded { result ≤ at + 34 }
+{
+    spelled();
+    let at = put_text_begin(tracer, at, buffer);
+    let end = put_shown(b, at, buffer);
+    *tracer = Tracer {
+        place: tracer.place + 1,
+        begin: tracer.place,
         in_text: true,
     };
     end

@@ -4,7 +4,7 @@ ghost use Rattle.vt_screen.specs.Grid.{last_row};
 ghost use Rattle.vt_update.specs.Private.Appended.{Appended};
 
 use crate::remote::Remote;
-use crate::rows::{BLANK, Rows, word_of};
+use crate::rows::{BLANK, Rows};
 use vt_screen::{Cell, ROWS};
 use vt_term::Terminal;
 
@@ -84,8 +84,8 @@ impl Remote {
         let mut here = spared.here;
         let mut i = 0;
         while i < columns && left > 0 {
-            let word = word_of(&new[i]);
-            if word_of(&old[i]) == word {
+            let word = new[i].word();
+            if old[i].word() == word {
                 here = here.wrapping_add((word != BLANK) as i32);
                 i += 1;
                 continue;
@@ -147,7 +147,7 @@ impl Remote {
         let columns = blank.len().min(new.len());
         let mut i = from;
         while i < columns {
-            if word_of(&new[i]) == BLANK {
+            if new[i].word() == BLANK {
                 i += 1;
             } else {
                 i += self.write_part(row, i + 1, &blank[i..columns], &new[i..columns], to, out);

@@ -4,7 +4,6 @@ ghost use Rattle.vt_paint.specs.Spoken.{Control, Escape, Sequence, is_spoken, is
 ghost use Rattle.vt_update.specs.declared.chosen.TheConstants.{ROOM};
 ghost use Rattle.vt_update.specs.Private.Appended.{Appended};
 
-use crate::rows::word_of;
 use itoa::Buffer;
 use vt_glyph::Set;
 use vt_screen::Cell;
@@ -63,9 +62,9 @@ fn put_codes(
 {
     let span = 0x7E - first as u64;
     for (i, cell) in new.iter().enumerate() {
-        let word = word_of(cell);
+        let word = cell.word();
         let place = word.wrapping_sub(low);
-        if place > span || word == word_of(&old[i]) {
+        if place > span || word == old[i].word() {
             return i;
         }
         all[at + i] = place as u8 + first;

@@ -8,7 +8,6 @@ ghost use Rattle.vt_paint.specs.Spoken.{is_among, mode_numbers};
 ghost use Rattle.vt_update.specs.Private.Attributes.{attribute, attributes};
 
 use crate::chosen::Chosen;
-use crate::rows::word_of;
 use vt_glyph::{Glyph, Set, Sets, Spelling};
 use vt_screen::{Brush, Cell, ROWS, Rendition};
 use vt_term::{Cursor, Margins, Modes, Saved, Terminal};
@@ -40,7 +39,7 @@ impl Remote {
             width: shown.width(),
             cursor: shown.cursor(),
             brush,
-            number: brush_number(&brush),
+            number: brush.number(),
             sets: *shown.sets(),
             margins: shown.margins(),
             modes: shown.modes(),
@@ -217,7 +216,7 @@ impl Remote {
             }
         }
         self.brush = brush;
-        self.number = brush_number(&brush);
+        self.number = brush.number();
     }
 
     /// Sends SGR: the attributes that are newly set. If one is reset, it sends all off and then those of the target. An
@@ -261,7 +260,7 @@ impl Remote {
     /// Returns whether a cell is written with the current brush.
     #[inline(always)]
     fn has_brush(&self, cell: &Cell) -> bool {
-        word_of(cell) >> 24 == self.number
+        cell.word() >> 24 == self.number
     }
 
     /// Writes a cell at the cursor, and resets the wrap flag. `goes_on` is true if the next cell is written next and is
@@ -567,18 +566,8 @@ fn goes_on(old: &[Cell], new: &[Cell]) -> bool
     let code = new[0].glyph.code() as u8;
     !(0x20 <= code && code <= 0x7E)
         && new.len() > 1
-        && word_of(&new[1]) != word_of(&old[1])
+        && new[1].word() != old[1].word()
         && home_of(new[0].glyph).0 == home_of(new[1].glyph).0
-}
-
-/// Returns a brush as a number, with a byte for each attribute: a cell's word without the glyph.
-#[inline(always)]
-fn brush_number(brush: &Brush) -> u64 {
-    brush.rendition.bold as u64
-        + 0x100 * brush.rendition.underline as u64
-        + 0x1_0000 * brush.rendition.blink as u64
-        + 0x100_0000 * brush.rendition.reverse as u64
-        + 0x1_0000_0000 * brush.protected as u64
 }
 
 /// Returns the set of a glyph's spelling, and its code there.

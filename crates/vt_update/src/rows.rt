@@ -135,18 +135,6 @@ impl Rows<'_> {
 /// The word of a blank cell: that of a space.
 pub(crate) const BLANK: u64 = 0x20;
 
-/// Returns a cell as one number, with a byte for each byte of the cell, so that it is read as one word. (Inlined
-/// `always`, it would be inlined before its loads become one.)
-#[inline]
-pub(crate) fn word_of(cell: &Cell) -> u64 {
-    cell.glyph.code() as u64
-        + 0x100_0000 * cell.rendition.bold as u64
-        + 0x1_0000_0000 * cell.rendition.underline as u64
-        + 0x100_0000_0000 * cell.rendition.blink as u64
-        + 0x1_0000_0000_0000 * cell.rendition.reverse as u64
-        + 0x100_0000_0000_0000 * cell.protected as u64
-}
-
 /// Returns whether all cells are blank.
 fn is_blank_row(cells: &[Cell]) -> bool {
     cells.iter().all(is_blank)
@@ -155,14 +143,14 @@ fn is_blank_row(cells: &[Cell]) -> bool {
 /// Returns whether a cell is blank.
 #[inline(always)]
 fn is_blank(cell: &Cell) -> bool {
-    word_of(cell) == BLANK
+    cell.word() == BLANK
 }
 
 /// Returns the number of positions at which the cells differ.
 pub(crate) fn unlike(old: &[Cell], new: &[Cell]) -> i32 {
     let mut count = 0u64;
     for (old, new) in old.iter().zip(new) {
-        count = count.wrapping_add((word_of(old) != word_of(new)) as u64);
+        count = count.wrapping_add((old.word() != new.word()) as u64);
     }
     count.min(COLUMNS as u64) as i32
 }

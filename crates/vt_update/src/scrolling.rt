@@ -3,7 +3,7 @@ ghost use Rattle.std.specs.Prelude.{◌≤◌, ◌<◌, ◌+◌};
 ghost use Rattle.vt_screen.specs.Grid.{last_row};
 
 use crate::remote::Remote;
-use crate::rows::{Rows, filled, unlike, word_of};
+use crate::rows::{Rows, filled, unlike};
 use vt_screen::{Cell, ROWS, same_cells};
 use vt_term::{Margins, Terminal};
 
@@ -128,7 +128,7 @@ impl Votes {
 fn sum_of(cells: &[Cell]) -> u64 {
     let mut sum = 0u64;
     for cell in cells[..cells.len() / 2].iter() {
-        sum = sum.wrapping_add(word_of(cell));
+        sum = sum.wrapping_add(cell.word());
     }
     sum
 }

@@ -24,6 +24,7 @@ pub const VT220_HELD_STRING: u32 = 3;
 pub const VT220_ROWS: usize = 24;
 pub const VT220_COLUMNS: usize = 132;
 pub const VT220_REPORT_LIMIT: usize = 10;
+pub const VT220_UTF8_LINES_LIMIT: usize = 17468;
 pub const VT220_TEXT_LIMIT: usize = 9528;
 pub const VT220_ROW_TEXT_LIMIT: usize = 397;
 pub const VT220_SHOW_LIMIT: usize = 51000;
@@ -56,6 +57,13 @@ impl vt220 {
 impl vt220_scratch {
     /// A closed scratch buffer, as VT220_INIT.
     pub const INIT: vt220_scratch = vt220_scratch { room: ptr::null_mut(), is_open: false };
+}
+
+#[repr(C)]
+#[derive(Clone, Copy, Debug, Default, PartialEq, Eq)]
+pub struct vt220_utf8 {
+    pub bytes: [u8; 3],
+    pub len: u8,
 }
 
 #[repr(C)]
@@ -188,6 +196,29 @@ extern "C" {
         lines_size: usize,
         lines_written: *mut usize,
     ) -> usize;
+    pub fn vt220_feed_utf8(
+        t: *mut vt220,
+        u: *mut vt220_utf8,
+        bytes: *const u8,
+        len: usize,
+        reports: *mut u8,
+        size: usize,
+        written: *mut usize,
+    ) -> usize;
+    pub fn vt220_feed_log_utf8(
+        t: *mut vt220,
+        s: *mut vt220_scratch,
+        u: *mut vt220_utf8,
+        bytes: *const u8,
+        len: usize,
+        reports: *mut u8,
+        size: usize,
+        written: *mut usize,
+        lines: *mut u8,
+        lines_size: usize,
+        lines_written: *mut usize,
+    ) -> usize;
+    pub fn vt220_shown(character: u32, cells: *mut usize) -> u32;
     pub fn vt220_bells(t: *const vt220) -> u64;
     pub fn vt220_reset(t: *mut vt220) -> u32;
     pub fn vt220_copy(to: *mut vt220, from: *const vt220) -> u32;
@@ -224,7 +255,7 @@ mod tests {
         assert_eq!((size_of::<vt220>(), size_of::<vt220_scratch>(), size_of::<vt220_cell>()), (24, 16, 12));
         assert_eq!((size_of::<vt220_cursor_place>(), size_of::<vt220_margin_rows>(), size_of::<vt220_mode_set>()), (32, 32, 32));
         assert_eq!((size_of::<vt220_brush_look>(), size_of::<vt220_graphic_sets>(), size_of::<vt220_saved_record>()), (16, 16, 48));
-        assert_eq!((size_of::<vt220_tab_stops>(), size_of::<vt220_row_marks>()), (144, 152));
+        assert_eq!((size_of::<vt220_tab_stops>(), size_of::<vt220_row_marks>(), size_of::<vt220_utf8>()), (144, 152, 4));
     }
 
     #[test]

@@ -16,7 +16,7 @@ pub use vt220_sys::{
     VT220_COLUMNS as COLUMNS, VT220_KEY_LIMIT as KEY_LIMIT, VT220_PAINT_LIMIT as PAINT_LIMIT, VT220_PICTURE_LIMIT as PICTURE_LIMIT,
     VT220_REPORT_LIMIT as REPORT_LIMIT, VT220_ROWS as ROWS, VT220_ROW_TEXT_LIMIT as ROW_TEXT_LIMIT,
     VT220_SHOW_LIMIT as SHOW_LIMIT, VT220_TEXT_LIMIT as TEXT_LIMIT, VT220_UPDATE_LIMIT as UPDATE_LIMIT,
-    VT220_TYPED_LIMIT as TYPED_LIMIT, VT220_VERSION as VERSION,
+    VT220_TYPED_LIMIT as TYPED_LIMIT, VT220_UTF8_LINES_LIMIT as UTF8_LINES_LIMIT, VT220_VERSION as VERSION,
 };
 
 /// Holds the cursor, and whether the next character begins a new line.
@@ -208,6 +208,44 @@ pub fn key_length(typed: &[u8]) -> usize {
     unsafe { sys::vt220_key_length(typed.as_ptr().cast(), typed.len()) }
 }
 
+/// Holds what is pending of UTF-8 input: the bytes of a character that isn't complete yet. It belongs to the input of one terminal.
+///
+/// ```
+/// let (mut terminal, mut decoder) = (vt220::Terminal::new().unwrap(), vt220::Decoder::new());
+/// terminal.feed_utf8(&mut decoder, b"caf\xc3");
+/// assert_eq!(decoder.pending(), b"\xc3");
+/// terminal.feed_utf8(&mut decoder, b"\xa9");
+/// assert_eq!(terminal.row_text(1, &mut vt220::Scratch::new().unwrap()).unwrap(), "caf\u{e9}\n");
+/// ```
+#[derive(Clone, Copy, Debug, Default, PartialEq, Eq)]
+pub struct Decoder(sys::vt220_utf8);
+
+impl Decoder {
+    /// Returns a decoder with nothing pending.
+    pub fn new() -> Decoder {
+        Decoder::default()
+    }
+
+    /// Returns the pending bytes, at most three. After a repaint they complete a checkpoint: feed both to a new terminal and decoder.
+    pub fn pending(&self) -> &[u8] {
+        &self.0.bytes[..usize::from(self.0.len)]
+    }
+}
+
+/// Returns the glyph with which UTF-8 input shows a character, and how many cells it has: 1 or 2. The second cell is a space. Returns
+/// `None` if the character has no cell, as a control or a combining mark.
+///
+/// ```
+/// assert_eq!(vt220::shown('\u{201c}'), Some(('"', 1)));
+/// assert_eq!(vt220::shown('\u{301}'), None);
+/// ```
+pub fn shown(character: char) -> Option<(char, usize)> {
+    let mut cells = 0;
+    // SAFETY: it writes to `cells` alone.
+    let glyph = unsafe { sys::vt220_shown(character.into(), &mut cells) };
+    if cells == 0 { None } else { Some((char::from_u32(glyph)?, cells)) }
+}
+
 /// Owns a scratch buffer, in which the calls that write a whole screen work. One serves any number of terminals.
 pub struct Scratch {
     handle: sys::vt220_scratch,
@@ -304,35 +342,40 @@ impl Terminal {
         (taken, written)
     }
 
+    /// Processes bytes of UTF-8, and otherwise does as `feed_into`. What is pending before and after them is in `decoder`.
+    pub fn feed_utf8_into(&mut self, decoder: &mut Decoder, bytes: &[u8], reports: &mut [u8]) -> (usize, usize) {
+        let mut written = 0;
+        let (len, size, out) = (bytes.len(), reports.len(), reports.as_mut_ptr());
+        let taken = unsafe { sys::vt220_feed_utf8(&mut self.0, &mut decoder.0, bytes.as_ptr(), len, out, size, &mut written) };
+        (taken, written)
+    }
+
     /// Processes all bytes of the host, and returns the replies to it.
     pub fn feed(&mut self, bytes: &[u8]) -> Vec<u8> {
-        let (mut buffer, mut reports, mut at) = ([0; 5120], Vec::new(), 0);
-        while at < bytes.len() {
-            let (taken, written) = self.feed_into(&bytes[at..], &mut buffer);
-            reports.extend_from_slice(&buffer[..written]);
-            at += taken;
-        }
-        reports
+        replies(bytes, |rest, buffer| self.feed_into(rest, buffer))
+    }
+
+    /// Processes all bytes of a host that sends UTF-8, and returns the replies to it. A character that a VT220 lacks is shown as `shown`
+    /// returns it.
+    pub fn feed_utf8(&mut self, decoder: &mut Decoder, bytes: &[u8]) -> Vec<u8> {
+        replies(bytes, |rest, buffer| self.feed_utf8_into(decoder, rest, buffer))
     }
 
     /// Processes all bytes of the host. Returns the replies to it, and the lines that scroll off the top of the screen, each as
     /// `row_text` returns it.
     pub fn feed_log(&mut self, bytes: &[u8], scratch: &mut Scratch) -> (Vec<u8>, String) {
-        let (mut buffer, mut reports, mut lines, mut at) = ([0; 5120], Vec::new(), Vec::new(), 0);
-        while at < bytes.len() {
-            let (rest, mut written) = (&bytes[at..], 0);
-            let (out, size) = (buffer.as_mut_ptr(), buffer.len());
-            let logged = scratch.written(|s, log, logged| {
-                at += unsafe {
-                    let (from, len) = (rest.as_ptr(), rest.len());
-                    sys::vt220_feed_log(&mut self.0, s, from, len, out, size, &mut written, log, PICTURE_LIMIT, logged)
-                };
-                sys::VT220_OK
-            });
-            reports.extend_from_slice(&buffer[..written]);
-            lines.extend(logged.expect("both are open"));
-        }
-        (reports, String::from_utf8(lines).expect("lines are UTF-8"))
+        let t = &mut self.0;
+        replies_and_lines(bytes, scratch, |s, rest, (out, size, written), (log, logged)| unsafe {
+            sys::vt220_feed_log(t, s, rest.as_ptr(), rest.len(), out, size, written, log, PICTURE_LIMIT, logged)
+        })
+    }
+
+    /// Processes all bytes of a host that sends UTF-8, and otherwise does as `feed_log`.
+    pub fn feed_log_utf8(&mut self, decoder: &mut Decoder, bytes: &[u8], scratch: &mut Scratch) -> (Vec<u8>, String) {
+        let (t, u) = (&mut self.0, &mut decoder.0);
+        replies_and_lines(bytes, scratch, |s, rest, (out, size, written), (log, logged)| unsafe {
+            sys::vt220_feed_log_utf8(t, s, u, rest.as_ptr(), rest.len(), out, size, written, log, PICTURE_LIMIT, logged)
+        })
     }
 
     /// Returns how often BEL was carried out.
@@ -500,6 +543,37 @@ impl Drop for Terminal {
     fn drop(&mut self) {
         unsafe { sys::vt220_close(&mut self.0) }
     }
+}
+
+/// Returns the replies to all bytes. `feed` is given what is left and a buffer, and returns how many bytes it processed and wrote.
+fn replies(bytes: &[u8], mut feed: impl FnMut(&[u8], &mut [u8]) -> (usize, usize)) -> Vec<u8> {
+    let (mut buffer, mut reports, mut at) = ([0; 5120], Vec::new(), 0);
+    while at < bytes.len() {
+        let (taken, written) = feed(&bytes[at..], &mut buffer);
+        reports.extend_from_slice(&buffer[..written]);
+        at += taken;
+    }
+    reports
+}
+
+/// Returns the replies to all bytes, and the lines that scroll off. `feed` is given a scratch buffer, what is left, a buffer for replies
+/// and where it writes their length, and the same for lines. It returns how many bytes it processed.
+fn replies_and_lines(
+    bytes: &[u8],
+    scratch: &mut Scratch,
+    mut feed: impl FnMut(*mut sys::vt220_scratch, &[u8], (*mut u8, usize, *mut usize), (*mut u8, *mut usize)) -> usize,
+) -> (Vec<u8>, String) {
+    let mut lines = Vec::new();
+    let reports = replies(bytes, |rest, buffer| {
+        let (mut taken, mut written) = (0, 0);
+        let logged = scratch.written(|s, log, logged| {
+            taken = feed(s, rest, (buffer.as_mut_ptr(), buffer.len(), &mut written), (log, logged));
+            sys::VT220_OK
+        });
+        lines.extend(logged.expect("both are open"));
+        (taken, written)
+    });
+    (reports, String::from_utf8(lines).expect("lines are UTF-8"))
 }
 
 fn cell_of(cell: &sys::vt220_cell) -> Option<Cell> {

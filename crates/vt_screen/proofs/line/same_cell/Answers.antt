@@ -6,9 +6,9 @@ use Rattle.vt_screen.proofs.line.same_cell.Goals as goal
 
 pub returns : goal.returns
 returns c =
-    let a = c.word_of.ensures in
-    let b = c.word_of-2.ensures in (
+    let a = c.word.ensures in
+    let b = c.word-2.ensures in (
       λ h. same-word c.args.a.now c.args.b.now a.glyph b.glyph a.bound b.bound
-          (sym a.word ∙ eqb-true c.word_of.result c.word_of-2.result h ∙ b.word),
+          (sym a.word ∙ eqb-true c.word.result c.word-2.result h ∙ b.word),
       λ e. eq-eqb _ _ (a.word ∙ ap cell_word e ∙ sym b.word),
     )

@@ -1,6 +1,6 @@
 use Rattle.std.proofs.Common.{◌≡◌, ◌≤◌, length, take}
 use Rattle.vt_term.specs.Text.{trimmed}
-use Rattle.vt_term.proofs.ascii_text.end_of_text.Given as goal
+use Rattle.vt_term.proofs.line.end_of_text.Given as goal
 
 -- what is behind the end is spaces
 abbrev pub invariant-loop-end : goal.invariant-loop-end

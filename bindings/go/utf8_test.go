@@ -1,0 +1,118 @@
+package vt220
+
+import (
+	"os"
+	"strings"
+	"testing"
+)
+
+// row is what a row of tests-c/utf8.txt has.
+type row struct{ text, pending, reports, lines string }
+
+func rowOf(t *testing.T, fields []string) (wanted row) {
+	for _, field := range fields {
+		name, value, _ := strings.Cut(field, "=")
+		bytes := func() string { return string(unhex(t, strings.ReplaceAll(value, " ", ""))) }
+		switch name {
+		case "text":
+			wanted.text = strings.ReplaceAll(value, `\n`, "\n")
+		case "pending":
+			wanted.pending = bytes()
+		case "reports":
+			wanted.reports = bytes()
+		case "lines":
+			wanted.lines = strings.ReplaceAll(value, `\n`, "\n")
+		default:
+			t.Fatal(field)
+		}
+	}
+	return wanted
+}
+
+func fed(t *testing.T, s *Scratch, input []byte, size int) (found row) {
+	var d, again Decoder
+	terminal, other := open(t, ""), open(t, "")
+	for len(input) > 0 {
+		piece := input
+		if len(piece) > size {
+			piece = piece[:size]
+		}
+		reports, lines, err := terminal.FeedLogUTF8(&d, piece, s)
+		if err != nil || string(other.FeedUTF8(&again, piece)) != string(reports) || !other.SameState(terminal) || string(again.Pending()) != string(d.Pending()) {
+			t.Errorf("% X: the log differs: %v", piece, err)
+		}
+		found.reports += string(reports)
+		found.lines += string(lines)
+		input = input[len(piece):]
+	}
+	text, err := terminal.Text(s)
+	if err != nil {
+		t.Fatal(err)
+	}
+	found.text, found.pending = strings.TrimRight(text, "\n"), string(d.Pending())
+	return found
+}
+
+// Each row of the file that VT220_UTF8 names, whole and byte by byte. Without it, this repository's file is read.
+func TestUTF8(t *testing.T) {
+	path := os.Getenv("VT220_UTF8")
+	if path == "" {
+		path = "../../tests-c/utf8.txt"
+	}
+	file, err := os.ReadFile(path)
+	if err != nil {
+		t.Skip("no rows: VT220_UTF8 names their file")
+	}
+	s, count := scratch(t), 0
+	for _, line := range strings.Split(strings.TrimSuffix(string(file), "\n"), "\n") {
+		if line[0] == '#' {
+			continue
+		}
+		fields := strings.Split(line, "\t")
+		input, wanted := unhex(t, strings.ReplaceAll(fields[1], " ", "")), rowOf(t, fields[2:])
+		for _, size := range []int{len(input), 1} {
+			if found := fed(t, s, input, size); found != wanted {
+				t.Errorf("%s in chunks of %d: %q, and not %q", fields[0], size, found, wanted)
+			}
+		}
+		count++
+	}
+	if count < 30 {
+		t.Errorf("%d rows", count)
+	}
+}
+
+// By the tables of docs/SPECIFICATION.md, 'UTF-8'.
+func TestShown(t *testing.T) {
+	for _, c := range []struct {
+		character, glyph rune
+		cells            int
+	}{{'A', 'A', 1}, {'\u201c', '"', 1}, {'\u2501', '\u2500', 1}, {'\u4e16', '\u2426', 2}, {'\uff21', 'A', 2}, {'\u0301', 0, 0}, {'\u0085', 0, 0}, {'\n', 0, 0}} {
+		if glyph, cells := Shown(c.character); glyph != c.glyph || cells != c.cells {
+			t.Errorf("%U is shown as %U in %d cells", c.character, glyph, cells)
+		}
+	}
+}
+
+func TestDecoders(t *testing.T) {
+	var d, again Decoder
+	terminal, other, s := open(t, ""), open(t, ""), scratch(t)
+	terminal.FeedUTF8(&d, []byte("caf\xc3"))
+	repaint, err := terminal.Repaint(s)
+	other.FeedUTF8(&again, append(repaint, d.Pending()...))
+	if err != nil || !other.SameState(terminal) || string(again.Pending()) != "\xc3" {
+		t.Error("checkpoint", err)
+	}
+	if string(other.FeedUTF8(&again, []byte("\xa9\x1b[6n"))) != "\x1b[1;5R" || len(again.Pending()) != 0 {
+		t.Error("resumed")
+	}
+	terminal.FeedUTF8(nil, []byte("\xc3\xa9\xc3"))
+	terminal.FeedUTF8(nil, []byte("!"))
+	if text, err := terminal.RowText(1, s); err != nil || text != "caf\u00e9!\n" {
+		t.Errorf("without a decoder: %q %v", text, err)
+	}
+	terminal.Close()
+	if _, _, err := terminal.FeedLogUTF8(&d, []byte("x"), s); err != ErrClosed || terminal.FeedUTF8(&d, []byte("x")) != nil || string(d.Pending()) != "\xc3" {
+		t.Error("closed", err)
+	}
+}

@@ -1,0 +1,287 @@
+"""Tests the rig in UTF-8: what programs get and show, and how a test finds it.
+
+What a screen shows follows from the tables of docs/SPECIFICATION.md, 'UTF-8'.
+"""
+import os
+import re
+import subprocess
+import sys
+
+import pytest
+
+import vt220
+from vt220 import rig as rig_module
+from vt220.expected import expression_as_shown, expression_of_text
+from vt220.rig import DELETE, DOWN, ENTER, ESCAPE, F7, F10, Failure, Reports, Screen
+
+# A limit that only says that something hangs.
+LONG = 300
+# Shows the bytes that it gets.
+SHOWS = "stty raw -echo; printf ready; while :; do dd bs=100 count=1 2>/dev/null | od -An -tx1 -v; printf '\\r'; done"
+
+
+@pytest.fixture(autouse=True)
+def in_a_directory(tmp_path, monkeypatch):
+    monkeypatch.chdir(tmp_path)
+
+
+def run(*argv, **options):
+    return rig_module.run(*argv, **{"timeout": LONG, **options})
+
+
+def shell(script, **options):
+    return run("/bin/sh", "-c", script, **options)
+
+
+def screen_of(text):
+    """Returns the screen of a program that writes a text in UTF-8."""
+    with vt220.Terminal("utf-8") as terminal:
+        terminal.feed(text.encode())
+        return Screen(terminal.repaint(), "utf-8")
+
+
+# What a program gets.
+
+@pytest.mark.parametrize("options, charmap, flag", [({}, "UTF-8", "iutf8"), ({"encoding": "dec"}, "ANSI_X3.4-1968", "-iutf8")])
+def test_a_program_has_a_locale_and_a_line_of_its_encoding(options, charmap, flag):
+    """locale(1) prints the codeset, and stty(1) the flags of the line."""
+    with shell("locale charmap; stty -a", **options) as rig:
+        screen = rig.ended()
+    assert screen.rows[0] == charmap and flag in screen.text.split()
+
+
+def test_a_test_chooses_the_locale():
+    with shell("echo $LC_ALL", env={"LC_ALL": "POSIX"}) as rig:
+        assert rig.ended().rows[0] == "POSIX"
+
+
+@pytest.mark.parametrize("options, sent", [({}, "61 c3 a4 e2 80 9c f0 9f 98 80"), ({"encoding": "dec"}, "61 e4")])
+def test_keys_are_sent_in_the_encoding(options, sent):
+    text = bytes.fromhex(sent).decode("latin-1" if options else "utf-8")
+    for press in ("keys", "paste"):
+        with shell(SHOWS, **options) as rig:
+            rig.wait("ready")
+            getattr(rig, press)(text)
+            rig.wait(text=sent)
+
+
+def test_a_character_that_no_key_sends_is_refused():
+    with shell(SHOWS) as rig, shell(SHOWS, encoding="dec") as other:
+        for one, text in ((rig, "\u009b"), (other, "\u201c")):
+            one.wait("ready")
+            with pytest.raises(ValueError, match="no key of a VT220 sends"):
+                one.keys(text)
+
+
+def test_the_line_erases_whole_characters():
+    """termios(3): IUTF8 allows character-erase to be correctly performed in cooked mode."""
+    with shell("printf ready; head -n 1 | od -An -tx1") as rig:
+        rig.wait("ready")
+        rig.keys("a\u201cb", DELETE, DELETE, "c", ENTER)
+        rig.wait("^ 61 63 0a$")
+
+
+def test_another_encoding_is_refused():
+    with pytest.raises(ValueError, match="dec, utf-8, not 'latin-1'"):
+        run("true", encoding="latin-1")
+
+
+# What a test finds.
+
+@pytest.mark.parametrize("text, shown, row", [
+    ("\u201cWelt\u201d \u2026", '"Welt" .', '"Welt" .'), ("\u250f\u2501\u2513", "\u250c\u2500\u2510", "\u250c\u2500\u2510"), ("\u4e16x", "\u2426 x", "\u2426 x"),
+    ("x\u4e16", "x\u2426 ", "x\u2426"), ("e\u0301a", "ea", "ea"), ("\u00e9\u2500", "\u00e9\u2500", "\u00e9\u2500"),
+])
+def test_a_text_is_found_by_what_is_shown_for_it(text, shown, row):
+    with shell(f"printf 'before {text}'; sleep 1000") as rig:
+        screen = rig.wait(text, row=1, col=8)
+        assert rig.wait(text=text, col=8) == rig.wait(text=shown.rstrip()) == rig.wait(lambda screen: screen.at(text)) == screen
+        assert screen.rows[0] == f"before {row}" and vt220.shown(text) == shown
+        place = screen.at(text)
+        assert (place.row, place.col, "".join(cell.glyph for cell in place.cells)) == (1, 8, shown)
+
+
+# A pattern, and rows of a screen that it finds and doesn't find.
+PATTERNS = [
+    ("\u201cW", ['"W'], ["W", "xW"]), ("[\u201c\u00ab]W", ['"W', "\u00abW"], ["xW"]), ("[^\u201c]W", ["xW"], ['"W', "W"]), ("(?<!\u201c)W", ["xW", "W"], ['"W']),
+    ("^\u2026$", ["."], ["x", ".."]), ("[\u2026]", ["."], ["x"]), ("\u2191", ["a^"], ["a", ""]), ("\u2713+$", ["x++"], ["x"]), ("a\u2016b", ["a|b"], ["a", "b"]),
+    (r"^\u2026$", ["."], ["x"]), (r"^\xd7$", ["x"], ["a"]), (r"^\327$", ["x"], ["a"]), (r"^\U00002026$", ["."], ["x"]), (r"^\N{BULLET} x", ["\u00b7 x"], ["x x"]),
+    ("\\\u201c", ['"'], ["x"]), ("^[\u2500-\u257f]+$", ["\u250c\u2500\u2510", "\u253c"], ["x", "-"]), ("^[a-\u00ff]+$", ["az\u00e9\u00ff"], ["A"]), ("[]\u2026-]", ["]", ".", "-"], ["["]),
+    ("[^]\u2026]", ["x"], ["]", "."]), ("^\u4e16+x", ["\u2426 \u2426 x"], ["\u2426x"]), ("^\u4e16$", ["\u2426"], ["\u2426x"]), ("^(?:a\u4e16){2}$", ["a\u2426 a\u2426"], ["a\u2426a\u2426"]),
+    ("(?x) ^ \u201c \\ \u4e16 ", ['" \u2426'], ['"\u2426']), ("^e\u0301*x", ["ex"], ["e"]), ("[\u0301]", [], ["e", ""]), ("(?i)\u00c4\u201d", ['\u00e4"'], ["\u00e4"]),
+    (r"^\w\d[^\W\d]\\$", ["a1b\\"], ["a12\\"]), ("(?<!\u4e16)x", ["x", "\u2426x"], ["\u2426 x"]), ("(?<=\u201c)\u4e16$", ['"\u2426'], ["\u2426", '"\u2426x']),
+]
+
+
+@pytest.mark.parametrize("pattern, found, missed", PATTERNS)
+def test_an_expression_finds_what_is_shown(pattern, found, missed):
+    for expression in (pattern, re.compile(pattern)):
+        mapped = expression_as_shown(expression, "utf-8")
+        assert [row for row in found + missed if mapped.search(row)] == found, mapped.pattern
+    assert expression_as_shown(pattern, "dec").pattern == pattern
+
+
+def test_an_expression_keeps_its_flags_and_its_errors():
+    assert expression_as_shown(re.compile("\u201cw", re.I), "utf-8").search('"W')
+    with pytest.raises(re.error):
+        expression_as_shown("(\u201c", "utf-8")
+
+
+def test_the_204_glyphs_and_ascii_are_found_as_they_are():
+    glyphs = {cell.glyph for data in (bytes(range(0x20, 0x7F)), bytes(range(0xA0, 0x100)), b"\033(0" + bytes(range(0x5F, 0x7F)))
+              for row in (1, 2) for cell in terminal_of(data).row(row)}
+    assert len(glyphs) == 204
+    for glyph in glyphs:
+        assert vt220.shown(glyph) == glyph and expression_of_text(glyph, "utf-8") == re.compile(re.escape(glyph))
+
+
+def terminal_of(data):
+    terminal = vt220.Terminal()
+    terminal.feed(data)
+    return terminal
+
+
+def test_masks_and_places_of_a_screen():
+    screen = screen_of("load \u201c12\u201d \u4e16 end \u4e16")
+    assert screen.stored(["\u201c\\d+\u201d", "\u4e16"]).startswith("load \u2588\u2588\u2588\u2588 \u2588\u2588 end \u2588\n")
+    assert (screen.at("\u4e16").col, screen.at("\u4e16", nth=2).col, len(screen.at("\u4e16", nth=2).cells)) == (11, 18, 2)
+    assert repr(screen.at("\u201d")) == "<'\"' at row 1, column 6>" and repr(screen.at("\u201dx")) == "<'\u201dx' isn't on the screen>"
+    assert not Screen(screen.repaint).at("\u201d") and Screen(screen.repaint) == screen
+
+
+def test_a_failure_names_what_is_shown(tmp_path):
+    with shell("printf '\\342\\200\\234Welt'; sleep 1000", reports=Reports(tmp_path / "r", "x")) as rig:
+        rig.wait("\u201cWelt")
+        with pytest.raises(Failure) as caught:
+            rig.wait("\u201cWelt\u201d", text="\u2026", timeout=0.1)
+    words = str(caught.value)
+    assert "/\u201cWelt\u201d/ (shown as /\"Welt\"/) '\u2026' (shown as '.') didn't come" in words and "note:" not in words
+    command = re.search(r"play it:   python3 -m vt220 (.*)   \(or: vt220 show (.*)\)", words)
+    assert command[1] == command[2] and command[1].startswith("--encoding utf-8 ")
+    done = module(*command[1].split())
+    assert done.stdout.startswith('"Welt\n') and rig.recording == b"\xe2\x80\x9cWelt"
+
+
+def module(*words):
+    return subprocess.run([sys.executable, "-B", "-m", "vt220", *words], capture_output=True, text=True,
+                          env={**os.environ, "PYTHONPATH": os.path.dirname(os.path.dirname(vt220.__file__))})
+
+
+def test_the_command_has_an_encoding(tmp_path):
+    (tmp_path / "file").write_bytes(b"\xe2\x80\x9c\xe2\x80\x9c\xe9")
+    for words, first in ((["file"], "\u00e2\u00e2\u00e9"), (["--encoding", "dec", "file"], "\u00e2\u00e2\u00e9"), (["--encoding", "utf-8", "file"], '""'),
+                         (["--encoding", "utf-8", "file", "5"], '"')):
+        done = module(*words)
+        assert (done.returncode, done.stdout.split("\n")[0]) == (0, first), words
+    for words in ([], ["--encoding"], ["--encoding", "utf-8"], ["--encoding", "latin-1", "file"], ["file", "x"]):
+        done = module(*words)
+        assert (done.returncode, done.stdout) == (2, "") and "--encoding ENCODING" in done.stderr, words
+
+
+def test_a_character_that_is_cut_waits_for_its_end():
+    with shell("stty -icanon -echo; printf 'ready \\342\\200'; read line; printf '\\235\\033[6n'; head -c 6 | od -An -c") as rig:
+        rig.wait("^ready")
+        while rig.terminal.pending() != b"\xe2\x80":
+            rig._read(1)
+        assert rig.screen.rows[0] == "ready"
+        rig.keys(ENTER)
+        # The report comes from the place after the character.
+        rig.wait(r"033   \[   1   ;   8   R")
+        assert rig.screen.at("\u201d", row=1).col == 7
+
+
+def test_the_plugin_has_an_encoding(tmp_path):
+    (tmp_path / "test_it.py").write_text(
+        "import os\n\ndef test_it(vt):\n    with_default = vt.run('locale', 'charmap')\n    with_default.ended()\n"
+        "    assert with_default.screen.rows[0] == os.environ['CHARMAP']\n    other = vt.run('locale', 'charmap', encoding='dec')\n    other.ended()\n"
+        "    assert other.screen.rows[0] == 'ANSI_X3.4-1968'\n")
+    for options, charmap in (([], "UTF-8"), (["--vt-encoding", "dec"], "ANSI_X3.4-1968")):
+        words = [sys.executable, "-B", "-m", "pytest", "-p", "vt220.pytest_plugin", "-p", "no:cacheprovider", "-q", "--vt-timeout", str(LONG), *options, str(tmp_path)]
+        kept = {name: value for name, value in os.environ.items() if not name.startswith("PYTEST")}
+        done = subprocess.run(words, cwd=tmp_path, capture_output=True, text=True,
+                              env={**kept, "PYTHONPATH": os.path.dirname(os.path.dirname(vt220.__file__)), "CHARMAP": charmap})
+        assert done.returncode == 0, done.stdout
+
+
+# Programs.
+
+def test_python_prints_what_it_is_given(tmp_path):
+    text = "\u201cStra\u00dfe\u201d \u2026 \u251c\u2500\u2500 \u2714 \u20ac 5 \u4e16\u754c \u03a9."
+    (tmp_path / "it.py").write_text(f"print({text!r})\nprint(ascii(input({text!r})))\n")
+    with run("python3", "it.py") as rig:
+        rig.wait(text=text, row=2, col=1)
+        # The table: quotes, the ellipsis, the check mark and the Euro sign have similar glyphs; the rest is U+2426 in as many cells.
+        assert rig.screen.rows[0] == '"Stra\u00dfe" . \u251c\u2500\u2500 + \u00a4 5 \u2426 \u2426  \u2426.'
+        rig.keys("\u201c\u4e16", ENTER)
+        rig.wait(text=r"'\u201c\u4e16'", row=3)
+        rig.ended()
+
+
+def test_ls_and_less_show_names_and_texts(tmp_path):
+    (tmp_path / "\u00dcbersicht.txt").write_text("\u201eGr\u00fc\u00dfe\u201c \u2013 1 \u00d7 2\n" + "more\n" * 40)
+    with run("ls") as rig:
+        assert rig.ended().rows[0] == "\u00dcbersicht.txt"
+    with run("less", "\u00dcbersicht.txt", env={"LESSHISTFILE": "-"}) as rig:
+        rig.wait("\u00dcbersicht.txt", row=24)
+        rig.wait("\u201eGr\u00fc\u00dfe\u201c \u2013 1 \u00d7 2$", row=1)
+        rig.keys("/\u2013", ENTER)
+        rig.wait(lambda screen: screen.at("\u2013").reverse)
+        rig.keys("q")
+        rig.ended()
+
+
+def test_vim_writes_what_is_typed(tmp_path):
+    with run("vim", "-u", "NONE", "-i", "NONE", "-N", "-n", "brief") as rig:
+        rig.wait("brief.*New", row=24)
+        rig.keys("i", "\u201eStra\u00dfe\u201c 1 \u2013 \u4e16 end", ENTER, "x\u00e9\u4e16", DELETE, DELETE, "y", ESCAPE)
+        rig.wait("^\u201eStra\u00dfe\u201c 1 \u2013 \u4e16 end$", row=1)
+        rig.wait("^xy$", row=2)
+        rig.wait(lambda screen: not screen.at("INSERT"))
+        # vim's help has 'ga': it prints the number of the character under the cursor.
+        rig.keys("ggga")
+        rig.wait("Hex 201e", row=24)
+        rig.keys(":wq", ENTER)
+        rig.ended()
+    assert (tmp_path / "brief").read_text(encoding="utf-8") == "\u201eStra\u00dfe\u201c 1 \u2013 \u4e16 end\nxy\n"
+
+
+def test_dialog_keeps_its_frame_around_wide_characters(tmp_path):
+    command = "exec dialog --output-fd 3 --menu 'Gr\u00f6\u00dfe \u2026' 12 40 4 1 '\u201ckurz\u201d' 2 '\u4e16\u754c x' 3 'S\u00e3o' 3>chosen"
+    with run("sh", "-c", command, cwd=tmp_path) as rig:
+        rig.wait("S\u00e3o")
+        screen = rig.wait(lambda screen: all(screen.at(text) for text in ("Gr\u00f6\u00dfe \u2026", "\u201ckurz\u201d", "\u4e16\u754c x", "S\u00e3o", "\u2518")))
+        # The lines left and right of the entries are in the same columns, whatever is between them.
+        sides = [[found.start() for found in re.finditer("\u2502", screen.rows[screen.at(text).row - 1])] for text in ("\u201ckurz\u201d", "\u4e16\u754c x", "S\u00e3o")]
+        assert len(sides[0]) >= 4 and sides[0] == sides[1] == sides[2]
+        rig.keys(DOWN)
+        rig.wait(lambda screen: screen.at("\u4e16\u754c x").reverse)
+        rig.keys(ENTER)
+        rig.ended()
+    assert (tmp_path / "chosen").read_text() == "2"
+
+
+def test_mc_makes_a_directory_with_a_name_in_utf_8(tmp_path):
+    for name in ("home", "left", "right"):
+        (tmp_path / name).mkdir()
+    with run("mc", "-u", "-b", "-X", str(tmp_path / "left"), str(tmp_path / "right"), cwd=tmp_path / "left", env={"HOME": str(tmp_path / "home")}) as rig:
+        rig.wait("10Quit", row=24)
+        rig.keys(F7)
+        rig.wait("Create a new Directory")
+        rig.keys("\u00dcbung \u2013 1")
+        rig.wait("\u00dcbung \u2013 1")
+        rig.keys(ENTER)
+        rig.wait("/\u00dcbung \u2013 1")
+        rig.keys(F10)
+        rig.ended()
+    assert (tmp_path / "left" / "\u00dcbung \u2013 1").is_dir()
+
+
+def test_bash_edits_a_line_with_characters_of_more_bytes():
+    with run("bash", "--norc", "--noprofile", "-i", env={"PS1": "$ ", "HISTFILE": "", "INPUTRC": "/dev/null"}) as rig:
+        rig.wait(cursor=(1, 3))
+        rig.keys("echo \u201cb\u00e9\u4e16\u201d", DELETE, DELETE, "\u201d")
+        rig.wait("^\\$ echo \u201cb\u00e9\u201d$", row=1)
+        rig.keys(ENTER)
+        rig.wait("^\u201cb\u00e9\u201d$", row=2)
+        rig.keys("exit", ENTER)
+        rig.ended()

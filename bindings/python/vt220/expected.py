@@ -1,0 +1,82 @@
+"""Maps the texts and the expressions of a test to what a screen shows of them.
+
+The screen of a program in UTF-8 has the 204 glyphs of a VT220. A character that isn't one of them is shown as a similar one, or as
+U+2426, in as many cells as it has. So a test that looks for a character looks for these cells.
+"""
+import functools
+import re
+from typing import Match, Optional, Pattern, Union
+
+from . import shown
+
+# The second cell of a character, which a row's text doesn't have at its end. A look-behind needs one length, so it has the other form.
+_SECOND, _FIXED = r"(?:\ |$)", r"\ "
+# A character of an expression as it is, by its number or by its name, or a sign that follows a backslash.
+_CHARACTER = r"\\(?:x[0-9a-fA-F]{2}|u[0-9a-fA-F]{4}|U[0-9a-fA-F]{8}|N\{[^}]*\}|[0-3][0-7]{2}|.)"
+# What an expression has outside of a set, with the beginning of one; and inside, with ranges and the end.
+_OUTSIDE = re.compile(rf"(?P<begin>\[\^?\]?)|(?P<first>{_CHARACTER}|.)", re.S)
+_INSIDE = re.compile(rf"(?P<end>\])|(?P<first>{_CHARACTER}|.)(?:-(?P<last>{_CHARACTER}|[^\]]))?", re.S)
+
+
+def text_as_shown(text: str, encoding: str) -> str:
+    """Returns a text as the screen of a program in this encoding shows it."""
+    return text if encoding == "dec" else shown(text)
+
+
+@functools.lru_cache(maxsize=256)
+def expression_of_text(text: str, encoding: str) -> Pattern[str]:
+    """Returns an expression that finds a text in a row of the screen of a program in this encoding."""
+    return re.compile(re.escape(text) if encoding == "dec" else "".join(map(_cells, text)))
+
+
+def expression_as_shown(expression: Union[str, Pattern[str]], encoding: str) -> Pattern[str]:
+    """Returns an expression that finds in a row of such a screen what `expression` finds in a text."""
+    compiled = re.compile(expression)
+    if encoding == "dec":
+        return compiled
+    try:
+        return re.compile(_mapped(compiled.pattern, _SECOND), compiled.flags)
+    except re.error:
+        return re.compile(_mapped(compiled.pattern, _FIXED), compiled.flags)
+
+
+def _cells(character: str, second: str = _SECOND) -> str:
+    """Returns an expression for the cells of a character. They stay together, so that what repeats the character repeats all of them."""
+    cells = shown(character)
+    if len(cells) == 1:
+        return re.escape(cells)
+    return f"(?:{re.escape(cells[0])}{second})" if cells else "(?:)"
+
+
+@functools.lru_cache(maxsize=256)
+def _mapped(pattern: str, second: str) -> str:
+    """Returns a pattern with the cells of each character beyond ASCII in place of the character."""
+    parts, at, is_inside = [], 0, False
+    while at < len(pattern):
+        found = (_INSIDE if is_inside else _OUTSIDE).match(pattern, at)
+        assert found is not None
+        number = _number(found["first"])
+        parts.append(_in_set(found) if is_inside else found[0] if number < 0 else _cells(chr(number), second))
+        is_inside = is_inside != bool(found.groupdict().get("end" if is_inside else "begin"))
+        at = found.end()
+    return "".join(parts)
+
+
+def _number(part: Optional[str]) -> int:
+    """Returns the number of the character that a part of a pattern stands for, or -1 if it doesn't stand for one beyond ASCII."""
+    if part is None or (part.isascii() and len(part) <= 2):
+        return -1
+    character = part[-1] if not part.isascii() else part.encode().decode("unicode_escape")
+    return -1 if character.isascii() else ord(character)
+
+
+def _in_set(found: Match[str]) -> str:
+    """Returns a part inside a set, with the first cell of each character. A character without a cell stays, and finds nothing."""
+    first, last = _number(found["first"]), _number(found["last"])
+    if first < 0 and last < 0:
+        return found[0]
+    if found["last"] is None:
+        return re.escape(shown(chr(first))[:1] or chr(first))
+    front = "" if first >= 0 else rf"{found['first']}-\x7f"
+    glyphs = {shown(chr(number))[:1] for number in range(max(first, 0x80), last + 1)}
+    return front + "".join(map(re.escape, sorted(glyphs)))

@@ -166,7 +166,7 @@ typedef struct player {
 } player;
 
 /* Plays a part of an input by the call for it. Adds to what the buffers have. */
-static size_t play(player by, const uint8_t *bytes, part next, buffer *replies, buffer *lines) {
+static size_t process_part(player by, const uint8_t *bytes, part next, buffer *replies, buffer *lines) {
     uint8_t *out = replies->at + replies->filled;
     size_t size = replies->size - replies->filled, sent = 0, off = 0, rung = 0, now;
     handle h = own(by.t);
@@ -192,7 +192,7 @@ static size_t process(player by, const uint8_t *bytes, size_t len, buffer *repli
     size_t taken = 0;
     while (taken < len) {
         part next = next_part(bytes + taken, len - taken);
-        size_t now = play(by, bytes + taken, next, replies, lines);
+        size_t now = process_part(by, bytes + taken, next, replies, lines);
         taken += now;
         if (now < next.len) break;
     }

@@ -1,4 +1,4 @@
-"""Joins modules of js/ into one script: js/pack and js/vt220-page do so."""
+"""Joins modules of js/ into one script: js/pack and js/template do so."""
 import pathlib
 import re
 

@@ -138,6 +138,7 @@ int main(void) {
     measure("feed", feeds, LIMIT, empty);
     /* First the deepest of them, since a first call may also look for functions of the C library, on the same stack. */
     measure("feed without replies", drops, LIMIT, empty);
+    measure("feed in UTF-8", feeds_utf8, LIMIT, empty);
     measure("feed with a log", logs, LIMIT, empty);
     /* Updates of all kinds: nothing differs, little, much, the width. */
     static const char *const states[] = {"\030", "a", "\033[5;5H\033[1mb\033[24H\n\n", "\033#8", "\033[?3h", "\033[2J\033[3;20rx\033[?6h", "\033[3g"};

@@ -182,7 +182,10 @@ def do_export(store, incarnation, words):
     from . import export
 
     out = sys.stdout.buffer
-    export.ttyrec(store, incarnation, out) if words.ttyrec else export.asciicast(store, incarnation, words.name, out)
+    if words.ttyrec:
+        export.ttyrec(store, incarnation, out)
+    else:
+        (export.page if words.page else export.asciicast)(store, incarnation, words.name, out)
 
 
 @of_session
@@ -295,8 +298,10 @@ def add_viewers(add):
     ]
     for name, do, words in named:
         add(name, do, words).add_argument("name")
-    each = add("export", do_export, "writes a recording with its times, as asciicast 2 or ttyrec")
-    each.add_argument("--ttyrec", action="store_true", help="writes ttyrec instead of asciicast 2")
+    each = add("export", do_export, "writes a recording with its times, as asciicast 2 or ttyrec, or a page that plays it")
+    form = each.add_mutually_exclusive_group()
+    form.add_argument("--ttyrec", action="store_true", help="writes ttyrec instead of asciicast 2")
+    form.add_argument("--page", action="store_true", help="writes a page that plays it in a browser; needs what make js builds")
     each.add_argument("name")
     each = add("type", do_type, "types into a session")
     each.add_argument("--enter", action="store_true", help="sends Return after the text")

@@ -1,9 +1,11 @@
-"""What a session wrote, for other programs: its bytes, or a recording with the moments, as asciicast 2 or ttyrec."""
+"""What a session wrote, for other programs: its bytes, or a recording with the moments, as asciicast 2, ttyrec or a page that plays it."""
 import codecs
 import json
 import os
 import struct
 import subprocess
+
+import vt220.page
 
 from .keys import encoding_of, key
 from .session import bytes_of
@@ -26,12 +28,16 @@ def log(store, incarnation, out):
     return first or 0
 
 
+def encoding(store, incarnation):
+    """Returns the encoding of a session's bytes."""
+    return encoding_of(store.hget(key(incarnation, "about"), "encoding"))
+
+
 def asciicast(store, incarnation, title, out):
     """Writes an asciicast, version 2. Of a session in UTF-8 the characters are written, with U+FFFD for what is ill-formed. Otherwise
     the bytes 80 to FF are the code points U+0080 to U+00FF."""
     begin = None
-    encoding = encoding_of(store.hget(key(incarnation, "about"), "encoding"))
-    decode = codecs.getincrementaldecoder("utf-8" if encoding == "utf-8" else "latin-1")("replace").decode
+    decode = codecs.getincrementaldecoder("utf-8" if encoding(store, incarnation) == "utf-8" else "latin-1")("replace").decode
     for _, moment, data in bytes_of(store, incarnation):
         if begin is None:
             begin = moment
@@ -50,6 +56,13 @@ def ttyrec(store, incarnation, out):
     """Writes a ttyrec: frames of seconds, microseconds, length and bytes."""
     for _, moment, data in bytes_of(store, incarnation):
         out.write(struct.pack("<III", moment // 1000, moment % 1000 * 1000, len(data)) + data)
+
+
+def page(store, incarnation, title, out):
+    """Writes a page that plays the session in a browser."""
+    parts = [(moment, data) for _, moment, data in bytes_of(store, incarnation)]
+    chunks = [((moment - parts[0][0]) * 1000, len(data)) for moment, data in parts]
+    out.write(vt220.page.page(b"".join(data for _, data in parts), chunks, title, encoding=encoding(store, incarnation)).encode())
 
 
 def picture(repaint):

@@ -1,4 +1,6 @@
 """What an operator does: list, kill, end, drain, type, look, export; exit statuses, configuration, metrics, logs."""
+import base64
+import gzip
 import json
 import os
 import pty
@@ -7,6 +9,7 @@ import select
 import signal
 import struct
 import subprocess
+import tempfile
 import threading
 import urllib.error
 import urllib.request
@@ -298,6 +301,7 @@ def sessions_are_looked_at_and_exported(machine, data):
         [local.COMMAND, "export", "--ttyrec", name], env=os.environ | {"FLEET_REDIS": url}, stdout=subprocess.PIPE
     ).stdout
     check_ttyrec(name, ttyrec, source.sent)
+    check_page(name, url, source.sent)
 
 
 def check_asciicast(name, text, sent):
@@ -307,6 +311,22 @@ def check_asciicast(name, text, sent):
     check("".join(event[2] for event in events).encode("latin-1") == sent, name, "all bytes")
     times = [event[0] for event in events]
     check(times == sorted(times) and set(times) == {0, 0.15, 0.3}, name, f"at their pace: {set(times)}")
+
+
+def check_page(name, url, sent):
+    """The parts of a page, by a template that has nothing else."""
+    with tempfile.NamedTemporaryFile("w") as template:
+        template.write("@TITLE@ @BYTES@ @CHUNKS@")
+        template.flush()
+        environment = os.environ | {"FLEET_REDIS": url, "VT220_PAGE": template.name}
+        made = subprocess.run([local.COMMAND, "export", "--page", name], env=environment, stdout=subprocess.PIPE, text=True).stdout
+        none = subprocess.run([local.COMMAND, "export", "--page", name], env=environment | {"VT220_PAGE": ""}, capture_output=True, text=True)
+    title, *parts = made.split()
+    data, chunks = (gzip.decompress(base64.b64decode(part)) for part in parts)
+    lines = [tuple(map(int, line.split())) for line in chunks.splitlines()]
+    check(title == name and data == sent and sum(size for _, size in lines) == len(sent), name, "a page has the title and all bytes")
+    check({micros for micros, _ in lines} == {0, 150000, 300000}, name, "and its pace")
+    check(none.returncode == 1 and "make js" in none.stderr and none.stdout == "", name, "without a template there is no page")
 
 
 def check_ttyrec(name, data, sent):

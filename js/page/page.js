@@ -5,7 +5,7 @@ import { Player } from "./player.js";
 import { Screen } from "./screen.js";
 
 const SPEEDS = [0.25, 0.5, 1, 2, 4, 8, 16];
-const FAR = 5; // seconds of the arrow keys
+const FAR = 5; // seconds of the arrow keys; with Shift they go a tenth
 
 const $ = (id) => document.getElementById(id);
 
@@ -45,7 +45,8 @@ class Page {
     this.options = options;
     this.screen = new Screen(core, $("screen"));
     this.player = new Player(line, { changed: () => this.draw(), told: (event, time) => this.tell(event, time) });
-    this.player.loops = options.loop;
+    Object.assign(this.player, { loops: options.loop, longestPause: options.pause, stops: options.stops, markers: options.markers.map(([time]) => time) });
+    $("full").hidden = !document.fullscreenEnabled;
     for (const speed of SPEEDS) $("speed").add(new Option(`${speed}×`, speed));
     this.setSpeed(options.speed);
     $("time").max = line.duration;
@@ -58,6 +59,7 @@ class Page {
     const clicks = {
       play: () => this.toggle(), back: () => player.step(-1), forth: () => player.step(1), previous: () => this.hit(-1), next: () => this.hit(1),
       picture: () => this.savePicture(), copy: () => this.copy(this.text(), "The text is copied"), link: () => this.copy(this.link(), "The link is copied"),
+      full: () => this.fill(),
     };
     for (const [id, act] of Object.entries(clicks)) $(id).addEventListener("click", act);
     $("time").addEventListener("input", (event) => player.go(event.target.value));
@@ -141,7 +143,7 @@ class Page {
   }
 
   marker(by) {
-    const times = this.options.markers.map(([time]) => time), { now } = this.player;
+    const { markers: times, now } = this.player;
     const to = by > 0 ? times.find((time) => time > now) : times.findLast((time) => time < now);
     if (to !== undefined) this.player.go(to);
   }
@@ -150,12 +152,12 @@ class Page {
     if (event.ctrlKey || event.altKey || event.metaKey) return;
     if (event.target.matches("input[type=search], select") && event.key !== "Escape") return;
     if (event.key === " " && event.target.matches("button, summary, input")) return;
-    const { player } = this;
+    const { player } = this, far = event.shiftKey ? this.line.duration / 10 : FAR;
     const acts = {
-      " ": () => this.toggle(), ArrowLeft: () => player.go(player.now - FAR), ArrowRight: () => player.go(player.now + FAR), ",": () => player.step(-1),
+      " ": () => this.toggle(), ArrowLeft: () => player.go(player.now - far), ArrowRight: () => player.go(player.now + far), ",": () => player.step(-1),
       ".": () => player.step(1), Home: () => player.go(0), End: () => player.go(this.line.duration), "/": () => $("needle").focus(), n: () => this.hit(1),
       N: () => this.hit(-1), "[": () => this.marker(-1), "]": () => this.marker(1), "<": () => this.faster(-1), ">": () => this.faster(1), s: () => $("skip").click(),
-      Escape: () => $("screen").focus(),
+      f: () => this.fill(), Escape: () => $("screen").focus(),
     };
     const act = /^[0-9]$/.test(event.key) ? () => player.go((this.line.duration * Number(event.key)) / 10) : acts[event.key];
     if (act === undefined) return;
@@ -167,6 +169,15 @@ class Page {
     const at = SPEEDS.indexOf(this.player.speed) + by;
     this.setSpeed(SPEEDS[Math.max(0, Math.min(SPEEDS.length - 1, at))]);
     this.say(`Speed ${this.player.speed}`);
+  }
+
+  /** Fills the display, or stops that. */
+  async fill() {
+    try {
+      await (document.fullscreenElement ? document.exitFullscreen() : document.documentElement.requestFullscreen());
+    } catch {
+      this.say("The browser allows no full screen here.");
+    }
   }
 
   text() {
@@ -193,7 +204,7 @@ class Page {
   listMarkers() {
     for (const [time, label] of this.options.markers) {
       const button = document.createElement("button");
-      button.textContent = `${clock(time)} ${label}`;
+      button.textContent = `${clock(time)} ${label}`.trim();
       button.addEventListener("click", () => this.player.go(time));
       $("markers").append(button);
     }
@@ -202,7 +213,7 @@ class Page {
 
   /** Tells the page that embeds this one. */
   tell(event, time) {
-    if (parent !== window) parent.postMessage({ vt220: event, time }, "*");
+    if (parent !== window) parent.postMessage({ vt220: event, time, duration: this.line.duration }, "*");
   }
 
   /** Does what the page that embeds this one asks for. */
@@ -236,8 +247,8 @@ class Page {
 
 async function begin() {
   const [wasm, bytes, list] = await Promise.all(["wasm", "bytes", "chunks"].map(unpacked));
-  const core = await load(wasm);
-  const page = new Page(core, new Timeline(core, recording(bytes, list)), JSON.parse($("options").textContent));
+  const core = await load(wasm), options = JSON.parse($("options").textContent);
+  const page = new Page(core, new Timeline(core, recording(bytes, list), { encoding: options.encoding }), options);
   page.start();
   page.drawMarks();
   globalThis.page = page;

@@ -1,8 +1,5 @@
 // player.js: a position in time that moves, and the spans of a search.
 
-/** In seconds: the longest pause that is played if pauses are skipped. */
-const LONGEST_PAUSE = 1;
-
 export class Player {
   constructor(line, { changed = () => {}, told = () => {} } = {}) {
     this.line = line;
@@ -11,7 +8,12 @@ export class Player {
     this.now = 0;
     this.speed = 1;
     this.skips = true;
+    /** In seconds: the longest pause that is played if pauses are skipped. */
+    this.longestPause = 1;
     this.loops = false;
+    /** The times of the markers, and whether it stops at each. */
+    this.markers = [];
+    this.stops = false;
     this.isPlaying = false;
     this.spans = [];
     this.needle = "";
@@ -39,15 +41,27 @@ export class Player {
   /** Goes on by seconds of the clock on the wall, if it plays. */
   advance(seconds) {
     if (!this.isPlaying) return;
+    const before = this.now;
     this.now += seconds * this.speed;
     if (this.skips) this.skipPause();
-    if (this.now >= this.line.duration) this.finish();
+    this.pass(before);
+    if (this.isPlaying && this.now >= this.line.duration) this.finish();
     this.changed();
+  }
+
+  /** Tells of the markers after a time up to now. If it stops at markers, it goes back to the first one. */
+  pass(before) {
+    for (const time of this.markers.filter((marker) => before < marker && marker <= this.now)) {
+      this.told("marker", time);
+      if (!this.stops) continue;
+      this.now = time;
+      return this.pause();
+    }
   }
 
   skipPause() {
     const next = this.line.chunksAt(this.now), last = next === 0 ? 0 : this.line.time(next - 1);
-    if (next < this.line.chunks && this.now - last > LONGEST_PAUSE) this.now = this.line.time(next);
+    if (next < this.line.chunks && this.now - last > this.longestPause) this.now = this.line.time(next);
   }
 
   finish() {

@@ -32,13 +32,21 @@ def part(source):
     return b"\x1b[" + source.choice([b"", b"", b"", b"?"]) + numbers.encode() + bytes([source.choice(FINALS)])
 
 
+def charts():
+    """Returns an input for each byte that may name a graphic set: all characters of the set in G0 to G3, on the left and on the right."""
+    left, right = bytes(range(0x20, 0x80)), bytes(range(0xA0, 0x100))
+    shifts = [(b"(", b"\x0f", left), (b")", b"\x0e", left), (b"*", b"\x1bn", left), (b"+", b"\x1bo", left), (b")", b"\x1b~", right), (b"*", b"\x1b}", right), (b"+", b"\x1b|", right)]
+    return [b"".join(b"\x1b" + set_ + bytes([name]) + shift + shown + b"\r\n" for set_, shift, shown in shifts) for name in range(0x30, 0x7F)]
+
+
 def inputs(count, seed=1):
-    """Returns inputs: the recordings of bench, its workloads, and random ones."""
+    """Returns inputs: the recordings of bench, its workloads, all characters of all sets, and random ones."""
     import workloads
 
     source = random.Random(seed)
     large = [open(path, "rb").read() for path in sorted(glob.glob(os.path.join(TOP, "bench/recordings/*.raw")))]
     large += [prefix + workloads.make(name, 30000) for prefix in (b"", b"\x1b[?3h") for name in workloads.WORKLOADS]
+    large += charts()
     return large + [b"".join(part(source) for _ in range(source.randrange(1, 90))) for _ in range(count - len(large))]
 
 
@@ -74,11 +82,13 @@ def hashes(data):
     for each in data:
         terminal, half = vt220.Terminal(), len(each) >> 1
         replies = terminal.feed(each[:half])
+        halfway = terminal.copy()
+        halfway.feed(b"\x18")
         more, lines = terminal.feed_log(each[half:])
         text = described(terminal, last)
         terminal.feed(b"\x18")
         shown = vt220.Terminal()
         shown.copy_from(last)
-        made.append(hash_of([replies, more, lines[:-1].encode(), text.encode(), terminal.repaint(), shown.update(terminal)]))
+        made.append(hash_of([replies, more, lines[:-1].encode(), text.encode(), terminal.repaint(), shown.update(terminal), halfway.update(terminal)]))
         last = terminal
     return made

@@ -27,15 +27,18 @@ export function hashes({ Terminal }, core, inputs) {
   let last = new Terminal(core);
   return inputs.map((input) => {
     const terminal = new Terminal(core), half = input.length >> 1;
-    const replies = terminal.feed(input.subarray(0, half)), logged = terminal.feedLog(input.subarray(half));
+    const replies = terminal.feed(input.subarray(0, half)), halfway = new Terminal(core);
+    halfway.copyFrom(terminal);
+    halfway.feed(Uint8Array.of(0x18));
+    const logged = terminal.feedLog(input.subarray(half));
     const text = described(terminal, last);
     terminal.feed(Uint8Array.of(0x18));
     const shown = new Terminal(core);
     shown.copyFrom(last);
-    const repaint = terminal.repaint(), update = shown.update(terminal);
-    shown.close();
+    const repaint = terminal.repaint(), update = shown.update(terminal), near = halfway.update(terminal);
+    for (const each of [shown, halfway]) each.close();
     last.close();
     last = terminal;
-    return hash([replies, logged.replies, encoder.encode(logged.lines.join("\n")), encoder.encode(text), repaint, update]);
+    return hash([replies, logged.replies, encoder.encode(logged.lines.join("\n")), encoder.encode(text), repaint, update, near]);
   });
 }

@@ -1,26 +1,31 @@
 // Tests the package in node: the vectors, inputs beside the library for C, each call, the Timeline, and UTF-8.
-//   node tests/modules.mjs PACKAGE VECTORS HASHES      the last line is 'N passed, M failed'
+//   node tests/modules.mjs PACKAGE VECTORS HASHES [first]      the last line is 'N passed, M failed'; with `first` it ends at the first failure
 import { readFile } from "node:fs/promises";
 import { pathToFileURL } from "node:url";
 import { Worker } from "node:worker_threads";
 import { calls } from "./calls.mjs";
 import { hashes } from "./hashes.mjs";
+import { keys } from "./keys.mjs";
 import { timelines } from "./timelines.mjs";
 import { utf8 } from "./utf8.mjs";
 import { vectors } from "./vectors.mjs";
 
-const [place, vectorFile, hashFile] = process.argv.slice(2);
+const [place, vectorFile, hashFile, first] = process.argv.slice(2);
 const from = (name) => import(new URL(name, pathToFileURL(`${place}/`)));
 const vt220 = { ...(await from("src/vt220.js")), ...(await from("src/timeline.js")) };
 let passed = 0, failed = 0;
+const say = (what) => {
+  console.error(`failed: ${what}`);
+  if (first) process.exit(1);
+};
 const check = (what, isSo) => {
   if (isSo) passed++;
-  else failed++, console.error(`failed: ${what}`);
+  else failed++, say(what);
 };
 
 const core = await vt220.load();
 const wasm = await readFile(`${place}/vt220.wasm`);
-const got = vectors(vt220, core, await readFile(vectorFile, "utf8"), (what) => console.error(`failed: ${what}`));
+const got = vectors(vt220, core, await readFile(vectorFile, "utf8"), say);
 passed += got.passed;
 failed += got.failed;
 
@@ -28,6 +33,7 @@ const all = JSON.parse(await readFile(hashFile, "utf8"));
 const mine = hashes(vt220, core, all.map(([input]) => new Uint8Array(Buffer.from(input, "base64"))));
 all.forEach(([input, theirs], i) => check(`beside the library, ${input.slice(0, 200)}`, mine[i] === theirs));
 
+keys(core, await readFile(new URL("../../tests-c/keys.txt", import.meta.url), "utf8"), check);
 await calls(vt220, wasm, check);
 timelines(vt220, core, check);
 utf8(vt220, core, await readFile(new URL("../../tests-c/utf8.txt", import.meta.url), "utf8"), check);

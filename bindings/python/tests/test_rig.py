@@ -1,4 +1,7 @@
 """Tests the rig with programs written for it."""
+import base64
+import gzip
+import json
 import os
 import pathlib
 import re
@@ -13,6 +16,7 @@ import pytest
 
 import vt220
 from vt220 import rig as rig_module
+from vt220.page import NoTemplate, page
 from vt220.picture import svg
 from vt220.pytest_plugin import file_name
 from vt220.rig import ENTER, F6, UP, Failure, Key, KeyboardLocked, Reports, Screen, ctrl
@@ -29,6 +33,8 @@ SHOWS = "stty raw -echo; printf \"$1\"; while :; do dd bs=100 count=1 2>/dev/nul
 @pytest.fixture(autouse=True)
 def in_a_directory(tmp_path, monkeypatch):
     monkeypatch.chdir(tmp_path)
+    # Whether there is a template of pages doesn't depend on what was built.
+    monkeypatch.setenv("VT220_PAGE", "")
 
 
 def run(*argv, **options):
@@ -264,6 +270,40 @@ def test_a_time_out_says_what_was_waited_for_and_what_there_was(tmp_path):
     played = subprocess.run([sys.executable, "-m", "vt220", str(tmp_path / "r" / "stable-1.bytes")], capture_output=True, text=True,
                             env={**os.environ, "PYTHONPATH": str(pathlib.Path(vt220.__file__).parents[1])})
     assert played.stdout.startswith("Name? Eve\n")
+
+
+def unpacked(text):
+    return gzip.decompress(base64.b64decode(text))
+
+
+def test_a_page_plays_a_failure(tmp_path, monkeypatch):
+    (tmp_path / "template").write_text("@TITLE@|@NOTES@|@OPTIONS@|@BYTES@|@CHUNKS@")
+    monkeypatch.setenv("VT220_PAGE", str(tmp_path / "template"))
+    with shell("printf '1 < 2? '; read answer; echo thanks; read more", reports=Reports(tmp_path / "r", "stable-1")) as rig:
+        rig.wait("2")
+        rig.keys("<no>")
+        rig.send(b"\n")
+        rig.wait("thanks")
+        words = rig.report()
+    path = tmp_path / "r" / "stable-1.html"
+    assert f"\npage:      {path}\n" in words
+    title, notes, options, content, chunks = path.read_text().split("|")
+    assert "1 &lt; 2?" in title and notes == "" and "<" not in options
+    lines = [tuple(map(int, line.split())) for line in unpacked(chunks).decode().split("\n")]
+    assert unpacked(content) == rig.recording and sum(size for _, size in lines) == len(rig.recording) and lines == sorted(lines, key=lambda line: line[0])
+    begun = json.loads(options)
+    assert [label for _, label in begun["markers"]] == ["<no>", "\\n"] and begun["poster"] == lines[-1][0] / 1e6 and begun["start"] == 0
+
+
+def test_a_page_has_no_other_options(tmp_path, monkeypatch):
+    (tmp_path / "template").write_text("@NOTES@@OPTIONS@")
+    monkeypatch.setenv("VT220_PAGE", str(tmp_path / "template"))
+    assert "<li>1 &lt; 2</li>" in page(b"", [], "", ["1 < 2"]) and '"loop": true' in page(b"", [], "", loop=True)
+    with pytest.raises(TypeError, match="size"):
+        page(b"", [], "", size=1)
+    monkeypatch.setenv("VT220_PAGE", "")
+    with pytest.raises(NoTemplate, match="make js"):
+        page(b"", [], "")
 
 
 def test_a_program_that_ends_is_not_waited_for():

@@ -40,7 +40,7 @@ class Session:
         self.colour = config.get_terminal_writer().hasmarkup
         self.rigs: List[Rig] = []
         for old in self.directory.glob(f"{self.name}-*"):
-            if re.fullmatch(r"-\d+\.(svg|bytes)", old.name[len(self.name) :]):
+            if re.fullmatch(r"-\d+\.(svg|bytes|html)", old.name[len(self.name) :]):
                 old.unlink(missing_ok=True)
 
     def run(self, *argv: str, columns: int = 80, cwd: Optional[Directory] = None, env: Optional[Dict[str, str]] = None,
@@ -74,7 +74,7 @@ def vt(request: pytest.FixtureRequest) -> Iterator[Session]:
 
 @pytest.hookimpl(hookwrapper=True)  # type: ignore[misc]
 def pytest_runtest_makereport(item: pytest.Item, call: "pytest.CallInfo[None]") -> Iterator[None]:
-    """Adds the screen, the picture and the recording of each program of a failed test, unless its failure has them."""
+    """Adds the screen, the picture, the recording and the page of each program of a failed test, unless its failure has them."""
     outcome: Any = yield
     report, session = outcome.get_result(), item.stash.get(_SESSION, None)
     if session is None:
@@ -90,7 +90,7 @@ def pytest_addoption(parser: pytest.Parser) -> None:
     """Adds the options of the rig."""
     group = parser.getgroup("vt220", "tests of terminal programs")
     group.addoption("--update-screens", action="store_true", help="store the screens that matches() compares with")
-    group.addoption("--vt-reports", default="vt220-failures", metavar="DIR", help="where pictures and recordings of failures go")
+    group.addoption("--vt-reports", default="vt220-failures", metavar="DIR", help="where pictures, recordings and pages of failures go")
     group.addoption("--vt-encoding", choices=ENCODINGS, default="utf-8", help="the encoding of programs whose test doesn't choose one (%(default)s)")
     group.addoption("--vt-timeout", type=float, default=TIMEOUT, metavar="SECONDS", help="how long a wait takes at most (%(default)s)")
 

@@ -22,6 +22,7 @@ from typing import Callable, Dict, List, NamedTuple, Optional, Pattern, Sequence
 from . import Bytes, Modes, Terminal
 from .expected import expression_as_shown, expression_of_text, text_as_shown
 from .keyboard import Key, ctrl, spelled
+from .page import NoTemplate, page
 from .picture import svg
 from .process import Process, environment
 from .screen import MASK, Mask, Place, Screen, Stored, check_column, check_row, difference, differing, renewed
@@ -116,17 +117,18 @@ class Reports(NamedTuple):
     colour: bool = False
 
     def write(self, name: str, rig: "Rig", marks: Sequence[Tuple[int, int]]) -> str:
-        """Writes the picture and the recording, and returns the lines that name them, or why they couldn't be written."""
+        """Writes the picture, the recording and the page, and returns the lines that name them, or why they couldn't be written."""
         stem = self.directory / (self.name or name)
         picture, recording = f"{stem}.svg", f"{stem}.bytes"
         try:
             self.directory.mkdir(parents=True, exist_ok=True)
             pathlib.Path(recording).write_bytes(rig.recording)
             pathlib.Path(picture).write_text(svg(rig.last, marks), encoding="utf-8")
+            playing = _write_page(f"{stem}.html", rig)
         except OSError as fault:
             return f"no picture and no recording: {fault}"
         words = ([] if rig.encoding == "dec" else ["--encoding", rig.encoding]) + [shlex.quote(recording)]
-        return f"picture:   {picture}\nrecording: {recording}\nplay it:   python3 -m vt220 {' '.join(words)}   (or: vt220 show {' '.join(words)})"
+        return f"picture:   {picture}\nrecording: {recording}\n{playing}play it:   python3 -m vt220 {' '.join(words)}   (or: vt220 show {' '.join(words)})"
 
 
 class Rig:
@@ -406,6 +408,22 @@ class Rig:
             lines.append(_UTF_8)
         lines.append(self.reports.write(re.sub(r"\W+", "-", pathlib.Path(self.argv[0]).name), self, marks))
         return "\n".join(lines)
+
+
+def _write_page(path: str, rig: Rig) -> str:
+    """Writes the page that plays what the program wrote, and returns the line that names it. Without a template there is none.
+
+    It first shows the end. Its markers are what the test sent.
+    """
+    chunks = [(int(event.at * 1e6), len(event.data)) for event in rig.events if event.who == "program"]
+    markers = [(event.at, _short(event.data)) for event in rig.events if event.who == "test"]
+    end = chunks[-1][0] / 1e6 if chunks else 0
+    try:
+        text = page(bytes(rig.recording), chunks, " ".join(rig.argv), poster=end, markers=markers, encoding=rig.encoding)
+    except NoTemplate:
+        return ""
+    pathlib.Path(path).write_text(text, encoding="utf-8")
+    return f"page:      {path}\n"
 
 
 _UTF_8 = ("note: the program's output looks like UTF-8. With encoding=\"dec\" the rig's terminal reads each byte as a character of\n"

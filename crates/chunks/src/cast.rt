@@ -113,7 +113,7 @@ impl Lines {
 }
 
 /// Returns the number of bytes of the first line, with its LF if it has one.
-fn line_length(bytes: &[u8]) -> usize {
+pub(crate) fn line_length(bytes: &[u8]) -> usize {
     match bytes.iter().position(|b| *b == b'\n') {
         Some(at) => at.saturating_add(1),
         None => bytes.len(),

@@ -2,7 +2,7 @@
 use super::Row;
 use super::parts::joined;
 
-pub(super) const ROWS: [Row; 13] = [
+pub(super) const ROWS: [Row; 16] = [
     Row {
         name: "attributes: a 17th parameter is dropped",
         input: b"\x1b[0;0;0;0;0;0;0;0;0;0;0;0;0;0;0;0;7mX",
@@ -109,5 +109,28 @@ pub(super) const ROWS: [Row; 13] = [
         repaint: Some(joined!(
             "\x1bc" HEAD "\x1b[1;1H\x1b[0;1;4;5m\x1b[0\"qA\x1b[1;2H\x1b[0;1;4;5m\x1b[0\"q" SETS
         )),
+    },
+    Row {
+        name: "attributes: a selective erase up to the cursor leaves protected cells",
+        input: b"\x1b[1\"qA\x1b[0\"qBC\x1b[1;2H\x1b[?1K",
+        text: joined!("A C\n" EMPTY 23),
+        reports: b"",
+        repaint: Some(
+            joined!("\x1bc" HEAD "\x1b[1;1H\x1b[0m\x1b[1\"qA\x1b[1;3H" PLAIN "C\x1b[1;2H" PLAIN SETS),
+        ),
+    },
+    Row {
+        name: "attributes: 2 ends the protection as 0 does",
+        input: b"\x1b[1\"qA\x1b[2\"qB\x1b[1;1H\x1b[?J",
+        text: joined!("A\n" EMPTY 23),
+        reports: b"",
+        repaint: Some(joined!("\x1bc" HEAD "\x1b[1;1H\x1b[0m\x1b[1\"qA\x1b[1;1H" PLAIN SETS)),
+    },
+    Row {
+        name: "attributes: several in one sequence, in their order",
+        input: b"\x1b[1;4;0;5;7;25mA",
+        text: joined!("A\n" EMPTY 23),
+        reports: b"",
+        repaint: Some(joined!("\x1bc" HEAD "\x1b[1;1H" REVERSE "A\x1b[1;2H" REVERSE SETS)),
     },
 ];

@@ -2,7 +2,7 @@
 use super::Row;
 use super::parts::joined;
 
-pub(super) const ROWS: [Row; 22] = [
+pub(super) const ROWS: [Row; 31] = [
     Row {
         name: "cursor: under origin mode the cursor stays inside the margins, and its report counts from them",
         input: b"\x1b[5;10r\x1b[?6h\x1b[99;99H\x1b[6n",
@@ -183,5 +183,78 @@ pub(super) const ROWS: [Row; 22] = [
         repaint: Some(joined!(
             "\x1bc" HEAD "\x1b[1;1H" PLAIN X_78 "xY\x1b[1;80H" PLAIN "Y" PLAIN SETS
         )),
+    },
+    Row {
+        name: "cursor: an index at the bottom margin scrolls the lines between the margins",
+        input: b"A\r\nB\r\nC\x1b[1;2r\x1b[2;1H\x1bD",
+        text: joined!("B\n\nC\n" EMPTY 21),
+        reports: b"",
+        repaint: Some(
+            joined!("\x1bc" HEAD "\x1b[1;1H" PLAIN "B\x1b[3;1H" PLAIN "C\x1b[1;2r\x1b[2;1H" PLAIN SETS),
+        ),
+    },
+    Row {
+        name: "cursor: a reverse index at the top margin scrolls the lines between the margins",
+        input: b"A\r\nB\r\nC\x1b[2;3r\x1b[2;1H\x1bM",
+        text: joined!("A\n\nB\n" EMPTY 21),
+        reports: b"",
+        repaint: Some(
+            joined!("\x1bc" HEAD "\x1b[1;1H" PLAIN "A\x1b[3;1H" PLAIN "B\x1b[2;3r\x1b[2;1H" PLAIN SETS),
+        ),
+    },
+    Row {
+        name: "cursor: an index in the last row, below the margins: stays",
+        input: b"\x1b[2;3r\x1b[24;1HA\x1bD",
+        text: joined!(EMPTY 23 "A\n"),
+        reports: b"",
+        repaint: Some(joined!("\x1bc" HEAD "\x1b[24;1H" PLAIN "A\x1b[2;3r\x1b[24;2H" PLAIN SETS)),
+    },
+    Row {
+        name: "cursor: a reverse index in row 1, above the margins: stays",
+        input: b"A\x1b[2;3r\x1bMB",
+        text: joined!("B\n" EMPTY 23),
+        reports: b"",
+        repaint: Some(joined!("\x1bc" HEAD "\x1b[1;1H" PLAIN "B\x1b[2;3r\x1b[1;2H" PLAIN SETS)),
+    },
+    Row {
+        name: "cursor: right and left stay in the line",
+        input: b"\x1b[99CA\x1b[99DB",
+        text: joined!("B                                                                              A\n" EMPTY 23),
+        reports: b"",
+        repaint: Some(
+            joined!("\x1bc" HEAD "\x1b[1;1H" PLAIN "B\x1b[1;80H" PLAIN "A\x1b[1;2H" PLAIN SETS),
+        ),
+    },
+    Row {
+        name: "cursor: HVP moves as CUP does",
+        input: b"\x1b[3;5fA",
+        text: joined!("\n\n    A\n" EMPTY 21),
+        reports: b"",
+        repaint: Some(joined!("\x1bc" HEAD "\x1b[3;5H" PLAIN "A\x1b[3;6H" PLAIN SETS)),
+    },
+    Row {
+        name: "cursor: a position past the screen: the last row and the last column",
+        input: b"\x1b[99;99HA",
+        text: joined!(EMPTY 23 "                                                                               A\n"),
+        reports: b"",
+        repaint: Some(
+            joined!("\x1bc" HEAD "\x1b[24;80H" PLAIN "A\x1b[24;80H" PLAIN "A" PLAIN SETS),
+        ),
+    },
+    Row {
+        name: "cursor: a bottom margin that is left out is the last row",
+        input: b"\x1b[2;5r\x1b[4r",
+        text: joined!(EMPTY 24),
+        reports: b"",
+        repaint: Some(joined!("\x1bc\x1b[4;24r\x1b[1;1H" PLAIN SETS)),
+    },
+    Row {
+        name: "cursor: DECRC gives the brush and the sets back",
+        input: b"\x1b[1m\x1b[1\"q\x1b)0\x0e\x1b7\x0f\x1b[m\x1b[0\"q\x1b)A\x1b8q",
+        text: joined!("─\n" EMPTY 23),
+        reports: b"",
+        repaint: Some(
+            joined!("\x1bc\x1b[1;1H\x1b[0;1m\x1b[1\"q\x1b(B\x1b)0\x1b*<\x1b+<\x0e\x1b}\x1b7" HEAD "\x1b[1;1H\x1b[0;1m\x1b[1\"q\x1bOq\x1b[1;2H\x1b[0;1m\x1b[1\"q\x1b(B\x1b)0\x1b*<\x1b+<\x0e\x1b}"),
+        ),
     },
 ];

@@ -2,7 +2,7 @@
 use super::Row;
 use super::parts::joined;
 
-pub(super) const ROWS: [Row; 16] = [
+pub(super) const ROWS: [Row; 24] = [
     Row {
         name: "editing: a cell is erased",
         input: b"ABC\x1b[1;2H\x1b[X",
@@ -142,5 +142,69 @@ pub(super) const ROWS: [Row; 16] = [
         repaint: Some(joined!(
             "\x1bc" HEAD "\x1b[1;1H" PLAIN "A\x1b[2;1H" PLAIN "X\x1b[2;2H" PLAIN SETS
         )),
+    },
+    Row {
+        name: "editing: an erase of the screen from the cursor on",
+        input: b"ABC\r\nDEF\r\nGHI\x1b[2;2H\x1b[J",
+        text: joined!("ABC\nD\n" EMPTY 22),
+        reports: b"",
+        repaint: Some(
+            joined!("\x1bc" HEAD "\x1b[1;1H" PLAIN "ABC\x1b[2;1H" PLAIN "D\x1b[2;2H" PLAIN SETS),
+        ),
+    },
+    Row {
+        name: "editing: an erase of the screen up to the cursor, and with it",
+        input: b"ABC\r\nDEF\r\nGHI\x1b[2;2H\x1b[1J",
+        text: joined!("\n  F\nGHI\n" EMPTY 21),
+        reports: b"",
+        repaint: Some(
+            joined!("\x1bc" HEAD "\x1b[2;3H" PLAIN "F\x1b[3;1H" PLAIN "GHI\x1b[2;2H" PLAIN SETS),
+        ),
+    },
+    Row {
+        name: "editing: an erase of the line from the cursor on",
+        input: b"ABC\x1b[1;2H\x1b[K",
+        text: joined!("A\n" EMPTY 23),
+        reports: b"",
+        repaint: Some(joined!("\x1bc" HEAD "\x1b[1;1H" PLAIN "A\x1b[1;2H" PLAIN SETS)),
+    },
+    Row {
+        name: "editing: an erase of the line up to the cursor, and with it",
+        input: b"ABC\x1b[1;2H\x1b[1K",
+        text: joined!("  C\n" EMPTY 23),
+        reports: b"",
+        repaint: Some(joined!("\x1bc" HEAD "\x1b[1;3H" PLAIN "C\x1b[1;2H" PLAIN SETS)),
+    },
+    Row {
+        name: "editing: an erase of the whole line",
+        input: b"A\r\nBC\x1b[2K",
+        text: joined!("A\n" EMPTY 23),
+        reports: b"",
+        repaint: Some(joined!("\x1bc" HEAD "\x1b[1;1H" PLAIN "A\x1b[2;3H" PLAIN SETS)),
+    },
+    Row {
+        name: "editing: a line is deleted inside the margins: the line below them stays",
+        input: b"A\r\nB\r\nC\x1b[1;2r\x1b[M",
+        text: joined!("B\n\nC\n" EMPTY 21),
+        reports: b"",
+        repaint: Some(
+            joined!("\x1bc" HEAD "\x1b[1;1H" PLAIN "B\x1b[3;1H" PLAIN "C\x1b[1;2r\x1b[1;1H" PLAIN SETS),
+        ),
+    },
+    Row {
+        name: "editing: more cells are erased than the line has",
+        input: b"ABC\r\nD\x1b[1;2H\x1b[99X",
+        text: joined!("A\nD\n" EMPTY 22),
+        reports: b"",
+        repaint: Some(
+            joined!("\x1bc" HEAD "\x1b[1;1H" PLAIN "A\x1b[2;1H" PLAIN "D\x1b[1;2H" PLAIN SETS),
+        ),
+    },
+    Row {
+        name: "editing: cells that are inserted are blank, whatever the attributes are",
+        input: b"\x1b[7mAB\r\x1b[@",
+        text: joined!(" AB\n" EMPTY 23),
+        reports: b"",
+        repaint: Some(joined!("\x1bc" HEAD "\x1b[1;2H" REVERSE "AB\x1b[1;1H" REVERSE SETS)),
     },
 ];

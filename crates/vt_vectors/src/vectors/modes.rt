@@ -2,7 +2,7 @@
 use super::Row;
 use super::parts::joined;
 
-pub(super) const ROWS: [Row; 10] = [
+pub(super) const ROWS: [Row; 11] = [
     Row {
         name: "modes: a soft reset resets DECAWM",
         input: b"\x1b[!p",
@@ -82,6 +82,15 @@ pub(super) const ROWS: [Row; 10] = [
         reports: b"",
         repaint: Some(
             joined!("\x1bc" HEAD "\x1b[1;1H" PLAIN X_80 "\x1b[1;80H" PLAIN SETS "\x1b[?7l\x1b G"),
+        ),
+    },
+    Row {
+        name: "modes: what a soft reset resets, and what it leaves",
+        input: b"\x1b[2;4;20h\x1b[12l\x1b[?1;4;5h\x1b[?8;25l\x1b=\x1b G\x1b[1;7m\x1b[1\"q\x1b)0\x0e\x1b7\x1b[!p",
+        text: joined!(EMPTY 24),
+        reports: b"",
+        repaint: Some(
+            joined!("\x1bc\x1b[1;1H" PLAIN SETS "\x1b[12l\x1b[20h\x1b[?4h\x1b[?5h\x1b[?7l\x1b[?8l\x1b G"),
         ),
     },
 ];

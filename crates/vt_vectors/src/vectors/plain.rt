@@ -2,7 +2,7 @@
 use super::Row;
 use super::parts::joined;
 
-pub(super) const ROWS: [Row; 16] = [
+pub(super) const ROWS: [Row; 17] = [
     Row {
         name: "plain: nothing: the state at power-up",
         input: b"",
@@ -129,5 +129,14 @@ pub(super) const ROWS: [Row; 16] = [
         text: joined!("AB\n" EMPTY 23),
         reports: b"",
         repaint: Some(joined!("\x1bc" HEAD "\x1b[1;1H" PLAIN "AB\x1b[1;3H" PLAIN SETS)),
+    },
+    Row {
+        name: "plain: VT and FF are line feeds",
+        input: b"A\x0bB\x0cC",
+        text: joined!("A\n B\n  C\n" EMPTY 21),
+        reports: b"",
+        repaint: Some(
+            joined!("\x1bc" HEAD "\x1b[1;1H" PLAIN "A\x1b[2;2H" PLAIN "B\x1b[3;3H" PLAIN "C\x1b[3;4H" PLAIN SETS),
+        ),
     },
 ];

@@ -2,7 +2,7 @@
 use super::Row;
 use super::parts::joined;
 
-pub(super) const ROWS: [Row; 24] = [
+pub(super) const ROWS: [Row; 25] = [
     Row {
         name: "sets: the British pound sign",
         input: b"\x1b(A#",
@@ -213,6 +213,15 @@ pub(super) const ROWS: [Row; 24] = [
         reports: b"",
         repaint: Some(
             joined!("\x1bc" HEAD "\x1b[1;1H" PLAIN "\x1bOqq\x1b[1;3H" PLAIN "\x1b(B\x1b)0\x1b*<\x1b+<\x0f\x1b}"),
+        ),
+    },
+    Row {
+        name: "sets: each locking shift of G2, G3, and of the right half",
+        input: b"\x1b)0\x1b+K\x1bn)\x1bo[\x1b~\xf1\x1b|\xfe",
+        text: joined!("©Ä─ß\n" EMPTY 23),
+        reports: b"",
+        repaint: Some(
+            joined!("\x1bc" HEAD "\x1b[1;1H" PLAIN "\x1bN)\x1bND\x1bOq\x1bN_\x1b[1;5H" PLAIN "\x1b(B\x1b)0\x1b*<\x1b+K\x1bo\x1b|"),
         ),
     },
 ];

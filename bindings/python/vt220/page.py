@@ -1,0 +1,69 @@
+"""Writes pages that play a recording in a browser. A page needs no server, no network and no other file.
+
+A page is made of a template, which `make js` of the repository builds. It is the file that VT220_PAGE names, and an empty VT220_PAGE means
+that there is none. If that isn't set, it is the first of these that exists: page.html next to this module, and out/js/page.html of the
+repository that this module is in.
+"""
+import base64
+import gzip
+import html
+import json
+import os
+import pathlib
+import re
+from typing import Iterable, Mapping, Optional, Sequence, Tuple
+
+__all__ = ["FIELDS", "NoTemplate", "page", "template"]
+
+# The fields that a template leaves open.
+FIELDS = ("TITLE", "NOTES", "OPTIONS", "BYTES", "CHUNKS")
+# How a page plays, if its options don't name it. Times are in seconds; a marker is a time and a label.
+OPTIONS: Mapping[str, object] = {"start": 0, "poster": None, "speed": 1, "pause": 1, "autoplay": False, "loop": False, "stops": False, "encoding": "dec",
+                                "markers": ()}
+
+
+class NoTemplate(OSError):
+    """Reports that there is no template."""
+
+
+def template() -> Optional[pathlib.Path]:
+    """Returns the path of the template, or None if there is none."""
+    named = os.environ.get("VT220_PAGE")
+    if named is not None:
+        return pathlib.Path(named) if named else None
+    here = pathlib.Path(__file__).resolve()
+    places = [here.with_name("page.html")]
+    if len(here.parents) > 3:
+        places.append(here.parents[3] / "out/js/page.html")
+    return next((place for place in places if place.exists()), None)
+
+
+def packed(data: bytes) -> str:
+    """Returns bytes as a page carries them."""
+    return base64.b64encode(gzip.compress(data, 9, mtime=0)).decode()
+
+
+def _noted(notes: Sequence[str]) -> str:
+    items = "".join(f"<li>{html.escape(note)}</li>" for note in notes)
+    return f'<div class="notes" role="note" aria-label="What a VT220 can\'t show">What this page can\'t show:<ul>{items}</ul></div>' if notes else ""
+
+
+def page(content: bytes, chunks: Iterable[Tuple[int, int]], title: str, notes: Sequence[str] = (), **options: object) -> str:
+    """Returns the page of a recording: its bytes, and for each chunk of them when it came, in microseconds, and its number of bytes.
+
+    `notes` are sentences on what the page can't show. The options are those of OPTIONS, as js/vt220-page describes them.
+    Raises NoTemplate if there is no template.
+    """
+    path = template()
+    if path is None:
+        raise NoTemplate("a page needs the template that `make js` builds; VT220_PAGE can name it")
+    unknown = options.keys() - OPTIONS.keys()
+    if unknown:
+        raise TypeError(f"a page has no option {', '.join(sorted(unknown))}")
+    values = {
+        "TITLE": html.escape(title), "NOTES": _noted(notes),
+        # An end tag of a script can't be in it.
+        "OPTIONS": json.dumps({**OPTIONS, **options}).replace("<", "\\u003c"),
+        "BYTES": packed(content), "CHUNKS": packed("\n".join(f"{micros} {size}" for micros, size in chunks).encode()),
+    }
+    return re.sub(f"@({'|'.join(FIELDS)})@", lambda match: values[match[1]], path.read_text(encoding="utf-8"))

@@ -1,11 +1,16 @@
 """Sessions whose programs write UTF-8: where checkpoints are, who plays them, and what programs and viewers get."""
+import asyncio
 import json
+import os
 import random
 
+import aiohttp
+
 from harness import PATIENCE, Processes, Source, check, key, keys, raises, session, settings, stores, until, wait_for, with_machine, worker
-from operators import written
+from operators import OnTerminal, written
 from safety import fleet
 from stores_faults import program
+from web import Served
 from fleet.worker import Worker
 import vt220
 
@@ -148,6 +153,37 @@ def a_program_writes_and_reads_utf_8(machine, _):
     workers.stop()
 
 
+@with_machine
+def viewers_type_in_utf_8(machine, _):
+    """A character that no key of a VT220 sends, in a viewer and on the page."""
+    name, workers, sent = "typed", Processes(machine, 1), "\u00e9\u20ac"
+    source = Source(machine.url, name, takes_input=True, encoding="utf-8", lease=600).send(b"here").listen()
+    view = OnTerminal(machine.url, "view", "--type", name)
+    check(wait_for(lambda: view.has(b"here")), name, "it is shown")
+    os.write(view.master, sent.encode())
+
+    def got():
+        return b"".join(what for kind, what in source.got if kind == "keys")
+
+    check(wait_for(lambda: got() == sent.encode()), name, f"in a viewer: {got()}")
+    os.write(view.master, b"\x1d")
+    check(view.status() == 0, name, "which leaves")
+    served = Served(machine, "--typing")
+
+    async def ask():
+        async with aiohttp.ClientSession() as client, client.ws_connect(served.url.replace("/?", "/live?")) as socket:
+            known = set()
+            while source.incarnation not in known:
+                known |= {each["session"] for each in json.loads((await socket.receive(PATIENCE)).data).get("news", [])}
+            await socket.send_json({"session": source.incarnation, "text": sent})
+            return await asyncio.to_thread(wait_for, lambda: got() == 2 * sent.encode())
+
+    check(asyncio.run(ask()), name, f"on the page: {got()}")
+    source.stop()
+    served.stop()
+    workers.stop()
+
+
 CASES = [
     a_checkpoint_is_before_what_is_pending,
     what_is_pending_at_the_end_is_played_again,
@@ -155,4 +191,5 @@ CASES = [
     an_older_worker_takes_no_session_in_utf_8,
     a_wrong_encoding_is_a_fault,
     a_program_writes_and_reads_utf_8,
+    viewers_type_in_utf_8,
 ]

@@ -177,21 +177,24 @@ class Store(redis.Redis):
                 is_being_changed = self.was_let_in and isinstance(error, AuthenticationError)
                 if not (isinstance(error, OSError) or is_for_now(error) or is_being_changed):
                     raise
-                self.is_away(error)
-                if self.patience is not None and time.monotonic() - self.away_since > self.patience:
+                since = self.is_away(error)
+                if self.patience is not None and time.monotonic() - since > self.patience:
                     raise
             time.sleep(pause)
             pause = min(1.0, pause * 1.5)
-        if self.away_since is not None:
-            log.warning("the store is back after %.1f s", time.monotonic() - self.away_since)
-            self.away_since = None
+        since, self.away_since = self.away_since, None  # at once: another thread may find it back, too
+        if since is not None:
+            log.warning("the store is back after %.1f s", time.monotonic() - since)
         return answer
 
     def is_away(self, error):
-        if self.away_since is None:
-            self.away_since = time.monotonic()
+        """Notes that the store is away. Returns since when."""
+        since = self.away_since
+        if since is None:
+            since = self.away_since = time.monotonic()
             self.outages += 1
             log.warning("the store is away: %s: %s", type(error).__name__, error)
+        return since
 
     def all_of(self, together):
         """Runs a pipeline, as often as it takes. Returns the answers, errors among them."""

@@ -219,6 +219,14 @@ class Run:
         """Returns how many bytes the store has."""
         return int(self.store.hget(key(self.incarnation() or "", "about"), "end") or 0)
 
+    def wait(self):
+        """Waits until the host ends, for as long as the session goes on. Returns its exit status; None if the session hangs."""
+        before = -1
+        while self.host.poll() is None and self.end() > before:
+            before = self.end()
+            wait_for(lambda: self.end() > before or self.host.poll() is not None)
+        return self.host.poll()
+
     def hold(self):
         """Compares all with the program vt220."""
         incarnation = self.incarnation()
@@ -287,7 +295,7 @@ def a_storm_with_hosts_among_the_victims(machine, data):
                 one.start()
             kills[victim] += 1
         for each, first in zip(runs, firsts):
-            check(each.host.wait(PATIENCE) == 3, each.name, f"its last host has the program's status: {each.host.returncode}")
+            check(each.wait() == 3, each.name, f"its last host has the program's status: {each.host.returncode}")
             check(each.incarnation() == first, each.name, "it is one session")
             each.hold()
     check(min(kills.values()) > 0, name, f"all kinds were killed: {kills}")

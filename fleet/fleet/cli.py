@@ -11,7 +11,7 @@ import signal
 import sys
 import time
 
-from .config import Beyond, Settings, Unclear, seconds, within
+from .config import ENCODINGS, Beyond, Settings, Unclear, seconds, within
 
 LEAVING = 10.0  # seconds to wait for a store after a signal to end
 TAKEN, FAULT, NONE, REFUSED, UNFIT, DENIED, CONFIGURATION = 5, 4, 3, 6, 69, 77, 78
@@ -71,15 +71,16 @@ def do_host(words, settings):
     store = settings.connect(waits=True)
     store.examine(settings.store.unsafe)
     made = store, words.name, settings.host.lease, words.input or settings.host.input
+    encoding = words.encoding or settings.host.encoding
     if not words.replay:
-        return keep_running(made, words, settings)
-    host = Host(*made, words.replay)
+        return keep_running(made, encoding, words, settings)
+    host = Host(*made, words.replay, encoding=encoding)
     host.register()
     host.end(replay(host, words.replay, words.rate))
     return 0
 
 
-def keep_running(made, words, settings):
+def keep_running(made, encoding, words, settings):
     """Runs a command as a session, or goes on with it if its host was killed or is another version's. Returns its exit status."""
     from . import wire
     from .host import Host
@@ -87,7 +88,8 @@ def keep_running(made, words, settings):
 
     path = wire.path_of(settings.store.url, words.name)
     link, state = held(path, words.command)
-    host = Host(*made, " ".join(words.command), state["incarnation"] if state else None)
+    incarnation, encoding = (state["incarnation"], state["encoding"]) if state else (None, encoding)
+    host = Host(*made, " ".join(words.command), incarnation, encoding)
     try:
         host.resume()
     except Exception:
@@ -194,8 +196,9 @@ def do_type(store, incarnation, words):
     from .session import as_it_is
 
     data = os.fsencode(words.text) if words.text is not None else sys.stdin.buffer.read()
-    modes = as_it_is(store, incarnation).terminal.modes()
-    keys = typed(data, modes)
+    terminal = as_it_is(store, incarnation).terminal
+    modes = terminal.modes()
+    keys = typed(data, modes, terminal.encoding)
     if keys.refused:
         raise ValueError(f"no key of a VT220 sends {keys.refused!r}")
     typist = Typist(store, incarnation)
@@ -275,6 +278,7 @@ def add_hosts(add):
     each.add_argument("--metrics", metavar="HOST:PORT", help="serves metrics for Prometheus at this address")
     each = add("host", do_host, "runs a command on a pseudo-terminal of 24 rows by 80 columns, as a session")
     each.add_argument("--input", action="store_true", help="allows viewers to type")
+    each.add_argument("--encoding", choices=ENCODINGS, help="what the command writes: the VT220's own bytes, or UTF-8 (dec)")
     each.add_argument("--replay", metavar="FILE", help="sends a file's bytes instead of running a command")
     each.add_argument("--user", help="runs the command as this user, which needs root: so it can't read what this host reads")
     each.add_argument("--rate", type=option(int, "rate"), default=9600, help="bytes a second for --replay (9600)")

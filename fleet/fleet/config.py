@@ -11,6 +11,7 @@ from .store import connect
 
 PATHS = ("~/.config/vt220-fleet.conf", "/etc/vt220-fleet.conf")
 DEFAULT_STORE = "redis://127.0.0.1:6379"
+ENCODINGS = ("dec", "utf-8")  # of what a session's program writes
 
 
 class Unclear(Exception):
@@ -46,6 +47,7 @@ class Host:
     input: bool = False
     user: str = ""
     orphan: float = 7 * 86400.0
+    encoding: str = "dec"
 
 
 @dataclass
@@ -88,6 +90,8 @@ def value_of(kind, text, where, name):
             return YES[text.lower()]
         if text.lower() in NO_LIMIT and kind in (int, float):
             return None
+        if name == "encoding" and text not in ENCODINGS:
+            raise Beyond(f"expected one of {', '.join(ENCODINGS)}")
         return kind(text) if kind is str else within(name, seconds(text) if kind is float else kind(text))
     except Beyond as error:
         raise Unclear(f"{where} = {text}: {error}") from None

@@ -1,4 +1,5 @@
 """What a session wrote, for other programs: its bytes, or a recording with the moments, as asciicast 2, ttyrec or a page that plays it."""
+import codecs
 import json
 import os
 import struct
@@ -6,6 +7,7 @@ import subprocess
 
 import vt220.page
 
+from .keys import encoding_of, key
 from .session import bytes_of
 
 PROGRAM = os.path.join(os.path.dirname(os.path.abspath(__file__)), "..", "..", "crates", "vt220", "out", "vt220")
@@ -26,15 +28,28 @@ def log(store, incarnation, out):
     return first or 0
 
 
+def encoding(store, incarnation):
+    """Returns the encoding of a session's bytes."""
+    return encoding_of(store.hget(key(incarnation, "about"), "encoding"))
+
+
 def asciicast(store, incarnation, title, out):
-    """Writes an asciicast, version 2. C1 controls and what is no UTF-8 are carried as the code points U+0080 to U+00FF."""
+    """Writes an asciicast, version 2. Of a session in UTF-8 the characters are written, with U+FFFD for what is ill-formed. Otherwise
+    the bytes 80 to FF are the code points U+0080 to U+00FF."""
     begin = None
+    decode = codecs.getincrementaldecoder("utf-8" if encoding(store, incarnation) == "utf-8" else "latin-1")("replace").decode
     for _, moment, data in bytes_of(store, incarnation):
         if begin is None:
             begin = moment
             head = {"version": 2, "width": 80, "height": 24, "timestamp": begin // 1000, "title": title, "env": {"TERM": "vt220"}}
             out.write(json.dumps(head).encode() + b"\n")
-        out.write(json.dumps([round((moment - begin) / 1000, 3), "o", data.decode("latin-1")]).encode() + b"\n")
+        out.write(event(moment - begin, decode(data)))
+    if begin is not None and (rest := decode(b"", True)):
+        out.write(event(moment - begin, rest))
+
+
+def event(milliseconds, text):
+    return json.dumps([round(milliseconds / 1000, 3), "o", text]).encode() + b"\n"
 
 
 def ttyrec(store, incarnation, out):
@@ -47,7 +62,7 @@ def page(store, incarnation, title, out):
     """Writes a page that plays the session in a browser."""
     parts = [(moment, data) for _, moment, data in bytes_of(store, incarnation)]
     chunks = [((moment - parts[0][0]) * 1000, len(data)) for moment, data in parts]
-    out.write(vt220.page.page(b"".join(data for _, data in parts), chunks, title).encode())
+    out.write(vt220.page.page(b"".join(data for _, data in parts), chunks, title, encoding=encoding(store, incarnation)).encode())
 
 
 def picture(repaint):

@@ -1,8 +1,8 @@
 """Holds the program of a session: its pseudo-terminal, its process, and the bytes that the store may not have yet. It outlives the
 host, which may crash or be replaced by a newer one. It depends on no other package, and changes seldom.
 
-It runs as `python3 -I -S holder.py`, with JSON on standard input: path, name, incarnation, command, user, and after how many seconds without
-a host the program is ended.
+It runs as `python3 -I -S holder.py`, with JSON on standard input: path, name, incarnation, command, user, after how many seconds without
+a host the program is ended, and the encoding of what it writes.
 """
 import errno
 import fcntl
@@ -24,6 +24,7 @@ import wire
 PIECE = 16384
 IGNORED = (signal.SIGHUP, signal.SIGINT, signal.SIGTERM)  # by the holder, and not by its program
 FIRST = 60.0  # seconds until the first host must have come
+IUTF8 = 0o40000  # of a line: it erases whole characters of UTF-8 (termios(3)). Python's module has no name for it
 KILL_AFTER = 3.0  # seconds that a program has to end after a hang-up
 
 
@@ -39,7 +40,7 @@ def become(user):
     os.environ.pop("XDG_RUNTIME_DIR", None)
 
 
-def started(command, user):
+def started(command, user, encoding):
     """Starts a command on a new pseudo-terminal of 24 rows by 80 columns. Returns its process and the other side."""
     child, master = pty.fork()
     if child:
@@ -48,6 +49,10 @@ def started(command, user):
         for number in (*IGNORED, signal.SIGPIPE, signal.SIGXFSZ):
             signal.signal(number, signal.SIG_DFL)
         fcntl.ioctl(0, termios.TIOCSWINSZ, struct.pack("HHHH", 24, 80, 0, 0))
+        if encoding == "utf-8":
+            modes = termios.tcgetattr(0)
+            modes[0] |= IUTF8
+            termios.tcsetattr(0, termios.TCSANOW, modes)
         if user:
             become(user)
         os.execvpe(command[0], command, os.environ)
@@ -62,7 +67,7 @@ class Holder:
         self.said, self.listener = said, socket.socket(socket.AF_UNIX)
         self.listener.bind(said["path"])
         self.listener.listen(8)
-        self.child, self.master = started(said["command"], said.get("user"))
+        self.child, self.master = started(said["command"], said.get("user"), said["encoding"])
         os.set_blocking(self.master, False)
         self.process = os.pidfd_open(self.child)
         self.base, self.data = 0, bytearray()  # the bytes after the position `base`
@@ -133,7 +138,7 @@ class Holder:
         came, _ = self.listener.accept()
         while self.host and self.hear_host():  # it may have ended, after what it said last
             pass
-        state = {each: self.said[each] for each in ("name", "incarnation", "command")} | {"busy": self.host is not None}
+        state = {each: self.said[each] for each in ("name", "incarnation", "command", "encoding")} | {"busy": self.host is not None}
         state |= {"base": self.base, "end": self.end(), "last": {stream: last.decode() for stream, last in self.last.items()}, "version": 1}
         came.sendall(wire.packed(wire.STATE, 0, json.dumps(state).encode()))
         if self.host:

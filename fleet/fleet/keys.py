@@ -15,7 +15,8 @@ the incarnation, so that a name can be used again without meeting anything of it
     fleet:draining               set of the workers that are to hand their sessions over
     fleet:of:WORKER              set of the incarnations that a worker owns
 
-    fleet:INCARNATION:about      hash: name, host, started, owner, end (of the bytes), played, answered, and how it ended
+    fleet:INCARNATION:about      hash: name, host, started, owner, end (of the bytes), played, answered, how it ended, and for UTF-8
+                                 the encoding and the format that the session needs
     fleet:INCARNATION:bytes      stream of what the host sent. The id of an entry is POSITION-0, the position after its last byte.
                                  The first entry is 0-1; the last one, POSITION-2, carries the exit status
     fleet:INCARNATION:answers    stream of reports. The id of a report is the position just after the byte that asked for it
@@ -38,8 +39,9 @@ import unicodedata
 
 import vt220
 
-FORMATS = (2,)  # the formats that this program reads and writes
-FORMAT = max(FORMATS)
+FORMATS = (2, 3)  # the formats that this program reads and writes; since 3 a session has an encoding
+FORMAT, OLDEST = max(FORMATS), min(FORMATS)
+NEEDED = {"dec": OLDEST, "utf-8": 3}  # the oldest format in which a session of an encoding is written
 ALL, LIVE, NAMES, WAITING, SUSPECTS, TRYING, FOREIGN, WORKERS, DRAINING = (
     "fleet:all",
     "fleet:live",
@@ -130,6 +132,14 @@ def now():
     return int(time.time() * 1000)
 
 
+def encoding_of(said):
+    """Returns a session's encoding, as `about` has it. Raises Wrong if there is no such one."""
+    encoding = (said or b"dec").decode("ascii", "replace")
+    if encoding not in NEEDED:
+        raise Wrong(f"the session has the encoding {shown(said)[:40]!r}")
+    return encoding
+
+
 def version(number=FORMAT):
     """Returns the version of a format and of the library, as entries carry it."""
     return f"{number}.{vt220.version()}"
@@ -142,10 +152,11 @@ def format_of(said):
     return int(words[1]) if words else 0
 
 
-def agreed(said, formats=FORMATS):
-    """Returns the format to write: the newest one that all living workers know, as the store says, if this program knows it."""
+def agreed(said, formats=FORMATS, encoding="dec"):
+    """Returns the format to write: the newest one that all living workers know, as the store says, if this program knows it. It is
+    never older than the encoding needs."""
     number = int(said) if said.isdigit() else max(formats)
-    return number if number in formats else max(formats)
+    return max(number if number in formats else max(formats), NEEDED[encoding])
 
 
 def checked_name(name):

@@ -9,7 +9,7 @@ from . import keys
 from .claims import SHOWN
 from .keys import key
 
-FIELDS = ("name", "host", "owner", "end", "played", "seen", "closed", "started", "input", "command")
+FIELDS = ("name", "host", "owner", "end", "played", "seen", "closed", "started", "input", "command", "encoding")
 COLUMNS = ("NAME", "STATE", "HOST", "WORKER", "LAG", "SIZE", "LAST OUTPUT")
 SIGNALS = {"HUP": 1, "INT": 2, "KILL": 9, "TERM": 15}
 
@@ -63,6 +63,7 @@ def described(incarnation, fields, fault, status):
     made = {"incarnation": incarnation, "name": shown["name"], "host": shown["host"], "worker": shown["owner"]}
     made |= {"fault": keys.shown(fault if isinstance(fault, bytes) else b""), "input": fields["input"] == b"1"}
     made |= {"status": keys.shown(status if isinstance(status, bytes) else b""), "closed": shown["closed"]}
+    made |= {"encoding": keys.shown(fields["encoding"]) or "dec"}
     made |= {"command": shown["command"], "size": 0, "lag": 0, "started": 0, "seen": 0}
     try:
         end, played, started, seen = (number(fields[name]) for name in ("end", "played", "started", "seen"))
@@ -255,7 +256,7 @@ def kill(store, name, signal, patience):
 def end(store, name, keep, is_forced):
     """Closes a session that has no host, and has its keys removed after a time."""
     incarnation = find(store, name)
-    answer = store.run("end", incarnation, int(is_forced), keys.version(), -1 if keep is None else int(keep * 1000))[0]
+    answer = store.run("end", incarnation, int(is_forced), keys.version(keys.OLDEST), -1 if keep is None else int(keep * 1000))[0]
     if answer == "alive":
         raise Refused(f"the host of {name} is alive; end its program with fleet kill, or use --force")
     if answer == "lost":

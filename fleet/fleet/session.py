@@ -1,20 +1,21 @@
 """A session's terminal, and how it is rebuilt from what the store has.
 
 A terminal's state is a function of the bytes. The repaint of a state, played on any terminal, leaves exactly that state. Bytes
-may be cut anywhere. So a checkpoint and the bytes after its position are the session, for any process that has both.
+may be cut anywhere. So a checkpoint and the bytes after its position are the session, for any process that has both. In UTF-8 a
+checkpoint's position is before the bytes that begin a character and wait for its other bytes.
 """
 import vt220
 
-from .keys import FORMATS, Damaged, Long, Lost, Trimmed, Version, Wrong, format_of, key, position, read_checkpoint
+from .keys import FORMATS, Damaged, Long, Lost, Trimmed, Version, Wrong, encoding_of, format_of, key, position, read_checkpoint
 
 
 class Session:
     """A session's terminal, played up to the position `at`."""
 
-    def __init__(self, incarnation, at=0, repaint=b"", formats=FORMATS):
+    def __init__(self, incarnation, at=0, repaint=b"", formats=FORMATS, encoding="dec"):
         self.incarnation, self.at, self.formats = incarnation, at, formats
         self.newest = 0  # the newest format of what was read
-        self.terminal = vt220.Terminal()
+        self.terminal = vt220.Terminal(encoding)
         self.terminal.feed(repaint)
         self.status = None
 
@@ -33,6 +34,10 @@ class Session:
         if number == 2:
             self.status = fields[b"status"].decode()
         return data[self.at - (at - len(data)) :] if at > self.at else b""
+
+    def settled(self):
+        """Returns the position up to which all bytes are in the terminal's state: what is pending comes after it."""
+        return self.at - len(self.terminal.pending())
 
     def play(self, data, reports, most=None):
         """Plays bytes, up to `most` reports. Appends the reports as (position, bytes), and returns how many bytes were played."""
@@ -55,28 +60,28 @@ def is_formed(at, number, fields):
     return (at, number) == (0, 1) and b"begin" in fields and b"bytes" not in fields
 
 
-def restored(incarnation, fields, formats=FORMATS):
+def restored(incarnation, fields, formats=FORMATS, encoding="dec"):
     """Returns a session as its checkpoint has it, and whether that was damaged: then the session is at its start."""
     if not fields:
-        return Session(incarnation, formats=formats), False
+        return Session(incarnation, formats=formats, encoding=encoding), False
     try:
-        made = Session(incarnation, *read_checkpoint(fields, formats), formats)
+        made = Session(incarnation, *read_checkpoint(fields, formats), formats, encoding)
         made.newest = format_of(fields[b"v"])
         return made, False
     except Damaged:
-        return Session(incarnation, formats=formats), True
+        return Session(incarnation, formats=formats, encoding=encoding), True
 
 
 def look_up(store, incarnation):
     """Returns a session as its checkpoint has it, and the position where its bytes end. Raises Lost if the store has lost it."""
     with store.pipeline(transaction=True) as together:
         together.hgetall(key(incarnation, "checkpoint"))
-        together.hget(key(incarnation, "about"), "end")
+        together.hmget(key(incarnation, "about"), "end", "encoding")
         together.exists(key(incarnation, "bytes"))
-        fields, end, is_there = store.all_of(together)
+        fields, (end, encoding), is_there = store.all_of(together)
     if end is None or not is_there:
         raise Lost("the store no longer has this session")
-    return restored(incarnation, fields)[0], int(end)
+    return restored(incarnation, fields, encoding=encoding_of(encoding))[0], int(end)
 
 
 def play_on(store, session, end):

@@ -68,6 +68,7 @@ class Viewer:
         self.terminal, self.last = vt220.Terminal(), "0-0"
         self.by, self.step = None, 0
         self.worker, self.fault, self.is_over, self.takes_input = "", "", False, False
+        self.encoding = "dec"
 
     def ask(self):
         """Tells the worker that somebody looks, and learns how the session is. Call it each second."""
@@ -79,7 +80,7 @@ class Viewer:
             self.is_over, self.fault = True, self.fault or "Lost: the store no longer has this session"
             return
         self.worker, self.fault, self.is_over = answer[1].decode(), keys.shown(answer[2]), bool(answer[3])
-        self.takes_input = answer[5] == b"1"
+        self.takes_input, self.encoding = answer[5] == b"1", keys.encoding_of(answer[6])
         if order(answer[4]) < order(self.last):  # the stream began anew
             self.last = "0-0"
 
@@ -119,8 +120,8 @@ class Keyboard:
         self.held = b""  # the beginning of a key whose end hasn't come
         tty.setraw(0)
 
-    def pass_on(self, modes):
-        """Sends what was typed, as a VT220 sends it under these modes. Returns whether to go on."""
+    def pass_on(self, modes, encoding):
+        """Sends what was typed, as a VT220 sends it under these modes, or in UTF-8. Returns whether to go on."""
         if not select.select([0], [], [], 0.02)[0]:
             self.sender.type(self.held)
             self.held = b""
@@ -128,7 +129,7 @@ class Keyboard:
         data = os.read(0, 1024)
         if not data or LEAVE in data:
             return False
-        read = typed(self.held + data, modes)
+        read = typed(self.held + data, modes, encoding)
         self.held = read.held
         self.sender.type(read.sent)
         if read.refused:
@@ -179,5 +180,5 @@ def look(viewer, drawing, keyboard):
                 drawing.note(noted)
         if viewer.follow(0 if keyboard else FRAME):  # a store's shortest wait is longer than a key should take
             drawing.draw(viewer.terminal)
-        if keyboard and not keyboard.pass_on(viewer.terminal.modes()):
+        if keyboard and not keyboard.pass_on(viewer.terminal.modes(), viewer.encoding):
             return

@@ -182,7 +182,7 @@ class Page:
         if not self.settings.typing:
             raise PermissionError("this page doesn't type: fleet web --typing")
         modes = followed.picture.modes
-        data = vt220.key(str(said["key"]), modes) if "key" in said else spelled(str(said["text"])[:4096], modes)
+        data = vt220.key(str(said["key"]), modes) if "key" in said else spelled(str(said["text"])[:4096], modes, followed.encoding)
         if followed.incarnation not in typed:
             typed[followed.incarnation] = Typing(self, socket, followed.incarnation)
         typed[followed.incarnation].add(data)

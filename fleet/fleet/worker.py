@@ -54,6 +54,7 @@ class Kept(Session):
         self.is_dirty = True  # something was played since viewers were sent a frame
         self.taken = time.monotonic()
         self.is_on_trial = False  # workers died in its company; this one takes no other until it caught up
+        self.needed = keys.NEEDED[self.terminal.encoding]
 
     def play_some(self, every, budget, number=keys.FORMAT):
         """Plays what was read, up to so many bytes, and makes a checkpoint if one is due. Returns what is left of the bytes."""
@@ -65,6 +66,7 @@ class Kept(Session):
             self.is_dirty = self.is_dirty or played > 0
             if played == len(data):
                 self.queue.pop(0)
+        number = max(number, self.needed)
         if self.at - self.checked >= (1 if self.is_over() else every):
             self.check(number)
         else:
@@ -74,11 +76,13 @@ class Kept(Session):
     def check(self, number):
         """Makes a checkpoint in a format, if the terminal is between sequences."""
         if self.terminal.is_between():
-            self.checked, self.checkpoint = self.at, keys.checkpoint(self.at, self.terminal.repaint(), number)
+            self.checked, self.checkpoint = self.at, keys.checkpoint(self.settled(), self.terminal.repaint(), number)
             self.newest = number
 
     def check_again(self, number):
-        """Makes a checkpoint if the last one, or an entry after it, is of a newer format than all workers know."""
+        """Makes a checkpoint if the last one, or an entry after it, is of a newer format than all workers know, and the session doesn't
+        need that one."""
+        number = max(number, self.needed)
         if self.newest > number:
             self.check(number)
             self.replaces = True
@@ -205,7 +209,7 @@ class Worker:
         with self.store.pipeline(transaction=True) as together:
             for each in incarnations:
                 together.hgetall(key(each, "checkpoint"))
-                together.hmget(key(each, "about"), "end", "name")
+                together.hmget(key(each, "about"), "end", "name", "encoding")
                 together.exists(key(each, "bytes"))
             together.hget(keys.TRYING, self.claims.me)
             *answers, suspect = self.store.all_of(together)
@@ -221,7 +225,7 @@ class Worker:
                 raise answer
         if about[0] is None or not is_there:
             raise keys.Lost("the store no longer has this session's bytes")
-        session, was_damaged = restored(incarnation, checkpoint, self.formats)
+        session, was_damaged = restored(incarnation, checkpoint, self.formats, keys.encoding_of(about[2]))
         kept = self.kept[incarnation] = Kept(session, int(about[0]), was_damaged)
         kept.seen = checkpoint.get(b"at", b"").decode("ascii", "replace")
         kept.name = keys.shown(about[1] or b"?")
@@ -408,7 +412,7 @@ class Worker:
 
     def words_of(self, session):
         made, settings = session.checkpoint, self.settings
-        words = [self.claims.me, session.incarnation, session.at, made["v"] if made else keys.version(self.claims.format)]
+        words = [self.claims.me, session.incarnation, session.at, made["v"] if made else keys.version(max(self.claims.format, session.needed))]
         words += [-1 if settings.keep is None else settings.keep, -1 if settings.retain is None else int(settings.retain * 1000)]
         if made:
             words += ["always" if session.replaces else "newer", made["at"], made["length"], made["sha256"], made["repaint"]]

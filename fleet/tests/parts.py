@@ -105,7 +105,10 @@ def other_formats_are_named(url, data):
     until(lambda: source.store.exists(source.part("checkpoint")), one)
     check(source.store.hget(source.part("checkpoint"), "v") == keys.version().encode(), "versions", "a checkpoint has them")
     for part in ("bytes", "answers"):
-        check(all(f[b"v"] == keys.version().encode() for _, f in source.store.xrange(source.part(part))), "versions", part)
+        written = [f[b"v"].decode() for _, f in source.store.xrange(source.part(part)) if b"begin" not in f]
+        check(set(written) == {keys.version()}, "versions", part)
+    [(_, begin)] = source.store.xrange(source.part("bytes"), count=1)
+    check(begin[b"v"] == keys.version(keys.OLDEST).encode(), "versions", "its first entry can be read by an older worker, too")
 
 
 def trimmed_streams_are_named(url, data):

@@ -35,7 +35,8 @@ from fleet.operate import Typist
 from fleet.worker import Worker
 
 seed, rounds = 1, 20
-NEXT = (2, 3)  # the formats that the next version's programs know
+NOW, NEW = (b"%d" % (keys.FORMAT + more) for more in (0, 1))
+NEXT = (*keys.FORMATS, keys.FORMAT + 1)  # the formats that the next version's programs know
 
 
 def newer(url, **chosen):
@@ -63,22 +64,22 @@ def formats_are_rolled_out_and_back(url, data):
     name, old = "formats", worker(url, every=100)
     source = Source(url, name).send(data[:1000])
     source.host.formats = NEXT
-    check(until(lambda: version_of(source) == b"2", old), name, "the format of all")
+    check(until(lambda: version_of(source) == NOW, old), name, "the format of all")
     new = newer(url, every=100)
     for part in (data[1000:2000], data[2000:3000]):
         source.send(part + b"\030\033[6n")
         renew(source)
         check(until(lambda: source.store.hget(source.part("about"), "played") == b"%d" % source.host.at, old, new), name, "both play")
-    check(version_of(source) == b"2" and entries_of(source) == {b"2"}, name, "while one knows the older format only, it is written")
+    check(version_of(source) == NOW and entries_of(source) == {NOW}, name, "while one knows the older format only, it is written")
     old.is_leaving = True
     old.turn(0.01)
-    check(until(lambda: new.claims.format == 3, new), name, "the other one notices that")
+    check(until(lambda: new.claims.format == int(NEW), new), name, "the other one notices that")
     renew(source)
     source.send(data[3000:4000] + b"\030\033[6n")
-    check(until(lambda: version_of(source) == b"3", new), name, "then the newer one is")
-    check(entries_of(source) == {b"2", b"3"}, name, "by hosts, too")
+    check(until(lambda: version_of(source) == NEW, new), name, "then the newer one is")
+    check(entries_of(source) == {NOW, NEW}, name, "by hosts, too")
     back = worker(url, every=100)
-    check(until(lambda: version_of(source) == b"2", new), name, "an older worker comes: all checkpoints are of its format again")
+    check(until(lambda: version_of(source) == NOW, new), name, "an older worker comes: all checkpoints are of its format again")
     renew(source)
     source.send(data[4000:5000] + b"\030\033[6n")
     check(until(lambda: source.store.hget(source.part("about"), "played") == b"%d" % source.host.at, new, back), name, "it is played")
@@ -95,15 +96,15 @@ def a_session_of_another_format_waits_for_its_worker(url, data):
     """The last worker of its format was killed. Those of the other one hand it over, and it isn't a fault."""
     name, new = "foreign", newer(url, every=100)
     source = Source(url, name).send(data[:1000] + b"\030")
-    check(until(lambda: version_of(source) == b"3" and not new.due, new), name, "it is of the next format")
+    check(until(lambda: version_of(source) == NEW and not new.due, new), name, "it is of the next format")
     store = source.store
     old = worker(url)
     store.run("bury", new.claims.me, store.hget(keys.WORKERS, new.claims.me), 500)
-    check(until(lambda: store.hget(keys.FOREIGN, source.incarnation) == b"3", old), name, "the other one hands it over")
+    check(until(lambda: store.hget(keys.FOREIGN, source.incarnation) == NEW, old), name, "the other one hands it over")
     other = Source(url, "other").send(b"x")
     check(until(lambda: other.incarnation in old.kept, old), name, "and plays others")
     status, out, said = fleet(url, "list")
-    check("waiting" in out and "foreign: waits for a worker that knows the format 3" in said, name, f"list says so: {out} {said}")
+    check("waiting" in out and f"foreign: waits for a worker that knows the format {NEW.decode()}" in said, name, f"list says so: {out} {said}")
     source.send(data[1000:2000] + b"\033[6n")
     check(source.fault() == "" and store.hexists(keys.FOREIGN, source.incarnation), name, "it has no fault")
     again = newer(url)

@@ -74,12 +74,17 @@ end
 -- it and against no other.
 local DEATHS = 2
 
--- Puts a session among those that want a worker.
+-- Puts a session among those that want a worker. One that needs a newer format than all workers know waits for one that knows it.
 local function queue(inc)
   disown(inc)
   if not is_waiting(inc) then
     local deaths = tonumber(field(inc, 'about', 'tries') or 0) or 0
-    redis.call('ZADD', deaths >= DEATHS and 'fleet:suspects' or 'fleet:waiting', moment(), inc)
+    local needs = tonumber(field(inc, 'about', 'needs') or 0) or 0
+    if needs > (tonumber(common_format()) or needs) then
+      redis.call('HSET', 'fleet:foreign', inc, string.format('%.0f', needs))
+    else
+      redis.call('ZADD', deaths >= DEATHS and 'fleet:suspects' or 'fleet:waiting', moment(), inc)
+    end
   end
   redis.call('PUBLISH', 'fleet:new', inc)
 end

@@ -50,7 +50,7 @@ static void refuse(struct client *c, const char *why) {
     leave(c);
 }
 
-/* Adds the first frame: a repaint, which leaves any terminal in the state of `settled`. */
+/* Adds a repaint, which leaves any terminal in the state of `settled`. */
 static void put_repaint(struct client *c) {
     uint8_t *room = frame_room(c), none[VT220_REPORT_LIMIT];
     size_t len = 0, reports;
@@ -58,6 +58,7 @@ static void put_repaint(struct client *c) {
     for (size_t at = 0; at < len;) at += vt220_feed(&c->shown, room + at, len - at, none, sizeof none, &reports);
     put_frame(c, FRAME_PLAY, len);
     c->changes = the.changes;
+    c->needs_repaint = false;
 }
 
 static void put_update(struct client *c) {
@@ -117,14 +118,19 @@ static void send_log(struct client *c, long long time) {
     }
 }
 
+static bool has_news(const struct client *c) {
+    return c->changes != the.changes || c->rings || c->needs_repaint;
+}
+
 /* Does what is due for a client at this time. */
 void serve(struct client *c, long long time) {
     send_on(c);
     send_log(c, time);
     if (c->state == ATTACHED && is_sent(c)) {
         bool is_due = time >= c->due || the.is_over;
-        if (is_due && (c->changes != the.changes || c->rings)) {
-            if (c->changes != the.changes) put_update(c);
+        if (is_due && has_news(c)) {
+            if (c->needs_repaint) put_repaint(c);
+            else if (c->changes != the.changes) put_update(c);
             if (c->rings) put(c, FRAME_BELL, NULL, 0);
             c->rings = false;
             c->due = time + INTERVAL;
@@ -237,7 +243,7 @@ static void begin(struct client *c) {
         c->deadline = LLONG_MAX;
         if (the.is_over) give_up();
         else hang_up();
-    } else if (c->ask != ASK_RENAME) { /* for that, the name must come first */
+    } else if (c->ask != ASK_RENAME && c->ask != ASK_UPGRADE) { /* for these, a frame must come first */
         answer(c);
     }
 }
@@ -262,6 +268,18 @@ static void take_name(struct client *c, const uint8_t *bytes, size_t len) {
     }
 }
 
+/* Becomes the program that a client passed. The reply is part of the state, so it comes from the new program. */
+static void upgrade_for(struct client *c) {
+    char why[WHY_LIMIT];
+    frame_room(c);
+    size_t len = c->len;
+    put(c, FRAME_ANSWER, NULL, 0);
+    leave(c);
+    upgrade(c->program, why);
+    c->len = len;
+    refuse(c, why);
+}
+
 /* Handles a frame. Returns false if its keys don't fit into the queue now. */
 static bool take_frame(struct client *c, char letter, const uint8_t *bytes, size_t len) {
     bool is_typing = c->state == SENDING || (c->state == ATTACHED && !c->is_read_only);
@@ -271,6 +289,8 @@ static bool take_frame(struct client *c, char letter, const uint8_t *bytes, size
         leave(c);
     } else if (letter == FRAME_NAME && c->state == ASKING && c->ask == ASK_RENAME) {
         take_name(c, bytes, len);
+    } else if (letter == FRAME_PROGRAM && c->state == ASKING && c->ask == ASK_UPGRADE) {
+        upgrade_for(c);
     } else if (letter == FRAME_LOG && c->state == ATTACHED) {
         c->wants_log = true;
     } else if (letter == FRAME_SEEN && c->awaits_seen) {
@@ -299,8 +319,26 @@ bool hears(const struct client *c) {
     return c->in_len < sizeof c->in;
 }
 
+/* Reads bytes of a client, and a file that is passed with them. */
+static ssize_t receive(struct client *c) {
+    union {
+        struct cmsghdr head;
+        char room[CMSG_SPACE(sizeof(int))];
+    } passed;
+    struct iovec bytes = {c->in + c->in_len, sizeof c->in - c->in_len};
+    /* By this length there is room for one file, and the kernel closes any other. */
+    struct msghdr message = {.msg_iov = &bytes, .msg_iovlen = 1, .msg_control = &passed, .msg_controllen = CMSG_LEN(sizeof(int))};
+    ssize_t n = recvmsg(c->socket, &message, MSG_DONTWAIT | MSG_CMSG_CLOEXEC);
+    const struct cmsghdr *head = n > 0 ? CMSG_FIRSTHDR(&message) : NULL;
+    if (head != NULL && head->cmsg_level == SOL_SOCKET && head->cmsg_type == SCM_RIGHTS) {
+        if (c->program >= 0) close(c->program);
+        memcpy(&c->program, CMSG_DATA(head), sizeof c->program);
+    }
+    return n;
+}
+
 void hear(struct client *c) {
-    ssize_t n = hears(c) ? recv(c->socket, c->in + c->in_len, sizeof c->in - c->in_len, MSG_DONTWAIT) : -2;
+    ssize_t n = hears(c) ? receive(c) : -2;
     if (n == 0 || (n == -1 && errno != EAGAIN && errno != EINTR)) c->deadline = 0;
     if (n > 0) c->in_len += (size_t)n;
     if (c->state == ASKING && c->ask == 0 && c->in_len > 0) {
@@ -353,6 +391,7 @@ void let_in(long long time) {
         return;
     }
     c->socket = socket;
+    c->program = -1;
     c->came = time;
     c->deadline = time + patience;
     the.clients[i] = c;
@@ -362,6 +401,7 @@ void let_go(size_t i) {
     struct client *c = the.clients[i];
     if (c->state == ATTACHED) hear(c); /* what it typed before it went */
     close(c->socket);
+    if (c->program >= 0) close(c->program);
     vt220_close(&c->shown);
     free(c);
     the.clients[i] = NULL;
@@ -370,6 +410,6 @@ void let_go(size_t i) {
 
 /* Returns the time at which something is due for a client, or LLONG_MAX. */
 long long next_time(const struct client *c) {
-    bool has_news = c->state == ATTACHED && is_sent(c) && (c->changes != the.changes || c->rings);
-    return has_news && c->due < c->deadline ? c->due : c->deadline;
+    bool is_behind = c->state == ATTACHED && is_sent(c) && has_news(c);
+    return is_behind && c->due < c->deadline ? c->due : c->deadline;
 }

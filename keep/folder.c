@@ -22,7 +22,8 @@
 
 enum { QUEUE = 128, BOOT_LIMIT = 64 };
 
-static bool refuse(char *why, const char *words, ...) {
+/* Writes the reason. Returns false. */
+bool refused(char *why, const char *words, ...) {
     va_list list;
     va_start(list, words);
     vsnprintf(why, WHY_LIMIT, words, list);
@@ -36,16 +37,16 @@ static bool open_own(int at, const char *path, int *file, char *why) {
     mode_t mask = umask(0);
     int error = mkdirat(at, path, 0700) == 0 ? 0 : errno;
     umask(mask);
-    if (error != 0 && error != EEXIST) return refuse(why, "%s: %s", path, strerror(error));
+    if (error != 0 && error != EEXIST) return refused(why, "%s: %s", path, strerror(error));
     *file = openat(at, path, O_RDONLY | O_DIRECTORY | O_NOFOLLOW | O_CLOEXEC);
-    if (*file < 0) return refuse(why, "%s: %s", path, errno == ELOOP || errno == ENOTDIR ? "not a directory" : strerror(errno));
+    if (*file < 0) return refused(why, "%s: %s", path, errno == ELOOP || errno == ENOTDIR ? "not a directory" : strerror(errno));
     bool is_fine = false;
     if (fstat(*file, &it) != 0) {
-        refuse(why, "%s: %s", path, strerror(errno));
+        refused(why, "%s: %s", path, strerror(errno));
     } else if (it.st_uid != geteuid()) {
-        refuse(why, "%s belongs to another user; choose another directory with KEEP_DIR", path);
+        refused(why, "%s belongs to another user; choose another directory with KEEP_DIR", path);
     } else if ((it.st_mode & 0777) != 0700) {
-        refuse(why, "%s has mode %03o; it must have mode 700", path, it.st_mode & 0777u);
+        refused(why, "%s has mode %03o; it must have mode 700", path, it.st_mode & 0777u);
     } else {
         is_fine = true;
     }
@@ -59,11 +60,11 @@ static bool read_boot(char *boot, char *why) {
     int from = open(file, O_RDONLY | O_CLOEXEC);
     ssize_t len = from < 0 ? -1 : read(from, boot, BOOT_LIMIT - 1);
     if (from >= 0) close(from);
-    if (len < 0) return refuse(why, "%s: %s", file, strerror(errno));
+    if (len < 0) return refused(why, "%s: %s", file, strerror(errno));
     boot[len] = 0;
     boot[strcspn(boot, "\n")] = 0;
     size_t used = strspn(boot, letters);
-    return used >= 32 && boot[used] == 0 ? true : refuse(why, "%s is no boot id", file);
+    return used >= 32 && boot[used] == 0 ? true : refused(why, "%s is no boot id", file);
 }
 
 bool try_folder(const char *path, struct folder *folder, char *why) {
@@ -74,7 +75,7 @@ bool try_folder(const char *path, struct folder *folder, char *why) {
     ssize_t len = readlink(link, folder->path, sizeof folder->path);
     bool is_fine = len > 0 && (size_t)len < sizeof folder->path;
     if (is_fine) folder->path[len] = 0;
-    else refuse(why, "%s: its path can't be read from /proc", path);
+    else refused(why, "%s: its path can't be read from /proc", path);
     is_fine = is_fine && open_own(above, boot, &folder->file, why);
     close(above);
     return is_fine;
@@ -168,10 +169,10 @@ bool is_listening(int folder, const char *name) {
 /* Returns whether a name can be used. Removes a socket of this user to which nobody listens, and never anything else. */
 bool is_free(int folder, const char *name, char *why) {
     struct stat it;
-    if (fstatat(folder, name, &it, AT_SYMLINK_NOFOLLOW) != 0) return errno == ENOENT ? true : refuse(why, "%s: %s", name, strerror(errno));
-    if (!S_ISSOCK(it.st_mode) || it.st_uid != geteuid()) return refuse(why, "%s: a file that isn't a session has this name", name);
-    if (is_listening(folder, name)) return refuse(why, "session %s already exists", name);
-    return unlinkat(folder, name, 0) == 0 ? true : refuse(why, "%s: %s", name, strerror(errno));
+    if (fstatat(folder, name, &it, AT_SYMLINK_NOFOLLOW) != 0) return errno == ENOENT ? true : refused(why, "%s: %s", name, strerror(errno));
+    if (!S_ISSOCK(it.st_mode) || it.st_uid != geteuid()) return refused(why, "%s: a file that isn't a session has this name", name);
+    if (is_listening(folder, name)) return refused(why, "session %s already exists", name);
+    return unlinkat(folder, name, 0) == 0 ? true : refused(why, "%s: %s", name, strerror(errno));
 }
 
 /* Locks the directory while it looks at a name and until it listens there. */
@@ -179,14 +180,14 @@ int open_listener(int folder, const char *name, struct identity *made, char *why
     struct sockaddr_un address = address_of(folder, name);
     struct stat it;
     if (!lock_folder(folder)) {
-        refuse(why, "another vt220-keep holds the lock of the directory");
+        refused(why, "another vt220-keep holds the lock of the directory");
         return -1;
     }
     int listener = is_free(folder, name, why) ? new_socket() : -2;
     mode_t mask = umask(0077);
     bool is_bound = listener >= 0 && bind(listener, (const struct sockaddr *)&address, sizeof address) == 0;
     bool is_fine = is_bound && listen(listener, QUEUE) == 0 && fstatat(folder, name, &it, AT_SYMLINK_NOFOLLOW) == 0;
-    if (!is_fine && listener != -2) refuse(why, "%s: %s", name, strerror(errno));
+    if (!is_fine && listener != -2) refused(why, "%s: %s", name, strerror(errno));
     umask(mask);
     unlock_folder(folder);
     if (is_fine) {

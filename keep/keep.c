@@ -27,6 +27,7 @@ static const char usage[] =
     "                                       input if there is no KEY; -l: each KEY is text\n"
     "       vt220-keep kill NAME            end the command\n"
     "       vt220-keep rename NAME NEW      rename a session\n"
+    "       vt220-keep upgrade NAME         keep a session with this program from now on, in place of the one that started it\n"
     "       vt220-keep help | --help        print this help\n"
     "       vt220-keep version | --version  print the version\n"
     "Ctrl-\\ detaches; pressed twice, it is sent. KEEP_KEY=^A makes Ctrl-A that key.\n"
@@ -169,6 +170,19 @@ static int do_rename(char **words, const struct options *options) {
     return ask(words[0], ASK_RENAME, words[1]);
 }
 
+static int do_upgrade(char **words, const struct options *options) {
+    (void)options;
+    struct folder folder = open_folder();
+    wire_ask_upgrade(existing(&folder, words[0]), words[0]);
+    return 0;
+}
+
+/* A keeper runs this on the file of its state. */
+static int do_resume(char **words, const struct options *options) {
+    (void)options;
+    resume_session(atoi(words[0]), words[1] != NULL ? atoi(words[1]) : -1);
+}
+
 static int do_help(char **words, const struct options *options) {
     (void)words, (void)options;
     fputs(usage, stdout);
@@ -187,7 +201,7 @@ static const struct command {
     int (*run)(char **words, const struct options *options);
 } commands[] = {{"new", "+hA", 2, INT_MAX, do_new},   {"attach", "+hr", 1, 1, do_attach}, {"detach", "+h", 1, 1, do_detach},
                 {"list", "+h", 0, 0, do_list},        {"text", "+h", 1, 1, do_text},      {"log", "+h", 1, 1, do_log},
-                {"repaint", "+h", 1, 1, do_repaint},
+                {"repaint", "+h", 1, 1, do_repaint},  {"upgrade", "+h", 1, 1, do_upgrade}, {RESUME, "+h", 1, 2, do_resume},
                 {"send", "+hl", 1, INT_MAX, do_send}, {"kill", "+h", 1, 1, do_kill},      {"rename", "+h", 2, 2, do_rename},
                 {"help", "+h", 0, 1, do_help},        {"--help", "+h", 0, 0, do_help},    {"-h", "+h", 0, 0, do_help},
                 {"version", "+h", 0, 0, do_version},  {"--version", "+h", 0, 0, do_version}};
@@ -220,17 +234,17 @@ static int read_options(const struct command *command, int argc, char **argv, st
 }
 
 /* Opens standard streams that were closed, so that no other file gets one of their numbers. Closes all other files that were
- * left open: otherwise they would stay open in the keeper and in the command. */
-static void set_files(void) {
+ * left open: otherwise they would stay open in the keeper and in the command. Those of a session that goes on are its own. */
+static void set_files(bool is_resumed) {
     int file;
     while ((file = open("/dev/null", O_RDWR)) >= 0 && file < 3) {}
     if (file >= 3) close(file);
-    close_range(3, UINT_MAX, 0);
+    if (!is_resumed) close_range(3, UINT_MAX, 0);
 }
 
 int main(int argc, char **argv) {
     struct options options = {0};
-    set_files();
+    set_files(argc > 1 && strcmp(argv[1], RESUME) == 0);
     if (argc < 2) {
         fputs(usage, stderr);
         return 2;

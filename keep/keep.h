@@ -34,6 +34,7 @@ struct identity {
     ino_t number;
 };
 
+bool refused(char *why, const char *words, ...) __attribute__((format(printf, 2, 3))); /* writes the reason; returns false */
 bool is_name(const char *name);
 struct folder open_folder(void); /* ends the program if it can't be opened */
 bool try_folder(const char *path, struct folder *folder, char *why);
@@ -63,6 +64,8 @@ bool wire_receive(int socket, char *letter, uint8_t *bytes, size_t room, size_t 
 void wire_patience(int socket, int milliseconds);
 /* Sends a request and reads the reply. Ends the program if there is none. `bytes` has FRAME_LIMIT bytes. */
 size_t wire_ask(int socket, const char *name, char ask, const char *argument, uint8_t *bytes);
+/* Asks the keeper to become the program that runs here. Ends the program if it doesn't. */
+void wire_ask_upgrade(int socket, const char *name);
 /* Asks for the log, and returns it whole: the lines, and then the screen. The caller frees it. Ends the program if there is none. */
 uint8_t *wire_ask_log(int socket, const char *name, size_t *len);
 
@@ -78,7 +81,11 @@ struct beginning {
     char **command;
 };
 
+#define RESUME "resume" /* the command by which a keeper starts the program that replaces it; its arguments are numbers of files */
+
 void start_session(const struct folder *folder, const struct beginning *beginning);
+/* Goes on with the session whose state is in a file. If `told` is a file, only reports there whether that is possible. */
+noreturn void resume_session(int state, int told);
 
 /* --- keys.c: what is typed on the outer terminal, as the keys of a VT220 --- */
 

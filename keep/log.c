@@ -74,6 +74,11 @@ static void append_line(const uint8_t *line, size_t len) {
     logged.lines++;
 }
 
+/* Begins an empty log at a place. */
+void log_start(uint64_t place) {
+    logged.begin = logged.end = place;
+}
+
 /* Appends whole lines. */
 void log_append(const uint8_t *lines, size_t len) {
     for (size_t at = 0; at < len;) {

@@ -39,15 +39,33 @@ void write_program(void) {
 
 /* --- what comes from the program --- */
 
-/* Copies the terminal to `settled` if it is between sequences, and sets the window of the pseudo-terminal to its width. */
-void settle(void) {
+/* Copies the terminal to `settled` if it is between sequences, and sets the window of the pseudo-terminal to its width. Returns whether it
+ * is between sequences. */
+bool settle(void) {
     static uint8_t unused[FRAME_LIMIT];
     size_t len = 0;
-    if (vt220_update(&the.settled, &the.terminal, &the.scratch, unused, sizeof unused, &len) == VT220_OK && len > 0) the.changes++;
+    bool is_between = vt220_update(&the.settled, &the.terminal, &the.scratch, unused, sizeof unused, &len) == VT220_OK;
+    if (is_between) the.since_len = 0;
+    if (is_between && len > 0) the.changes++;
     if (the.width != vt220_width(&the.terminal)) {
         the.width = vt220_width(&the.terminal);
         struct winsize size = {.ws_row = VT220_ROWS, .ws_col = (unsigned short)the.width};
         ioctl(the.master, TIOCSWINSZ, &size);
+    }
+    return is_between;
+}
+
+/* Remembers what was played since `settled`. If that is long, its middle is left out: the terminal keeps nothing of it if it is that of a
+ * control string. */
+void remember(const uint8_t *bytes, size_t len) {
+    for (size_t n; len > 0; bytes += n, len -= n) {
+        if (the.since_len == SINCE_LIMIT) {
+            memcpy(the.since + SINCE_ENDS, the.since + SINCE_LIMIT - SINCE_ENDS, SINCE_ENDS);
+            the.since_len = 2 * SINCE_ENDS;
+        }
+        n = len < SINCE_LIMIT - the.since_len ? len : SINCE_LIMIT - the.since_len;
+        memcpy(the.since + the.since_len, bytes, n);
+        the.since_len += n;
     }
 }
 
@@ -75,7 +93,7 @@ static void play(const uint8_t *bytes, size_t len) {
         at = end + 1;
     }
     if (has_rung) ring_clients();
-    settle();
+    if (!settle()) remember(bytes, len);
 }
 
 /* Returns whether a byte begins a sequence: ESC, DCS, SOS, CSI, OSC, PM, APC. */

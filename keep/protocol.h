@@ -13,7 +13,12 @@
 
 #include "vt220.h"
 
-enum { PROTOCOL_LOWEST = 1, PROTOCOL_HIGHEST = 2, PROTOCOL_LOG = 2 /* since this version there is a log */ };
+enum {
+    PROTOCOL_LOWEST = 1,
+    PROTOCOL_HIGHEST = 3,
+    PROTOCOL_LOG = 2,    /* since this version there is a log */
+    PROTOCOL_UPGRADE = 3 /* since this version a keeper can become another program */
+};
 enum { HELLO_LENGTH = 8, HELLO_MAGIC = 4, HELLO_LOWEST = 4, HELLO_HIGHEST = 5, HELLO_ASK = 6, HELLO_FLAGS = 7 };
 
 enum {
@@ -25,7 +30,8 @@ enum {
     ASK_REPAINT = 'r',
     ASK_SEND = 's',  /* frames of keys follow, and FRAME_DONE */
     ASK_KILL = 'x',  /* answered when the session is over */
-    ASK_RENAME = 'n' /* FRAME_NAME follows */
+    ASK_RENAME = 'n', /* FRAME_NAME follows */
+    ASK_UPGRADE = 'u' /* since version 3; FRAME_PROGRAM follows */
 };
 enum { FLAG_READ_ONLY = 1 };
 
@@ -35,6 +41,7 @@ enum {
     FRAME_DONE = 'Q', /* no more keys follow */
     FRAME_LOG = 'G',  /* since version 2, of an attached client: it wants the log */
     FRAME_NAME = 'N', /* the new name */
+    FRAME_PROGRAM = 'U', /* since version 3: it is empty, and a file is passed with it, the program to become */
     FRAME_SEEN = 'S'  /* the end of the command was shown to somebody */
 };
 

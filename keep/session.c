@@ -233,10 +233,15 @@ static bool begin(const struct beginning *beginning, struct report *report) {
     return false;
 }
 
-static noreturn void keep(const struct beginning *beginning, int told) {
-    struct report report = {0};
+static noreturn void go_on(void) {
     sigset_t open_mask;
     sigemptyset(&open_mask);
+    while (!the.is_given_up || has_clients()) turn(&open_mask);
+    exit(0);
+}
+
+static noreturn void keep(const struct beginning *beginning, int told) {
+    struct report report = {0};
     setsid();
     hold_signals();
     if (!begin(beginning, &report)) {
@@ -249,8 +254,20 @@ static noreturn void keep(const struct beginning *beginning, int told) {
     if (null > 2) close(null);
     if (fchdir(the.folder.file) != 0) is_told_to_end = 1; /* by its working directory `vt220-keep list` knows it */
     settle();
-    while (!the.is_given_up || has_clients()) turn(&open_mask);
-    exit(0);
+    go_on();
+}
+
+noreturn void resume_session(int state, int told) {
+    char why[WHY_LIMIT] = "", name[NAME_LIMIT + 1];
+    bool is_fine = take_over(state, why);
+    if (told >= 0) report_fit(told, is_fine, why);
+    if (!is_fine) fail(1, "%s", why);
+    if (told >= 0) exit(0);
+    memcpy(name, the.name, sizeof name);
+    set_name(name);
+    hold_signals();
+    look_for_end();
+    go_on();
 }
 
 void start_session(const struct folder *folder, const struct beginning *beginning) {

@@ -17,14 +17,18 @@ enum {
     KILL_AFTER = 2000,  /* milliseconds that a command has to end after SIGHUP */
     PIECE = 4096,       /* the most bytes of one read of the program */
     INPUT_LIMIT = 8192, /* the most bytes of keys that wait for the program, and as many of reports */
-    SMALL_FRAMES = 1024 /* capacity for the frames after an update */
+    SMALL_FRAMES = 1024, /* capacity for the frames after an update */
+    SINCE_LIMIT = 1024, /* the most bytes that are remembered of an unfinished sequence */
+    SINCE_ENDS = 64     /* how many of its first and of its last bytes are kept if it is longer */
 };
 
 struct client {
     int socket;
-    enum { ASKING, ATTACHED, SENDING, READING, WAITING, LEAVING } state; /* READING: it asked for the log */
+    enum { ASKING, ATTACHED, SENDING, READING, WAITING, LEAVING } state; /* READING: it asked for the log. The numbers are handed over */
     char ask; /* 0 until it has asked */
+    int program;           /* the file that it passed, a new program for the keeper; -1 if it passed none */
     bool is_read_only, rings, awaits_seen;
+    bool needs_repaint;    /* it was handed over, and `shown` isn't what it shows */
     vt220 shown;           /* as the client's own terminal is when it has played all of `out` */
     unsigned long changes; /* how many changes of the screen `shown` has */
     bool wants_log;        /* it asked for the log, and isn't sent it yet */
@@ -46,6 +50,8 @@ struct session {
     vt220 terminal, settled;
     vt220_scratch scratch;
     unsigned long changes; /* of `settled`, so far */
+    uint8_t since[SINCE_LIMIT]; /* what was played since `settled`: the beginning of a sequence */
+    size_t since_len;
     size_t width;
     int master, slave, listener; /* the program's terminal line, and where clients come in; -1 once closed */
     pid_t command;
@@ -83,12 +89,14 @@ bool run_command(char **command, const char *locale, char *why, int *status);
 bool read_program(void);
 void write_program(void);
 bool add_input(const uint8_t *bytes, size_t len, bool is_report);
-void settle(void);
+bool settle(void);
+void remember(const uint8_t *bytes, size_t len);
 void drain_program(void);
 void hang_up(void);
 
 /* log.c */
 void log_append(const uint8_t *lines, size_t len);
+void log_start(uint64_t place);
 uint64_t log_begin(void);
 uint64_t log_end(void);
 size_t log_read(uint64_t *place, uint64_t end, uint8_t *to, size_t size);
@@ -96,5 +104,10 @@ size_t log_read(uint64_t *place, uint64_t end, uint8_t *to, size_t size);
 /* session.c */
 void give_up(void);
 bool rename_session(const char *name, char *why);
+
+/* upgrade.c */
+void upgrade(int program, char *why); /* becomes this program; returns only if it can't, and why */
+bool take_over(int state, char *why);
+void report_fit(int told, bool is_fine, const char *why);
 
 #endif

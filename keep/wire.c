@@ -1,6 +1,7 @@
 /* A client's side of the protocol. */
 #include "keep.h"
 #include <errno.h>
+#include <fcntl.h>
 #include <stdio.h>
 #include <stdlib.h>
 #include <string.h>
@@ -8,7 +9,10 @@
 #include <sys/time.h>
 #include <unistd.h>
 
-enum { KILL_MORE = 8000 /* milliseconds more for a command that has to be killed */ };
+enum {
+    KILL_MORE = 8000,   /* milliseconds more for a command that has to be killed */
+    UPGRADE_MORE = 8000 /* and for a new program that doesn't answer its keeper */
+};
 
 void wire_patience(int socket, int milliseconds) {
     struct timeval limit = {milliseconds / 1000, milliseconds % 1000 * 1000};
@@ -90,17 +94,48 @@ static uint8_t begin(int socket, const char *name, char ask) {
     return hello.version;
 }
 
-size_t wire_ask(int socket, const char *name, char ask, const char *argument, uint8_t *bytes) {
+/* Reads the reply to a request. Ends the program if there is none. */
+static size_t read_answer(int socket, const char *name, uint8_t *bytes) {
     char letter;
     size_t len;
-    begin(socket, name, ask);
-    if (ask == ASK_KILL) wire_patience(socket, patience + KILL_MORE);
-    bool is_sent = argument == NULL || wire_send(socket, FRAME_NAME, argument, strlen(argument));
-    if (!is_sent || !wire_receive(socket, &letter, bytes, FRAME_LIMIT, &len)) fail(1, "%s doesn't answer", name);
+    if (!wire_receive(socket, &letter, bytes, FRAME_LIMIT, &len)) fail(1, "%s doesn't answer", name);
     if (letter == FRAME_REFUSED) fail(1, "%s: %.*s", name, (int)(len < WHY_LIMIT ? len : WHY_LIMIT), (char *)bytes);
     if (letter != FRAME_ANSWER) fail(1, "%s doesn't answer", name);
     close(socket);
     return len;
+}
+
+size_t wire_ask(int socket, const char *name, char ask, const char *argument, uint8_t *bytes) {
+    begin(socket, name, ask);
+    if (ask == ASK_KILL) wire_patience(socket, patience + KILL_MORE);
+    if (argument != NULL && !wire_send(socket, FRAME_NAME, argument, strlen(argument))) fail(1, "%s doesn't answer", name);
+    return read_answer(socket, name, bytes);
+}
+
+/* Sends an empty frame, and passes a file with it. */
+static bool send_file(int socket, char letter, int file) {
+    union {
+        struct cmsghdr head;
+        char room[CMSG_SPACE(sizeof(int))];
+    } passed;
+    char frame[FRAME_HEAD] = {letter};
+    struct iovec bytes = {frame, sizeof frame};
+    struct msghdr message = {.msg_iov = &bytes, .msg_iovlen = 1, .msg_control = &passed, .msg_controllen = sizeof passed};
+    memset(&passed, 0, sizeof passed);
+    passed.head = (struct cmsghdr){.cmsg_level = SOL_SOCKET, .cmsg_type = SCM_RIGHTS, .cmsg_len = CMSG_LEN(sizeof(int))};
+    memcpy(CMSG_DATA(&passed.head), &file, sizeof file);
+    return sendmsg(socket, &message, MSG_NOSIGNAL) == (ssize_t)sizeof frame;
+}
+
+void wire_ask_upgrade(int socket, const char *name) {
+    static uint8_t bytes[FRAME_LIMIT];
+    int program = open("/proc/self/exe", O_RDONLY | O_CLOEXEC);
+    if (program < 0) fail(1, "/proc/self/exe: %s", strerror(errno));
+    if (begin(socket, name, ASK_UPGRADE) < PROTOCOL_UPGRADE) fail(1, "%s is kept by an older vt220-keep, which can't be replaced", name);
+    wire_patience(socket, patience + UPGRADE_MORE);
+    if (!send_file(socket, FRAME_PROGRAM, program)) fail(1, "%s doesn't answer", name);
+    read_answer(socket, name, bytes);
+    close(program);
 }
 
 /* Bytes that grow as they come. */

@@ -287,6 +287,10 @@ class Raw:
         for at in range(0, len(keys), 4096):
             self.socket.sendall(frame(b"K", keys[at : at + 4096]))
 
+    def upgrade(self, program):
+        """Passes a program for the keeper, which is an open file."""
+        socket.send_fds(self.socket, [frame(b"U")], [program])
+
     def seen(self):
         with contextlib.suppress(OSError):
             self.socket.sendall(frame(b"S"))
@@ -356,3 +360,27 @@ def report(title):
         print(f"failed: {what}", file=sys.stderr)
     print(f"{title}: {passed} passed, {failed} failed")
     sys.exit(failed != 0)
+
+
+def run_tests(title, *tests):
+    """Runs the tests of a script, or those that its arguments name, beside a server of tmux. Ends with what failed."""
+    signal.signal(signal.SIGTERM, lambda *_: sys.exit(1))
+    shutil.copy(sys.argv[1], KEEP)
+    ROOM.chmod(0o755)
+    (ROOM / "tmux.conf").write_text("set -g status off\nset -g default-size 80x24\nset -sg escape-time 0\n")
+    tmux("new-session", "-d", "-x", "80", "-y", "24", "sleep infinity")
+    try:
+        for test in tests:
+            if len(sys.argv) > 3 and test.__name__ not in sys.argv[3:]:
+                continue
+            begun = time.monotonic()
+            try:
+                test()
+            except Exception as fault:  # a test that can't go on is a failure, and the next begins
+                check(False, f"{test.__name__}: {type(fault).__name__}: {fault}, line {fault.__traceback__.tb_next.tb_lineno if fault.__traceback__.tb_next else 0}")
+            print(f"{test.__name__}: {time.monotonic() - begun:.1f} s", file=sys.stderr)
+        check(keep("list").stdout == "", "no session is left")
+    finally:
+        tmux("kill-server")
+        sweep()
+    report(title)

@@ -1,0 +1,353 @@
+/* Replaces the program of a keeper while the command runs.
+ *
+ * The keeper writes its state to a file in memory. A child process runs the new program on this state, and reports whether that program
+ * can go on with it. If it can, the keeper becomes the new program by exec, and otherwise it goes on as it is. By exec it stays the
+ * parent of the command, whose status no other process gets. It also keeps its process ID, the signals that wait, and its open files:
+ * the pseudo-terminal, its socket, and those of its clients. Nothing is read or written meanwhile.
+ *
+ * The state is a heading, and then items, which have the form of frames: a letter, a length, and so many bytes. The heading has the number
+ * of this form. It is another one if anything here changes, and a program refuses a form that it doesn't know. */
+#include "session.h"
+#include <errno.h>
+#include <fcntl.h>
+#include <poll.h>
+#include <signal.h>
+#include <stdio.h>
+#include <stdlib.h>
+#include <string.h>
+#include <sys/mman.h>
+#include <sys/stat.h>
+#include <sys/wait.h>
+#include <unistd.h>
+
+enum { FORM = 1 };
+
+static const char fits[] = "can go on"; /* what the new program reports; anything else is the reason why it can't */
+
+struct heading {
+    char magic[12];
+    uint32_t form;
+};
+
+static const struct heading the_heading = {"keep: state", FORM};
+
+enum {
+    ITEM_SESSION = 'S', /* a struct handed_session */
+    ITEM_NAME = 'N',
+    ITEM_FOLDER = 'D', /* the path of its directory */
+    ITEM_TITLE = 'T',
+    ITEM_SCREEN = 'P', /* the repaint of `settled` */
+    ITEM_SINCE = 'H',  /* what was played since then, inside a sequence */
+    ITEM_KEYS = 'K',   /* what waits for the program; several items, in their order */
+    ITEM_REPORTS = 'R',
+    ITEM_LINES = 'L',  /* whole lines of the log; several items */
+    ITEM_CLIENT = 'C', /* a struct handed_client, and what came from the client and isn't handled, and what isn't sent to it */
+    ITEM_END = 'Z'
+};
+
+struct handed_session {
+    int32_t folder, listener, master, slave, command;
+    uint8_t is_over, is_seen, unused[2];
+    uint64_t device, number; /* of its socket */
+    uint64_t log_begin;
+    int64_t began, linger, kill_at, leave_at;
+    struct ending ending;
+};
+
+struct handed_client {
+    int32_t socket;
+    uint8_t state, ask, is_read_only, rings, awaits_seen, wants_log, is_reading, unused;
+    uint32_t in_len, out_len;
+    uint64_t log_at, log_end;
+    int64_t deadline, came;
+};
+
+/* --- the state is written --- */
+
+static void put_head(FILE *to, char letter, size_t len) {
+    uint32_t length = (uint32_t)len;
+    fputc(letter, to);
+    fwrite(&length, sizeof length, 1, to);
+}
+
+static void put_item(FILE *to, char letter, const void *bytes, size_t len) {
+    put_head(to, letter, len);
+    fwrite(bytes, 1, len, to);
+}
+
+static void put_session(FILE *to) {
+    const struct handed_session it = {
+        .folder = the.folder.file, .listener = the.listener, .master = the.master, .slave = the.slave, .command = the.command,
+        .is_over = the.is_over, .is_seen = the.is_seen, .device = the.socket.device, .number = the.socket.number, .log_begin = log_begin(),
+        .began = the.began, .linger = the.linger, .kill_at = the.kill_at, .leave_at = the.leave_at, .ending = the.ending};
+    put_item(to, ITEM_SESSION, &it, sizeof it);
+    put_item(to, ITEM_NAME, the.name, strlen(the.name));
+    put_item(to, ITEM_FOLDER, the.folder.path, strlen(the.folder.path));
+    put_item(to, ITEM_TITLE, the.title, strlen(the.title));
+}
+
+/* Writes the terminal. Returns false if these bytes don't lead to its state, since the middle of a long sequence isn't kept. */
+static bool put_terminal(FILE *to, char *why) {
+    static uint8_t bytes[VT220_PAINT_LIMIT];
+    vt220 other = VT220_INIT;
+    size_t len = 0;
+    vt220_repaint(&the.settled, &the.scratch, bytes, sizeof bytes, &len);
+    put_item(to, ITEM_SCREEN, bytes, len);
+    put_item(to, ITEM_SINCE, the.since, the.since_len);
+    if (vt220_open(&other) != VT220_OK) return refused(why, "out of memory");
+    vt220_feed(&other, bytes, len, NULL, 0, NULL);
+    vt220_feed(&other, the.since, the.since_len, NULL, 0, NULL);
+    bool is_same = vt220_same_state(&other, &the.terminal);
+    vt220_close(&other);
+    return is_same || refused(why, "the command is inside a long control sequence; try again later");
+}
+
+/* Writes what waits for the program, an item for each run of keys or of reports. */
+static void put_input(FILE *to) {
+    for (size_t at = 0, n; at < the.waiting; at += n) {
+        for (n = 1; at + n < the.waiting && the.is_report[at + n] == the.is_report[at]; n++) {}
+        put_item(to, the.is_report[at] ? ITEM_REPORTS : ITEM_KEYS, the.input + at, n);
+    }
+}
+
+static void put_log(FILE *to) {
+    static uint8_t lines[FRAME_LIMIT];
+    uint64_t place = log_begin();
+    for (size_t len; (len = log_read(&place, log_end(), lines, sizeof lines)) > 0;) put_item(to, ITEM_LINES, lines, len);
+}
+
+static void put_client(FILE *to, const struct client *c) {
+    const struct handed_client it = {
+        .socket = c->socket, .state = (uint8_t)c->state, .ask = (uint8_t)c->ask, .is_read_only = c->is_read_only, .rings = c->rings,
+        .awaits_seen = c->awaits_seen, .wants_log = c->wants_log, .is_reading = c->is_reading, .in_len = (uint32_t)c->in_len,
+        .out_len = (uint32_t)(c->len - c->at), .log_at = c->log_at, .log_end = c->log_end, .deadline = c->deadline, .came = c->came};
+    put_head(to, ITEM_CLIENT, sizeof it + it.in_len + it.out_len);
+    fwrite(&it, sizeof it, 1, to);
+    fwrite(c->in, 1, it.in_len, to);
+    fwrite(c->out + c->at, 1, it.out_len, to);
+}
+
+static bool put_state(FILE *to, char *why) {
+    fwrite(&the_heading, sizeof the_heading, 1, to);
+    put_session(to);
+    if (!put_terminal(to, why)) return false;
+    put_input(to);
+    put_log(to);
+    for (size_t i = 0; i < CLIENT_LIMIT; i++) {
+        if (the.clients[i] != NULL) put_client(to, the.clients[i]);
+    }
+    put_item(to, ITEM_END, "", 0);
+    return (fflush(to) == 0 && !ferror(to)) || refused(why, "its state can't be written: %s", strerror(errno));
+}
+
+/* Returns a new file in memory with the state, or null and why. */
+static FILE *write_state(char *why) {
+    int file = memfd_create("keep", MFD_CLOEXEC);
+    FILE *to = file < 0 ? NULL : fdopen(file, "w");
+    if (to == NULL) refused(why, "its state can't be written: %s", strerror(errno));
+    if (to == NULL && file >= 0) close(file);
+    if (to == NULL || put_state(to, why)) return to;
+    fclose(to);
+    return NULL;
+}
+
+/* --- the new program --- */
+
+/* Lets the files that belong to the state stay open over exec, or not. */
+static void keep_files(int state, bool are_kept) {
+    const int files[] = {state, the.folder.file, the.listener, the.master, the.slave};
+    int flags = are_kept ? 0 : FD_CLOEXEC;
+    for (size_t i = 0; i < sizeof files / sizeof *files; i++) fcntl(files[i], F_SETFD, flags); /* of -1 it fails */
+    for (size_t i = 0; i < CLIENT_LIMIT; i++) {
+        if (the.clients[i] != NULL) fcntl(the.clients[i]->socket, F_SETFD, flags);
+    }
+}
+
+/* Becomes another program, which takes the state over. Returns only if that fails, with errno. The file `told`, if there is one, is for what
+ * the program reports: it is only tried. */
+static void become(int program, int state, int told) {
+    char state_word[16], told_word[16];
+    char *words[] = {"vt220-keep", RESUME, state_word, told < 0 ? NULL : told_word, NULL};
+    snprintf(state_word, sizeof state_word, "%d", state);
+    snprintf(told_word, sizeof told_word, "%d", told);
+    keep_files(state, true);
+    if (told >= 0) fcntl(told, F_SETFD, 0);
+    fexecve(program, words, environ);
+    int error = errno;
+    keep_files(state, false);
+    errno = error;
+}
+
+/* Reads what a program reports, up to its end. Returns false if that takes longer than `patience`. */
+static bool read_report(int from, char *report) {
+    size_t len = 0;
+    ssize_t n = 1;
+    for (long long end = now() + patience, time; (time = now()) < end && n != 0 && len < WHY_LIMIT - 1;) {
+        struct pollfd polled = {from, POLLIN, 0};
+        if (poll(&polled, 1, (int)(end - time)) <= 0) continue;
+        n = read(from, report + len, WHY_LIMIT - 1 - len);
+        if (n > 0) len += (size_t)n;
+    }
+    report[len] = 0;
+    for (char *at = report; *at != 0; at++) *at = *at >= ' ' && *at <= '~' ? *at : '?';
+    return n == 0;
+}
+
+/* Runs a program on the state in a child process. Returns whether it can go on with the state; if not, also why. */
+static bool is_fit(int program, int state, char *why) {
+    char report[WHY_LIMIT];
+    int told[2], error = 0;
+    if (pipe2(told, O_CLOEXEC) != 0) return refused(why, "cannot create a pipe: %s", strerror(errno));
+    pid_t child = fork();
+    if (child == 0) {
+        become(program, state, told[1]);
+        dprintf(told[1], "it can't be run: %s", strerror(errno));
+        _exit(1);
+    }
+    if (child < 0) error = errno;
+    close(told[1]);
+    bool has_ended = read_report(told[0], report);
+    close(told[0]);
+    if (child > 0) {
+        kill(child, SIGKILL);
+        while (waitpid(child, NULL, 0) < 0 && errno == EINTR) {}
+    }
+    if (error != 0) return refused(why, "cannot start a process: %s", strerror(error));
+    if (strcmp(report, fits) == 0) return true;
+    return refused(why, "the new program can't go on with it: %.300s", *report != 0 ? report : has_ended ? "it ends at once" : "it doesn't answer");
+}
+
+void upgrade(int program, char *why) {
+    bool can_go_on = program >= 0 && !the.is_given_up;
+    if (!can_go_on) refused(why, program < 0 ? "no new program came" : "it has ended");
+    FILE *state = can_go_on ? write_state(why) : NULL;
+    if (state == NULL) return;
+    if (is_fit(program, fileno(state), why)) {
+        become(program, fileno(state), -1);
+        refused(why, "the new program can't be run: %s", strerror(errno));
+    }
+    fclose(state);
+}
+
+/* --- the state is taken over --- */
+
+/* Returns whether a file is open. It isn't kept over a later exec. */
+static bool take_file(int file) {
+    return fcntl(file, F_SETFD, FD_CLOEXEC) == 0;
+}
+
+static bool take_session(const uint8_t *bytes, size_t len) {
+    struct handed_session it;
+    if (len != sizeof it) return false;
+    memcpy(&it, bytes, sizeof it);
+    the.folder.file = it.folder;
+    the.listener = it.listener;
+    the.master = it.master;
+    the.slave = it.slave;
+    the.command = it.command;
+    the.is_over = it.is_over;
+    the.is_seen = it.is_seen;
+    the.socket = (struct identity){(dev_t)it.device, (ino_t)it.number};
+    the.began = it.began;
+    the.linger = it.linger;
+    the.kill_at = it.kill_at;
+    the.leave_at = it.leave_at;
+    the.ending = it.ending;
+    log_start(it.log_begin);
+    bool has_line = the.is_over || (take_file(the.master) && take_file(the.slave));
+    return has_line && take_file(the.folder.file) && take_file(the.listener);
+}
+
+static bool take_text(char *to, size_t room, const uint8_t *bytes, size_t len) {
+    if (len >= room) return false;
+    memcpy(to, bytes, len);
+    to[len] = 0;
+    return true;
+}
+
+/* Takes a client over. One that is attached gets a repaint when everything was sent that waits for it. */
+static bool take_client(const uint8_t *bytes, size_t len) {
+    struct handed_client it;
+    size_t i = 0;
+    while (i < CLIENT_LIMIT && the.clients[i] != NULL) i++;
+    struct client *c = i < CLIENT_LIMIT && len >= sizeof it ? calloc(1, sizeof *c) : NULL;
+    if (c == NULL) return false;
+    memcpy(&it, bytes, sizeof it);
+    the.clients[i] = c;
+    if (it.in_len > sizeof c->in || it.out_len > sizeof c->out || len != sizeof it + it.in_len + it.out_len) return false;
+    c->socket = it.socket;
+    c->program = -1;
+    c->state = it.state;
+    c->ask = (char)it.ask;
+    c->is_read_only = it.is_read_only;
+    c->rings = it.rings;
+    c->awaits_seen = it.awaits_seen;
+    c->wants_log = it.wants_log;
+    c->is_reading = it.is_reading;
+    c->log_at = it.log_at;
+    c->log_end = it.log_end;
+    c->deadline = it.deadline;
+    c->came = it.came;
+    c->in_len = it.in_len;
+    c->len = it.out_len;
+    memcpy(c->in, bytes + sizeof it, it.in_len);
+    memcpy(c->out, bytes + sizeof it + it.in_len, it.out_len);
+    c->needs_repaint = c->state == ATTACHED;
+    return take_file(c->socket) && c->state <= LEAVING && (c->state != ATTACHED || vt220_open(&c->shown) == VT220_OK);
+}
+
+static bool take_item(char letter, const uint8_t *bytes, size_t len) {
+    switch (letter) {
+    case ITEM_SESSION: return take_session(bytes, len);
+    case ITEM_NAME: return take_text(the.name, sizeof the.name, bytes, len);
+    case ITEM_FOLDER: return take_text(the.folder.path, sizeof the.folder.path, bytes, len);
+    case ITEM_TITLE: return take_text(the.title, sizeof the.title, bytes, len);
+    case ITEM_SCREEN: vt220_feed(&the.settled, bytes, len, NULL, 0, NULL); return vt220_feed(&the.terminal, bytes, len, NULL, 0, NULL) == len;
+    case ITEM_SINCE: remember(bytes, len); return vt220_feed(&the.terminal, bytes, len, NULL, 0, NULL) == len;
+    case ITEM_KEYS: return add_input(bytes, len, false);
+    case ITEM_REPORTS: return add_input(bytes, len, true);
+    case ITEM_LINES: log_append(bytes, len); return true;
+    case ITEM_CLIENT: return take_client(bytes, len);
+    default: return false;
+    }
+}
+
+/* Takes items up to ITEM_END, which is the last one. */
+static bool take_items(const uint8_t *bytes, size_t len) {
+    for (size_t at = 0; len - at >= FRAME_HEAD;) {
+        uint32_t n;
+        memcpy(&n, bytes + at + 1, sizeof n);
+        char letter = (char)bytes[at];
+        at += FRAME_HEAD;
+        if (letter == ITEM_END) return at == len;
+        if (n > len - at || !take_item(letter, bytes + at, n)) return false;
+        at += n;
+    }
+    return false;
+}
+
+/* Takes over the state in a file. Returns false if that can't be done, and why. */
+bool take_over(int state, char *why) {
+    struct stat it;
+    struct heading heading;
+    bool is_open = vt220_open(&the.terminal) == VT220_OK && vt220_open(&the.settled) == VT220_OK;
+    if (!is_open || vt220_scratch_open(&the.scratch) != VT220_OK) return refused(why, "out of memory");
+    if (fstat(state, &it) != 0 || (size_t)it.st_size < sizeof heading) return refused(why, "there is no state");
+    size_t len = (size_t)it.st_size;
+    uint8_t *bytes = mmap(NULL, len, PROT_READ, MAP_PRIVATE, state, 0);
+    if (bytes == MAP_FAILED) return refused(why, "its state can't be read: %s", strerror(errno));
+    memcpy(&heading, bytes, sizeof heading);
+    bool is_state = memcmp(heading.magic, the_heading.magic, sizeof heading.magic) == 0, is_known = is_state && heading.form == FORM;
+    bool is_fine = is_known && take_items(bytes + sizeof heading, len - sizeof heading);
+    munmap(bytes, len);
+    close(state);
+    if (is_state && !is_known) return refused(why, "its state has form %u, and the new program knows form %d", heading.form, FORM);
+    if (!is_fine) return refused(why, "its state can't be read");
+    the.width = vt220_width(&the.terminal);
+    return true;
+}
+
+/* Reports whether the state was taken over. */
+void report_fit(int told, bool is_fine, const char *why) {
+    dprintf(told, "%s", is_fine ? fits : why);
+}

@@ -21,6 +21,11 @@ void core_scratch_close(handle *s);
 size_t core_feed(handle *t, const uint8_t *bytes, size_t len, bool counts, uint8_t *reports, size_t size, size_t *written, size_t *bells);
 size_t core_feed_log(handle *t, handle *s, const uint8_t *bytes, size_t len, bool counts, uint8_t *reports, size_t size, size_t *written,
                      uint8_t *lines, size_t lines_size, size_t *lines_written, size_t *bells);
+size_t core_feed_utf8(handle *t, vt220_utf8 *u, const uint8_t *bytes, size_t len, bool counts, uint8_t *reports, size_t size,
+                      size_t *written, size_t *bells);
+size_t core_feed_log_utf8(handle *t, handle *s, vt220_utf8 *u, const uint8_t *bytes, size_t len, bool counts, uint8_t *reports, size_t size,
+                          size_t *written, uint8_t *lines, size_t lines_size, size_t *lines_written, size_t *bells);
+uint32_t core_shown(uint32_t character, size_t *cells);
 uint32_t core_reset(handle *t);
 uint32_t core_copy(handle *to, handle *from);
 uint32_t core_text(handle *t, handle *s, uint8_t *out, size_t size, size_t *written);
@@ -153,60 +158,98 @@ static part next_part(const uint8_t *bytes, size_t len) {
     return (part){bell != NULL ? (size_t)(bell - bytes) : most, false};
 }
 
+/* What an input is played on: a terminal, a scratch buffer for a log or null, and what is pending if the input is UTF-8, otherwise null. */
+typedef struct player {
+    vt220 *t;
+    vt220_scratch *s;
+    vt220_utf8 *u;
+} player;
+
+/* Plays a part of an input by the call for it. Adds to what the buffers have. */
+static size_t process_part(player by, const uint8_t *bytes, part next, buffer *replies, buffer *lines) {
+    uint8_t *out = replies->at + replies->filled;
+    size_t size = replies->size - replies->filled, sent = 0, off = 0, rung = 0, now;
+    handle h = own(by.t);
+    if (by.s == NULL) {
+        now = by.u == NULL ? core_feed(&h, bytes, next.len, next.rings, out, size, &sent, &rung)
+                           : core_feed_utf8(&h, by.u, bytes, next.len, next.rings, out, size, &sent, &rung);
+    } else {
+        handle room = own_scratch(by.s);
+        uint8_t *to = lines->at + lines->filled;
+        size_t free = lines->size - lines->filled;
+        now = by.u == NULL ? core_feed_log(&h, &room, bytes, next.len, next.rings, out, size, &sent, to, free, &off, &rung)
+                           : core_feed_log_utf8(&h, &room, by.u, bytes, next.len, next.rings, out, size, &sent, to, free, &off, &rung);
+        keep_scratch(by.s, room);
+        lines->filled += off;
+    }
+    keep(by.t, h);
+    replies->filled += sent, by.t->bells += rung;
+    return now;
+}
+
 /* Processes input as far as the buffers have capacity. With a scratch buffer it writes the lines that scroll off to `lines`. */
-static size_t process(vt220 *t, vt220_scratch *s, const uint8_t *bytes, size_t len, buffer *replies, buffer *lines) {
+static size_t process(player by, const uint8_t *bytes, size_t len, buffer *replies, buffer *lines) {
     size_t taken = 0;
     while (taken < len) {
         part next = next_part(bytes + taken, len - taken);
-        uint8_t *out = replies->at + replies->filled;
-        size_t size = replies->size - replies->filled, sent = 0, off = 0, rung = 0, now;
-        handle h = own(t);
-        if (s == NULL) {
-            now = core_feed(&h, bytes + taken, next.len, next.rings, out, size, &sent, &rung);
-        } else {
-            handle room = own_scratch(s);
-            now = core_feed_log(&h, &room, bytes + taken, next.len, next.rings, out, size, &sent, lines->at + lines->filled,
-                                lines->size - lines->filled, &off, &rung);
-            keep_scratch(s, room);
-            lines->filled += off;
-        }
-        keep(t, h);
-        taken += now, replies->filled += sent, t->bells += rung;
+        size_t now = process_part(by, bytes + taken, next, replies, lines);
+        taken += now;
         if (now < next.len) break;
     }
     return taken;
 }
 
 /* Does the same and drops the replies. It isn't inlined, so that no other call has this buffer on its stack. */
-__attribute__((noinline)) static size_t process_unanswered(vt220 *t, vt220_scratch *s, const uint8_t *bytes, size_t len, buffer *lines) {
+__attribute__((noinline)) static size_t process_unanswered(player by, const uint8_t *bytes, size_t len, buffer *lines) {
     uint8_t dropped[REPLIES];
     size_t taken = 0, now;
     do {
         buffer replies = empty(dropped, sizeof dropped);
-        now = process(t, s, bytes + taken, len - taken, &replies, lines);
+        now = process(by, bytes + taken, len - taken, &replies, lines);
         taken += now;
     } while (now > 0 && taken < len);
     return taken;
 }
 
-size_t vt220_feed(vt220 *t, const uint8_t *bytes, size_t len, uint8_t *reports, size_t size, size_t *written) {
+/* Processes input and writes the replies, or drops them if nobody wants them. */
+static size_t feed(player by, const uint8_t *bytes, size_t len, uint8_t *reports, size_t size, size_t *written, buffer *lines) {
     buffer replies = empty(reports, size);
     size_t taken = 0;
-    if (t->is_open)
-        taken = written == NULL ? process_unanswered(t, NULL, bytes, len, NULL) : process(t, NULL, bytes, len, &replies, NULL);
+    if (by.t->is_open && (by.s == NULL || by.s->is_open))
+        taken = written == NULL ? process_unanswered(by, bytes, len, lines) : process(by, bytes, len, &replies, lines);
     if (written != NULL) *written = replies.filled;
     return taken;
 }
 
+size_t vt220_feed(vt220 *t, const uint8_t *bytes, size_t len, uint8_t *reports, size_t size, size_t *written) {
+    return feed((player){t, NULL, NULL}, bytes, len, reports, size, written, NULL);
+}
+
+size_t vt220_feed_utf8(vt220 *t, vt220_utf8 *u, const uint8_t *bytes, size_t len, uint8_t *reports, size_t size, size_t *written) {
+    return feed((player){t, NULL, u}, bytes, len, reports, size, written, NULL);
+}
+
 size_t vt220_feed_log(vt220 *t, vt220_scratch *s, const uint8_t *bytes, size_t len, uint8_t *reports, size_t size, size_t *written,
                       uint8_t *lines, size_t lines_size, size_t *lines_written) {
-    buffer replies = empty(reports, size), log = empty(lines, lines_size);
-    size_t taken = 0;
-    if (t->is_open && s->is_open)
-        taken = written == NULL ? process_unanswered(t, s, bytes, len, &log) : process(t, s, bytes, len, &replies, &log);
-    if (written != NULL) *written = replies.filled;
+    buffer log = empty(lines, lines_size);
+    size_t taken = feed((player){t, s, NULL}, bytes, len, reports, size, written, &log);
     *lines_written = log.filled;
     return taken;
+}
+
+size_t vt220_feed_log_utf8(vt220 *t, vt220_scratch *s, vt220_utf8 *u, const uint8_t *bytes, size_t len, uint8_t *reports, size_t size,
+                           size_t *written, uint8_t *lines, size_t lines_size, size_t *lines_written) {
+    buffer log = empty(lines, lines_size);
+    size_t taken = feed((player){t, s, u}, bytes, len, reports, size, written, &log);
+    *lines_written = log.filled;
+    return taken;
+}
+
+uint32_t vt220_shown(uint32_t character, size_t *cells) {
+    size_t count;
+    uint32_t glyph = core_shown(character, &count);
+    if (cells != NULL) *cells = count;
+    return glyph;
 }
 
 uint64_t vt220_bells(const vt220 *t) { return t->is_open ? t->bells : 0; }

@@ -3,9 +3,14 @@
  * You feed it the bytes that a host sends, in chunks of any size. You get the replies for the host, the screen as text,
  * cells or a picture, and bytes that rebuild the whole state on another terminal of this library.
  *
- * Input. The input isn't UTF-8. Bytes 00 to 7F are ASCII and the C0 controls. Bytes 80 to 9F are the C1 controls, and A0 to FF
- * are characters of the DEC supplemental set. BEL changes only the count of vt220_bells. LEDs, printing, double-size lines and
- * sequences of later terminals have no effect. vt220-keys.h has the keyboard, which takes what vt220_modes writes.
+ * Input. vt220_feed takes the bytes of a VT220: 00 to 7F are ASCII and the C0 controls, 80 to 9F are the C1 controls, and A0 to FF
+ * are characters of the DEC supplemental set. vt220_feed_utf8 takes UTF-8 instead. BEL changes only the count of vt220_bells. LEDs,
+ * printing, double-size lines and sequences of later terminals have no effect. vt220-keys.h has the keyboard, which takes what
+ * vt220_modes writes.
+ *
+ * UTF-8. A VT220 has 204 characters. Any other character is shown as a similar one, or as U+2426 (vt220_shown). It takes as many cells
+ * as on other terminals. A character beyond ASCII causes no reply. It ends an unfinished escape or control sequence, and is content
+ * in a control string. So U+0080 to U+009F aren't controls. U+FFFD is in place of each ill-formed part (the Unicode Standard, 3.9).
  *
  * Handles. You allocate a vt220 or a vt220_scratch as a struct. All zero means closed. An open handle owns memory until you
  * close it. Only vt220_open and vt220_scratch_open allocate. Any call on a closed handle is safe, and reports it.
@@ -75,6 +80,7 @@ extern "C" {
 #define VT220_REPORT_LIMIT 10      /* the most bytes of replies for one byte of input */
 #define VT220_TEXT_LIMIT 9528      /* the most bytes of a text */
 #define VT220_ROW_TEXT_LIMIT 397   /* the most bytes of the text of a row */
+#define VT220_UTF8_LINES_LIMIT 17468 /* the most bytes of lines for one byte of UTF-8 */
 #define VT220_SHOW_LIMIT 51000     /* the most bytes of a text with attributes */
 #define VT220_PICTURE_LIMIT 659968 /* the most bytes of a picture */
 #define VT220_PAINT_LIMIT 93512    /* the most bytes of a repaint */
@@ -174,6 +180,13 @@ typedef struct vt220_row_marks {
     uint8_t reserved[12];
 } vt220_row_marks;
 
+/* What is pending of UTF-8 input: the bytes of a character that isn't complete. All zero: nothing. Any content is safe: if the
+ * bytes don't begin a character, nothing is pending. It isn't part of the terminal's state. */
+typedef struct vt220_utf8 {
+    uint8_t bytes[3]; /* the pending bytes, and zeros after them */
+    uint8_t len;      /* how many bytes are pending, 0 to 3 */
+} vt220_utf8;
+
 /* Returns the version of the library, in the form of VT220_VERSION. */
 uint32_t vt220_version(void);
 
@@ -227,6 +240,26 @@ size_t vt220_feed(vt220 *t, const uint8_t *bytes, size_t len, uint8_t *reports, 
  * Returns 0 if a handle is closed: a loop that ends when all is processed must also end on 0. */
 size_t vt220_feed_log(vt220 *t, vt220_scratch *s, const uint8_t *bytes, size_t len, uint8_t *reports, size_t size, size_t *written,
                       uint8_t *lines, size_t lines_size, size_t *lines_written);
+
+/* Processes input in UTF-8. Everything else is as in vt220_feed.
+ *   u               what is pending between chunks; the call replaces it
+ * Returns how many bytes were processed, as vt220_feed does. Returns 0 on a closed terminal, and doesn't modify *u then. What is
+ * pending at the end of the input isn't shown. */
+size_t vt220_feed_utf8(vt220 *t, vt220_utf8 *u, const uint8_t *bytes, size_t len, uint8_t *reports, size_t size, size_t *written);
+
+/* Processes input in UTF-8, and writes the lines that scroll off the top of the screen. Everything else is as in vt220_feed_log.
+ *   u               what is pending between chunks; the call replaces it
+ * Returns how many bytes were processed. If these are fewer than len, fewer than VT220_REPORT_LIMIT bytes of `reports` or fewer than
+ * VT220_UTF8_LINES_LIMIT bytes of `lines` are free. Buffers of these sizes always take at least one byte.
+ * Returns 0 if a handle is closed, and doesn't modify *u then. */
+size_t vt220_feed_log_utf8(vt220 *t, vt220_scratch *s, vt220_utf8 *u, const uint8_t *bytes, size_t len, uint8_t *reports, size_t size,
+                           size_t *written, uint8_t *lines, size_t lines_size, size_t *lines_written);
+
+/* Returns the Unicode number of the glyph with which UTF-8 input shows a character. It is the character itself if a VT220 has it.
+ * Returns 0 if the character has no cell: a control, a combining mark.
+ *   cells           receives how many cells the character takes: 0, 1 or 2; the second is a space. May be null
+ * A number that isn't a character of Unicode counts as U+FFFD. */
+uint32_t vt220_shown(uint32_t character, size_t *cells);
 
 /* Returns how often BEL was carried out since vt220_open. A BEL inside a control string isn't. Copies and resets don't change the
  * count. Returns 0 on a closed terminal. */

@@ -71,6 +71,62 @@ static size_t feed_log(vt220 *t, const uint8_t *bytes, size_t len, unsigned cut,
     return filled;
 }
 
+/* Feeds UTF-8 with its log, or without one if `lines` is null, in chunks and with buffers of different sizes. Returns how many bytes of
+ * replies came; *logged receives how many of lines. */
+static size_t feed_utf8(vt220 *t, vt220_utf8 *u, const uint8_t *bytes, size_t len, unsigned cut, uint8_t *reports, uint8_t *lines, size_t *logged) {
+    size_t at = 0, filled = 0, written, off = 0;
+    unsigned n = cut;
+    *logged = 0;
+    while (at < len) {
+        n = n * 1103515245u + 12345;
+        size_t part = cut == 0 ? len - at : 1 + (n >> 16) % (cut + 1);
+        size_t size = VT220_REPORT_LIMIT + (n >> 20) % 400, lines_size = VT220_UTF8_LINES_LIMIT + (n >> 22) % 1000;
+        if (part > len - at) part = len - at;
+        uint8_t *chunk = (uint8_t *)malloc(part), *room = (uint8_t *)malloc(size), *lines_room = (uint8_t *)malloc(lines_size);
+        if (chunk == NULL || room == NULL || lines_room == NULL) abort();
+        memcpy(chunk, bytes + at, part);
+        size_t taken = lines == NULL ? vt220_feed_utf8(t, u, chunk, part, room, size, &written)
+                                     : vt220_feed_log_utf8(t, &s, u, chunk, part, room, size, &written, lines_room, lines_size, &off);
+        MUST(taken >= 1 && taken <= part && written <= VT220_REPORT_LIMIT * taken && written <= size && off <= lines_size && u->len <= 3);
+        MUST(taken == part || size - written < VT220_REPORT_LIMIT || (lines != NULL && lines_size - off < VT220_UTF8_LINES_LIMIT));
+        memcpy(reports + filled, room, written);
+        if (lines != NULL) memcpy(lines + *logged, lines_room, off);
+        at += taken, filled += written, *logged += off;
+        free(chunk), free(room), free(lines_room);
+    }
+    return filled;
+}
+
+static bool same_pending(const vt220_utf8 *u, const vt220_utf8 *v) { return u->len == v->len && memcmp(u->bytes, v->bytes, sizeof u->bytes) == 0; }
+
+/* However UTF-8 is cut, state, replies, lines, bells and what is pending are the same, and ASCII is as for vt220_feed. Any bytes may be
+ * in the struct before. `b` and `c` are left in any state. */
+static void look_at_utf8(const uint8_t *bytes, size_t len, unsigned cut) {
+    static uint8_t lines_b[2 * VT220_ROW_TEXT_LIMIT * LONGEST], lines_c[2 * VT220_ROW_TEXT_LIMIT * LONGEST];
+    vt220_utf8 before = {{0}, 0}, u, v;
+    size_t logged_b, logged_c, all;
+    bool is_ascii = true;
+    for (size_t i = 0; i < len; i++) is_ascii = is_ascii && bytes[i] < 0x80;
+    memcpy(&before, bytes, len < sizeof before ? len : sizeof before);
+    u = before, v = before;
+    MUST(vt220_reset(&b) == VT220_OK && vt220_reset(&c) == VT220_OK);
+    uint64_t bells_b = vt220_bells(&b), bells_c = vt220_bells(&c);
+    all = feed_utf8(&b, &u, bytes, len, 0, reports_a, lines_b, &logged_b);
+    MUST(feed_utf8(&c, &v, bytes, len, cut, reports_b, lines_c, &logged_c) == all && memcmp(reports_a, reports_b, all) == 0);
+    MUST(logged_b == logged_c && memcmp(lines_b, lines_c, logged_b) == 0 && vt220_same_state(&b, &c) && same_pending(&u, &v));
+    MUST(vt220_bells(&b) - bells_b == vt220_bells(&c) - bells_c);
+    bells_b = vt220_bells(&b) - bells_b, bells_c = vt220_bells(&c);
+    v = before;
+    MUST(vt220_reset(&c) == VT220_OK);
+    MUST(feed_utf8(&c, &v, bytes, len, cut, reports_b, NULL, &logged_c) == all && memcmp(reports_a, reports_b, all) == 0);
+    MUST(vt220_same_state(&b, &c) && same_pending(&u, &v) && vt220_bells(&c) - bells_c == bells_b);
+    if (!is_ascii) return;
+    bells_c = vt220_bells(&c), v = (vt220_utf8){{0}, 0};
+    MUST(vt220_reset(&b) == VT220_OK && vt220_reset(&c) == VT220_OK);
+    MUST(vt220_feed_utf8(&b, &v, bytes, len, NULL, 0, NULL) == len && vt220_feed(&c, bytes, len, NULL, 0, NULL) == len);
+    MUST(vt220_same_state(&b, &c) && v.len == 0);
+}
+
 /* Feeds byte by byte, and counts the bells by the rule of vt220_bells: a BEL rings if it isn't inside a control string. */
 static uint64_t count_bells(vt220 *t, const uint8_t *bytes, size_t len) {
     uint64_t count = 0;
@@ -235,6 +291,7 @@ int LLVMFuzzerTestOneInput(const uint8_t *data, size_t len) {
     MUST(vt220_same_state(&c, &a) && vt220_same_state(&b, &a));
     look(&a);
     look_at_text(&a);
+    look_at_utf8(bytes, len, cut);
     size_t shown;
     free(exactly(vt220_show, &a, VT220_SHOW_LIMIT, &shown));
     if (cut % 16 == 0) free(exactly(vt220_picture, &a, VT220_PICTURE_LIMIT, &shown));

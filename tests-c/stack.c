@@ -43,6 +43,16 @@ static void *logs(void *unused) {
     return unused;
 }
 
+static void *feeds_utf8(void *unused) {
+    static uint8_t lines[100000];
+    static vt220_utf8 u;
+    size_t lines_written;
+    vt220_feed_utf8(&b, &u, input, sizeof input, NULL, 0, NULL);
+    for (size_t at = 0; at < sizeof input;)
+        at += vt220_feed_log_utf8(&b, &s, &u, input + at, sizeof input - at, NULL, 0, NULL, lines, sizeof lines, &lines_written);
+    return unused;
+}
+
 static void *writes(void *unused) {
     vt220_text(&b, &s, out, sizeof out, &written);
     vt220_row_text(&b, &s, 1, out, sizeof out, &written);
@@ -128,6 +138,7 @@ int main(void) {
     measure("feed", feeds, LIMIT, empty);
     /* First the deepest of them, since a first call may also look for functions of the C library, on the same stack. */
     measure("feed without replies", drops, LIMIT, empty);
+    measure("feed in UTF-8", feeds_utf8, LIMIT, empty);
     measure("feed with a log", logs, LIMIT, empty);
     /* Updates of all kinds: nothing differs, little, much, the width. */
     static const char *const states[] = {"\030", "a", "\033[5;5H\033[1mb\033[24H\n\n", "\033#8", "\033[?3h", "\033[2J\033[3;20rx\033[?6h", "\033[3g"};

@@ -4,7 +4,8 @@
 #include "../c/vt220.c"
 
 static handle t, u, s;
-static uint8_t out[VT220_PICTURE_LIMIT], lines[VT220_ROW_TEXT_LIMIT];
+static uint8_t out[VT220_PICTURE_LIMIT], lines[VT220_UTF8_LINES_LIMIT];
+static vt220_utf8 pending;
 static size_t written, logged, rung;
 
 #define STAYS(call)                                                       \
@@ -67,6 +68,8 @@ int main(void) {
         reading();
         writing(sizeof out);
         STAYS(core_feed_log(&u, &s, bytes, len, true, out, sizeof out, &written, lines, sizeof lines, &logged, &rung));
+        STAYS(core_feed_utf8(&t, &pending, (const uint8_t *)"\xC3\xA9\xE2", 3, true, out, sizeof out, &written, &rung));
+        STAYS(core_feed_log_utf8(&u, &s, &pending, bytes, len, true, out, sizeof out, &written, lines, sizeof lines, &logged, &rung));
         STAYS(core_copy(&u, &t));
         STAYS(core_reset(&u));
     }

@@ -21,11 +21,11 @@ module _ (law : SplitLaw) where
       ∙ sum_by-append (λ (event : Event). cond (is_control 7 event) 1 0) (events_from held first)
       (events_from (held_from held first) second)
 
-  bells-nil : (held : Held) → IsHeldPart held → bells held [] ≡ 0
+  pub bells-nil : (held : Held) → IsHeldPart held → bells held [] ≡ 0
   bells-nil held is = ap (λ (events : List Event). count_by (is_control 7) events) (law.events_nil held is)
 
   -- bytes of which none is a BEL
-  quiet : ControlLaw → (n : ℕ) (held : Held) (bytes : List ℕ) → IsHeldPart held
+  pub quiet : ControlLaw → (n : ℕ) (held : Held) (bytes : List ℕ) → IsHeldPart held
       → ((i : ℕ) → i < n → get_or bytes i 0 ≢ 7) → bells held (take n bytes) ≡ 0
   quiet controls zero held bytes is none = bells-nil held is
   quiet controls (suc n) held [] is none = bells-nil held is

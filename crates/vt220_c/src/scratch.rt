@@ -6,13 +6,17 @@ ghost use Rattle.vt_term.specs.Play.{play};
 ghost use Rattle.vt_log.specs.Log.{log};
 ghost use Rattle.vt_paint.specs.Changes.{differing};
 ghost use Rattle.vt_paint.specs.Spoken.{Speaks};
+ghost use Rattle.vt_utf8.specs.Decoding.{pending_after};
+ghost use Rattle.vt_utf8.specs.Play.{translated};
 ghost use Rattle.vt220_c.specs.Bells.{bells};
+ghost use Rattle.vt220_c.specs.Feeding.{Feeds};
 ghost use Rattle.vt220_c.specs.Forms.{written_as, CanBe};
 ghost use Rattle.vt220_c.specs.Written.{written_over, IsRepaint, UpdatedOver};
 
 use crate::bytes::{Copied, copy_out};
 use crate::form::Form;
 use crate::inner::{CHUNK, Inner, Logged};
+use crate::translating::{UTF8_LINES_LIMIT, feed_utf8};
 use std::alloc::{AllocError, Global};
 use std::marker::Model;
 use vt_log::LINE_LIMIT;
@@ -20,6 +24,7 @@ use vt_paint::repaint_reserved;
 use vt_picture::{PICTURE_LIMIT, picture_reserved, show_reserved};
 use vt_term::{REPORT_LIMIT, Terminal};
 use vt_update::{UPDATE_LIMIT, update_reserved};
+use vt_utf8::Decoder;
 
 const _: () = prove!(LINE_LIMIT * CHUNK <= PICTURE_LIMIT);
 
@@ -90,6 +95,35 @@ impl Scratch {
         ensures bells { counts ≡ true → result.bells ≡ bells inner.old.held (take result.taken piece.now) }
     {
         inner.feed_log(piece, counts, out, lines, &mut self.room)
+    }
+
+    /// Plays UTF-8 on a terminal with its log, as `translating::feed_utf8` does.
+    pub(crate) fn feed_utf8(
+        &mut self,
+        inner: &mut Inner,
+        decoder: &mut Decoder,
+        piece: &[u8],
+        counts: bool,
+        out: &mut [u8],
+        lines: &mut [u8],
+    ) -> Logged
+        ensures within { result.taken ≤ length piece.now }
+        ensures fed { Feeds true counts inner.old (translated inner.old decoder.old (take result.taken piece.now)) inner.new
+            out.old 0 out.new lines.old 0 lines.new result.written result.lines_written result.bells }
+        ensures pending { decoder.new ≡ pending_after decoder.old (take result.taken piece.now) }
+        ensures all { (result.taken ≡ length piece.now) ⊎ (length out.old < result.written + REPORT_LIMIT)
+            ⊎ (length lines.old < result.lines_written + UTF8_LINES_LIMIT) }
+    {
+        feed_utf8(
+            inner,
+            decoder,
+            piece,
+            counts,
+            true,
+            out,
+            lines,
+            &mut self.room,
+        )
     }
 
     /// Writes an update into the front of `out`, if it fits. `shown` is then in the state of `to`, otherwise unchanged.

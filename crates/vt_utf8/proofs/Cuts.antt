@@ -1,5 +1,5 @@
 -- UTF-8 may be cut anywhere, and ASCII is played as it is.
-use Rattle.std.proofs.Common.{◌≡◌, ℕ, suc, ◌<◌, true, List, [], ◌∷◌, ◌++◌, All, refl, sym, ap, ◌∙◌, arith, append_assoc}
+use Rattle.std.proofs.Common.{◌≡◌, ℕ, suc, ◌<◌, true, List, [], ◌∷◌, ◌++◌, All, refl, sym, ap, ◌∙◌, arith, append_assoc, append-nil}
 use Rattle.std.specs.Prelude.{nat_lt}
 use Rattle.std.proofs.lemmas.Bool.Decides.{nat_tests}
 use Rattle.vt_term.specs.State.{State}
@@ -43,6 +43,21 @@ module _ (none : (s : State) → IsSound s → play s [] ≡ record { state = s;
       ∙ sym (append_assoc own (translated_all t xs) (translated_all (play t (translated_all t xs)).state ys))
       ∙ ap (λ (u : State). (own ++ translated_all t xs) ++ translated_all u ys)
       (sym (state-append s own (translated_all t xs)))
+
+  pub translated-parts : (s : State) (pending a b : List ℕ) → IsSound s → translated s pending (a ++ b)
+      ≡ translated s pending a ++ translated (play_utf8 s pending a).state (pending_after pending a) b
+  unfolding play_utf8 translated
+  translated-parts s pending a b sound =
+      ap (λ (cs : List ℕ). translated_all s cs) (characters-append pending a b)
+      ∙ translated-append s (characters pending a) (characters (pending_after pending a) b) sound
+
+  pub translated-byte : (s : State) (pending : List ℕ) (b : ℕ) (xs ys : List ℕ) → IsSound s
+      → xs ++ ys ≡ (read pending b).characters
+      → translated s pending (b ∷ []) ≡ translated_all s xs ++ translated_all (play s (translated_all s xs)).state ys
+  unfolding translated
+  translated-byte s pending b xs ys sound are =
+      ap (λ (cs : List ℕ). translated_all s cs) (append-nil (read pending b).characters ∙ sym are)
+      ∙ translated-append s xs ys sound
 
   pub utf8-nothing : (s : State) (pending : List ℕ) → IsSound s
       → play_utf8 s pending [] ≡ record { state = s; reports = [] }

@@ -2,6 +2,7 @@ mod Tables
 mod Reading
 mod Cuts
 mod Silence
+mod Plain
 mod Fed
 mod Themselves
 mod Written

@@ -1,11 +1,11 @@
 -- A byte after what is pending.
-use Rattle.std.proofs.Common.{◌≡◌, ◌≢◌, ℕ, ◌<◌, ◌≤◌, Bool, true, false, List, [], ◌∷◌, ◌++◌, length, Some, None, refl, sym, ap, ◌∙◌}
+use Rattle.std.proofs.Common.{◌≡◌, ◌≢◌, ℕ, ◌<◌, ◌≤◌, Bool, true, false, List, [], ◌∷◌, ◌++◌, length, Some, None, refl, sym, ◌∙◌}
 use Rattle.std.proofs.Common.{arith, eq-eqb}
-use Rattle.std.specs.Prelude.{◌==◌, nat_lt, slice_index, not, if◌then◌else◌}
+use Rattle.std.specs.Prelude.{◌==◌, nat_lt, slice_index}
 use Rattle.std.proofs.lemmas.Bool.{and_parts}
 use Rattle.std.proofs.lemmas.Bool.Decides.{nat_tests}
 use Rattle.bstr.specs.Utf8.{decoded, lead_len, replacement}
-use Rattle.vt_utf8.specs.Decoding.{is_begun, given_up, read, read_first, read_apart}
+use Rattle.vt_utf8.specs.Decoding.{is_begun, pending_of, given_up, read, read_first, read_apart}
 
 module _ (bytes : List ℕ) (size : ℕ) (is : size ≡ (decoded bytes).size) where
   pub whole-begun : (lead : ℕ) → size ≡ length bytes → lead ≡ lead_len (slice_index bytes 0)
@@ -35,17 +35,39 @@ begun-few bytes h =
     let less : length bytes < lead_len (slice_index bytes 0) = grind (arith, nat_tests) in
     omega (arith, less, few)
 
+-- bytes are pending if they are a beginning
+pub pending-begun : (bytes : List ℕ) → 1 ≤ length bytes → is_begun bytes ≡ true → bytes ≡ pending_of bytes
+pending-begun [] some h = absurd (omega (arith, some))
+pending-begun (b ∷ bytes) some h = rw h refl
+
+pub pending-other : (bytes : List ℕ) → is_begun bytes ≡ false → [] ≡ pending_of bytes
+pending-other [] h = refl
+pending-other (b ∷ bytes) h = rw h refl
+
+pub pending-none : (bytes : List ℕ) → length bytes ≡ 0 → [] ≡ pending_of bytes
+pending-none [] h = refl
+pending-none (b ∷ bytes) h = absurd (omega (arith, h))
+
+pub pending-long : (bytes : List ℕ) → 3 < length bytes → [] ≡ pending_of bytes
+pending-long bytes long = by (is_begun bytes) refl
+  where
+    by : (b : Bool) → is_begun bytes ≡ b → [] ≡ pending_of bytes
+    by true h = let few = begun-few bytes h in absurd (omega (arith, few, long))
+    by false h = pending-other bytes h
+
 -- U+FFFD for what was pending
-lost : (pending : List ℕ) → (if not (length pending == 0) then replacement ∷ [] else []) ≡ given_up pending
-lost [] = refl
-lost (b ∷ pending) =
-    let some : (length (b ∷ pending) == 0) ≡ false = grind (arith, nat_tests) in
-    rw some refl
+pub lost-none : (pending : List ℕ) → (length pending == 0) ≡ true → [] ≡ given_up pending
+lost-none [] h = refl
+lost-none (b ∷ pending) h = absurd (grind (arith, nat_tests))
+
+pub lost-some : (pending : List ℕ) → (length pending == 0) ≡ false → replacement ∷ [] ≡ given_up pending
+lost-some [] h = absurd (grind (arith, nat_tests))
+lost-some (b ∷ pending) h = refl
 
 -- the byte is apart from what was pending
 pub record IsReadApart (pending : List ℕ) (b : ℕ) : Type 0 where
-  pub told : (none : Bool) → none ≡ (length pending == 0) → (first : List ℕ) → first ≡ (read_first b).characters
-      → (if not none then replacement ∷ [] else []) ++ first ≡ (read pending b).characters
+  pub told : (lost first : List ℕ) → lost ≡ given_up pending → first ≡ (read_first b).characters
+      → lost ++ first ≡ (read pending b).characters
   pub left : (first : List ℕ) → first ≡ (read_first b).pending → first ≡ (read pending b).pending
 
 module _ (pending : List ℕ) (b : ℕ) (all : List ℕ) (are : all ≡ pending ++ b ∷ []) where
@@ -71,6 +93,6 @@ module _ (pending : List ℕ) (b : ℕ) (all : List ℕ) (are : all ≡ pending 
   pub when-other : is_begun all ≡ false → (decoded all).char ≡ None → IsReadApart pending b
   when-other h none =
       let apart = when-apart h none in record {
-        told = λ empty is first are. rw (apart, is, are) (ap (λ (t : List ℕ). t ++ (read_first b).characters) (lost pending));
+        told = λ lost first is are. rw (apart, is, are) refl;
         left = λ first are. rw apart are;
       }

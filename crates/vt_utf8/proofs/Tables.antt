@@ -5,9 +5,9 @@ use Rattle.std.proofs.Math.ListN.{get_or-map}
 use Rattle.std.proofs.lemmas.Bool.Decides.{nat_tests}
 use Rattle.vt_glyph.specs.Tables.{glyph_of, substitute_glyph}
 use Rattle.vt_glyph.specs.Spell.{spelling_of}
-use Rattle.vt_glyph.specs.Encoding.{encoded_spelling}
+use Rattle.vt_glyph.specs.Encoding.{encoded_spelling, encoded_glyph}
 use Rattle.vt_utf8.specs.Similar.{latin, lines, letters, signs, shown, in_rows, in_chart, ascii_of_fullwidth}
-use Rattle.vt_utf8.specs.Private.Codes.{code_by}
+use Rattle.vt_utf8.specs.Private.Codes.{code_by, is_code}
 use Rattle.vt_utf8.specs.declared.similar.TheConstants.{SUBSTITUTE, LATIN, LINES, LETTERS, SIGNS}
 
 -- a row with its entry changed
@@ -84,3 +84,78 @@ code_by-shown c =
     (λ _. either encoded_spelling spelling_of (nat_le 0xFF01 c && nat_le c 0xFF5E) _ _ _ _
     (λ is. fullwidth (ascii_of_fullwidth c) (grind (arith, nat_tests)) (grind (arith, nat_tests)))
     (λ _. substitute)))))
+
+-- ---- the glyphs of the codes
+
+substitute-glyph : encoded_glyph SUBSTITUTE ≡ substitute_glyph
+unfolding encoded_glyph glyph_of
+substitute-glyph = refl
+
+latin-glyph : map encoded_glyph LATIN ≡ map (λ n. n) latin
+unfolding encoded_glyph glyph_of latin
+latin-glyph = refl
+
+lines-glyph : map encoded_glyph LINES ≡ map (λ n. n) lines
+unfolding encoded_glyph glyph_of lines
+lines-glyph = refl
+
+letters-glyph : map (on_row encoded_glyph) LETTERS ≡ map (on_row (λ n. n)) letters
+unfolding encoded_glyph glyph_of letters
+letters-glyph = refl
+
+signs-glyph : map (on_row encoded_glyph) SIGNS ≡ map (on_row (λ n. n)) signs
+unfolding encoded_glyph glyph_of signs
+signs-glyph = refl
+
+fullwidth-glyph : (n : ℕ) → 0x20 ≤ n → n ≤ 0x7E → encoded_glyph n ≡ n
+unfolding encoded_glyph glyph_of
+fullwidth-glyph n low high = grind (arith, nat_tests)
+
+pub code_by-glyph : (c : ℕ) → encoded_glyph (code_by c) ≡ shown c
+unfolding shown
+code_by-glyph c =
+    either encoded_glyph (λ n. n) (nat_lt c 0x180) _ _ _ _
+    (λ _. chart encoded_glyph (λ n. n) SUBSTITUTE substitute_glyph LATIN latin 0xA0 c substitute-glyph latin-glyph)
+    (λ _. either encoded_glyph (λ n. n) (nat_lt c 0x2000) _ _ _ _
+    (λ _. rows encoded_glyph (λ n. n) SUBSTITUTE substitute_glyph LETTERS letters c substitute-glyph letters-glyph)
+    (λ _. either encoded_glyph (λ n. n) (nat_le 0x2500 c && nat_le c 0x257F) _ _ _ _
+    (λ _. chart encoded_glyph (λ n. n) SUBSTITUTE substitute_glyph LINES lines 0x2500 c substitute-glyph lines-glyph)
+    (λ _. either encoded_glyph (λ n. n) (nat_lt c 0x3100) _ _ _ _
+    (λ _. rows encoded_glyph (λ n. n) SUBSTITUTE substitute_glyph SIGNS signs c substitute-glyph signs-glyph)
+    (λ _. either encoded_glyph (λ n. n) (nat_le 0xFF01 c && nat_le c 0xFF5E) _ _ _ _
+    (λ is. fullwidth-glyph (ascii_of_fullwidth c) (grind (arith, nat_tests)) (grind (arith, nat_tests)))
+    (λ _. substitute-glyph)))))
+
+-- each code is the code of a glyph: the test, as a function to true
+latin-codes : map is_code LATIN ≡ map (λ n. true) latin
+unfolding latin
+latin-codes = refl
+
+lines-codes : map is_code LINES ≡ map (λ n. true) lines
+unfolding lines
+lines-codes = refl
+
+letters-codes : map (on_row is_code) LETTERS ≡ map (on_row (λ n. true)) letters
+unfolding letters
+letters-codes = refl
+
+signs-codes : map (on_row is_code) SIGNS ≡ map (on_row (λ n. true)) signs
+unfolding signs
+signs-codes = refl
+
+fullwidth-code : (n : ℕ) → 0x20 ≤ n → n ≤ 0x7E → is_code n ≡ true
+fullwidth-code n low high = grind (arith, nat_tests)
+
+pub code_by-code : (c : ℕ) → is_code (code_by c) ≡ true
+code_by-code c =
+    either is_code (λ n. true) (nat_lt c 0x180) _ 0 _ 0
+    (λ _. chart is_code (λ n. true) SUBSTITUTE substitute_glyph LATIN latin 0xA0 c refl latin-codes)
+    (λ _. either is_code (λ n. true) (nat_lt c 0x2000) _ 0 _ 0
+    (λ _. rows is_code (λ n. true) SUBSTITUTE substitute_glyph LETTERS letters c refl letters-codes)
+    (λ _. either is_code (λ n. true) (nat_le 0x2500 c && nat_le c 0x257F) _ 0 _ 0
+    (λ _. chart is_code (λ n. true) SUBSTITUTE substitute_glyph LINES lines 0x2500 c refl lines-codes)
+    (λ _. either is_code (λ n. true) (nat_lt c 0x3100) _ 0 _ 0
+    (λ _. rows is_code (λ n. true) SUBSTITUTE substitute_glyph SIGNS signs c refl signs-codes)
+    (λ _. either is_code (λ n. true) (nat_le 0xFF01 c && nat_le c 0xFF5E) _ 0 _ 0
+    (λ is. fullwidth-code (ascii_of_fullwidth c) (grind (arith, nat_tests)) (grind (arith, nat_tests)))
+    (λ _. refl)))))

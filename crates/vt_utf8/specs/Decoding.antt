@@ -8,6 +8,11 @@ use Rattle.bstr.specs.Utf8.{decoded, lead_len, replacement, or_replacement}
 unfoldable pub is_begun : List ℕ → Bool
 is_begun bytes = (decoded bytes).size == length bytes && nat_lt (length bytes) (lead_len (slice_index bytes 0))
 
+-- the pending part that bytes are, if they are one
+abbrev pub pending_of : List ℕ → List ℕ
+pending_of [] = []
+pending_of (b ∷ bytes) = if is_begun (b ∷ bytes) then b ∷ bytes else []
+
 -- characters, and the pending part after them
 pub record Read : Type 0 where
   pub characters : List ℕ

@@ -1,6 +1,7 @@
 pub mod Decoding
 pub mod Similar
 pub mod Cells
+pub mod Showing
 pub mod Translation
 pub mod Play
 pub mod Private

@@ -1,6 +1,6 @@
 -- What a character is in the terminal's bytes, in a state. (EK-VT220-RM: SCS, the single shifts, NEL, DECAWM; ECMA-48: ST.
 -- The choice of bytes is this profile's.)
-use Rattle.std.specs.Prelude.{ℕ, List, [], ◌∷◌, ◌++◌, None, Bool, not, ◌==◌, ◌&&◌, nat_lt, is_none, if◌then◌else◌}
+use Rattle.std.specs.Prelude.{◌≡◌, ◌≤◌, ◌⊎◌, ℕ, List, [], ◌∷◌, ◌++◌, None, Bool, not, ◌==◌, ◌&&◌, nat_lt, is_none, if◌then◌else◌}
 use Rattle.vt_syntax.specs.declared.held.Held.{Held}
 use Rattle.vt_syntax.specs.declared.held.Held.TheVariants.{Nothing, Text}
 use Rattle.vt_glyph.specs.declared.set.Set.{Set}
@@ -91,6 +91,10 @@ unfoldable pub translation : State → ℕ → List ℕ
 translation s c = if nat_lt c 0x80 then c ∷ [] else beyond_ascii s.held (put c s.display)
 
 -- ---- for laws
+
+-- ESC, or an ASCII byte with a glyph
+abbrev pub IsPlain : ℕ → Type 0
+IsPlain b = (b ≡ 0x1B) ⊎ ((0x20 ≤ b) × (b ≤ 0x7E))
 
 -- no single shift is pending
 abbrev pub unshifted : Display → Display

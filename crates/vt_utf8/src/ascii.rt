@@ -43,10 +43,10 @@ fn end_of(piece: &[u8]) -> usize
     end_of_slowly(piece, at)
 }
 
-/// Returns how many bytes at the front of a piece are ASCII.
+/// Returns how many bytes at the front of a chunk are ASCII.
 #[inline(always)]
 #[tactic(auto, using(crate::proofs::Lanes::run_tests))]
-pub(crate) fn ascii_run(piece: &[u8]) -> usize
+pub fn ascii_run(piece: &[u8]) -> usize
     ensures within { result ≤ length piece.now }
     ensures ascii { All (λ b. b < 0x80) (take result piece.now) }
 {

@@ -1,8 +1,8 @@
 //! Decoding: from bytes, one at a time, to characters.
-ghost use Rattle.std.specs.Prelude.{◌≡◌, ◌≤◌, ◌++◌, [], ◌∷◌, ◌==◌, length, if◌then◌else◌};
+ghost use Rattle.std.specs.Prelude.{◌≡◌, ◌≤◌, ◌++◌, [], ◌∷◌, ◌==◌, length, IfSome};
 ghost use Rattle.std.specs.Option.{option_to_list};
 ghost use Rattle.bstr.specs.Utf8.{decoded, lead_len, replacement};
-ghost use Rattle.vt_utf8.specs.Decoding.{is_begun, given_up, read, read_first};
+ghost use Rattle.vt_utf8.specs.Decoding.{is_begun, pending_of, given_up, read, read_first};
 
 use arrayvec::ArrayVec;
 use bstr::decode_utf8 as decode;
@@ -64,6 +64,26 @@ impl Decoder {
         }
     }
 
+    /// Returns a decoder with these bytes pending, if they begin a character that more bytes have to complete. Otherwise
+    /// nothing is pending.
+    pub fn of(bytes: &[u8]) -> Decoder
+        ensures { result ≡ pending_of bytes.now }
+    {
+        if bytes.is_empty() {
+            return Decoder::new();
+        }
+        if bytes.len() > 3 {
+            return Decoder::new();
+        }
+        let (_, size) = decode(bytes);
+        if !is_begun(bytes, size) {
+            return Decoder::new();
+        }
+        let mut pending = ArrayVec::new();
+        let _ = pending.try_extend_from_slice(bytes);
+        Decoder { pending }
+    }
+
     /// Returns the pending bytes: at most three.
     pub fn pending(&self) -> &[u8]
         ensures value { result.now ≡ self.now }
@@ -78,6 +98,19 @@ impl Decoder {
         ensures { result ≡ (length self.now == 0) }
     {
         self.pending.is_empty()
+    }
+
+    /// Returns U+FFFD if anything is pending.
+    #[inline(always)]
+    fn given_up(&self) -> Option<char>
+        ensures value { option_to_list result ≡ given_up self.now }
+        ensures lost { IfSome result (λ c. c ≡ replacement) }
+    {
+        if self.is_empty() {
+            None
+        } else {
+            Some('\u{FFFD}')
+        }
     }
 
     /// Reads a byte if nothing is pending, and returns the character that it is, if it is one. U+FFFD is in place of an
@@ -96,22 +129,23 @@ impl Decoder {
         Some(found.unwrap_or('\u{FFFD}'))
     }
 
-    /// Reads a byte. Returns whether what was pending is ill-formed, and the character that the byte completes, if it
+    /// Reads a byte. Returns U+FFFD if what was pending is ill-formed, and the character that the byte completes, if it
     /// completes one. U+FFFD is in place of an ill-formed byte.
-    pub(crate) fn push(&mut self, b: u8) -> (bool, Option<char>)
-        ensures characters { (if result.0 then replacement ∷ [] else []) ++ option_to_list result.1 ≡ (read self.old b).characters }
+    pub fn push(&mut self, b: u8) -> (Option<char>, Option<char>)
+        ensures characters { option_to_list result.0 ++ option_to_list result.1 ≡ (read self.old b).characters }
+        ensures lost { IfSome result.0 (λ c. c ≡ replacement) }
         ensures pending { self.new ≡ (read self.old b).pending }
     {
-        let was_pending = !self.pending.is_empty();
+        let lost = self.given_up();
         self.pending.push(b);
         let (found, size) = decode(self.pending.as_slice());
         if is_begun(self.pending.as_slice(), size) {
-            return (false, None);
+            return (None, None);
         }
         self.pending.clear();
         match found {
-            Some(c) => (false, Some(c)),
-            None => (was_pending, self.push_first(b)),
+            Some(c) => (None, Some(c)),
+            None => (lost, self.push_first(b)),
         }
     }
 }

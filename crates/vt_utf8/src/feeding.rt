@@ -1,7 +1,6 @@
 //! Feeding: UTF-8 changes a terminal's state, and gives report bytes.
 ghost use Rattle.std.specs.Prelude.{◌≡◌, ◌<◌, ◌+◌, ◌*◌, ◌≤◌, ◌++◌, [], ◌∷◌, ℕ, List, All, length, take, drop};
-ghost use Rattle.std.specs.Prelude.{vec_len, vec_capacity, OnOk, OnErr, IsOk};
-ghost use Rattle.std.specs.Prelude.{if◌then◌else◌};
+ghost use Rattle.std.specs.Prelude.{vec_len, vec_capacity, OnOk, OnErr, IsOk, IfSome};
 ghost use Rattle.std.specs.Option.{option_to_list};
 ghost use Rattle.bstr.specs.Utf8.{replacement};
 ghost use Rattle.vt_term.specs.Play.{play};
@@ -126,26 +125,25 @@ fn feed_byte(terminal: &mut Terminal, decoder: &mut Decoder, b: u8, out: &mut Ve
     let _ = terminal.width();
     played_cuts();
     played_soundness();
-    let (is_lost, character) = decoder.push(b);
-    feed_lost(terminal, is_lost, out);
+    let (lost, character) = decoder.push(b);
+    feed_lost(terminal, lost, out);
     feed_completed(terminal, character, out);
 }
 
 /// Plays U+FFFD if what was pending is ill-formed.
 #[inline(always)]
-fn feed_lost(terminal: &mut Terminal, is_lost: bool, out: &mut Vec<u8>)
-    requires { vec_len out.old + 10 ≤ vec_capacity out.old }
-    ensures state { terminal.new ≡ (play terminal.old (translated_all terminal.old
-        (if is_lost then replacement ∷ [] else []))).state }
-    ensures silent { (play terminal.old (translated_all terminal.old
-        (if is_lost then replacement ∷ [] else []))).reports ≡ [] }
+fn feed_lost(terminal: &mut Terminal, lost: Option<char>, out: &mut Vec<u8>)
+    requires lost { IfSome lost (λ c. c ≡ replacement) }
+    requires room { vec_len out.old + 10 ≤ vec_capacity out.old }
+    ensures state { terminal.new ≡ (play terminal.old (translated_all terminal.old (option_to_list lost))).state }
+    ensures silent { (play terminal.old (translated_all terminal.old (option_to_list lost))).reports ≡ [] }
     ensures out { out.new.items ≡ out.old.items }
     ensures capacity { vec_capacity out.old ≤ vec_capacity out.new }
 {
     let _ = terminal.width();
     played_cuts();
-    if is_lost {
-        feed_beyond_ascii(terminal, '\u{FFFD}', out);
+    if let Some(c) = lost {
+        feed_beyond_ascii(terminal, c, out);
     }
 }
 

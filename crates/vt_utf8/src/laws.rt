@@ -1,5 +1,5 @@
 //! Laws over the definitions alone. A caller cites a law by a call of its function.
-ghost use Rattle.std.specs.Prelude.{◌≡◌, ◌<◌, ◌≤◌, ℕ, List, [], ◌++◌, All};
+ghost use Rattle.std.specs.Prelude.{◌≡◌, ◌<◌, ◌≤◌, ℕ, List, [], ◌∷◌, ◌++◌, All};
 ghost use Rattle.vt_term.specs.State.{State};
 ghost use Rattle.vt_term.specs.Sound.{IsSound};
 ghost use Rattle.vt_term.specs.Play.{play, both, joined};
@@ -8,9 +8,9 @@ ghost use Rattle.vt_utf8.specs.Similar.{shown};
 ghost use Rattle.vt_syntax.specs.declared.held.Held.TheVariants.{Nothing};
 ghost use Rattle.vt_term.specs.Writing.{write_glyph};
 ghost use Rattle.vt_utf8.specs.Cells.{cells};
-ghost use Rattle.vt_utf8.specs.Translation.{written, unshifted, translation};
-ghost use Rattle.vt_utf8.specs.Decoding.{pending_after};
-ghost use Rattle.vt_utf8.specs.Play.{translated, play_utf8, play_utf8_all};
+ghost use Rattle.vt_utf8.specs.Translation.{written, unshifted, translation, IsPlain};
+ghost use Rattle.vt_utf8.specs.Decoding.{read, pending_after};
+ghost use Rattle.vt_utf8.specs.Play.{translated_all, translated, play_utf8, play_utf8_all};
 
 use vt_glyph::laws::{glyphs as all_glyphs, spelling};
 use vt_syntax::laws::spelled;
@@ -32,11 +32,35 @@ pub fn cuts()
         ≡ both (play_utf8 s pending a) (play_utf8 (play_utf8 s pending a).state (pending_after pending a) b) }
     ensures pending { (pending a b : List ℕ)
         → pending_after pending (a ++ b) ≡ pending_after (pending_after pending a) b }
+    ensures translated { (s : State) (pending a b : List ℕ) → IsSound s → translated s pending (a ++ b)
+        ≡ translated s pending a ++ translated (play_utf8 s pending a).state (pending_after pending a) b }
     ensures all { (s : State) (pending : List ℕ) (pieces : List (List ℕ)) → IsSound s
         → play_utf8_all s pending pieces ≡ play_utf8 s pending (joined pieces) }
 {
     played_cuts();
     played_soundness();
+}
+
+/// States what a byte is translated to: the bytes of the characters that it completes, each in the state that those before
+/// it leave. Those characters may be given in two parts, as `Decoder::push` does.
+pub fn one_byte()
+    ensures { (s : State) (pending : List ℕ) (b : ℕ) (xs ys : List ℕ) → IsSound s → xs ++ ys ≡ (read pending b).characters
+        → translated s pending (b ∷ [])
+        ≡ translated_all s xs ++ translated_all (play s (translated_all s xs)).state ys }
+{
+    played_cuts();
+    played_soundness();
+}
+
+/// States that a character beyond ASCII causes no report, in any state, and that its bytes are ESC and ASCII with a glyph.
+pub fn silence()
+    ensures silent { (s : State) (c : ℕ) → IsSound s → 0x80 ≤ c → (play s (translation s c)).reports ≡ [] }
+    ensures plain { (s : State) (c : ℕ) → 0x80 ≤ c → All IsPlain (translation s c) }
+{
+    played_cuts();
+    spelled();
+    all_glyphs();
+    spelling();
 }
 
 /// States that ASCII with nothing pending is played as today, and leaves nothing pending. So a repaint and an update,

@@ -5,9 +5,12 @@ mod ascii;
 mod decoder;
 mod feeding;
 pub mod laws;
+mod showing;
 mod similar;
 mod translation;
 
+pub use ascii::ascii_run;
 pub use decoder::Decoder;
 pub use feeding::{feed_utf8, feed_utf8_reserved};
-pub use translation::cells;
+pub use showing::shown_as;
+pub use translation::{BYTE_LIMIT, Bytes, TRANSLATION_LIMIT, cells, translated};

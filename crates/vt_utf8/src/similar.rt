@@ -2,13 +2,13 @@
 //!
 //! A glyph's code is one byte: an ASCII glyph is its own code, a glyph that is spelled by G2 has the code of its spelling
 //! with the high bit set, and a glyph that is spelled by G3 the code less 60 (hexadecimal).
-ghost use Rattle.std.specs.Prelude.{◌≡◌, ◌&&◌, nat_le};
-ghost use Rattle.vt_glyph.specs.Encoding.{encoded_spelling};
+ghost use Rattle.std.specs.Prelude.{◌≡◌, ◌&&◌, nat_le, true};
+ghost use Rattle.vt_glyph.specs.Encoding.{encoded_spelling, encoded_glyph};
 ghost use Rattle.vt_glyph.specs.Spell.{spelling_of};
-ghost use Rattle.vt_utf8.specs.Private.Codes.{code_by};
+ghost use Rattle.vt_utf8.specs.Private.Codes.{code_by, is_code};
 ghost use Rattle.vt_utf8.specs.Similar.{shown, in_rows, in_chart};
 
-use vt_glyph::Spelling;
+use vt_glyph::{Glyph, Set, Spelling};
 
 /// The code of U+2426.
 const SUBSTITUTE: u8 = 0xA4;
@@ -251,7 +251,9 @@ fn code_by(c: u32) -> u8
 /// Returns the code of the glyph that is shown for a character from U+00A0 on.
 #[inline]
 pub(crate) fn code_of(c: char) -> u8
-    ensures { encoded_spelling result ≡ spelling_of (shown c) }
+    ensures spelling { encoded_spelling result ≡ spelling_of (shown c) }
+    ensures glyph { encoded_glyph result ≡ shown c }
+    ensures is_code { is_code result ≡ true }
 {
     code_by(c as u32)
 }
@@ -265,5 +267,21 @@ pub(crate) fn spelling_of_code(code: u8) -> Spelling
         0x00..=0x1F => Spelling::Third(code + 0x60),
         0x20..=0x7F => Spelling::Plain(code),
         _ => Spelling::Second(code - 0x80),
+    }
+}
+
+/// Returns the glyph with this code.
+pub(crate) fn glyph_of_code(code: u8) -> Glyph
+    requires { is_code code ≡ true }
+    ensures { result ≡ encoded_glyph code }
+{
+    if code < 0x20 {
+        Set::Special.glyph(code + 0x60)
+    } else if code == 0x20 {
+        Glyph::blank()
+    } else if code < 0x80 {
+        Set::Ascii.glyph(code)
+    } else {
+        Set::Supplemental.glyph(code - 0x80)
     }
 }

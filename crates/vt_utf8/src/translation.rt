@@ -1,5 +1,6 @@
 //! Translation: the terminal's own bytes for a character, in the terminal's state.
 ghost use Rattle.std.specs.Prelude.{◌≡◌, ◌+◌, ◌<◌, ◌≤◌, ◌++◌, [], ◌∷◌, ◌==◌, length};
+ghost use Rattle.std.specs.Option.{option_to_list};
 ghost use Rattle.arrayvec.specs.ArrayVec.{array_vec_len};
 ghost use Rattle.vt_glyph.specs.Spell.{spelling_of};
 ghost use Rattle.vt_glyph.specs.Designation.{final_of};
@@ -7,6 +8,7 @@ ghost use Rattle.vt_utf8.specs.Similar.{shown};
 ghost use Rattle.vt_utf8.specs.Cells.{cells};
 ghost use Rattle.vt_utf8.specs.Translation.{reads_ascii, while_designated, spelled_in, both_halves, is_at_end};
 ghost use Rattle.vt_utf8.specs.Translation.{written_wide, in_cells, put, translation};
+ghost use Rattle.vt_utf8.specs.Play.{translated_all};
 
 use crate::similar::{code_of, spelling_of_code};
 use arrayvec::ArrayVec;
@@ -18,10 +20,13 @@ use vt_term::Terminal;
 /// The limit of the bytes for one character: ST, NEL, and two glyphs of nine bytes.
 pub const TRANSLATION_LIMIT: usize = 22;
 
+/// The limit of the bytes for one byte of UTF-8: those for U+FFFD, in place of what is ill-formed, and for a character.
+pub const BYTE_LIMIT: usize = 2 * TRANSLATION_LIMIT;
+
 const ESC: u8 = 0x1B;
 
 /// The bytes for one character.
-pub(crate) type Bytes = ArrayVec<u8, 22>;
+pub type Bytes = ArrayVec<u8, 22>;
 
 /// Returns how many cells a character beyond ASCII has: 0, 1 or 2.
 #[inline]
@@ -166,4 +171,27 @@ pub(crate) fn translation(terminal: &Terminal, c: char) -> Bytes
         }
     }
     bytes
+}
+
+/// Returns the terminal's bytes for a character, in the terminal's state.
+fn bytes_of(terminal: &Terminal, c: char) -> Bytes
+    ensures { result.items ≡ translation terminal.now c }
+{
+    if (c as u32) < 0x80 {
+        let mut bytes = ArrayVec::new();
+        bytes.push(c as u8);
+        bytes
+    } else {
+        translation(terminal, c)
+    }
+}
+
+/// Returns the terminal's bytes for a character, if there is one, in the terminal's state.
+pub fn translated(terminal: &Terminal, character: Option<char>) -> Bytes
+    ensures { result.items ≡ translated_all terminal.now (option_to_list character) }
+{
+    match character {
+        Some(c) => bytes_of(terminal, c),
+        None => ArrayVec::new(),
+    }
 }

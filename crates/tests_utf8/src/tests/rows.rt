@@ -1,7 +1,7 @@
 //! Worked rows of well-formed UTF-8.
 use super::common::{fed, holds, shows};
 use std::test::Fail;
-use vt_utf8::cells;
+use vt_utf8::{cells, shown_as};
 
 /// A name, what is fed, the first lines of the screen, and the cursor's row and column.
 type Row = (&'static str, &'static str, &'static str, (u16, u16));
@@ -113,6 +113,36 @@ const CELLS: [(&str, char, usize); 10] = [
 fn cells_of_characters(rt: HostRuntime) -> Result<(), Fail> {
     for (name, c, count) in CELLS {
         holds(&rt, name, cells(c) == count);
+    }
+    Ok(())
+}
+
+/// A name, a character, and the glyph that is shown for it, or NUL if it has no cell.
+const SHOWN: [(&str, char, char); 10] = [
+    ("an ASCII letter", 'A', 'A'),
+    ("BEL", '\x07', '\0'),
+    ("DEL", '\x7F', '\0'),
+    ("NEL", '\u{85}', '\0'),
+    ("a letter of the 204", 'é', 'é'),
+    ("a line of the 204", '─', '─'),
+    ("a heavy line", '━', '─'),
+    ("a quote", '“', '"'),
+    ("a mark", '\u{301}', '\0'),
+    ("an ideograph", '日', '␦'),
+];
+
+/// Returns whether a character is shown by a glyph, or isn't shown.
+fn is_shown_as(c: char, expected: char) -> bool {
+    match shown_as(c) {
+        Some(glyph) => glyph.to_char() == expected,
+        None => expected == '\0',
+    }
+}
+
+#[test]
+fn glyphs_of_characters(rt: HostRuntime) -> Result<(), Fail> {
+    for (name, c, expected) in SHOWN {
+        holds(&rt, name, is_shown_as(c, expected));
     }
     Ok(())
 }

@@ -25,6 +25,8 @@ loop-taken-preserved c =
       lines_fit = omega (arith, front.lines_fit, c.loop-taken.auto.lines);
       capacity = omega (arith, before.capacity, front.capacity);
       few = omega (arith, before.few, part.few, front.some);
+      few_reports = omega (arith, before.few_reports, front.few);
+      few_lines = omega (arith, before.few_lines, front.few_lines);
       none = λ off. omega (arith, before.none off, part.none off);
       bells = λ on. more-bells c.one_split.ensures _ _ _ _ n _ _ before.state (before.bells on)
           (part.bells on n front.some front.within);

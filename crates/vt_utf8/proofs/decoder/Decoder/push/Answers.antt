@@ -54,8 +54,9 @@ returns-in-None-clause-characters c =
     let none : (decoded c.push.new.self.items).char ≡ None =
     ap (λ (xs : List ℕ). (decoded xs).char) (sym c.as_slice.ensures.value) ∙ sym c.decode-found.ensures.char
     ∙ c.in-None.is in
-    (when-other c.args.self.now c.args.b c.push.new.self.items all begun none).told c.is_empty-was_pending.result
-    (search rules) (option_to_list c.push_first.result) c.push_first.ensures.characters
+    (when-other c.args.self.now c.args.b c.push.new.self.items all begun none).told
+    (option_to_list c.given_up-lost.result) (option_to_list c.push_first.result) c.given_up-lost.ensures.value
+    c.push_first.ensures.characters
 
 pub returns-in-None-clause-pending : goal.returns-in-None-clause-pending
 returns-in-None-clause-pending c =

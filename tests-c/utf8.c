@@ -1,0 +1,268 @@
+/* utf8: input in UTF-8. The characters and cells are those of the tables of docs/SPECIFICATION.md and of Unicode, and what is ill-formed
+ * is as in the Unicode Standard, 3.9. */
+#include "check.h"
+
+static vt220_scratch s = VT220_INIT;
+static uint8_t text[VT220_TEXT_LIMIT];
+
+static vt220 opened(void) {
+    vt220 t = VT220_INIT;
+    CHECK(vt220_open(&t) == VT220_OK);
+    return t;
+}
+
+/* Feeds bytes in chunks of so many. Returns how many bytes of replies came. */
+static size_t feed(vt220 *t, vt220_utf8 *u, const uint8_t *bytes, size_t len, size_t chunk, uint8_t *reports) {
+    size_t at = 0, filled = 0, written;
+    while (at < len) {
+        size_t part = len - at < chunk ? len - at : chunk;
+        size_t taken = vt220_feed_utf8(t, u, bytes + at, part, reports + filled, VT220_REPORT_LIMIT * part, &written);
+        CHECK(taken == part);
+        at += part, filled += written;
+    }
+    return filled;
+}
+
+static bool shows(const vt220 *t, const char *lines) {
+    size_t len;
+    CHECK(vt220_text(t, &s, text, sizeof text, &len) == VT220_OK);
+    return len >= strlen(lines) && memcmp(text, lines, strlen(lines)) == 0;
+}
+
+static bool is_pending(const vt220_utf8 *u, const char *bytes) {
+    static const uint8_t none[3];
+    size_t len = strlen(bytes);
+    return u->len == len && memcmp(u->bytes, bytes, len) == 0 && memcmp(u->bytes + len, none, 3 - len) == 0;
+}
+
+/* What is fed, the first lines of the screen, the cursor's row and column, the bells, and what is pending at the end. */
+static const struct row {
+    const char *bytes;
+    size_t len;
+    const char *lines;
+    size_t row, col;
+    uint64_t bells;
+    const char *pending;
+} rows[] = {
+#define FED(literal) literal, sizeof(literal) - 1
+    {FED(""), "\n", 1, 1, 0, ""},
+    {FED("Grüße"), "Grüße\n", 1, 6, 0, ""},
+    {FED("┏━┓ “a” – …"), "┌─┐ \"a\" - .\n", 1, 12, 0, ""},
+    {FED("日本x"), "␦ ␦ x\n", 1, 6, 0, ""},
+    {FED("e\u0301x"), "ex\n", 1, 3, 0, ""},
+    {FED("\033[1;80H日"), "\n␦\n", 2, 3, 0, ""},
+    {FED("\033[1;79H日"), "", 1, 80, 0, ""},
+    /* ill-formed: a lone continuation byte, a lead byte before ASCII, an overlong form, a surrogate, and a cut character of four bytes */
+    {FED("a\x80z"), "a␦z\n", 1, 4, 0, ""},
+    {FED("a\xC3z"), "a␦z\n", 1, 4, 0, ""},
+    {FED("\xC0\xAF"), "␦␦\n", 1, 3, 0, ""},
+    {FED("\xED\xA0\x80"), "␦␦␦\n", 1, 4, 0, ""},
+    {FED("\xF0\x9F\x98z"), "␦z\n", 1, 3, 0, ""},
+    {FED("\xF0\x9F\x98\xC3\xA9"), "␦é\n", 1, 3, 0, ""},
+    /* what isn't complete isn't shown */
+    {FED("a\xC3"), "a\n", 1, 2, 0, "\xC3"},
+    {FED("a\xE2\x96"), "a\n", 1, 2, 0, "\xE2\x96"},
+    {FED("a\xF0\x9F\x98"), "a\n", 1, 2, 0, "\xF0\x9F\x98"},
+    /* BEL rings after a character, and after what it shows to be ill-formed; not in a string */
+    {FED("é\a"), "é\n", 1, 2, 1, ""},
+    {FED("\xE2\x96\a\a"), "␦\n", 1, 2, 2, ""},
+    {FED("\033P\xE2\a\033\\é"), "é\n", 1, 2, 0, ""},
+    /* a character ends a control sequence, and is content in a string */
+    {FED("\033[3é1m"), "é1m\n", 1, 4, 0, ""},
+    {FED("\033]0;\xC2\x9Cé\ax"), "x\n", 1, 2, 0, ""},
+    {FED("\xC2\x85\xC2\x9B" "1mx"), "1mx\n", 1, 4, 0, ""},
+    /* the sets of ASCII bytes stay */
+    {FED("\033(0lqk é q"), "┌─┐ é ─\n", 1, 8, 0, ""},
+};
+
+static void whole_and_cut(void) {
+    uint8_t reports[VT220_REPORT_LIMIT * 64];
+    for (size_t i = 0; i < sizeof rows / sizeof rows[0]; i++) {
+        for (size_t chunk = 1; chunk <= 8; chunk++) {
+            const struct row *row = rows + i;
+            vt220 t = opened();
+            vt220_utf8 u = {{0}, 0};
+            vt220_cursor_place cursor;
+            CHECK(feed(&t, &u, (const uint8_t *)row->bytes, row->len, chunk == 8 ? row->len + 1 : chunk, reports) == 0);
+            check(shows(&t, row->lines), row->bytes, "lines");
+            CHECK(vt220_cursor(&t, &cursor));
+            check(cursor.row == row->row && cursor.col == row->col, row->bytes, "cursor");
+            check(vt220_bells(&t) == row->bells, row->bytes, "bells");
+            check(is_pending(&u, row->pending), row->bytes, "pending");
+            vt220_close(&t);
+        }
+    }
+}
+
+/* ASCII is processed as by vt220_feed, and a character beyond ASCII causes no reply. */
+static void ascii_and_replies(void) {
+    static const char ascii[] = "a\r\n\033[2;3H\033[1m\033(0lqk\033[6n\033[c\033]0;x\a\033[5";
+    uint8_t reports[VT220_REPORT_LIMIT * sizeof ascii], other[VT220_REPORT_LIMIT * sizeof ascii];
+    vt220 t = opened(), v = opened();
+    vt220_utf8 u = {{0}, 0};
+    size_t written;
+    CHECK(vt220_feed(&v, BYTES(ascii), other, sizeof other, &written) == sizeof ascii - 1 && written > 0);
+    CHECK(feed(&t, &u, BYTES(ascii), sizeof ascii, reports) == written && memcmp(reports, other, written) == 0);
+    CHECK(vt220_same_state(&t, &v) && is_pending(&u, ""));
+    vt220_reset(&t);
+    CHECK(feed(&t, &u, BYTES("日\033[6n"), 64, reports) == 6 && memcmp(reports, "\033[1;3R", 6) == 0);
+    CHECK(feed(&t, &u, BYTES("\xE2\033[6n"), 64, reports) == 6 && memcmp(reports, "\033[1;4R", 6) == 0);
+    vt220_close(&t);
+    vt220_close(&v);
+}
+
+/* Bytes that don't begin a character aren't pending, whatever the struct has. What is pending isn't part of the terminal. */
+static void any_content(void) {
+    static const vt220_utf8 nothing[] = {
+        {{0xFF, 0xFF, 0xFF}, 3}, {{0xE2, 0x96, 0x88}, 3}, {{0xE2, 0x28, 0xA1}, 2}, {{0x41, 0, 0}, 1}, {{0x80, 0x80, 0x80}, 1},
+        {{0xC3, 0xA9, 0}, 2}, {{0xED, 0xA0, 0}, 2}, {{0xF0, 0x9F, 0x98}, 4}, {{0xE2, 0x96, 0}, 255}, {{0xC3, 0xE2, 0x96}, 0},
+    };
+    uint8_t reports[64];
+    for (size_t i = 0; i < sizeof nothing / sizeof nothing[0]; i++) {
+        vt220 t = opened();
+        vt220_utf8 u = nothing[i];
+        CHECK(feed(&t, &u, BYTES("\xC3"), 1, reports) == 0 && shows(&t, "\n") && is_pending(&u, "\xC3"));
+        CHECK(feed(&t, &u, BYTES("\xA9"), 1, reports) == 0 && shows(&t, "é\n") && is_pending(&u, ""));
+        vt220_close(&t);
+    }
+    vt220 t = opened(), v = opened();
+    vt220_utf8 u = {{0xE2, 0x96, 0xFF}, 2};
+    CHECK(vt220_reset(&t) == VT220_OK && vt220_copy(&v, &t) == VT220_OK && u.len == 2);
+    CHECK(feed(&t, &u, BYTES("\x88"), 1, reports) == 0 && shows(&t, "▒\n") && is_pending(&u, ""));
+    vt220_close(&t);
+    vt220_close(&v);
+}
+
+static void refusals(void) {
+    vt220 t = VT220_INIT;
+    vt220_scratch closed = VT220_INIT;
+    vt220_utf8 u = {{0xE2, 0x96, 0}, 2};
+    uint8_t reports[16], lines[VT220_UTF8_LINES_LIMIT];
+    size_t written = 7, off = 7;
+    CHECK(vt220_feed_utf8(&t, &u, BYTES("a"), reports, sizeof reports, &written) == 0 && written == 0 && is_pending(&u, "\xE2\x96"));
+    CHECK(vt220_feed_log_utf8(&t, &s, &u, BYTES("a"), reports, sizeof reports, &written, lines, sizeof lines, &off) == 0);
+    CHECK(written == 0 && off == 0 && is_pending(&u, "\xE2\x96"));
+    t = opened();
+    CHECK(vt220_feed_log_utf8(&t, &closed, &u, BYTES("a"), reports, sizeof reports, &written, lines, sizeof lines, &off) == 0);
+    CHECK(written == 0 && off == 0 && is_pending(&u, "\xE2\x96") && shows(&t, "\n"));
+    /* no bytes, null pointers, and buffers without capacity */
+    CHECK(vt220_feed_utf8(&t, &u, NULL, 0, NULL, 0, &written) == 0 && written == 0 && is_pending(&u, "\xE2\x96"));
+    CHECK(vt220_feed_utf8(&t, &u, BYTES("\x88"), NULL, 0, &written) == 0 && is_pending(&u, "\xE2\x96"));
+    CHECK(vt220_feed_utf8(&t, &u, BYTES("\x88"), reports, VT220_REPORT_LIMIT - 1, &written) == 0 && written == 0);
+    CHECK(vt220_feed_log_utf8(&t, &s, &u, BYTES("\x88"), reports, 10, &written, lines, VT220_UTF8_LINES_LIMIT - 1, &off) == 0);
+    CHECK(is_pending(&u, "\xE2\x96") && shows(&t, "\n"));
+    CHECK(vt220_feed_log_utf8(&t, &s, &u, BYTES("\x88"), reports, 10, &written, lines, VT220_UTF8_LINES_LIMIT, &off) == 1);
+    CHECK(written == 0 && off == 0 && is_pending(&u, "") && shows(&t, "▒\n"));
+    /* a null `written` drops the replies */
+    CHECK(vt220_feed_utf8(&t, &u, BYTES("é\033[6n\033[cü\xC3"), NULL, 0, NULL) == 12 && shows(&t, "▒éü\n") && is_pending(&u, "\xC3"));
+    CHECK(vt220_feed_log_utf8(&t, &s, &u, BYTES("\xA9\033[6n"), NULL, 0, NULL, lines, sizeof lines, &off) == 5 && off == 0);
+    CHECK(shows(&t, "▒éüé\n") && is_pending(&u, ""));
+    vt220_close(&t);
+}
+
+/* Each reply needs VT220_REPORT_LIMIT free bytes, and the log capacity for what a byte may scroll off. */
+static void small_buffers(void) {
+    static const uint8_t bytes[] = "é\033[6nü\033[6n日\033[6n";
+    uint8_t reports[VT220_REPORT_LIMIT], all[64];
+    vt220 t = opened();
+    vt220_utf8 u = {{0}, 0};
+    size_t at = 0, filled = 0, written;
+    while (at < sizeof bytes - 1) {
+        size_t taken = vt220_feed_utf8(&t, &u, bytes + at, sizeof bytes - 1 - at, reports, sizeof reports, &written);
+        CHECK(taken >= 1 && written <= sizeof reports);
+        if (taken == 0) break;
+        memcpy(all + filled, reports, written);
+        at += taken, filled += written;
+    }
+    CHECK(filled == 18 && memcmp(all, "\033[1;2R\033[1;3R\033[1;5R", 18) == 0);
+    vt220_close(&t);
+}
+
+/* 30 lines scroll six off, and so does a wide character in the last cell of the screen. */
+static void log_of_lines(void) {
+    static uint8_t lines[VT220_UTF8_LINES_LIMIT], all[4096];
+    char input[1024], expected[512];
+    size_t len = 0, wanted = 0;
+    for (int i = 1; i <= 30; i++) {
+        len += (size_t)snprintf(input + len, sizeof input - len, "%s%d ü “%d” 日", i == 1 ? "" : "\r\n", i, i);
+        if (i <= 7) wanted += (size_t)snprintf(expected + wanted, sizeof expected - wanted, "%d ü \"%d\" ␦\n", i, i);
+    }
+    len += (size_t)snprintf(input + len, sizeof input - len, "\033[24;80H日");
+    for (size_t size = 1; size <= 8; size++) {
+        size_t chunk = size == 8 ? len : size;
+        vt220 t = opened();
+        vt220_utf8 u = {{0}, 0};
+        size_t at = 0, filled = 0, off, written;
+        uint8_t reports[VT220_REPORT_LIMIT];
+        while (at < len) {
+            size_t part = len - at < chunk ? len - at : chunk;
+            size_t taken = vt220_feed_log_utf8(&t, &s, &u, (const uint8_t *)input + at, part, reports, sizeof reports, &written, lines, sizeof lines, &off);
+            CHECK(taken >= 1 && written == 0 && filled + off <= sizeof all);
+            if (taken == 0 || filled + off > sizeof all) break;
+            memcpy(all + filled, lines, off);
+            at += taken, filled += off;
+        }
+        CHECK(filled == wanted && memcmp(all, expected, wanted) == 0);
+        vt220_close(&t);
+    }
+}
+
+static void shown(void) {
+    static const struct {
+        uint32_t character, glyph;
+        size_t cells;
+    } table[] = {
+        {'A', 'A', 1}, {' ', ' ', 1}, {'~', '~', 1}, {0, 0, 0}, {0x07, 0, 0}, {0x1B, 0, 0}, {0x7F, 0, 0}, {0x80, 0, 0}, {0x85, 0, 0}, {0x9B, 0, 0},
+        {0xA0, ' ', 1}, {0xAD, '-', 1}, {0xE9, 0xE9, 1}, {0x152, 0x152, 1}, {0x301, 0, 0}, {0x3C0, 0x3C0, 1}, {0x416, 0x2426, 1},
+        {0x200D, 0, 0}, {0x201C, '"', 1}, {0x2026, '.', 1}, {0x20AC, 0xA4, 1}, {0x2264, 0x2264, 1}, {0x2500, 0x2500, 1}, {0x2501, 0x2500, 1},
+        {0x2588, 0x2592, 1}, {0x25C6, 0x25C6, 1}, {0x2426, 0x2426, 1}, {0x65E5, 0x2426, 2}, {0xFF21, 'A', 2}, {0x1F600, 0x2426, 2},
+        {0xFFFD, 0x2426, 1}, {0xD800, 0x2426, 1}, {0xDFFF, 0x2426, 1}, {0x10FFFF, 0x2426, 1}, {0x110000, 0x2426, 1}, {UINT32_MAX, 0x2426, 1},
+    };
+    for (size_t i = 0; i < sizeof table / sizeof table[0]; i++) {
+        char name[32];
+        size_t cells = 7;
+        snprintf(name, sizeof name, "U+%04X", (unsigned)table[i].character);
+        check(vt220_shown(table[i].character, &cells) == table[i].glyph && cells == table[i].cells, name, "shown");
+        check(vt220_shown(table[i].character, NULL) == table[i].glyph, name, "shown");
+    }
+}
+
+/* Each character is shown by vt220_shown's glyph, in so many cells. */
+static void shown_as_fed(void) {
+    vt220 t = opened();
+    for (uint32_t c = 0x20; c < 0x11000; c++) {
+        uint8_t bytes[8] = "\r\033[J";
+        vt220_utf8 u = {{0}, 0};
+        vt220_cell row[VT220_COLUMNS];
+        vt220_cursor_place cursor;
+        size_t cells, len = 4;
+        if (c == 0x7F || (c >= 0xD800 && c <= 0xDFFF)) continue;
+        if (c < 0x80) bytes[len++] = (uint8_t)c;
+        else if (c < 0x800) bytes[len++] = (uint8_t)(0xC0 | c >> 6), bytes[len++] = (uint8_t)(0x80 | (c & 0x3F));
+        else if (c < 0x10000) bytes[len++] = (uint8_t)(0xE0 | c >> 12), bytes[len++] = (uint8_t)(0x80 | (c >> 6 & 0x3F)), bytes[len++] = (uint8_t)(0x80 | (c & 0x3F));
+        else bytes[len++] = (uint8_t)(0xF0 | c >> 18), bytes[len++] = (uint8_t)(0x80 | (c >> 12 & 0x3F)), bytes[len++] = (uint8_t)(0x80 | (c >> 6 & 0x3F)), bytes[len++] = (uint8_t)(0x80 | (c & 0x3F));
+        uint32_t glyph = vt220_shown(c, &cells);
+        bool is = vt220_feed_utf8(&t, &u, bytes, len, NULL, 0, NULL) == len && vt220_row(&t, 1, row, VT220_COLUMNS) == 80 && vt220_cursor(&t, &cursor);
+        if (!is || cursor.col != 1 + cells || row[0].glyph != (cells == 0 ? ' ' : glyph) || (cells == 2 && row[1].glyph != ' ')) {
+            char name[32];
+            snprintf(name, sizeof name, "U+%04X", (unsigned)c);
+            check(false, name, "shown as fed");
+        }
+    }
+    vt220_close(&t);
+    CHECK(true);
+}
+
+int main(void) {
+    CHECK(vt220_scratch_open(&s) == VT220_OK);
+    whole_and_cut();
+    ascii_and_replies();
+    any_content();
+    refusals();
+    small_buffers();
+    log_of_lines();
+    shown();
+    shown_as_fed();
+    vt220_scratch_close(&s);
+    return finish("utf8");
+}

@@ -10,6 +10,7 @@ complete -c vt220-keep -n "not __fish_seen_subcommand_from $commands" -f -a "$co
 complete -c vt220-keep -n "__fish_seen_subcommand_from $sessions" -f -a '(__vt220_keep_sessions)'
 complete -c vt220-keep -n '__fish_seen_subcommand_from new' -s A -d 'Attach to it'
 complete -c vt220-keep -n '__fish_seen_subcommand_from new' -l locale -x -d 'The locale of the command'
+complete -c vt220-keep -n '__fish_seen_subcommand_from new' -l encoding -x -a 'dec utf-8' -d 'What the command writes'
 complete -c vt220-keep -n '__fish_seen_subcommand_from attach' -s r -d 'Only show it'
 complete -c vt220-keep -n '__fish_seen_subcommand_from list' -l tsv -d 'A line for each session, for scripts'
 complete -c vt220-keep -n '__fish_seen_subcommand_from send' -f -a "$keys"

@@ -426,17 +426,20 @@ static int follow(const char *name) {
 int attach(int socket, const char *name, bool is_read_only) {
     struct hello hello;
     char why[WHY_LIMIT] = "doesn't answer";
-    const char *inside = getenv("KEEP_SESSION");
+    const char *inside = getenv("KEEP_SESSION"), *encoding = getenv("KEEP_ENCODING");
+    bool reads_utf8 = encoding != NULL && strcmp(encoding, encoding_name(true)) == 0;
     it.socket = socket;
     it.is_read_only = is_read_only;
     it.detach = (uint8_t)keys_detach();
-    if (inside != NULL) fail(1, "cannot attach to %s from inside session %s, whose terminal doesn't read UTF-8", name, inside);
+    if (inside != NULL && !reads_utf8) fail(1, "cannot attach to %s from inside session %s, whose terminal doesn't read UTF-8", name, inside);
+    if (inside != NULL && strcmp(inside, name) == 0) fail(1, "cannot attach to %s from inside itself", name);
     if (!isatty(STDOUT_FILENO) || tcgetattr(STDIN_FILENO, &it.before) != 0) fail(2, "attach needs a terminal");
     if (vt220_open(&it.terminal) != VT220_OK) fail(1, "out of memory");
     int result = wire_begin(socket, ASK_ATTACH, is_read_only ? FLAG_READ_ONLY : 0, &hello, why);
     if (result == WIRE_FULL) fail(1, "%s takes no more clients", name);
     if (result != WIRE_OK) fail(1, "%s %s", name, why);
     it.version = hello.version;
+    it.keys.is_utf8 = hello.is_utf8;
     it.keys.can_scroll = true;
     int status = hello.is_over ? show_last(name) : follow(name);
     scroll_leave();

@@ -4,7 +4,9 @@
 #include <errno.h>
 #include <fcntl.h>
 #include <getopt.h>
+#include <langinfo.h>
 #include <limits.h>
+#include <locale.h>
 #include <stdarg.h>
 #include <stdio.h>
 #include <stdlib.h>
@@ -13,7 +15,7 @@
 #include <unistd.h>
 
 static const char usage[] =
-    "usage: vt220-keep new [-A] [--locale=LOCALE] NAME COMMAND [ARGUMENT ...]\n"
+    "usage: vt220-keep new [-A] [--locale=LOCALE] [--encoding=dec|utf-8] NAME COMMAND [ARGUMENT ...]\n"
     "                                       run a command on a new VT220 in the background;\n"
     "                                       -A attaches to it, or to the session NAME if there is one\n"
     "       vt220-keep attach [-r] NAME     show a session on this terminal, and send it keys; -r only shows it\n"
@@ -70,7 +72,7 @@ static void set_patience(void) {
 
 struct options {
     bool attaches, is_read_only, is_for_scripts, is_text;
-    const char *locale;
+    const char *locale, *encoding;
 };
 
 static void check_name(const char *name) {
@@ -94,9 +96,32 @@ static bool is_there(const struct folder *folder, const char *name, bool is_want
     return false;
 }
 
+/* Returns whether programs read and write UTF-8 in a locale; `named` is empty for that of the environment. If that locale isn't installed,
+ * its name counts: many programs go by it alone. */
+static bool is_utf8_locale(const char *named) {
+    static const char *const variables[] = {"LC_ALL", "LC_CTYPE", "LANG"};
+    if (setlocale(LC_CTYPE, named) != NULL) {
+        bool is_so = strcmp(nl_langinfo(CODESET), "UTF-8") == 0;
+        setlocale(LC_CTYPE, "C");
+        return is_so;
+    }
+    for (size_t i = 0; i < sizeof variables / sizeof *variables && *named == 0; i++) {
+        if (getenv(variables[i]) != NULL) named = getenv(variables[i]);
+    }
+    return strcasestr(named, ".utf-8") != NULL || strcasestr(named, ".utf8") != NULL;
+}
+
+/* Returns whether a new session is in UTF-8: as its option says, or its locale, or that of the environment. */
+static bool is_utf8_wanted(const struct options *options) {
+    bool is_utf8 = options->encoding != NULL && strcmp(options->encoding, encoding_name(true)) == 0;
+    if (options->encoding == NULL) return is_utf8_locale(options->locale != NULL ? options->locale : "");
+    if (!is_utf8 && strcmp(options->encoding, encoding_name(false)) != 0) fail(2, "new: --encoding is dec or utf-8, not '%.100s'", options->encoding);
+    return is_utf8;
+}
+
 static int do_new(char **words, const struct options *options) {
     struct folder folder = open_folder();
-    struct beginning beginning = {words[0], options->locale, words + 1};
+    struct beginning beginning = {words[0], options->locale, words + 1, is_utf8_wanted(options)};
     check_name(words[0]);
     if (strcmp(words[1], "--") == 0) beginning.command++;
     if (*beginning.command == NULL) fail(2, "new: an argument is missing; vt220-keep --help shows which");
@@ -215,7 +240,7 @@ static const struct command *command_of(const char *word) {
 
 /* Reads the options after the command; returns the index of the first argument. */
 static int read_options(const struct command *command, int argc, char **argv, struct options *options) {
-    static const struct option none[] = {{"help", 0, NULL, 'h'}, {0}}, for_new[] = {{"help", 0, NULL, 'h'}, {"locale", 1, NULL, 'L'}, {0}},
+    static const struct option none[] = {{"help", 0, NULL, 'h'}, {0}}, for_new[] = {{"help", 0, NULL, 'h'}, {"locale", 1, NULL, 'L'}, {"encoding", 1, NULL, 'E'}, {0}},
                                for_list[] = {{"help", 0, NULL, 'h'}, {"tsv", 0, NULL, 't'}, {0}};
     const struct option *longer = command->run == do_new ? for_new : command->run == do_list ? for_list : none;
     opterr = 0;
@@ -227,6 +252,7 @@ static int read_options(const struct command *command, int argc, char **argv, st
         case 'l': options->is_text = true; break;
         case 't': options->is_for_scripts = true; break;
         case 'L': options->locale = optarg; break;
+        case 'E': options->encoding = optarg; break;
         default: fail(2, "%s: unknown option '%s'; vt220-keep --help lists them", command->word, argv[optind < argc ? optind : argc - 1]);
         }
     }

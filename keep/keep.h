@@ -54,10 +54,13 @@ bool is_same_user(int socket);
 struct hello {
     uint8_t version, lowest, highest;
     bool is_over; /* the command has ended */
+    bool is_utf8; /* its terminal reads UTF-8: known to a client that attaches or sends keys */
 };
 
 enum { WIRE_OK, WIRE_SILENT, WIRE_FULL, WIRE_OTHER_VERSION };
 
+const char *encoding_name(bool is_utf8);
+bool has_encoding(char ask, uint8_t version); /* whether a client that asks this is sent FRAME_ENCODING */
 int wire_begin(int socket, char ask, uint8_t flags, struct hello *hello, char *why);
 bool wire_send(int socket, char letter, const void *bytes, size_t len);
 bool wire_receive(int socket, char *letter, uint8_t *bytes, size_t room, size_t *len);
@@ -79,6 +82,7 @@ bool call_keepers(const struct folder *folder);
 struct beginning {
     const char *name, *locale;
     char **command;
+    bool is_utf8; /* the program reads and writes UTF-8 */
 };
 
 #define RESUME "resume" /* the command by which a keeper starts the program that replaces it; its arguments are numbers of files */
@@ -92,6 +96,7 @@ noreturn void resume_session(int state, int told);
 struct keys {
     uint8_t held[VT220_TYPED_LIMIT]; /* the beginning of a key whose end hasn't come */
     size_t held_len;
+    bool is_utf8;    /* characters beyond ASCII are sent as they are typed */
     bool rings;      /* something was typed that a VT220 has no key for */
     bool can_scroll; /* PageUp with Shift, Alt or Ctrl isn't sent */
     bool scrolls;    /* it was typed */

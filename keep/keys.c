@@ -1,7 +1,7 @@
 /* What is typed on the outer terminal, as the keys of a VT220.
  *
  * Outer terminals send the cursor keys as `ESC [ A` or `ESC O A`, whichever their own mode asks for, and characters beyond ASCII as
- * UTF-8. vt220_key turns each key into what the program's terminal asks for. */
+ * UTF-8. vt220_key turns each key into what the program's terminal asks for. A session in UTF-8 gets these characters as they are. */
 #include "keep.h"
 #include <stdio.h>
 #include <stdlib.h>
@@ -14,10 +14,12 @@ static vt220_mode_set modes_of(const vt220 *t) {
     return modes;
 }
 
-/* Writes a key that was typed. One that a VT220 doesn't have passes as it came. */
+/* Writes a key that was typed. One that a VT220 doesn't have passes as it came, and so does a character beyond ASCII if the session is in
+ * UTF-8. */
 static size_t put_key(struct keys *keys, const vt220_mode_set *modes, const uint8_t *typed, size_t len, uint8_t *to) {
-    size_t put;
-    uint32_t status = vt220_key(modes, (const char *)typed, len, to, KEYS_GROWTH * len, &put);
+    size_t put = 0;
+    bool is_itself = keys->is_utf8 && *typed >= 0x80;
+    uint32_t status = is_itself ? VT220_NO_KEY : vt220_key(modes, (const char *)typed, len, to, KEYS_GROWTH * len, &put);
     if (status == VT220_NO_CHARACTER) keys->rings = true;
     if (status != VT220_NO_KEY) return put;
     memcpy(to, typed, len);

@@ -141,7 +141,8 @@ static const char *day_and_time(const char *seconds, char *to, size_t room) {
     return to;
 }
 
-/* A keeper's line: state, rows, columns, clients, process, start, end, exit status, words; with tabs between them. */
+/* A keeper's line: state, rows, columns, clients, process, start, end, exit status, words, encoding; with tabs between them. A list for the
+ * eye doesn't have the last one. */
 static void show(const char *name, char *line, bool is_for_scripts) {
     char *field[FIELDS], began[32], ended[32], state[80];
     if (is_for_scripts) {
@@ -162,6 +163,17 @@ static void show_fault(const char *name, const char *why, bool is_for_scripts) {
     else printf("%-15s %s\n", name, why);
 }
 
+/* Replaces each byte by ? that is neither a tab nor of a character of UTF-8, and each control character. */
+static void mask(uint8_t *line, size_t len) {
+    for (size_t at = 0, n; at < len; at += n) {
+        uint8_t first = line[at];
+        n = first < 0x80 ? 1 : keys_length(line + at, len - at);
+        bool is_ascii = first == '\t' || (first >= ' ' && first <= '~'), is_control = first == 0xC2 && n == 2 && line[at + 1] < 0xA0;
+        if (n == 0) n = 1;
+        if (!is_ascii && (n == 1 || is_control)) memset(line + at, '?', n);
+    }
+}
+
 static void ask(int socket, const char *name, bool is_for_scripts) {
     static uint8_t line[FRAME_LIMIT + 1];
     char letter, why[WHY_LIMIT] = "doesn't answer";
@@ -170,7 +182,7 @@ static void ask(int socket, const char *name, bool is_for_scripts) {
     int result = wire_begin(socket, ASK_LIST, 0, &hello, why);
     if (result == WIRE_OK && wire_receive(socket, &letter, line, FRAME_LIMIT, &len) && letter == FRAME_ANSWER) {
         line[len] = 0;
-        for (size_t i = 0; i < len; i++) line[i] = line[i] == '\t' || (line[i] >= ' ' && line[i] <= '~') ? line[i] : '?';
+        mask(line, len);
         show(name, (char *)line, is_for_scripts);
     } else {
         show_fault(name, result == WIRE_FULL ? "takes no more clients" : why, is_for_scripts);

@@ -9,6 +9,7 @@
 #include <string.h>
 #include <sys/ioctl.h>
 #include <sys/wait.h>
+#include <termios.h>
 #include <unistd.h>
 #include <utmp.h>
 
@@ -45,7 +46,7 @@ bool settle(void) {
     static uint8_t unused[FRAME_LIMIT];
     size_t len = 0;
     bool is_between = vt220_update(&the.settled, &the.terminal, &the.scratch, unused, sizeof unused, &len) == VT220_OK;
-    if (is_between) the.since_len = 0;
+    if (is_between) the.since_len = 0, the.settled_pending = the.pending;
     if (is_between && len > 0) the.changes++;
     if (the.width != vt220_width(&the.terminal)) {
         the.width = vt220_width(&the.terminal);
@@ -69,14 +70,27 @@ void remember(const uint8_t *bytes, size_t len) {
     }
 }
 
-/* Plays bytes of the program, sends the reports, and keeps the lines that scroll off. If the queue is full, all reports of a chunk are dropped, since a program that
- * asks and never reads must not stop its own screen. */
+/* Plays bytes of the program, sends the reports, and keeps the lines that scroll off. If the queue is full, all reports of a chunk are
+ * dropped, since a program that asks and never reads must not stop its own screen. */
 static void feed(const uint8_t *bytes, size_t len) {
     static uint8_t reports[PIECE * VT220_REPORT_LIMIT], lines[PIECE * VT220_ROW_TEXT_LIMIT];
-    size_t written, lines_written;
-    vt220_feed_log(&the.terminal, &the.scratch, bytes, len, reports, sizeof reports, &written, lines, sizeof lines, &lines_written);
-    add_input(reports, written, true);
-    log_append(lines, lines_written);
+    for (size_t n = 1, written, lines_written; len > 0 && n > 0; bytes += n, len -= n) {
+        if (the.is_utf8) {
+            n = vt220_feed_log_utf8(&the.terminal, &the.scratch, &the.pending, bytes, len, reports, sizeof reports, &written, lines,
+                                    sizeof lines, &lines_written);
+        } else {
+            n = vt220_feed_log(&the.terminal, &the.scratch, bytes, len, reports, sizeof reports, &written, lines, sizeof lines,
+                               &lines_written);
+        }
+        add_input(reports, written, true);
+        log_append(lines, lines_written);
+    }
+}
+
+/* Plays bytes of the program again, on a terminal. */
+void replay(vt220 *t, vt220_utf8 *pending, const uint8_t *bytes, size_t len) {
+    if (the.is_utf8) vt220_feed_utf8(t, pending, bytes, len, NULL, 0, NULL);
+    else vt220_feed(t, bytes, len, NULL, 0, NULL);
 }
 
 /* Plays a chunk. A BEL rings if the terminal carries it out, which it does except inside a control string. One ring for a
@@ -96,8 +110,10 @@ static void play(const uint8_t *bytes, size_t len) {
     if (!settle()) remember(bytes, len);
 }
 
-/* Returns whether a byte begins a sequence: ESC, DCS, SOS, CSI, OSC, PM, APC. */
+/* Returns whether a byte begins a sequence: ESC, DCS, SOS, CSI, OSC, PM, APC. In UTF-8 all but ESC have two bytes, the first of which
+ * is C2. */
 static bool is_introducer(uint8_t byte) {
+    if (the.is_utf8) return byte == 0x1B || byte == 0xC2;
     return byte == 0x1B || byte == 0x90 || byte == 0x98 || byte == 0x9B || (byte >= 0x9D && byte <= 0x9F);
 }
 
@@ -133,9 +149,9 @@ static void free_signals(void) {
     sigprocmask(SIG_SETMASK, &none, NULL);
 }
 
-/* Sets the environment to the command's terminal, and removes that of the terminal on which `vt220-keep new` ran. The C locale is
- * needed since a VT220 reads no UTF-8: many bytes of UTF-8 are control characters there, and one can hide all that follows. */
-static void set_environment(const char *locale) {
+/* Sets the environment to the command's terminal, and removes that of the terminal on which `vt220-keep new` ran. If the terminal doesn't
+ * read UTF-8, the C locale is needed: many bytes of UTF-8 are control characters there, and one can hide all that follows. */
+static void set_environment(const struct beginning *beginning) {
     static const char *const others[] = {
         "ABDUCO_SESSION", "ABDUCO_SOCKET", "ALACRITTY_LOG", "ALACRITTY_SOCKET", "ALACRITTY_WINDOW_ID", "COLORFGBG", "COLORTERM", "COLUMNS",
         "GNOME_TERMINAL_SCREEN", "GNOME_TERMINAL_SERVICE", "INSIDE_EMACS", "ITERM_PROFILE", "ITERM_SESSION_ID", "KITTY_PID",
@@ -145,23 +161,32 @@ static void set_environment(const char *locale) {
     for (size_t i = 0; i < sizeof others / sizeof *others; i++) unsetenv(others[i]);
     setenv("TERM", "vt220", 1);
     setenv("KEEP_SESSION", the.name, 1);
-    if (locale == NULL) locale = "C";
+    setenv("KEEP_ENCODING", encoding_name(beginning->is_utf8), 1);
+    const char *locale = beginning->locale != NULL ? beginning->locale : beginning->is_utf8 ? "" : "C";
     if (*locale != 0) setenv("LC_ALL", locale, 1);
 }
 
-static noreturn void become_command(char **command, const char *locale, int told) {
+static noreturn void become_command(const struct beginning *beginning, int told) {
     free_signals();
-    set_environment(locale);
+    set_environment(beginning);
     int why = login_tty(the.slave) == 0 ? 0 : errno;
-    if (why == 0) execvp(command[0], command);
+    if (why == 0) execvp(beginning->command[0], beginning->command);
     why = why == 0 ? errno : why;
     if (write(told, &why, sizeof why) < 0) _exit(1);
     _exit(127);
 }
 
+/* Sets whether the line erases whole characters of UTF-8. */
+static void set_line(bool is_utf8) {
+    struct termios it;
+    if (tcgetattr(the.slave, &it) != 0) return;
+    it.c_iflag = is_utf8 ? it.c_iflag | IUTF8 : it.c_iflag & ~(tcflag_t)IUTF8;
+    tcsetattr(the.slave, TCSANOW, &it);
+}
+
 /* Runs the command on a new pseudo-terminal. The keeper keeps the other side open as well, so that it never looks closed while the
  * command runs. Returns true when the command runs. Returns false if it can't be run: *status is then that of env(1). */
-bool run_command(char **command, const char *locale, char *why, int *status) {
+bool run_command(const struct beginning *beginning, char *why, int *status) {
     struct winsize size = {.ws_row = VT220_ROWS, .ws_col = 80};
     int told[2], error = 0;
     *status = 1;
@@ -170,18 +195,19 @@ bool run_command(char **command, const char *locale, char *why, int *status) {
         snprintf(why, WHY_LIMIT, "cannot open a pseudo-terminal: %s", strerror(errno));
         return false;
     }
+    set_line(beginning->is_utf8);
     fcntl(the.master, F_SETFD, FD_CLOEXEC);
     fcntl(the.slave, F_SETFD, FD_CLOEXEC);
     fcntl(the.master, F_SETFL, O_NONBLOCK);
     the.command = fork();
-    if (the.command == 0) become_command(command, locale, told[1]);
+    if (the.command == 0) become_command(beginning, told[1]);
     if (the.command < 0) error = errno;
     close(told[1]);
     while (the.command > 0 && read(told[0], &error, sizeof error) < 0 && errno == EINTR) {}
     close(told[0]);
     if (error == 0) return true;
     if (the.command > 0) waitpid(the.command, NULL, 0);
-    snprintf(why, WHY_LIMIT, "%.200s: %s", command[0], strerror(error));
+    snprintf(why, WHY_LIMIT, "%.200s: %s", beginning->command[0], strerror(error));
     *status = error == ENOENT ? 127 : 126;
     return false;
 }

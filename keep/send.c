@@ -68,10 +68,12 @@ void send_keys_to(const struct folder *folder, const char *name, char **keys, bo
     if (!is_text) look_at_names(keys);
     it.socket = existing(folder, name);
     if (wire_begin(it.socket, ASK_SEND, 0, &hello, why) != WIRE_OK) fail(1, "%s %s", name, why);
+    it.keys.is_utf8 = hello.is_utf8;
     if (hello.is_over) fail(1, "the command of %s has ended", name);
     if (*keys == NULL) send_input();
     for (; *keys != NULL; keys++) {
-        len = is_text ? 0 : keys_named(&it.terminal, *keys, key);
+        bool is_itself = it.keys.is_utf8 && (uint8_t)**keys >= 0x80; /* a character, which is a key's name only on a VT220 */
+        len = is_text || is_itself ? 0 : keys_named(&it.terminal, *keys, key);
         if (len > 0) send_bytes(key, len);
         else send_text(*keys, strlen(*keys));
     }

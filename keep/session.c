@@ -194,7 +194,7 @@ static void set_title(char **command) {
     size_t len = 0;
     for (; *command != NULL; command++) {
         for (const char *at = *command; *at != 0 && len < sizeof the.title - 2; at++) {
-            the.title[len++] = *at >= ' ' && *at <= '~' ? *at : '?';
+            the.title[len++] = (uint8_t)*at >= ' ' && *at != 0x7F ? *at : '?'; /* `list` looks at the others */
         }
         if (command[1] != NULL && len < sizeof the.title - 2) the.title[len++] = ' ';
     }
@@ -220,6 +220,7 @@ static bool begin(const struct beginning *beginning, struct report *report) {
     set_title(beginning->command);
     the.linger = linger();
     the.began = time(NULL);
+    the.is_utf8 = beginning->is_utf8;
     report->status = the.linger < 0 ? 2 : 1;
     if (the.linger < 0) snprintf(report->why, WHY_LIMIT, "KEEP_LINGER='%.100s': give a number of seconds, at most a year", getenv("KEEP_LINGER"));
     if (the.linger < 0) return false;
@@ -228,7 +229,7 @@ static bool begin(const struct beginning *beginning, struct report *report) {
     bool is_open = vt220_open(&the.terminal) == VT220_OK && vt220_open(&the.settled) == VT220_OK;
     is_open = is_open && vt220_scratch_open(&the.scratch) == VT220_OK;
     if (!is_open) snprintf(report->why, WHY_LIMIT, "out of memory");
-    if (is_open && run_command(beginning->command, beginning->locale, report->why, &report->status)) return true;
+    if (is_open && run_command(beginning, report->why, &report->status)) return true;
     remove_own(the.folder.file, the.name, &the.socket);
     return false;
 }

@@ -48,6 +48,9 @@ struct session {
     char name[NAME_LIMIT + 1];
     struct identity socket;
     vt220 terminal, settled;
+    bool is_utf8;                /* what the program writes is UTF-8 */
+    vt220_utf8 pending;          /* the beginning of a character that isn't complete */
+    vt220_utf8 settled_pending;  /* and what it was when `settled` was made */
     vt220_scratch scratch;
     unsigned long changes; /* of `settled`, so far */
     uint8_t since[SINCE_LIMIT]; /* what was played since `settled`: the beginning of a sequence */
@@ -85,12 +88,13 @@ void answer_waiting(void);
 bool has_clients(void);
 
 /* program.c */
-bool run_command(char **command, const char *locale, char *why, int *status);
+bool run_command(const struct beginning *beginning, char *why, int *status);
 bool read_program(void);
 void write_program(void);
 bool add_input(const uint8_t *bytes, size_t len, bool is_report);
 bool settle(void);
 void remember(const uint8_t *bytes, size_t len);
+void replay(vt220 *t, vt220_utf8 *pending, const uint8_t *bytes, size_t len);
 void drain_program(void);
 void hang_up(void);
 

@@ -20,7 +20,7 @@
 #include <sys/wait.h>
 #include <unistd.h>
 
-enum { FORM = 1 };
+enum { FORM_LOWEST = 1, FORM = 2 /* since form 2 there is ITEM_ENCODING */ };
 
 static const char fits[] = "can go on"; /* what the new program reports; anything else is the reason why it can't */
 
@@ -36,6 +36,7 @@ enum {
     ITEM_NAME = 'N',
     ITEM_FOLDER = 'D', /* the path of its directory */
     ITEM_TITLE = 'T',
+    ITEM_ENCODING = 'E', /* `settled_pending`, if the session is in UTF-8 */
     ITEM_SCREEN = 'P', /* the repaint of `settled` */
     ITEM_SINCE = 'H',  /* what was played since then, inside a sequence */
     ITEM_KEYS = 'K',   /* what waits for the program; several items, in their order */
@@ -90,14 +91,16 @@ static void put_session(FILE *to) {
 static bool put_terminal(FILE *to, char *why) {
     static uint8_t bytes[VT220_PAINT_LIMIT];
     vt220 other = VT220_INIT;
+    vt220_utf8 pending = the.settled_pending;
     size_t len = 0;
+    if (the.is_utf8) put_item(to, ITEM_ENCODING, &pending, sizeof pending);
     vt220_repaint(&the.settled, &the.scratch, bytes, sizeof bytes, &len);
     put_item(to, ITEM_SCREEN, bytes, len);
     put_item(to, ITEM_SINCE, the.since, the.since_len);
     if (vt220_open(&other) != VT220_OK) return refused(why, "out of memory");
     vt220_feed(&other, bytes, len, NULL, 0, NULL);
-    vt220_feed(&other, the.since, the.since_len, NULL, 0, NULL);
-    bool is_same = vt220_same_state(&other, &the.terminal);
+    replay(&other, &pending, the.since, the.since_len);
+    bool is_same = vt220_same_state(&other, &the.terminal) && memcmp(&pending, &the.pending, sizeof pending) == 0;
     vt220_close(&other);
     return is_same || refused(why, "the command is inside a long control sequence; try again later");
 }
@@ -258,6 +261,14 @@ static bool take_session(const uint8_t *bytes, size_t len) {
     return has_line && take_file(the.folder.file) && take_file(the.listener);
 }
 
+static bool take_encoding(const uint8_t *bytes, size_t len) {
+    if (len != sizeof the.pending) return false;
+    the.is_utf8 = true;
+    memcpy(&the.pending, bytes, len);
+    the.settled_pending = the.pending;
+    return true;
+}
+
 static bool take_text(char *to, size_t room, const uint8_t *bytes, size_t len) {
     if (len >= room) return false;
     memcpy(to, bytes, len);
@@ -302,8 +313,9 @@ static bool take_item(char letter, const uint8_t *bytes, size_t len) {
     case ITEM_NAME: return take_text(the.name, sizeof the.name, bytes, len);
     case ITEM_FOLDER: return take_text(the.folder.path, sizeof the.folder.path, bytes, len);
     case ITEM_TITLE: return take_text(the.title, sizeof the.title, bytes, len);
+    case ITEM_ENCODING: return take_encoding(bytes, len);
     case ITEM_SCREEN: vt220_feed(&the.settled, bytes, len, NULL, 0, NULL); return vt220_feed(&the.terminal, bytes, len, NULL, 0, NULL) == len;
-    case ITEM_SINCE: remember(bytes, len); return vt220_feed(&the.terminal, bytes, len, NULL, 0, NULL) == len;
+    case ITEM_SINCE: remember(bytes, len); replay(&the.terminal, &the.pending, bytes, len); return true;
     case ITEM_KEYS: return add_input(bytes, len, false);
     case ITEM_REPORTS: return add_input(bytes, len, true);
     case ITEM_LINES: log_append(bytes, len); return true;
@@ -337,11 +349,11 @@ bool take_over(int state, char *why) {
     uint8_t *bytes = mmap(NULL, len, PROT_READ, MAP_PRIVATE, state, 0);
     if (bytes == MAP_FAILED) return refused(why, "its state can't be read: %s", strerror(errno));
     memcpy(&heading, bytes, sizeof heading);
-    bool is_state = memcmp(heading.magic, the_heading.magic, sizeof heading.magic) == 0, is_known = is_state && heading.form == FORM;
+    bool is_state = memcmp(heading.magic, the_heading.magic, sizeof heading.magic) == 0, is_known = is_state && heading.form >= FORM_LOWEST && heading.form <= FORM;
     bool is_fine = is_known && take_items(bytes + sizeof heading, len - sizeof heading);
     munmap(bytes, len);
     close(state);
-    if (is_state && !is_known) return refused(why, "its state has form %u, and the new program knows form %d", heading.form, FORM);
+    if (is_state && !is_known) return refused(why, "its state has form %u, and the new program knows the forms %d to %d", heading.form, FORM_LOWEST, FORM);
     if (!is_fine) return refused(why, "its state can't be read");
     the.width = vt220_width(&the.terminal);
     return true;

@@ -20,6 +20,14 @@ void wire_patience(int socket, int milliseconds) {
     setsockopt(socket, SOL_SOCKET, SO_SNDTIMEO, &limit, sizeof limit);
 }
 
+const char *encoding_name(bool is_utf8) {
+    return is_utf8 ? "utf-8" : "dec";
+}
+
+bool has_encoding(char ask, uint8_t version) {
+    return version >= PROTOCOL_ENCODING && (ask == ASK_ATTACH || ask == ASK_SEND);
+}
+
 static bool receive(int socket, void *to, size_t len) {
     for (size_t at = 0; at < len;) {
         ssize_t n = recv(socket, (char *)to + at, len - at, 0);
@@ -57,6 +65,17 @@ bool wire_receive(int socket, char *letter, uint8_t *bytes, size_t room, size_t 
     return length <= room && receive(socket, bytes, length);
 }
 
+/* Reads the frame that has the session's encoding, if one is sent. An older keeper's session isn't in UTF-8. */
+static int receive_encoding(int socket, char ask, struct hello *hello) {
+    uint8_t told = 0;
+    char letter;
+    size_t len;
+    if (!has_encoding(ask, hello->version)) return WIRE_OK;
+    if (!wire_receive(socket, &letter, &told, sizeof told, &len) || letter != FRAME_ENCODING) return WIRE_SILENT;
+    hello->is_utf8 = told == 1;
+    return WIRE_OK;
+}
+
 /* Asks, and reads the keeper's first frame. A keeper from before version 1 sends an empty FRAME_ANSWER. */
 int wire_begin(int socket, char ask, uint8_t flags, struct hello *hello, char *why) {
     const uint8_t asked[HELLO_LENGTH] = {'k', 'e', 'e', 'p', PROTOCOL_LOWEST, PROTOCOL_HIGHEST, (uint8_t)ask, flags};
@@ -75,8 +94,8 @@ int wire_begin(int socket, char ask, uint8_t flags, struct hello *hello, char *w
     }
     if (letter != FRAME_HELLO || len < 4) return WIRE_SILENT;
     told[len] = 0;
-    *hello = (struct hello){told[0], told[1], told[2], told[3] != 0};
-    if (hello->version >= PROTOCOL_LOWEST && hello->version <= PROTOCOL_HIGHEST) return WIRE_OK;
+    *hello = (struct hello){told[0], told[1], told[2], told[3] != 0, false};
+    if (hello->version >= PROTOCOL_LOWEST && hello->version <= PROTOCOL_HIGHEST) return receive_encoding(socket, ask, hello);
     for (uint8_t *at = told + 4; *at != 0; at++) *at = *at >= ' ' && *at <= '~' ? *at : '?';
     snprintf(why, WHY_LIMIT, "is kept by keep %.100s, which speaks protocol %u to %u; this one speaks %u to %u", (char *)told + 4,
              hello->lowest, hello->highest, PROTOCOL_LOWEST, PROTOCOL_HIGHEST);

@@ -8,7 +8,7 @@ use Rattle.vt_syntax.specs.Held.{IsHeldPart, spell, events_from, held_from}
 use Rattle.vt_syntax.specs.Laws.{SplitLaw}
 use Rattle.vt_term.specs.Reports.{report}
 use Rattle.vt_term.specs.Play.{joined}
-use Rattle.vt_utf8.specs.Decoding.{read, characters, pending_after}
+use Rattle.vt_utf8.specs.Decoding.{characters, pending_after}
 use Rattle.vt_utf8.proofs.Cuts.{characters-append, ascii-characters}
 use Rattle.vt_xterm.specs.Pages.{Screens}
 use Rattle.vt_xterm.specs.Front.{xterm_effect}

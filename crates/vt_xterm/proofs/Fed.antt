@@ -1,5 +1,5 @@
 -- What feeding leaves.
-use Rattle.std.proofs.Common.{◌≡◌, ℕ, ◌+◌, List, [], ◌∷◌, ◌++◌, All, ◌<◌, take, drop, length, refl, sym, ap, ◌∙◌, append_assoc, subst, false, arith}
+use Rattle.std.proofs.Common.{◌≡◌, ℕ, ◌+◌, List, [], ◌∷◌, ◌++◌, All, ◌<◌, take, drop, refl, sym, ap, ◌∙◌, append_assoc, subst, false, arith}
 use Rattle.std.specs.Prelude.{◌≤◌, nat_lt}
 use Rattle.std.proofs.lemmas.Bool.Decides.{nat_tests}
 use Rattle.std.proofs.Common.{append-nil}
@@ -13,9 +13,9 @@ use Rattle.vt_term.specs.Play.{play}
 use Rattle.vt_utf8.specs.Decoding.{read, characters, pending_after}
 use Rattle.vt_utf8.specs.Translation.{translation}
 use Rattle.vt_utf8.proofs.Cuts.{ascii-characters, ascii-pending, pending-append}
-use Rattle.vt_xterm.specs.Pages.{PagesState, Screens, screens, shown_by}
+use Rattle.vt_xterm.specs.Pages.{PagesState, screens, shown_by}
 use Rattle.vt_xterm.specs.Front.{xterm_effect}
-use Rattle.vt_xterm.specs.Play.{Whole, WholePlayed, FrontState, behind, screens_of, both, play_bytes}
+use Rattle.vt_xterm.specs.Play.{Whole, WholePlayed, FrontState, behind, both, play_bytes}
 use Rattle.vt_xterm.specs.Play.{play_character, play_characters, play_xterm}
 use Rattle.vt_xterm.specs.Private.Finding.{PlaysTerminals}
 use Rattle.vt_xterm.specs.Private.Feeds.{whole_of, Leaves, FeedsBytes, FeedsXterm}

@@ -17,7 +17,7 @@ use Rattle.vt_term.specs.Play.{play, after_events, reports_of}
 use Rattle.vt_term.proofs.Bytes.{graphic-events}
 use Rattle.vt_xterm.specs.Pages.{Screens, on_display}
 use Rattle.vt_xterm.specs.Attributes.{begins_colour}
-use Rattle.vt_xterm.specs.Front.{xterm_effect, functions_of, function_in}
+use Rattle.vt_xterm.specs.Front.{functions_of, function_in}
 use Rattle.vt_xterm.specs.Play as xterm
 use Rattle.vt_xterm.specs.Play.{Whole, play_bytes}
 use Rattle.vt_xterm.specs.Private.Finding.{IsTerminals, AreTerminals, PlaysTerminals}

@@ -1,12 +1,11 @@
--- Events that a front leaves to the terminal, and the law of the observer that finds the others. Contracts of private functions
--- cite this, and no public clause does.
+-- Events that a front leaves to the terminal, and the law of the observer that finds the others. Of the public clauses one cites
+-- this, `terminals` of laws::transparent.
 use Rattle.std.specs.Prelude.{◌≡◌, ℕ, ◌++◌, ◌∷◌, List, [], ⊤}
 use Rattle.std.proofs.Common.{subst, sym}
 use Rattle.vt_syntax.specs.declared.event.Event.{Event}
 use Rattle.vt_syntax.specs.Held.{events_from}
 use Rattle.vt_syntax.specs.Laws.{SplitLaw}
 use Rattle.vt_term.specs.State.{State}
-use Rattle.vt_term.specs.Sound.{IsSound}
 use Rattle.vt_term.specs.Functions.{effect}
 use Rattle.vt_term.specs.Play.{play}
 use Rattle.vt_term.specs.Observing.{AreCut}

@@ -1,4 +1,4 @@
-"""The benchmark's inputs: seven workloads and three screens, the same bytes on every machine."""
+"""The benchmark's inputs: seven workloads, three in UTF-8, and three screens, the same bytes on every machine."""
 
 LETTERS = b"      eeeeettttaaaaooooiiinnnssshhrrddllccuummwwffggyyppbbvkxjqz.,0123456789"
 
@@ -71,16 +71,30 @@ def bells(source):
     return plain(source) + (b"\a" if source.below(16) == 0 else b"")
 
 
+def german(source):
+    """A line of letters in UTF-8, one in eight of them beyond ASCII."""
+    line = (source.among("äöüßÄÖÜ") if source.below(8) == 0 else chr(source.among(LETTERS)) for _ in range(source.below(101)))
+    return "".join(line).encode() + b"\r\n"
+
+
+def boxes(source):
+    """A row of a table and a line under it, in UTF-8."""
+    cells = [source.text(source.below(16)).decode() for _ in range(1 + source.below(5))]
+    rule = "┼".join("─" * len(cell) for cell in cells)
+    return f"│{'│'.join(cells)}│\r\n├{rule}┤\r\n".encode()
+
+
 WORKLOADS = {"plain lines": plain, "addressing, SGR": addressing, "region, IL, DL": region,
              "supplemental": supplemental, "random bytes": random_bytes, "scroll region": scrolling, "bells": bells}
+UTF_8 = {"plain lines": plain, "German": german, "boxes": boxes}
 
 
-def make(name, size):
+def make(name, size, among=WORKLOADS):
     """The first `size` bytes of a workload."""
-    source = Source(1 + list(WORKLOADS).index(name))
+    source = Source(1 + list(among).index(name))
     parts, length = [], 0
     while length < size:
-        parts.append(WORKLOADS[name](source))
+        parts.append(among[name](source))
         length += len(parts[-1])
     return b"".join(parts)[:size]
 

@@ -82,6 +82,18 @@ size_t core_feed_log(handle *t, handle *s, const uint8_t *bytes, size_t len, boo
     return feeds(bytes, len, counts, rung);
 }
 
+size_t core_feed_utf8(handle *t, vt220_utf8 *u, const uint8_t *bytes, size_t len, bool counts, uint8_t *reports, size_t size,
+                      size_t *written, size_t *rung) {
+    return core_feed(t, bytes, len, counts, reports, size, written, rung);
+}
+
+size_t core_feed_log_utf8(handle *t, handle *s, vt220_utf8 *u, const uint8_t *bytes, size_t len, bool counts, uint8_t *reports, size_t size,
+                          size_t *written, uint8_t *lines, size_t lines_size, size_t *lines_written, size_t *rung) {
+    return core_feed_log(t, s, bytes, len, counts, reports, size, written, lines, lines_size, lines_written, rung);
+}
+
+uint32_t core_shown(uint32_t character, size_t *cells) { return *cells = 1, character; }
+
 uint32_t core_reset(handle *t) { return move(t), VT220_OK; }
 uint32_t core_copy(handle *to, handle *from) { return move(to), stay(from), VT220_OK; }
 
@@ -120,6 +132,7 @@ bool core_same_state(handle *a, handle *b) { return stay(a), stay(b), true; }
 
 static vt220 t = VT220_INIT, u = VT220_INIT;
 static vt220_scratch s = VT220_INIT;
+static vt220_utf8 pending;
 static uint8_t out[100], lines[1000];
 static size_t written, logged;
 
@@ -131,6 +144,8 @@ static void handles_have_the_new_blocks(void) {
         CHECK(vt220_feed(&t, BYTES("a\ab"), NULL, 0, NULL) == 3);
         CHECK(vt220_feed_log(&t, &s, BYTES("a\ab"), out, sizeof out, &written, lines, sizeof lines, &logged) == 3);
         CHECK(vt220_feed_log(&t, &s, BYTES("a\ab"), NULL, 0, NULL, lines, sizeof lines, &logged) == 3);
+        CHECK(vt220_feed_utf8(&t, &pending, BYTES("a\ab"), out, sizeof out, &written) == 3);
+        CHECK(vt220_feed_log_utf8(&t, &s, &pending, BYTES("a\ab"), out, sizeof out, &written, lines, sizeof lines, &logged) == 3);
         CHECK(vt220_reset(&t) == VT220_OK && vt220_copy(&t, &u) == VT220_OK);
         CHECK(vt220_update(&t, &u, &s, out, sizeof out, &written) == VT220_OK);
         CHECK(vt220_text(&t, &s, out, sizeof out, &written) == VT220_OK && vt220_row_text(&t, &s, 1, out, sizeof out, &written) == VT220_OK);

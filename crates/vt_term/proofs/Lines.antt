@@ -1,10 +1,10 @@
 -- The text of a row.
 use Rattle.std.proofs.Common.{◌≡◌, ◌≢◌, inl, inr, ℕ, zero, suc, ◌<◌, List, [], ◌∷◌, ◌++◌, length, take, get_or}
-use Rattle.std.proofs.Common.{◌+◌, ◌≤◌, All, map, drop, subst, refl, sym, ap, ◌∙◌, arith, add-one}
+use Rattle.std.proofs.Common.{◌+◌, ◌≤◌, All, map, drop, set, subst, refl, sym, ap, ◌∙◌, arith, add-one}
 use Rattle.std.proofs.Math.Seq.{take-suc}
 use Rattle.std.proofs.lemmas.Bool.Decides.{eqb_tells, nat_tests}
 use Rattle.std.proofs.lemmas.Grind.{same_number_lists}
-use Rattle.std.proofs.lemmas.List.{length-take-le, length-map, get_or-map, get_or-take, take-map, take-append-drop, map-append, drop-drop}
+use Rattle.std.proofs.lemmas.List.{length-take-le, length-map, get_or-map, get_or-take, take-map, take-append-drop, map-append, drop-drop, take_more_set, take-take}
 use Rattle.std.proofs.lemmas.List.Elements.{All-get_or, All-head, All-tail, All-from_get_or}
 use Rattle.std.proofs.lemmas.Str.{encode_ascii, encodes-append}
 use Rattle.vt_syntax.specs.Class.{IsPlain}
@@ -12,7 +12,7 @@ use Rattle.vt_glyph.specs.Encoding.{encoded_glyph, encoding_of}
 use Rattle.vt_screen.specs.Cells.{blank}
 use Rattle.vt_glyph.specs.Spell.{spelling_of}
 use Rattle.vt_glyph.specs.Tables.{space, glyph_of}
-use Rattle.vt_term.specs.Text.{trimmed, before_trimmed, glyphs_of}
+use Rattle.vt_term.specs.Text.{trimmed, before_trimmed, glyphs_of, line_text}
 use Rattle.vt_screen.specs.declared.cell.Cell.{Cell}
 use Rattle.std.specs.Prelude.{encode_utf8_all, encode_utf8}
 
@@ -151,6 +151,24 @@ plain-front cells codes run long within plain are =
     let inside : k < run = omega (arith, below, short) in
     are k (omega (arith, inside, within)) ∙ ap (λ (cell : Cell). cell.glyph) (sym (get_or-take run cells k blank inside))) in
     sym (plain-encoded (take run codes) plain) ∙ ap encode_utf8_all same
+
+-- the text of a row whose codes are plain up to the spaces at its end: they, and LF in place of the code after them
+pub plain-line : (cells : List Cell) (codes : List ℕ) (end : ℕ) → length cells < length codes → end ≤ length cells
+    → ((k : ℕ) → k < length cells → encoded_glyph (get_or codes k 0) ≡ (get_or cells k blank).glyph)
+    → ((k : ℕ) → k < length cells → get_or codes k 0 ≡ encoding_of (get_or cells k blank).glyph)
+    → take end (take (length cells) codes) ≡ trimmed (take (length cells) codes)
+    → All IsPlain (take end codes)
+    → take (end + 1) (set codes end 0x0A) ≡ line_text cells
+plain-line cells codes end long within glyphs are text plain =
+    let front : List ℕ = take (length cells) codes in
+    let same : take end front ≡ take end codes = take-take end (length cells) codes within in
+    take_more_set codes end 0x0A (omega (arith, within, long))
+    ∙ ap (λ (t : List ℕ). t ++ 0x0A ∷ [])
+    (sym same
+    ∙ plain-front cells front end (length-take-le (length cells) codes (omega (arith, long))) within
+    (subst (All IsPlain) (sym same) plain)
+    (λ k below. ap encoded_glyph (get_or-take (length cells) codes k 0 below) ∙ glyphs k below)
+    ∙ ap encode_utf8_all (trimmed-glyphs cells codes end (omega (arith, long)) glyphs are text))
 
 -- the UTF-8 of cells from a place on: of some, and of those after them
 pub encoded-parts : (cells : List Cell) (at n : ℕ)

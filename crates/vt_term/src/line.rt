@@ -1,4 +1,4 @@
-//! The text of a row. Speed: ASCII is appended a run at a time.
+//! The text of a row. Speed: ASCII is appended a run at a time, and a row that is all ASCII at once with its LF.
 ghost use Rattle.std.specs.Prelude.{◌≡◌, ◌+◌, ◌*◌, ◌≤◌, ◌<◌, ◌++◌, ℕ, length, take, slice_index};
 ghost use Rattle.std.specs.Prelude.{slice_index_or, vec_len, vec_capacity, encode_utf8, encode_utf8_all};
 ghost use Rattle.std.specs.Bool.{OnTrue};
@@ -12,6 +12,9 @@ use vt_glyph::Glyph;
 use vt_screen::Cell;
 use vt_syntax::plain_run;
 
+/// The most bytes of the text of a row of ASCII glyphs: one for each of 132 cells, and LF.
+const LINE: usize = STOPS + 1;
+
 /// How many spaces at the end are looked for at a time.
 const BLOCK: usize = 8;
 
@@ -23,16 +26,21 @@ pub(crate) fn push_line(cells: &[Cell], out: &mut Vec<u8>)
     ensures bounded { vec_len out.new ≤ vec_len out.old + 3 * length cells.now + 1 }
     ensures capacity { vec_capacity out.old ≤ vec_capacity out.new }
 {
-    let mut codes = [0u8; STOPS];
+    let mut codes = [0u8; LINE];
     put_codes(cells, &mut codes);
     let end = end_of_text(&codes[..cells.len()]);
-    push_characters(&cells[..end], &codes[..end], out);
-    out.push(b'\n').unwrap();
+    if plain_run(&codes[..end]) == end {
+        codes[end] = b'\n';
+        out.extend_from_slice(&codes[..end + 1]).unwrap();
+    } else {
+        push_characters(&cells[..end], &codes[..end], out);
+        out.push(b'\n').unwrap();
+    }
 }
 
 /// Writes the code of each cell's glyph over the front of a line.
 #[inline(always)]
-fn put_codes(cells: &[Cell], codes: &mut [u8; STOPS])
+fn put_codes(cells: &[Cell], codes: &mut [u8; LINE])
     requires { length cells.now ≤ 132 }
     ensures glyphs { (k : ℕ) → k < length cells.now
         → encoded_glyph (slice_index codes.new k) ≡ (slice_index_or cells.now k blank).glyph }

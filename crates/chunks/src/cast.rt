@@ -3,7 +3,7 @@
 use crate::smallest::{Property, smallest};
 use std::alloc::{AllocError, Global};
 use std::io;
-use vt_recording::{Format, Moment, Taken, take_apart};
+use vt_recording::{Encoding, Format, Moment, Taken, take_apart};
 
 /// An event that comes no time after the one before it, in version 3, and writes one byte.
 const AT_ONCE: &[u8] = b"[0, \"o\", \"x\"]\n";
@@ -11,13 +11,14 @@ const AT_ONCE: &[u8] = b"[0, \"o\", \"x\"]\n";
 /// Two events of a second. In version 3 the second one comes two seconds after the beginning.
 const SECONDS: &[u8] = b"[1, \"o\", \"x\"]\n[1, \"o\", \"x\"]\n";
 
-/// Returns the content of a cast up to a moment.
+/// Returns the content of a cast up to a moment, in UTF-8.
 fn taken(alloc: Global, cast: &[u8], until: Option<u64>) -> Result<Taken, AllocError> {
     let until = match until {
         Some(micros) => Some(Moment::Micros(micros)),
         None => None,
     };
-    take_apart(alloc, cast, None, Format::Asciicast, until)
+    let format = Format::Asciicast;
+    take_apart(alloc, cast, None, format, Encoding::Utf8, until)
 }
 
 /// Whether all content of a cast has come so many microseconds after a time.
@@ -49,8 +50,6 @@ struct Lines {
     is_relative: bool,
     /// The time so far, in microseconds.
     clock: u64,
-    /// The number of characters without a byte so far.
-    replaced: u64,
 }
 
 impl Lines {
@@ -70,7 +69,6 @@ impl Lines {
             header,
             is_relative: in_a_second.content.len() == 1,
             clock: 0,
-            replaced: 0,
         }))
     }
 
@@ -90,7 +88,6 @@ impl Lines {
         if length > 0 {
             self.wait_for(length)?;
         }
-        self.replaced = self.replaced.saturating_add(whole.replaced);
         if self.is_relative {
             Ok(Some(length.saturating_sub(1)))
         } else {
@@ -143,5 +140,5 @@ pub(crate) fn list_cast(rt: &(impl Print + AllocGlobal), recording: &[u8]) -> io
         }
         at = at.saturating_add(line.len());
     }
-    println!(rt; "replaced {}", lines.replaced)
+    Ok(())
 }

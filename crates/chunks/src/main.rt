@@ -1,10 +1,9 @@
-//! Lists when the bytes of a recording came: the chunks of its content, each with its time. The recording is standard input, and its
-//! beginning shows its format. `--timing FILE` names the timing file of script(1), and the recording is then one by script. Each line has a
-//! word and numbers:
+//! Lists when the bytes of a recording came: the chunks of its content, each with its time. With `--content` it writes the content instead.
+//! The recording is standard input, and its beginning shows its format. `--timing FILE` names the timing file of script(1), and the
+//! recording is then one by script. The characters of a recording by asciinema are UTF-8. Each line of the list has a word and numbers:
 //!
 //! - `chunk MICROS BYTES`: so many bytes of the content came at this time, in microseconds from the beginning. A time that is earlier
-//!   than the one before it is given as that one. The bytes in turn are the content, which `vt220 content` prints
-//! - `replaced COUNT`: so many characters of the chunks have no byte on a VT220, and SUB is in their place
+//!   than the one before it is given as that one. The bytes in turn are the content
 //! - `broken OFFSET`: the recording breaks its format here, and what follows isn't listed
 //! - `broken-timing OFFSET`: the timing file does so
 //! - `timeless`: the format has no times, and nothing is listed
@@ -23,22 +22,59 @@ mod ttyrec;
 use crate::cast::list_cast;
 use crate::script::list_script;
 use crate::ttyrec::list_ttyrec;
-use std::io::{self, Input, Read};
+use std::io::{self, Input, Read, Write};
 use std::{env, fs};
-use vt_recording::{Detected, Format, detect};
+use vt_recording::{Detected, Encoding, Format, detect, take_apart};
 
 fn main(rt: HostRuntime) -> io::Result<()> {
     let mut recording = Vec::new(rt.alloc());
     rt.reader().read_to_end(&mut recording)?;
     let words: Vec<String> = env::args(&rt)?.collect(rt.alloc())?;
-    if let (Some(option), Some(timing)) = (words.get(1), words.get(2)) {
-        if option.as_str() == "--timing" {
-            return list_script(&rt, &recording, &fs::read(&rt, timing.as_str())?);
-        }
+    let wants_content = is_word(words.get(1), "--content");
+    let at = if wants_content { 2 } else { 1 };
+    let timing = match words.get(at + 1) {
+        Some(name) if is_word(words.get(at), "--timing") => Some(fs::read(&rt, name.as_str())?),
+        _ => None,
+    };
+    if wants_content {
+        write_content(&rt, &recording, timing.as_deref())
+    } else if let Some(timing) = timing {
+        list_script(&rt, &recording, &timing)
+    } else {
+        list(&rt, &recording)
     }
-    match detect(&recording) {
-        Detected::Recording(Format::Asciicast) => list_cast(&rt, &recording),
-        Detected::Recording(Format::Ttyrec) => list_ttyrec(&rt, &recording),
+}
+
+/// Returns whether an argument is this word.
+fn is_word(argument: Option<&String>, word: &str) -> bool {
+    match argument {
+        Some(argument) => argument.as_str() == word,
+        None => false,
+    }
+}
+
+/// Writes the content of a recording. A compressed file is written as it is.
+fn write_content(
+    rt: &(impl Print + AllocGlobal),
+    recording: &[u8],
+    timing: Option<&[u8]>,
+) -> io::Result<()> {
+    let format = match detect(recording) {
+        _ if timing.is_some() => Format::Script,
+        Detected::Recording(format) => format,
+        Detected::Compressed(_) => Format::Raw,
+    };
+    let taken = take_apart(rt.alloc(), recording, timing, format, Encoding::Utf8, None)?;
+    let mut writer = io::writer(rt);
+    writer.write_all(&taken.content)?;
+    writer.flush()
+}
+
+/// Lists the chunks of a recording without a timing file.
+fn list(rt: &(impl Print + AllocGlobal), recording: &[u8]) -> io::Result<()> {
+    match detect(recording) {
+        Detected::Recording(Format::Asciicast) => list_cast(rt, recording),
+        Detected::Recording(Format::Ttyrec) => list_ttyrec(rt, recording),
         Detected::Recording(_) => println!(rt; "timeless"),
         Detected::Compressed(_) => println!(rt; "compressed"),
     }

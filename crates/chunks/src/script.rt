@@ -5,7 +5,7 @@ use crate::cast::line_length;
 use crate::smallest::{Property, smallest};
 use std::alloc::{AllocError, Global};
 use std::io;
-use vt_recording::{Format, Moment, Part, Taken, take_apart};
+use vt_recording::{Encoding, Format, Moment, Part, Taken, take_apart};
 
 /// The first line of a session.
 const FIRST_LINE: &[u8] = b"Script started on \n";
@@ -24,7 +24,8 @@ fn taken(
         Some(micros) => Some(Moment::Micros(micros)),
         None => None,
     };
-    take_apart(alloc, session, Some(timing), Format::Script, until)
+    let format = Format::Script;
+    take_apart(alloc, session, Some(timing), format, Encoding::Dec, until)
 }
 
 /// Returns the first line of a session and so many of its bytes, or all of them if there are fewer.
@@ -188,10 +189,9 @@ pub(crate) fn list_script(
     }
     match whole.broken {
         Some(place) => match place.part {
-            Part::Recording => println!(rt; "broken {}", place.at)?,
-            Part::Timing => println!(rt; "broken-timing {}", place.at)?,
+            Part::Recording => println!(rt; "broken {}", place.at),
+            Part::Timing => println!(rt; "broken-timing {}", place.at),
         },
-        None => {}
+        None => Ok(()),
     }
-    println!(rt; "replaced 0")
 }

@@ -3,7 +3,7 @@
 use crate::smallest::{Property, smallest};
 use std::alloc::{AllocError, Global};
 use std::io;
-use vt_recording::{Format, Moment, Taken, take_apart};
+use vt_recording::{Encoding, Format, Moment, Taken, take_apart};
 
 /// Returns the content of frames up to a moment.
 fn taken(alloc: Global, frames: &[u8], until: Option<u64>) -> Result<Taken, AllocError> {
@@ -11,7 +11,8 @@ fn taken(alloc: Global, frames: &[u8], until: Option<u64>) -> Result<Taken, Allo
         Some(micros) => Some(Moment::Micros(micros)),
         None => None,
     };
-    take_apart(alloc, frames, None, Format::Ttyrec, until)
+    let format = Format::Ttyrec;
+    take_apart(alloc, frames, None, format, Encoding::Dec, until)
 }
 
 /// Whether bytes begin with a whole frame, if all after so many are left out.
@@ -103,5 +104,5 @@ pub(crate) fn list_ttyrec(rt: &(impl Print + AllocGlobal), recording: &[u8]) -> 
         }
         at = at.saturating_add(frame.len());
     }
-    println!(rt; "replaced 0")
+    Ok(())
 }

@@ -95,7 +95,7 @@ Each command but help takes FILE, or standard input if no file is named, and the
   --format FORMAT  how FILE was recorded: raw, script, ttyrec, asciicast or auto [default: raw]
   --timing FILE    the times of a recording by script(1)
   --until MOMENT   only what came before: seconds, as 12.5 or 12:31, or bytes, as 4096b
-  --encoding NAME  how the host's bytes are read: dec or utf-8 [default: dec]
+  --encoding NAME  how the host's bytes are read: dec or utf-8 [default: dec, for asciicast utf-8]
   --quiet          no notes on standard error; faults are printed all the same
 
 Example, with a recording made by script(1):
@@ -218,7 +218,7 @@ fn encoding_option<'a>(alloc: Global) -> Arg<'a>
     ensures rule { rule_of result ≡ text_option (codes "encoding") }
     ensures local { result.global ≡ false }
 {
-    let help = "How the host's bytes are read: dec or utf-8 [default: dec]";
+    let help = "How the host's bytes are read: dec or utf-8 [default: dec, for asciicast utf-8]";
     text_option(alloc, "encoding", "NAME", help)
 }
 

@@ -1,11 +1,13 @@
 -- What a request takes from its reader and gives to its writer. (this profile)
-use Rattle.std.specs.Prelude.{◌≡◌, ◌⊎◌, ℕ, ◌≤◌, ◌<◌, ◌+◌, ◌++◌, ⊤, List, [], length, Bool, true, false, not, Option, Some, None, Result, Ok, Err}
+use Rattle.std.specs.Prelude.{◌≡◌, ◌⊎◌, ℕ, ◌≤◌, ◌<◌, ◌+◌, ◌++◌, ⊤, List, [], length, Bool, true, false, not, Option, Some, None, unwrap_or, Result, Ok, Err}
 use Rattle.std.specs.declared.alloc.Global.{Global}
 use Rattle.std.specs.declared.vec.Vec.{Vec}
 use Rattle.vt_device.specs.Runs.{Flags}
 use Rattle.vt_cli.specs.declared.asked.Request.{Request}
 use Rattle.vt_recording.specs.declared.format.Encoding.{Encoding}
-use Rattle.vt_recording.specs.declared.format.Encoding.TheVariants.{Dec}
+use Rattle.vt_recording.specs.declared.format.Encoding.TheVariants.{Dec, Utf8}
+use Rattle.vt_cli.specs.declared.what.Word.{Word}
+use Rattle.vt_cli.specs.declared.what.Word.TheVariants as word
 use Rattle.vt_recording.specs.declared.format.Format.{Format}
 use Rattle.vt_recording.specs.declared.format.Format.TheVariants as format
 use Rattle.vt_recording.specs.declared.format.Moment.{Moment}
@@ -29,12 +31,21 @@ abbrev pub encoding_wanted : Option Encoding → Encoding
 encoding_wanted (Some encoding) = encoding
 encoding_wanted None = Dec
 
--- the encoding of the content of a recording in a format: asciinema keeps characters, of which the content has the bytes
-abbrev pub encoding_of : Option Encoding → Format → Encoding
-encoding_of wanted format.Raw = encoding_wanted wanted
-encoding_of wanted format.Script = encoding_wanted wanted
-encoding_of wanted format.Ttyrec = encoding_wanted wanted
-encoding_of wanted format.Asciicast = Dec
+-- the encoding of a recording by asciinema, where none was asked for. A trace and a summary read no UTF-8
+abbrev pub cast_encoding : Word → Encoding
+cast_encoding (word.Replay what) = Utf8
+cast_encoding word.Log = Utf8
+cast_encoding word.Pages = Utf8
+cast_encoding word.Trace = Dec
+cast_encoding word.Summary = Dec
+cast_encoding word.Content = Utf8
+
+-- the encoding of the content of a recording in a format, for a word
+abbrev pub encoding_of : Option Encoding → Word → Format → Encoding
+encoding_of wanted word format.Raw = encoding_wanted wanted
+encoding_of wanted word format.Script = encoding_wanted wanted
+encoding_of wanted word format.Ttyrec = encoding_wanted wanted
+encoding_of wanted word format.Asciicast = unwrap_or wanted (cast_encoding word)
 
 -- the input is played as it comes: it is the host's bytes, and all of them are wanted
 abbrev pub is_streamed : Format → Option Moment → Bool
@@ -89,8 +100,8 @@ pub record IsTakenApart (o : Outcome) (r : Request) (format : Format) (timing : 
   pub content : List ℕ
   pub broken : Option Break
   pub replaced : ℕ
-  pub taken : IsTaken format r.until timing b content broken replaced
-  pub played : IsPlayed o r (encoding_of r.encoding format) content broken replaced w f.writer_failed
+  pub taken : IsTaken format (encoding_of r.encoding r.word format) r.until timing b content broken replaced
+  pub played : IsPlayed o r (encoding_of r.encoding r.word format) content broken replaced w f.writer_failed
 
 -- why an input wasn't read whole or taken apart
 abbrev pub UnreadTable : ReplayFault → (b : List ℕ) → (failed ended : Bool) → (limit : ℕ) → Type 0

@@ -7,7 +7,7 @@ ghost use Rattle.vt_replay.specs.Output.{OutputTable, EncodedTable, always};
 ghost use Rattle.vt_commands.specs.Words.{WordTable, pages_written, trace_written, trace_ending, all, nothing};
 ghost use Rattle.vt_replay.specs.Log.{screen};
 ghost use Rattle.vt_commands.specs.declared.fault.Fault.TheVariants.{Replay};
-ghost use Rattle.vt_commands.specs.Request.{encoding_wanted, encoding_of, is_streamed, format_of, lacks_times, unread_fault, ended_of, IsStreamed, IsPlayed, OutcomeTable, TimingTable};
+ghost use Rattle.vt_commands.specs.Request.{encoding_wanted, cast_encoding, encoding_of, is_streamed, format_of, lacks_times, unread_fault, ended_of, IsStreamed, IsPlayed, OutcomeTable, TimingTable};
 
 use crate::counting::write_summary;
 use crate::fault::Fault;
@@ -148,14 +148,23 @@ fn encoding_wanted(wanted: Option<Encoding>) -> Encoding
     }
 }
 
-/// Returns the encoding of the content of a recording in a format. asciinema keeps characters, of which the content has the
-/// bytes.
-fn encoding_of(wanted: Option<Encoding>, format: Format) -> Encoding
-    ensures { result ≡ encoding_of wanted format }
+/// Returns the encoding of a recording by asciinema, where none was asked for. A trace and a summary read no UTF-8.
+fn cast_encoding(word: Word) -> Encoding
+    ensures { result ≡ cast_encoding word }
+{
+    match word {
+        Word::Replay(_) | Word::Log | Word::Pages | Word::Content => Encoding::Utf8,
+        Word::Trace | Word::Summary => Encoding::Dec,
+    }
+}
+
+/// Returns the encoding of the content of a recording in a format, for a word.
+fn encoding_of(wanted: Option<Encoding>, word: Word, format: Format) -> Encoding
+    ensures { result ≡ encoding_of wanted word format }
 {
     match format {
         Format::Raw | Format::Script | Format::Ttyrec => encoding_wanted(wanted),
-        Format::Asciicast => Encoding::Dec,
+        Format::Asciicast => wanted.unwrap_or(cast_encoding(word)),
     }
 }
 
@@ -259,8 +268,9 @@ pub fn lacks_times(format: Format, timed: bool, until: Option<Moment>) -> bool
 /// `format_of`. It doesn't look at the request's files: the caller opens its file as the reader, and reads its timing file.
 /// Neither device has failed before, and the reader hasn't ended.
 ///
-/// The word is carried out on the host's bytes in the request's encoding. A trace and a summary are of the bytes as they
-/// are, and so is everything of a recording by asciinema, which keeps characters.
+/// The word is carried out on the host's bytes in the request's encoding, otherwise in dec. A recording by asciinema keeps
+/// characters. Its content has their bytes in the request's encoding, otherwise in UTF-8. A trace and a summary are of the
+/// bytes as they are, and for them a recording by asciinema is otherwise in dec.
 ///
 /// If the format is raw and all of the input is wanted, the word is carried out on the bytes as they come. Otherwise the
 /// input is read whole, and the word is carried out on its content up to the moment. If the recording is broken, that is
@@ -285,13 +295,13 @@ pub fn carry_out<R: Read, W: Write>(
         return stream(alloc, reader, writer, request);
     }
     match read_recording(alloc, reader, request.limit as usize) {
-        Ok(bytes) => match take_apart(alloc, &bytes, timing, format, request.until) {
-            Ok(taken) => {
-                let encoding = encoding_of(request.encoding, format);
-                play_taken(alloc, taken, encoding, writer, request)
+        Ok(bytes) => {
+            let encoding = encoding_of(request.encoding, request.word, format);
+            match take_apart(alloc, &bytes, timing, format, encoding, request.until) {
+                Ok(taken) => play_taken(alloc, taken, encoding, writer, request),
+                Err(AllocError) => unread(vt_replay::Fault::Memory),
             }
-            Err(AllocError) => unread(vt_replay::Fault::Memory),
-        },
+        }
         Err(fault) => unread(unread_fault(fault)),
     }
 }

@@ -3,6 +3,8 @@ use Rattle.std.proofs.Common.{◌≡◌, ◌+◌, ◌≤◌, ◌++◌, ◌∷◌
 use Rattle.std.specs.List.{position_or_len}
 use Rattle.std.proofs.lemmas.List.{length-take-le, take_all, drop_all, drop-drop}
 use Rattle.std.proofs.lemmas.Bool.Decides.{nat_tests}
+use Rattle.vt_recording.specs.declared.format.Encoding.{Encoding}
+use Rattle.vt_recording.specs.declared.format.Encoding.TheVariants.{Dec, Utf8}
 use Rattle.vt_recording.specs.declared.format.Moment.{Moment}
 use Rattle.vt_recording.specs.declared.format.Moment.TheVariants.{Micros, Bytes}
 use Rattle.vt_recording.specs.Moment.{cut, micros_of}
@@ -86,11 +88,11 @@ nothing_heard true event version until clock t = refl
 nothing_heard false None version until clock t = refl
 nothing_heard false (Some e) version until clock t = grind (arith, t)
 
-pub record Played (version : ℕ) (until : Option Moment) (text : List ℕ) (clock at : ℕ) (whole : Cast) (bytes : List ℕ)
+pub record Played (version : ℕ) (encoding : Encoding) (until : Option Moment) (text : List ℕ) (clock at : ℕ) (whole : Cast) (bytes : List ℕ)
     (replaced : ℕ) : Type 0 where
   pub front : List ℕ
   pub ahead : whole ≡ after front (cast_of version (micros_of until) clock at (lines_of (drop at text)))
-  pub written : AreWritten (cut until front) bytes replaced
+  pub written : AreWritten encoding until front bytes replaced
 
 after_both : (p q : List ℕ) (cast : Cast) → after p (after q cast) ≡ after (p ++ q) cast
 after_both p q cast =
@@ -101,17 +103,21 @@ cut_nothing None = refl
 cut_nothing (Some (Micros n)) = refl
 cut_nothing (Some (Bytes n)) = take_all n [] (omega arith)
 
-pub none_played : (version : ℕ) (until : Option Moment) (text : List ℕ) (from : ℕ) (bytes : List ℕ) (n : ℕ)
+nothing_written : (encoding : Encoding) (until : Option Moment) → AreWritten encoding until [] [] 0
+nothing_written Dec until = rw (cut_nothing until) (record { bytes_are = refl; replaced_are = refl })
+nothing_written Utf8 until = (sym (cut_nothing until), refl)
+
+pub none_played : (version : ℕ) (encoding : Encoding) (until : Option Moment) (text : List ℕ) (from : ℕ) (bytes : List ℕ) (n : ℕ)
     → bytes ≡ [] → n ≡ 0
-    → Played version until text 0 from (cast_of version (micros_of until) 0 from (lines_of (drop from text))) bytes n
-none_played version until text from bytes n e z = record {
+    → Played version encoding until text 0 from (cast_of version (micros_of until) 0 from (lines_of (drop from text))) bytes n
+none_played version encoding until text from bytes n e z = record {
   front = [];
   ahead = refl;
-  written = rw (e, z, cut_nothing until) (record { bytes_are = refl; replaced_are = refl });
+  written = rw (e, z) (nothing_written encoding until);
 }
 
-module _ (version : ℕ) (until : Option Moment) (text : List ℕ) (clock at : ℕ) (whole : Cast) (bytes : List ℕ) (n : ℕ)
-    (p : Played version until text clock at whole bytes n) where
+module _ (version : ℕ) (encoding : Encoding) (until : Option Moment) (text : List ℕ) (clock at : ℕ) (whole : Cast) (bytes : List ℕ) (n : ℕ)
+    (p : Played version encoding until text clock at whole bytes n) where
   -- the line at this byte and then the others
   step : (line : List ℕ) (time : Option ℕ) → line ≡ front_line (drop at text)
       → time ≡ time_behind (is_silent version line) (event_in line) version clock
@@ -122,10 +128,10 @@ module _ (version : ℕ) (until : Option Moment) (text : List ℕ) (clock at : �
 
   pub played_more : (line : List ℕ) (now : ℕ) (more : List ℕ) (m : ℕ) → line ≡ front_line (drop at text)
       → Some now ≡ time_behind (is_silent version line) (event_in line) version clock
-      → ((front : List ℕ) → AreWritten (cut until front) bytes n
-      → AreWritten (cut until (front ++ heard_in (is_silent version line) (event_in line) version (micros_of until) clock))
+      → ((front : List ℕ) → AreWritten encoding until front bytes n
+      → AreWritten encoding until (front ++ heard_in (is_silent version line) (event_in line) version (micros_of until) clock)
       more m)
-      → Played version until text now (at + (length line + 1)) whole more m
+      → Played version encoding until text now (at + (length line + 1)) whole more m
   played_more line now more m e t w = record {
     front = p.front ++ heard_in (is_silent version line) (event_in line) version (micros_of until) clock;
     ahead =
@@ -140,8 +146,8 @@ module _ (version : ℕ) (until : Option Moment) (text : List ℕ) (clock at : �
   ended : (broken : Option ℕ) (more : List ℕ) (m : ℕ)
       → cast_of version (micros_of until) clock at (lines_of (drop at text))
       ≡ record { characters = []; broken = broken }
-      → AreWritten (cut until p.front) more m
-      → (whole.broken ≡ broken) × AreWritten (cut until whole.characters) more m
+      → AreWritten encoding until p.front more m
+      → (whole.broken ≡ broken) × AreWritten encoding until whole.characters more m
   ended broken more m e w =
       let all = p.ahead ∙ ap (after p.front) e in
       let front : whole.characters ≡ p.front = ap (λ (w : Cast). w.characters) all ∙ append-nil p.front in
@@ -149,16 +155,16 @@ module _ (version : ℕ) (until : Option Moment) (text : List ℕ) (clock at : �
 
   pub played_break : (line : List ℕ) (more : List ℕ) (m : ℕ) → line ≡ front_line (drop at text)
       → None ≡ time_behind (is_silent version line) (event_in line) version clock
-      → ((front : List ℕ) → AreWritten (cut until front) bytes n
-      → AreWritten (cut until (front ++ heard_in (is_silent version line) (event_in line) version (micros_of until) clock))
+      → ((front : List ℕ) → AreWritten encoding until front bytes n
+      → AreWritten encoding until (front ++ heard_in (is_silent version line) (event_in line) version (micros_of until) clock)
       more m)
-      → (whole.broken ≡ Some at) × AreWritten (cut until whole.characters) more m
+      → (whole.broken ≡ Some at) × AreWritten encoding until whole.characters more m
   played_break line more m e t w =
       let none = nothing_heard (is_silent version line) (event_in line) version (micros_of until) clock t in
       ended (Some at) more m (step line None e t)
       (rw (none, append-nil) at (w p.front p.written))
 
-  pub played_end : length text ≤ at → (whole.broken ≡ None) × AreWritten (cut until whole.characters) bytes n
+  pub played_end : length text ≤ at → (whole.broken ≡ None) × AreWritten encoding until whole.characters bytes n
   unfolding cast_of lines_of
   played_end h =
       ended None bytes n
@@ -189,7 +195,7 @@ pub of_header : (until : Option ℕ) (xs : List ℕ)
     (lines_of (drop (length (front_line xs) + 1) xs))
 of_header until xs = ap (asciicast until) (lines_cut xs) ∙ cut_header until xs (feed_at xs) _ refl
 
-module _ (until : Option Moment) (text header content : List ℕ) (broken : Option Break) (replaced : ℕ)
+module _ (encoding : Encoding) (until : Option Moment) (text header content : List ℕ) (broken : Option Break) (replaced : ℕ)
     (is : header ≡ front_line text) where
   by_header : (version : Option ℕ) → version ≡ version_in header
       → asciicast (micros_of until) (lines_of text)
@@ -197,17 +203,17 @@ module _ (until : Option Moment) (text header content : List ℕ) (broken : Opti
   by_header version v = rw (v, is) (of_header (micros_of until) text)
 
   pub taken_none : None ≡ version_in header → content ≡ [] → replaced ≡ 0 → broken ≡ in_recording (Some 0)
-      → IsOfCast (asciicast (micros_of until) (lines_of text)) until content broken replaced
+      → IsOfCast (asciicast (micros_of until) (lines_of text)) encoding until content broken replaced
   taken_none v c r b = rw (by_header None v) (record {
-    wanted = rw (c, r, cut_nothing until) (record { bytes_are = refl; replaced_are = refl });
+    wanted = rw (c, r) (nothing_written encoding until);
     breaks = b;
   })
 
   pub taken_some : (version : ℕ) (at : Option ℕ) → Some version ≡ version_in header
       → at ≡ (cast_of version (micros_of until) 0 (length header + 1) (lines_of (drop (length header + 1) text))).broken
-      → AreWritten (cut until (cast_of version (micros_of until) 0 (length header + 1) (lines_of (drop (length header + 1) text))).characters) content replaced
+      → AreWritten encoding until (cast_of version (micros_of until) 0 (length header + 1) (lines_of (drop (length header + 1) text))).characters content replaced
       → broken ≡ in_recording at
-      → IsOfCast (asciicast (micros_of until) (lines_of text)) until content broken replaced
+      → IsOfCast (asciicast (micros_of until) (lines_of text)) encoding until content broken replaced
   taken_some version at v b w is_at = rw (by_header (Some version) v) (record {
     wanted = w;
     breaks = is_at ∙ ap in_recording b;

@@ -1,10 +1,14 @@
--- The bytes of characters: of ASCII and of DEC's supplemental set. (VT220 manual, chapter 2: the charts of the sets. SUB
--- for all other characters is this profile's.)
-use Rattle.std.specs.Prelude.{◌≡◌, ℕ, ◌+◌, ◌==◌, List, length, map, not, cond, nat_lt, Option, Some, None, option_map, unwrap_or, is_some}
+-- The bytes of characters: in DEC's encoding those of ASCII and of DEC's supplemental set, otherwise UTF-8. (VT220 manual,
+-- chapter 2: the charts of the sets; RFC 3629: UTF-8. SUB for all other characters is this profile's.)
+use Rattle.std.specs.Prelude.{◌≡◌, ℕ, ◌+◌, ◌==◌, List, length, map, not, cond, nat_lt, Option, Some, None, option_map, unwrap_or, is_some, encode_utf8_all}
 use Rattle.std.specs.List.{filter}
 use Rattle.vt_glyph.specs.declared.set.Set.TheVariants.{Supplemental}
 use Rattle.vt_glyph.specs.Tables.{substitute_glyph}
 use Rattle.vt_glyph.specs.Spell.{code_in}
+use Rattle.vt_recording.specs.declared.format.Encoding.{Encoding}
+use Rattle.vt_recording.specs.declared.format.Encoding.TheVariants.{Dec, Utf8}
+use Rattle.vt_recording.specs.declared.format.Moment.{Moment}
+use Rattle.vt_recording.specs.Moment.{cut}
 
 -- the byte that a character has, if it has one: U+2426 is shown in undefined places of the set, and has none
 abbrev pub byte_of : ℕ → Option ℕ
@@ -21,6 +25,11 @@ abbrev pub replaced_in : List ℕ → ℕ
 replaced_in characters = length (filter (λ c. not (is_some (byte_of c))) characters)
 
 -- these bytes, and so many characters that have none
-pub record AreWritten (characters bytes : List ℕ) (replaced : ℕ) : Type 0 where
+pub record AreConverted (characters bytes : List ℕ) (replaced : ℕ) : Type 0 where
   pub bytes_are : bytes ≡ bytes_of characters
   pub replaced_are : replaced ≡ replaced_in characters
+
+-- the bytes of characters in an encoding, up to a number of bytes, and how many characters have none. In UTF-8 all have some
+abbrev pub AreWritten : Encoding → (until : Option Moment) → (characters bytes : List ℕ) → (replaced : ℕ) → Type 0
+AreWritten Dec until characters bytes replaced = AreConverted (cut until characters) bytes replaced
+AreWritten Utf8 until characters bytes replaced = (bytes ≡ cut until (encode_utf8_all characters)) × (replaced ≡ 0)

@@ -1,5 +1,5 @@
 -- What is wanted up to a moment. (this profile)
-use Rattle.std.specs.Prelude.{ℕ, List, take, Bool, false, nat_le, Option, Some, None}
+use Rattle.std.specs.Prelude.{ℕ, ◌-◌, List, take, Bool, false, nat_le, Option, Some, None}
 use Rattle.vt_recording.specs.declared.format.Moment.{Moment}
 use Rattle.vt_recording.specs.declared.format.Moment.TheVariants.{Micros, Bytes}
 
@@ -20,3 +20,9 @@ abbrev pub is_full : Option Moment → (count : ℕ) → Bool
 is_full (Some (Micros n)) count = false
 is_full (Some (Bytes n)) count = nat_le n count
 is_full None count = false
+
+-- the front of bytes that is wanted after so many; private contracts alone speak of this
+abbrev pub wanted_after : Option Moment → (count : ℕ) → List ℕ → List ℕ
+wanted_after (Some (Micros n)) count xs = xs
+wanted_after (Some (Bytes n)) count xs = take (n - count) xs
+wanted_after None count xs = xs

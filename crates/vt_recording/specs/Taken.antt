@@ -2,6 +2,7 @@
 use Rattle.std.specs.Prelude.{◌≡◌, ℕ, List, Option, Some, None, option_map}
 use Rattle.vt_recording.specs.declared.format.Format.{Format}
 use Rattle.vt_recording.specs.declared.format.Format.TheVariants as format
+use Rattle.vt_recording.specs.declared.format.Encoding.{Encoding}
 use Rattle.vt_recording.specs.declared.format.Moment.{Moment}
 use Rattle.vt_recording.specs.declared.format.Part.TheVariants as part
 use Rattle.vt_recording.specs.declared.format.Break.{Break}
@@ -27,9 +28,10 @@ pub record IsOfBytes (IsOf : List ℕ → Option ℕ → Type 0) (until : Option
   pub breaks : broken ≡ in_recording at
   pub none_replaced : replaced ≡ 0
 
--- the bytes of characters, up to a number of bytes
-pub record IsOfCast (cast : Cast) (until : Option Moment) (content : List ℕ) (broken : Option Break) (replaced : ℕ) : Type 0 where
-  pub wanted : AreWritten (cut until cast.characters) content replaced
+-- the bytes of characters in an encoding, up to a number of bytes
+pub record IsOfCast (cast : Cast) (encoding : Encoding) (until : Option Moment) (content : List ℕ) (broken : Option Break)
+    (replaced : ℕ) : Type 0 where
+  pub wanted : AreWritten encoding until cast.characters content replaced
   pub breaks : broken ≡ in_recording cast.broken
 
 -- a recording by script(1), without a timing file or with one
@@ -41,14 +43,14 @@ IsOfScriptBy (Some timing) until bytes content broken replaced =
     IsTimedAfter (first_line bytes) until bytes timing content broken × (replaced ≡ 0)
 
 -- the content of a recording in a format up to a moment, and the place at which it breaks that, if it does. Only
--- script(1) has a timing file
-abbrev pub IsTaken : Format → (until : Option Moment) → (timing : Option (List ℕ)) → (bytes content : List ℕ)
+-- script(1) has a timing file. Only asciinema keeps characters, whose bytes are those of an encoding
+abbrev pub IsTaken : Format → Encoding → (until : Option Moment) → (timing : Option (List ℕ)) → (bytes content : List ℕ)
     → (broken : Option Break) → (replaced : ℕ) → Type 0
-IsTaken format.Raw until timing bytes content broken replaced =
+IsTaken format.Raw encoding until timing bytes content broken replaced =
     (content ≡ cut until bytes) × (broken ≡ None) × (replaced ≡ 0)
-IsTaken format.Script until timing bytes content broken replaced =
+IsTaken format.Script encoding until timing bytes content broken replaced =
     IsOfScriptBy timing until bytes content broken replaced
-IsTaken format.Ttyrec until timing bytes content broken replaced =
+IsTaken format.Ttyrec encoding until timing bytes content broken replaced =
     IsOfBytes (λ whole at. IsOfTtyrec (micros_of until) bytes whole at) until content broken replaced
-IsTaken format.Asciicast until timing bytes content broken replaced =
-    IsOfCast (asciicast (micros_of until) (lines_of bytes)) until content broken replaced
+IsTaken format.Asciicast encoding until timing bytes content broken replaced =
+    IsOfCast (asciicast (micros_of until) (lines_of bytes)) encoding until content broken replaced

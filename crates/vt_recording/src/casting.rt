@@ -1,6 +1,6 @@
 //! The content of a recording by asciinema.
 ghost use Rattle.std.specs.Prelude.{◌≡◌, ◌≤◌, ◌+◌, ◌++◌, [], ℕ, List, length, drop, IfOk, OnOk};
-ghost use Rattle.vt_recording.specs.Moment.{cut, micros_of};
+ghost use Rattle.vt_recording.specs.Moment.{micros_of};
 ghost use Rattle.vt_recording.specs.Characters.{AreWritten};
 ghost use Rattle.vt_recording.specs.Lines.{lines_of};
 ghost use Rattle.vt_recording.specs.Asciicast.{is_silent, event_in, time_behind, heard_in, cast_of, asciicast};
@@ -8,7 +8,7 @@ ghost use Rattle.vt_recording.specs.Taken.{IsOfCast, in_recording};
 
 use crate::asciicast::{clock_after, event_in, in_time, is_silent, version_in};
 use crate::characters::Written;
-use crate::format::{Moment, Taken};
+use crate::format::{Encoding, Moment, Taken};
 use crate::lines::front_line;
 use crate::moment::micros_of;
 use crate::taking::in_recording;
@@ -19,6 +19,7 @@ use std::alloc::{AllocError, Global};
 fn play_line(
     line: &[u8],
     version: u64,
+    encoding: Encoding,
     until: Option<Moment>,
     clock: u64,
     scratch: &mut Scratch,
@@ -29,8 +30,8 @@ fn play_line(
     ensures time { IfOk result (λ time. time
         ≡ time_behind (is_silent version line.now) (event_in line.now) version clock) }
     ensures written { OnOk result ((front : List ℕ)
-        → AreWritten (cut until front) written.old.bytes.items written.old.replaced
-        → AreWritten (cut until (front ++ heard_in (is_silent version line.now) (event_in line.now) version (micros_of until) clock))
+        → AreWritten encoding until front written.old.bytes.items written.old.replaced
+        → AreWritten encoding until (front ++ heard_in (is_silent version line.now) (event_in line.now) version (micros_of until) clock)
         written.new.bytes.items written.new.replaced) }
 {
     if is_silent(version, line) {
@@ -40,7 +41,7 @@ fn play_line(
         Ok(Some(event)) => {
             let now = clock_after(version, clock, event.micros);
             if event.is_output && in_time(micros_of(until), now) {
-                written.push_text(event.text, until)?;
+                written.push_text(event.text, encoding, until)?;
             }
             Ok(Some(now))
         }
@@ -54,6 +55,7 @@ fn play_lines(
     bytes: &[u8],
     from: usize,
     version: u64,
+    encoding: Encoding,
     until: Option<Moment>,
     scratch: &mut Scratch,
     written: &mut Written,
@@ -64,14 +66,14 @@ fn play_lines(
     ensures broken { IfOk result (λ broken. broken
         ≡ (cast_of version (micros_of until) 0 from (lines_of (drop from bytes.now))).broken) }
     ensures written { OnOk result
-        (AreWritten (cut until (cast_of version (micros_of until) 0 from (lines_of (drop from bytes.now))).characters)
+        (AreWritten encoding until (cast_of version (micros_of until) 0 from (lines_of (drop from bytes.now))).characters
         written.new.bytes.items written.new.replaced) }
 {
     let mut at = from;
     let mut clock = 0;
     while at < bytes.len() {
         let line = front_line(&bytes[at..]);
-        match play_line(line, version, until, clock, scratch, written)? {
+        match play_line(line, version, encoding, until, clock, scratch, written)? {
             Some(now) => clock = now,
             None => return Ok(Some(at)),
         }
@@ -80,13 +82,14 @@ fn play_lines(
     Ok(None)
 }
 
-/// Returns the content of the events up to `until`.
+/// Returns the content of the events up to `until`, in an encoding.
 pub(crate) fn asciicast_content(
     alloc: Global,
     bytes: &[u8],
+    encoding: Encoding,
     until: Option<Moment>,
 ) -> Result<Taken, AllocError>
-    ensures { IfOk result (λ t. IsOfCast (asciicast (micros_of until) (lines_of bytes.now)) until t.content.items t.broken t.replaced) }
+    ensures { IfOk result (λ t. IsOfCast (asciicast (micros_of until) (lines_of bytes.now)) encoding until t.content.items t.broken t.replaced) }
 {
     let mut scratch = Scratch::new(alloc);
     let mut written = Written::with_capacity(alloc, bytes.len())?;
@@ -95,7 +98,15 @@ pub(crate) fn asciicast_content(
         return Ok(taken_of(written, Some(0)));
     };
     let from = header.len() + 1;
-    let broken = play_lines(bytes, from, version, until, &mut scratch, &mut written)?;
+    let broken = play_lines(
+        bytes,
+        from,
+        version,
+        encoding,
+        until,
+        &mut scratch,
+        &mut written,
+    )?;
     Ok(taken_of(written, broken))
 }
 

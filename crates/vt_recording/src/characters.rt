@@ -1,10 +1,11 @@
 //! The bytes of characters.
 ghost use Rattle.std.specs.Prelude.{◌≡◌, ◌≤◌, ◌++◌, ◌∷◌, [], ℕ, List, length, IfOk, OnOk, chars};
-ghost use Rattle.vt_recording.specs.Moment.{cut};
 ghost use Rattle.vt_recording.specs.Moment as moment;
+ghost use Rattle.vt_recording.specs.declared.format.Encoding.TheVariants.{Dec, Utf8};
 ghost use Rattle.vt_recording.specs.Characters.{byte_of, AreWritten};
 
-use crate::format::Moment;
+use crate::format::{Encoding, Moment};
+use crate::moment::wanted_after;
 use std::alloc::{AllocError, Global};
 use vt_glyph::Set;
 
@@ -34,7 +35,7 @@ fn byte_of(c: char) -> Option<u8>
     None
 }
 
-/// The bytes of characters up to a moment.
+/// The bytes of characters in an encoding, up to a moment.
 #[derive(Drop)]
 pub(crate) struct Written {
     /// The bytes.
@@ -55,13 +56,13 @@ impl Written {
         })
     }
 
-    /// Appends a character, if it is wanted.
+    /// Appends the byte of a character, if it is wanted.
     fn push(&mut self, c: char, until: Option<Moment>) -> Result<(), AllocError>
         requires { self.old.replaced ≤ length self.old.bytes.items }
         ensures bound { self.new.replaced ≤ length self.new.bytes.items }
         ensures written { OnOk result ((front : List ℕ)
-            → AreWritten (cut until front) self.old.bytes.items self.old.replaced
-            → AreWritten (cut until (front ++ c ∷ [])) self.new.bytes.items self.new.replaced) }
+            → AreWritten Dec until front self.old.bytes.items self.old.replaced
+            → AreWritten Dec until (front ++ c ∷ []) self.new.bytes.items self.new.replaced) }
     {
         if is_full(until, self.bytes.len()) {
             return Ok(());
@@ -76,18 +77,50 @@ impl Written {
         Ok(())
     }
 
-    /// Appends the characters of a text that are wanted.
-    pub(crate) fn push_text(&mut self, text: &str, until: Option<Moment>) -> Result<(), AllocError>
+    /// Appends the bytes of a text's characters that are wanted.
+    fn push_converted(&mut self, text: &str, until: Option<Moment>) -> Result<(), AllocError>
         requires { self.old.replaced ≤ length self.old.bytes.items }
         ensures bound { self.new.replaced ≤ length self.new.bytes.items }
         ensures written { OnOk result ((front : List ℕ)
-            → AreWritten (cut until front) self.old.bytes.items self.old.replaced
-            → AreWritten (cut until (front ++ chars text.now)) self.new.bytes.items self.new.replaced) }
+            → AreWritten Dec until front self.old.bytes.items self.old.replaced
+            → AreWritten Dec until (front ++ chars text.now) self.new.bytes.items self.new.replaced) }
     {
         for c in text.chars() {
             self.push(c, until)?;
         }
         Ok(())
+    }
+
+    /// Appends the UTF-8 of a text that is wanted.
+    fn push_utf8(&mut self, text: &str, until: Option<Moment>) -> Result<(), AllocError>
+        requires { self.old.replaced ≤ length self.old.bytes.items }
+        ensures bound { self.new.replaced ≤ length self.new.bytes.items }
+        ensures written { OnOk result ((front : List ℕ)
+            → AreWritten Utf8 until front self.old.bytes.items self.old.replaced
+            → AreWritten Utf8 until (front ++ chars text.now) self.new.bytes.items self.new.replaced) }
+    {
+        let wanted = wanted_after(until, self.bytes.len(), text.as_bytes());
+        self.bytes.extend_from_slice(wanted)?;
+        Ok(())
+    }
+
+    /// Appends the bytes of a text's characters in an encoding that are wanted.
+    pub(crate) fn push_text(
+        &mut self,
+        text: &str,
+        encoding: Encoding,
+        until: Option<Moment>,
+    ) -> Result<(), AllocError>
+        requires { self.old.replaced ≤ length self.old.bytes.items }
+        ensures bound { self.new.replaced ≤ length self.new.bytes.items }
+        ensures written { OnOk result ((front : List ℕ)
+            → AreWritten encoding until front self.old.bytes.items self.old.replaced
+            → AreWritten encoding until (front ++ chars text.now) self.new.bytes.items self.new.replaced) }
+    {
+        match encoding {
+            Encoding::Dec => self.push_converted(text, until),
+            Encoding::Utf8 => self.push_utf8(text, until),
+        }
     }
 }
 

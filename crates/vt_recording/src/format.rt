@@ -52,10 +52,11 @@ pub struct Break {
 /// The content of a recording.
 #[derive(Debug, PartialEq, Eq, Drop)]
 pub struct Taken {
-    /// The bytes that the host sent, up to the place at which the recording breaks its format.
+    /// The bytes that the host sent, up to the place at which the recording breaks its format. Of characters these are
+    /// their bytes in an encoding.
     pub content: Vec<u8>,
     /// The place at which the recording breaks its format, or `None`.
     pub broken: Option<Break>,
-    /// The number of characters that have no byte. SUB is in their place.
+    /// The number of characters that have no byte in the encoding `Dec`. SUB is in their place.
     pub replaced: u64,
 }

@@ -1,6 +1,6 @@
 //! What is wanted up to a moment.
 ghost use Rattle.std.specs.Prelude.{◌≡◌};
-ghost use Rattle.vt_recording.specs.Moment.{micros_of, cut};
+ghost use Rattle.vt_recording.specs.Moment.{micros_of, cut, wanted_after};
 
 use crate::format::Moment;
 
@@ -23,4 +23,19 @@ pub(crate) fn cut(until: Option<Moment>, mut bytes: Vec<u8>) -> Vec<u8>
         bytes.truncate(count as usize);
     }
     bytes
+}
+
+/// Returns the front of bytes that is wanted after so many.
+pub(crate) fn wanted_after(until: Option<Moment>, count: usize, bytes: &[u8]) -> &[u8]
+    ensures { result.now ≡ wanted_after until count bytes.now }
+{
+    let Some(Moment::Bytes(most)) = until else {
+        return bytes;
+    };
+    let room = (most as usize).saturating_sub(count);
+    if room < bytes.len() {
+        &bytes[..room]
+    } else {
+        bytes
+    }
 }

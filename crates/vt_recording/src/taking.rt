@@ -6,7 +6,7 @@ ghost use Rattle.vt_recording.specs.Taken.{IsTaken, in_recording};
 ghost use Rattle.vt_recording.specs.Moment.{cut};
 
 use crate::casting::asciicast_content;
-use crate::format::{Break, Format, Moment, Part, Taken};
+use crate::format::{Break, Encoding, Format, Moment, Part, Taken};
 use crate::moment::{cut, micros_of};
 use crate::script::{end_of, first_line, is_joint};
 use crate::timing::timed_content;
@@ -14,7 +14,8 @@ use crate::ttyrec::{HEADER, header_of, is_due, time_of};
 use std::alloc::{AllocError, Global};
 
 /// Returns the content of a recording up to a moment, and the place at which it breaks its format, if it does. The
-/// content is what came before that place. Only script(1) has a timing file. A recording breaks its format:
+/// content is what came before that place. Only script(1) has a timing file. Only asciinema keeps characters: the content
+/// has their bytes in the encoding. A recording breaks its format:
 ///
 /// - of script, at byte 0 if it has no first line
 /// - of script, at the LF before the line between two sessions, if `script -a` appended a session
@@ -29,9 +30,10 @@ pub fn take_apart(
     bytes: &[u8],
     timing: Option<&[u8]>,
     format: Format,
+    encoding: Encoding,
     until: Option<Moment>,
 ) -> Result<Taken, AllocError>
-    ensures { IfOk result (λ t. IsTaken format until (option_map (λ b. b.now) timing.entry) bytes.now t.content.items t.broken t.replaced) }
+    ensures { IfOk result (λ t. IsTaken format encoding until (option_map (λ b. b.now) timing.entry) bytes.now t.content.items t.broken t.replaced) }
 {
     match format {
         Format::Raw => Ok(taken_of(raw_content(alloc, bytes)?, until)),
@@ -43,7 +45,7 @@ pub fn take_apart(
             let whole = ttyrec_content(alloc, bytes, micros_of(until))?;
             Ok(taken_of(whole, until))
         }
-        Format::Asciicast => asciicast_content(alloc, bytes, until),
+        Format::Asciicast => asciicast_content(alloc, bytes, encoding, until),
     }
 }
 

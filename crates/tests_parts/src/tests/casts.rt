@@ -2,7 +2,7 @@
 use super::common::holds;
 use std::alloc::Global;
 use std::test::Fail;
-use vt_recording::{Break, Format, Moment, Part, take_apart};
+use vt_recording::{Break, Encoding, Format, Moment, Part, take_apart};
 
 /// Three events of version 2.
 const TWO: &[u8] = b"{\"version\":2}\n\
@@ -21,6 +21,22 @@ const THREE: &[u8] = b"{\"version\":3}\n\
 /// Characters of ASCII, of the supplemental set, and of neither: U+20AC and U+2426.
 const CHARACTERS: &[u8] = b"{\"version\":2}\n\
 [0,\"o\",\"e\xC3\xA9\xE2\x82\xAC\xC5\x93\xE2\x90\xA6\xC2\xA4\\u0178\"]\n";
+
+/// Characters of two, three and four bytes of UTF-8, some as JSON writes them in ASCII: U+00E9, U+2014, U+201C, U+2502,
+/// U+6F22 and U+1F600. Then U+009B and U+2426.
+const WRITTEN: &[u8] = b"{\"version\":2}\n\
+[0,\"o\",\"\xC3\xA9\xE2\x80\x94\\u201c\"]\n\
+[1,\"o\",\"\xE2\x94\x82\xE6\xBC\xA2\\ud83d\\uDE00\"]\n\
+[2,\"o\",\"\\u009b\xE2\x90\xA6!\"]\n";
+
+/// The UTF-8 of the first event of `WRITTEN`, of the first two, and of all.
+const FIRST: &[u8] = b"\xC3\xA9\xE2\x80\x94\xE2\x80\x9C";
+
+const TWO_EVENTS: &[u8] =
+    b"\xC3\xA9\xE2\x80\x94\xE2\x80\x9C\xE2\x94\x82\xE6\xBC\xA2\xF0\x9F\x98\x80";
+
+const ALL: &[u8] = b"\xC3\xA9\xE2\x80\x94\xE2\x80\x9C\xE2\x94\x82\xE6\xBC\xA2\xF0\x9F\x98\x80\
+\xC2\x9B\xE2\x90\xA6!";
 
 /// A recording, the moment up to which it is wanted, its content, the byte at which it breaks the format, and the number
 /// of characters that have no byte.
@@ -158,12 +174,50 @@ fn breaks() -> [Row; 13] {
     ]
 }
 
-/// Whether a recording is taken apart as its row says.
+/// Recordings whose characters are wanted in UTF-8.
+fn characters() -> [Row; 10] {
+    [
+        (WRITTEN, None, ALL, None, 0),
+        (WRITTEN, until(999_999), FIRST, None, 0),
+        (WRITTEN, until(1_000_000), TWO_EVENTS, None, 0),
+        (WRITTEN, bytes(0), b"", None, 0),
+        (WRITTEN, bytes(8), FIRST, None, 0),
+        // In the middle of a character.
+        (
+            WRITTEN,
+            bytes(9),
+            b"\xC3\xA9\xE2\x80\x94\xE2\x80\x9C\xE2",
+            None,
+            0,
+        ),
+        (WRITTEN, bytes(99), ALL, None, 0),
+        (TWO, None, b"a\r\nb", None, 0),
+        // Surrogates that aren't in a pair: the first of one alone, and the second.
+        (
+            b"{\"version\":2}\n[0,\"o\",\"a\"]\n[1,\"o\",\"\\ud83d\"]\n",
+            None,
+            b"a",
+            Some(26),
+            0,
+        ),
+        (
+            b"{\"version\":2}\n[0,\"o\",\"\\ude00\"]\n",
+            None,
+            b"",
+            Some(14),
+            0,
+        ),
+    ]
+}
+
+/// Whether a recording is taken apart in an encoding as its row says.
 fn is_taken_apart(
     alloc: Global,
+    encoding: Encoding,
     (input, until, content, broken, replaced): &Row,
 ) -> Result<bool, Fail> {
-    let taken = take_apart(alloc, input, None, Format::Asciicast, *until)?;
+    let format = Format::Asciicast;
+    let taken = take_apart(alloc, input, None, format, encoding, *until)?;
     let place = broken.map(|at| Break {
         part: Part::Recording,
         at,
@@ -172,9 +226,9 @@ fn is_taken_apart(
 }
 
 /// Whether each of these is.
-fn are_taken_apart(alloc: Global, rows: &[Row]) -> Result<bool, Fail> {
+fn are_taken_apart(alloc: Global, encoding: Encoding, rows: &[Row]) -> Result<bool, Fail> {
     for row in rows {
-        if !is_taken_apart(alloc, row)? {
+        if !is_taken_apart(alloc, encoding, row)? {
             return Ok(false);
         }
     }
@@ -183,18 +237,28 @@ fn are_taken_apart(alloc: Global, rows: &[Row]) -> Result<bool, Fail> {
 
 #[test]
 fn events_by_hand(rt: HostRuntime) -> Result<(), Fail> {
-    holds(&rt, "events", are_taken_apart(rt.alloc(), &events())?);
+    let are = are_taken_apart(rt.alloc(), Encoding::Dec, &events())?;
+    holds(&rt, "events", are);
+    Ok(())
+}
+
+#[test]
+fn characters_by_hand(rt: HostRuntime) -> Result<(), Fail> {
+    let are = are_taken_apart(rt.alloc(), Encoding::Utf8, &characters())?;
+    holds(&rt, "characters", are);
     Ok(())
 }
 
 #[test]
 fn lines_by_hand(rt: HostRuntime) -> Result<(), Fail> {
-    holds(&rt, "lines", are_taken_apart(rt.alloc(), &lines())?);
+    let are = are_taken_apart(rt.alloc(), Encoding::Dec, &lines())?;
+    holds(&rt, "lines", are);
     Ok(())
 }
 
 #[test]
 fn breaks_by_hand(rt: HostRuntime) -> Result<(), Fail> {
-    holds(&rt, "breaks", are_taken_apart(rt.alloc(), &breaks())?);
+    let are = are_taken_apart(rt.alloc(), Encoding::Dec, &breaks())?;
+    holds(&rt, "breaks", are);
     Ok(())
 }

@@ -3,7 +3,8 @@ use super::common::holds;
 use std::alloc::Global;
 use std::test::Fail;
 use vt_recording::{
-    Break, Content, Fault, Format, Moment, Part, Source, Watched, read_recording, take_apart,
+    Break, Content, Encoding, Fault, Format, Moment, Part, Source, Watched, read_recording,
+    take_apart,
 };
 
 /// Pieces at 1000.9 s, 1001.0 s (none of its bytes), 1001.4 s and 1001.400001 s.
@@ -122,7 +123,7 @@ fn is_taken_apart(
     format: Format,
     (input, until, content, broken): &Row,
 ) -> Result<bool, Fail> {
-    let taken = take_apart(alloc, input, None, format, *until)?;
+    let taken = take_apart(alloc, input, None, format, Encoding::Dec, *until)?;
     let place = broken.map(|at| Break {
         part: Part::Recording,
         at,

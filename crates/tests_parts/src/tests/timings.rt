@@ -2,7 +2,7 @@
 use super::common::holds;
 use std::alloc::Global;
 use std::test::Fail;
-use vt_recording::{Break, Format, Moment, Part, take_apart};
+use vt_recording::{Break, Encoding, Format, Moment, Part, take_apart};
 
 /// A session of ten bytes, which ends at byte 30.
 const SESSION: &[u8] = b"Script started on x\none\r\ntwo\r\n\nScript done on y\n";
@@ -179,7 +179,14 @@ fn is_taken_apart(
     alloc: Global,
     (input, timing, until, content, broken): &Row,
 ) -> Result<bool, Fail> {
-    let taken = take_apart(alloc, input, Some(*timing), Format::Script, *until)?;
+    let taken = take_apart(
+        alloc,
+        input,
+        Some(*timing),
+        Format::Script,
+        Encoding::Dec,
+        *until,
+    )?;
     Ok(taken.content.as_slice() == *content && taken.broken == *broken && taken.replaced == 0)
 }
 

@@ -4,13 +4,13 @@ use Rattle.vt_recording.proofs.casting.asciicast_content.Goals as goal
 
 pub returns-in_default : goal.returns-in_default
 returns-in_default c =
-    taken_none _ _ _ _ _ _ c.front_line-header.ensures.line (sym c.in_default.is ∙ c.in_ok-version.ensures)
+    taken_none _ _ _ _ _ _ _ c.front_line-header.ensures.line (sym c.in_default.is ∙ c.in_ok-version.ensures)
     (c.taken_of.ensures.content ∙ c.in_ok-written.ensures.bytes)
     (c.taken_of.ensures.replaced ∙ c.in_ok-written.ensures.replaced) c.taken_of.ensures.broken
 
 pub returns : goal.returns
 returns c =
     let written = c.in_ok-broken.ensures.written in
-    taken_some _ _ _ _ _ _ c.front_line-header.ensures.line _ _ (sym c.in-Some.is ∙ c.in_ok-version.ensures)
+    taken_some _ _ _ _ _ _ _ c.front_line-header.ensures.line _ _ (sym c.in-Some.is ∙ c.in_ok-version.ensures)
     c.in_ok-broken.ensures.broken (rw (c.taken_of-2.ensures.content, c.taken_of-2.ensures.replaced) written)
     c.taken_of-2.ensures.broken

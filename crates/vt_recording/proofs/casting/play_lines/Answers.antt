@@ -6,13 +6,13 @@ use Rattle.vt_recording.proofs.casting.play_lines.Goals as goal
 pub returns-in-None-clause-broken : goal.returns-in-None-clause-broken
 returns-in-None-clause-broken c =
     let line = rw take_rest at c.front_line-line.ensures.line in
-    sym (played_break _ _ _ _ _ _ _ _ c.loop-at.invariant.played _ _ _ line
+    sym (played_break _ _ _ _ _ _ _ _ _ c.loop-at.invariant.played _ _ _ line
     (sym c.in-None.is ∙ c.in_ok-now.ensures.time) c.in_ok-now.ensures.written).0
 
 pub returns-in-None-clause-written : goal.returns-in-None-clause-written
 returns-in-None-clause-written c =
     let line = rw take_rest at c.front_line-line.ensures.line in
-    (played_break _ _ _ _ _ _ _ _ c.loop-at.invariant.played _ _ _ line
+    (played_break _ _ _ _ _ _ _ _ _ c.loop-at.invariant.played _ _ _ line
     (sym c.in-None.is ∙ c.in_ok-now.ensures.time) c.in_ok-now.ensures.written).1
 
 pub loop-at-preserved : goal.loop-at-preserved
@@ -24,12 +24,12 @@ loop-at-preserved c =
       within = omega (arith, room, c.loop-at-test.true);
       bound = c.in_ok-now.ensures.bound;
       played =
-          played_more _ _ _ _ _ _ _ _ c.loop-at.invariant.played _ _ _ _ line
+          played_more _ _ _ _ _ _ _ _ _ c.loop-at.invariant.played _ _ _ _ line
           (sym c.in-Some.is ∙ c.in_ok-now.ensures.time) c.in_ok-now.ensures.written;
     }
 
 pub returns-clause-broken : goal.returns-clause-broken
-returns-clause-broken c = sym (played_end _ _ _ _ _ _ _ _ c.loop-at.invariant.played c.loop-at-test.false).0
+returns-clause-broken c = sym (played_end _ _ _ _ _ _ _ _ _ c.loop-at.invariant.played c.loop-at-test.false).0
 
 pub returns-clause-written : goal.returns-clause-written
-returns-clause-written c = (played_end _ _ _ _ _ _ _ _ c.loop-at.invariant.played c.loop-at-test.false).1
+returns-clause-written c = (played_end _ _ _ _ _ _ _ _ _ c.loop-at.invariant.played c.loop-at-test.false).1

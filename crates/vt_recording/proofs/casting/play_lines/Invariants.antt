@@ -9,7 +9,7 @@ abbrev pub invariant-loop-at : goal.invariant-loop-at
 invariant-loop-at l = record {
   within : l.at ≤ length l.bytes + 1;
   bound : l.written.replaced ≤ length l.written.bytes.items;
-  played : Played l.version l.until l.bytes l.clock l.at
+  played : Played l.version l.encoding l.until l.bytes l.clock l.at
       (cast_of l.version (micros_of l.until) 0 l.from (lines_of (drop l.from l.bytes))) l.written.bytes.items
       l.written.replaced;
 }

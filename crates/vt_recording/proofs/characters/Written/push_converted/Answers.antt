@@ -1,7 +1,7 @@
 use Rattle.std.proofs.Common.{◌≡◌, ◌∙◌, sym, map-id, chars}
 use Rattle.std.proofs.lemmas.Iterator.{YieldsList-from_chars}
 use Rattle.std.proofs.lemmas.Iterator.Consumers.{YieldsList-end}
-use Rattle.vt_recording.proofs.characters.Written.push_text.Goals as goal
+use Rattle.vt_recording.proofs.characters.Written.push_converted.Goals as goal
 
 pub returns-clause-written : goal.returns-clause-written
 returns-clause-written c =

@@ -7,3 +7,4 @@ mod Fed
 mod Themselves
 mod Written
 mod Lanes
+mod Narrow

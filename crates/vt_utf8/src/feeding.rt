@@ -1,9 +1,14 @@
 //! Feeding: UTF-8 changes a terminal's state, and gives report bytes.
 ghost use Rattle.std.specs.Prelude.{◌≡◌, ◌<◌, ◌+◌, ◌*◌, ◌≤◌, ◌++◌, [], ◌∷◌, ℕ, List, All, length, take, drop};
 ghost use Rattle.std.specs.Prelude.{vec_len, vec_capacity, OnOk, OnErr, IsOk, IfSome};
+ghost use Rattle.std.specs.Bool.{OnTrue};
 ghost use Rattle.std.specs.Option.{option_to_list};
+ghost use Rattle.std.specs.declared.option.Option.TheVariants.{None};
 ghost use Rattle.bstr.specs.Utf8.{replacement};
+ghost use Rattle.vt_syntax.specs.declared.held.Held.TheVariants.{Nothing};
 ghost use Rattle.vt_term.specs.Play.{play};
+ghost use Rattle.vt_utf8.specs.Cells.{cells};
+ghost use Rattle.vt_utf8.specs.Similar.{shown};
 ghost use Rattle.vt_utf8.specs.Decoding.{pending_after};
 ghost use Rattle.vt_utf8.specs.Translation.{translation};
 ghost use Rattle.vt_utf8.specs.Play.{translated_all, play_utf8};
@@ -11,10 +16,12 @@ ghost use Rattle.vt_utf8.specs.Private.Feeds.{FeedsUtf8};
 
 use crate::ascii::ascii_run;
 use crate::decoder::Decoder;
-use crate::laws::{ascii, cuts};
-use crate::translation::translation;
+use crate::laws::{ascii, cuts, writes};
+use crate::similar::{code_of, glyph_of_code};
+use crate::translation::{has_one_cell, translation};
 use std::alloc::AllocError;
 use vt_glyph::laws::{glyphs, spelling};
+use vt_syntax::Held;
 use vt_syntax::laws::{one_split, spelled};
 use vt_term::laws::{cuts as played_cuts, soundness as played_soundness};
 use vt_term::{REPORT_LIMIT, Terminal};
@@ -180,7 +187,18 @@ fn feed_character(terminal: &mut Terminal, c: char, out: &mut Vec<u8>)
     }
 }
 
-/// Plays a character beyond ASCII, which causes no report.
+/// Returns whether a glyph is written as it is: between sequences, if no single shift is pending.
+#[inline(always)]
+fn writes_glyphs(terminal: &Terminal) -> bool
+    ensures { OnTrue result ((terminal.now.held ≡ Nothing) × (terminal.now.display.sets.pending ≡ None)) }
+{
+    match terminal.held() {
+        Held::Nothing => terminal.sets().pending().is_none(),
+        _ => false,
+    }
+}
+
+/// Plays a character beyond ASCII, which causes no report. Speed: most characters are one glyph between sequences.
 pub fn feed_beyond_ascii(terminal: &mut Terminal, c: char, out: &mut Vec<u8>)
     requires beyond { 0x80 ≤ c }
     requires room { vec_len out.old + 10 ≤ vec_capacity out.old }
@@ -194,6 +212,11 @@ pub fn feed_beyond_ascii(terminal: &mut Terminal, c: char, out: &mut Vec<u8>)
     spelled();
     glyphs();
     spelling();
+    writes();
+    if writes_glyphs(terminal) && has_one_cell(c) {
+        terminal.write_glyph(glyph_of_code(code_of(c)));
+        return;
+    }
     let bytes = translation(terminal, c);
     feed_silently(terminal, bytes.as_slice(), out);
 }

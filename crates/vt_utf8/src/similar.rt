@@ -223,7 +223,7 @@ fn in_chart(chart: &[u8], first: u32, c: u32) -> u8
 
 /// Returns whether a character is one from `first` to `last`.
 #[inline(always)]
-fn is_in(first: u32, last: u32, c: u32) -> bool
+pub(crate) fn is_in(first: u32, last: u32, c: u32) -> bool
     ensures { result ≡ (nat_le first c && nat_le c last) }
 {
     first <= c && c <= last

@@ -8,3 +8,4 @@ mod Themselves
 mod Written
 mod Lanes
 mod Narrow
+mod Whole

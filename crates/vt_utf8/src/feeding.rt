@@ -15,7 +15,7 @@ ghost use Rattle.vt_utf8.specs.Play.{translated_all, play_utf8};
 ghost use Rattle.vt_utf8.specs.Private.Feeds.{FeedsUtf8};
 
 use crate::ascii::ascii_run;
-use crate::decoder::Decoder;
+use crate::decoder::{Decoder, whole_character};
 use crate::laws::{ascii, cuts, writes};
 use crate::similar::{code_of, glyph_of_code};
 use crate::translation::{has_one_cell, translation};
@@ -78,8 +78,8 @@ pub fn feed_utf8_reserved(
     }
 }
 
-/// Plays the front of a chunk that isn't empty: the ASCII bytes there if nothing is pending, otherwise a byte. Returns how
-/// many bytes it played.
+/// Plays the front of a chunk that isn't empty: the ASCII bytes or the whole characters there if nothing is pending,
+/// otherwise a byte. Returns how many bytes it played.
 #[inline(always)]
 fn feed_next(
     terminal: &mut Terminal,
@@ -102,6 +102,7 @@ fn feed_next(
             feed_ascii(terminal, decoder, &piece[..run], out);
             return run;
         }
+        return feed_beyond(terminal, decoder, piece, out);
     }
     feed_byte(terminal, decoder, piece[0], out);
     1
@@ -120,6 +121,54 @@ fn feed_ascii(terminal: &mut Terminal, decoder: &Decoder, run: &[u8], out: &mut 
     ascii();
     let _ = decoder;
     terminal.feed_reserved(run, out);
+}
+
+/// Plays the whole characters beyond ASCII at the front of a chunk, with nothing pending. Returns how many bytes they take.
+/// Speed: a byte at a time leaves the same.
+#[inline(always)]
+fn feed_whole(terminal: &mut Terminal, piece: &[u8], out: &mut Vec<u8>) -> usize
+    requires { vec_len out.old + 10 ≤ vec_capacity out.old }
+    ensures within { result ≤ length piece.now }
+    ensures fed { FeedsUtf8 terminal.old [] (take result piece.now) terminal.new [] out.old.items out.new.items }
+    ensures out { out.new.items ≡ out.old.items }
+    ensures none { result ≡ 0 → terminal.new ≡ terminal.old }
+    ensures capacity { vec_capacity out.old ≤ vec_capacity out.new }
+{
+    let _ = terminal.width();
+    cuts();
+    let mut at = 0;
+    while let Some((c, size)) = whole_character(&piece[at..]) {
+        feed_beyond_ascii(terminal, c, out);
+        at += size;
+    }
+    at
+}
+
+/// Plays the whole characters beyond ASCII at the front of a chunk, or a byte if none is there, with nothing pending.
+/// Returns how many bytes it played.
+#[inline(always)]
+fn feed_beyond(
+    terminal: &mut Terminal,
+    decoder: &mut Decoder,
+    piece: &[u8],
+    out: &mut Vec<u8>,
+) -> usize
+    requires nothing { decoder.old ≡ [] }
+    requires some { 1 ≤ length piece.now }
+    requires room { vec_len out.old + 10 ≤ vec_capacity out.old }
+    ensures some { 1 ≤ result }
+    ensures within { result ≤ length piece.now }
+    ensures fed { FeedsUtf8 terminal.old decoder.old (take result piece.now) terminal.new decoder.new
+        out.old.items out.new.items }
+    ensures bounded { vec_len out.new ≤ vec_len out.old + 10 * result }
+    ensures capacity { vec_capacity out.old ≤ vec_capacity out.new }
+{
+    let whole = feed_whole(terminal, piece, out);
+    if whole > 0 {
+        return whole;
+    }
+    feed_byte(terminal, decoder, piece[0], out);
+    1
 }
 
 /// Plays a byte.

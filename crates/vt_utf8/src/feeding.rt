@@ -16,13 +16,11 @@ ghost use Rattle.vt_utf8.specs.Private.Feeds.{FeedsUtf8};
 
 use crate::ascii::ascii_run;
 use crate::decoder::{Decoder, whole_character};
-use crate::laws::{ascii, cuts, writes};
+use crate::laws::{ascii, cuts, silence, writes};
 use crate::similar::{code_of, glyph_of_code};
 use crate::translation::{has_one_cell, translation};
 use std::alloc::AllocError;
-use vt_glyph::laws::{glyphs, spelling};
 use vt_syntax::Held;
-use vt_syntax::laws::{one_split, spelled};
 use vt_term::laws::{cuts as played_cuts, soundness as played_soundness};
 use vt_term::{REPORT_LIMIT, Terminal};
 
@@ -248,6 +246,7 @@ fn writes_glyphs(terminal: &Terminal) -> bool
 }
 
 /// Plays a character beyond ASCII, which causes no report. Speed: most characters are one glyph between sequences.
+#[inline]
 pub fn feed_beyond_ascii(terminal: &mut Terminal, c: char, out: &mut Vec<u8>)
     requires beyond { 0x80 ≤ c }
     requires room { vec_len out.old + 10 ≤ vec_capacity out.old }
@@ -257,15 +256,26 @@ pub fn feed_beyond_ascii(terminal: &mut Terminal, c: char, out: &mut Vec<u8>)
     ensures capacity { vec_capacity out.old ≤ vec_capacity out.new }
 {
     let _ = terminal.width();
-    played_cuts();
-    spelled();
-    glyphs();
-    spelling();
+    silence();
     writes();
     if writes_glyphs(terminal) && has_one_cell(c) {
         terminal.write_glyph(glyph_of_code(code_of(c)));
         return;
     }
+    feed_translated(terminal, c, out);
+}
+
+/// Plays the bytes that a character beyond ASCII is translated to, which cause no report.
+#[inline(never)]
+fn feed_translated(terminal: &mut Terminal, c: char, out: &mut Vec<u8>)
+    requires beyond { 0x80 ≤ c }
+    requires room { vec_len out.old + 10 ≤ vec_capacity out.old }
+    ensures state { terminal.new ≡ (play terminal.old (translation terminal.old c)).state }
+    ensures out { out.new.items ≡ out.old.items }
+    ensures capacity { vec_capacity out.old ≤ vec_capacity out.new }
+{
+    let _ = terminal.width();
+    silence();
     let bytes = translation(terminal, c);
     feed_silently(terminal, bytes.as_slice(), out);
 }

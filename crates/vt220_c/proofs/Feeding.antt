@@ -29,6 +29,20 @@ writes-nothing before at within = record {
   fits = omega (arith, within);
 }
 
+-- UTF-8 by itself, with no lines and no bells
+pub feeds-alone : (s t : State) (pending piece out after lines : List ℕ) (n at lines_at written : ℕ)
+    → t ≡ (play_utf8 s pending (take n piece)).state → written ≡ length (play_utf8 s pending (take n piece)).reports
+    → after ≡ take at out ++ written_over (play_utf8 s pending (take n piece)).reports (drop at out)
+    → at + written ≤ length out → lines_at ≤ length lines
+    → Feeds false false s (translated s pending (take n piece)) t out at after lines lines_at lines written 0 0
+unfolding play_utf8
+feeds-alone s t pending piece out after lines n at lines_at written state count over fits within = record {
+  state = state;
+  sent = record { count = count; over = over; fits = fits };
+  off = writes-nothing lines lines_at within;
+  rings = record { none = λ _. refl; bells = λ on. absurd cc };
+}
+
 same-length : (xs before middle : List ℕ) (at m : ℕ) → WritesAt xs before at middle m → length middle ≡ length before
 same-length xs before middle at m w =
     let front = length-take-le at before (omega (arith, w.fits)) in

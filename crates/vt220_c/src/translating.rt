@@ -1,5 +1,5 @@
 //! Playing UTF-8 on the terminal of a handle, with its log if there is a buffer for it.
-ghost use Rattle.std.specs.Prelude.{◌≡◌, ◌+◌, ◌*◌, ◌≤◌, ◌<◌, ◌⊎◌, ◌∷◌, [], true, false, length, take, IfSome};
+ghost use Rattle.std.specs.Prelude.{◌≡◌, ◌+◌, ◌*◌, ◌≤◌, ◌<◌, ◌⊎◌, ◌∷◌, [], ℕ, List, true, false, length, take, IfSome};
 ghost use Rattle.std.specs.Prelude.{vec_capacity};
 ghost use Rattle.std.specs.Bool.{OnTrue, OnFalse};
 ghost use Rattle.std.specs.Option.{option_to_list};
@@ -169,8 +169,38 @@ fn feed_byte(
     }
 }
 
-/// Plays the front of a chunk of UTF-8: as many of the ASCII bytes there as there is capacity for, if nothing is pending,
-/// otherwise a byte.
+/// Plays the front of a chunk of UTF-8 without a log, and counts no bells. Speed: this needs no search for what may ring
+/// or scroll a line off, so many bytes are played at once.
+fn feed_unobserved(
+    inner: &mut Inner,
+    decoder: &mut Decoder,
+    piece: &[u8],
+    out: &mut [u8],
+    written: usize,
+) -> Logged
+    requires some { 1 ≤ length piece.now }
+    requires out { written + REPORT_LIMIT ≤ length out.old }
+    ensures some { 1 ≤ result.taken }
+    ensures within { result.taken ≤ length piece.now }
+    ensures fed { (lines : List ℕ) (at : ℕ) → at ≤ length lines → Feeds false false inner.old
+        (translated inner.old decoder.old (take result.taken piece.now)) inner.new out.old written out.new
+        lines at lines result.written 0 0 }
+    ensures fits { written + result.written ≤ length out.old }
+    ensures pending { decoder.new ≡ pending_after decoder.old (take result.taken piece.now) }
+    ensures no_lines { result.lines_written ≡ 0 }
+    ensures no_bells { result.bells ≡ 0 }
+{
+    let front = inner.feed_utf8_front(decoder, piece, out, written);
+    Logged {
+        taken: front.taken,
+        written: front.written,
+        lines_written: 0,
+        bells: 0,
+    }
+}
+
+/// Plays the front of a chunk of UTF-8. With a log or bells that is as many of the ASCII bytes there as there is capacity
+/// for, if nothing is pending, otherwise a byte.
 fn feed_front(
     inner: &mut Inner,
     decoder: &mut Decoder,
@@ -198,6 +228,9 @@ fn feed_front(
     ensures few_bells { result.bells ≤ result.taken }
     ensures capacity { vec_capacity room.old ≤ vec_capacity room.new }
 {
+    if !counts && !logs {
+        return feed_unobserved(inner, decoder, piece, out, written);
+    }
     if decoder.is_empty() {
         let run = ascii_run(piece);
         if run > 0 {

@@ -1,5 +1,6 @@
 -- What feeding leaves.
-use Rattle.std.proofs.Common.{◌≡◌, ℕ, ◌+◌, ◌-◌, length-drop, List, [], ◌∷◌, ◌++◌, take, drop, length, refl, sym, ap, ◌∙◌, append_assoc, append-nil}
+use Rattle.std.proofs.Common.{◌≡◌, ℕ, ◌+◌, ◌-◌, ◌≤◌, arith, length-drop, List, [], ◌∷◌, ◌++◌, take, drop, length, refl, sym, ap, ◌∙◌, append_assoc, append-nil}
+use Rattle.std.specs.Prelude.{slice_index}
 use Rattle.std.proofs.Math.Seq.{take-add, take-length}
 use Rattle.vt_term.specs.State.{State}
 use Rattle.vt_term.specs.Sound.{IsSound}
@@ -8,12 +9,18 @@ use Rattle.vt_utf8.specs.Decoding.{read, characters, pending_after}
 use Rattle.vt_utf8.specs.Translation.{translation}
 use Rattle.vt_utf8.specs.Play.{translated_all, translated, play_utf8}
 use Rattle.vt_utf8.specs.Private.Feeds.{FeedsUtf8}
+use Rattle.vt_utf8.specs.Private.Whole.{IsWhole}
 use Rattle.vt_utf8.proofs.Cuts.{translated-append}
 
 -- a piece from a place on
 pub rest-of : (piece : List ℕ) (at : ℕ) → take (length piece - at) (drop at piece) ≡ drop at piece
 rest-of piece at = let e : length piece - at ≡ length (drop at piece) = sym (length-drop at piece) in
     rw e (take-length (drop at piece))
+
+-- the first byte of a piece
+pub take-one : (piece : List ℕ) → 1 ≤ length piece → take 1 piece ≡ slice_index piece 0 ∷ []
+take-one [] some = absurd (omega (arith, some))
+take-one (b ∷ piece) some = refl
 
 -- one character
 pub translated-one : (s : State) (c : ℕ) → translated_all s (c ∷ []) ≡ translation s c
@@ -51,6 +58,21 @@ module _ (none : (s : State) → IsSound s → play s [] ≡ record { state = s;
             (sym (ap (λ (p : Played). p.reports) played
             ∙ ap (λ (r : List ℕ). r ++ (play t (translated_all t ys)).reports) silent));
       }
+
+-- a whole character that causes no report
+pub feeds-whole : (s t : State) (piece : List ℕ) (c n : ℕ) (before out : List ℕ) → IsWhole piece c n
+    → t ≡ (play s (translation s c)).state → (play s (translation s c)).reports ≡ [] → out ≡ before
+    → FeedsUtf8 s [] (take n piece) t [] before out
+unfolding play_utf8 translated
+feeds-whole s t piece c n before out whole state silent same =
+    let played : play s (translated_all s (characters [] (take n piece))) ≡ play s (translation s c) =
+    ap (λ (cs : List ℕ). play s (translated_all s cs)) whole.characters ∙ played-one s c in
+    record {
+      state = state ∙ sym (ap (λ (p : Played). p.state) played);
+      left = sym whole.pending;
+      reports = same ∙ sym (append-nil before)
+          ∙ ap (λ (r : List ℕ). before ++ r) (sym (ap (λ (p : Played). p.reports) played ∙ silent));
+    }
 
 -- ---- one part of a piece, and the next
 

@@ -7,3 +7,5 @@ mod Fed
 mod Themselves
 mod Written
 mod Lanes
+mod Narrow
+mod Whole

@@ -30,7 +30,7 @@ use Rattle.vt_term.specs.Moving.{next_line}
 use Rattle.vt_term.specs.Writing.{write_glyph, put_glyph, print}
 use Rattle.vt_term.specs.Functions.{effect, control, escape_with, shift_once}
 use Rattle.vt_term.specs.Reports.{report, control_report}
-use Rattle.vt_term.specs.Play.{play, after_events, reports_of}
+use Rattle.vt_term.specs.Play.{Played, play, after_events, reports_of}
 use Rattle.vt_utf8.specs.Translation.{shifted, designation, through_g2, through_g3, reads_ascii}
 use Rattle.vt_utf8.specs.Translation.{spelled_in, written, unshifted, translation}
 use Rattle.vt_utf8.specs.Similar.{shown}
@@ -375,3 +375,20 @@ module _ (spelled : SpellingLaw) (spelling : SpellingLaws) where
   writes-none s c between beyond none =
       let high : nat_lt c 0x80 ≡ false = grind (arith, nat_tests) in
       rw (high, between, none) refl
+
+-- ---- without a pending single shift
+
+unshifted-same : (d : Display) → d.sets.pending ≡ None → unshifted d ≡ d
+unshifted-same d none =
+    ap (λ (p : Option ℕ). record d { sets = record d.sets { pending = p } }) (sym none)
+
+-- a character's glyph is written as it is
+pub written-itself : (s t : State) (c n : ℕ) → s.display.sets.pending ≡ None
+    → play s (translation s c)
+    ≡ record { state = record s { display = write_glyph (shown c) (unshifted s.display) }; reports = [] }
+    → n ≡ shown c → t ≡ record s { display = write_glyph n s.display } → t ≡ (play s (translation s c)).state
+written-itself s t c n none played is written =
+    written
+    ∙ ap (λ (m : ℕ). record s { display = write_glyph m s.display }) is
+    ∙ ap (λ (d : Display). record s { display = write_glyph (shown c) d }) (sym (unshifted-same s.display none))
+    ∙ sym (ap (λ (p : Played). p.state) played)

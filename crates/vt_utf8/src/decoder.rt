@@ -1,7 +1,8 @@
 //! Decoding: from bytes, one at a time, to characters.
-ghost use Rattle.std.specs.Prelude.{◌≡◌, ◌≤◌, ◌++◌, [], ◌∷◌, ◌==◌, length, IfSome};
+ghost use Rattle.std.specs.Prelude.{◌≡◌, ◌<◌, ◌≤◌, ◌++◌, [], ◌∷◌, ◌==◌, length, IfSome};
 ghost use Rattle.std.specs.Option.{option_to_list};
 ghost use Rattle.bstr.specs.Utf8.{decoded, lead_len, replacement};
+ghost use Rattle.vt_utf8.specs.Private.Whole.{IsWhole};
 ghost use Rattle.vt_utf8.specs.Decoding.{is_begun, pending_of, given_up, read, read_first};
 
 use arrayvec::ArrayVec;
@@ -52,6 +53,21 @@ fn is_begun(bytes: &[u8], size: usize) -> bool
     ensures { result ≡ is_begun bytes.now }
 {
     size == bytes.len() && bytes.len() < lead_len(bytes[0])
+}
+
+/// Returns the character beyond ASCII at the front of a chunk, if it is whole, and how many bytes it takes.
+#[inline(always)]
+pub(crate) fn whole_character(piece: &[u8]) -> Option<(char, usize)>
+    ensures { IfSome result (λ found. (0x80 ≤ found.0) × IsWhole piece.now found.0 found.1) }
+{
+    let (found, size) = decode(piece);
+    let Some(c) = found else {
+        return None;
+    };
+    if (c as u32) < 0x80 {
+        return None;
+    }
+    Some((c, size))
 }
 
 impl Decoder {

@@ -1,21 +1,26 @@
 //! Feeding: UTF-8 changes a terminal's state, and gives report bytes.
 ghost use Rattle.std.specs.Prelude.{◌≡◌, ◌<◌, ◌+◌, ◌*◌, ◌≤◌, ◌++◌, [], ◌∷◌, ℕ, List, All, length, take, drop};
 ghost use Rattle.std.specs.Prelude.{vec_len, vec_capacity, OnOk, OnErr, IsOk, IfSome};
+ghost use Rattle.std.specs.Bool.{OnTrue};
 ghost use Rattle.std.specs.Option.{option_to_list};
+ghost use Rattle.std.specs.declared.option.Option.TheVariants.{None};
 ghost use Rattle.bstr.specs.Utf8.{replacement};
+ghost use Rattle.vt_syntax.specs.declared.held.Held.TheVariants.{Nothing};
 ghost use Rattle.vt_term.specs.Play.{play};
+ghost use Rattle.vt_utf8.specs.Cells.{cells};
+ghost use Rattle.vt_utf8.specs.Similar.{shown};
 ghost use Rattle.vt_utf8.specs.Decoding.{pending_after};
 ghost use Rattle.vt_utf8.specs.Translation.{translation};
 ghost use Rattle.vt_utf8.specs.Play.{translated_all, play_utf8};
 ghost use Rattle.vt_utf8.specs.Private.Feeds.{FeedsUtf8};
 
 use crate::ascii::ascii_run;
-use crate::decoder::Decoder;
-use crate::laws::{ascii, cuts};
-use crate::translation::translation;
+use crate::decoder::{Decoder, whole_character};
+use crate::laws::{ascii, cuts, silence, writes};
+use crate::similar::{code_of, glyph_of_code};
+use crate::translation::{has_one_cell, translation};
 use std::alloc::AllocError;
-use vt_glyph::laws::{glyphs, spelling};
-use vt_syntax::laws::{one_split, spelled};
+use vt_syntax::Held;
 use vt_term::laws::{cuts as played_cuts, soundness as played_soundness};
 use vt_term::{REPORT_LIMIT, Terminal};
 
@@ -71,8 +76,8 @@ pub fn feed_utf8_reserved(
     }
 }
 
-/// Plays the front of a chunk that isn't empty: the ASCII bytes there if nothing is pending, otherwise a byte. Returns how
-/// many bytes it played.
+/// Plays the front of a chunk that isn't empty: the ASCII bytes or the whole characters there if nothing is pending,
+/// otherwise a byte. Returns how many bytes it played.
 #[inline(always)]
 fn feed_next(
     terminal: &mut Terminal,
@@ -95,6 +100,7 @@ fn feed_next(
             feed_ascii(terminal, decoder, &piece[..run], out);
             return run;
         }
+        return feed_beyond(terminal, decoder, piece, out);
     }
     feed_byte(terminal, decoder, piece[0], out);
     1
@@ -113,6 +119,54 @@ fn feed_ascii(terminal: &mut Terminal, decoder: &Decoder, run: &[u8], out: &mut 
     ascii();
     let _ = decoder;
     terminal.feed_reserved(run, out);
+}
+
+/// Plays the whole characters beyond ASCII at the front of a chunk, with nothing pending. Returns how many bytes they take.
+/// Speed: a byte at a time leaves the same.
+#[inline(always)]
+fn feed_whole(terminal: &mut Terminal, piece: &[u8], out: &mut Vec<u8>) -> usize
+    requires { vec_len out.old + 10 ≤ vec_capacity out.old }
+    ensures within { result ≤ length piece.now }
+    ensures fed { FeedsUtf8 terminal.old [] (take result piece.now) terminal.new [] out.old.items out.new.items }
+    ensures out { out.new.items ≡ out.old.items }
+    ensures none { result ≡ 0 → terminal.new ≡ terminal.old }
+    ensures capacity { vec_capacity out.old ≤ vec_capacity out.new }
+{
+    let _ = terminal.width();
+    cuts();
+    let mut at = 0;
+    while let Some((c, size)) = whole_character(&piece[at..]) {
+        feed_beyond_ascii(terminal, c, out);
+        at += size;
+    }
+    at
+}
+
+/// Plays the whole characters beyond ASCII at the front of a chunk, or a byte if none is there, with nothing pending.
+/// Returns how many bytes it played.
+#[inline(always)]
+fn feed_beyond(
+    terminal: &mut Terminal,
+    decoder: &mut Decoder,
+    piece: &[u8],
+    out: &mut Vec<u8>,
+) -> usize
+    requires nothing { decoder.old ≡ [] }
+    requires some { 1 ≤ length piece.now }
+    requires room { vec_len out.old + 10 ≤ vec_capacity out.old }
+    ensures some { 1 ≤ result }
+    ensures within { result ≤ length piece.now }
+    ensures fed { FeedsUtf8 terminal.old decoder.old (take result piece.now) terminal.new decoder.new
+        out.old.items out.new.items }
+    ensures bounded { vec_len out.new ≤ vec_len out.old + 10 * result }
+    ensures capacity { vec_capacity out.old ≤ vec_capacity out.new }
+{
+    let whole = feed_whole(terminal, piece, out);
+    if whole > 0 {
+        return whole;
+    }
+    feed_byte(terminal, decoder, piece[0], out);
+    1
 }
 
 /// Plays a byte.
@@ -180,7 +234,19 @@ fn feed_character(terminal: &mut Terminal, c: char, out: &mut Vec<u8>)
     }
 }
 
-/// Plays a character beyond ASCII, which causes no report.
+/// Returns whether a glyph is written as it is: between sequences, if no single shift is pending.
+#[inline(always)]
+fn writes_glyphs(terminal: &Terminal) -> bool
+    ensures { OnTrue result ((terminal.now.held ≡ Nothing) × (terminal.now.display.sets.pending ≡ None)) }
+{
+    match terminal.held() {
+        Held::Nothing => terminal.sets().pending().is_none(),
+        _ => false,
+    }
+}
+
+/// Plays a character beyond ASCII, which causes no report. Speed: most characters are one glyph between sequences.
+#[inline]
 pub fn feed_beyond_ascii(terminal: &mut Terminal, c: char, out: &mut Vec<u8>)
     requires beyond { 0x80 ≤ c }
     requires room { vec_len out.old + 10 ≤ vec_capacity out.old }
@@ -190,10 +256,26 @@ pub fn feed_beyond_ascii(terminal: &mut Terminal, c: char, out: &mut Vec<u8>)
     ensures capacity { vec_capacity out.old ≤ vec_capacity out.new }
 {
     let _ = terminal.width();
-    played_cuts();
-    spelled();
-    glyphs();
-    spelling();
+    silence();
+    writes();
+    if writes_glyphs(terminal) && has_one_cell(c) {
+        terminal.write_glyph(glyph_of_code(code_of(c)));
+        return;
+    }
+    feed_translated(terminal, c, out);
+}
+
+/// Plays the bytes that a character beyond ASCII is translated to, which cause no report.
+#[inline(never)]
+fn feed_translated(terminal: &mut Terminal, c: char, out: &mut Vec<u8>)
+    requires beyond { 0x80 ≤ c }
+    requires room { vec_len out.old + 10 ≤ vec_capacity out.old }
+    ensures state { terminal.new ≡ (play terminal.old (translation terminal.old c)).state }
+    ensures out { out.new.items ≡ out.old.items }
+    ensures capacity { vec_capacity out.old ≤ vec_capacity out.new }
+{
+    let _ = terminal.width();
+    silence();
     let bytes = translation(terminal, c);
     feed_silently(terminal, bytes.as_slice(), out);
 }

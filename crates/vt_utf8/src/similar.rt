@@ -200,6 +200,7 @@ const SIGNS: [(u32, u32, u8); 121] = [
 ];
 
 /// Returns the code of a row that has the character, or that of U+2426.
+#[inline(never)]
 fn in_rows(rows: &[(u32, u32, u8)], c: u32) -> u8
     ensures { result ≡ in_rows SUBSTITUTE rows.now c }
 {
@@ -223,7 +224,7 @@ fn in_chart(chart: &[u8], first: u32, c: u32) -> u8
 
 /// Returns whether a character is one from `first` to `last`.
 #[inline(always)]
-fn is_in(first: u32, last: u32, c: u32) -> bool
+pub(crate) fn is_in(first: u32, last: u32, c: u32) -> bool
     ensures { result ≡ (nat_le first c && nat_le c last) }
 {
     first <= c && c <= last
@@ -271,6 +272,7 @@ pub(crate) fn spelling_of_code(code: u8) -> Spelling
 }
 
 /// Returns the glyph with this code.
+#[inline]
 pub(crate) fn glyph_of_code(code: u8) -> Glyph
     requires { is_code code ≡ true }
     ensures { result ≡ encoded_glyph code }

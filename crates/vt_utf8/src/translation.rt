@@ -10,7 +10,7 @@ ghost use Rattle.vt_utf8.specs.Translation.{reads_ascii, while_designated, spell
 ghost use Rattle.vt_utf8.specs.Translation.{written_wide, in_cells, put, translation};
 ghost use Rattle.vt_utf8.specs.Play.{translated_all};
 
-use crate::similar::{code_of, spelling_of_code};
+use crate::similar::{code_of, is_in, spelling_of_code};
 use arrayvec::ArrayVec;
 use unicode_width::UnicodeWidthChar;
 use vt_glyph::{Glyph, Set, Sets, Spelling};
@@ -40,6 +40,20 @@ pub fn cells(c: char) -> usize
     } else {
         c.width().unwrap_or(0).min(2)
     }
+}
+
+/// Returns whether a character beyond ASCII has one cell. Speed: those of the two charts have.
+#[inline(always)]
+pub(crate) fn has_one_cell(c: char) -> bool
+    ensures { result ≡ (cells c == 1) }
+{
+    if is_in(0xA0, 0x17F, c as u32) {
+        return true;
+    }
+    if is_in(0x2500, 0x257F, c as u32) {
+        return true;
+    }
+    cells(c) == 1
 }
 
 /// Returns the spelling of the glyph that is shown for a character from U+00A0 on.

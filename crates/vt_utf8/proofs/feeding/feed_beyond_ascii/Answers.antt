@@ -1,16 +1,16 @@
-use Rattle.std.proofs.Common.{ap, ◌∙◌, ℕ, List}
-use Rattle.vt_term.specs.Play.{play}
-use Rattle.vt_utf8.proofs.Silence.{silent-translation}
+use Rattle.std.proofs.Common.{sym, ◌∙◌}
+use Rattle.std.proofs.lemmas.Bool.{eqb-true}
+use Rattle.vt_utf8.proofs.Written.{written-itself}
 use Rattle.vt_utf8.proofs.feeding.feed_beyond_ascii.Goals as goal
-
-pub feed_silently-requires-clause-silent : goal.feed_silently-requires-clause-silent
-feed_silently-requires-clause-silent c =
-    ap (λ (bytes : List ℕ). (play c.args.terminal.now bytes).reports)
-    (c.as_slice.ensures.value ∙ c.translation-bytes.ensures)
-    ∙ silent-translation c.cuts.ensures.none c.spelled.ensures c.glyphs.ensures c.spelling.ensures c.args.terminal.now
-    c.args.c c.width.ensures.sound c.requires.beyond
 
 pub returns-clause-silent : goal.returns-clause-silent
 returns-clause-silent c =
-    silent-translation c.cuts.ensures.none c.spelled.ensures c.glyphs.ensures c.spelling.ensures c.args.terminal.now
-    c.args.c c.width.ensures.sound c.requires.beyond
+    c.silence.ensures.silent c.args.terminal.now c.args.c c.width.ensures.sound c.requires.beyond
+
+pub returns-then-has_one_cell-clause-state : goal.returns-then-has_one_cell-clause-state
+returns-then-has_one_cell-clause-state c =
+    let is = c.if-writes_glyphs.ensures in
+    written-itself c.args.terminal.now c.write_glyph.new.self c.args.c c.glyph_of_code.result is.1
+    (c.writes.ensures.one c.args.terminal.now c.args.c c.width.ensures.sound is.0 c.requires.beyond
+    (eqb-true _ _ (sym c.has_one_cell.ensures ∙ c.if-has_one_cell.true)))
+    (c.glyph_of_code.ensures ∙ c.code_of.ensures.glyph) c.write_glyph.ensures

@@ -25,6 +25,12 @@ size_t core_feed_utf8(handle *t, vt220_utf8 *u, const uint8_t *bytes, size_t len
                       size_t *written, size_t *bells);
 size_t core_feed_log_utf8(handle *t, handle *s, vt220_utf8 *u, const uint8_t *bytes, size_t len, bool counts, uint8_t *reports, size_t size,
                           size_t *written, uint8_t *lines, size_t lines_size, size_t *lines_written, size_t *bells);
+uint32_t core_xterm_open(handle *x);
+void core_xterm_close(handle *x);
+bool core_xterm_alternate(handle *x);
+bool core_xterm_pending(handle *x, vt220_utf8 *u);
+size_t core_feed_xterm(handle *t, handle *x, const uint8_t *bytes, size_t len, bool counts, uint8_t *reports, size_t size, size_t *written,
+                       size_t *bells);
 uint32_t core_shown(uint32_t character, size_t *cells);
 uint32_t core_reset(handle *t);
 uint32_t core_copy(handle *to, handle *from);
@@ -63,10 +69,14 @@ static handle own(const vt220 *t) { return (handle){t->terminal, t->is_open}; }
 
 static handle own_scratch(const vt220_scratch *s) { return (handle){s->room, s->is_open}; }
 
+static handle own_xterm(const vt220_xterm *x) { return (handle){x->pages, x->is_open}; }
+
 /* Stores what a call left in the copy of a handle. */
 static void keep(vt220 *t, handle h) { t->terminal = h.at, t->is_open = h.is_open; }
 
 static void keep_scratch(vt220_scratch *s, handle h) { s->room = h.at, s->is_open = h.is_open; }
+
+static void keep_xterm(vt220_xterm *x, handle h) { x->pages = h.at, x->is_open = h.is_open; }
 
 static bool is_same(const vt220 *a, const vt220 *b) { return a->is_open && b->is_open && a->terminal == b->terminal; }
 
@@ -134,6 +144,33 @@ void vt220_scratch_close(vt220_scratch *s) {
 
 bool vt220_scratch_is_open(const vt220_scratch *s) { return s->is_open; }
 
+uint32_t vt220_xterm_open(vt220_xterm *x) {
+    if (x->is_open) return VT220_IN_USE;
+    if (!is_supported()) return VT220_UNSUPPORTED;
+    handle h = {NULL, false};
+    uint32_t status = core_xterm_open(&h);
+    if (status == VT220_OK) *x = (vt220_xterm){h.at, h.is_open};
+    return status;
+}
+
+void vt220_xterm_close(vt220_xterm *x) {
+    handle h = own_xterm(x);
+    if (h.is_open) core_xterm_close(&h);
+    *x = (vt220_xterm){NULL, false};
+}
+
+bool vt220_xterm_is_open(const vt220_xterm *x) { return x->is_open; }
+
+bool vt220_xterm_alternate(const vt220_xterm *x) {
+    handle h = own_xterm(x);
+    return h.is_open && core_xterm_alternate(&h);
+}
+
+bool vt220_xterm_pending(const vt220_xterm *x, vt220_utf8 *u) {
+    handle h = own_xterm(x);
+    return h.is_open && core_xterm_pending(&h, u);
+}
+
 /* A buffer of the caller, and how many of its bytes are filled. */
 typedef struct buffer {
     uint8_t *at;
@@ -158,11 +195,13 @@ static part next_part(const uint8_t *bytes, size_t len) {
     return (part){bell != NULL ? (size_t)(bell - bytes) : most, false};
 }
 
-/* What an input is played on: a terminal, a scratch buffer for a log or null, and what is pending if the input is UTF-8, otherwise null. */
+/* What an input is played on: a terminal, a scratch buffer for a log or null, what is pending if the input is UTF-8, otherwise null, and
+ * what TERM=xterm needs if the input is of such a program, otherwise null. */
 typedef struct player {
     vt220 *t;
     vt220_scratch *s;
     vt220_utf8 *u;
+    vt220_xterm *x;
 } player;
 
 /* Plays a part of an input by the call for it. Adds to what the buffers have. */
@@ -170,7 +209,11 @@ static size_t process_part(player by, const uint8_t *bytes, part next, buffer *r
     uint8_t *out = replies->at + replies->filled;
     size_t size = replies->size - replies->filled, sent = 0, off = 0, rung = 0, now;
     handle h = own(by.t);
-    if (by.s == NULL) {
+    if (by.x != NULL) {
+        handle pages = own_xterm(by.x);
+        now = core_feed_xterm(&h, &pages, bytes, next.len, next.rings, out, size, &sent, &rung);
+        keep_xterm(by.x, pages);
+    } else if (by.s == NULL) {
         now = by.u == NULL ? core_feed(&h, bytes, next.len, next.rings, out, size, &sent, &rung)
                            : core_feed_utf8(&h, by.u, bytes, next.len, next.rings, out, size, &sent, &rung);
     } else {
@@ -215,24 +258,28 @@ __attribute__((noinline)) static size_t process_unanswered(player by, const uint
 static size_t feed(player by, const uint8_t *bytes, size_t len, uint8_t *reports, size_t size, size_t *written, buffer *lines) {
     buffer replies = empty(reports, size);
     size_t taken = 0;
-    if (by.t->is_open && (by.s == NULL || by.s->is_open))
+    if (by.t->is_open && (by.s == NULL || by.s->is_open) && (by.x == NULL || by.x->is_open))
         taken = written == NULL ? process_unanswered(by, bytes, len, lines) : process(by, bytes, len, &replies, lines);
     if (written != NULL) *written = replies.filled;
     return taken;
 }
 
 size_t vt220_feed(vt220 *t, const uint8_t *bytes, size_t len, uint8_t *reports, size_t size, size_t *written) {
-    return feed((player){t, NULL, NULL}, bytes, len, reports, size, written, NULL);
+    return feed((player){t, NULL, NULL, NULL}, bytes, len, reports, size, written, NULL);
 }
 
 size_t vt220_feed_utf8(vt220 *t, vt220_utf8 *u, const uint8_t *bytes, size_t len, uint8_t *reports, size_t size, size_t *written) {
-    return feed((player){t, NULL, u}, bytes, len, reports, size, written, NULL);
+    return feed((player){t, NULL, u, NULL}, bytes, len, reports, size, written, NULL);
+}
+
+size_t vt220_feed_xterm(vt220 *t, vt220_xterm *x, const uint8_t *bytes, size_t len, uint8_t *reports, size_t size, size_t *written) {
+    return feed((player){t, NULL, NULL, x}, bytes, len, reports, size, written, NULL);
 }
 
 size_t vt220_feed_log(vt220 *t, vt220_scratch *s, const uint8_t *bytes, size_t len, uint8_t *reports, size_t size, size_t *written,
                       uint8_t *lines, size_t lines_size, size_t *lines_written) {
     buffer log = empty(lines, lines_size);
-    size_t taken = feed((player){t, s, NULL}, bytes, len, reports, size, written, &log);
+    size_t taken = feed((player){t, s, NULL, NULL}, bytes, len, reports, size, written, &log);
     *lines_written = log.filled;
     return taken;
 }
@@ -240,7 +287,7 @@ size_t vt220_feed_log(vt220 *t, vt220_scratch *s, const uint8_t *bytes, size_t l
 size_t vt220_feed_log_utf8(vt220 *t, vt220_scratch *s, vt220_utf8 *u, const uint8_t *bytes, size_t len, uint8_t *reports, size_t size,
                            size_t *written, uint8_t *lines, size_t lines_size, size_t *lines_written) {
     buffer log = empty(lines, lines_size);
-    size_t taken = feed((player){t, s, u}, bytes, len, reports, size, written, &log);
+    size_t taken = feed((player){t, s, u, NULL}, bytes, len, reports, size, written, &log);
     *lines_written = log.filled;
     return taken;
 }

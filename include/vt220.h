@@ -12,9 +12,14 @@
  * as on other terminals. A character beyond ASCII causes no reply. It ends an unfinished escape or control sequence, and is content
  * in a control string. So U+0080 to U+009F aren't controls. U+FFFD is in place of each ill-formed part (the Unicode Standard, 3.9).
  *
- * Handles. You allocate a vt220 or a vt220_scratch as a struct. All zero means closed. An open handle owns memory until you
- * close it. Only vt220_open and vt220_scratch_open allocate. Any call on a closed handle is safe, and reports it.
- * A vt220 takes 30 KB. A vt220_scratch is a work buffer of 690 KB of address space. Only the part that is used becomes resident:
+ * TERM=xterm. vt220_feed_xterm takes what programs send if TERM is xterm or xterm-256color: UTF-8, and functions that a VT220 lacks.
+ * These are CHA, HPA, HPR, VPA, VPR, CNL, CPL, CHT, CBT, SU, SD, REP, SCP, RCP, and the alternate page (?47, ?1047, ?1048, ?1049).
+ * Colours have no effect. DECSTR leaves DECAWM set. DECCOLM has an effect only if ?40 is set. Everything else is as on a VT220, and so
+ * are the replies.
+ *
+ * Handles. You allocate a vt220, a vt220_scratch or a vt220_xterm as a struct. All zero means closed. An open handle owns memory until
+ * you close it. Only vt220_open, vt220_scratch_open and vt220_xterm_open allocate. Any call on a closed handle is safe, and reports it.
+ * A vt220 takes 30 KB, and a vt220_xterm takes 26 KB. A vt220_scratch is a work buffer of 690 KB of address space. Only the part that is used becomes resident:
  * 125 KB without pictures. One serves any number of terminals, one call at a time. It keeps nothing between calls.
  *
  * Output structs. The library writes each field of a struct that you pass, and needs nothing in it before. It sets `reserved` to
@@ -33,7 +38,7 @@
  *
  * Stack. A call uses at most 8 KB of stack.
  *
- * Processor. On x86-64 the library needs x86-64-v2 (SSE4.2, of 2009). On an older processor the two open calls return
+ * Processor. On x86-64 the library needs x86-64-v2 (SSE4.2, of 2009). On an older processor the three open calls return
  * VT220_UNSUPPORTED. On aarch64 it needs nothing beyond ARMv8-A.
  *
  * Versions. A program and a library go together if the major version is the same, which the SONAME has, and the library isn't older
@@ -99,7 +104,15 @@ typedef struct vt220_scratch {
     bool is_open;
 } vt220_scratch;
 
-/* A closed handle of either type: vt220 t = VT220_INIT; */
+/* What a terminal needs under TERM=xterm: the page that isn't shown, two modes, and what is pending of UTF-8. Each terminal needs a
+ * separate one. It isn't part of the terminal's state: vt220_copy, vt220_reset and bytes of vt220_repaint don't change it. To reset
+ * both, feed RIS (ESC c) by vt220_feed_xterm. The fields are private. */
+typedef struct vt220_xterm {
+    void *pages;
+    bool is_open;
+} vt220_xterm;
+
+/* A closed handle of any type: vt220 t = VT220_INIT; */
 #ifdef __cplusplus
 #define VT220_INIT {}
 #else
@@ -213,6 +226,23 @@ void vt220_scratch_close(vt220_scratch *s);
 /* Returns whether a scratch buffer is open. */
 bool vt220_scratch_is_open(const vt220_scratch *s);
 
+/* Opens what a terminal at power-up needs under TERM=xterm: the main page is shown, the alternate page is blank, nothing is pending.
+ * Returns VT220_OK, VT220_IN_USE, VT220_MEMORY or VT220_UNSUPPORTED. */
+uint32_t vt220_xterm_open(vt220_xterm *x);
+
+/* Closes it and frees its memory. Does nothing if it is closed. */
+void vt220_xterm_close(vt220_xterm *x);
+
+/* Returns whether it is open. */
+bool vt220_xterm_is_open(const vt220_xterm *x);
+
+/* Returns whether the alternate page is shown; false if it is closed. */
+bool vt220_xterm_alternate(const vt220_xterm *x);
+
+/* Writes what is pending of UTF-8 to *u.
+ * Returns true, or false if it is closed, and then writes nothing. */
+bool vt220_xterm_pending(const vt220_xterm *x, vt220_utf8 *u);
+
 /* Processes input from the host. Writes the replies to the front of `reports`, and their length to *written. Doesn't modify the
  * bytes of `reports` after them.
  *   bytes, len      the input
@@ -254,6 +284,13 @@ size_t vt220_feed_utf8(vt220 *t, vt220_utf8 *u, const uint8_t *bytes, size_t len
  * Returns 0 if a handle is closed, and doesn't modify *u then. */
 size_t vt220_feed_log_utf8(vt220 *t, vt220_scratch *s, vt220_utf8 *u, const uint8_t *bytes, size_t len, uint8_t *reports, size_t size,
                            size_t *written, uint8_t *lines, size_t lines_size, size_t *lines_written);
+
+/* Processes input of a program whose TERM is xterm or xterm-256color: UTF-8, and functions that a VT220 lacks. Everything else is as
+ * in vt220_feed.
+ *   x               what the terminal needs next to its state; the call changes it
+ * Returns how many bytes were processed, as vt220_feed does. Returns 0 if a handle is closed, and changes nothing then. What is
+ * pending of UTF-8 at the end of the input isn't shown. */
+size_t vt220_feed_xterm(vt220 *t, vt220_xterm *x, const uint8_t *bytes, size_t len, uint8_t *reports, size_t size, size_t *written);
 
 /* Returns the Unicode number of the glyph with which UTF-8 input shows a character. It is the character itself if a VT220 has it.
  * Returns 0 if the character has no cell: a control, a combining mark.

@@ -14,6 +14,9 @@ int main(void) {
     SIZE(vt220_scratch);
     FIELD(vt220_scratch, room);
     FIELD(vt220_scratch, is_open);
+    SIZE(vt220_xterm);
+    FIELD(vt220_xterm, pages);
+    FIELD(vt220_xterm, is_open);
     SIZE(vt220_utf8);
     FIELD(vt220_utf8, bytes);
     FIELD(vt220_utf8, len);

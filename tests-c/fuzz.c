@@ -20,14 +20,16 @@ enum { LONGEST = 4096 };
 
 static vt220 a = VT220_INIT, b = VT220_INIT, c = VT220_INIT, power_up = VT220_INIT;
 static vt220_scratch s = VT220_INIT, s2 = VT220_INIT;
+static vt220_xterm x = VT220_INIT, y = VT220_INIT;
 static uint8_t reports_a[VT220_REPORT_LIMIT * LONGEST], reports_b[VT220_REPORT_LIMIT * LONGEST];
 
 int LLVMFuzzerTestOneInput(const uint8_t *data, size_t len);
 
 static void see(unsigned kind, unsigned value) { seen[(kind * 131 + value * 2654435761u % 127) % sizeof seen] = 1; }
 
-/* Feeds all bytes in chunks and with buffers of different sizes. Returns how many bytes of replies came. */
-static size_t feed(vt220 *t, const uint8_t *bytes, size_t len, unsigned cut, uint8_t *reports) {
+/* Feeds all bytes in chunks and with buffers of different sizes, under TERM=xterm if `pages` isn't null. Returns how many bytes of replies
+ * came. */
+static size_t feed_by(vt220 *t, vt220_xterm *pages, const uint8_t *bytes, size_t len, unsigned cut, uint8_t *reports) {
     size_t at = 0, filled = 0, written;
     unsigned n = cut;
     while (at < len) {
@@ -38,7 +40,8 @@ static size_t feed(vt220 *t, const uint8_t *bytes, size_t len, unsigned cut, uin
         uint8_t *chunk = (uint8_t *)malloc(part), *room = (uint8_t *)malloc(size);
         if (chunk == NULL || room == NULL) abort();
         memcpy(chunk, bytes + at, part);
-        size_t taken = vt220_feed(t, chunk, part, room, size, &written);
+        size_t taken = pages == NULL ? vt220_feed(t, chunk, part, room, size, &written)
+                                     : vt220_feed_xterm(t, pages, chunk, part, room, size, &written);
         MUST(taken >= 1 && taken <= part && written <= VT220_REPORT_LIMIT * taken && written <= size);
         MUST(taken == part || size - written < VT220_REPORT_LIMIT);
         memcpy(reports + filled, room, written);
@@ -46,6 +49,10 @@ static size_t feed(vt220 *t, const uint8_t *bytes, size_t len, unsigned cut, uin
         free(chunk), free(room);
     }
     return filled;
+}
+
+static size_t feed(vt220 *t, const uint8_t *bytes, size_t len, unsigned cut, uint8_t *reports) {
+    return feed_by(t, NULL, bytes, len, cut, reports);
 }
 
 /* Feeds all bytes with their log, in chunks and with buffers of different sizes. Returns how many bytes of lines came. */
@@ -135,6 +142,26 @@ static uint64_t count_bells(vt220 *t, const uint8_t *bytes, size_t len) {
         MUST(vt220_feed(t, bytes + i, 1, NULL, 0, NULL) == 1);
     }
     return count;
+}
+
+/* However input under TERM=xterm is cut, replies, bells, what is pending and both pages are the same. `b` and `c` are left in any state. */
+static void look_at_xterm(const uint8_t *bytes, size_t len, unsigned cut) {
+    static const char *const switches[] = {"", "\030\033[?47h", "\033[?47l"};
+    vt220_utf8 u, v;
+    MUST(vt220_feed_xterm(&b, &x, (const uint8_t *)"\033c", 2, NULL, 0, NULL) == 2 && vt220_feed_xterm(&c, &y, (const uint8_t *)"\033c", 2, NULL, 0, NULL) == 2);
+    MUST(vt220_same_state(&b, &power_up) && vt220_same_state(&c, &power_up) && !vt220_xterm_alternate(&x) && !vt220_xterm_alternate(&y));
+    uint64_t bells_b = vt220_bells(&b), bells_c = vt220_bells(&c);
+    size_t all = feed_by(&b, &x, bytes, len, 0, reports_a);
+    MUST(feed_by(&c, &y, bytes, len, cut, reports_b) == all && memcmp(reports_a, reports_b, all) == 0);
+    MUST(vt220_bells(&b) - bells_b == vt220_bells(&c) - bells_c);
+    MUST(vt220_xterm_pending(&x, &u) && vt220_xterm_pending(&y, &v) && same_pending(&u, &v));
+    see(50, vt220_xterm_alternate(&x) + 2u * u.len);
+    for (size_t i = 0; i < sizeof switches / sizeof switches[0]; i++) {
+        const uint8_t *change = (const uint8_t *)switches[i];
+        size_t length = strlen(switches[i]);
+        MUST(vt220_feed_xterm(&b, &x, change, length, NULL, 0, NULL) == length && vt220_feed_xterm(&c, &y, change, length, NULL, 0, NULL) == length);
+        MUST(vt220_same_state(&b, &c) && vt220_xterm_alternate(&x) == vt220_xterm_alternate(&y));
+    }
 }
 
 typedef uint32_t writer(const vt220 *, vt220_scratch *, uint8_t *, size_t, size_t *);
@@ -260,6 +287,7 @@ static void open_all(void) {
     vt220 *all[] = {&a, &b, &c, &power_up};
     for (int i = 0; i < 4; i++) MUST(vt220_open(all[i]) == VT220_OK);
     MUST(vt220_scratch_open(&s) == VT220_OK && vt220_scratch_open(&s2) == VT220_OK);
+    MUST(vt220_xterm_open(&x) == VT220_OK && vt220_xterm_open(&y) == VT220_OK);
 }
 
 int LLVMFuzzerTestOneInput(const uint8_t *data, size_t len) {
@@ -292,6 +320,7 @@ int LLVMFuzzerTestOneInput(const uint8_t *data, size_t len) {
     look(&a);
     look_at_text(&a);
     look_at_utf8(bytes, len, cut);
+    look_at_xterm(bytes, len, cut);
     size_t shown;
     free(exactly(vt220_show, &a, VT220_SHOW_LIMIT, &shown));
     if (cut % 16 == 0) free(exactly(vt220_picture, &a, VT220_PICTURE_LIMIT, &shown));

@@ -1,5 +1,5 @@
 /* processor: on a processor that lacks a part of x86-64-v2 the open calls return VT220_UNSUPPORTED and call nothing that is proved.
- * The file with the calls is included here with a processor of our own, and the proved calls are left undefined but two. */
+ * The file with the calls is included here with a processor of our own, and the proved calls are left undefined but three. */
 #if defined __x86_64__
 #include <cpuid.h>
 static int processor(unsigned leaf, unsigned *a, unsigned *b, unsigned *c, unsigned *d);
@@ -17,6 +17,7 @@ uint32_t core_open(handle *t) {
 }
 
 uint32_t core_scratch_open(handle *s) { return core_open(s); }
+uint32_t core_xterm_open(handle *x) { return core_open(x); }
 
 #if defined __x86_64__
 /* What the processor has: bits of leaf 1 and of leaf 80000001, and the greatest leaf. */
@@ -32,10 +33,12 @@ static int processor(unsigned leaf, unsigned *a, unsigned *b, unsigned *c, unsig
 static void try_one(unsigned low, unsigned high, bool leaf, bool is_enough) {
     vt220 t = VT220_INIT;
     vt220_scratch s = VT220_INIT;
+    vt220_xterm x = VT220_INIT;
     features = low, more_features = high, has_leaf = leaf, opened = 0;
     CHECK(vt220_open(&t) == (is_enough ? VT220_OK : VT220_UNSUPPORTED) && vt220_is_open(&t) == is_enough);
     CHECK(vt220_scratch_open(&s) == (is_enough ? VT220_OK : VT220_UNSUPPORTED) && vt220_scratch_is_open(&s) == is_enough);
-    CHECK(opened == (is_enough ? 2 : 0));
+    CHECK(vt220_xterm_open(&x) == (is_enough ? VT220_OK : VT220_UNSUPPORTED) && vt220_xterm_is_open(&x) == is_enough);
+    CHECK(opened == (is_enough ? 3 : 0));
 }
 
 int main(void) {

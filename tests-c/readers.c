@@ -36,9 +36,11 @@ void __wrap_free(void *at) {
 
 typedef struct shared {
     vt220 t, same;
+    vt220_xterm x;
 } shared;
 
 static const vt220 *one, *twin;
+static const vt220_xterm *other_page;
 static size_t wrong;
 
 /* Makes each reading call on a terminal whose text begins with `Hello`. Returns whether all is as it should be. */
@@ -69,10 +71,12 @@ static void *reads(void *unused) {
     vt220_scratch s = VT220_INIT;
     vt220 mine = VT220_INIT;
     uint8_t *out = (uint8_t *)malloc(VT220_PICTURE_LIMIT);
+    vt220_utf8 u;
     size_t written, bad = 0;
     if (out == NULL || vt220_scratch_open(&s) != VT220_OK || vt220_open(&mine) != VT220_OK) abort();
     for (int i = 0; i < ROUNDS; i++) {
         if (!reads_all(one, twin, &s, out)) bad++;
+        if (!vt220_xterm_is_open(other_page) || !vt220_xterm_alternate(other_page) || !vt220_xterm_pending(other_page, &u) || u.len != 2) bad++;
         /* It may also be what others are copied from and led to. */
         if (vt220_copy(&mine, one) != VT220_OK || !vt220_same_state(&mine, one) || vt220_reset(&mine) != VT220_OK) bad++;
         if (vt220_update(&mine, one, &s, out, VT220_UPDATE_LIMIT, &written) != VT220_OK || !vt220_same_state(&mine, one)) bad++;
@@ -93,12 +97,15 @@ int main(void) {
     handles = (shared *)mmap(NULL, 4096, PROT_READ | PROT_WRITE, MAP_PRIVATE | MAP_ANONYMOUS, -1, 0);
     if (pages == MAP_FAILED || handles == MAP_FAILED) abort();
     is_paged = true;
-    CHECK(vt220_open(&handles->t) == VT220_OK && vt220_open(&handles->same) == VT220_OK);
+    CHECK(vt220_open(&handles->t) == VT220_OK && vt220_open(&handles->same) == VT220_OK && vt220_xterm_open(&handles->x) == VT220_OK);
     is_paged = false;
     CHECK(used > 2 * VT220_ROWS * VT220_COLUMNS);
     vt220 *both[] = {&handles->t, &handles->same};
     for (int i = 0; i < 2; i++) CHECK(vt220_feed(both[i], BYTES("Hello\a\r\n\033[1myou"), reports, sizeof reports, &written) == 15);
-    one = &handles->t, twin = &handles->same;
+    vt220 mine = VT220_INIT;
+    CHECK(vt220_open(&mine) == VT220_OK && vt220_feed_xterm(&mine, &handles->x, BYTES("\033[?47h\xE2\x80"), NULL, 0, NULL) == 8);
+    vt220_close(&mine);
+    one = &handles->t, twin = &handles->same, other_page = &handles->x;
     CHECK(mprotect(pages, PAGES, PROT_READ) == 0 && mprotect(handles, 4096, PROT_READ) == 0);
     for (int i = 0; i < THREADS; i++)
         if (pthread_create(&threads[i], NULL, reads, NULL) != 0) abort();
@@ -107,5 +114,6 @@ int main(void) {
     CHECK(mprotect(pages, PAGES, PROT_READ | PROT_WRITE) == 0 && mprotect(handles, 4096, PROT_READ | PROT_WRITE) == 0);
     vt220_close(&handles->t);
     vt220_close(&handles->same);
+    vt220_xterm_close(&handles->x);
     return finish("readers");
 }

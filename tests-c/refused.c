@@ -31,44 +31,63 @@ void __wrap_free(void *at) {
     __real_free(at);
 }
 
-static uint32_t open_one(void *handle, bool is_terminal) {
-    return is_terminal ? vt220_open((vt220 *)handle) : vt220_scratch_open((vt220_scratch *)handle);
+enum kind { TERMINAL, SCRATCH, XTERM };
+
+typedef union handle {
+    vt220 t;
+    vt220_scratch s;
+    vt220_xterm x;
+} handle;
+
+static uint32_t open_one(handle *h, enum kind kind) {
+    return kind == TERMINAL ? vt220_open(&h->t) : kind == SCRATCH ? vt220_scratch_open(&h->s) : vt220_xterm_open(&h->x);
 }
 
-static void each_refused(bool is_terminal) {
-    union { vt220 t; vt220_scratch s; } handle, closed;
-    memset(&closed, 0, sizeof closed);
+static void close_one(handle *h, enum kind kind) {
+    if (kind == TERMINAL) vt220_close(&h->t);
+    else if (kind == SCRATCH) vt220_scratch_close(&h->s);
+    else vt220_xterm_close(&h->x);
+}
+
+static bool is_closed(const handle *h, enum kind kind) {
+    if (kind == TERMINAL) return !vt220_is_open(&h->t) && h->t.terminal == NULL;
+    if (kind == SCRATCH) return !vt220_scratch_is_open(&h->s) && h->s.room == NULL;
+    return !vt220_xterm_is_open(&h->x) && h->x.pages == NULL;
+}
+
+static void each_refused(enum kind kind) {
+    handle h;
     unsigned long needed = 0;
     for (unsigned long n = 0;; n++) {
-        memset(&handle, 0, sizeof handle);
+        memset(&h, 0, sizeof h);
         granted = n, calls = 0;
-        uint32_t status = open_one(&handle, is_terminal);
+        uint32_t status = open_one(&h, kind);
         granted = ~0ul;
         if (status == VT220_OK) break;
-        CHECK(status == VT220_MEMORY && blocks == 0);
-        CHECK(is_terminal ? !vt220_is_open(&handle.t) && handle.t.terminal == NULL : !vt220_scratch_is_open(&handle.s) && handle.s.room == NULL);
+        CHECK(status == VT220_MEMORY && blocks == 0 && is_closed(&h, kind));
         needed = n + 1;
     }
     CHECK(needed >= 2 && blocks > 0);
     /* open already: no memory is taken */
     calls = 0;
-    CHECK(open_one(&handle, is_terminal) == VT220_IN_USE && calls == 0);
-    if (is_terminal) vt220_close(&handle.t); else vt220_scratch_close(&handle.s);
+    CHECK(open_one(&h, kind) == VT220_IN_USE && calls == 0);
+    close_one(&h, kind);
     CHECK(blocks == 0);
 }
 
-/* No call but the two that open takes memory. */
+/* No call but those that open takes memory. */
 static void none_taken(void) {
     static uint8_t out[VT220_PICTURE_LIMIT];
     static vt220_cell cells[VT220_COLUMNS];
     vt220 t = VT220_INIT, to = VT220_INIT;
     vt220_scratch s = VT220_INIT;
+    vt220_xterm x = VT220_INIT;
     vt220_cursor_place cursor;
     vt220_margin_rows margins;
     vt220_mode_set modes;
     memset(&modes, 0, sizeof modes);
     size_t written;
-    CHECK(vt220_open(&t) == VT220_OK && vt220_open(&to) == VT220_OK && vt220_scratch_open(&s) == VT220_OK);
+    CHECK(vt220_open(&t) == VT220_OK && vt220_open(&to) == VT220_OK && vt220_scratch_open(&s) == VT220_OK && vt220_xterm_open(&x) == VT220_OK);
     calls = 0;
     CHECK(vt220_feed(&t, BYTES("\033[?3h\033[6nx\n"), out, 110, &written) == 11 && written == 6);
     CHECK(vt220_text(&t, &s, out, sizeof out, &written) == VT220_OK && vt220_repaint(&t, &s, out, sizeof out, &written) == VT220_OK);
@@ -89,16 +108,17 @@ static void none_taken(void) {
     CHECK(vt220_row_text(&t, &s, 1, out, sizeof out, &written) == VT220_OK && vt220_row_changes(&t, &to, 1, &marks) == VT220_OK);
     CHECK(vt220_feed(&t, BYTES("\033[1;2;3\a"), out, sizeof out, &written) == 8 && vt220_bells(&t) == 1);
     CHECK(vt220_copy(&to, &t) == VT220_OK && vt220_same_state(&to, &t) && vt220_reset(&t) == VT220_OK && vt220_status_text(0) != NULL);
+    CHECK(vt220_feed_xterm(&t, &x, BYTES("\033[?1049h\033[3G\xC3\xA9\a\033[6n"), out, 220, &written) == 19 && written == 6 && vt220_xterm_alternate(&x));
     CHECK(calls == 0);
     vt220_close(&t);
     vt220_close(&to);
     vt220_scratch_close(&s);
+    vt220_xterm_close(&x);
     CHECK(blocks == 0 && calls == 0);
 }
 
 int main(void) {
-    each_refused(true);
-    each_refused(false);
+    each_refused(TERMINAL), each_refused(SCRATCH), each_refused(XTERM);
     none_taken();
     return finish("refused");
 }

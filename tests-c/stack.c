@@ -7,6 +7,7 @@ enum { STACK = 256 * 1024, PAINT = 0xA5, LIMIT = 8192 };
 
 static vt220 a = VT220_INIT, b = VT220_INIT;
 static vt220_scratch s = VT220_INIT;
+static vt220_xterm x = VT220_INIT;
 static uint8_t out[VT220_PICTURE_LIMIT], input[60000];
 static size_t written;
 
@@ -15,8 +16,10 @@ static void *nothing(void *unused) { return unused; }
 static void *opens(void *unused) {
     vt220 t = VT220_INIT;
     vt220_scratch room = VT220_INIT;
-    if (vt220_open(&t) != VT220_OK || vt220_scratch_open(&room) != VT220_OK) abort();
+    vt220_xterm pages = VT220_INIT;
+    if (vt220_open(&t) != VT220_OK || vt220_scratch_open(&room) != VT220_OK || vt220_xterm_open(&pages) != VT220_OK) abort();
     vt220_close(&t);
+    vt220_xterm_close(&pages);
     vt220_scratch_close(&room);
     return unused;
 }
@@ -50,6 +53,12 @@ static void *feeds_utf8(void *unused) {
     vt220_feed_utf8(&b, &u, input, sizeof input, NULL, 0, NULL);
     for (size_t at = 0; at < sizeof input;)
         at += vt220_feed_log_utf8(&b, &s, &u, input + at, sizeof input - at, NULL, 0, NULL, lines, sizeof lines, &lines_written);
+    return unused;
+}
+
+static void *feeds_xterm(void *unused) {
+    vt220_feed_xterm(&b, &x, input, sizeof input, NULL, 0, NULL);
+    for (size_t at = 0; at < sizeof input;) at += vt220_feed_xterm(&b, &x, input + at, sizeof input - at, out, 5120, &written);
     return unused;
 }
 
@@ -122,7 +131,7 @@ static void fill(void) {
         switch (n % 8) {
         case 0: input[i] = (uint8_t)more; break;
         case 1: input[i] = (uint8_t)"\033[;?\r\n\a\b"[more % 8]; break;
-        case 2: input[i] = (uint8_t)"0123456789mHJKr"[more % 15]; break;
+        case 2: input[i] = (uint8_t)"0123456789mHJKrGSTb"[more % 19]; break;
         default: input[i] = (uint8_t)(0x20 + more % 95);
         }
     }
@@ -131,6 +140,7 @@ static void fill(void) {
 int main(void) {
     fill();
     CHECK(vt220_open(&a) == VT220_OK && vt220_open(&b) == VT220_OK && vt220_scratch_open(&s) == VT220_OK);
+    CHECK(vt220_xterm_open(&x) == VT220_OK);
     depth(opens), depth(feeds);
     size_t empty = depth(nothing);
     CHECK(empty < STACK / 2);
@@ -139,6 +149,7 @@ int main(void) {
     /* First the deepest of them, since a first call may also look for functions of the C library, on the same stack. */
     measure("feed without replies", drops, LIMIT, empty);
     measure("feed in UTF-8", feeds_utf8, LIMIT, empty);
+    measure("feed under TERM=xterm", feeds_xterm, LIMIT, empty);
     measure("feed with a log", logs, LIMIT, empty);
     /* Updates of all kinds: nothing differs, little, much, the width. */
     static const char *const states[] = {"\030", "a", "\033[5;5H\033[1mb\033[24H\n\n", "\033#8", "\033[?3h", "\033[2J\033[3;20rx\033[?6h", "\033[3g"};
@@ -155,6 +166,6 @@ int main(void) {
     measure("picture", draws, LIMIT, empty);
     measure("readers", reads, LIMIT, empty);
     measure("copy and reset", copies, LIMIT, empty);
-    vt220_close(&a), vt220_close(&b), vt220_scratch_close(&s);
+    vt220_close(&a), vt220_close(&b), vt220_scratch_close(&s), vt220_xterm_close(&x);
     return finish("stack");
 }

@@ -221,6 +221,37 @@ func (d *Decoder) handle() *C.vt220_utf8 {
 	return &d.pending
 }
 
+// Xterm is what a terminal needs under TERM=xterm: the page that isn't shown, and what is pending of UTF-8. It belongs to one terminal. It
+// is closed by Close, or when nothing refers to it any more.
+type Xterm struct {
+	_      noCopy
+	handle C.vt220_xterm
+}
+
+// NewXterm opens what a terminal in its power-up state needs. It returns ErrMemory if the allocation fails, and ErrUnsupported on an old
+// processor.
+func NewXterm() (*Xterm, error) {
+	x := new(Xterm)
+	if err := result(C.vt220_xterm_open(&x.handle)); err != nil {
+		return nil, err
+	}
+	runtime.SetFinalizer(x, (*Xterm).Close)
+	return x, nil
+}
+
+// Close frees the memory. What is closed stays closed.
+func (x *Xterm) Close() { C.vt220_xterm_close(&x.handle) }
+
+// Alternate returns whether the alternate page is shown, and false if it is closed.
+func (x *Xterm) Alternate() bool { return bool(C.vt220_xterm_alternate(&x.handle)) }
+
+// Pending returns the bytes at the end of the input that begin a character of UTF-8, at most three.
+func (x *Xterm) Pending() []byte {
+	var d Decoder
+	C.vt220_xterm_pending(&x.handle, &d.pending)
+	return d.Pending()
+}
+
 // Terminal is a VT220. It is closed by Close, or when nothing refers to it any more.
 type Terminal struct {
 	_       noCopy
@@ -281,6 +312,17 @@ func (t *Terminal) FeedUTF8(d *Decoder, bytes []byte) (reports []byte) {
 	pending := d.handle()
 	return t.feed(bytes, func(at *C.uint8_t, length C.size_t, written *C.size_t) C.size_t {
 		return C.vt220_feed_utf8(&t.handle, pending, at, length, &t.reports[0], C.size_t(len(t.reports)), written)
+	})
+}
+
+// FeedXterm plays all bytes of a program that has TERM=xterm or xterm-256color, and returns the reports to it. It plays nothing if x is nil
+// or closed.
+func (t *Terminal) FeedXterm(x *Xterm, bytes []byte) (reports []byte) {
+	if x == nil || !bool(C.vt220_xterm_is_open(&x.handle)) {
+		return nil
+	}
+	return t.feed(bytes, func(at *C.uint8_t, length C.size_t, written *C.size_t) C.size_t {
+		return C.vt220_feed_xterm(&t.handle, &x.handle, at, length, &t.reports[0], C.size_t(len(t.reports)), written)
 	})
 }
 

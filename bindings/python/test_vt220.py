@@ -3,9 +3,10 @@ import pathlib
 import sys
 import vt220
 
-# What each reader returns, and how UTF-8 is fed, as all bindings are tested with.
+# What each reader returns, how UTF-8 is fed, and what programs send under TERM=xterm, as all bindings are tested with.
 FIELDS = pathlib.Path(__file__).resolve().parents[2] / "tests-c/fields.txt"
 UTF8 = FIELDS.parent / "utf8.txt"
+XTERM = FIELDS.parent / "xterm.txt"
 
 passed = failed = 0
 
@@ -162,6 +163,44 @@ def utf8():
     check(len(rows) >= 30, "utf8", f"{len(rows)} rows")
 
 
+def fed_xterm(data, size):
+    """Returns what a new terminal of TERM=xterm that is fed chunks of a size has and returned, by the names of tests-c/xterm.txt."""
+    with vt220.Terminal(terminal="xterm") as terminal:
+        reports = b"".join(terminal.feed(data[at : at + size]) for at in range(0, len(data), size))
+        cursor, brush = terminal.cursor(), terminal.brush()
+        return {"text": terminal.text().rstrip("\n"), "cursor": f"{cursor.row};{cursor.col}", "alternate": str(int(terminal.alternate())),
+                "brush": " ".join(name for name in ("bold", "underline", "blink", "reverse") if getattr(brush, name)), "bells": str(terminal.bells()),
+                "pending": terminal.pending(), "reports": reports}
+
+
+def xterm():
+    """Each row of tests-c/xterm.txt, whole and byte by byte."""
+    rows = [line.split("\t") for line in XTERM.read_text(encoding="utf-8").splitlines() if not line.startswith("#")]
+    at_power_up = {"text": "", "cursor": "1;1", "alternate": "0", "brush": "", "bells": "0", "pending": "", "reports": ""}
+    for name, data, *fields in rows:
+        data, wanted = bytes.fromhex(data), at_power_up | dict(field.split("=", 1) for field in fields)
+        wanted = {of: bytes.fromhex(value) if of in ("pending", "reports") else value.replace("\\n", "\n") for of, value in wanted.items()}
+        for size in (len(data), 1):
+            check(fed_xterm(data, size) == wanted, "xterm", f"{name}: chunks of {size}")
+    check(len(rows) >= 40, "xterm", f"{len(rows)} rows")
+
+
+def terminals():
+    with vt220.Terminal(terminal="xterm") as terminal, vt220.Terminal("utf-8") as other:
+        check((terminal.terminal, terminal.encoding, other.terminal) == ("xterm", "utf-8", "vt220"), "terminals", "names")
+        check(terminal.feed_until_report(b"main\033[?1049h\033[6n\xe2") == (16, b"\033[1;5R") and terminal.alternate(), "terminals", "a report")
+        check(not other.alternate() and other.feed(b"\033[?1049h") == b"" and not other.alternate(), "terminals", "a VT220 has one page")
+        check(raises(ValueError, terminal.copy) and raises(ValueError, terminal.copy_from, other), "terminals", "no copies")
+        check(raises(ValueError, terminal.feed_log, b"x"), "terminals", "no log")
+        other.copy_from(terminal)
+        check(other.same_state(terminal) and terminal.feed(b"\033[?1049l\xe2") == b"" and terminal.text() == "main\n" + "\n" * 23, "terminals", "the main page")
+        terminal.feed(b"\033[?1049h\033]0;title\xe2")
+        terminal.reset()
+        check(not terminal.alternate() and terminal.pending() == b"" and terminal.is_between() and terminal.text() == "\n" * 24, "terminals", "a reset")
+    check(all(raises(ValueError, vt220.Terminal, "utf-8", name) for name in ("xterm-256color", "", None)), "terminals", "another one")
+    check(raises(vt220.Closed, terminal.alternate) and raises(vt220.Closed, terminal.feed, b"x"), "terminals", "closed")
+
+
 def encodings():
     with vt220.Terminal("utf-8") as terminal, vt220.Terminal() as other:
         check((terminal.encoding, other.encoding) == ("utf-8", "dec"), "encodings", "names")
@@ -195,5 +234,7 @@ parts()
 one_field_at_a_time()
 utf8()
 encodings()
+xterm()
+terminals()
 print(f"python: {passed} passed, {failed} failed")
 sys.exit(failed != 0)

@@ -9,6 +9,7 @@ this module, out/libvt220.so of the repository that this module is in, and the s
 Rows and columns count from 1.
 
 A terminal reads the bytes of a VT220, or UTF-8 with Terminal(encoding="utf-8"). shown() returns how UTF-8 is shown.
+Terminal(terminal="xterm") reads what programs send under TERM=xterm-256color.
 
 Any thread may use any terminal at any time. The interpreter's lock is held during each call of the library, so calls don't run in
 parallel. feed() and feed_log() let other threads run after each 64 KB.
@@ -25,7 +26,7 @@ from typing import Any, Callable, Dict, List, NamedTuple, Tuple, Type, Union
 
 __all__ = [
     "ROWS", "COLUMNS", "REPORT_LIMIT", "TEXT_LIMIT", "ROW_TEXT_LIMIT", "SHOW_LIMIT", "PICTURE_LIMIT", "PAINT_LIMIT", "UPDATE_LIMIT",
-    "KEY_LIMIT", "TYPED_LIMIT", "VERSION", "HELD", "ENCODINGS", "Error", "Memory", "InUse", "Closed", "Partial", "Room", "Unsupported", "NoRow", "NoKey", "NoCharacter",
+    "KEY_LIMIT", "TYPED_LIMIT", "VERSION", "HELD", "ENCODINGS", "TERMINALS", "Error", "Memory", "InUse", "Closed", "Partial", "Room", "Unsupported", "NoRow", "NoKey", "NoCharacter",
     "NoLibrary", "Brush", "Cell", "Cursor", "Margins", "Modes", "Saved", "Sets", "Terminal", "key", "key_length", "shown", "status_text",
     "version",
 ]
@@ -45,6 +46,8 @@ VERSION = 300
 HELD = ("nothing", "escape", "control", "string")
 # The encodings of what a host sends: the VT220's own bytes, and UTF-8.
 ENCODINGS = ("dec", "utf-8")
+# The terminals that a host may write for: a VT220, and what TERM=xterm names.
+TERMINALS = ("vt220", "xterm")
 # The most bytes that one call of the library plays: other threads wait for its end.
 _PIECE = 65536
 
@@ -212,7 +215,7 @@ class Saved(NamedTuple):
 
 
 class _Handle(ctypes.Structure):
-    """Holds a terminal or a scratch buffer, whose handle is shorter."""
+    """Holds a terminal, or a handle that is shorter: a scratch buffer, or what TERM=xterm needs."""
 
     _fields_ = [("inside", ctypes.c_void_p), ("is_open", ctypes.c_bool), ("bells", ctypes.c_uint64)]
 
@@ -278,6 +281,11 @@ def _declare(library: ctypes.PyDLL) -> None:
         ("feed_log", size, [handle, handle, buffer, size, buffer, size, told, buffer, size, told]),
         ("feed_utf8", size, [handle, pending, buffer, size, buffer, size, told]),
         ("feed_log_utf8", size, [handle, handle, pending, buffer, size, buffer, size, told, buffer, size, told]),
+        ("xterm_open", status, [handle]),
+        ("xterm_close", None, [handle]),
+        ("xterm_alternate", boolean, [handle]),
+        ("xterm_pending", boolean, [handle, pending]),
+        ("feed_xterm", size, [handle, handle, buffer, size, buffer, size, told]),
         ("shown", ctypes.c_uint32, [ctypes.c_uint32, told]),
         ("text", status, [handle, handle, buffer, size, told]),
         ("row_text", status, [handle, handle, size, buffer, size, told]),
@@ -468,6 +476,10 @@ _cells, _rows = _Cells(), _Rows()
 class Terminal:
     """Opens a terminal in its power-up state. Its host sends the VT220's own bytes ("dec"), or UTF-8 ("utf-8").
 
+    With terminal="xterm" its host sends what programs send under TERM=xterm-256color. This is always UTF-8. alternate() returns whether
+    the alternate page is shown. The page that isn't shown is no part of a copy, a repaint or an update, so copies of such a terminal
+    raise ValueError, and so does feed_log().
+
     It is closed by close(), by the end of a with statement, or when nothing refers to it any more. Raises Memory if an allocation
     fails. Each call of a closed terminal except close() raises Closed.
 
@@ -475,21 +487,36 @@ class Terminal:
     returns them. A checkpoint is repaint() and, after it, pending(): fed to a new Terminal of the same encoding, the two lead on as here.
     """
 
-    def __init__(self, encoding: str = "dec") -> None:
+    def __init__(self, encoding: str = "dec", terminal: str = "vt220") -> None:
         if encoding not in ENCODINGS:
             raise ValueError(f"an encoding is one of {', '.join(ENCODINGS)}, not {encoding!r}")
+        if terminal not in TERMINALS:
+            raise ValueError(f"a terminal is one of {', '.join(TERMINALS)}, not {terminal!r}")
         self._owned = _Owned(_library.vt220_open, _library.vt220_close)
         self._handle = self._owned.handle
-        self._utf8 = None if encoding == "dec" else _Utf8()
+        self._xterm = None if terminal == "vt220" else _Owned(_library.vt220_xterm_open, _library.vt220_xterm_close)
+        self._utf8 = None if encoding == "dec" and self._xterm is None else _Utf8()
 
     @property
     def encoding(self) -> str:
         """The encoding of what the host sends, one of ENCODINGS."""
         return ENCODINGS[self._utf8 is not None]
 
+    @property
+    def terminal(self) -> str:
+        """The terminal that the host writes for, one of TERMINALS."""
+        return TERMINALS[self._xterm is not None]
+
+    def alternate(self) -> bool:
+        """Returns whether the alternate page is shown. A VT220 has none."""
+        self._opened()
+        return self._xterm is not None and bool(_library.vt220_xterm_alternate(self._xterm.handle))
+
     def pending(self) -> bytes:
         """Returns the bytes at the end of the input that begin a character of UTF-8, at most three. Nothing shows them yet."""
         self._opened()
+        if self._xterm is not None:
+            _library.vt220_xterm_pending(self._xterm.handle, self._utf8)
         return b"" if self._utf8 is None else bytes(self._utf8.bytes[: self._utf8.len])
 
     def close(self) -> None:
@@ -509,6 +536,10 @@ class Terminal:
 
     def _playing(self, name: str, *handles: _Handle) -> Callable[..., int]:
         """Returns the library's call that plays bytes in this encoding, with the handles and the pending part that it takes."""
+        if self._xterm is not None:
+            if len(handles) > 1:
+                raise ValueError("a terminal of TERM=xterm has no log")
+            return functools.partial(_library.vt220_feed_xterm, *handles, self._xterm.handle)
         if self._utf8 is None:
             return functools.partial(getattr(_library, name), *handles)
         return functools.partial(getattr(_library, f"{name}_utf8"), *handles, self._utf8)
@@ -612,13 +643,16 @@ class Terminal:
 
     def copy_from(self, other: "Terminal") -> None:
         """Brings this terminal into the state of another one, also if the other is inside a sequence. In UTF-8 pending() is copied, too."""
+        if self._xterm is not None:
+            raise ValueError("a terminal of TERM=xterm isn't copied: the page that isn't shown would be missing")
         _expect(_library.vt220_copy(self._opened(), other._opened()))
         if self._utf8 is not None:
+            other.pending()
             self._utf8 = _Utf8.from_buffer_copy(other._utf8 or _Utf8())
 
     def copy(self) -> "Terminal":
         """Returns a new terminal of this encoding in the state of this one, also inside a sequence. Its bells() counts from 0."""
-        copied = Terminal(self.encoding)
+        copied = Terminal(self.encoding, self.terminal)
         copied.copy_from(self)
         return copied
 
@@ -629,6 +663,8 @@ class Terminal:
 
     def reset(self) -> None:
         """Brings this terminal into its power-up state, also inside a sequence. Nothing is pending then."""
+        if self._xterm is not None:
+            self.feed(b"\033c")
         _expect(_library.vt220_reset(self._opened()))
         if self._utf8 is not None:
             self._utf8 = _Utf8()

@@ -1,21 +1,25 @@
-"""Prints the screen after a recording: python3 -m vt220 [--encoding ENCODING] FILE [BYTES].
+"""Prints the screen after a recording: python3 -m vt220 [--encoding ENCODING | --terminal TERMINAL] FILE [BYTES].
 
-ENCODING is that of the recording: dec, the bytes of a VT220, or utf-8 (dec). BYTES is the number of bytes that are played (all).
+ENCODING is that of the recording: dec, the bytes of a VT220, or utf-8 (dec). TERMINAL is the one that the program wrote for: vt220, or
+xterm, which is in UTF-8 (vt220). BYTES is the number of bytes that are played (all).
 """
 import sys
 
-from . import ENCODINGS, NoLibrary, Terminal
+from . import ENCODINGS, TERMINALS, NoLibrary, Terminal
 
 
 def main() -> int:
     """Plays the recording that the command line names, and prints the screen. Returns the exit status."""
-    words, encoding = sys.argv[1:], "dec"
+    words, encoding, kind = sys.argv[1:], "dec", "vt220"
     if words in (["-h"], ["--help"]):
         print(__doc__, end="")
         return 0
     if words[:1] == ["--encoding"] and len(words) > 1:
         encoding, words = words[1], words[2:]
-    if encoding not in ENCODINGS or len(words) not in (1, 2) or words[0].startswith("-") or not all(word.isdecimal() for word in words[1:]):
+    elif words[:1] == ["--terminal"] and len(words) > 1:
+        kind, words = words[1], words[2:]
+    is_known = encoding in ENCODINGS and kind in TERMINALS
+    if not is_known or len(words) not in (1, 2) or words[0].startswith("-") or not all(word.isdecimal() for word in words[1:]):
         print(__doc__, end="", file=sys.stderr)
         return 2
     try:
@@ -25,7 +29,7 @@ def main() -> int:
         print(f"vt220: {words[0]}: {error.strerror}", file=sys.stderr)
         return 1
     try:
-        terminal = Terminal(encoding)
+        terminal = Terminal(encoding, kind)
     except NoLibrary as fault:
         print(f"vt220: {fault}", file=sys.stderr)
         return 1

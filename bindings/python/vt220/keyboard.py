@@ -15,10 +15,10 @@ class Key(enum.Enum):
     DOWN = "Down"
     RIGHT = "Right"
     LEFT = "Left"
-    FIND = "Find"
+    FIND = HOME = "Find"
     INSERT_HERE = "InsertHere"
     REMOVE = "Remove"
-    SELECT = "Select"
+    SELECT = END = "Select"
     PREV_SCREEN = "PrevScreen"
     NEXT_SCREEN = "NextScreen"
     PF1 = F1 = "PF1"
@@ -83,13 +83,32 @@ def _sent(character: str, modes: Modes, encoding: str) -> bytes:
     return key(character, modes)
 
 
-def spelled(keys: Union[str, Key], modes: Modes, encoding: str = "dec") -> bytes:
+# What xterm sends instead of a VT220's sequence, as terminfo has it for xterm-256color: Home and End as cursor keys, and F13 to F20 as
+# Shift with F1 to F8.
+_XTERM_CURSOR_KEYS = {Key.HOME: b"H", Key.END: b"F"}
+_XTERM_KEYS = {
+    Key.F13: b"\033[1;2P", Key.F14: b"\033[1;2Q", Key.F15: b"\033[1;2R", Key.F16: b"\033[1;2S",
+    Key.F17: b"\033[15;2~", Key.F18: b"\033[17;2~", Key.F19: b"\033[18;2~", Key.F20: b"\033[19;2~",
+}
+
+
+def _pressed(name: Key, modes: Modes, terminal: str) -> bytes:
+    """Returns the bytes that a key sends on a VT220 or on an xterm."""
+    if terminal == "xterm" and name in _XTERM_CURSOR_KEYS:
+        return key(Key.UP.value, modes)[:-1] + _XTERM_CURSOR_KEYS[name]
+    if terminal == "xterm" and name in _XTERM_KEYS:
+        return _XTERM_KEYS[name]
+    return key(name.value, modes)
+
+
+def spelled(keys: Union[str, Key], modes: Modes, encoding: str = "dec", terminal: str = "vt220") -> bytes:
     """Returns the bytes that a key, or each character of a text, sends under these modes. Raises ValueError if no key sends it.
 
-    The encoding is that of the terminal. In UTF-8 a text may have any characters but C1 controls.
+    The encoding is that of the terminal. In UTF-8 a text may have any characters but C1 controls. With terminal="xterm" Home, End
+    and F13 to F20 send what they do on xterm.
     """
     if isinstance(keys, Key):
-        return key(keys.value, modes)
+        return _pressed(keys, modes, terminal)
     if not isinstance(keys, str):
         raise TypeError(f"a key is a text or a Key, not {keys!r}")
     sent = []

@@ -23,6 +23,8 @@ from . import watchdog
 KEPT = ("PATH", "HOME", "USER", "LOGNAME", "TMPDIR")
 # The locale of a command by the encoding of its terminal. It isn't that of whoever runs the test, so that a test runs alike everywhere.
 LOCALES = {"dec": "C", "utf-8": "C.UTF-8"}
+# TERM by the terminal that a command writes for.
+TERMS = {"vt220": "vt220", "xterm": "xterm-256color"}
 # The flag of the line by which it erases whole characters of UTF-8 (termios(3)). Python's module has no name for it.
 _IUTF8 = 0o40000
 _SETSIGDEF, _SETSIGMASK, _SETSID = 4, 8, 0x80

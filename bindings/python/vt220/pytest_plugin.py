@@ -44,11 +44,14 @@ class Session:
                 old.unlink(missing_ok=True)
 
     def run(self, *argv: str, columns: int = 80, cwd: Optional[Directory] = None, env: Optional[Dict[str, str]] = None,
-            timeout: Optional[float] = None, term: str = "vt220", encoding: Optional[str] = None) -> Rig:
-        """Runs a command on a VT220 of 80 or 132 columns, in UTF-8 or with the bytes of a VT220, and returns its Rig."""
+            timeout: Optional[float] = None, term: Optional[str] = None, encoding: Optional[str] = None, terminal: str = "vt220") -> Rig:
+        """Runs a command on a terminal of 80 or 132 columns, and returns its Rig.
+
+        The command is in UTF-8, or has the bytes of a VT220. With terminal="xterm" it has TERM=xterm-256color.
+        """
         reports = Reports(self.directory, f"{self.name}-{len(self.rigs) + 1}", self.colour)
         rig = Rig(argv, columns=columns, cwd=cwd, env=env, timeout=timeout or self.timeout, term=term, encoding=encoding or self.encoding,
-                  screens=self.screens, update=self.update, reports=reports, used=lambda path: self.used.add(str(path)))
+                  screens=self.screens, update=self.update, reports=reports, used=lambda path: self.used.add(str(path)), terminal=terminal)
         self.rigs.append(rig)
         return rig
 

@@ -24,7 +24,7 @@ from .expected import expression_as_shown, expression_of_text, text_as_shown
 from .keyboard import Key, ctrl, spelled
 from .page import NoTemplate, page
 from .picture import svg
-from .process import Process, environment
+from .process import TERMS, Process, environment
 from .screen import MASK, Mask, Place, Screen, Stored, check_column, check_row, difference, differing, renewed
 
 TIMEOUT = 10.0
@@ -39,9 +39,11 @@ DOWN = Key.DOWN
 RIGHT = Key.RIGHT
 LEFT = Key.LEFT
 FIND = Key.FIND
+HOME = Key.HOME
 INSERT_HERE = Key.INSERT_HERE
 REMOVE = Key.REMOVE
 SELECT = Key.SELECT
+END = Key.END
 PREV_SCREEN = Key.PREV_SCREEN
 NEXT_SCREEN = Key.NEXT_SCREEN
 PF1 = Key.PF1
@@ -127,30 +129,37 @@ class Reports(NamedTuple):
             playing = _write_page(f"{stem}.html", rig)
         except OSError as fault:
             return f"no picture and no recording: {fault}"
-        words = ([] if rig.encoding == "dec" else ["--encoding", rig.encoding]) + [shlex.quote(recording)]
-        return f"picture:   {picture}\nrecording: {recording}\n{playing}play it:   python3 -m vt220 {' '.join(words)}   (or: vt220 show {' '.join(words)})"
+        if rig.terminal.terminal == "xterm":
+            playing = f"{playing}play it:   python3 -m vt220 --terminal xterm {shlex.quote(recording)}"
+        else:
+            words = " ".join(([] if rig.encoding == "dec" else ["--encoding", rig.encoding]) + [shlex.quote(recording)])
+            playing = f"{playing}play it:   python3 -m vt220 {words}   (or: vt220 show {words})"
+        return f"picture:   {picture}\nrecording: {recording}\n{playing}"
 
 
 class Rig:
     """Runs a command on a VT220. One thread uses it at a time; any number of them may run side by side.
 
     The command is in UTF-8, and so are the keys that it gets. With the encoding "dec" it gets the bytes of a VT220, and sends them.
+    With the terminal "xterm" it is in UTF-8, TERM is xterm-256color, and its keys are those of xterm.
     """
 
     def __init__(self, argv: Sequence[str], *, columns: int = 80, cwd: Optional[Directory] = None, env: Optional[Dict[str, str]] = None,
-                 timeout: float = TIMEOUT, term: str = "vt220", encoding: str = "utf-8", screens: Optional[Directory] = None, update: bool = False,
-                 reports: Optional[Reports] = None, used: Optional[Callable[[pathlib.Path], None]] = None) -> None:
+                 timeout: float = TIMEOUT, term: Optional[str] = None, encoding: str = "utf-8", screens: Optional[Directory] = None,
+                 update: bool = False, reports: Optional[Reports] = None, used: Optional[Callable[[pathlib.Path], None]] = None,
+                 terminal: str = "vt220") -> None:
         if columns not in (80, 132):
             raise ValueError("a VT220 has 80 or 132 columns")
-        self.argv, self.timeout, self.encoding = [os.fspath(word) for word in argv], timeout, encoding
+        self.argv, self.timeout = [os.fspath(word) for word in argv], timeout
         self.screens, self.update = pathlib.Path(screens if screens is not None else "screens"), update
         self.reports, self._used = reports or Reports(), used
-        self.terminal, self.recording, self.events = Terminal(encoding), bytearray(), []  # type: ignore[var-annotated]
+        self.terminal, self.recording, self.events = Terminal(encoding, terminal), bytearray(), []  # type: ignore[var-annotated]
+        self.encoding = self.terminal.encoding
         self._output, self._is_open, self._started = bytearray(), True, time.monotonic()
-        self.process = Process(self.argv, environment(term, encoding, env), cwd, columns, encoding)
+        self.process = Process(self.argv, environment(term or TERMS[terminal], self.encoding, env), cwd, columns, self.encoding)
         if columns == 132:
             # The recording begins with it, so that it shows the same when it is played.
-            self._play(b"\033[?3h")
+            self._play(b"\033[?3h" if terminal == "vt220" else b"\033[?40h\033[?3h\033[?40l")
         self.last = self._look()
         self._poll = select.poll()
         self._poll.register(self.process.ending, select.POLLIN)
@@ -280,7 +289,7 @@ class Rig:
         """
         __tracebackhide__ = True
         modes = self._typing()
-        self.send(b"".join(spelled(key, modes, self.encoding) for key in keys))
+        self.send(b"".join(spelled(key, modes, self.encoding, self.terminal.terminal) for key in keys))
 
     def paste(self, text: str) -> None:
         """Sends a text as it would be typed quickly: each line feed as the Return key. A VT220 has no bracketed paste."""
@@ -413,8 +422,10 @@ class Rig:
 def _write_page(path: str, rig: Rig) -> str:
     """Writes the page that plays what the program wrote, and returns the line that names it. Without a template there is none.
 
-    It first shows the end. Its markers are what the test sent.
+    It first shows the end. Its markers are what the test sent. The page has no terminal for TERM=xterm, so there is none for it either.
     """
+    if rig.terminal.terminal == "xterm":
+        return ""
     chunks = [(int(event.at * 1e6), len(event.data)) for event in rig.events if event.who == "program"]
     markers = [(event.at, _short(event.data)) for event in rig.events if event.who == "test"]
     end = chunks[-1][0] / 1e6 if chunks else 0

@@ -1,4 +1,4 @@
--- The pointer of a block, or none, as C may hold it: what serves the handle of a terminal and that of a scratch buffer.
+-- The pointer of a block, or none, as C may hold it: what serves the handles of a terminal, of a scratch buffer and of a front.
 -- Assumes `Logic`.
 use Rattle.vt220_c.proofs.Names.{◌≡◌, ◌∙◌, ap, List, [], ◌∷◌, refl, sym, T, Ura, Sym, Fn, Callee, impl, tnil, dnil}
 use Rattle.vt220_c.proofs.Names.{local, value_local, assign, place, copy, int, w64, aggregate, seq, return, Val, emp}
@@ -18,6 +18,8 @@ use Rattle.vt220_c.specs.contracts.inner.Inner as inner
 use Rattle.vt220_c.specs.contracts.scratch.Scratch as scratch
 use Rattle.vt220_c.specs.contracts.kept.Kept as kept
 use Rattle.vt220_c.specs.contracts.kept_scratch.KeptScratch as kept_scratch
+use Rattle.vt220_c.specs.contracts.kept_xterm.KeptXterm as kept_xterm
+use Rattle.vt_xterm.specs.contracts.front.Front as front
 use Rattle.vt220_c.specs.contracts.loose.Loose as loose
 use Rattle.vt220_c.proofs.Words.{both, words, both_good, two, two_in, two_out, restated, turning, turns, ended, clauses}
 use Rattle.vt220_c.proofs.Words.{makes}
@@ -44,7 +46,7 @@ pub record Keeper : Type 2 where
       → two Z p a (box_owns (ghosts.dealloc_token a) content p s) vs ≡ row.own_val (make p a (Some s)) vs
   pub quiet : (κs : Lfts 0) (x : row.Denot) (f : Last (row.exit yes) x) → T (blank (left (row.exit yes) x f))
 
--- that of a terminal, and that of a scratch buffer
+-- that of a terminal, that of a scratch buffer, and that of a front
 abbrev pub terminal : Keeper
 terminal = record {
   content = inner.the_row;
@@ -66,6 +68,22 @@ buffer = record {
   content = scratch.the_row;
   row = kept_scratch.the_row;
   name = kept_scratch.struct.name;
+  at = λ d. d.at;
+  alloc = λ d. d.alloc;
+  inside = λ d. d.inside;
+  make = λ p a o. record { at = p; alloc = a; inside = o };
+  made = λ d. refl;
+  has = λ p a o. refl;
+  empty = λ a vs. refl;
+  full = λ p a s vs. refl;
+  quiet = λ κs x f. tt;
+}
+
+abbrev pub xterm : Keeper
+xterm = record {
+  content = front.the_row;
+  row = kept_xterm.the_row;
+  name = kept_xterm.struct.name;
   at = λ d. d.at;
   alloc = λ d. d.alloc;
   inside = λ d. d.inside;

@@ -38,7 +38,14 @@ pub(crate) fn decoder_of(u: &Vt220Utf8) -> Decoder
 pub(crate) fn c_utf8(decoder: &Decoder) -> Vt220Utf8
     ensures { result ≡ c_utf8 decoder.now }
 {
-    let pending = decoder.pending();
+    c_pending(decoder.pending())
+}
+
+/// Returns the struct of what is pending.
+pub(crate) fn c_pending(pending: &[u8]) -> Vt220Utf8
+    requires { length pending.now ≤ 3 }
+    ensures { result ≡ c_utf8 pending.now }
+{
     let mut bytes = [0; 3];
     bytes[..pending.len()].copy_from_slice(pending);
     Vt220Utf8 {

@@ -49,6 +49,13 @@ pub struct vt220_scratch {
     pub is_open: bool,
 }
 
+#[repr(C)]
+#[derive(Debug)]
+pub struct vt220_xterm {
+    pub pages: *mut c_void,
+    pub is_open: bool,
+}
+
 impl vt220 {
     /// A closed terminal, as VT220_INIT.
     pub const INIT: vt220 = vt220 { terminal: ptr::null_mut(), is_open: false, bells: 0 };
@@ -57,6 +64,11 @@ impl vt220 {
 impl vt220_scratch {
     /// A closed scratch buffer, as VT220_INIT.
     pub const INIT: vt220_scratch = vt220_scratch { room: ptr::null_mut(), is_open: false };
+}
+
+impl vt220_xterm {
+    /// What TERM=xterm needs, closed, as VT220_INIT.
+    pub const INIT: vt220_xterm = vt220_xterm { pages: ptr::null_mut(), is_open: false };
 }
 
 #[repr(C)]
@@ -218,6 +230,20 @@ extern "C" {
         lines_size: usize,
         lines_written: *mut usize,
     ) -> usize;
+    pub fn vt220_xterm_open(x: *mut vt220_xterm) -> u32;
+    pub fn vt220_xterm_close(x: *mut vt220_xterm);
+    pub fn vt220_xterm_is_open(x: *const vt220_xterm) -> bool;
+    pub fn vt220_xterm_alternate(x: *const vt220_xterm) -> bool;
+    pub fn vt220_xterm_pending(x: *const vt220_xterm, u: *mut vt220_utf8) -> bool;
+    pub fn vt220_feed_xterm(
+        t: *mut vt220,
+        x: *mut vt220_xterm,
+        bytes: *const u8,
+        len: usize,
+        reports: *mut u8,
+        size: usize,
+        written: *mut usize,
+    ) -> usize;
     pub fn vt220_shown(character: u32, cells: *mut usize) -> u32;
     pub fn vt220_bells(t: *const vt220) -> u64;
     pub fn vt220_reset(t: *mut vt220) -> u32;
@@ -256,6 +282,7 @@ mod tests {
         assert_eq!((size_of::<vt220_cursor_place>(), size_of::<vt220_margin_rows>(), size_of::<vt220_mode_set>()), (32, 32, 32));
         assert_eq!((size_of::<vt220_brush_look>(), size_of::<vt220_graphic_sets>(), size_of::<vt220_saved_record>()), (16, 16, 48));
         assert_eq!((size_of::<vt220_tab_stops>(), size_of::<vt220_row_marks>(), size_of::<vt220_utf8>()), (144, 152, 4));
+        assert_eq!(size_of::<vt220_xterm>(), 16);
     }
 
     #[test]

@@ -232,6 +232,58 @@ impl Decoder {
     }
 }
 
+/// Owns what a terminal needs under TERM=xterm: the page that isn't shown, and what is pending of UTF-8. It belongs to one terminal.
+///
+/// ```
+/// let (mut terminal, mut xterm) = (vt220::Terminal::new().unwrap(), vt220::Xterm::new().unwrap());
+/// terminal.feed_xterm(&mut xterm, b"main\x1b[?1049h\x1b[2;1Hother");
+/// assert!(xterm.alternate());
+/// terminal.feed_xterm(&mut xterm, b"\x1b[?1049l page");
+/// assert_eq!(terminal.row_text(1, &mut vt220::Scratch::new().unwrap()).unwrap(), "main page\n");
+/// ```
+pub struct Xterm(sys::vt220_xterm);
+
+// SAFETY: a handle owns its memory alone.
+unsafe impl Send for Xterm {}
+
+// SAFETY: the calls that take a `const vt220_xterm *` don't write to it.
+unsafe impl Sync for Xterm {}
+
+impl Xterm {
+    /// Opens what a terminal in its power-up state needs.
+    ///
+    /// # Errors
+    ///
+    /// `Memory` if the allocation fails; `Unsupported` on an old processor.
+    pub fn new() -> Result<Xterm, Error> {
+        let mut handle = sys::vt220_xterm::INIT;
+        // SAFETY: the handle is closed.
+        result(unsafe { sys::vt220_xterm_open(&mut handle) })?;
+        Ok(Xterm(handle))
+    }
+
+    /// Returns whether the alternate page is shown.
+    pub fn alternate(&self) -> bool {
+        // SAFETY: the handle is open.
+        unsafe { sys::vt220_xterm_alternate(&self.0) }
+    }
+
+    /// Returns what is pending of UTF-8.
+    pub fn pending(&self) -> Decoder {
+        let mut decoder = Decoder::new();
+        // SAFETY: the handle is open.
+        unsafe { sys::vt220_xterm_pending(&self.0, &mut decoder.0) };
+        decoder
+    }
+}
+
+impl Drop for Xterm {
+    fn drop(&mut self) {
+        // SAFETY: the handle is as the calls left it.
+        unsafe { sys::vt220_xterm_close(&mut self.0) }
+    }
+}
+
 /// Returns the glyph with which UTF-8 input shows a character, and how many cells it has: 1 or 2. The second cell is a space. Returns
 /// `None` if the character has no cell, as a control or a combining mark.
 ///
@@ -350,6 +402,14 @@ impl Terminal {
         (taken, written)
     }
 
+    /// Processes bytes of a program that has TERM=xterm, and otherwise does as `feed_into`.
+    pub fn feed_xterm_into(&mut self, xterm: &mut Xterm, bytes: &[u8], reports: &mut [u8]) -> (usize, usize) {
+        let mut written = 0;
+        let (len, size, out) = (bytes.len(), reports.len(), reports.as_mut_ptr());
+        let taken = unsafe { sys::vt220_feed_xterm(&mut self.0, &mut xterm.0, bytes.as_ptr(), len, out, size, &mut written) };
+        (taken, written)
+    }
+
     /// Processes all bytes of the host, and returns the replies to it.
     pub fn feed(&mut self, bytes: &[u8]) -> Vec<u8> {
         replies(bytes, |rest, buffer| self.feed_into(rest, buffer))
@@ -359,6 +419,11 @@ impl Terminal {
     /// returns it.
     pub fn feed_utf8(&mut self, decoder: &mut Decoder, bytes: &[u8]) -> Vec<u8> {
         replies(bytes, |rest, buffer| self.feed_utf8_into(decoder, rest, buffer))
+    }
+
+    /// Processes all bytes of a program that has TERM=xterm or xterm-256color, and returns the replies to it.
+    pub fn feed_xterm(&mut self, xterm: &mut Xterm, bytes: &[u8]) -> Vec<u8> {
+        replies(bytes, |rest, buffer| self.feed_xterm_into(xterm, rest, buffer))
     }
 
     /// Processes all bytes of the host. Returns the replies to it, and the lines that scroll off the top of the screen, each as

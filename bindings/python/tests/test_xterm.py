@@ -1,0 +1,94 @@
+"""Tests the rig with programs that have TERM=xterm-256color."""
+import re
+import subprocess
+import sys
+
+import pytest
+
+import vt220
+from vt220 import rig as rig_module
+from vt220.keyboard import Key, spelled
+from vt220.rig import END, HOME, Failure, Reports
+
+# A limit that only says that something hangs.
+LONG = 300
+POWER_UP = vt220.Modes(False, False, True, False, False, False, False, False, True, True, True, False, False)
+
+
+@pytest.fixture(autouse=True)
+def in_a_directory(tmp_path, monkeypatch):
+    monkeypatch.chdir(tmp_path)
+
+
+def run(*argv, **options):
+    return rig_module.run(*argv, **{"timeout": LONG, "terminal": "xterm", **options})
+
+
+@pytest.mark.parametrize("options, wanted", [({}, "xterm-256color C.UTF-8"), ({"term": "xterm"}, "xterm C.UTF-8"), ({"terminal": "vt220"}, "vt220 C.UTF-8")])
+def test_a_program_has_the_name_of_the_terminal(options, wanted):
+    with run("/bin/sh", "-c", "echo $TERM $LC_ALL", **options) as rig:
+        assert rig.ended().rows[0] == wanted
+
+
+def test_there_are_two_terminals():
+    for name in ("xterm-256color", "", None):
+        with pytest.raises(ValueError, match="a terminal is one of vt220, xterm"):
+            run("true", terminal=name)
+
+
+def test_less_has_the_alternate_page(tmp_path):
+    (tmp_path / "notes.txt").write_text("".join(f"line {number}\n" for number in range(1, 61)))
+    with run("/bin/sh", "-c", "printf 'before\\r\\n'; less notes.txt; printf 'after\\r\\n'; read end", env={"LESSHISTFILE": "-", "LESS": ""}) as rig:
+        rig.wait("notes.txt", row=24)
+        rig.wait("^line 1$", row=1)
+        assert rig.terminal.alternate()
+        rig.keys(END)
+        rig.wait("^line 60$", row=23)
+        rig.keys(HOME)
+        rig.wait("^line 1$", row=1)
+        rig.keys("q")
+        rig.wait("^after$", row=2)
+        assert not rig.terminal.alternate() and rig.last.rows[0] == "before"
+        rig.keys("\r")
+        rig.ended()
+
+
+def test_132_columns_stay():
+    """A reset by terminfo's strings doesn't change the width: ?40 isn't set."""
+    with run("/bin/sh", "-c", "printf '\\033[132Gx\\033[?3l'; read end", columns=132) as rig:
+        rig.wait("x$", row=1, col=132)
+        assert rig.last.width == 132
+        rig.keys("\r")
+        rig.ended()
+
+
+def test_a_failure_names_the_terminal(tmp_path):
+    with run("/bin/sh", "-c", "printf 'main\\033[?1049hother'; exit 3", reports=Reports(tmp_path, "failed")) as rig:
+        with pytest.raises(Failure) as failure:
+            rig.ended()
+    words = str(failure.value)
+    assert "page:" not in words and (tmp_path / "failed.svg").exists()
+    command = re.search(r"play it: +python3 -m vt220 (--terminal xterm .*)$", words, re.M).group(1).split()
+    played = subprocess.run([sys.executable, "-m", "vt220", *command], capture_output=True, text=True, check=True)
+    assert played.stdout == "    other\n" + "\n" * 23
+
+
+def test_keys_are_those_of_terminfo():
+    """The entry xterm-256color has the keys under DECCKM and DECKPAM. Each of them that is a key here sends the same."""
+    entry = subprocess.run(["infocmp", "-1", "xterm-256color"], capture_output=True, text=True, check=True).stdout
+    names = {"kf%d" % number: "F%d" % number for number in range(1, 21) if number != 5}
+    names.update(khome="HOME", kend="END", kich1="INSERT_HERE", kdch1="REMOVE", kpp="PREV_SCREEN", knp="NEXT_SCREEN", kcuu1="UP", kcud1="DOWN",
+                 kcuf1="RIGHT", kcub1="LEFT", kent="KP_ENTER")
+    modes, seen = POWER_UP._replace(decckm=True, keypad_application=True), 0
+    for line in entry.splitlines():
+        name, _, code = line.strip().rstrip(",").partition("=")
+        if name in names:
+            assert spelled(Key[names[name]], modes, "utf-8", "xterm") == code.replace("\\E", "\033").encode(), name
+            seen += 1
+    assert seen == len(names)
+
+
+def test_home_and_end_follow_decckm():
+    assert spelled(HOME, POWER_UP, "utf-8", "xterm") == b"\033[H" and spelled(END, POWER_UP, "utf-8", "xterm") == b"\033[F"
+    assert spelled(HOME, POWER_UP) == b"\033[1~" and spelled(END, POWER_UP) == b"\033[4~"
+    assert spelled("é", POWER_UP, "utf-8", "xterm") == "é".encode()

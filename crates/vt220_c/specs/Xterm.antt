@@ -1,0 +1,31 @@
+-- What a host sends under TERM=xterm, played on a terminal and the front that a handle keeps for it.
+use Rattle.std.specs.Prelude.{◌≡◌, ◌+◌, ℕ, List, [], ◌∷◌}
+use Rattle.vt_term.specs.State.{State}
+use Rattle.vt_utf8.specs.Decoding.{pending_after}
+use Rattle.vt_xterm.specs.Play.{FrontState, WholePlayed, behind, play_xterm}
+use Rattle.vt220_c.specs.Bells.{bells}
+use Rattle.vt220_c.specs.Feeding.{WritesAt}
+
+-- the state, the pages and the reports that bytes leave
+abbrev pub xterm_played : State → FrontState → List ℕ → WholePlayed
+xterm_played s front bytes = play_xterm (behind s front) front.pending bytes
+
+-- the front that they leave
+abbrev pub xterm_front : State → FrontState → List ℕ → FrontState
+xterm_front s front bytes = record {
+  pending = pending_after front.pending bytes;
+  pages = (xterm_played s front bytes).whole.pages;
+}
+
+-- how often BEL is carried out: at its byte, unless a control string is held there. (this profile)
+abbrev pub xterm_bells : State → FrontState → List ℕ → ℕ
+xterm_bells s front [] = 0
+xterm_bells s front (b ∷ bytes) =
+    bells s.held (b ∷ [])
+    + xterm_bells (xterm_played s front (b ∷ [])).whole.state (xterm_front s front (b ∷ [])) bytes
+
+-- the state, the front, and the reports behind what is there. Contracts of private functions cite this, and no public clause does.
+pub record FeedsXterm (s : State) (front : FrontState) (bytes : List ℕ) (t : State) (new : FrontState) (out : List ℕ) (at : ℕ) (out_after : List ℕ) (written : ℕ) : Type 0 where
+  pub state : t ≡ (xterm_played s front bytes).whole.state
+  pub kept : new ≡ xterm_front s front bytes
+  pub sent : WritesAt (xterm_played s front bytes).reports out at out_after written

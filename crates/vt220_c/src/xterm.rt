@@ -1,0 +1,124 @@
+//! Calls of C that play what a host sends under TERM=xterm.
+ghost use Rattle.std.specs.Prelude.{◌≡◌, ◌↔◌, ◌+◌, ◌≤◌, ◌<◌, ◌⊎◌, true, false, length, take, IfSome, is_some};
+ghost use Rattle.std.specs.declared.option.Option.TheVariants.{None, Some};
+ghost use Rattle.vt_xterm.specs.Play.{front_at_power_up};
+ghost use Rattle.vt220_c.specs.Status.{status_ok, status_in_use};
+ghost use Rattle.vt220_c.specs.Utf8.{c_utf8};
+ghost use Rattle.vt220_c.specs.Written.{written_over};
+ghost use Rattle.vt220_c.specs.Xterm.{xterm_played, xterm_front, xterm_bells};
+
+use crate::behind::feed_xterm;
+use crate::handle::Vt220;
+use crate::status::{IN_USE, MEMORY, OK};
+use crate::utf8::{Vt220Utf8, c_pending};
+use crate::xterm_handle::Vt220Xterm;
+use std::alloc::Global;
+use vt_term::REPORT_LIMIT;
+use vt_xterm::Front;
+
+/// Opens a closed handle, with a front at power-up. Returns `OK`, `IN_USE` or `MEMORY`.
+#[unsafe(no_mangle)]
+pub extern "C" fn core_xterm_open(x: &mut Vt220Xterm, alloc: Global) -> u32
+    ensures ok { result ≡ status_ok → x.new.kept.inside ≡ Some front_at_power_up }
+    ensures not { (0 < result) → x.new.kept.inside ≡ x.old.kept.inside }
+    ensures in_use { (result ≡ status_in_use) ↔ (is_some x.old.kept.inside ≡ true) }
+    ensures answers { result ≤ status_in_use }
+{
+    if x.is_open {
+        return IN_USE;
+    }
+    let Ok(front) = Front::new(alloc) else {
+        return MEMORY;
+    };
+    let Ok(front) = Box::new(alloc, front) else {
+        return MEMORY;
+    };
+    x.put(front);
+    OK
+}
+
+/// Closes a handle and frees its memory. A closed handle stays closed.
+#[unsafe(no_mangle)]
+pub extern "C" fn core_xterm_close(x: &mut Vt220Xterm, alloc: Global)
+    ensures { x.new.kept.inside ≡ None }
+{
+    let _ = x.take(alloc);
+}
+
+/// Returns whether the alternate page is shown. Returns false if the handle is closed.
+#[unsafe(no_mangle)]
+pub extern "C" fn core_xterm_alternate(x: &mut Vt220Xterm, alloc: Global) -> bool
+    ensures same { x.new.kept.inside ≡ x.old.kept.inside }
+    ensures alternate { IfSome x.old.kept.inside (λ front. result ≡ front.pages.alternate) }
+    ensures closed { x.old.kept.inside ≡ None → result ≡ false }
+{
+    let Some(front) = x.take(alloc) else {
+        return false;
+    };
+    let alternate = front.is_alternate();
+    x.put(front);
+    alternate
+}
+
+/// Writes what is pending of UTF-8. Returns false, and leaves `u` unchanged, if the handle is closed.
+#[unsafe(no_mangle)]
+pub extern "C" fn core_xterm_pending(x: &mut Vt220Xterm, u: &mut Vt220Utf8, alloc: Global) -> bool
+    ensures same { x.new.kept.inside ≡ x.old.kept.inside }
+    ensures pending { IfSome x.old.kept.inside (λ front. u.new ≡ c_utf8 front.pending) }
+    ensures closed { x.old.kept.inside ≡ None → u.new ≡ u.old }
+    ensures opened { result ≡ is_some x.old.kept.inside }
+{
+    let Some(front) = x.take(alloc) else {
+        return false;
+    };
+    *u = c_pending(front.pending());
+    x.put(front);
+    true
+}
+
+/// Plays what a host sends under TERM=xterm and writes the reports, as `core_feed` does. `x` is what the terminal needs next
+/// to its state. Returns how many bytes were played: all, or as many as `out` has capacity for. Returns 0 if a handle is closed.
+#[unsafe(no_mangle)]
+pub extern "C" fn core_feed_xterm(
+    t: &mut Vt220,
+    x: &mut Vt220Xterm,
+    piece: &[u8],
+    counts: bool,
+    out: &mut [u8],
+    written: &mut usize,
+    rung: &mut usize,
+    alloc: Global,
+) -> usize
+    ensures within { result ≤ length piece.now }
+    ensures state { IfSome t.old.kept.inside (λ s. IfSome x.old.kept.inside (λ front.
+        t.new.kept.inside ≡ Some (xterm_played s front (take result piece.now)).whole.state)) }
+    ensures front { IfSome t.old.kept.inside (λ s. IfSome x.old.kept.inside (λ front.
+        x.new.kept.inside ≡ Some (xterm_front s front (take result piece.now)))) }
+    ensures reports { IfSome t.old.kept.inside (λ s. IfSome x.old.kept.inside (λ front.
+        out.new ≡ written_over (xterm_played s front (take result piece.now)).reports out.old)) }
+    ensures written { IfSome t.old.kept.inside (λ s. IfSome x.old.kept.inside (λ front.
+        written.new ≡ length (xterm_played s front (take result piece.now)).reports)) }
+    ensures all { IfSome t.old.kept.inside (λ _. IfSome x.old.kept.inside (λ _.
+        (result ≡ length piece.now) ⊎ (length out.old < written.new + REPORT_LIMIT))) }
+    ensures bells { IfSome t.old.kept.inside (λ s. IfSome x.old.kept.inside (λ front.
+        counts ≡ true → rung.new ≡ xterm_bells s front (take result piece.now))) }
+    ensures none { counts ≡ false → rung.new ≡ 0 }
+    ensures closed { (t.old.kept.inside ≡ None) ⊎ (x.old.kept.inside ≡ None) → (t.new.kept.inside ≡ t.old.kept.inside)
+        × (x.new.kept.inside ≡ x.old.kept.inside) × (result ≡ 0) × (written.new ≡ 0) × (rung.new ≡ 0) × (out.new ≡ out.old) }
+{
+    *written = 0;
+    *rung = 0;
+    let Some(mut inner) = t.take(alloc) else {
+        return 0;
+    };
+    let Some(mut front) = x.take(alloc) else {
+        t.put(inner);
+        return 0;
+    };
+    let played = feed_xterm(&mut inner, &mut front, piece, counts, out);
+    t.put(inner);
+    x.put(front);
+    *written = played.written;
+    *rung = played.bells;
+    played.taken
+}

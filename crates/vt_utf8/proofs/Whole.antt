@@ -1,6 +1,7 @@
 -- A whole character at the front of a piece.
 use Rattle.std.proofs.Common.{◌≡◌, ℕ, ◌≤◌, List, [], ◌∷◌, length, Some, None, Bool, true, false, refl, arith, subst, sym, ap, ◌∙◌}
-use Rattle.std.specs.Prelude.{Option, ◌==◌, nat_lt, cond}
+use Rattle.std.specs.Option.{SomeIff}
+use Rattle.std.specs.Prelude.{Option, IfSome, slice_index, ◌==◌, nat_lt, cond}
 use Rattle.std.proofs.lemmas.Bool.Decides.{nat_tests}
 use Rattle.bstr.specs.Utf8.{Decoded, decoded, bad, good, second, continues, code_of_2, code_of_3, code_of_4}
 use Rattle.vt_utf8.specs.Decoding.{is_begun, read}
@@ -107,6 +108,15 @@ module _ (b : ℕ) (low : nat_lt b 0xC2 ≡ false) (high : nat_lt 0xF4 b ≡ fal
               pending = four-left;
             }
 
+-- no first byte from E1 to EC narrows the second
+any-second : (b x : ℕ) → 0xE1 ≤ b → b ≤ 0xEC → continues x ≡ true → second b x ≡ true
+any-second b x low high on =
+    let e : (b == 0xE0) ≡ false = grind (arith, nat_tests) in
+    let f : (b == 0xED) ≡ false = grind (arith, nat_tests) in
+    let g : (b == 0xF0) ≡ false = grind (arith, nat_tests) in
+    let h : (b == 0xF4) ≡ false = grind (arith, nat_tests) in
+    rw (e, f, g, h) on
+
 -- ---- what decodes beyond ASCII is whole
 
 -- bytes after the fourth make no difference
@@ -186,3 +196,28 @@ decoded-whole piece c n char size beyond =
     whole c n piece
     (ap (λ (o : Option ℕ). record { char = o; size = (decoded piece).size }) char
     ∙ ap (λ (m : ℕ). record { char = Some c; size = m }) (sym size)) beyond
+
+-- three bytes, the first of which is none of those that narrow the second
+three-whole-by : (piece : List ℕ) (c : ℕ) → 3 ≤ length piece → 0xE1 ≤ slice_index piece 0
+    → slice_index piece 0 ≤ 0xEC → continues (slice_index piece 1) ≡ true → continues (slice_index piece 2) ≡ true
+    → code_of_3 (slice_index piece 0) (slice_index piece 1) (slice_index piece 2) ≡ c → (0x80 ≤ c) × IsWhole piece c 3
+three-whole-by [] c long low high second-on third-on is = absurd (omega (arith, long))
+three-whole-by (b ∷ []) c long low high second-on third-on is = absurd (omega (arith, long))
+three-whole-by (b ∷ x ∷ []) c long low high second-on third-on is = absurd (omega (arith, long))
+three-whole-by (b ∷ x ∷ d ∷ rest) c long low high second-on third-on is =
+    let no_first : nat_lt b 0xC2 ≡ false = grind (arith, nat_tests) in
+    let no_last : nat_lt 0xF4 b ≡ false = grind (arith, nat_tests) in
+    let no_two : nat_lt b 0xE0 ≡ false = grind (arith, nat_tests) in
+    let is_three : nat_lt b 0xF0 ≡ true = grind (arith, nat_tests) in
+    let any : second b x ≡ true = any-second b x low high second-on in
+    let large : 0x80 ≤ code_of_3 b x d = omega (arith, low) in
+    subst (λ (k : ℕ). (0x80 ≤ k) × IsWhole (b ∷ x ∷ d ∷ rest) k 3) is
+    (large, three b no_first no_last x any no_two d third-on rest is_three)
+
+pub three-made : (r : Option ℕ) (P : Type 0) (piece : List ℕ)
+    → SomeIff r P (code_of_3 (slice_index piece 0) (slice_index piece 1) (slice_index piece 2)) → 3 ≤ length piece
+    → 0xE1 ≤ slice_index piece 0 → slice_index piece 0 ≤ 0xEC → continues (slice_index piece 1) ≡ true
+    → continues (slice_index piece 2) ≡ true → IfSome r (λ c. (0x80 ≤ c) × IsWhole piece c 3)
+three-made None P piece made long low high second-on third-on = tt
+three-made (Some c) P piece made long low high second-on third-on =
+    three-whole-by piece c long low high second-on third-on (sym made.1)

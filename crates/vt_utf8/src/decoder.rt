@@ -1,7 +1,7 @@
 //! Decoding: from bytes, one at a time, to characters.
 ghost use Rattle.std.specs.Prelude.{◌≡◌, ◌<◌, ◌≤◌, ◌++◌, [], ◌∷◌, ◌==◌, length, IfSome};
 ghost use Rattle.std.specs.Option.{option_to_list};
-ghost use Rattle.bstr.specs.Utf8.{decoded, lead_len, replacement};
+ghost use Rattle.bstr.specs.Utf8.{continues, decoded, lead_len, replacement};
 ghost use Rattle.vt_utf8.specs.Private.Whole.{IsWhole};
 ghost use Rattle.vt_utf8.specs.Decoding.{is_begun, pending_of, given_up, read, read_first};
 
@@ -55,11 +55,46 @@ fn is_begun(bytes: &[u8], size: usize) -> bool
     size == bytes.len() && bytes.len() < lead_len(bytes[0])
 }
 
+/// Returns whether a byte may be any but the first of a character.
+#[inline(always)]
+fn continues(b: u8) -> bool
+    ensures { result ≡ continues b }
+{
+    0x7F < b && b < 0xC0
+}
+
+/// Returns the character of three bytes that begin a chunk, if the first is from E1 to EC. Speed: any two bytes that
+/// continue a character may follow, so most characters of three bytes are decoded by fewer tests.
+#[inline(always)]
+fn three_bytes(piece: &[u8]) -> Option<char>
+    ensures { IfSome result (λ c. (0x80 ≤ c) × IsWhole piece.now c 3) }
+{
+    if piece.len() < 3 {
+        return None;
+    }
+    let (b, x, d) = (piece[0], piece[1], piece[2]);
+    if b < 0xE1 {
+        return None;
+    }
+    if b > 0xEC {
+        return None;
+    }
+    if continues(x) && continues(d) {
+        return char::from_u32(
+            ((b as u32 - 0xE0) * 64 + (x as u32 - 0x80)) * 64 + (d as u32 - 0x80),
+        );
+    }
+    None
+}
+
 /// Returns the character beyond ASCII at the front of a chunk, if it is whole, and how many bytes it takes.
 #[inline(always)]
 pub(crate) fn whole_character(piece: &[u8]) -> Option<(char, usize)>
     ensures { IfSome result (λ found. (0x80 ≤ found.0) × IsWhole piece.now found.0 found.1) }
 {
+    if let Some(c) = three_bytes(piece) {
+        return Some((c, 3));
+    }
     let (found, size) = decode(piece);
     let Some(c) = found else {
         return None;

@@ -246,7 +246,7 @@ fn writes_glyphs(terminal: &Terminal) -> bool
 }
 
 /// Plays a character beyond ASCII, which causes no report. Speed: most characters are one glyph between sequences.
-#[inline]
+#[inline(always)]
 pub fn feed_beyond_ascii(terminal: &mut Terminal, c: char, out: &mut Vec<u8>)
     requires beyond { 0x80 ≤ c }
     requires room { vec_len out.old + 10 ≤ vec_capacity out.old }

@@ -20,6 +20,7 @@ complete -c vt220 -n "__fish_seen_subcommand_from $commands" -l format -x -a 'ra
 complete -c vt220 -n "__fish_seen_subcommand_from $commands" -l timing -r -d 'The times of a recording by script'
 complete -c vt220 -n "__fish_seen_subcommand_from $commands" -l until -x -d 'Only what came before'
 complete -c vt220 -n "__fish_seen_subcommand_from $commands" -l encoding -x -a 'dec utf-8' -d 'How the bytes are read'
+complete -c vt220 -n "__fish_seen_subcommand_from $commands" -l terminal -x -a 'vt220 xterm' -d 'The terminal for which the host sends'
 complete -c vt220 -n "__fish_seen_subcommand_from $commands" -l quiet -d 'No notes'
 complete -c vt220 -n "__fish_seen_subcommand_from help" -f -a "$commands"
 complete -c vt220 -s h -l help -d 'Print the help'

@@ -73,11 +73,14 @@ with_format a = with_rule (with_rule a (text_option (codes "format"))) (text_opt
 abbrev pub flag_option : Text → Rule
 flag_option name = record (new_rule name) { long = Some name; action = Some SetTrue }
 
+-- with the options for the encoding and the terminal
+abbrev pub with_host : App → App
+with_host a = with_rule (with_rule a (text_option (codes "encoding"))) (text_option (codes "terminal"))
+
 -- with the options of a recording
 abbrev pub with_source : App → App
 with_source a =
-    with_rule (with_rule (with_rule (with_format a) (text_option (codes "until"))) (text_option (codes "encoding")))
-    (flag_option (codes "quiet"))
+    with_rule (with_host (with_rule (with_format a) (text_option (codes "until")))) (flag_option (codes "quiet"))
 
 -- a subcommand: the options with a number, the file, and the options of a recording
 abbrev pub subcommand : Text → App
@@ -140,7 +143,7 @@ abbrev pub is_plain : List Row → Bool
 is_plain matches =
     not (is_some (first_of (codes "format") matches)) && (not (is_some (first_of (codes "timing") matches))
     && (not (is_some (first_of (codes "until") matches)) && (not (is_some (first_of (codes "encoding") matches))
-    && not (is_set (codes "quiet") matches))))
+    && (not (is_some (first_of (codes "terminal") matches)) && not (is_set (codes "quiet") matches)))))
 
 -- s is what the subcommand that clap found, and its matches, ask for: a replay of bytes that no recorder wrote
 pub record AreSettings (found : Option (Text × List Row)) (s : Settings) : Type 0 where

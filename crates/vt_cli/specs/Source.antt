@@ -8,9 +8,12 @@ use Rattle.vt_recording.specs.declared.format.Encoding.{Encoding}
 use Rattle.vt_recording.specs.declared.format.Encoding.TheVariants.{Dec, Utf8}
 use Rattle.vt_recording.specs.declared.format.Moment.{Moment}
 use Rattle.vt_recording.specs.declared.format.Moment.TheVariants.{Micros, Bytes}
+use Rattle.vt_cli.specs.declared.what.TerminalType.{TerminalType}
+use Rattle.vt_cli.specs.declared.what.TerminalType.TheVariants.{Vt220, Xterm}
 use Rattle.vt_cli.specs.declared.source.Source.{Source}
 use Rattle.vt_cli.specs.declared.source.Complaint.{Complaint}
 use Rattle.vt_cli.specs.declared.source.Complaint.TheVariants.{NoFormat, NoTimingFile, NoMoment, NoTimes, NoEncoding, OnlyDec}
+use Rattle.vt_cli.specs.declared.source.Complaint.TheVariants.{NoTerminal, OnlyUtf8, OnlyVt220}
 use Rattle.vt_cli.specs.Moment.{moment}
 
 -- the format of a name, or none for the name that lets the beginning of the input decide
@@ -69,24 +72,64 @@ abbrev pub encoding_of : (command : Text) → Option Text → Result (Option Enc
 encoding_of command None = Ok None
 encoding_of command (Some name) = encoding_named command name
 
+-- ---- the terminal
+
+-- the command of this name plays xterm
+abbrev pub plays_xterm : Text → Bool
+plays_xterm command =
+    not (bytes_eq command (codes "log")) && (not (bytes_eq command (codes "pages"))
+    && (reads_utf8 command && not (bytes_eq command (codes "content"))))
+
+-- xterm, for a command and the encoding that was asked for: it reads UTF-8
+abbrev pub xterm_for : (command : Text) → Option Encoding → Result TerminalType Complaint
+xterm_for command (Some Dec) = Err OnlyUtf8
+xterm_for command (Some Utf8) = cond (plays_xterm command) (Ok Xterm) (Err OnlyVt220)
+xterm_for command None = cond (plays_xterm command) (Ok Xterm) (Err OnlyVt220)
+
+-- the terminal of a name, for a command and an encoding
+abbrev pub terminal_named : (command : Text) → Option Encoding → (name : Text) → Result TerminalType Complaint
+terminal_named command encoding name =
+    cond (bytes_eq name (codes "vt220")) (Ok Vt220)
+    (cond (bytes_eq name (codes "xterm")) (xterm_for command encoding) (Err NoTerminal))
+
+-- without a name it is a VT220
+abbrev pub terminal_of : (command : Text) → Option Encoding → Option Text → Result TerminalType Complaint
+terminal_of command encoding None = Ok Vt220
+terminal_of command encoding (Some name) = terminal_named command encoding name
+
+-- the encoding of what a host sends for a terminal
+abbrev pub encoding_for : TerminalType → Option Encoding → Option Encoding
+encoding_for Vt220 encoding = encoding
+encoding_for Xterm encoding = Some Utf8
+
 -- ---- all of them
 
-abbrev pub with_encoding : Option Format → Option Moment → Result (Option Encoding) Complaint → Result Source Complaint
-with_encoding format until (Ok encoding) = Ok (record { format = format; until = until; encoding = encoding })
-with_encoding format until (Err complaint) = Err complaint
-
-abbrev pub with_until : Option Format → Result (Option Moment) Complaint → Result (Option Encoding) Complaint
+abbrev pub with_terminal : Option Format → Option Moment → Option Encoding → Result TerminalType Complaint
     → Result Source Complaint
-with_until format (Ok until) encoding = with_encoding format until encoding
-with_until format (Err complaint) encoding = Err complaint
+with_terminal format until encoding (Ok terminal) =
+    Ok (record { format = format; until = until; encoding = encoding_for terminal encoding; terminal = terminal })
+with_terminal format until encoding (Err complaint) = Err complaint
 
--- by the format, whether there is a timing file, the text of `--until`, and the encoding
-abbrev pub source_by : Result (Option Format) Complaint → (timed : Bool) → Option Text
-    → Result (Option Encoding) Complaint → Result Source Complaint
-source_by (Err complaint) timed until encoding = Err complaint
-source_by (Ok format) timed until encoding =
+-- by the encoding, and the name of a terminal, for a command
+abbrev pub with_encoding : (command : Text) → Option Format → Option Moment → Result (Option Encoding) Complaint
+    → (terminal : Option Text) → Result Source Complaint
+with_encoding command format until (Ok encoding) terminal =
+    with_terminal format until encoding (terminal_of command encoding terminal)
+with_encoding command format until (Err complaint) terminal = Err complaint
+
+abbrev pub with_until : (command : Text) → Option Format → Result (Option Moment) Complaint → (encoding terminal : Option Text)
+    → Result Source Complaint
+with_until command format (Ok until) encoding terminal =
+    with_encoding command format until (encoding_of command encoding) terminal
+with_until command format (Err complaint) encoding terminal = Err complaint
+
+-- by the format, whether there is a timing file, and the texts of the other options
+abbrev pub source_by : (command : Text) → Result (Option Format) Complaint → (timed : Bool)
+    → (until encoding terminal : Option Text) → Result Source Complaint
+source_by command (Err complaint) timed until encoding terminal = Err complaint
+source_by command (Ok format) timed until encoding terminal =
     cond (timed && not (takes_timing format)) (Err NoTimingFile)
-    (with_until format (until_of format timed until) encoding)
+    (with_until command format (until_of format timed until) encoding terminal)
 
 -- without a name it is raw
 abbrev pub named : Option Text → Result (Option Format) Complaint
@@ -94,15 +137,16 @@ named None = Ok (Some Raw)
 named (Some name) = format_named name
 
 -- by the name of the command, and the texts of the options
-abbrev pub source_of : (command : Text) → (format : Option Text) → (timed : Bool) → (until encoding : Option Text)
+abbrev pub source_of : (command : Text) → (format : Option Text) → (timed : Bool) → (until encoding terminal : Option Text)
     → Result Source Complaint
-source_of command format timed until encoding = source_by (named format) timed until (encoding_of command encoding)
+source_of command format timed until encoding terminal =
+    source_by command (named format) timed until encoding terminal
 
 -- by a subcommand's name and matches
 abbrev pub source_in : (command : Text) → List Row → Result Source Complaint
 source_in command matches =
     source_of command (first_of (codes "format") matches) (is_some (first_of (codes "timing") matches))
-    (first_of (codes "until") matches) (first_of (codes "encoding") matches)
+    (first_of (codes "until") matches) (first_of (codes "encoding") matches) (first_of (codes "terminal") matches)
 
 -- what is said of options that don't fit: the fault, and after some of them a line with a way out
 abbrev pub line_of : Complaint → List ℕ
@@ -115,3 +159,7 @@ line_of NoTimes =
 line_of NoEncoding = codes "vt220: --encoding is dec or utf-8" ++ 0x0A ∷ []
 line_of OnlyDec =
     codes "vt220: trace and summary read no UTF-8" ++ 0x0A ∷ codes "vt220: they read what vt220 content --encoding utf-8 writes" ++ 0x0A ∷ []
+line_of NoTerminal = codes "vt220: --terminal is vt220 or xterm" ++ 0x0A ∷ []
+line_of OnlyUtf8 = codes "vt220: --terminal xterm reads UTF-8, and not --encoding dec" ++ 0x0A ∷ []
+line_of OnlyVt220 =
+    codes "vt220: log, pages, trace, summary and content play no xterm" ++ 0x0A ∷ codes "vt220: text, show, picture, status, reports and repaint do" ++ 0x0A ∷ []

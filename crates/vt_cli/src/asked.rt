@@ -2,7 +2,7 @@
 
 ghost use Rattle.std.specs.Prelude.{◌≤◌};
 
-use crate::what::{What, Word};
+use crate::what::{TerminalType, What, Word};
 use vt_recording::{Encoding, Format, Moment};
 
 /// What the arguments ask for, if it is a replay. The two numbers are in their ranges, in every value of this type.
@@ -48,6 +48,8 @@ pub struct Request {
     pub format: Option<Format>,
     /// How the host's bytes are read, or none if nothing was asked for.
     pub encoding: Option<Encoding>,
+    /// The terminal for which the host sends.
+    pub terminal: TerminalType,
     /// The file with the times of a recording by script(1), if there is one.
     pub timing: Option<String>,
     /// The moment up to which the input is wanted, or none for all of it.

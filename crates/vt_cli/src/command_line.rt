@@ -6,7 +6,7 @@ ghost use Rattle.clap.specs.Words.{subcommand_rows_of};
 ghost use Rattle.clap.specs.declared.builder.command.Command.TheViews.{out-Command};
 ghost use Rattle.vt_cli.specs.declared.what.What.{What};
 ghost use Rattle.vt_cli.specs.CommandLine.{number_option, piece_option, limit_option, file_argument, with_numbers};
-ghost use Rattle.vt_cli.specs.CommandLine.{text_option, flag_option, with_format, with_source, subcommand, with_name, as_program};
+ghost use Rattle.vt_cli.specs.CommandLine.{text_option, flag_option, with_format, with_host, with_source, subcommand, with_name, as_program};
 ghost use Rattle.vt_cli.specs.CommandLine.{vt220, faults_in, found_in, name_of, status_for, is_true, is_set, is_plain};
 ghost use Rattle.vt_cli.specs.CommandLine.{IsNumberOf, AreSettings, IsMemory, IsFault, IsStray, IsRefusal};
 ghost use Rattle.vt_cli.specs.CommandLine.{HasNoSettings};
@@ -96,6 +96,7 @@ Each command but help takes FILE, or standard input if no file is named, and the
   --timing FILE    the times of a recording by script(1)
   --until MOMENT   only what came before: seconds, as 12.5 or 12:31, or bytes, as 4096b
   --encoding NAME  how the host's bytes are read: dec or utf-8 [default: dec, for asciicast utf-8]
+  --terminal NAME  the terminal for which the host sends: vt220 or xterm [default: vt220]
   --quiet          no notes on standard error; faults are printed all the same
 
 Example, with a recording made by script(1):
@@ -222,6 +223,15 @@ fn encoding_option<'a>(alloc: Global) -> Arg<'a>
     text_option(alloc, "encoding", "NAME", help)
 }
 
+/// Returns the option for the terminal.
+fn terminal_option<'a>(alloc: Global) -> Arg<'a>
+    ensures rule { rule_of result ≡ text_option (codes "terminal") }
+    ensures local { result.global ≡ false }
+{
+    let help = "The terminal for which the host sends: vt220 or xterm [default: vt220]";
+    text_option(alloc, "terminal", "NAME", help)
+}
+
 /// Returns the option that leaves out the notes.
 fn quiet_option<'a>(alloc: Global) -> Arg<'a>
     ensures rule { rule_of result ≡ flag_option (codes "quiet") }
@@ -243,6 +253,16 @@ fn with_format<'a>(alloc: Global, command: Command<'a>) -> Result<Command<'a>, A
     command.arg(timing_option(alloc))
 }
 
+/// Adds the options for the encoding and the terminal.
+fn with_host<'a>(alloc: Global, command: Command<'a>) -> Result<Command<'a>, AllocError>
+    requires { (out-Command command).has_globals ≡ false }
+    ensures app { IfOk result (λ c. app_of c ≡ with_host (app_of command.entry)) }
+    ensures local { IfOk result (λ c. (out-Command c).has_globals ≡ false) }
+{
+    let command = command.arg(encoding_option(alloc))?;
+    command.arg(terminal_option(alloc))
+}
+
 /// Adds the options of a recording.
 fn with_source<'a>(alloc: Global, command: Command<'a>) -> Result<Command<'a>, AllocError>
     requires { (out-Command command).has_globals ≡ false }
@@ -250,9 +270,7 @@ fn with_source<'a>(alloc: Global, command: Command<'a>) -> Result<Command<'a>, A
     ensures local { IfOk result (λ c. (out-Command c).has_globals ≡ false) }
 {
     let command = with_format(alloc, command)?.arg(until_option(alloc))?;
-    command
-        .arg(encoding_option(alloc))?
-        .arg(quiet_option(alloc))
+    with_host(alloc, command)?.arg(quiet_option(alloc))
 }
 
 /// Returns a subcommand with its options and the file.
@@ -452,6 +470,7 @@ fn is_plain(matches: &ArgMatches<'_>) -> bool
         && !is_given(matches, "timing")
         && !is_given(matches, "until")
         && !is_given(matches, "encoding")
+        && !is_given(matches, "terminal")
         && !is_set(matches, "quiet")
 }
 

@@ -12,4 +12,4 @@ pub use asked::{Refused, Request, Settings};
 pub use command_line::settings;
 pub use requests::request;
 pub use vt_recording::{Encoding, Format, Moment};
-pub use what::{What, Word};
+pub use what::{TerminalType, What, Word};

@@ -58,6 +58,7 @@ fn request_of(
         timing,
         until: source.until,
         encoding: source.encoding,
+        terminal: source.terminal,
         quiet: is_set(matches, "quiet"),
     }))
 }
@@ -90,12 +91,14 @@ fn request_in(alloc: Global, words: &[String]) -> Result<Request, Refused>
 /// The arguments are those of clap's command `vt220`: one of the eleven subcommands, those of `settings` and `log`, `pages`,
 /// `trace`, `summary` and `content`. Each takes `--piece N`, `--limit N` and at most one FILE, and the options of a
 /// recording: `--format FORMAT` (raw, script, ttyrec, asciicast or auto, otherwise raw), `--timing FILE`, `--until MOMENT`,
-/// `--encoding NAME` (dec or utf-8) and `--quiet`. With auto the beginning of the input decides on the format. A moment is seconds (`12.5`), minutes and seconds (`12:31`),
-/// hours, minutes and seconds (`1:02:03`), or a number of bytes (`4096b`). Seconds have up to six decimals.
+/// `--encoding NAME` (dec or utf-8), `--terminal NAME` (vt220 or xterm, otherwise vt220) and `--quiet`. With auto the beginning
+/// of the input decides on the format. A moment is seconds (`12.5`), minutes and seconds (`12:31`), hours, minutes and seconds
+/// (`1:02:03`), or a number of bytes (`4096b`). Seconds have up to six decimals. With xterm the encoding is utf-8.
 ///
 /// `Err` is what to end with if there is no request: the help or the version that was asked for (status 0), a failed
 /// allocation (1), or what is wrong with the arguments (2). Such are also `--timing` with a format other than script, a
-/// moment in seconds with raw, or with script without `--timing`, and utf-8 with `trace` or `summary`. (this profile)
+/// moment in seconds with raw, or with script without `--timing`, and utf-8 with `trace` or `summary`. Such is xterm with dec,
+/// or with a subcommand that `settings` doesn't take. (this profile)
 pub fn request(alloc: Global, words: Vec<String>) -> Result<Request, Refused>
     ensures ok { IfOk result (IsRequest words.items) }
     ensures err { IfErr result (IsNoRequest words.items) }

@@ -1,14 +1,16 @@
-//! How the input was recorded: its format, the moment up to which it is wanted, and the encoding.
+//! How the input was recorded: its format, the moment up to which it is wanted, the encoding, and the terminal.
 ghost use Rattle.std.specs.Prelude.{◌≡◌, option_map};
 ghost use Rattle.clap.specs.Words.{found_of, rows_of};
 ghost use Rattle.vt_cli.specs.Source.{format_named, named, takes_timing, has_times, has_moment, until_of, source_of, source_in, line_of};
 ghost use Rattle.vt_cli.specs.Source.{reads_utf8, encoding_named, encoding_of};
+ghost use Rattle.vt_cli.specs.Source.{plays_xterm, xterm_for, terminal_named, terminal_of, encoding_for};
 
 use crate::moment::moment;
+use crate::what::TerminalType;
 use clap::ArgMatches;
 use vt_recording::{Encoding, Format, Moment};
 
-/// How the input was recorded, the moment up to which it is wanted, and the encoding.
+/// How the input was recorded, the moment up to which it is wanted, the encoding, and the terminal.
 #[derive(Clone, Copy, Debug, PartialEq, Eq)]
 pub(crate) struct Source {
     /// The format, or none if the beginning of the input decides.
@@ -17,6 +19,8 @@ pub(crate) struct Source {
     pub(crate) until: Option<Moment>,
     /// The encoding, or none if nothing was asked for.
     pub(crate) encoding: Option<Encoding>,
+    /// The terminal for which the host sends.
+    pub(crate) terminal: TerminalType,
 }
 
 /// Why the options of a recording are refused.
@@ -34,6 +38,12 @@ pub(crate) enum Complaint {
     NoEncoding,
     /// `--encoding utf-8` is given for a command that reads no UTF-8.
     OnlyDec,
+    /// `--terminal` names no terminal.
+    NoTerminal,
+    /// `--terminal xterm` is given with `--encoding dec`.
+    OnlyUtf8,
+    /// `--terminal xterm` is given for a command that plays a VT220 alone.
+    OnlyVt220,
 }
 
 impl Complaint {
@@ -58,6 +68,12 @@ impl Complaint {
             Complaint::OnlyDec => {
                 "vt220: trace and summary read no UTF-8\n\
                  vt220: they read what vt220 content --encoding utf-8 writes\n"
+            }
+            Complaint::NoTerminal => "vt220: --terminal is vt220 or xterm\n",
+            Complaint::OnlyUtf8 => "vt220: --terminal xterm reads UTF-8, and not --encoding dec\n",
+            Complaint::OnlyVt220 => {
+                "vt220: log, pages, trace, summary and content play no xterm\n\
+                 vt220: text, show, picture, status, reports and repaint do\n"
             }
         }
     }
@@ -165,17 +181,76 @@ fn encoding_of(command: &str, name: Option<&str>) -> Result<Option<Encoding>, Co
     }
 }
 
+/// Returns whether the command of this name plays xterm.
+fn plays_xterm(command: &str) -> bool
+    ensures { result ≡ plays_xterm command.now }
+{
+    !matches!(command, "log" | "pages" | "trace" | "summary" | "content")
+}
+
+/// Returns xterm, for a command and the encoding that was asked for.
+fn xterm_for(command: &str, encoding: Option<Encoding>) -> Result<TerminalType, Complaint>
+    ensures { result ≡ xterm_for command.now encoding }
+{
+    match encoding {
+        Some(Encoding::Dec) => Err(Complaint::OnlyUtf8),
+        Some(Encoding::Utf8) | None if plays_xterm(command) => Ok(TerminalType::Xterm),
+        Some(Encoding::Utf8) | None => Err(Complaint::OnlyVt220),
+    }
+}
+
+/// Returns the terminal of a name, for a command and an encoding.
+fn terminal_named(
+    command: &str,
+    encoding: Option<Encoding>,
+    name: &str,
+) -> Result<TerminalType, Complaint>
+    ensures { result ≡ terminal_named command.now encoding name.now }
+{
+    match name {
+        "vt220" => Ok(TerminalType::Vt220),
+        "xterm" => xterm_for(command, encoding),
+        _ => Err(Complaint::NoTerminal),
+    }
+}
+
+/// Returns the terminal of a name, for a command and an encoding. Without a name it is a VT220.
+fn terminal_of(
+    command: &str,
+    encoding: Option<Encoding>,
+    name: Option<&str>,
+) -> Result<TerminalType, Complaint>
+    ensures { result ≡ terminal_of command.now encoding (option_map (λ n. n.now) name.entry) }
+{
+    match name {
+        Some(name) => terminal_named(command, encoding, name),
+        None => Ok(TerminalType::Vt220),
+    }
+}
+
+/// Returns the encoding of what a host sends for a terminal: the one that was asked for, and UTF-8 for xterm.
+fn encoding_for(terminal: TerminalType, encoding: Option<Encoding>) -> Option<Encoding>
+    ensures { result ≡ encoding_for terminal encoding }
+{
+    match terminal {
+        TerminalType::Vt220 => encoding,
+        TerminalType::Xterm => Some(Encoding::Utf8),
+    }
+}
+
 /// Returns the source that options give for a command: the name of a format, whether there is a timing file, the text of a
-/// moment, and the name of an encoding.
+/// moment, and the names of an encoding and of a terminal.
 fn source_of(
     command: &str,
     format: Option<&str>,
     timed: bool,
     until: Option<&str>,
     encoding: Option<&str>,
+    terminal: Option<&str>,
 ) -> Result<Source, Complaint>
     ensures { result ≡ source_of command.now (option_map (λ f. f.now) format.entry) timed
-        (option_map (λ u. u.now) until.entry) (option_map (λ e. e.now) encoding.entry) }
+        (option_map (λ u. u.now) until.entry) (option_map (λ e. e.now) encoding.entry)
+        (option_map (λ t. t.now) terminal.entry) }
 {
     let format = match named(format) {
         Ok(format) => format,
@@ -188,11 +263,16 @@ fn source_of(
         Ok(until) => until,
         Err(complaint) => return Err(complaint),
     };
-    match encoding_of(command, encoding) {
-        Ok(encoding) => Ok(Source {
+    let encoding = match encoding_of(command, encoding) {
+        Ok(encoding) => encoding,
+        Err(complaint) => return Err(complaint),
+    };
+    match terminal_of(command, encoding, terminal) {
+        Ok(terminal) => Ok(Source {
             format,
             until,
-            encoding,
+            encoding: encoding_for(terminal, encoding),
+            terminal,
         }),
         Err(complaint) => Err(complaint),
     }
@@ -208,5 +288,6 @@ pub(crate) fn source_in(command: &str, matches: &ArgMatches<'_>) -> Result<Sourc
         matches.get_str("timing").is_some(),
         matches.get_str("until"),
         matches.get_str("encoding"),
+        matches.get_str("terminal"),
     )
 }

@@ -1,12 +1,18 @@
 -- Bytes read, played and sent a piece at a time.
-use Rattle.std.proofs.Common.{◌≡◌, ℕ, ◌+◌, ◌-◌, ◌≤◌, ◌++◌, List, length, Option, take, arith}
+use Rattle.std.proofs.Common.{◌≡◌, ℕ, ◌+◌, ◌-◌, ◌≤◌, ◌++◌, List, length, Option, take, arith, false}
 use Rattle.std.proofs.Common.{[], append-nil, length-append, ◌≢◌, refl, sym, append_assoc}
 use Rattle.std.proofs.lemmas.List.{length-take}
 use Rattle.std.proofs.Math.Seq.{take-append_seam}
 use Rattle.std.specs.Io.KnownBytes.{Consumes, Appends}
-use Rattle.std.proofs.KnownBytes.{Consumes-trans, Appends-trans}
-use Rattle.vt_device.specs.Runs.{Moves}
+use Rattle.std.proofs.KnownBytes.{Consumes-nil, Appends-nil, Consumes-trans, Appends-trans}
+use Rattle.vt_device.specs.Runs.{Moves, Flags, AreFlags}
 use Rattle.vt_device.specs.Writing.{IsProperBeginning}
+
+-- nothing was read or written, since allocation failed
+pub without_memory : (left held : Option (List ℕ)) (f : Flags) → AreFlags f false false false
+    → Moves left left held held (λ b w. AreFlags f false false false × (b ≡ []) × (w ≡ []))
+without_memory left held f flags =
+    record { b = []; w = []; taken = Consumes-nil left; given = Appends-nil held; holds = (flags, refl, refl) }
 
 -- one more read and one more write
 pub Moves-step : (left mid after held hmid hafter : Option (List ℕ)) (P Q : List ℕ → List ℕ → Type 0)

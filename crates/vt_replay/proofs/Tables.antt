@@ -11,7 +11,7 @@ use Rattle.vt_device.specs.Runs.{Flags, AreFlags}
 use Rattle.vt_device.specs.Writing.{IsProperBeginning}
 use Rattle.vt_replay.specs.declared.fault.Fault.{Fault}
 use Rattle.vt_replay.specs.declared.fault.Fault.TheVariants.{Memory, Partial, Read, Write, TooLong}
-use Rattle.vt_replay.specs.Due.{due, sent_for, end_for, there_for, is_there, is_nothing, IsThere}
+use Rattle.vt_replay.specs.Due.{due, sent_for, end_by, there_by, is_there, is_nothing, IsThere}
 use Rattle.vt_replay.specs.Output.{OutputTable, IsCutBefore, IsCutAtEnd}
 use Rattle.vt_replay.specs.Run.{Table, WriteRow}
 use Rattle.vt_replay.proofs.Steps.{behind}
@@ -75,8 +75,8 @@ module _ (piece : ℕ) (b w : List ℕ) (f : Flags) where
   before Show flags cut = absurd (no_part w cut.part)
   before Picture flags cut = absurd (no_part w cut.part)
 
-  row_at_end : (what : What) → AreFlags f false true true → there_for what b ≡ true
-      → IsCutAtEnd (sent_for what) (end_for what) b w → WriteRow what piece b w f
+  row_at_end : (what : What) → AreFlags f false true true → there_by (play power_up) what b ≡ true
+      → IsCutAtEnd (sent_for what) (end_by (play power_up) what) b w → WriteRow what piece b w f
   row_at_end Text flags there cut = flags
   row_at_end Reports flags there cut = absurd (no_part cut.more cut.part)
   row_at_end Repaint flags there cut = (flags, nothing_held (play power_up b).state.held there)
@@ -84,12 +84,12 @@ module _ (piece : ℕ) (b w : List ℕ) (f : Flags) where
   row_at_end Show flags there cut = flags
   row_at_end Picture flags there cut = flags
 
-  due_at_end : (what : What) → IsCutAtEnd (sent_for what) (end_for what) b w → IsProperBeginning w (due what b)
+  due_at_end : (what : What) → IsCutAtEnd (sent_for what) (end_by (play power_up) what) b w → IsProperBeginning w (due what b)
   due_at_end what cut =
-      rw cut.begins (behind (sent_for what b) cut.more (end_for what b) (sent_for what b) (due what b) refl refl cut.part)
+      rw cut.begins (behind (sent_for what b) cut.more (end_by (play power_up) what b) (sent_for what b) (due what b) refl refl cut.part)
 
   pub table : (limit : ℕ) (result : Result (Unit {0}) Fault) (what : What)
-      → OutputTable (sent_for what) (end_for what) (there_for what) result piece b w f limit
+      → OutputTable (sent_for what) (end_by (play power_up) what) (there_by (play power_up) what) result piece b w f limit
       → Table result what piece b w f limit
   table limit (Ok u) what t = (t.0, t.1, is_there_so what (play power_up b).state t.2, t.3)
   table limit (Err Memory) what t = t

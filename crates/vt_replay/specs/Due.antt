@@ -3,7 +3,7 @@ use Rattle.std.specs.Prelude.{◌≡◌, ℕ, List, [], ◌++◌, length, Bool, 
 use Rattle.vt_syntax.specs.declared.held.Held.{Held}
 use Rattle.vt_syntax.specs.declared.held.Held.TheVariants.{Nothing}
 use Rattle.vt_term.specs.State.{State, power_up}
-use Rattle.vt_term.specs.Play.{play}
+use Rattle.vt_term.specs.Play.{Played, play}
 use Rattle.vt_term.specs.Text.{text}
 use Rattle.vt_term.specs.declared.terminal.TheConstants.{TEXT_LIMIT}
 use Rattle.vt_paint.specs.Repaint.{paint}
@@ -58,7 +58,15 @@ room_for Picture = PICTURE_LIMIT
 abbrev pub IsThere : What → State → Type 0
 IsThere what s = what ≡ Repaint → s.held ≡ Nothing
 
--- ---- a replay as an output
+-- ---- a replay as an output, by what bytes leave and report
+
+-- what goes out for bytes while they are read
+abbrev pub sent_by : (played : List ℕ → Played) → What → List ℕ → List ℕ
+sent_by played what bytes = sent what (played bytes).reports
+
+-- what goes out for bytes at their end
+abbrev pub end_by : (played : List ℕ → Played) → What → List ℕ → List ℕ
+end_by played what bytes = due_at_end what (played bytes).state (length (played bytes).reports)
 
 -- reports go out
 abbrev pub is_sent : What → Bool
@@ -83,10 +91,6 @@ is_there Status s = true
 is_there Show s = true
 is_there Picture s = true
 
--- what goes out for bytes at their end
-abbrev pub end_for : What → List ℕ → List ℕ
-end_for what bytes = due_at_end what (play power_up bytes).state (length (play power_up bytes).reports)
-
--- it is there
-abbrev pub there_for : What → List ℕ → Bool
-there_for what bytes = is_there what (play power_up bytes).state
+-- what goes out for bytes at their end is there
+abbrev pub there_by : (played : List ℕ → Played) → What → List ℕ → Bool
+there_by played what bytes = is_there what (played bytes).state

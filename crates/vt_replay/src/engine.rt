@@ -1,24 +1,23 @@
 //! The replay of an input: what is due of a terminal is an output.
-ghost use Rattle.std.specs.Prelude.{◌≡◌, ◌+◌, ◌*◌, ◌≤◌, [], ℕ, true, false, length, max, vec_len, vec_capacity, IfOk};
-ghost use Rattle.std.specs.Prelude.{◌++◌};
+ghost use Rattle.std.specs.Prelude.{◌≡◌, ◌+◌, ◌*◌, ◌≤◌, ◌++◌, [], ℕ, true, false, length, max, vec_len, vec_capacity};
 ghost use Rattle.std.specs.Io.KnownBytes.{IsAtEnd};
-ghost use Rattle.vt_term.specs.State.{power_up};
-ghost use Rattle.vt_term.specs.Play.{play};
-ghost use Rattle.vt_replay.specs.Due.{sent, due_at_end, room_for, is_there, is_sent, sent_for, end_for, there_for};
+ghost use Rattle.vt_replay.specs.Due.{sent, due_at_end, room_for, is_there, is_sent, sent_by, end_by, there_by};
 ghost use Rattle.vt_device.specs.Runs.{Moves};
-ghost use Rattle.vt_replay.specs.Output.{EncodedTable};
+ghost use Rattle.vt_replay.specs.Output.{OutputTable};
+ghost use Rattle.vt_replay.specs.Playing.{ReplayTable};
 ghost use Rattle.vt_replay.specs.Run.{Table};
 
 use crate::fault::Fault;
-use crate::output::{Output, write_output_from};
+use crate::language::Language;
+use crate::output::{Output, front_for, write_output_from};
+use crate::player::{PlainPlayer, Player, Utf8Player, XtermPlayer};
 use crate::status::{STATUS_LIMIT, push_status};
-use std::alloc::{AllocError, Global};
+use std::alloc::Global;
 use std::io::{Read, Write};
 use vt_cli::{Encoding, Settings, What};
 use vt_device::{Source, Watched};
 use vt_paint::{PAINT_LIMIT, repaint_reserved};
 use vt_picture::{PICTURE_LIMIT, SHOW_LIMIT, picture_reserved, show_reserved};
-use vt_term::laws::{cuts, soundness};
 use vt_term::{REPORT_LIMIT, TEXT_LIMIT, Terminal};
 
 /// Plays the reader's bytes on a new terminal, and writes what is due. Neither device has failed before, and the reader
@@ -53,12 +52,12 @@ pub fn run<R: Read, W: Write>(
         (λ b w. Table result what piece b w (record { reader_failed = reader.new.failed; reader_ended = reader.new.ended; writer_failed = writer.new.failed }) limit) }
     ensures whole { reader.new.ended ≡ true → IsAtEnd (R.remaining reader.new.device) }
 {
-    run_from(alloc, reader, writer, what, Encoding::Dec, piece, limit)
+    run_from(alloc, reader, writer, what, Language::Dec, piece, limit)
 }
 
-/// Plays a source's bytes in an encoding on a new terminal, and writes what is due, as `run` does of a reader's. The source
-/// hasn't failed or ended before. In UTF-8 the terminal's bytes are played, and what is pending at the end isn't. `piece`
-/// and `limit` count the host's bytes.
+/// Plays a source's bytes in a language on a new terminal, and writes what is due, as `run` does of a reader's. The source
+/// hasn't failed or ended before. What is pending of UTF-8 at the end isn't played. `piece` and `limit` count the host's
+/// bytes.
 ///
 /// `Err` is what `run` returns.
 pub fn run_from<S: Source, W: Write>(
@@ -66,7 +65,7 @@ pub fn run_from<S: Source, W: Write>(
     reader: &mut S,
     writer: &mut Watched<W>,
     what: What,
-    encoding: Encoding,
+    language: Language,
     piece: usize,
     limit: u64,
 ) -> Result<(), Fault>
@@ -77,13 +76,48 @@ pub fn run_from<S: Source, W: Write>(
     requires limit_in_range { limit ≤ 1099511627776 }
     ensures answer { Moves (S.remaining reader.old) (S.remaining reader.new) (W.contents writer.old.device)
         (W.contents writer.new.device)
-        (λ b w. EncodedTable encoding (sent_for what) (end_for what) (there_for what) result piece b w (record { reader_failed = S.failed reader.new; reader_ended = S.ended reader.new; writer_failed = writer.new.failed }) limit) }
+        (λ b w. ReplayTable language what result piece b w (record { reader_failed = S.failed reader.new; reader_ended = S.ended reader.new; writer_failed = writer.new.failed }) limit) }
     ensures whole { S.ended reader.new ≡ true → IsAtEnd (S.remaining reader.new) }
 {
-    cuts();
-    soundness();
-    let mut output = DueOutput::new(alloc, what, piece)?;
-    write_output_from(alloc, &mut output, encoding, reader, writer, piece, limit)
+    match language {
+        Language::Dec => {
+            let player = PlainPlayer::new(alloc)?;
+            run_by(alloc, player, reader, writer, what, piece, limit)
+        }
+        Language::Utf8 => {
+            let player = Utf8Player::new(alloc)?;
+            run_by(alloc, player, reader, writer, what, piece, limit)
+        }
+        Language::Xterm => {
+            let player = XtermPlayer::new(alloc)?;
+            run_by(alloc, player, reader, writer, what, piece, limit)
+        }
+    }
+}
+
+/// Plays a source's bytes by a player, and writes what is due.
+fn run_by<P: Player, S: Source, W: Write>(
+    alloc: Global,
+    player: P,
+    reader: &mut S,
+    writer: &mut Watched<W>,
+    what: What,
+    piece: usize,
+    limit: u64,
+) -> Result<(), Fault>
+    requires reader_works { S.failed reader.old ≡ false }
+    requires reader_goes_on { S.ended reader.old ≡ false }
+    requires writer_works { writer.old.failed ≡ false }
+    requires piece_in_range { (1 ≤ piece) × (piece ≤ 65536) }
+    requires limit_in_range { limit ≤ 1099511627776 }
+    ensures answer { Moves (S.remaining reader.old) (S.remaining reader.new) (W.contents writer.old.device)
+        (W.contents writer.new.device)
+        (λ b w. OutputTable (sent_by (P.played player) what) (end_by (P.played player) what) (there_by (P.played player) what) result piece b w (record { reader_failed = S.failed reader.new; reader_ended = S.ended reader.new; writer_failed = writer.new.failed }) limit) }
+    ensures whole { S.ended reader.new ≡ true → IsAtEnd (S.remaining reader.new) }
+{
+    let mut output = DueOutput::new(player, what, piece);
+    let dec = Encoding::Dec;
+    write_output_from(alloc, &mut output, dec, reader, writer, piece, limit)
 }
 
 /// Plays the reader's bytes as the settings ask, and writes what is due: by `run`, with their kind, chunk size and limit.
@@ -115,42 +149,43 @@ pub fn replay<R: Read, W: Write>(
     )
 }
 
-/// What is due of a terminal: its reports as they come, or all else at the end.
+/// What is due of a player: its reports as they come, or all else at the end.
 #[derive(Drop)]
-struct DueOutput {
+struct DueOutput<P: Drop> {
     what: What,
-    terminal: Terminal,
+    player: P,
     /// The number of report bytes.
     reported: u64,
     /// The capacity for the reports of one chunk.
     room: usize,
 }
 
-impl DueOutput {
-    /// Returns the output of a new terminal, with capacity for the reports of chunks of so many bytes. `Err` means that
-    /// allocation failed.
-    fn new(alloc: Global, what: What, piece: usize) -> Result<DueOutput, AllocError>
+impl<P: Player> DueOutput<P> {
+    /// Returns the output of a player, with capacity for the reports of chunks of so many bytes.
+    fn new(player: P, what: What, piece: usize) -> DueOutput<P>
         requires { piece ≤ 65536 }
-        ensures what { IfOk result (λ o. o.what ≡ what) }
-        ensures terminal { IfOk result (λ o. o.terminal ≡ power_up) }
-        ensures reported { IfOk result (λ o. o.reported ≡ 0) }
+        ensures what { result.what ≡ what }
+        ensures player { result.player ≡ player }
+        ensures reported { result.reported ≡ 0 }
+        ensures none { (P.played player []).reports ≡ [] }
     {
-        Ok(DueOutput {
+        let _ = player.terminal();
+        DueOutput {
             what,
-            terminal: Terminal::new(alloc)?,
+            player,
             reported: 0,
             room: REPORT_LIMIT * piece,
-        })
+        }
     }
 }
 
-impl Output for DueOutput {
-    ghost written = { λ o bytes. sent o.what (play o.terminal bytes).reports };
+impl<P: Player> Output for DueOutput<P> {
+    ghost written = { λ o bytes. sent_by (P.played o.player) o.what bytes };
 
-    ghost ending = { λ o bytes. due_at_end o.what (play o.terminal bytes).state
-        (o.reported + length (play o.terminal bytes).reports) };
+    ghost ending = { λ o bytes. due_at_end o.what (P.played o.player bytes).state
+        (o.reported + length (P.played o.player bytes).reports) };
 
-    ghost there = { λ o bytes. is_there o.what (play o.terminal bytes).state };
+    ghost there = { λ o bytes. there_by (P.played o.player) o.what bytes };
 
     ghost most = { λ o. 65536 };
 
@@ -163,11 +198,8 @@ impl Output for DueOutput {
     }
 
     fn feed(&mut self, chunk: &[u8], out: &mut Vec<u8>) -> usize {
-        let _ = self.terminal.width();
-        cuts();
-        soundness();
-        let count = chunk.len().min(out.capacity() / REPORT_LIMIT);
-        self.terminal.feed_reserved(&chunk[..count], out);
+        let count = front_for(chunk, out);
+        self.player.feed(&chunk[..count], out);
         self.reported += out.len() as u64;
         if !is_sent(self.what) {
             out.clear();
@@ -176,15 +208,11 @@ impl Output for DueOutput {
     }
 
     fn is_there(&self) -> bool {
-        let _ = self.terminal.width();
-        cuts();
-        is_there(&self.terminal, self.what)
+        is_there(self.player.terminal(), self.what)
     }
 
     fn end(&self, out: &mut Vec<u8>) {
-        let _ = self.terminal.width();
-        cuts();
-        push_due_at_end(&self.terminal, self.what, self.reported, out);
+        push_due_at_end(self.player.terminal(), self.what, self.reported, out);
     }
 }
 

@@ -1,0 +1,41 @@
+-- What a player leaves and reports of more bytes.
+use Rattle.std.proofs.Common.{◌≡◌, ℕ, List, ◌++◌, ap, refl}
+use Rattle.vt_term.specs.State.{State, power_up}
+use Rattle.vt_term.specs.Sound.{IsSound}
+use Rattle.vt_term.specs.Play.{play, both}
+use Rattle.vt_utf8.specs.Decoding.{pending_after}
+use Rattle.vt_utf8.specs.Play.{play_utf8}
+use Rattle.vt_xterm.specs.Play.{Whole, WholePlayed, FrontState, play_xterm, behind, both as both_whole}
+use Rattle.vt_recording.specs.declared.format.Encoding.{Encoding}
+use Rattle.vt_recording.specs.declared.format.Encoding.TheVariants.{Dec, Utf8}
+use Rattle.vt_cli.specs.declared.what.TerminalType.TheVariants.{Vt220}
+use Rattle.vt_replay.specs.Encoding.{decoded}
+use Rattle.vt_replay.specs.Playing.{language_of, on_terminal, played_as}
+
+pub utf8_on : (s t : State) (pending after chunk more : List ℕ)
+    → ((s : State) (pending a b : List ℕ) → IsSound s → play_utf8 s pending (a ++ b)
+    ≡ both (play_utf8 s pending a) (play_utf8 (play_utf8 s pending a).state (pending_after pending a) b))
+    → IsSound s → t ≡ (play_utf8 s pending chunk).state → after ≡ pending_after pending chunk
+    → play_utf8 s pending (chunk ++ more) ≡ both (play_utf8 s pending chunk) (play_utf8 t after more)
+utf8_on s t pending after chunk more two sound state left =
+    rw (state, left) (two s pending chunk more sound)
+
+pub xterm_on : (s t : State) (front after : FrontState) (chunk more : List ℕ)
+    → ((w : Whole) (pending a b : List ℕ) → play_xterm w pending (a ++ b)
+    ≡ both_whole (play_xterm w pending a) (play_xterm (play_xterm w pending a).whole (pending_after pending a) b))
+    → t ≡ (play_xterm (behind s front) front.pending chunk).whole.state
+    → after.pages ≡ (play_xterm (behind s front) front.pending chunk).whole.pages
+    → after.pending ≡ pending_after front.pending chunk
+    → on_terminal (play_xterm (behind s front) front.pending (chunk ++ more))
+    ≡ both (on_terminal (play_xterm (behind s front) front.pending chunk))
+    (on_terminal (play_xterm (behind t after) after.pending more))
+xterm_on s t front after chunk more two state pages left =
+    rw (state, pages, left)
+    (ap (λ (p : WholePlayed). on_terminal p) (two (behind s front) front.pending chunk more))
+
+-- UTF-8 is played as what it is translated to
+pub as_decoded : (encoding : Encoding) (bytes : List ℕ)
+    → played_as (language_of Vt220 encoding) bytes ≡ play power_up (decoded encoding bytes)
+unfolding play_utf8
+as_decoded Dec bytes = refl
+as_decoded Utf8 bytes = refl

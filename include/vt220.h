@@ -19,14 +19,15 @@
  *
  * Handles. You allocate a vt220, a vt220_scratch or a vt220_xterm as a struct. All zero means closed. An open handle owns memory until
  * you close it. Only vt220_open, vt220_scratch_open and vt220_xterm_open allocate. Any call on a closed handle is safe, and reports it.
- * A vt220 takes 30 KB, and a vt220_xterm takes 26 KB. A vt220_scratch is a work buffer of 690 KB of address space. Only the part that is used becomes resident:
- * 125 KB without pictures. One serves any number of terminals, one call at a time. It keeps nothing between calls.
+ * A vt220 takes 30 KB, and a vt220_xterm takes 26 KB. A vt220_scratch is a work buffer of 690 KB of address space. Only the part
+ * that is used becomes resident: 125 KB without pictures. One serves any number of terminals, one call at a time. It keeps nothing
+ * between calls.
  *
  * Output structs. The library writes each field of a struct that you pass, and needs nothing in it before. It sets `reserved` to
  * zero. A later version may give these bytes a meaning.
  *
- * Threads. A call that takes a `const vt220 *` doesn't write to the terminal, so several threads may make such calls on one
- * terminal at once. Any other call needs the handle for itself. Each thread needs its own scratch buffer.
+ * Threads. A call that takes a `const vt220 *` or a `const vt220_xterm *` doesn't write to it, so several threads may make such calls
+ * on one handle at once. Any other call needs the handle for itself. Each thread needs its own scratch buffer.
  *
  * Not checked. The caller must see to these:
  *  - A handle is all zero, or as the library left it. You may move it with memcpy if you don't use the original again.
@@ -105,8 +106,9 @@ typedef struct vt220_scratch {
 } vt220_scratch;
 
 /* What a terminal needs under TERM=xterm: the page that isn't shown, two modes, and what is pending of UTF-8. Each terminal needs a
- * separate one. It isn't part of the terminal's state: vt220_copy, vt220_reset and bytes of vt220_repaint don't change it. To reset
- * both, feed RIS (ESC c) by vt220_feed_xterm. The fields are private. */
+ * separate one. It isn't part of the terminal's state: vt220_copy, vt220_reset and bytes of vt220_repaint don't change it. A terminal
+ * that is rebuilt with a new one goes on as if the main page were shown. To reset both, feed RIS (ESC c) by vt220_feed_xterm. The fields
+ * are private. */
 typedef struct vt220_xterm {
     void *pages;
     bool is_open;

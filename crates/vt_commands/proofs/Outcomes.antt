@@ -2,6 +2,7 @@
 use Rattle.std.proofs.Common.{arith, rules, ◌≡◌, ℕ, List, [], Bool, true, false, Option, inr, Result, Ok, Err}
 use Rattle.vt_device.specs.Runs.{Flags}
 use Rattle.vt_cli.specs.declared.asked.Request.{Request}
+use Rattle.vt_cli.specs.declared.what.TerminalType.{TerminalType}
 use Rattle.vt_cli.specs.declared.what.Word.{Word}
 use Rattle.vt_cli.specs.declared.what.Word.TheVariants.{Replay, Log, Pages, Trace, Summary, Content}
 use Rattle.vt_recording.specs.declared.format.Format.{Format}
@@ -12,10 +13,11 @@ use Rattle.vt_trace.specs.Summary.{summary}
 use Rattle.vt_replay.specs.declared.fault.Fault.{Fault}
 use Rattle.vt_replay.specs.declared.fault.Fault.TheVariants.{Memory, Partial, Read, Write, TooLong}
 use Rattle.vt_recording.specs.declared.format.Encoding.{Encoding}
-use Rattle.vt_replay.specs.Due.{sent_for, end_for, there_for}
+use Rattle.vt_replay.specs.Due.{sent_by, end_by, there_by}
 use Rattle.vt_replay.specs.Encoding.{decoded}
 use Rattle.vt_replay.specs.Log.{lines, screen}
 use Rattle.vt_replay.specs.Output.{OutputTable, EncodedTable, always}
+use Rattle.vt_replay.specs.Playing.{language_of, played_as}
 use Rattle.vt_commands.specs.declared.requests.Outcome.{Outcome}
 use Rattle.vt_commands.specs.Words.{WordTable, pages_written, trace_written, trace_ending, all, nothing}
 use Rattle.vt_commands.specs.Request.{UnreadTable, IsUnread, OutcomeBy, AllPlayed, unread_fault}
@@ -57,12 +59,13 @@ module _ (piece : ℕ) (c rest w : List ℕ) (at_end failed : Bool) (limit : ℕ
       output_whole (λ x. written (decoded encoding x)) (λ x. ending (decoded encoding x)) (λ x. there (decoded encoding x))
       played table
 
-  pub word_whole : (played : Result (Unit {0}) Fault) (word : Word) (encoding : Encoding)
-      → WordTable played word encoding piece c w (in_memory at_end failed) limit → AllPlayed played limit c rest
-  word_whole played (Replay what) encoding table =
-      encoded_whole encoding (sent_for what) (end_for what) (there_for what) played table
-  word_whole played Log encoding table = encoded_whole encoding lines screen always played table
-  word_whole played Pages encoding table = encoded_whole encoding pages_written screen always played table
-  word_whole played Trace encoding table = output_whole trace_written trace_ending always played table
-  word_whole played Summary encoding table = output_whole nothing summary always played table
-  word_whole played Content encoding table = encoded_whole encoding all nothing always played table
+  pub word_whole : (played : Result (Unit {0}) Fault) (word : Word) (terminal : TerminalType) (encoding : Encoding)
+      → WordTable played word terminal encoding piece c w (in_memory at_end failed) limit → AllPlayed played limit c rest
+  word_whole played (Replay what) terminal encoding table =
+      let bytes = played_as (language_of terminal encoding) in
+      output_whole (sent_by bytes what) (end_by bytes what) (there_by bytes what) played table
+  word_whole played Log terminal encoding table = encoded_whole encoding lines screen always played table
+  word_whole played Pages terminal encoding table = encoded_whole encoding pages_written screen always played table
+  word_whole played Trace terminal encoding table = output_whole trace_written trace_ending always played table
+  word_whole played Summary terminal encoding table = output_whole nothing summary always played table
+  word_whole played Content terminal encoding table = encoded_whole encoding all nothing always played table

@@ -64,7 +64,7 @@ ended_of broken (Err fault) = Err (Replay fault)
 -- the word was carried out on the input as it came
 pub record IsStreamed (o : Outcome) (r : Request) (b w : List ℕ) (f : Flags) : Type 0 where
   pub played : Result (Unit {0}) ReplayFault
-  pub table : WordTable played r.word (encoding_wanted r.encoding) r.piece b w f r.limit
+  pub table : WordTable played r.word r.terminal (encoding_wanted r.encoding) r.piece b w f r.limit
   pub ended : o.ended ≡ ended_of None played
   pub none_replaced : o.replaced ≡ 0
 
@@ -88,7 +88,7 @@ pub record IsPlayed (o : Outcome) (r : Request) (encoding : Encoding) (content :
   pub none_left : at_end ≡ true → rest ≡ []
   pub played : Result (Unit {0}) ReplayFault
   pub whole : AllPlayed played r.limit c rest
-  pub table : WordTable played r.word encoding r.piece c w (record { reader_failed = false; reader_ended = at_end; writer_failed = writer_failed }) r.limit
+  pub table : WordTable played r.word r.terminal encoding r.piece c w (record { reader_failed = false; reader_ended = at_end; writer_failed = writer_failed }) r.limit
   pub ended : o.ended ≡ ended_of broken played
   pub replaces : o.replaced ≡ replaced
 

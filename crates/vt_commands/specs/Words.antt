@@ -6,13 +6,14 @@ use Rattle.vt_log.specs.Pages.{pages}
 use Rattle.vt_trace.specs.Trace.{trace, tracer_all, text_end}
 use Rattle.vt_trace.specs.declared.tracing.Tracer.{Tracer}
 use Rattle.vt_trace.specs.Summary.{summary}
+use Rattle.vt_cli.specs.declared.what.TerminalType.{TerminalType}
 use Rattle.vt_cli.specs.declared.what.Word.{Word}
 use Rattle.vt_cli.specs.declared.what.Word.TheVariants.{Replay, Log, Pages, Trace, Summary, Content}
 use Rattle.vt_replay.specs.declared.fault.Fault.{Fault}
 use Rattle.vt_recording.specs.declared.format.Encoding.{Encoding}
-use Rattle.vt_replay.specs.Due.{sent_for, end_for, there_for}
 use Rattle.vt_replay.specs.Log.{lines, screen}
 use Rattle.vt_replay.specs.Output.{OutputTable, EncodedTable, always}
+use Rattle.vt_replay.specs.Playing.{language_of, ReplayTable}
 
 -- ---- pages
 
@@ -41,12 +42,15 @@ nothing bytes = []
 
 -- ---- words
 
--- what each answer says, by the word, of a host's bytes in an encoding. A trace and a summary are of the bytes as they are
-abbrev pub WordTable : Result (Unit {0}) Fault → Word → Encoding → (piece : ℕ) → (b w : List ℕ) → Flags → (limit : ℕ) → Type 0
-WordTable result (Replay what) encoding piece b w f limit =
-    EncodedTable encoding (sent_for what) (end_for what) (there_for what) result piece b w f limit
-WordTable result Log encoding piece b w f limit = EncodedTable encoding lines screen always result piece b w f limit
-WordTable result Pages encoding piece b w f limit = EncodedTable encoding pages_written screen always result piece b w f limit
-WordTable result Trace encoding piece b w f limit = OutputTable trace_written trace_ending always result piece b w f limit
-WordTable result Summary encoding piece b w f limit = OutputTable nothing summary always result piece b w f limit
-WordTable result Content encoding piece b w f limit = EncodedTable encoding all nothing always result piece b w f limit
+-- what each answer says, by the word, of a host's bytes for a terminal and in an encoding. Only a replay plays xterm. A trace
+-- and a summary are of the bytes as they are
+abbrev pub WordTable : Result (Unit {0}) Fault → Word → TerminalType → Encoding → (piece : ℕ) → (b w : List ℕ) → Flags → (limit : ℕ) → Type 0
+WordTable result (Replay what) terminal encoding piece b w f limit =
+    ReplayTable (language_of terminal encoding) what result piece b w f limit
+WordTable result Log terminal encoding piece b w f limit = EncodedTable encoding lines screen always result piece b w f limit
+WordTable result Pages terminal encoding piece b w f limit =
+    EncodedTable encoding pages_written screen always result piece b w f limit
+WordTable result Trace terminal encoding piece b w f limit =
+    OutputTable trace_written trace_ending always result piece b w f limit
+WordTable result Summary terminal encoding piece b w f limit = OutputTable nothing summary always result piece b w f limit
+WordTable result Content terminal encoding piece b w f limit = EncodedTable encoding all nothing always result piece b w f limit

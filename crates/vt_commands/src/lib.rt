@@ -10,5 +10,6 @@ pub use fault::Fault;
 pub use requests::{Outcome, carry_out, format_of, lacks_times, read_timing};
 pub use vt_recording::{Break, Compression, DETECTION_LENGTH, Detected, Part, detect};
 pub use vt_replay::{
-    Encoding, Format, Moment, Refused, Request, Settings, Watched, What, Word, request, settings,
+    Encoding, Format, Moment, Refused, Request, Settings, TerminalType, Watched, What, Word,
+    request, settings,
 };

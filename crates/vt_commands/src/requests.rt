@@ -18,7 +18,7 @@ use vt_cli::{Encoding, Format, Moment, Request, Word};
 use vt_device::{Source, Watched};
 use vt_log::laws::pages_cut;
 use vt_recording::{Break, Content, Detected, Taken, detect, read_recording, take_apart};
-use vt_replay::{run_from, write_log_from, write_output_from};
+use vt_replay::{Language, run_from, write_log_from, write_output_from};
 use vt_term::laws::soundness;
 
 /// Plays the reader's bytes on a new terminal, and writes its log with pages.
@@ -99,28 +99,29 @@ fn write_content<S: Source, W: Write>(
     write_output_from(alloc, &mut output, encoding, reader, writer, piece, limit)
 }
 
-/// Carries out a word on the reader's bytes. Neither device has failed before, and the reader hasn't ended.
+/// Carries out a request's word on the reader's bytes, in an encoding. Neither device has failed before, and the reader hasn't
+/// ended.
 fn carry_out_word<S: Source, W: Write>(
     alloc: Global,
     reader: &mut S,
     writer: &mut Watched<W>,
-    word: Word,
     encoding: Encoding,
-    piece: usize,
-    limit: u64,
+    request: &Request,
 ) -> Result<(), vt_replay::Fault>
     requires reader_works { S.failed reader.old ≡ false }
     requires reader_goes_on { S.ended reader.old ≡ false }
     requires writer_works { writer.old.failed ≡ false }
-    requires piece_in_range { (1 ≤ piece) × (piece ≤ 65536) }
-    requires limit_in_range { limit ≤ 1099511627776 }
     ensures answer { Moves (S.remaining reader.old) (S.remaining reader.new) (W.contents writer.old.device)
         (W.contents writer.new.device)
-        (λ b w. WordTable result word encoding piece b w (record { reader_failed = S.failed reader.new; reader_ended = S.ended reader.new; writer_failed = writer.new.failed }) limit) }
+        (λ b w. WordTable result request.now.word request.now.terminal encoding request.now.piece b w (record { reader_failed = S.failed reader.new; reader_ended = S.ended reader.new; writer_failed = writer.new.failed }) request.now.limit) }
     ensures whole { S.ended reader.new ≡ true → IsAtEnd (S.remaining reader.new) }
 {
-    match word {
-        Word::Replay(what) => run_from(alloc, reader, writer, what, encoding, piece, limit),
+    let (piece, limit) = (request.piece, request.limit);
+    match request.word {
+        Word::Replay(what) => {
+            let language = Language::of(request.terminal, encoding);
+            run_from(alloc, reader, writer, what, language, piece, limit)
+        }
         Word::Log => write_log_from(alloc, reader, writer, encoding, piece, limit),
         Word::Pages => write_pages(alloc, reader, writer, encoding, piece, limit),
         Word::Trace => write_trace(alloc, reader, writer, piece, limit),
@@ -270,7 +271,8 @@ pub fn lacks_times(format: Format, timed: bool, until: Option<Moment>) -> bool
 ///
 /// The word is carried out on the host's bytes in the request's encoding, otherwise in dec. A recording by asciinema keeps
 /// characters. Its content has their bytes in the request's encoding, otherwise in UTF-8. A trace and a summary are of the
-/// bytes as they are, and for them a recording by asciinema is otherwise in dec.
+/// bytes as they are, and for them a recording by asciinema is otherwise in dec. A replay for xterm is of UTF-8 in any case.
+/// Everything else plays a VT220, whatever the request's terminal.
 ///
 /// If the format is raw and all of the input is wanted, the word is carried out on the bytes as they come. Otherwise the
 /// input is read whole, and the word is carried out on its content up to the moment. If the recording is broken, that is
@@ -321,15 +323,8 @@ fn stream<R: Read, W: Write>(
         (λ b w. IsStreamed result request.now b w (record { reader_failed = reader.new.failed; reader_ended = reader.new.ended; writer_failed = writer.new.failed })) }
     ensures whole { reader.new.ended ≡ true → IsAtEnd (R.remaining reader.new.device) }
 {
-    let played = carry_out_word(
-        alloc,
-        reader,
-        writer,
-        request.word,
-        encoding_wanted(request.encoding),
-        request.piece,
-        request.limit,
-    );
+    let encoding = encoding_wanted(request.encoding);
+    let played = carry_out_word(alloc, reader, writer, encoding, request);
     Outcome {
         replaced: 0,
         ended: ended_of(None, played),
@@ -351,15 +346,7 @@ fn play_taken<W: Write>(
     let broken = taken.broken;
     let replaced = taken.replaced;
     let mut content = Content::new(taken.content);
-    let played = carry_out_word(
-        alloc,
-        &mut content,
-        writer,
-        request.word,
-        encoding,
-        request.piece,
-        request.limit,
-    );
+    let played = carry_out_word(alloc, &mut content, writer, encoding, request);
     Outcome {
         replaced,
         ended: ended_of(broken, played),

@@ -5,7 +5,7 @@ use std::alloc::Global;
 use std::test::Fail;
 use vt_commands::{Fault, carry_out};
 use vt_log::{feed_log, feed_pages};
-use vt_replay::{Format, Request, Watched, What, Word};
+use vt_replay::{Format, Request, TerminalType, Watched, What, Word};
 use vt_term::Terminal;
 use vt_vectors::{ShortReader, ShortWriter, vector, vector_count};
 
@@ -94,6 +94,7 @@ fn replayed(
         file: None,
         format: Some(Format::Raw),
         encoding: None,
+        terminal: TerminalType::Vt220,
         timing: None,
         until: None,
         quiet: false,

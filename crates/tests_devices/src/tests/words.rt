@@ -5,7 +5,7 @@ use std::alloc::Global;
 use std::process::Abort;
 use std::test::Fail;
 use vt_commands::{Break, Fault, Outcome, Part, carry_out};
-use vt_replay::{Encoding, Format, Moment, Request, Watched, What, Word};
+use vt_replay::{Encoding, Format, Moment, Request, TerminalType, Watched, What, Word};
 
 /// What a request asks for, besides its piece.
 #[derive(Clone, Copy)]
@@ -15,6 +15,7 @@ struct Asked {
     timing: Option<&'static [u8]>,
     until: Option<Moment>,
     encoding: Option<Encoding>,
+    terminal: TerminalType,
 }
 
 /// The outcome of a request that reads so many bytes at a time, and what was written.
@@ -35,6 +36,7 @@ fn carried_out(
         file: None,
         format: Some(asked.format),
         encoding: asked.encoding,
+        terminal: asked.terminal,
         timing: None,
         until: asked.until,
         quiet: false,
@@ -62,6 +64,7 @@ const fn of_raw(word: Word) -> Asked {
         timing: None,
         until: None,
         encoding: None,
+        terminal: TerminalType::Vt220,
     }
 }
 
@@ -73,6 +76,19 @@ const fn of_utf8(word: Word) -> Asked {
         timing: None,
         until: None,
         encoding: Some(Encoding::Utf8),
+        terminal: TerminalType::Vt220,
+    }
+}
+
+/// A replay of what a host sends for xterm.
+const fn of_xterm(what: What) -> Asked {
+    Asked {
+        word: Word::Replay(what),
+        format: Format::Raw,
+        timing: None,
+        until: None,
+        encoding: Some(Encoding::Utf8),
+        terminal: TerminalType::Xterm,
     }
 }
 
@@ -101,6 +117,7 @@ const fn content_of(format: Format, until: Option<Moment>) -> Asked {
         timing: None,
         until,
         encoding: None,
+        terminal: TerminalType::Vt220,
     }
 }
 
@@ -242,6 +259,40 @@ fn utf8_rows() -> [Row; 9] {
     ]
 }
 
+/// Rows by hand for xterm, from docs/SPECIFICATION.md; tmux has the same text.
+fn xterm_rows() -> [Row; 4] {
+    [
+        (
+            "the alternate page, and a column by CHA",
+            b"A\x1b[?1049h\x1b[Hhello\x1b[5G!",
+            of_xterm(What::Text),
+            DONE,
+            b"hell!\n\n\n\n\n\n\n\n\n\n\n\n\n\n\n\n\n\n\n\n\n\n\n\n",
+        ),
+        (
+            "the main page again, with its cursor",
+            b"A\x1b[?1049h\x1b[HB\x1b[?1049lC",
+            of_xterm(What::Text),
+            DONE,
+            b"AC\n\n\n\n\n\n\n\n\n\n\n\n\n\n\n\n\n\n\n\n\n\n\n\n",
+        ),
+        (
+            "a colour isn't an attribute",
+            b"\x1b[38;5;7mA\xc3\xa9\x1b[2b",
+            of_xterm(What::Show),
+            DONE,
+            b"A\xc3\xa9\xc3\xa9\xc3\xa9\n\n\n\n\n\n\n\n\n\n\n\n\n\n\n\n\n\n\n\n\n\n\n\n",
+        ),
+        (
+            "a report of a line and a column by VPA and HPA",
+            b"\x1b[3d\x1b[7`\x1b[6n",
+            of_xterm(What::Reports),
+            DONE,
+            b"\x1b[3;7R",
+        ),
+    ]
+}
+
 /// Returns whether a request is carried out as its row says, in chunks of so many bytes.
 fn is_due(alloc: Global, row: &Row, piece: usize) -> Result<bool, Fail>
     requires { (1 ≤ piece) × (piece ≤ 65536) }
@@ -258,6 +309,11 @@ fn words_are_carried_out(rt: HostRuntime) -> Result<(), Fail> {
 #[test]
 fn words_are_carried_out_in_utf8(rt: HostRuntime) -> Result<(), Fail> {
     are_due(&rt, &utf8_rows())
+}
+
+#[test]
+fn replays_are_carried_out_for_xterm(rt: HostRuntime) -> Result<(), Fail> {
+    are_due(&rt, &xterm_rows())
 }
 
 /// Checks that each request is carried out as its row says, in chunks of three sizes.

@@ -2,7 +2,9 @@
 use super::common::holds;
 use std::alloc::{AllocError, Global};
 use std::test::Fail;
-use vt_replay::{Encoding, Format, Moment, Request, Settings, What, Word, request, settings};
+use vt_replay::{
+    Encoding, Format, Moment, Request, Settings, TerminalType, What, Word, request, settings,
+};
 
 /// The words of a line, cut at each space.
 pub(super) fn words_of(alloc: Global, line: &str) -> Result<Vec<String>, AllocError> {
@@ -328,8 +330,51 @@ fn words_ask_for_an_encoding(rt: HostRuntime) -> Result<(), Fail> {
     Ok(())
 }
 
+/// Lines, and the terminal and the encoding that each asks for.
+const FOR_TERMINALS: [(&str, TerminalType, Option<Encoding>); 5] = [
+    ("vt220 text a", TerminalType::Vt220, None),
+    ("vt220 log --terminal vt220", TerminalType::Vt220, None),
+    (
+        "vt220 show --terminal=vt220 --encoding utf-8 a",
+        TerminalType::Vt220,
+        Some(Encoding::Utf8),
+    ),
+    (
+        "vt220 repaint --format auto --terminal xterm a",
+        TerminalType::Xterm,
+        Some(Encoding::Utf8),
+    ),
+    (
+        "vt220 picture --terminal=xterm --encoding utf-8",
+        TerminalType::Xterm,
+        Some(Encoding::Utf8),
+    ),
+];
+
+/// Returns whether the line of a row asks for its terminal, in its encoding.
+fn is_for_terminal(
+    alloc: Global,
+    (line, terminal, encoding): &(&str, TerminalType, Option<Encoding>),
+) -> Result<bool, Fail> {
+    let asked = request(alloc, words_of(alloc, line)?);
+    Ok(match &asked {
+        Ok(found) => found.terminal == *terminal && found.encoding == *encoding,
+        Err(_) => false,
+    })
+}
+
+#[test]
+fn words_ask_for_a_terminal(rt: HostRuntime) -> Result<(), Fail> {
+    for row in &FOR_TERMINALS {
+        holds(&rt, row.0, is_for_terminal(rt.alloc(), row)?);
+    }
+    let line = "vt220 text --terminal vt220";
+    holds(&rt, line, is_refused(rt.alloc(), line, 2, NO_SETTINGS)?);
+    Ok(())
+}
+
 /// A line that is refused, and the sentences that say why.
-const MISFITS: [(&str, &str); 19] = [
+const MISFITS: [(&str, &str); 25] = [
     (
         "vt220 text --format cast",
         "vt220: --format is raw, script, ttyrec or asciicast\n\
@@ -362,7 +407,21 @@ const MISFITS: [(&str, &str); 19] = [
     ("vt220 trace --encoding UTF-8", NO_ENCODING),
     ("vt220 trace --encoding utf-8", NO_UTF8),
     ("vt220 summary --encoding=utf-8 a", NO_UTF8),
+    ("vt220 text --terminal vt100", NO_TERMINAL),
+    (
+        "vt220 text --terminal xterm --encoding dec",
+        "vt220: --terminal xterm reads UTF-8, and not --encoding dec\n",
+    ),
+    ("vt220 log --terminal xterm", NO_XTERM),
+    ("vt220 pages --terminal=xterm --encoding utf-8", NO_XTERM),
+    ("vt220 trace --terminal xterm", NO_XTERM),
+    ("vt220 content --terminal xterm a", NO_XTERM),
 ];
+
+const NO_TERMINAL: &str = "vt220: --terminal is vt220 or xterm\n";
+
+const NO_XTERM: &str = "vt220: log, pages, trace, summary and content play no xterm\n\
+     vt220: text, show, picture, status, reports and repaint do\n";
 
 const NO_ENCODING: &str = "vt220: --encoding is dec or utf-8\n";
 

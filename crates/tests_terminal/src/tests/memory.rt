@@ -9,7 +9,7 @@ use std::test::Fail;
 use vt_commands::{Fault, carry_out};
 use vt_paint::{PAINT_LIMIT, PaintError, repaint, repaint_reserved};
 use vt_picture::{PICTURE_LIMIT, SHOW_LIMIT, picture, picture_reserved, show, show_reserved};
-use vt_replay::{Format, Refused, Request, Watched, What, Word, request};
+use vt_replay::{Format, Refused, Request, TerminalType, Watched, What, Word, request};
 use vt_term::{ROW_TEXT_LIMIT, ROWS, TEXT_LIMIT, Terminal};
 use vt_vectors::{Mismatch, Vector, check, vector, vector_count};
 
@@ -314,6 +314,7 @@ fn request_is_refused(alloc: Global, input: &[u8], word: Word, what: What) -> Re
             file: None,
             format: Some(Format::Raw),
             encoding: None,
+            terminal: TerminalType::Vt220,
             timing: None,
             until: None,
             quiet: false,

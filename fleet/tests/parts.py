@@ -227,13 +227,14 @@ def a_signal_comes_in_the_midst_of_a_message(url, _):
     before = [signal.getsignal(each) for each in ends]
     host = Host(stores.connect(url), name)
     host.register()
-    program = started(host, ["sleep", "infinity"], wire.path_of(url, name))
-    program.link, link = Interrupted(program.link), program.link
+    program = started(host, ["sh", "-c", "echo; exec sleep infinity"], wire.path_of(url, name))
     on_end(program.stop)
     signal.signal(signal.SIGALRM, expire)
     signal.alarm(PATIENCE)
     try:
-        program.say(wire.KEPT)
+        host.send_up_to(*program.next())  # the program has begun
+        program.link, link = Interrupted(program.link), program.link
+        program.say(wire.KEPT, host.at)
         program.link = link
         check(program.run() == 128 + signal.SIGHUP, name, "the program ends, and both messages are whole")
     finally:

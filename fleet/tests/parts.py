@@ -218,7 +218,7 @@ class Interrupted:
 
 
 def expire(*_):
-    raise TimeoutError("what is waited for never comes")
+    raise RuntimeError("what is waited for never comes")
 
 
 def a_signal_comes_in_the_midst_of_a_message(url, _):

@@ -108,6 +108,15 @@ def real_sessions_in_the_browser(machine, _):
         workers.stop()
 
 
+# What is copied if the first row of the screen is selected.
+COPIED = """(row => {
+  const copy = new ClipboardEvent("copy", { clipboardData: new DataTransfer(), bubbles: true, cancelable: true });
+  getSelection().selectAllChildren(row);
+  row.dispatchEvent(copy);
+  return copy.clipboardData.getData("text/plain");
+})(document.querySelector("#screen > div"))"""
+
+
 def markup_is_text(browser, name):
     choose(browser, HOSTILE)
     check(
@@ -125,8 +134,8 @@ def markup_is_text(browser, name):
         f"attributes: {looks}",
     )
     # In one script: between two the page may draw the row anew.
-    selected = browser.run("(getSelection().selectAllChildren(document.querySelector('#screen > div')), getSelection().toString())")
-    check(selected.startswith("<img src=x"), name, f"its text can be selected: {selected}")
+    copied = browser.run(COPIED)
+    check(copied == "<img src=x onerror=alert(1)>Bold reverse &lt; under", name, f"its text can be selected and copied: {copied!r}")
     shot(browser, "hostile")
 
 

@@ -4,7 +4,8 @@
 #   make program      crates/vt220/out/vt220, which ./vt220 runs
 #   make lib          the library for C in out/: libvt220.a, libvt220.so and vt220.pc, with its headers
 #   make keeper       out/vt220-keep
-#   make js           the package for JavaScript in out/js/: vt220.wasm, package/ and vt220-VERSION.tgz; and what js/vt220-page needs
+#   make js           the package for JavaScript in out/js/: vt220.wasm, package/ and vt220-VERSION.tgz; and what js/vt220-page
+#                     and the fleet's page need
 #   make install      installs these under PREFIX with their manual pages and completions, and prints each file
 #   make uninstall    removes it, and the directories that are then empty
 #   make crates OF=.. prints the crates of this repository that some crates depend on, and themselves, lowest first

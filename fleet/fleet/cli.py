@@ -7,8 +7,10 @@ permission denied; 78 the configuration is wrong. `host` ends with its program's
 import argparse
 import logging
 import os
+import queue
 import signal
 import sys
+import threading
 import time
 
 from .config import ENCODINGS, Beyond, Settings, Unclear, seconds, within
@@ -56,9 +58,18 @@ def do_worker(words, settings):
 
 
 def on_end(call):
-    """Sets a call for the signals that end this process."""
+    """Has a thread make a call for each signal that ends this process. Python runs a handler between two steps of the main thread, which
+    may hold a lock that the call waits for. So the handler takes no lock: a SimpleQueue's put may interrupt anything."""
+    came = queue.SimpleQueue()
+
+    def heed():
+        while True:
+            came.get()
+            call()
+
+    threading.Thread(target=heed, daemon=True).start()
     for ends in (signal.SIGHUP, signal.SIGTERM, signal.SIGINT):
-        signal.signal(ends, lambda *_: call())
+        signal.signal(ends, lambda *_: came.put(None))
 
 
 def do_host(words, settings):

@@ -1,5 +1,7 @@
 """The pictures of all sessions, for the page: a thread follows them, and each client is told only what changed since it was told
 last."""
+import base64
+import itertools
 import logging
 import threading
 import time
@@ -18,60 +20,63 @@ log = logging.getLogger("fleet.web")
 MOST = 400  # sessions that the page shows: the latest ones
 LISTED = 1.0  # seconds between looks at which sessions there are
 READ = 1 << 20  # bytes that are played for a session that no worker shows
-BOLD, UNDERLINE, BLINK, REVERSE = 1, 2, 4, 8
+CANCEL = b"\x18"  # CAN: what is unfinished is given up
 
 
-def spans(cells, is_reversed):
-    """Returns a row as [text, attributes] pairs, without the blanks at its end that have none."""
-    made = []
-    for cell in cells:
-        look = BOLD * cell.bold | UNDERLINE * cell.underline | BLINK * cell.blink | REVERSE * (cell.reverse != is_reversed)
-        if made and made[-1][1] == look:
-            made[-1][0] += cell.glyph
-        else:
-            made.append([cell.glyph, look])
-    if made and made[-1][1] == 0:
-        made[-1][0] = made[-1][0].rstrip()
-    return [span for span in made if span[0]]
+def whole(terminal):
+    """Returns a terminal without what is unfinished on it."""
+    if terminal.is_between():
+        return terminal
+    made = terminal.copy()
+    made.feed(CANCEL)
+    return made
 
 
 class Picture:
-    """A session's screen, and with which number each part of it changed last."""
+    """A session's screen, for clients that have terminals of their own: each one is told bytes that lead its terminal there. Changes are
+    numbered, those of all pictures together. So a client that knew an older picture of the session is told all of this one."""
+
+    numbers = itertools.count(1)
 
     def __init__(self, incarnation):
-        self.incarnation, self.number = incarnation, 0
-        self.rows, self.changed = [[] for _ in range(vt220.ROWS)], [0] * vt220.ROWS
-        self.cursor, self.cursor_changed = None, 0
+        self.incarnation, self.number, self.shown = incarnation, 0, -1
+        self.terminal = vt220.Terminal()
+        self.modes = self.terminal.modes()
+        self.begin, self.updates = 0, []  # since which number an update led from each screen to the next: (number, bytes)
         self.facts, self.facts_changed = {}, 0
-        self.modes = vt220.Terminal().modes()
 
-    def take(self, terminal):
-        """Takes in a terminal's screen."""
-        self.number += 1
-        modes, place = terminal.modes(), terminal.cursor()
-        self.modes = modes
-        for row in range(vt220.ROWS):
-            now = spans(terminal.row(row + 1), modes.decscnm)
-            if now != self.rows[row]:
-                self.rows[row], self.changed[row] = now, self.number
-        cursor = [place.row, place.col, bool(modes.dectcem), terminal.width()]
-        if cursor != self.cursor:
-            self.cursor, self.cursor_changed = cursor, self.number
+    def follow(self, terminal, update=None):
+        """Takes in where a terminal is now. An update led there from where it was."""
+        self.number = self.shown = next(self.numbers)
+        self.modes = terminal.modes()
+        if update is not None and terminal is self.terminal:
+            self.updates.append((self.number, update))
+        else:
+            self.terminal, self.begin, self.updates = terminal, self.number, []
+
+    def replace(self, terminal):
+        """Takes in a terminal that was read from the store."""
+        if self.shown < 0 or not terminal.same_state(self.terminal):
+            self.follow(terminal)
 
     def learn(self, facts):
         if facts != self.facts:
-            self.number += 1
-            self.facts, self.facts_changed = facts, self.number
+            self.number = self.facts_changed = next(self.numbers)
+            self.facts = facts
 
     def since(self, number):
         """Returns what changed after a number; None if nothing did."""
         if self.number == number:
             return None
         made = {"session": self.incarnation}
-        rows = {row: self.rows[row] for row in range(vt220.ROWS) if self.changed[row] > number}
-        made |= {"rows": rows} if rows else {}
-        made |= {"cursor": self.cursor} if self.cursor_changed > number else {}
+        made |= {"bytes": base64.b64encode(self.way_from(number)).decode()} if self.shown > number else {}
         return made | ({"facts": self.facts} if self.facts_changed > number else {})
+
+    def way_from(self, number):
+        """Returns bytes that lead here: from the screen of a number if updates did, or else from any screen."""
+        if number < self.begin:
+            return whole(self.terminal).repaint()
+        return b"".join(update for made, update in self.updates if made > number)
 
 
 class Followed(Viewer):
@@ -80,6 +85,12 @@ class Followed(Viewer):
     def __init__(self, store, incarnation):
         super().__init__(store, incarnation)
         self.picture, self.read, self.is_final, self.is_reading = Picture(incarnation), 0.0, False, False
+
+    def play(self, fields):
+        """Plays a frame, and has clients play it too."""
+        if is_played := super().play(fields):
+            self.picture.follow(self.terminal, fields.get(b"update"))
+        return is_played
 
     def is_to_be_read(self):
         """Returns whether its screen is to be read from the store, since no worker shows it."""
@@ -123,7 +134,6 @@ class Gallery:
             each = self.followed[stream.decode().split(":")[1]]
             with self.lock:
                 each.take(entries)
-                each.picture.take(each.terminal)
         if came:
             self.on_change()
             time.sleep(0.03)  # what comes meanwhile is one change
@@ -132,8 +142,9 @@ class Gallery:
         """Learns which sessions there are, and asks for the frames of all that are shown."""
         newest = [each.decode() for each in self.store.zrevrange(keys.ALL, 0, MOST - 1)]
         listed = sorted(about(self.store, newest), key=lambda each: (each["state"].startswith("ended"), each["name"]))
-        self.order = [each["incarnation"] for each in listed]
-        self.followed = {i: self.followed.get(i) or Followed(self.store, i) for i in self.order}
+        order = [each["incarnation"] for each in listed]
+        with self.lock:
+            self.order, self.followed = order, {i: self.followed.get(i) or Followed(self.store, i) for i in order}
         asked = [each for each in self.followed.values() if not each.is_final]
         with self.store.pipeline(transaction=False) as together:
             for each in asked:
@@ -157,7 +168,7 @@ class Gallery:
         try:
             terminal = as_it_is(self.store, each.incarnation, READ).terminal
             with self.lock:
-                each.picture.take(terminal)
+                each.picture.replace(terminal)
             self.on_change()
         except Exception as fault:  # a session that cannot be read is shown as such, and harms no other
             log.warning("%s cannot be read: %s: %s", each.incarnation, type(fault).__name__, fault)

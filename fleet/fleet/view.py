@@ -95,15 +95,16 @@ class Viewer:
         return bool(entries)
 
     def play(self, fields):
-        """A repaint leads there from anywhere; an update only from where the one before it led."""
+        """A repaint leads there from anywhere; an update only from where the one before it led. Returns whether it was played."""
         by, step = fields[b"by"], int(fields[b"step"])
         if b"repaint" in fields:
             self.terminal.feed(fields[b"repaint"])
         elif (by, step) == (self.by, self.step + 1):
             self.terminal.feed(fields[b"update"])
         else:
-            return
+            return False
         self.by, self.step = by, step
+        return True
 
 
 def order(entry_id):

@@ -1,14 +1,17 @@
 """A page in the browser with live pictures of all sessions. It listens on 127.0.0.1 unless told otherwise, and serves those
 alone who have the token that is in its address.
 
-All that sessions write reaches the page as JSON, and the page puts it into text nodes: no name and no screen is ever markup.
+A session's screen reaches the page as bytes, which a terminal there plays. The page puts its characters and all names into text nodes: none is
+ever markup.
 """
 import asyncio
 import collections
+import errno
 import hmac
 import json
 import logging
 import os
+import re
 import secrets
 import sys
 import threading
@@ -18,6 +21,7 @@ from urllib.parse import urlsplit
 import vt220
 from aiohttp import WSMsgType, web
 from vt220.keyboard import spelled
+from vt220.page import hashed
 
 from .gallery import Gallery
 from .operate import PAUSE as PAUSE_OF_KEYS, Typist, parts
@@ -26,15 +30,28 @@ log = logging.getLogger("fleet.web")
 
 HERE = os.path.join(os.path.dirname(os.path.abspath(__file__)), "page")
 PAUSE = 0.04  # seconds between two messages to a client
+BUILT = os.path.join(HERE, "..", "..", "..", "out", "js")  # of this repository
+SCREEN = "screen.global.js"  # the terminal with its screen, which `make js` builds; the package has it next to the page
 POLICY = (
-    "default-src 'none'; script-src 'nonce-{0}'; style-src 'nonce-{0}'; connect-src 'self'; "
+    "default-src 'none'; script-src {SCREEN} {SCRIPT} 'wasm-unsafe-eval'; style-src {STYLE}; connect-src 'self'; "
     "base-uri 'none'; form-action 'none'; frame-ancestors 'none'"
 )
 
 
 def part(name):
-    with open(os.path.join(HERE, name), encoding="utf-8") as file:
+    """Returns the text of a file of the page. Raises FileNotFoundError if there is none."""
+    place = next((each for each in (HERE, BUILT) if os.path.exists(os.path.join(each, name))), None)
+    if place is None:
+        raise FileNotFoundError(errno.ENOENT, "the page needs this file, which `make js` builds", name)
+    with open(os.path.join(place, name), encoding="utf-8") as file:
         return file.read()
+
+
+def document():
+    """Returns the page, and its policy: the hashes of its style and its scripts, and WebAssembly."""
+    parts = {"STYLE": part("page.css"), "SCREEN": part(SCREEN), "SCRIPT": part("page.js")}
+    text = re.sub(r"/\*(STYLE|SCREEN|SCRIPT)\*/", lambda match: parts[match[1]], part("page.html"))
+    return text, POLICY.format(**{name: hashed(each) for name, each in parts.items()})
 
 
 def token_of(path):
@@ -94,6 +111,7 @@ def problem(error):
 class Page:
     def __init__(self, store, settings):
         self.store, self.settings, self.token = store, settings, token_of(settings.token_file)
+        self.text, self.policy = document()
         self.gallery = Gallery(store, self.changed)
         self.loop, self.events = None, set()
         self.threads = ThreadPoolExecutor(16)  # typing waits for the store
@@ -110,21 +128,14 @@ class Page:
 
     async def index(self, request):
         self.demand(request)
-        nonce = secrets.token_urlsafe(16)
-        text = (
-            part("page.html")
-            .replace("NONCE", nonce)
-            .replace("/*STYLE*/", part("page.css"))
-            .replace("/*SCRIPT*/", part("page.js"))
-        )
         headers = {
-            "Content-Security-Policy": POLICY.format(nonce),
+            "Content-Security-Policy": self.policy,
             "Referrer-Policy": "no-referrer",
             "Cache-Control": "no-store",
             "X-Content-Type-Options": "nosniff",
             "X-Frame-Options": "DENY",
         }
-        return web.Response(text=text, content_type="text/html", headers=headers)
+        return web.Response(text=self.text, content_type="text/html", headers=headers)
 
     async def live(self, request):
         """A client's connection: what changed goes there, keys come from there."""

@@ -274,7 +274,7 @@ def a_long_session_without_a_checkpoint_doesn_t_stop_the_page(machine, _):
 
     def shows(source):
         followed = gallery.followed.get(source.incarnation)
-        return followed and followed.picture.rows[0]
+        return followed and followed.picture.shown >= 0
 
     def look():
         gallery.look()

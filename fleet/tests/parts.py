@@ -1,11 +1,13 @@
 """Each part of the fleet by itself."""
 import os
+import signal
 import subprocess
 import threading
 
-from harness import Source, check, key, keys, played, raises, session, stores, until, wanted, worker, compare
+from harness import PATIENCE, Source, check, key, keys, played, raises, session, stores, until, wanted, worker, compare
 import vt220
 from fleet import frames
+from fleet.cli import on_end
 from fleet.host import Host, Taken
 from fleet.operate import Typist
 from fleet import wire
@@ -200,6 +202,49 @@ def a_killed_program_has_a_shell_s_status(url, _):
     program.done()
 
 
+class Interrupted:
+    """A link to a holder: a signal comes in the midst of each message that is sent."""
+
+    def __init__(self, link):
+        self.link = link
+
+    def __getattr__(self, name):
+        return getattr(self.link, name)
+
+    def sendall(self, data):
+        self.link.sendall(data[:5])
+        signal.raise_signal(signal.SIGTERM)
+        self.link.sendall(data[5:])
+
+
+def expire(*_):
+    raise RuntimeError("what is waited for never comes")
+
+
+def a_signal_comes_in_the_midst_of_a_message(url, _):
+    """The thread that sends the message has the lock that the hang-up waits for."""
+    name, ends = "interrupted", (signal.SIGHUP, signal.SIGTERM, signal.SIGINT, signal.SIGALRM)
+    before = [signal.getsignal(each) for each in ends]
+    host = Host(stores.connect(url), name)
+    host.register()
+    program = started(host, ["sh", "-c", "echo; exec sleep infinity"], wire.path_of(url, name))
+    on_end(program.stop)
+    signal.signal(signal.SIGALRM, expire)
+    signal.alarm(PATIENCE)
+    try:
+        host.send_up_to(*program.next())  # the program has begun
+        program.link, link = Interrupted(program.link), program.link
+        program.say(wire.KEPT, host.at)
+        program.link = link
+        check(program.run() == 128 + signal.SIGHUP, name, "the program ends, and both messages are whole")
+    finally:
+        signal.alarm(0)
+        for each, handler in zip(ends, before):
+            signal.signal(each, handler)
+    host.end(128 + signal.SIGHUP)
+    program.done()
+
+
 def commands(store):
     """Returns how often each command was called, also inside functions, without the call that asks."""
     return {name[8:]: each["calls"] for name, each in store.info("commandstats").items() if name != "cmdstat_info"}
@@ -246,4 +291,5 @@ CASES = [
     viewers_join_late,
     a_program_gets_its_answers,
     a_killed_program_has_a_shell_s_status,
+    a_signal_comes_in_the_midst_of_a_message,
 ]

@@ -29,6 +29,7 @@ from harness import (
 )
 from safety import free_port
 from fleet.host import WAITING, WentBack
+from fleet.session import bytes_of
 from fleet.view import Viewer
 
 
@@ -302,7 +303,7 @@ def without_a_worker_bytes_wait_within_a_bound(machine, _):
 
 @with_machine
 def a_host_ends_a_program_that_floods(machine, _):
-    """Not in CASES, since it fails at times: docs of the fleet list this fault. A worker plays meanwhile."""
+    """A worker plays meanwhile."""
     name = "flooding"
     host, store, workers = program(machine, name, ["yes"]), stores.connect(machine.url), Processes(machine, 1)
     wait_for(lambda: store.hexists(keys.NAMES, name))
@@ -311,6 +312,10 @@ def a_host_ends_a_program_that_floods(machine, _):
     host.terminate()
     check(host.wait(PATIENCE) == 128 + signal.SIGHUP, name, f"its host ends it: {host.returncode}")
     check(wait_for(lambda: store.exists(key(incarnation, "ended"))), name, "with an end")
+    written = b"".join(data for _, _, data in bytes_of(store, incarnation))
+    check(written == (b"y\r\n" * len(written))[: len(written)], name, "what it wrote is there once, and nothing lacks")
+    ended = store.hmget(key(incarnation, "ended"), "at", "status")
+    check(ended == [b"%d" % len(written), b"129"], name, f"up to its end: {ended} of {len(written)}")
     workers.stop()
 
 
@@ -419,6 +424,7 @@ CASES = [
     a_full_store_is_waited_for,
     evicted_keys_are_named_or_sent_again,
     without_a_worker_bytes_wait_within_a_bound,
+    a_host_ends_a_program_that_floods,
     the_clock_may_jump,
     a_failover_is_followed,
     a_cluster_is_refused,

@@ -1,5 +1,6 @@
 """The page in a headless Chromium, with real sessions; by keyboard, for screen readers, and attacked."""
 import asyncio
+import base64
 import json
 import os
 import socket
@@ -11,6 +12,8 @@ from browser import Browser
 from harness import PATIENCE, Processes, Source, check, key, keys, local, stores, wait_for, wanted, with_machine
 from safety import free_port
 from stores_faults import program
+from fleet.gallery import Picture
+import vt220
 
 HOSTILE = "<b>bold</b><script>alert(1)</script>&amp;\"'"
 PICTURES = os.environ.get("FLEET_PICTURES")  # a directory for screenshots, to be looked at
@@ -105,6 +108,15 @@ def real_sessions_in_the_browser(machine, _):
         workers.stop()
 
 
+# What is copied if the first row of the screen is selected.
+COPIED = """(row => {
+  const copy = new ClipboardEvent("copy", { clipboardData: new DataTransfer(), bubbles: true, cancelable: true });
+  getSelection().selectAllChildren(row);
+  row.dispatchEvent(copy);
+  return copy.clipboardData.getData("text/plain");
+})(document.querySelector("#screen > div"))"""
+
+
 def markup_is_text(browser, name):
     choose(browser, HOSTILE)
     check(
@@ -117,13 +129,13 @@ def markup_is_text(browser, name):
     check(browser.run("document.getElementById('title').textContent") == HOSTILE, name, "the title")
     looks = browser.run("[...document.querySelectorAll('#screen span')].map(e => [e.textContent, e.className])")
     check(
-        [["Bold ", "b"], ["reverse", "b r"], ["under", "u"]] == [look for look in looks if look[1] and "cursor" not in look[1]],
+        [["Bold ", "b"], ["reverse", "b r"], ["under", "u"]] == [look for look in looks if "c" not in look[1].split()],
         name,
         f"attributes: {looks}",
     )
     # In one script: between two the page may draw the row anew.
-    selected = browser.run("(getSelection().selectAllChildren(document.querySelector('#screen > div')), getSelection().toString())")
-    check(selected.startswith("<img src=x"), name, f"its text can be selected: {selected}")
+    copied = browser.run(COPIED)
+    check(copied == "<img src=x onerror=alert(1)>Bold reverse &lt; under", name, f"its text can be selected and copied: {copied!r}")
     shot(browser, "hostile")
 
 
@@ -185,13 +197,13 @@ def by_keyboard_alone(browser, name):
     browser.run("document.getElementById('announce').click()")
 
 
-# Another connection: its messages, until there are COUNT of them and two have rows of the session MOVING, and how many seconds they took.
+# Another connection: its messages, until there are COUNT of them and two have bytes of the session MOVING, and how many seconds they took.
 MESSAGES = """new Promise(done => {
   const got = [], begun = performance.now(), other = new WebSocket(socket.url);
   let moves = 0;
   other.addEventListener("message", event => {
     got.push(event.data);
-    moves += (JSON.parse(event.data).news || []).some(each => each.session === MOVING && each.rows);
+    moves += (JSON.parse(event.data).news || []).some(each => each.session === MOVING && each.bytes);
     if (got.length < COUNT || moves < 2) return;
     other.close();
     done([(performance.now() - begun) / 1000, got]);
@@ -205,11 +217,19 @@ def changes_arrive(browser, store, name):
     seconds, got = browser.run(MESSAGES.replace("COUNT", "100").replace("MOVING", json.dumps(top)))
     check(seconds > len(got) / 40, name, f"at most some messages a second: {len(got)} in {seconds:.2f} s")
     news = [each for message in got for each in json.loads(message).get("news", []) if each["session"] == still]
-    check(sum("rows" in each for each in news) == 1, name, f"a session that stands still is sent once: {news}")
+    check(sum("bytes" in each for each in news) == 1, name, f"a session that stands still is sent once: {news}")
     choose(browser, "flood")
     before = lines(browser)
     check(wait_for(lambda: lines(browser) != before), name, "the flood moves")
     shot(browser, "flood")
+
+
+def its_terminal_is_the_session_s(browser, source, name):
+    """The page has played bytes: its terminal has also what no screen shows."""
+    repaint = f"btoa(String.fromCharCode(...sessions.get({json.dumps(source.incarnation)}).terminal.repaint()))"
+    state = base64.b64encode(terminal_of(source.store, source.name).repaint()).decode()
+    check(wait_for(lambda: browser.run(repaint) == state), name, "the page's terminal has the state of the session")
+    check(browser.run("performance.getEntriesByType('resource').length") == 0, name, "and the page loads nothing")
 
 
 @with_machine
@@ -243,6 +263,7 @@ def ended_and_faulty_sessions_are_shown(machine, data):
             name,
             "the screen of one that ended",
         )
+        its_terminal_is_the_session_s(browser, done, name)
         choose(browser, "many-042")
         check(wait_for(lambda: lines(browser)[0].rstrip() == "Session 42"), name, "and of one of many")
         check(browser.run("document.documentElement.scrollWidth <= innerWidth"), name, "nothing is wider than the window")
@@ -253,6 +274,38 @@ def ended_and_faulty_sessions_are_shown(machine, data):
         browser.stop()
         served.stop()
         workers.stop()
+
+
+def tell(client, picture):
+    """Tells a client, a terminal and the number that it knows, what a picture has since then."""
+    news = picture.since(client[1]) or {}
+    client[0].feed(base64.b64decode(news.get("bytes", "")))
+    client[1] = picture.number
+
+
+def clients_are_led_where_a_session_is(_, data):
+    """One is told each change, others some of them; one knew another picture, and one comes at the end."""
+    name, picture, session, shown = "clients", Picture("x"), vt220.Terminal(), vt220.Terminal()
+    clients = {every: [vt220.Terminal(), -1] for every in (1, 7, len(data))}
+    other = Picture("x")
+    other.follow(vt220.Terminal())
+    tell(clients[7], other)
+    for step, at in enumerate(range(0, len(data), 50)):
+        session.feed(data[at : at + 50])
+        if session.is_between():
+            update = shown.update(session)
+            picture.follow(shown, update if step % 20 else None)
+        for every, client in clients.items():
+            if step % every == every - 1:
+                tell(client, picture)
+    for every, client in clients.items():
+        tell(client, picture)
+        check(client[0].same_state(shown), name, f"one that is told after {every} changes")
+    check(picture.since(picture.number) is None, name, "nothing is left to be told")
+    shown.feed(b"\033[")
+    picture.replace(shown.copy())
+    tell(clients[1], picture)
+    check(clients[1][0].text() == shown.text(), name, "a screen inside a sequence is shown")
 
 
 @with_machine
@@ -351,7 +404,8 @@ def only_the_token_opens_the_page(machine, _):
                 check(status in (403, 404), name, f"{path}: {status}")
             async with client.get(served.url) as answer:
                 policy = answer.headers["Content-Security-Policy"]
-                check(answer.status == 200 and "default-src 'none'" in policy and "unsafe" not in policy, name, "a strict policy")
+                loose = policy.replace("'wasm-unsafe-eval'", "")
+                check(answer.status == 200 and "default-src 'none'" in policy and "unsafe" not in loose, name, "a strict policy")
                 check(answer.headers["Referrer-Policy"] == "no-referrer", name, "the token leaks to no other page")
             await connect_from_elsewhere(client, base, token, name)
             await type_without_right(client, base, token, name)
@@ -367,6 +421,7 @@ def only_the_token_opens_the_page(machine, _):
 CASES = [
     real_sessions_in_the_browser,
     ended_and_faulty_sessions_are_shown,
+    clients_are_led_where_a_session_is,
     the_page_sends_the_keys_of_a_vt220,
     only_the_token_opens_the_page,
 ]

@@ -41,6 +41,11 @@ export class Screen {
     this.isStale = true;
   }
 
+  /** Frees its memory. The place keeps what was drawn last. */
+  close() {
+    this.drawn.close();
+  }
+
   /** Marks a text wherever it is on the screen, from the next draw on. */
   find(needle) {
     this.needle = needle.toLowerCase();

@@ -6,6 +6,7 @@ repository that this module is in.
 """
 import base64
 import gzip
+import hashlib
 import html
 import json
 import os
@@ -41,6 +42,11 @@ def template() -> Optional[pathlib.Path]:
 def packed(data: bytes) -> str:
     """Returns bytes as a page carries them."""
     return base64.b64encode(gzip.compress(data, 9, mtime=0)).decode()
+
+
+def hashed(text: str) -> str:
+    """Returns a script or a style as a page's policy names it."""
+    return f"'sha256-{base64.b64encode(hashlib.sha256(text.encode()).digest()).decode()}'"
 
 
 def _noted(notes: Sequence[str]) -> str:

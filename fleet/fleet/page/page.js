@@ -1,27 +1,14 @@
 "use strict";
-// All text of sessions goes into text nodes: never into markup.
+// Each session has a terminal on this page, which plays what the server sends of it. All text of sessions goes into text nodes: never into
+// markup. `vt220` is the script before this one.
 const sessions = new Map();
 const $ = (id) => document.getElementById(id);
-let chosen = null, order = [], socket = null, mayType = false, isTyping = false, wait = 500;
+let core = null, large = null, chosen = null, order = [], socket = null, mayType = false, isTyping = false, wait = 500;
 
 // The keys that go to a session, by their names in vt220-keys.h. On a PC's keyboard, Delete is at the place of the key Remove.
 const NAMED = { ArrowUp: "Up", ArrowDown: "Down", ArrowRight: "Right", ArrowLeft: "Left", Delete: "Remove" };
 for (const name of ["Enter", "Backspace", "Tab", "Escape", "Home", "End", "Insert", "PageUp", "PageDown"]) NAMED[name] = name;
 for (const number of [1, 2, 3, 4, 6, 7, 8, 9, 10, 11, 12]) NAMED["F" + number] = "F" + number;
-
-function look(attributes) {
-  return [[1, "b"], [2, "u"], [4, "k"], [8, "r"]].filter(([bit]) => attributes & bit).map(([, name]) => name).join(" ");
-}
-
-function fill(element, spans) {
-  element.replaceChildren(...spans.map(([text, attributes]) => {
-    if (!attributes) return document.createTextNode(text);
-    const span = document.createElement("span");
-    span.className = look(attributes);
-    span.textContent = text;
-    return span;
-  }));
-}
 
 function made(tag, name, ...inside) {
   const element = document.createElement(tag);
@@ -33,24 +20,34 @@ function made(tag, name, ...inside) {
 function newSession(id) {
   const name = made("span", "name"), how = made("span", "how"), small = made("span", "small");
   small.setAttribute("aria-hidden", "true");
-  const lines = Array.from({ length: 24 }, () => small.appendChild(made("span")));
   const button = made("button", "", name, how, small), item = made("li", "", button);
   button.type = "button";
   button.addEventListener("click", () => choose(id));
-  const session = { id, name, how, button, item, lines, rows: Array(24).fill([]), cursor: null, facts: {} };
+  const session = { id, name, how, button, item, terminal: new vt220.Terminal(core), small: new vt220.Screen(core, small), facts: {} };
   sessions.set(id, session);
   return session;
 }
 
+function forget(id) {
+  const session = sessions.get(id);
+  sessions.delete(id);
+  session.terminal.close();
+  session.small.close();
+}
+
 function take(news) {
   const session = sessions.get(news.session) || newSession(news.session);
-  for (const [row, spans] of Object.entries(news.rows || {})) {
-    session.rows[row] = spans;
-    fill(session.lines[row], spans);
-  }
-  if (news.cursor) session.cursor = news.cursor;
   if (news.facts) learn(session, news.facts);
-  if (session.id === chosen) show(session, news);
+  if (news.bytes) play(session, Uint8Array.from(atob(news.bytes), (byte) => byte.charCodeAt(0)));
+  if (news.facts && session.id === chosen) describe(session);
+}
+
+function play(session, bytes) {
+  session.terminal.feed(bytes);
+  session.small.draw(session.terminal);
+  if (session.id !== chosen) return;
+  if ($("announce").checked) announce(session.terminal, large.drawn.changedRows(session.terminal));
+  large.draw(session.terminal);
 }
 
 function learn(session, facts) {
@@ -61,48 +58,19 @@ function learn(session, facts) {
   session.button.setAttribute("aria-label", `${facts.name}, ${facts.fault ? "fault" : facts.state}`);
 }
 
-// A row with the cursor in it: the cell under the cursor is marked.
-function withCursor(spans, column) {
-  const cells = spans.flatMap(([text, look]) => Array.from(text, (glyph) => [glyph, look]));
-  while (cells.length < column) cells.push([" ", 0]);
-  const before = cells.slice(0, column - 1), [glyph, attributes] = cells[column - 1], after = cells.slice(column);
-  const joined = (some) => some.reduce((all, [text, look]) => {
-    if (all.length && all[all.length - 1][1] === look) all[all.length - 1][0] += text; else all.push([text, look]);
-    return all;
-  }, []);
-  return { before: joined(before), glyph, attributes, after: joined(after) };
-}
-
-function draw(session, row) {
-  const line = $("screen").children[row], cursor = session.cursor;
-  if (!cursor || !cursor[2] || cursor[0] !== row + 1) return fill(line, session.rows[row]);
-  const parts = withCursor(session.rows[row], cursor[1]), after = made("span");
-  fill(line, parts.before);
-  line.append(made("span", "cursor " + look(parts.attributes), parts.glyph));
-  fill(after, parts.after);
-  line.append(...after.childNodes);
-}
-
-function show(session, news) {
-  const facts = session.facts, rows = new Set(Object.keys(news.rows || {}).map(Number));
-  if (news.cursor) {
-    if (session.drawn) rows.add(session.drawn[0] - 1);
-    rows.add(news.cursor[0] - 1);
-    session.drawn = news.cursor;
-  }
-  rows.forEach((row) => draw(session, row));
+function describe(session) {
+  const facts = session.facts;
   $("title").textContent = facts.name;
   $("screen").setAttribute("aria-label", "Screen of " + facts.name);
   $("state").textContent = facts.fault || `${facts.state}${facts.worker ? " at " + facts.worker : ""}, host ${facts.host}`;
   $("type").hidden = !(mayType && facts.input && facts.state === "running");
   $("announcing").hidden = false;
   if ($("type").hidden) setTyping(false);
-  if ($("announce").checked) announce(session, Object.keys(news.rows || {}));
 }
 
 let saying = null;
-function announce(session, rows) {
-  const words = rows.map((row) => session.rows[row].map(([text]) => text).join("").trim()).filter(Boolean);
+function announce(terminal, rows) {
+  const words = rows.map((row) => terminal.rowText(row).trim()).filter(Boolean);
   if (!words.length) return;
   clearTimeout(saying);
   saying = setTimeout(() => { $("said").textContent = words.join("\n").slice(-600); }, 300);
@@ -114,10 +82,12 @@ function choose(id) {
   for (const session of sessions.values()) {
     if (session.id === id) session.button.setAttribute("aria-current", "true"); else session.button.removeAttribute("aria-current");
   }
-  $("screen").replaceChildren(...Array.from({ length: 24 }, () => made("div")));
+  if (large) large.close();
+  $("screen").replaceChildren();
+  large = new vt220.Screen(core, $("screen"));
   const session = sessions.get(id);
-  session.drawn = null;
-  show(session, { rows: Object.fromEntries(session.rows.map((spans, row) => [row, spans])), cursor: session.cursor });
+  large.draw(session.terminal);
+  describe(session);
 }
 
 function arrange() {
@@ -129,7 +99,7 @@ function arrange() {
     list.replaceChildren(...items);
     if (focused && focused !== document.activeElement && list.contains(focused)) focused.focus();
   }
-  for (const id of sessions.keys()) if (!order.includes(id) && id !== chosen) sessions.delete(id);
+  for (const id of sessions.keys()) if (!order.includes(id) && id !== chosen) forget(id);
   const count = `${shown.length} session${shown.length === 1 ? "" : "s"}`;
   if ($("summary").textContent !== count) $("summary").textContent = count;
   if (!chosen && shown.length) choose(shown[0].id);
@@ -186,5 +156,13 @@ $("screen").addEventListener("keydown", pressed);
 $("screen").addEventListener("paste", (event) => {
   if (isTyping) send({ text: event.clipboardData.getData("text").replace(/\r?\n/g, "\r") });
 });
+// The blanks at the ends of lines aren't copied.
+$("screen").addEventListener("copy", (event) => {
+  event.clipboardData.setData("text/plain", String(getSelection()).replace(/ +$/gm, ""));
+  event.preventDefault();
+});
 $("announce").addEventListener("change", () => { $("said").textContent = ""; });
-connect();
+vt220.load().then((loaded) => {
+  core = loaded;
+  connect();
+}, (error) => { $("problem").textContent = `No terminal can run in this browser: ${error.message}`; });

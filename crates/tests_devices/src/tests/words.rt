@@ -259,7 +259,7 @@ fn utf8_rows() -> [Row; 9] {
     ]
 }
 
-/// Rows by hand for xterm, from docs/SPECIFICATION.md; tmux has the same text.
+/// Rows by hand for xterm, from docs/SPECIFICATION.md.
 fn xterm_rows() -> [Row; 4] {
     [
         (

@@ -68,8 +68,9 @@ def test_a_failure_names_the_terminal(tmp_path):
             rig.ended()
     words = str(failure.value)
     assert "page:" not in words and (tmp_path / "failed.svg").exists()
-    command = re.search(r"play it: +python3 -m vt220 (--terminal xterm .*)$", words, re.M).group(1).split()
-    played = subprocess.run([sys.executable, "-m", "vt220", *command], capture_output=True, text=True, check=True)
+    command = re.search(r"play it:   python3 -m vt220 (--terminal xterm .*)   \(or: vt220 show (.*)\)$", words, re.M)
+    assert command[1] == command[2]
+    played = subprocess.run([sys.executable, "-m", "vt220", *command[1].split()], capture_output=True, text=True, check=True)
     assert played.stdout == "    other\n" + "\n" * 23
 
 

@@ -130,10 +130,11 @@ class Reports(NamedTuple):
         except OSError as fault:
             return f"no picture and no recording: {fault}"
         if rig.terminal.terminal == "xterm":
-            playing = f"{playing}play it:   python3 -m vt220 --terminal xterm {shlex.quote(recording)}"
+            option = ["--terminal", "xterm"]
         else:
-            words = " ".join(([] if rig.encoding == "dec" else ["--encoding", rig.encoding]) + [shlex.quote(recording)])
-            playing = f"{playing}play it:   python3 -m vt220 {words}   (or: vt220 show {words})"
+            option = [] if rig.encoding == "dec" else ["--encoding", rig.encoding]
+        words = " ".join([*option, shlex.quote(recording)])
+        playing = f"{playing}play it:   python3 -m vt220 {words}   (or: vt220 show {words})"
         return f"picture:   {picture}\nrecording: {recording}\n{playing}"
 
 

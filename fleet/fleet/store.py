@@ -99,6 +99,15 @@ def drop(pool, connection):
     pool.release(connection)
 
 
+def has_come(connection, patience):
+    """Returns whether something comes over a connection within some seconds. If a connection over a Unix socket is reset, redis-py 4.3 looks
+    for a host to name in its error, and finds none."""
+    try:
+        return connection.can_read(patience)
+    except AttributeError as error:
+        raise ConnectionError(f"the connection was reset: {error.__context__}") from error
+
+
 class Awaited:
     """What the store was asked for, and says when something came, or after some seconds."""
 
@@ -110,7 +119,7 @@ class Awaited:
     def answer(self):
         """Returns what came. Raises what the store's calls raise."""
         try:
-            if self.patience and not self.connection.can_read(self.patience):
+            if self.patience and not has_come(self.connection, self.patience):
                 raise TimeoutError("the store says nothing")
             came = self.connection.read_response() or []
         except ResponseError:

@@ -1,8 +1,12 @@
 """Each part of the fleet by itself."""
 import os
 import signal
+import socket
 import subprocess
+import tempfile
 import threading
+
+import redis
 
 from harness import PATIENCE, Source, check, key, keys, played, raises, session, stores, until, wanted, worker, compare
 import vt220
@@ -12,6 +16,7 @@ from fleet.host import Host, Taken
 from fleet.operate import Typist
 from fleet import wire
 from fleet.program import started
+from fleet.store import has_come, packed
 from fleet.view import Viewer
 
 
@@ -245,6 +250,22 @@ def a_signal_comes_in_the_midst_of_a_message(url, _):
     program.done()
 
 
+def a_store_that_resets_a_connection_is_away(_url, _):
+    """A Unix socket that is closed with unread bytes in it is reset."""
+    name = "reset"
+    with tempfile.TemporaryDirectory() as place:
+        listener = socket.socket(socket.AF_UNIX)
+        listener.bind(f"{place}/store")
+        listener.listen()
+        connection = redis.UnixDomainSocketConnection(path=f"{place}/store")
+        connection.connect()
+        served, _ = listener.accept()
+        connection.send_packed_command([packed([b"PING"])])
+        served.close()
+        check(raises(redis.ConnectionError, has_come, connection, PATIENCE), name, "it is an error of the store, as one that is away has")
+        listener.close()
+
+
 def commands(store):
     """Returns how often each command was called, also inside functions, without the call that asks."""
     return {name[8:]: each["calls"] for name, each in store.info("commandstats").items() if name != "cmdstat_info"}
@@ -292,4 +313,5 @@ CASES = [
     a_program_gets_its_answers,
     a_killed_program_has_a_shell_s_status,
     a_signal_comes_in_the_midst_of_a_message,
+    a_store_that_resets_a_connection_is_away,
 ]

@@ -1,13 +1,13 @@
 -- What is played under TERM=xterm in turns, behind what is in a buffer, and how often the bell rings in it.
 use Rattle.std.proofs.Common.{◌≡◌, ◌∙◌, ap, sym, refl, List, ℕ, zero, suc, [], ◌∷◌, ◌++◌, ◌+◌, ◌≤◌, length, take, drop}
-use Rattle.std.proofs.Common.{get_or, arith}
+use Rattle.std.proofs.Common.{get_or, arith, Bool, true, false, subst}
 use Rattle.std.proofs.Math.Seq.{take-add}
 use Rattle.vt_term.specs.State.{State}
 use Rattle.vt_utf8.specs.Decoding.{pending_after}
-use Rattle.vt_xterm.specs.Play.{Whole, WholePlayed, FrontState, both, play_xterm}
+use Rattle.vt_xterm.specs.Play.{Whole, WholePlayed, FrontState, both, play_xterm, xterm_log}
 use Rattle.vt220_c.specs.Bells.{bells}
 use Rattle.vt220_c.specs.Feeding.{WritesAt}
-use Rattle.vt220_c.specs.Xterm.{xterm_played, xterm_front, xterm_bells, FeedsXterm}
+use Rattle.vt220_c.specs.Xterm.{xterm_played, xterm_front, xterm_bells, xterm_lines_if, FeedsXterm}
 use Rattle.vt220_c.proofs.Feeding.{writes-nothing, writes-more}
 
 -- no bytes leave all as it is
@@ -77,6 +77,40 @@ module _ (two : (w : Whole) (pending a b : List ℕ) → play_xterm w pending (a
       let then : xterm_bells (xterm_played s front (take taken piece)).whole.state (xterm_front s front (take taken piece))
       (take k (drop taken piece)) ≡ rung = rw (← first.state, ← first.kept) now in
       rw (take-add taken k piece) (omega (arith, all, before, then))
+
+-- no lines
+pub no-lines : ((w : Whole) (pending : List ℕ) → xterm_log w pending [] ≡ []) → (logs : Bool) (s : State) (front : FrontState)
+    (lines : List ℕ) → WritesAt (xterm_lines_if logs s front []) lines 0 lines 0
+no-lines none true s front lines =
+    rw (none (record { state = s; pages = front.pages }) front.pending) (writes-nothing lines 0 (omega arith))
+no-lines none false s front lines = writes-nothing lines 0 (omega arith)
+
+-- the lines of a turn after those before it
+module _ (two : (w : Whole) (pending a b : List ℕ) → xterm_log w pending (a ++ b)
+    ≡ xterm_log w pending a ++ xterm_log (play_xterm w pending a).whole (pending_after pending a) b) where
+  pub lines-two : (logs : Bool) (s : State) (front : FrontState) (a b : List ℕ) → xterm_lines_if logs s front (a ++ b)
+      ≡ xterm_lines_if logs s front a
+      ++ xterm_lines_if logs (xterm_played s front a).whole.state (xterm_front s front a) b
+  lines-two true s front a b = two (record { state = s; pages = front.pages }) front.pending a b
+  lines-two false s front a b = refl
+
+  pub lines-turn : (logs : Bool) (s t : State) (front mid : FrontState) (piece : List ℕ) (taken k : ℕ)
+      (lines lines' lines'' : List ℕ) (m n : ℕ) → t ≡ (xterm_played s front (take taken piece)).whole.state
+      → mid ≡ xterm_front s front (take taken piece)
+      → WritesAt (xterm_lines_if logs s front (take taken piece)) lines 0 lines' m
+      → WritesAt (xterm_lines_if logs t mid (take k (drop taken piece))) lines' m lines'' n
+      → WritesAt (xterm_lines_if logs s front (take (taken + k) piece)) lines 0 lines'' (m + n)
+  lines-turn logs s t front mid piece taken k lines lines' lines'' m n is kept first second =
+      let a = take taken piece in
+      let b = take k (drop taken piece) in
+      let none : 0 + m ≡ m = omega arith in
+      let all : xterm_lines_if logs s front (take (taken + k) piece) ≡ xterm_lines_if logs s front a ++ xterm_lines_if logs t mid b =
+      ap (λ (bytes : List ℕ). xterm_lines_if logs s front bytes) (take-add taken k piece) ∙ lines-two logs s front a b
+      ∙ ap (λ (v : State). xterm_lines_if logs s front a ++ xterm_lines_if logs v (xterm_front s front a) b) (sym is)
+      ∙ ap (λ (f : FrontState). xterm_lines_if logs s front a ++ xterm_lines_if logs t f b) (sym kept) in
+      subst (λ (bytes : List ℕ). WritesAt bytes lines 0 lines'' (m + n)) (sym all)
+      (writes-more (xterm_lines_if logs s front a) (xterm_lines_if logs t mid b) lines lines' lines'' 0 m n first
+      (rw none second))
 
 -- a turn of one byte
 pub one_rings : (s : State) (piece : List ℕ) (rung : ℕ) → 1 ≤ length piece → rung ≡ bells s.held (get_or piece 0 0 ∷ [])

@@ -1,8 +1,8 @@
 -- What a host sends under TERM=xterm, played on a terminal and the front that a handle keeps for it.
-use Rattle.std.specs.Prelude.{◌≡◌, ◌+◌, ℕ, List, [], ◌∷◌}
+use Rattle.std.specs.Prelude.{◌≡◌, ◌+◌, ℕ, List, [], ◌∷◌, Bool, if◌then◌else◌}
 use Rattle.vt_term.specs.State.{State}
 use Rattle.vt_utf8.specs.Decoding.{pending_after}
-use Rattle.vt_xterm.specs.Play.{FrontState, WholePlayed, behind, play_xterm}
+use Rattle.vt_xterm.specs.Play.{FrontState, WholePlayed, behind, play_xterm, xterm_log}
 use Rattle.vt220_c.specs.Bells.{bells}
 use Rattle.vt220_c.specs.Feeding.{WritesAt}
 
@@ -17,12 +17,20 @@ xterm_front s front bytes = record {
   pages = (xterm_played s front bytes).whole.pages;
 }
 
+-- the texts of the lines that they scroll off
+abbrev pub xterm_lines : State → FrontState → List ℕ → List ℕ
+xterm_lines s front bytes = xterm_log (behind s front) front.pending bytes
+
 -- how often BEL is carried out: at its byte, unless a control string is held there. (this profile)
 abbrev pub xterm_bells : State → FrontState → List ℕ → ℕ
 xterm_bells s front [] = 0
 xterm_bells s front (b ∷ bytes) =
     bells s.held (b ∷ [])
     + xterm_bells (xterm_played s front (b ∷ [])).whole.state (xterm_front s front (b ∷ [])) bytes
+
+-- no lines without a log
+abbrev pub xterm_lines_if : Bool → State → FrontState → List ℕ → List ℕ
+xterm_lines_if logs s front bytes = if logs then xterm_lines s front bytes else []
 
 -- the state, the front, and the reports behind what is there. Contracts of private functions cite this, and no public clause does.
 pub record FeedsXterm (s : State) (front : FrontState) (bytes : List ℕ) (t : State) (new : FrontState) (out : List ℕ) (at : ℕ) (out_after : List ℕ) (written : ℕ) : Type 0 where

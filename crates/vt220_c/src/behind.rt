@@ -1,15 +1,17 @@
 //! Playing what a host sends under TERM=xterm on the terminal of a handle.
-ghost use Rattle.std.specs.Prelude.{◌≡◌, ◌+◌, ◌≤◌, ◌<◌, ◌⊎◌, ℕ, true, false, length, take};
+ghost use Rattle.std.specs.Prelude.{◌≡◌, ◌+◌, ◌≤◌, ◌<◌, ◌⊎◌, ℕ, true, false, length, take, vec_capacity};
+ghost use Rattle.std.specs.Bool.{OnTrue, OnFalse};
 ghost use Rattle.vt_xterm.specs.Play.{FrontState};
-ghost use Rattle.vt220_c.specs.Xterm.{FeedsXterm, xterm_bells};
+ghost use Rattle.vt220_c.specs.Feeding.{WritesAt};
+ghost use Rattle.vt220_c.specs.Xterm.{FeedsXterm, xterm_bells, xterm_lines, xterm_lines_if};
 
 use crate::bells::rings;
 use crate::bytes::put;
-use crate::inner::{CHUNK, Inner, Played};
+use crate::inner::{CHUNK, Inner, Logged};
 use vt_term::REPORT_LIMIT;
 use vt_utf8::laws::cuts as utf8_cuts;
-use vt_xterm::laws::cuts;
-use vt_xterm::{Front, feed_xterm_reserved};
+use vt_xterm::laws::{cuts, log_cuts};
+use vt_xterm::{Front, LINES_LIMIT, feed_xterm_log_reserved, feed_xterm_reserved};
 
 /// The number of bytes at the front of a chunk that may be played at once, and the number of bells in them.
 #[derive(Drop)]
@@ -18,11 +20,13 @@ struct Turn {
     bells: usize,
 }
 
-/// The number of bytes at the front of a chunk that were played, and the number of report bytes that were written.
+/// The number of bytes at the front of a chunk that were played, and the numbers of bytes of reports and of lines that were
+/// written.
 #[derive(Drop)]
 struct Sent {
     taken: usize,
     written: usize,
+    lines_written: usize,
 }
 
 /// Returns the part of a chunk that is played next: a byte if bells are counted, otherwise the whole chunk.
@@ -65,6 +69,7 @@ fn feed_turn(
     ensures within { result.taken ≤ limit }
     ensures fed { FeedsXterm inner.old front.old (take result.taken piece.now) inner.new front.new out.old written out.new
         result.written }
+    ensures no_lines { result.lines_written ≡ 0 }
     ensures fits { written + result.written ≤ length out.old }
 {
     let most = ((out.len() - written) / REPORT_LIMIT).min(CHUNK);
@@ -80,40 +85,167 @@ fn feed_turn(
     Sent {
         taken,
         written: inner.reports.len(),
+        lines_written: 0,
     }
 }
 
-/// Plays as many bytes of a chunk as `out` has capacity for: a byte can cause ten bytes of reports. Counts the bells if
-/// `counts` is true.
+/// Plays at most `limit` bytes of a chunk with their log, and at most those for whose reports and lines the two buffers have
+/// capacity. `room` has capacity for the lines of two screens.
+fn log_turn(
+    inner: &mut Inner,
+    front: &mut Front,
+    piece: &[u8],
+    limit: usize,
+    out: &mut [u8],
+    written: usize,
+    lines: &mut [u8],
+    lines_written: usize,
+    room: &mut Vec<u8>,
+) -> Sent
+    requires some { 1 ≤ limit }
+    requires limit { limit ≤ length piece.now }
+    requires out_room { written + REPORT_LIMIT ≤ length out.old }
+    requires lines_room { lines_written + LINES_LIMIT ≤ length lines.old }
+    requires capacity { LINES_LIMIT ≤ vec_capacity room.old }
+    ensures some { 1 ≤ result.taken }
+    ensures within { result.taken ≤ limit }
+    ensures fed { FeedsXterm inner.old front.old (take result.taken piece.now) inner.new front.new out.old written out.new
+        result.written }
+    ensures off { WritesAt (xterm_lines inner.old front.old (take result.taken piece.now)) lines.old lines_written lines.new
+        result.lines_written }
+    ensures fits { written + result.written ≤ length out.old }
+    ensures capacity { vec_capacity room.old ≤ vec_capacity room.new }
+{
+    log_cuts();
+    let most = ((out.len() - written) / REPORT_LIMIT).min(CHUNK);
+    inner.reports.clear();
+    room.clear();
+    let taken = feed_xterm_log_reserved(
+        &mut inner.terminal,
+        front,
+        &piece[..limit.min(most)],
+        &mut inner.reports,
+        room,
+        lines.len() - lines_written,
+    );
+    put(out, written, inner.reports.as_slice());
+    put(lines, lines_written, room.as_slice());
+    Sent {
+        taken,
+        written: inner.reports.len(),
+        lines_written: room.len(),
+    }
+}
+
+/// Plays a turn, with its log if `logs` is true.
+fn any_turn(
+    inner: &mut Inner,
+    front: &mut Front,
+    piece: &[u8],
+    limit: usize,
+    logs: bool,
+    out: &mut [u8],
+    written: usize,
+    lines: &mut [u8],
+    lines_written: usize,
+    room: &mut Vec<u8>,
+) -> Sent
+    requires some { 1 ≤ limit }
+    requires limit { limit ≤ length piece.now }
+    requires out_room { written + REPORT_LIMIT ≤ length out.old }
+    requires lines { lines_written ≤ length lines.old }
+    requires lines_room { logs ≡ true → lines_written + LINES_LIMIT ≤ length lines.old }
+    requires capacity { logs ≡ true → LINES_LIMIT ≤ vec_capacity room.old }
+    ensures some { 1 ≤ result.taken }
+    ensures within { result.taken ≤ limit }
+    ensures fed { FeedsXterm inner.old front.old (take result.taken piece.now) inner.new front.new out.old written out.new
+        result.written }
+    ensures off { WritesAt (xterm_lines_if logs inner.old front.old (take result.taken piece.now)) lines.old lines_written
+        lines.new result.lines_written }
+    ensures fits { written + result.written ≤ length out.old }
+    ensures capacity { vec_capacity room.old ≤ vec_capacity room.new }
+{
+    if logs {
+        log_turn(
+            inner,
+            front,
+            piece,
+            limit,
+            out,
+            written,
+            lines,
+            lines_written,
+            room,
+        )
+    } else {
+        feed_turn(inner, front, piece, limit, out, written)
+    }
+}
+
+/// Returns whether there is room for the lines of two screens, or there is no log.
+fn has_room(lines: &[u8], lines_written: usize, logs: bool) -> bool
+    requires { lines_written ≤ length lines.now }
+    ensures room { OnTrue result (logs ≡ true → lines_written + LINES_LIMIT ≤ length lines.now) }
+    ensures full { OnFalse result ((logs ≡ true) × (length lines.now < lines_written + LINES_LIMIT)) }
+{
+    !logs || lines.len() - lines_written >= LINES_LIMIT
+}
+
+/// Plays as many bytes of a chunk as the buffers have capacity for: a byte can cause ten bytes of reports, and with a log two
+/// screens of lines. Counts the bells if `counts` is true. There is a log if `logs` is true.
 pub(crate) fn feed_xterm(
     inner: &mut Inner,
     front: &mut Front,
     piece: &[u8],
     counts: bool,
+    logs: bool,
     out: &mut [u8],
-) -> Played
+    lines: &mut [u8],
+    room: &mut Vec<u8>,
+) -> Logged
+    requires { logs ≡ true → LINES_LIMIT ≤ vec_capacity room.old }
     ensures within { result.taken ≤ length piece.now }
     ensures fed { FeedsXterm inner.old front.old (take result.taken piece.now) inner.new front.new out.old 0 out.new
         result.written }
-    ensures all { (result.taken ≡ length piece.now) ⊎ (length out.old < result.written + REPORT_LIMIT) }
+    ensures off { WritesAt (xterm_lines_if logs inner.old front.old (take result.taken piece.now)) lines.old 0 lines.new
+        result.lines_written }
+    ensures all { (result.taken ≡ length piece.now) ⊎ (length out.old < result.written + REPORT_LIMIT)
+        ⊎ ((logs ≡ true) × (length lines.old < result.lines_written + LINES_LIMIT)) }
     ensures none { counts ≡ false → result.bells ≡ 0 }
     ensures bells { counts ≡ true → result.bells ≡ xterm_bells inner.old front.old (take result.taken piece.now) }
+    ensures capacity { vec_capacity room.old ≤ vec_capacity room.new }
 {
     cuts();
+    log_cuts();
     utf8_cuts();
-    let mut taken = 0;
-    let mut written = 0;
-    let mut bells = 0;
-    while taken < piece.len() && out.len() - written >= REPORT_LIMIT {
-        let turn = next_turn(inner, &piece[taken..], counts);
-        let sent = feed_turn(inner, front, &piece[taken..], turn.len, out, written);
-        taken += sent.taken;
-        written += sent.written;
-        bells += turn.bells;
+    let mut done = Logged {
+        taken: 0,
+        written: 0,
+        lines_written: 0,
+        bells: 0,
+    };
+    while done.taken < piece.len()
+        && out.len() - done.written >= REPORT_LIMIT
+        && has_room(lines, done.lines_written, logs)
+    {
+        let rest = &piece[done.taken..];
+        let turn = next_turn(inner, rest, counts);
+        let sent = any_turn(
+            inner,
+            front,
+            rest,
+            turn.len,
+            logs,
+            out,
+            done.written,
+            lines,
+            done.lines_written,
+            room,
+        );
+        done.taken += sent.taken;
+        done.written += sent.written;
+        done.lines_written += sent.lines_written;
+        done.bells += turn.bells;
     }
-    Played {
-        taken,
-        written,
-        bells,
-    }
+    done
 }

@@ -9,10 +9,12 @@ ghost use Rattle.vt_paint.specs.Spoken.{Speaks};
 ghost use Rattle.vt_utf8.specs.Decoding.{pending_after};
 ghost use Rattle.vt_utf8.specs.Play.{translated};
 ghost use Rattle.vt220_c.specs.Bells.{bells};
-ghost use Rattle.vt220_c.specs.Feeding.{Feeds};
+ghost use Rattle.vt220_c.specs.Feeding.{Feeds, WritesAt};
 ghost use Rattle.vt220_c.specs.Forms.{written_as, CanBe};
 ghost use Rattle.vt220_c.specs.Written.{written_over, IsRepaint, UpdatedOver};
+ghost use Rattle.vt220_c.specs.Xterm.{FeedsXterm, xterm_bells, xterm_lines};
 
+use crate::behind::feed_xterm;
 use crate::bytes::{Copied, copy_out};
 use crate::form::Form;
 use crate::inner::{CHUNK, Inner, Logged};
@@ -24,8 +26,9 @@ use vt_picture::{PICTURE_LIMIT, picture_reserved, show_reserved};
 use vt_term::{REPORT_LIMIT, ROW_TEXT_LIMIT, Terminal};
 use vt_update::{UPDATE_LIMIT, update_reserved};
 use vt_utf8::Decoder;
+use vt_xterm::{Front, LINES_LIMIT};
 
-const _: () = prove!(ROW_TEXT_LIMIT * CHUNK <= PICTURE_LIMIT);
+const _: () = prove!(ROW_TEXT_LIMIT * CHUNK <= PICTURE_LIMIT && LINES_LIMIT <= PICTURE_LIMIT);
 
 /// A buffer for the longest form, a picture, and a terminal on which an update is tried. Only `new` allocates.
 #[derive(Drop)]
@@ -116,6 +119,38 @@ impl Scratch {
         feed_utf8(
             inner,
             decoder,
+            piece,
+            counts,
+            true,
+            out,
+            lines,
+            &mut self.room,
+        )
+    }
+
+    /// Plays what a host sends under TERM=xterm on a terminal with its log, as `behind::feed_xterm` does.
+    pub(crate) fn feed_xterm(
+        &mut self,
+        inner: &mut Inner,
+        front: &mut Front,
+        piece: &[u8],
+        counts: bool,
+        out: &mut [u8],
+        lines: &mut [u8],
+    ) -> Logged
+        ensures within { result.taken ≤ length piece.now }
+        ensures fed { FeedsXterm inner.old front.old (take result.taken piece.now) inner.new front.new out.old 0 out.new
+            result.written }
+        ensures off { WritesAt (xterm_lines inner.old front.old (take result.taken piece.now)) lines.old 0 lines.new
+            result.lines_written }
+        ensures all { (result.taken ≡ length piece.now) ⊎ (length out.old < result.written + REPORT_LIMIT)
+            ⊎ (length lines.old < result.lines_written + LINES_LIMIT) }
+        ensures none { counts ≡ false → result.bells ≡ 0 }
+        ensures bells { counts ≡ true → result.bells ≡ xterm_bells inner.old front.old (take result.taken piece.now) }
+    {
+        feed_xterm(
+            inner,
+            front,
             piece,
             counts,
             true,

@@ -2,19 +2,20 @@
 ghost use Rattle.std.specs.Prelude.{◌≡◌, ◌↔◌, ◌+◌, ◌≤◌, ◌<◌, ◌⊎◌, true, false, length, take, IfSome, is_some};
 ghost use Rattle.std.specs.declared.option.Option.TheVariants.{None, Some};
 ghost use Rattle.vt_xterm.specs.Play.{front_at_power_up};
-ghost use Rattle.vt220_c.specs.Status.{status_ok, status_in_use};
+ghost use Rattle.vt220_c.specs.Status.{status_ok, status_closed, status_in_use};
 ghost use Rattle.vt220_c.specs.Utf8.{c_utf8};
 ghost use Rattle.vt220_c.specs.Written.{written_over};
-ghost use Rattle.vt220_c.specs.Xterm.{xterm_played, xterm_front, xterm_bells};
+ghost use Rattle.vt220_c.specs.Xterm.{xterm_played, xterm_front, xterm_lines, xterm_bells};
 
 use crate::behind::feed_xterm;
 use crate::handle::Vt220;
-use crate::status::{IN_USE, MEMORY, OK};
+use crate::scratch_handle::Vt220Scratch;
+use crate::status::{CLOSED, IN_USE, MEMORY, OK};
 use crate::utf8::{Vt220Utf8, c_pending};
 use crate::xterm_handle::Vt220Xterm;
 use std::alloc::Global;
 use vt_term::REPORT_LIMIT;
-use vt_xterm::Front;
+use vt_xterm::{Front, LINES_LIMIT};
 
 /// Opens a closed handle, with a front at power-up. Returns `OK`, `IN_USE` or `MEMORY`.
 #[unsafe(no_mangle)]
@@ -115,10 +116,108 @@ pub extern "C" fn core_feed_xterm(
         t.put(inner);
         return 0;
     };
-    let played = feed_xterm(&mut inner, &mut front, piece, counts, out);
+    let mut room = Vec::new(alloc);
+    let played = feed_xterm(
+        &mut inner,
+        &mut front,
+        piece,
+        counts,
+        false,
+        out,
+        &mut [],
+        &mut room,
+    );
     t.put(inner);
     x.put(front);
     *written = played.written;
     *rung = played.bells;
     played.taken
+}
+
+/// Plays what a host sends under TERM=xterm with its log, as `core_feed_log` does. Returns how many bytes were played: all, or as
+/// many as the two buffers have capacity for. Returns 0 if a handle is closed.
+#[unsafe(no_mangle)]
+pub extern "C" fn core_feed_log_xterm(
+    t: &mut Vt220,
+    s: &mut Vt220Scratch,
+    x: &mut Vt220Xterm,
+    piece: &[u8],
+    counts: bool,
+    out: &mut [u8],
+    written: &mut usize,
+    lines: &mut [u8],
+    lines_written: &mut usize,
+    rung: &mut usize,
+    alloc: Global,
+) -> usize
+    ensures within { result ≤ length piece.now }
+    ensures state { is_some s.old.kept.inside ≡ true → IfSome t.old.kept.inside (λ v. IfSome x.old.kept.inside (λ front.
+        t.new.kept.inside ≡ Some (xterm_played v front (take result piece.now)).whole.state)) }
+    ensures front { is_some s.old.kept.inside ≡ true → IfSome t.old.kept.inside (λ v. IfSome x.old.kept.inside (λ front.
+        x.new.kept.inside ≡ Some (xterm_front v front (take result piece.now)))) }
+    ensures reports { is_some s.old.kept.inside ≡ true → IfSome t.old.kept.inside (λ v. IfSome x.old.kept.inside (λ front.
+        out.new ≡ written_over (xterm_played v front (take result piece.now)).reports out.old)) }
+    ensures written { is_some s.old.kept.inside ≡ true → IfSome t.old.kept.inside (λ v. IfSome x.old.kept.inside (λ front.
+        written.new ≡ length (xterm_played v front (take result piece.now)).reports)) }
+    ensures lines { is_some s.old.kept.inside ≡ true → IfSome t.old.kept.inside (λ v. IfSome x.old.kept.inside (λ front.
+        lines.new ≡ written_over (xterm_lines v front (take result piece.now)) lines.old)) }
+    ensures lines_written { is_some s.old.kept.inside ≡ true → IfSome t.old.kept.inside (λ v. IfSome x.old.kept.inside (λ front.
+        lines_written.new ≡ length (xterm_lines v front (take result piece.now)))) }
+    ensures all { is_some s.old.kept.inside ≡ true → IfSome t.old.kept.inside (λ _. IfSome x.old.kept.inside (λ _.
+        (result ≡ length piece.now) ⊎ (length out.old < written.new + REPORT_LIMIT)
+        ⊎ (length lines.old < lines_written.new + LINES_LIMIT))) }
+    ensures bells { is_some s.old.kept.inside ≡ true → IfSome t.old.kept.inside (λ v. IfSome x.old.kept.inside (λ front.
+        counts ≡ true → rung.new ≡ xterm_bells v front (take result piece.now))) }
+    ensures none { counts ≡ false → rung.new ≡ 0 }
+    ensures scratch { s.new.kept.inside ≡ s.old.kept.inside }
+    ensures closed { (t.old.kept.inside ≡ None) ⊎ (s.old.kept.inside ≡ None) ⊎ (x.old.kept.inside ≡ None)
+        → (t.new.kept.inside ≡ t.old.kept.inside) × (x.new.kept.inside ≡ x.old.kept.inside) × (result ≡ 0) × (written.new ≡ 0)
+        × (lines_written.new ≡ 0) × (rung.new ≡ 0) × (out.new ≡ out.old) × (lines.new ≡ lines.old) }
+{
+    *written = 0;
+    *lines_written = 0;
+    *rung = 0;
+    let Some(mut inner) = t.take(alloc) else {
+        return 0;
+    };
+    let Some(mut scratch) = s.take(alloc) else {
+        t.put(inner);
+        return 0;
+    };
+    let Some(mut front) = x.take(alloc) else {
+        t.put(inner);
+        s.put(scratch);
+        return 0;
+    };
+    let logged = scratch.feed_xterm(&mut inner, &mut front, piece, counts, out, lines);
+    t.put(inner);
+    s.put(scratch);
+    x.put(front);
+    *written = logged.written;
+    *lines_written = logged.lines_written;
+    *rung = logged.bells;
+    logged.taken
+}
+
+/// Makes what a terminal needs under TERM=xterm equal to what another one needs. The two handles are different. Returns `OK`, or
+/// `CLOSED` if one of the two is closed.
+#[unsafe(no_mangle)]
+pub extern "C" fn core_xterm_copy(to: &mut Vt220Xterm, from: &mut Vt220Xterm, alloc: Global) -> u32
+    ensures from { from.new.kept.inside ≡ from.old.kept.inside }
+    ensures closed { (result ≡ status_closed) ↔ ((to.old.kept.inside ≡ None) ⊎ (from.old.kept.inside ≡ None)) }
+    ensures answers { (result ≡ status_ok) ⊎ (result ≡ status_closed) }
+    ensures ok { result ≡ status_ok → to.new.kept.inside ≡ from.old.kept.inside }
+    ensures unchanged { (0 < result) → to.new.kept.inside ≡ to.old.kept.inside }
+{
+    let Some(mut first) = to.take(alloc) else {
+        return CLOSED;
+    };
+    let Some(second) = from.take(alloc) else {
+        to.put(first);
+        return CLOSED;
+    };
+    first.copy_from(&second);
+    to.put(first);
+    from.put(second);
+    OK
 }

@@ -13,7 +13,7 @@ returns-clause-fed c =
     let silent = first.silent (lost-beyond c.push-lost.result.0 c.push-lost.ensures.lost) in
     let xs = option_to_list c.push-lost.result.0 in
     let ys = option_to_list c.push-lost.result.1 in
-    feeds-both c.cuts.ensures.two c.cuts-2.ensures.two c.one_split.ensures c.args.logs c.args.counts s
+    feeds-both c.cuts.ensures.two c.log_cuts.ensures.two c.one_split.ensures c.args.logs c.args.counts s
     c.feed_character-first.new.inner c.feed_character-second.new.inner _ (translated_all s xs) ys c.args.out.now
     c.feed_character-first.new.out c.feed_character-second.new.out c.args.lines.now c.feed_character-first.new.lines
     c.feed_character-second.new.lines c.args.written c.args.lines_written _ _ _ _ _ _

@@ -10,7 +10,7 @@ loop-taken-init c =
     let sound : IsSound s = rw c.terminal.ensures at c.width.ensures.sound in
     record {
       within = omega arith;
-      fed = feeds-nothing c.cuts.ensures.none c.cuts-2.ensures.none c.one_split.ensures translated-nothing c.args.logs
+      fed = feeds-nothing c.cuts.ensures.none c.log_cuts.ensures.none c.one_split.ensures translated-nothing c.args.logs
           c.args.counts s c.args.decoder.now c.args.out.now c.args.lines.now sound;
       pending = refl;
       few = omega arith;
@@ -29,11 +29,11 @@ loop-taken-preserved c =
     let before = c.loop-taken.invariant in
     record {
       within = omega (arith, inside);
-      fed = feeds-on c.cuts.ensures.two c.cuts-2.ensures.two c.one_split.ensures c.cuts-3.ensures.translated c.args.logs
+      fed = feeds-on c.cuts.ensures.two c.log_cuts.ensures.two c.one_split.ensures c.cuts-2.ensures.translated c.args.logs
           c.args.counts s c.loop-taken.inner c.feed_front-front.new.inner c.args.decoder.now c.loop-taken.decoder piece
           c.loop-taken.taken done.taken c.args.out.now c.loop-taken.out c.feed_front-front.new.out c.args.lines.now
           c.loop-taken.lines c.feed_front-front.new.lines _ _ _ _ _ _ sound before.pending before.fed front.fed;
-      pending = pending-on c.cuts-3.ensures.pending c.args.decoder.now c.loop-taken.decoder
+      pending = pending-on c.cuts-2.ensures.pending c.args.decoder.now c.loop-taken.decoder
           c.feed_front-front.new.decoder piece c.loop-taken.taken done.taken before.pending front.pending;
       few = omega (arith, before.few, front.few_bells);
       capacity = omega (arith, before.capacity, front.capacity);

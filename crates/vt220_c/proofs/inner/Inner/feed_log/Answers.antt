@@ -12,7 +12,7 @@ loop-taken-preserved c =
     let before = c.loop-taken.invariant in
     let n = c.feed_log_front-front.result.taken in
     let reports = more-reports c.cuts.ensures.two _ _ _ _ n before.state in
-    let lines = more-lines c.cuts-2.ensures.two _ _ _ _ n before.state in
+    let lines = more-lines c.log_cuts.ensures.two _ _ _ _ n before.state in
     record {
       within = omega (arith, inside, front.within);
       state = more-state c.cuts.ensures.two _ _ _ _ n before.state _ front.state;

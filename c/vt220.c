@@ -29,6 +29,9 @@ uint32_t core_xterm_open(handle *x);
 void core_xterm_close(handle *x);
 bool core_xterm_alternate(handle *x);
 bool core_xterm_pending(handle *x, vt220_utf8 *u);
+uint32_t core_xterm_copy(handle *to, handle *from);
+size_t core_feed_log_xterm(handle *t, handle *s, handle *x, const uint8_t *bytes, size_t len, bool counts, uint8_t *reports, size_t size,
+                           size_t *written, uint8_t *lines, size_t lines_size, size_t *lines_written, size_t *bells);
 size_t core_feed_xterm(handle *t, handle *x, const uint8_t *bytes, size_t len, bool counts, uint8_t *reports, size_t size, size_t *written,
                        size_t *bells);
 uint32_t core_shown(uint32_t character, size_t *cells);
@@ -171,6 +174,15 @@ bool vt220_xterm_pending(const vt220_xterm *x, vt220_utf8 *u) {
     return h.is_open && core_xterm_pending(&h, u);
 }
 
+uint32_t vt220_xterm_copy(vt220_xterm *to, const vt220_xterm *from) {
+    if (!to->is_open || !from->is_open) return VT220_CLOSED;
+    if (to->pages == from->pages) return VT220_OK;
+    handle target = own_xterm(to), source = own_xterm(from);
+    uint32_t status = core_xterm_copy(&target, &source);
+    keep_xterm(to, target);
+    return status;
+}
+
 /* A buffer of the caller, and how many of its bytes are filled. */
 typedef struct buffer {
     uint8_t *at;
@@ -208,24 +220,23 @@ typedef struct player {
 static size_t process_part(player by, const uint8_t *bytes, part next, buffer *replies, buffer *lines) {
     uint8_t *out = replies->at + replies->filled;
     size_t size = replies->size - replies->filled, sent = 0, off = 0, rung = 0, now;
-    handle h = own(by.t);
-    if (by.x != NULL) {
-        handle pages = own_xterm(by.x);
-        now = core_feed_xterm(&h, &pages, bytes, next.len, next.rings, out, size, &sent, &rung);
-        keep_xterm(by.x, pages);
-    } else if (by.s == NULL) {
-        now = by.u == NULL ? core_feed(&h, bytes, next.len, next.rings, out, size, &sent, &rung)
-                           : core_feed_utf8(&h, by.u, bytes, next.len, next.rings, out, size, &sent, &rung);
+    handle h = own(by.t), pages = by.x != NULL ? own_xterm(by.x) : (handle){NULL, false};
+    if (by.s == NULL) {
+        now = by.x != NULL   ? core_feed_xterm(&h, &pages, bytes, next.len, next.rings, out, size, &sent, &rung)
+              : by.u != NULL ? core_feed_utf8(&h, by.u, bytes, next.len, next.rings, out, size, &sent, &rung)
+                             : core_feed(&h, bytes, next.len, next.rings, out, size, &sent, &rung);
     } else {
         handle room = own_scratch(by.s);
         uint8_t *to = lines->at + lines->filled;
         size_t free = lines->size - lines->filled;
-        now = by.u == NULL ? core_feed_log(&h, &room, bytes, next.len, next.rings, out, size, &sent, to, free, &off, &rung)
-                           : core_feed_log_utf8(&h, &room, by.u, bytes, next.len, next.rings, out, size, &sent, to, free, &off, &rung);
+        now = by.x != NULL   ? core_feed_log_xterm(&h, &room, &pages, bytes, next.len, next.rings, out, size, &sent, to, free, &off, &rung)
+              : by.u != NULL ? core_feed_log_utf8(&h, &room, by.u, bytes, next.len, next.rings, out, size, &sent, to, free, &off, &rung)
+                             : core_feed_log(&h, &room, bytes, next.len, next.rings, out, size, &sent, to, free, &off, &rung);
         keep_scratch(by.s, room);
         lines->filled += off;
     }
     keep(by.t, h);
+    if (by.x != NULL) keep_xterm(by.x, pages);
     replies->filled += sent, by.t->bells += rung;
     return now;
 }
@@ -288,6 +299,14 @@ size_t vt220_feed_log_utf8(vt220 *t, vt220_scratch *s, vt220_utf8 *u, const uint
                            size_t *written, uint8_t *lines, size_t lines_size, size_t *lines_written) {
     buffer log = empty(lines, lines_size);
     size_t taken = feed((player){t, s, u, NULL}, bytes, len, reports, size, written, &log);
+    *lines_written = log.filled;
+    return taken;
+}
+
+size_t vt220_feed_log_xterm(vt220 *t, vt220_scratch *s, vt220_xterm *x, const uint8_t *bytes, size_t len, uint8_t *reports, size_t size,
+                            size_t *written, uint8_t *lines, size_t lines_size, size_t *lines_written) {
+    buffer log = empty(lines, lines_size);
+    size_t taken = feed((player){t, s, NULL, x}, bytes, len, reports, size, written, &log);
     *lines_written = log.filled;
     return taken;
 }

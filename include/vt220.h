@@ -87,6 +87,7 @@ extern "C" {
 #define VT220_TEXT_LIMIT 9528      /* the most bytes of a text */
 #define VT220_ROW_TEXT_LIMIT 397   /* the most bytes of the text of a row */
 #define VT220_UTF8_LINES_LIMIT 17468 /* the most bytes of lines for one byte of UTF-8 */
+#define VT220_XTERM_LINES_LIMIT 19056 /* the capacity for lines with which vt220_feed_log_xterm goes on */
 #define VT220_SHOW_LIMIT 51000     /* the most bytes of a text with attributes */
 #define VT220_PICTURE_LIMIT 659968 /* the most bytes of a picture */
 #define VT220_PAINT_LIMIT 93512    /* the most bytes of a repaint */
@@ -106,9 +107,9 @@ typedef struct vt220_scratch {
 } vt220_scratch;
 
 /* What a terminal needs under TERM=xterm: the page that isn't shown, two modes, and what is pending of UTF-8. Each terminal needs a
- * separate one. It isn't part of the terminal's state: vt220_copy, vt220_reset and bytes of vt220_repaint don't change it. A terminal
- * that is rebuilt with a new one goes on as if the main page were shown. To reset both, feed RIS (ESC c) by vt220_feed_xterm. The fields
- * are private. */
+ * separate one. It isn't part of the terminal's state: vt220_copy, vt220_reset and bytes of vt220_repaint don't change it, and
+ * vt220_xterm_copy copies it. A terminal that is rebuilt with a new one goes on as if the main page were shown. To reset both, feed RIS
+ * (ESC c) by vt220_feed_xterm. The fields are private. */
 typedef struct vt220_xterm {
     void *pages;
     bool is_open;
@@ -245,6 +246,10 @@ bool vt220_xterm_alternate(const vt220_xterm *x);
  * Returns true, or false if it is closed, and then writes nothing. */
 bool vt220_xterm_pending(const vt220_xterm *x, vt220_utf8 *u);
 
+/* Makes what `to` keeps equal to what `from` keeps. With vt220_copy of the two terminals, both go on alike.
+ * Returns VT220_OK or VT220_CLOSED. */
+uint32_t vt220_xterm_copy(vt220_xterm *to, const vt220_xterm *from);
+
 /* Processes input from the host. Writes the replies to the front of `reports`, and their length to *written. Doesn't modify the
  * bytes of `reports` after them.
  *   bytes, len      the input
@@ -293,6 +298,16 @@ size_t vt220_feed_log_utf8(vt220 *t, vt220_scratch *s, vt220_utf8 *u, const uint
  * Returns how many bytes were processed, as vt220_feed does. Returns 0 if a handle is closed, and changes nothing then. What is
  * pending of UTF-8 at the end of the input isn't shown. */
 size_t vt220_feed_xterm(vt220 *t, vt220_xterm *x, const uint8_t *bytes, size_t len, uint8_t *reports, size_t size, size_t *written);
+
+/* Processes input of a program whose TERM is xterm or xterm-256color, as vt220_feed_xterm does, and writes the lines that scroll off the
+ * top of the main page. What scrolls a line off is as in vt220_feed_log, and SU scrolls off the rows that it moves past row 1. On the
+ * alternate page nothing does. Everything else is as in vt220_feed_log.
+ *   x               what the terminal needs next to its state; the call changes it
+ * Returns how many bytes were processed. If these are fewer than len, fewer than VT220_REPORT_LIMIT bytes of `reports` or fewer than
+ * VT220_XTERM_LINES_LIMIT bytes of `lines` are free. Buffers of these sizes always take at least one byte.
+ * Returns 0 if a handle is closed, and changes nothing then. */
+size_t vt220_feed_log_xterm(vt220 *t, vt220_scratch *s, vt220_xterm *x, const uint8_t *bytes, size_t len, uint8_t *reports, size_t size,
+                            size_t *written, uint8_t *lines, size_t lines_size, size_t *lines_written);
 
 /* Returns the Unicode number of the glyph with which UTF-8 input shows a character. It is the character itself if a VT220 has it.
  * Returns 0 if the character has no cell: a control, a combining mark.

@@ -8,6 +8,7 @@ use vt_screen::{COLUMNS, ROWS};
 use vt_term::{REPORT_LIMIT, ROW_TEXT_LIMIT, TEXT_LIMIT};
 use vt_update::UPDATE_LIMIT;
 use vt_utf8::BYTE_LIMIT;
+use vt_xterm::LINES_LIMIT as XTERM_LINES_LIMIT;
 
 /// A byte of UTF-8 is translated to so many bytes, of which each may scroll a line off.
 const UTF8_LINES_LIMIT: usize = BYTE_LIMIT * ROW_TEXT_LIMIT;
@@ -18,6 +19,7 @@ fn main(rt: HostRuntime) -> io::Result<()> {
     println!(rt; "VT220_REPORT_LIMIT {REPORT_LIMIT}")?;
     println!(rt; "VT220_ROW_TEXT_LIMIT {ROW_TEXT_LIMIT}")?;
     println!(rt; "VT220_UTF8_LINES_LIMIT {UTF8_LINES_LIMIT}")?;
+    println!(rt; "VT220_XTERM_LINES_LIMIT {XTERM_LINES_LIMIT}")?;
     println!(rt; "VT220_TEXT_LIMIT {TEXT_LIMIT}")?;
     println!(rt; "VT220_PAINT_LIMIT {PAINT_LIMIT}")?;
     println!(rt; "VT220_UPDATE_LIMIT {UPDATE_LIMIT}")?;

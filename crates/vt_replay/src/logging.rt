@@ -1,5 +1,5 @@
 //! The log of an input: its lines are written as they scroll off, and its screen at the end.
-ghost use Rattle.std.specs.Prelude.{◌≡◌, ◌*◌, ◌/◌, ◌≤◌, true, false, vec_capacity, IfOk};
+ghost use Rattle.std.specs.Prelude.{◌≡◌, ⊤, ◌*◌, ◌/◌, ◌≤◌, true, false, vec_capacity, IfOk};
 ghost use Rattle.std.specs.Io.KnownBytes.{IsAtEnd};
 ghost use Rattle.vt_term.specs.State.{power_up};
 ghost use Rattle.vt_term.specs.Play.{play};
@@ -9,7 +9,6 @@ ghost use Rattle.vt_device.specs.Runs.{Moves};
 ghost use Rattle.vt_replay.specs.Log.{LogTable, lines, screen};
 ghost use Rattle.vt_replay.specs.Output.{EncodedTable, always};
 
-use crate::fault::Fault;
 use crate::output::{Output, front_for, write_output_from};
 use std::alloc::{AllocError, Global};
 use std::io::{Read, Write};
@@ -17,6 +16,7 @@ use vt_cli::Encoding;
 use vt_device::{Source, Watched};
 use vt_log::laws::cuts as log_cuts;
 use vt_log::{LINE_LIMIT, feed_log_reserved};
+use vt_recording::Fault;
 use vt_term::laws::{cuts, soundness};
 use vt_term::{REPORT_LIMIT, TEXT_LIMIT, Terminal};
 
@@ -107,7 +107,9 @@ impl LogOutput {
 impl Output for LogOutput {
     ghost written = { λ o bytes. log o.terminal bytes };
 
-    ghost ending = { λ o bytes. text (play o.terminal bytes).state };
+    ghost Took = { λ o before. ⊤ };
+
+    ghost ending = { λ o before bytes. text (play o.terminal bytes).state };
 
     ghost there = { λ o bytes. true };
 

@@ -4,8 +4,10 @@ ghost use Rattle.std.specs.Prelude.{◌≤◌};
 use std::alloc::Global;
 use std::process::Abort;
 use std::test::Fail;
-use vt_commands::{Break, Fault, Outcome, Part, carry_out};
-use vt_replay::{Encoding, Format, Moment, Request, TerminalType, Watched, What, Word};
+use vt_replay::{
+    Break, Encoding, Fault, Format, Moment, Outcome, Part, Request, TerminalType, Watched, What,
+    Word, carry_out,
+};
 
 /// What a request asks for, besides its piece.
 #[derive(Clone, Copy)]

@@ -1,7 +1,7 @@
 use Rattle.std.proofs.Common.{◌∙◌, sym, [], refl}
 use Rattle.std.proofs.KnownBytes.{Appends-nil}
-use Rattle.vt_commands.proofs.Outcomes.{unread_why, not_streamed}
-use Rattle.vt_commands.proofs.requests.carry_out.Goals as goal
+use Rattle.vt_replay.proofs.Outcomes.{not_streamed}
+use Rattle.vt_replay.proofs.requests.carry_out.Goals as goal
 
 pub returns-clause-answer : goal.returns-clause-answer
 returns-clause-answer g c =
@@ -12,8 +12,8 @@ returns-clause-answer g c =
       taken = takes.taken;
       given = Appends-nil _;
       holds = not_streamed _ _ _ _ _ takes.b [] _ (sym c.is_streamed.ensures ∙ c.if-is_streamed.false) (record {
-        fault = c.unread_fault.result;
-        why = rw c.unread_fault.ensures (unread_why c.in-Err.fault takes.b _ _ _ takes.holds);
+        fault = c.in-Err.fault;
+        why = takes.holds;
         ended = c.unread-in-Err.ensures.ended;
         none_replaced = c.unread-in-Err.ensures.none_replaced;
         nothing = refl;

@@ -1,6 +1,6 @@
 use Rattle.std.proofs.Common.{refl, sym, ◌∙◌}
-use Rattle.vt_commands.proofs.Outcomes.{word_whole}
-use Rattle.vt_commands.proofs.requests.play_taken.Goals as goal
+use Rattle.vt_replay.proofs.Outcomes.{word_whole}
+use Rattle.vt_replay.proofs.requests.play_taken.Goals as goal
 
 pub returns : goal.returns
 returns g c =

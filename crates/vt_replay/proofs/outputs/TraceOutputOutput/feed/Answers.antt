@@ -1,8 +1,8 @@
 use Rattle.std.proofs.Common.{◌∙◌, ap, arith, take}
 use Rattle.std.proofs.lemmas.List.{length-take}
 use Rattle.vt_trace.specs.declared.tracing.Tracer.{Tracer}
-use Rattle.vt_commands.proofs.Tracers.{place_after}
-use Rattle.vt_commands.proofs.outputs.TraceOutputOutput.feed.Goals as goal
+use Rattle.vt_replay.proofs.Tracers.{place_after}
+use Rattle.vt_replay.proofs.outputs.TraceOutputOutput.feed.Goals as goal
 
 pub returns-clause-counted : goal.returns-clause-counted
 returns-clause-counted c =

@@ -1,20 +1,22 @@
 //! The outputs: what each word writes of the host's bytes as they come, and at their end.
-ghost use Rattle.std.specs.Prelude.{◌≡◌, ◌+◌, ◌*◌, ◌/◌, ◌^◌, ◌≤◌, ◌<◌, [], true, length, take, vec_capacity, IfOk, List, ℕ};
+ghost use Rattle.std.specs.Prelude.{◌≡◌, ⊤, ◌+◌, ◌*◌, ◌/◌, ◌^◌, ◌≤◌, ◌<◌, ◌++◌, [], true, length, take, vec_capacity, IfOk, List, ℕ};
 ghost use Rattle.vt_term.specs.State.{power_up};
 ghost use Rattle.vt_term.specs.Play.{play};
 ghost use Rattle.vt_term.specs.Text.{text};
 ghost use Rattle.vt_log.specs.Pages.{pages};
 ghost use Rattle.vt_trace.specs.Trace.{trace, tracer_all, text_end};
-ghost use Rattle.vt_commands.specs.Words.{tracer_at_start};
+ghost use Rattle.vt_trace.specs.Counted.{HasCounted};
+ghost use Rattle.vt_trace.specs.Summary.{summary};
+ghost use Rattle.vt_replay.specs.Words.{tracer_at_start};
 
+use crate::output::{Output, front_for};
 use std::alloc::{AllocError, Global};
 use vt_log::laws::pages_cut;
 use vt_log::{PAGE_LIMIT, feed_pages_reserved};
-use vt_replay::{Output, front_for};
 use vt_term::laws::{cuts, soundness};
 use vt_term::{REPORT_LIMIT, Terminal};
 use vt_trace::laws::cuts as trace_cuts;
-use vt_trace::{TRACE_LIMIT, Tracer, trace_end, trace_reserved};
+use vt_trace::{SUMMARY_LIMIT, Summary, TRACE_LIMIT, Tracer, trace_end, trace_reserved};
 
 /// The log with pages.
 #[derive(Drop)]
@@ -41,7 +43,9 @@ impl PageOutput {
 impl Output for PageOutput {
     ghost written = { λ o bytes. pages o.terminal bytes };
 
-    ghost ending = { λ o bytes. text (play o.terminal bytes).state };
+    ghost Took = { λ o before. ⊤ };
+
+    ghost ending = { λ o before bytes. text (play o.terminal bytes).state };
 
     ghost there = { λ o bytes. true };
 
@@ -104,7 +108,9 @@ impl TraceOutput {
 impl Output for TraceOutput {
     ghost written = { λ o bytes. trace o.terminal o.tracer bytes };
 
-    ghost ending = { λ o bytes. text_end (tracer_all o.terminal o.tracer bytes).in_text };
+    ghost Took = { λ o before. ⊤ };
+
+    ghost ending = { λ o before bytes. text_end (tracer_all o.terminal o.tracer bytes).in_text };
 
     ghost there = { λ o bytes. true };
 
@@ -141,6 +147,57 @@ impl Output for TraceOutput {
     }
 }
 
+/// The summary.
+#[derive(Drop)]
+pub(crate) struct SummaryOutput {
+    counts: Summary,
+}
+
+impl SummaryOutput {
+    /// Returns the output that has counted nothing. `Err` means that allocation failed.
+    pub(crate) fn new(alloc: Global) -> Result<SummaryOutput, AllocError>
+        ensures { IfOk result (λ o. HasCounted [] o.counts) }
+    {
+        Ok(SummaryOutput {
+            counts: Summary::new(alloc)?,
+        })
+    }
+}
+
+impl Output for SummaryOutput {
+    ghost written = { λ o bytes. [] };
+
+    ghost Took = { λ o before. HasCounted before o.counts };
+
+    ghost ending = { λ o before bytes. summary (before ++ bytes) };
+
+    ghost there = { λ o bytes. true };
+
+    ghost most = { λ o. 65536 };
+
+    ghost counted = { λ o. 0 };
+
+    ghost reserve = { λ o. 309351 };
+
+    fn capacity(&self) -> usize {
+        SUMMARY_LIMIT
+    }
+
+    fn feed(&mut self, chunk: &[u8], out: &mut Vec<u8>) -> usize {
+        let _ = out;
+        self.counts.count(chunk);
+        chunk.len()
+    }
+
+    fn is_there(&self) -> bool {
+        true
+    }
+
+    fn end(&self, out: &mut Vec<u8>) {
+        self.counts.push_summary(out)
+    }
+}
+
 /// The most bytes of the content that are written at once.
 const CONTENT_LIMIT: usize = 65536;
 
@@ -151,7 +208,9 @@ pub(crate) struct ContentOutput;
 impl Output for ContentOutput {
     ghost written = { λ o bytes. bytes };
 
-    ghost ending = { λ o bytes. [] };
+    ghost Took = { λ o before. ⊤ };
+
+    ghost ending = { λ o before bytes. [] };
 
     ghost there = { λ o bytes. true };
 

@@ -1,7 +1,5 @@
 -- What a request takes from its reader and gives to its writer. (this profile)
 use Rattle.std.specs.Prelude.{◌≡◌, ◌⊎◌, ℕ, ◌≤◌, ◌<◌, ◌+◌, ◌++◌, ⊤, List, [], length, Bool, true, false, not, Option, Some, None, unwrap_or, Result, Ok, Err}
-use Rattle.std.specs.declared.alloc.Global.{Global}
-use Rattle.std.specs.declared.vec.Vec.{Vec}
 use Rattle.vt_device.specs.Runs.{Flags}
 use Rattle.vt_cli.specs.declared.asked.Request.{Request}
 use Rattle.vt_recording.specs.declared.format.Encoding.{Encoding}
@@ -17,21 +15,18 @@ use Rattle.vt_recording.specs.declared.detection.Detected.TheVariants.{Recording
 use Rattle.vt_recording.specs.Detection.{detected}
 use Rattle.vt_recording.specs.declared.format.Break.{Break}
 use Rattle.vt_recording.specs.Taken.{IsTaken}
-use Rattle.vt_recording.specs.declared.fault.Fault.TheVariants as unread
-use Rattle.vt_recording.specs.declared.fault.Fault.{Fault as Unread}
-use Rattle.vt_replay.specs.declared.fault.Fault.{Fault as ReplayFault}
-use Rattle.vt_replay.specs.declared.fault.Fault.TheVariants as replay
-use Rattle.vt_commands.specs.declared.fault.Fault.{Fault}
-use Rattle.vt_commands.specs.declared.fault.Fault.TheVariants.{Replay, Broken, NoTimes}
-use Rattle.vt_commands.specs.declared.requests.Outcome.{Outcome}
-use Rattle.vt_commands.specs.Words.{WordTable}
+use Rattle.vt_recording.specs.declared.fault.Fault.{Fault}
+use Rattle.vt_recording.specs.declared.fault.Fault.TheVariants as fault
+use Rattle.vt_recording.specs.Reading.{ReadTable}
+use Rattle.vt_replay.specs.declared.requests.Outcome.{Outcome}
+use Rattle.vt_replay.specs.Words.{WordTable}
 
 -- the encoding that was asked for, otherwise dec
 abbrev pub encoding_wanted : Option Encoding → Encoding
 encoding_wanted (Some encoding) = encoding
 encoding_wanted None = Dec
 
--- the encoding of a recording by asciinema, where none was asked for. A trace and a summary read no UTF-8
+-- the encoding of a recording by asciinema, if none was asked for. A trace and a summary read no UTF-8
 abbrev pub cast_encoding : Word → Encoding
 cast_encoding (word.Replay what) = Utf8
 cast_encoding word.Log = Utf8
@@ -55,28 +50,28 @@ is_streamed format.Script until = false
 is_streamed format.Ttyrec until = false
 is_streamed format.Asciicast until = false
 
--- how a request ends: a fault of the replay comes first, then that the recording is broken
-abbrev pub ended_of : (broken : Option Break) → Result (Unit {0}) ReplayFault → Result (Unit {0}) Fault
+-- how a request ends: a fault of the word comes first, then that the recording is broken
+abbrev pub ended_of : (broken : Option Break) → Result (Unit {0}) Fault → Result (Unit {0}) Fault
 ended_of None (Ok u) = Ok u
-ended_of (Some place) (Ok u) = Err (Broken place)
-ended_of broken (Err fault) = Err (Replay fault)
+ended_of (Some place) (Ok u) = Err (fault.Broken place)
+ended_of broken (Err fault) = Err fault
 
 -- the word was carried out on the input as it came
 pub record IsStreamed (o : Outcome) (r : Request) (b w : List ℕ) (f : Flags) : Type 0 where
-  pub played : Result (Unit {0}) ReplayFault
-  pub table : WordTable played r.word r.terminal (encoding_wanted r.encoding) r.piece b w f r.limit
-  pub ended : o.ended ≡ ended_of None played
+  pub table : WordTable o.ended r.word r.terminal (encoding_wanted r.encoding) r.piece b w f r.limit
   pub none_replaced : o.replaced ≡ 0
 
 -- how much of a recording's content was played: all of it, unless there was no memory, a write failed, or it is longer than
 -- the limit. It is in memory, so it can't be that a read failed
-abbrev pub AllPlayed : Result (Unit {0}) ReplayFault → (limit : ℕ) → (c rest : List ℕ) → Type 0
+abbrev pub AllPlayed : Result (Unit {0}) Fault → (limit : ℕ) → (c rest : List ℕ) → Type 0
 AllPlayed (Ok u) limit c rest = rest ≡ []
-AllPlayed (Err replay.Memory) limit c rest = ⊤
-AllPlayed (Err replay.Partial) limit c rest = rest ≡ []
-AllPlayed (Err replay.Read) limit c rest = ⊥
-AllPlayed (Err replay.Write) limit c rest = ⊤
-AllPlayed (Err replay.TooLong) limit c rest = limit < length c
+AllPlayed (Err fault.Memory) limit c rest = ⊤
+AllPlayed (Err fault.Partial) limit c rest = rest ≡ []
+AllPlayed (Err fault.Read) limit c rest = ⊥
+AllPlayed (Err fault.Write) limit c rest = ⊤
+AllPlayed (Err fault.TooLong) limit c rest = limit < length c
+AllPlayed (Err (fault.Broken place)) limit c rest = ⊥
+AllPlayed (Err fault.NoTimes) limit c rest = ⊥
 
 -- the word was carried out on the content of a recording, of which c was played, from memory
 pub record IsPlayed (o : Outcome) (r : Request) (encoding : Encoding) (content : List ℕ) (broken : Option Break) (replaced : ℕ) (w : List ℕ)
@@ -86,7 +81,7 @@ pub record IsPlayed (o : Outcome) (r : Request) (encoding : Encoding) (content :
   pub joined : content ≡ c ++ rest
   pub at_end : Bool
   pub none_left : at_end ≡ true → rest ≡ []
-  pub played : Result (Unit {0}) ReplayFault
+  pub played : Result (Unit {0}) Fault
   pub whole : AllPlayed played r.limit c rest
   pub table : WordTable played r.word r.terminal encoding r.piece c w (record { reader_failed = false; reader_ended = at_end; writer_failed = writer_failed }) r.limit
   pub ended : o.ended ≡ ended_of broken played
@@ -103,27 +98,11 @@ pub record IsTakenApart (o : Outcome) (r : Request) (format : Format) (timing : 
   pub taken : IsTaken format (encoding_of r.encoding r.word format) r.until timing b content broken replaced
   pub played : IsPlayed o r (encoding_of r.encoding r.word format) content broken replaced w f.writer_failed
 
--- why an input wasn't read whole or taken apart
-abbrev pub UnreadTable : ReplayFault → (b : List ℕ) → (failed ended : Bool) → (limit : ℕ) → Type 0
-UnreadTable replay.Memory b failed ended limit = (failed ≡ false) × (length b ≤ limit + 1)
-UnreadTable replay.Partial b failed ended limit = ⊥
-UnreadTable replay.Read b failed ended limit = (failed ≡ true) × (ended ≡ false) × (length b ≤ limit)
-UnreadTable replay.Write b failed ended limit = ⊥
-UnreadTable replay.TooLong b failed ended limit = (failed ≡ false) × (ended ≡ false) × (length b ≡ limit + 1)
-
--- what each answer of the reading of a timing file says, b being the bytes read
-abbrev pub TimingTable : Result (Vec ℕ Global) Fault → (b : List ℕ) → (failed ended : Bool) → (limit : ℕ) → Type 0
-TimingTable (Ok bytes) b failed ended limit = (failed ≡ false) × (ended ≡ true) × (length b ≤ limit)
-    × (bytes.items ≡ b)
-TimingTable (Err (Replay fault)) b failed ended limit = UnreadTable fault b failed ended limit
-TimingTable (Err (Broken place)) b failed ended limit = ⊥
-TimingTable (Err NoTimes) b failed ended limit = ⊥
-
 -- the input wasn't read whole or taken apart, and nothing was written
 pub record IsUnread (o : Outcome) (r : Request) (b w : List ℕ) (f : Flags) : Type 0 where
-  pub fault : ReplayFault
-  pub why : UnreadTable fault b f.reader_failed f.reader_ended r.limit
-  pub ended : o.ended ≡ Err (Replay fault)
+  pub fault : Fault
+  pub why : ReadTable (Err fault) b f.reader_failed f.reader_ended r.limit
+  pub ended : o.ended ≡ Err fault
   pub none_replaced : o.replaced ≡ 0
   pub nothing : w ≡ []
   pub writer_works : f.writer_failed ≡ false
@@ -156,9 +135,3 @@ lacks_times format.Ttyrec timed (Some (Micros n)) = false
 lacks_times format.Asciicast timed (Some (Micros n)) = false
 lacks_times format timed (Some (Bytes n)) = false
 lacks_times format timed None = false
-
--- the fault of a replay for one of the reading; private contracts alone speak of this
-abbrev pub unread_fault : Unread → ReplayFault
-unread_fault unread.Memory = replay.Memory
-unread_fault unread.Read = replay.Read
-unread_fault unread.TooLong = replay.TooLong

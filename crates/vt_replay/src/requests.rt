@@ -1,24 +1,25 @@
 //! A request, carried out by its word.
 ghost use Rattle.std.specs.Prelude.{◌≡◌, ◌≤◌, true, false, Err, option_map};
 ghost use Rattle.std.specs.Io.KnownBytes.{IsAtEnd};
-ghost use Rattle.vt_device.specs.Runs.{Moves, Takes};
+ghost use Rattle.vt_device.specs.Runs.{Moves};
 ghost use Rattle.vt_device.specs.Writing.{Gives};
 ghost use Rattle.vt_replay.specs.Output.{OutputTable, EncodedTable, always};
-ghost use Rattle.vt_commands.specs.Words.{WordTable, pages_written, trace_written, trace_ending, all, nothing};
+ghost use Rattle.vt_trace.specs.Summary.{summary};
+ghost use Rattle.vt_replay.specs.Words.{WordTable, pages_written, trace_written, trace_ending, all, nothing};
 ghost use Rattle.vt_replay.specs.Log.{screen};
-ghost use Rattle.vt_commands.specs.declared.fault.Fault.TheVariants.{Replay};
-ghost use Rattle.vt_commands.specs.Request.{encoding_wanted, cast_encoding, encoding_of, is_streamed, format_of, lacks_times, unread_fault, ended_of, IsStreamed, IsPlayed, OutcomeTable, TimingTable};
+ghost use Rattle.vt_replay.specs.Request.{encoding_wanted, cast_encoding, encoding_of, is_streamed, format_of, lacks_times, ended_of, IsStreamed, IsPlayed, OutcomeTable};
 
-use crate::counting::write_summary;
-use crate::fault::Fault;
-use crate::outputs::{ContentOutput, PageOutput, TraceOutput};
+use crate::engine::run_from;
+use crate::language::Language;
+use crate::logging::write_log_from;
+use crate::output::write_output_from;
+use crate::outputs::{ContentOutput, PageOutput, SummaryOutput, TraceOutput};
 use std::alloc::{AllocError, Global};
 use std::io::{Read, Write};
 use vt_cli::{Encoding, Format, Moment, Request, Word};
 use vt_device::{Source, Watched};
 use vt_log::laws::pages_cut;
-use vt_recording::{Break, Content, Detected, Taken, detect, read_recording, take_apart};
-use vt_replay::{Language, run_from, write_log_from, write_output_from};
+use vt_recording::{Break, Content, Detected, Fault, Taken, detect, read_recording, take_apart};
 use vt_term::laws::soundness;
 
 /// Plays the reader's bytes on a new terminal, and writes its log with pages.
@@ -29,7 +30,7 @@ fn write_pages<S: Source, W: Write>(
     encoding: Encoding,
     piece: usize,
     limit: u64,
-) -> Result<(), vt_replay::Fault>
+) -> Result<(), Fault>
     requires reader_works { S.failed reader.old ≡ false }
     requires reader_goes_on { S.ended reader.old ≡ false }
     requires writer_works { writer.old.failed ≡ false }
@@ -53,7 +54,7 @@ fn write_trace<S: Source, W: Write>(
     writer: &mut Watched<W>,
     piece: usize,
     limit: u64,
-) -> Result<(), vt_replay::Fault>
+) -> Result<(), Fault>
     requires reader_works { S.failed reader.old ≡ false }
     requires reader_goes_on { S.ended reader.old ≡ false }
     requires writer_works { writer.old.failed ≡ false }
@@ -76,6 +77,36 @@ fn write_trace<S: Source, W: Write>(
     )
 }
 
+/// Counts the events of the reader's bytes, and writes their summary at the end.
+fn write_summary<S: Source, W: Write>(
+    alloc: Global,
+    reader: &mut S,
+    writer: &mut Watched<W>,
+    piece: usize,
+    limit: u64,
+) -> Result<(), Fault>
+    requires reader_works { S.failed reader.old ≡ false }
+    requires reader_goes_on { S.ended reader.old ≡ false }
+    requires writer_works { writer.old.failed ≡ false }
+    requires piece_in_range { (1 ≤ piece) × (piece ≤ 65536) }
+    requires limit_in_range { limit ≤ 1099511627776 }
+    ensures answer { Moves (S.remaining reader.old) (S.remaining reader.new) (W.contents writer.old.device)
+        (W.contents writer.new.device)
+        (λ b w. OutputTable nothing summary always result piece b w (record { reader_failed = S.failed reader.new; reader_ended = S.ended reader.new; writer_failed = writer.new.failed }) limit) }
+    ensures whole { S.ended reader.new ≡ true → IsAtEnd (S.remaining reader.new) }
+{
+    let mut output = SummaryOutput::new(alloc)?;
+    write_output_from(
+        alloc,
+        &mut output,
+        Encoding::Dec,
+        reader,
+        writer,
+        piece,
+        limit,
+    )
+}
+
 /// Writes the reader's bytes.
 fn write_content<S: Source, W: Write>(
     alloc: Global,
@@ -84,7 +115,7 @@ fn write_content<S: Source, W: Write>(
     encoding: Encoding,
     piece: usize,
     limit: u64,
-) -> Result<(), vt_replay::Fault>
+) -> Result<(), Fault>
     requires reader_works { S.failed reader.old ≡ false }
     requires reader_goes_on { S.ended reader.old ≡ false }
     requires writer_works { writer.old.failed ≡ false }
@@ -107,7 +138,7 @@ fn carry_out_word<S: Source, W: Write>(
     writer: &mut Watched<W>,
     encoding: Encoding,
     request: &Request,
-) -> Result<(), vt_replay::Fault>
+) -> Result<(), Fault>
     requires reader_works { S.failed reader.old ≡ false }
     requires reader_goes_on { S.ended reader.old ≡ false }
     requires writer_works { writer.old.failed ≡ false }
@@ -149,7 +180,7 @@ fn encoding_wanted(wanted: Option<Encoding>) -> Encoding
     }
 }
 
-/// Returns the encoding of a recording by asciinema, where none was asked for. A trace and a summary read no UTF-8.
+/// Returns the encoding of a recording by asciinema, if none was asked for. A trace and a summary read no UTF-8.
 fn cast_encoding(word: Word) -> Encoding
     ensures { result ≡ cast_encoding word }
 {
@@ -181,39 +212,8 @@ fn is_streamed(format: Format, until: Option<Moment>) -> bool
     }
 }
 
-/// Returns the fault of a replay for one of the reading.
-fn unread_fault(fault: vt_recording::Fault) -> vt_replay::Fault
-    ensures { result ≡ unread_fault fault }
-{
-    match fault {
-        vt_recording::Fault::Memory => vt_replay::Fault::Memory,
-        vt_recording::Fault::Read => vt_replay::Fault::Read,
-        vt_recording::Fault::TooLong => vt_replay::Fault::TooLong,
-    }
-}
-
-/// Reads a timing file whole, of at most `limit` bytes (up to 2 to the 40th). The reader hasn't failed or ended before.
-///
-/// `Err` is `Memory` if allocation fails, `Read` if the reader failed, and `TooLong` if it has more than `limit` bytes.
-pub fn read_timing<R: Read>(
-    alloc: Global,
-    reader: &mut Watched<R>,
-    limit: u64,
-) -> Result<Vec<u8>, Fault>
-    requires works { reader.old.failed ≡ false }
-    requires goes_on { reader.old.ended ≡ false }
-    requires limit_in_range { limit ≤ 1099511627776 }
-    ensures takes { Takes (R.remaining reader.old.device) (R.remaining reader.new.device)
-        (λ b. TimingTable result b reader.new.failed reader.new.ended limit) }
-{
-    match read_recording(alloc, reader, limit as usize) {
-        Ok(bytes) => Ok(bytes),
-        Err(fault) => Err(Fault::Replay(unread_fault(fault))),
-    }
-}
-
 /// Returns how a request ends whose word ended so, on a recording that is broken there.
-fn ended_of(broken: Option<Break>, played: Result<(), vt_replay::Fault>) -> Result<(), Fault>
+fn ended_of(broken: Option<Break>, played: Result<(), Fault>) -> Result<(), Fault>
     ensures { result ≡ ended_of broken played }
 {
     match played {
@@ -221,18 +221,18 @@ fn ended_of(broken: Option<Break>, played: Result<(), vt_replay::Fault>) -> Resu
             None => Ok(()),
             Some(place) => Err(Fault::Broken(place)),
         },
-        Err(fault) => Err(Fault::Replay(fault)),
+        Err(fault) => Err(fault),
     }
 }
 
 /// Returns the outcome of a request whose input wasn't read whole or taken apart.
-fn unread(fault: vt_replay::Fault) -> Outcome
-    ensures ended { result.ended ≡ Err (Replay fault) }
+fn unread(fault: Fault) -> Outcome
+    ensures ended { result.ended ≡ Err fault }
     ensures none_replaced { result.replaced ≡ 0 }
 {
     Outcome {
         replaced: 0,
-        ended: Err(Fault::Replay(fault)),
+        ended: Err(fault),
     }
 }
 
@@ -301,10 +301,10 @@ pub fn carry_out<R: Read, W: Write>(
             let encoding = encoding_of(request.encoding, request.word, format);
             match take_apart(alloc, &bytes, timing, format, encoding, request.until) {
                 Ok(taken) => play_taken(alloc, taken, encoding, writer, request),
-                Err(AllocError) => unread(vt_replay::Fault::Memory),
+                Err(AllocError) => unread(Fault::Memory),
             }
         }
-        Err(fault) => unread(unread_fault(fault)),
+        Err(fault) => unread(fault),
     }
 }
 
@@ -324,10 +324,9 @@ fn stream<R: Read, W: Write>(
     ensures whole { reader.new.ended ≡ true → IsAtEnd (R.remaining reader.new.device) }
 {
     let encoding = encoding_wanted(request.encoding);
-    let played = carry_out_word(alloc, reader, writer, encoding, request);
     Outcome {
         replaced: 0,
-        ended: ended_of(None, played),
+        ended: carry_out_word(alloc, reader, writer, encoding, request),
     }
 }
 

@@ -12,7 +12,7 @@ use Rattle.vt_syntax.specs.Laws.{SplitLaw, ControlLaw}
 use Rattle.vt_term.specs.State.{State}
 use Rattle.vt_term.specs.Sound.{IsSound}
 use Rattle.vt_term.specs.Play.{Played, play, both}
-use Rattle.vt_log.specs.Log.{log}
+use Rattle.vt_term.specs.Scrolling.{log}
 use Rattle.vt_utf8.specs.Translation.{translation, IsPlain}
 use Rattle.vt_utf8.specs.Decoding.{pending_after}
 use Rattle.vt_utf8.specs.Play.{translated_all, translated, play_utf8}

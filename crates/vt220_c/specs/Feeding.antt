@@ -3,7 +3,7 @@
 use Rattle.std.specs.Prelude.{◌≡◌, ◌+◌, ◌≤◌, ◌++◌, ℕ, List, [], Bool, true, false, length, take, drop, if◌then◌else◌}
 use Rattle.vt_term.specs.State.{State}
 use Rattle.vt_term.specs.Play.{play}
-use Rattle.vt_log.specs.Log.{log}
+use Rattle.vt_term.specs.Scrolling.{log}
 use Rattle.vt220_c.specs.Bells.{bells}
 use Rattle.vt220_c.specs.Written.{written_over}
 

@@ -3,7 +3,7 @@ ghost use Rattle.std.specs.Prelude.{◌≡◌, ◌↔◌, ◌⊎◌, ◌+◌, �
 ghost use Rattle.std.specs.Str.{IsAscii};
 ghost use Rattle.vt_syntax.specs.declared.held.Held.TheVariants.{Nothing};
 ghost use Rattle.vt_term.specs.Play.{play};
-ghost use Rattle.vt_log.specs.Log.{log};
+ghost use Rattle.vt_term.specs.Scrolling.{log};
 ghost use Rattle.vt_paint.specs.Changes.{differing};
 ghost use Rattle.vt_paint.specs.Spoken.{Speaks};
 ghost use Rattle.vt_utf8.specs.Decoding.{pending_after};
@@ -19,14 +19,13 @@ use crate::inner::{CHUNK, Inner, Logged};
 use crate::translating::{UTF8_LINES_LIMIT, feed_utf8};
 use std::alloc::{AllocError, Global};
 use std::marker::Model;
-use vt_log::LINE_LIMIT;
 use vt_paint::repaint_reserved;
 use vt_picture::{PICTURE_LIMIT, picture_reserved, show_reserved};
-use vt_term::{REPORT_LIMIT, Terminal};
+use vt_term::{REPORT_LIMIT, ROW_TEXT_LIMIT, Terminal};
 use vt_update::{UPDATE_LIMIT, update_reserved};
 use vt_utf8::Decoder;
 
-const _: () = prove!(LINE_LIMIT * CHUNK <= PICTURE_LIMIT);
+const _: () = prove!(ROW_TEXT_LIMIT * CHUNK <= PICTURE_LIMIT);
 
 /// A buffer for the longest form, a picture, and a terminal on which an update is tried. Only `new` allocates.
 #[derive(Drop)]
@@ -90,7 +89,7 @@ impl Scratch {
         ensures lines_written { result.lines_written ≡ length (log inner.old (take result.taken piece.now)) }
         ensures lines { lines.new ≡ written_over (log inner.old (take result.taken piece.now)) lines.old }
         ensures all { (result.taken ≡ length piece.now) ⊎ (length out.old < result.written + REPORT_LIMIT)
-            ⊎ (length lines.old < result.lines_written + LINE_LIMIT) }
+            ⊎ (length lines.old < result.lines_written + ROW_TEXT_LIMIT) }
         ensures none { counts ≡ false → result.bells ≡ 0 }
         ensures bells { counts ≡ true → result.bells ≡ bells inner.old.held (take result.taken piece.now) }
     {

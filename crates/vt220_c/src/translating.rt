@@ -9,16 +9,14 @@ ghost use Rattle.vt_utf8.specs.Play.{translated_all, translated};
 ghost use Rattle.vt220_c.specs.Feeding.{Feeds};
 
 use crate::inner::{CHUNK, Inner, Logged};
-use vt_log::LINE_LIMIT;
-use vt_log::laws::cuts as log_cuts;
 use vt_syntax::laws::{controls, one_split};
-use vt_term::REPORT_LIMIT;
-use vt_term::laws::cuts;
+use vt_term::laws::{cuts, log_cuts};
+use vt_term::{REPORT_LIMIT, ROW_TEXT_LIMIT};
 use vt_utf8::laws::{ascii, cuts as utf8_cuts, one_byte, silence};
 use vt_utf8::{BYTE_LIMIT, Decoder, TRANSLATION_LIMIT, ascii_run, translated};
 
 /// The most bytes of lines for one byte of UTF-8.
-pub(crate) const UTF8_LINES_LIMIT: usize = BYTE_LIMIT * LINE_LIMIT;
+pub(crate) const UTF8_LINES_LIMIT: usize = BYTE_LIMIT * ROW_TEXT_LIMIT;
 
 const _: () = prove!(UTF8_LINES_LIMIT == 17468);
 
@@ -36,16 +34,16 @@ fn feed_behind(
 ) -> Logged
     requires out { written ≤ length out.old }
     requires lines { lines_written ≤ length lines.old }
-    requires capacity { logs ≡ true → LINE_LIMIT * CHUNK ≤ vec_capacity room.old }
+    requires capacity { logs ≡ true → ROW_TEXT_LIMIT * CHUNK ≤ vec_capacity room.old }
     ensures within { result.taken ≤ length bytes.now }
     ensures fed { Feeds logs counts inner.old (take result.taken bytes.now) inner.new out.old written out.new
         lines.old lines_written lines.new result.written result.lines_written result.bells }
     ensures all { (result.taken ≡ length bytes.now) ⊎ (length out.old < written + result.written + REPORT_LIMIT)
-        ⊎ ((logs ≡ true) × (length lines.old < lines_written + result.lines_written + LINE_LIMIT)) }
+        ⊎ ((logs ≡ true) × (length lines.old < lines_written + result.lines_written + ROW_TEXT_LIMIT)) }
     ensures fits { written + result.written ≤ length out.old }
     ensures lines_fit { lines_written + result.lines_written ≤ length lines.old }
     ensures few { result.written ≤ REPORT_LIMIT * result.taken }
-    ensures few_lines { result.lines_written ≤ LINE_LIMIT * result.taken }
+    ensures few_lines { result.lines_written ≤ ROW_TEXT_LIMIT * result.taken }
     ensures few_bells { result.bells ≤ result.taken }
     ensures capacity { vec_capacity room.old ≤ vec_capacity room.new }
 {
@@ -77,13 +75,13 @@ fn feed_character(
 ) -> Logged
     requires out { written + REPORT_LIMIT ≤ length out.old }
     requires lines { lines_written ≤ length lines.old }
-    requires lines_room { logs ≡ true → lines_written + TRANSLATION_LIMIT * LINE_LIMIT ≤ length lines.old }
-    requires capacity { logs ≡ true → LINE_LIMIT * CHUNK ≤ vec_capacity room.old }
+    requires lines_room { logs ≡ true → lines_written + TRANSLATION_LIMIT * ROW_TEXT_LIMIT ≤ length lines.old }
+    requires capacity { logs ≡ true → ROW_TEXT_LIMIT * CHUNK ≤ vec_capacity room.old }
     ensures fed { Feeds logs counts inner.old (translated_all inner.old (option_to_list character)) inner.new out.old written
         out.new lines.old lines_written lines.new result.written result.lines_written result.bells }
     ensures fits { written + result.written ≤ length out.old }
     ensures lines_fit { lines_written + result.lines_written ≤ length lines.old }
-    ensures few_lines { result.lines_written ≤ TRANSLATION_LIMIT * LINE_LIMIT }
+    ensures few_lines { result.lines_written ≤ TRANSLATION_LIMIT * ROW_TEXT_LIMIT }
     ensures few_bells { result.bells ≤ 1 }
     ensures silent { IfSome character (λ c. 0x80 ≤ c) → (result.written ≡ 0) × (result.bells ≡ 0) }
     ensures capacity { vec_capacity room.old ≤ vec_capacity room.new }
@@ -123,7 +121,7 @@ fn feed_byte(
     requires out { written + REPORT_LIMIT ≤ length out.old }
     requires lines { lines_written ≤ length lines.old }
     requires lines_room { logs ≡ true → lines_written + UTF8_LINES_LIMIT ≤ length lines.old }
-    requires capacity { logs ≡ true → LINE_LIMIT * CHUNK ≤ vec_capacity room.old }
+    requires capacity { logs ≡ true → ROW_TEXT_LIMIT * CHUNK ≤ vec_capacity room.old }
     ensures one { result.taken ≡ 1 }
     ensures fed { Feeds logs counts inner.old (translated inner.old decoder.old (b ∷ [])) inner.new out.old written
         out.new lines.old lines_written lines.new result.written result.lines_written result.bells }
@@ -217,7 +215,7 @@ fn feed_front(
     requires out { written + REPORT_LIMIT ≤ length out.old }
     requires lines { lines_written ≤ length lines.old }
     requires lines_room { logs ≡ true → lines_written + UTF8_LINES_LIMIT ≤ length lines.old }
-    requires capacity { logs ≡ true → LINE_LIMIT * CHUNK ≤ vec_capacity room.old }
+    requires capacity { logs ≡ true → ROW_TEXT_LIMIT * CHUNK ≤ vec_capacity room.old }
     ensures some { 1 ≤ result.taken }
     ensures within { result.taken ≤ length piece.now }
     ensures fed { Feeds logs counts inner.old (translated inner.old decoder.old (take result.taken piece.now)) inner.new
@@ -282,7 +280,7 @@ pub(crate) fn feed_utf8(
     lines: &mut [u8],
     room: &mut Vec<u8>,
 ) -> Logged
-    requires capacity { logs ≡ true → LINE_LIMIT * CHUNK ≤ vec_capacity room.old }
+    requires capacity { logs ≡ true → ROW_TEXT_LIMIT * CHUNK ≤ vec_capacity room.old }
     ensures within { result.taken ≤ length piece.now }
     ensures fed { Feeds logs counts inner.old (translated inner.old decoder.old (take result.taken piece.now)) inner.new
         out.old 0 out.new lines.old 0 lines.new result.written result.lines_written result.bells }

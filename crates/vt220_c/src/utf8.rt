@@ -1,7 +1,7 @@
 //! UTF-8 for C: what is pending, how a character is shown, and calls that play UTF-8.
 ghost use Rattle.std.specs.Prelude.{◌≡◌, ◌+◌, ◌≤◌, ◌<◌, ◌⊎◌, true, false, length, take, IfSome, is_some};
 ghost use Rattle.std.specs.declared.option.Option.TheVariants.{None, Some};
-ghost use Rattle.vt_log.specs.Log.{log};
+ghost use Rattle.vt_term.specs.Scrolling.{log};
 ghost use Rattle.vt_utf8.specs.Decoding.{pending_after};
 ghost use Rattle.vt_utf8.specs.Play.{translated, play_utf8};
 ghost use Rattle.vt220_c.specs.Bells.{bells};

@@ -1,3 +1,2 @@
-mod Lines
 mod PageLines
 mod Blanked

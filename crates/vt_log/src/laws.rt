@@ -5,20 +5,10 @@ ghost use Rattle.vt_term.specs.State.{Display, State};
 ghost use Rattle.vt_term.specs.Functions.{effect};
 ghost use Rattle.vt_term.specs.Sound.{IsSound};
 ghost use Rattle.vt_term.specs.Play.{play};
-ghost use Rattle.vt_log.specs.Log.{log};
 ghost use Rattle.vt_log.specs.Pages.{pages, blanks_screen, IsBlank};
 
 use vt_screen::laws::places;
 use vt_syntax::laws::one_split;
-use vt_term::laws::cuts as played_cuts;
-
-/// Bytes may be cut anywhere: the lines of pieces in turn are those of the pieces joined.
-pub fn cuts()
-    ensures none { (s : State) → IsSound s → log s [] ≡ [] }
-    ensures two { (s : State) (a b : List ℕ) → log s (a ++ b) ≡ log s a ++ log (play s a).state b }
-{
-    played_cuts();
-}
 
 /// Bytes may be cut anywhere: the lines and pages of pieces in turn are those of the pieces joined.
 pub fn pages_cut()

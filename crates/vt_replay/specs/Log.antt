@@ -4,7 +4,7 @@ use Rattle.vt_device.specs.Runs.{Flags}
 use Rattle.vt_term.specs.State.{power_up}
 use Rattle.vt_term.specs.Play.{play}
 use Rattle.vt_term.specs.Text.{text}
-use Rattle.vt_log.specs.Log.{log}
+use Rattle.vt_term.specs.Scrolling.{log}
 use Rattle.vt_recording.specs.declared.fault.Fault.{Fault}
 use Rattle.vt_replay.specs.Output.{OutputTable, always}
 

@@ -4,7 +4,7 @@ ghost use Rattle.std.specs.Io.KnownBytes.{IsAtEnd};
 ghost use Rattle.vt_term.specs.State.{power_up};
 ghost use Rattle.vt_term.specs.Play.{play};
 ghost use Rattle.vt_term.specs.Text.{text};
-ghost use Rattle.vt_log.specs.Log.{log};
+ghost use Rattle.vt_term.specs.Scrolling.{log};
 ghost use Rattle.vt_device.specs.Runs.{Moves};
 ghost use Rattle.vt_replay.specs.Log.{LogTable, lines, screen};
 ghost use Rattle.vt_replay.specs.Output.{EncodedTable, always};
@@ -14,14 +14,12 @@ use std::alloc::{AllocError, Global};
 use std::io::{Read, Write};
 use vt_cli::Encoding;
 use vt_device::{Source, Watched};
-use vt_log::laws::cuts as log_cuts;
-use vt_log::{LINE_LIMIT, feed_log_reserved};
 use vt_recording::Fault;
-use vt_term::laws::{cuts, soundness};
-use vt_term::{REPORT_LIMIT, TEXT_LIMIT, Terminal};
+use vt_term::laws::{cuts, log_cuts, soundness};
+use vt_term::{REPORT_LIMIT, ROW_TEXT_LIMIT, TEXT_LIMIT, Terminal};
 
 /// The capacity for lines between two writes: 64 lines, more than a screen.
-const LINES_LIMIT: usize = 64 * LINE_LIMIT;
+const LINES_LIMIT: usize = 64 * ROW_TEXT_LIMIT;
 
 const _: () = prove!(TEXT_LIMIT <= LINES_LIMIT);
 
@@ -130,7 +128,7 @@ impl Output for LogOutput {
         soundness();
         self.reports.clear();
         let count = front_for(chunk, &self.reports);
-        feed_log_reserved(&mut self.terminal, &chunk[..count], &mut self.reports, out)
+        self.terminal.feed_log_reserved(&chunk[..count], &mut self.reports, out)
     }
 
     fn is_there(&self) -> bool {

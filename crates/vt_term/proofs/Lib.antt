@@ -2,7 +2,7 @@ mod Stops
 mod Areas
 mod PowerUp
 mod Cuts
-mod Lines
+mod RowTexts
 mod Runs
 pub mod Bytes
 mod GlyphSizes

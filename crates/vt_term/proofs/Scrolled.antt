@@ -7,16 +7,20 @@ use Rattle.vt_syntax.specs.declared.event.Event.{Event}
 use Rattle.vt_syntax.specs.declared.event.Event.TheVariants.{Print}
 use Rattle.vt_syntax.specs.declared.held.Held.TheVariants.{Nothing}
 use Rattle.vt_syntax.specs.Held.{events_from}
-use Rattle.vt_syntax.specs.Laws.{SpellingLaw}
+use Rattle.vt_syntax.specs.Laws.{SpellingLaw, SplitLaw}
 use Rattle.vt_glyph.specs.Invocation.{HasGlyph, glyph_read, after_read}
 use Rattle.vt_screen.specs.declared.cell.Cell.{Cell}
 use Rattle.vt_term.specs.State.{Display, State}
 use Rattle.vt_term.specs.Functions.{effect}
 use Rattle.vt_term.specs.Writing.{write_if_read, put_glyph}
-use Rattle.vt_term.specs.Scrolling.{line_off, lines_off, scrolled_off}
+use Rattle.vt_term.specs.Scrolling.{line_off, lines_off, scrolled_off, log}
 use Rattle.vt_term.specs.ScrollSteps.{EndInRow, Fits, Logs}
 use Rattle.vt_term.specs.Text.{line_text}
+use Rattle.vt_term.specs.Sound.{IsSound}
+use Rattle.vt_term.specs.Play.{play}
+use Rattle.vt_term.specs.Observers.{scrolled-append, scrolled-nothing}
 use Rattle.std.specs.List.{flat_map}
+use Rattle.std.proofs.lemmas.Grind.{flat_map-append}
 use Rattle.vt_term.proofs.Bytes.{graphic-events}
 
 pub on-true : (r : Bool) (P : Type 0) → (r ≡ true → P) → OnTrue r P
@@ -37,6 +41,18 @@ one-line s bytes event is = rw is (append-nil (line_off event s.display))
 pub logs-one : (s : State) (bytes xs ys : List ℕ) (rows : List (List Cell)) → 1 ≤ length bytes
     → scrolled_off s bytes ≡ rows → ys ≡ xs ++ flat_map line_text rows → length ys ≤ length xs + 397 → Logs s bytes xs ys
 logs-one s bytes xs ys rows some is told few = record { lines = rw is told; bounded = omega (arith, some, few) }
+
+-- ---- the texts of the lines
+
+pub log-append : SplitLaw → (s : State) (a b : List ℕ) → log s (a ++ b) ≡ log s a ++ log (play s a).state b
+unfolding log
+log-append split s a b =
+    ap (λ (rows : List (List Cell)). flat_map line_text rows) (scrolled-append split s a b)
+    ∙ flat_map-append line_text (scrolled_off s a) (scrolled_off (play s a).state b)
+
+pub log-nothing : SplitLaw → (s : State) → IsSound s → log s [] ≡ []
+unfolding log
+log-nothing split s sound = ap (λ (rows : List (List Cell)). flat_map line_text rows) (scrolled-nothing split s sound)
 
 -- ---- characters
 

@@ -1,5 +1,5 @@
 -- The lines that scroll off the top of the screen. (EK-VT220-RM: IND, NEL, LF and DECAWM)
-use Rattle.std.specs.Prelude.{ℕ, List, [], ◌∷◌, ◌++◌, Bool, false, ◌==◌, ◌||◌, ◌&&◌, not, if◌then◌else◌}
+use Rattle.std.specs.Prelude.{ℕ, List, [], ◌∷◌, ◌++◌, Bool, false, ◌==◌, ◌||◌, ◌&&◌, not, if◌then◌else◌, flat_map}
 use Rattle.vt_syntax.specs.declared.event.Event.{Event}
 use Rattle.vt_syntax.specs.declared.event.Event.TheVariants.{Print, Control, Escape, Sequence}
 use Rattle.vt_syntax.specs.Held.{events_from}
@@ -8,6 +8,7 @@ use Rattle.vt_screen.specs.declared.cell.Cell.{Cell}
 use Rattle.vt_screen.specs.Grid.{row_of}
 use Rattle.vt_term.specs.State.{Display, State}
 use Rattle.vt_term.specs.Functions.{effect}
+use Rattle.vt_term.specs.Text.{line_text}
 
 -- LF, VT, FF, IND and NEL
 abbrev pub is_line_feed : ℕ → Bool
@@ -39,3 +40,7 @@ lines_off (event ∷ events) s = line_off event s ++ lines_off events (effect ev
 -- the lines of bytes after what is held
 unfoldable pub scrolled_off : State → List ℕ → List (List Cell)
 scrolled_off s bytes = lines_off (events_from s.held bytes) s.display
+
+-- the log of bytes: the texts of these lines. (this profile)
+unfoldable pub log : State → List ℕ → List ℕ
+log s bytes = flat_map line_text (scrolled_off s bytes)

@@ -10,7 +10,7 @@ ghost use Rattle.vt_term.specs.Writing.{put_glyph, write_if_read};
 ghost use Rattle.vt_term.specs.Scrolling.{is_line_feed, is_at_end, scrolls_off};
 ghost use Rattle.vt_term.specs.State.{State, power_up};
 ghost use Rattle.vt_term.specs.Sound.{IsSound};
-ghost use Rattle.vt_term.specs.Scrolling.{scrolled_off};
+ghost use Rattle.vt_term.specs.Scrolling.{scrolled_off, log};
 ghost use Rattle.vt_term.specs.Play.{play, both, play_all, joined};
 
 use vt_glyph::laws::{glyphs, soundness as sets_soundness};
@@ -37,6 +37,14 @@ pub fn cuts()
 {
     one_split();
     soundness();
+}
+
+/// States that the log of chunks in turn is the log of the chunks joined.
+pub fn log_cuts()
+    ensures none { (s : State) → IsSound s → log s [] ≡ [] }
+    ensures two { (s : State) (a b : List ℕ) → log s (a ++ b) ≡ log s a ++ log (play s a).state b }
+{
+    one_split();
 }
 
 /// States what the events do that scroll line 1 off: the rows up to the bottom margin move up by one. A line feed does nothing

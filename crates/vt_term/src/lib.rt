@@ -32,6 +32,7 @@ pub use display::{ROWS, STOPS, stops_at_power_up};
 pub use functions::count;
 pub use observing::{Both, Observer};
 pub use page::Page;
+pub use scrolling::Lines;
 pub use state::{Cursor, Margins, Modes, Saved};
 pub use terminal::{REPORT_LIMIT, ROW_TEXT_LIMIT, TEXT_LIMIT, Terminal};
 pub use unseen::Passed;

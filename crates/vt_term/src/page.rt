@@ -54,6 +54,14 @@ impl Page {
         self.screen.set_width(wide);
     }
 
+    /// Makes the page equal to another one. It never fails and allocates nothing.
+    pub fn copy_from(&mut self, other: &Page)
+        ensures { self.new ≡ other.now }
+    {
+        self.screen.copy_from(&other.screen);
+        self.saved = other.saved;
+    }
+
     /// Gives the page a width. If it has another one, it changes as by DECCOLM.
     fn fit(&mut self, width: usize)
         requires { (wide : Bool) × (width ≡ columns wide) }

@@ -1,18 +1,19 @@
 //! Feeding with the lines that scroll off the top of the screen.
 ghost use Rattle.std.specs.Prelude.{◌≡◌, ◌+◌, ◌*◌, ◌≤◌, ◌<◌, ◌++◌, ◌&&◌, ℕ, List, true, false, length, take};
 ghost use Rattle.std.specs.Prelude.{flat_map};
-ghost use Rattle.std.specs.Prelude.{vec_len, vec_capacity};
+ghost use Rattle.std.specs.Prelude.{vec_len, vec_capacity, OnOk, OnErr, IsOk};
 ghost use Rattle.std.specs.Bool.{OnTrue, OnFalse};
 ghost use Rattle.vt_glyph.specs.Invocation.{has_no_glyph};
 ghost use Rattle.vt_syntax.specs.Event.{event_of};
 ghost use Rattle.vt_term.specs.Play.{play};
-ghost use Rattle.vt_term.specs.Scrolling.{is_at_end, is_line_feed, feeds_line, scrolls_off, scrolled_off, line_off};
+ghost use Rattle.vt_term.specs.Scrolling.{is_at_end, is_line_feed, feeds_line, scrolls_off, line_off, log};
 ghost use Rattle.vt_term.specs.ScrollSteps.{Fits};
 ghost use Rattle.vt_term.specs.Text.{line_text};
 
 use crate::codes::{FF, HALF, IND, LF, NEL, SUB, VT};
-use crate::observing::Observer;
-use crate::terminal::{ROW_TEXT_LIMIT, Terminal};
+use crate::observing::{Nobody, Observer};
+use crate::terminal::{REPORT_LIMIT, ROW_TEXT_LIMIT, Terminal};
+use std::alloc::AllocError;
 use vt_syntax::EventKind;
 use vt_syntax::laws::spelled;
 
@@ -33,32 +34,87 @@ fn has_no_glyph(b: u8) -> bool
 }
 
 impl Terminal {
-    /// Plays the front of a chunk of the host's bytes. Appends the reports to `out`, and the text of each line that scrolls
-    /// off the top of the screen to `lines`. Returns how many bytes it played.
+    /// Plays a chunk of the host's bytes, and appends the reports to `reports` and the lines that scroll off to `lines`.
     ///
-    /// If it stops early, `lines` has fewer than `ROW_TEXT_LIMIT` bytes free, the capacity of one line. With capacity for a
-    /// line for each byte, it plays the whole chunk. `out` has capacity for ten more bytes for each byte of the chunk. It
-    /// never fails and allocates nothing.
-    pub fn feed_lines_reserved(
+    /// It first reserves ten bytes of capacity for each byte of the chunk in `reports`, and `ROW_TEXT_LIMIT` in `lines`.
+    /// Returns `Err` if that fails, or is more than any vector may hold. Then the terminal and the contents of both are
+    /// unchanged.
+    pub fn feed_log(
         &mut self,
         piece: &[u8],
-        out: &mut Vec<u8>,
+        reports: &mut Vec<u8>,
+        lines: &mut Vec<u8>,
+    ) -> Result<(), AllocError>
+        ensures state { OnOk result (self.new ≡ (play self.old piece.now).state) }
+        ensures reports { OnOk result (reports.new.items ≡ reports.old.items ++ (play self.old piece.now).reports) }
+        ensures lines { OnOk result (lines.new.items ≡ lines.old.items ++ log self.old piece.now) }
+        ensures same_state { OnErr result (self.new ≡ self.old) }
+        ensures same_reports { OnErr result (reports.new.items ≡ reports.old.items) }
+        ensures same_lines { OnErr result (lines.new.items ≡ lines.old.items) }
+        ensures reports_bounded { vec_len reports.new ≤ vec_len reports.old + 10 * length piece.now }
+        ensures lines_bounded { vec_len lines.new ≤ vec_len lines.old + ROW_TEXT_LIMIT * length piece.now }
+        ensures reports_capacity { vec_capacity reports.old ≤ vec_capacity reports.new }
+        ensures lines_capacity { vec_capacity lines.old ≤ vec_capacity lines.new }
+        ensures has_room { (vec_len reports.old + 10 * length piece.now ≤ vec_capacity reports.old)
+            × (vec_len lines.old + ROW_TEXT_LIMIT * length piece.now ≤ vec_capacity lines.old) → IsOk result }
+    {
+        let Some(reports_room) = piece.len().checked_mul(REPORT_LIMIT) else {
+            return Err(AllocError);
+        };
+        let Some(lines_room) = piece.len().checked_mul(ROW_TEXT_LIMIT) else {
+            return Err(AllocError);
+        };
+        reports.reserve(reports_room)?;
+        lines.reserve(lines_room)?;
+        self.feed_log_reserved(piece, reports, lines);
+        Ok(())
+    }
+
+    /// Plays the front of a chunk of the host's bytes, and appends the reports to `reports` and the lines that scroll off to
+    /// `lines`. Returns how many bytes it played.
+    ///
+    /// If it stops early, `lines` has fewer than `ROW_TEXT_LIMIT` bytes free, the capacity of one line. With capacity for a
+    /// line for each byte, it plays the whole chunk. `reports` has capacity for ten more bytes for each byte of the chunk. It
+    /// never fails and allocates nothing.
+    #[tactic(auto, unfolding(crate::specs::Scrolling::log))]
+    pub fn feed_log_reserved(
+        &mut self,
+        piece: &[u8],
+        reports: &mut Vec<u8>,
         lines: &mut Vec<u8>,
     ) -> usize
-        requires { vec_len out.old + 10 * length piece.now ≤ vec_capacity out.old }
+        requires { vec_len reports.old + 10 * length piece.now ≤ vec_capacity reports.old }
         ensures within { result ≤ length piece.now }
         ensures all { result < length piece.now → vec_capacity lines.new < vec_len lines.new + ROW_TEXT_LIMIT }
         ensures state { self.new ≡ (play self.old (take result piece.now)).state }
-        ensures reports { out.new.items ≡ out.old.items ++ (play self.old (take result piece.now)).reports }
-        ensures lines { lines.new.items
-            ≡ lines.old.items ++ flat_map line_text (scrolled_off self.old (take result piece.now)) }
-        ensures bounded { vec_len out.new ≤ vec_len out.old + 10 * result }
+        ensures reports { reports.new.items ≡ reports.old.items ++ (play self.old (take result piece.now)).reports }
+        ensures lines { lines.new.items ≡ lines.old.items ++ log self.old (take result piece.now) }
+        ensures reports_bounded { vec_len reports.new ≤ vec_len reports.old + 10 * result }
         ensures lines_bounded { vec_len lines.new ≤ vec_len lines.old + ROW_TEXT_LIMIT * result }
-        ensures capacity { vec_capacity out.old ≤ vec_capacity out.new }
+        ensures reports_capacity { vec_capacity reports.old ≤ vec_capacity reports.new }
         ensures lines_capacity { vec_capacity lines.old ≤ vec_capacity lines.new }
     {
-        let mut observer = Lines { lines };
-        self.feed_observed(piece, &mut observer, out)
+        let mut observer = Lines {
+            lines,
+            beside: Nobody,
+        };
+        self.feed_observed(piece, &mut observer, reports)
+    }
+
+    /// Appends the text of line 1 to `lines` if an event scrolls it off. Then `lines` has capacity for `ROW_TEXT_LIMIT` more
+    /// bytes.
+    #[inline(always)]
+    pub fn line_off_reserved(&self, kind: EventKind, lines: &mut Vec<u8>)
+        requires { (values : List ℕ) → scrolls_off (event_of kind values) self.now.display ≡ true
+            → vec_len lines.old + ROW_TEXT_LIMIT ≤ vec_capacity lines.old }
+        ensures lines { (values : List ℕ) → lines.new.items ≡ lines.old.items
+            ++ flat_map line_text (line_off (event_of kind values) self.now.display) }
+        ensures bounded { vec_len lines.new ≤ vec_len lines.old + ROW_TEXT_LIMIT }
+        ensures capacity { vec_capacity lines.old ≤ vec_capacity lines.new }
+    {
+        if self.scrolls_off(kind) {
+            self.row_text_reserved(1, lines);
+        }
     }
 
     /// Returns whether an event scrolls line 1 off the top of the screen. It does if it is a line feed at the bottom
@@ -84,9 +140,9 @@ impl Terminal {
         }
     }
 
-    /// Returns whether the cursor is at the bottom margin, and the top margin is line 1.
+    /// Returns whether the cursor is at the bottom margin, and the top margin is line 1. There a line feed scrolls line 1 off.
     #[inline(always)]
-    fn is_at_end(&self) -> bool
+    pub fn is_at_end(&self) -> bool
         ensures { result ≡ is_at_end self.now.display }
     {
         let margins = self.margins();
@@ -110,62 +166,54 @@ impl Terminal {
     }
 }
 
-/// The observer that keeps the texts of the lines that scroll off. It stops the feed before a line for which there is no
-/// capacity.
+/// Returns whether there is capacity for a line.
+#[inline(always)]
+fn has_room(lines: &Vec<u8>) -> bool
+    ensures room { OnTrue result (vec_len lines.now + ROW_TEXT_LIMIT ≤ vec_capacity lines.now) }
+    ensures full { OnFalse result (vec_capacity lines.now < vec_len lines.now + ROW_TEXT_LIMIT) }
+{
+    lines.capacity() - lines.len() >= ROW_TEXT_LIMIT
+}
+
+/// The observer that keeps the texts of the lines that scroll off, with another observer beside it. It stops the feed before a
+/// line for which there is no capacity.
 #[derive(Drop)]
-struct Lines<'a> {
-    lines: &'a mut Vec<u8>,
+pub struct Lines<'a, A: Drop> {
+    /// The texts, behind what was there before.
+    pub lines: &'a mut Vec<u8>,
+    /// The observer that is asked and told next.
+    pub beside: A,
 }
 
-impl Lines<'_> {
-    /// Returns whether there is capacity for a line.
-    #[inline(always)]
-    fn has_room(&self) -> bool
-        ensures room { OnTrue result (vec_len self.now.lines.now + ROW_TEXT_LIMIT ≤ vec_capacity self.now.lines.now) }
-        ensures full { OnFalse result (vec_capacity self.now.lines.now < vec_len self.now.lines.now + ROW_TEXT_LIMIT) }
-    {
-        self.lines.capacity() - self.lines.len() >= ROW_TEXT_LIMIT
-    }
-
-    /// Appends the text of line 1 if an event scrolls it off.
-    #[inline(always)]
-    fn keep(&mut self, terminal: &Terminal, kind: EventKind)
-        requires { (values : List ℕ) → scrolls_off (event_of kind values) terminal.now.display ≡ true
-            → vec_len self.old.lines.now + ROW_TEXT_LIMIT ≤ vec_capacity self.old.lines.now }
-        ensures same_reference { self.new.lines.ghost_name ≡ self.old.lines.ghost_name }
-        ensures lines { (values : List ℕ) → self.new.lines.now.items ≡ self.old.lines.now.items
-            ++ flat_map line_text (line_off (event_of kind values) terminal.now.display) }
-        ensures bounded { vec_len self.new.lines.now ≤ vec_len self.old.lines.now + ROW_TEXT_LIMIT }
-        ensures capacity { vec_capacity self.old.lines.now ≤ vec_capacity self.new.lines.now }
-    {
-        if terminal.scrolls_off(kind) {
-            terminal.row_text_reserved(1, self.lines);
-        }
-    }
-}
-
-impl Observer for Lines<'_> {
-    ghost use Rattle.std.specs.Prelude.{◌≡◌, ◌≤◌, ◌<◌, ◌+◌, ◌&&◌, vec_len, vec_capacity};
+impl<A: Observer + Drop> Observer for Lines<'_, A> {
+    ghost use Rattle.std.specs.Prelude.{◌≡◌, ◌≤◌, ◌<◌, ◌+◌, ◌&&◌, ◌⊎◌, vec_len, vec_capacity};
     ghost use Rattle.std.specs.Prelude.{true, ⊤};
     ghost use Rattle.vt_term.specs.Scrolling.{scrolls_off, is_at_end};
     ghost use Rattle.vt_term.specs.ScrollSteps.{Fits as RowFits, Logs};
-    ghost use Rattle.vt_term.specs.Observers.{lines_cut};
+    ghost use Rattle.vt_term.specs.Observers.{lines_cut, both_cut};
 
-    ghost Saw = { λ o s bytes p. (p.lines.ghost_name ≡ o.lines.ghost_name) × Logs s bytes o.lines.now.items p.lines.now.items
-        × (vec_capacity o.lines.now ≤ vec_capacity p.lines.now) };
+    ghost Saw = { λ o s bytes p. ((p.lines.ghost_name ≡ o.lines.ghost_name)
+        × Logs s bytes o.lines.now.items p.lines.now.items × (vec_capacity o.lines.now ≤ vec_capacity p.lines.now))
+        × A.Saw o.beside s bytes p.beside };
 
-    ghost Takes = { λ o n. ⊤ };
+    ghost Takes = { λ o n. ⊤ × A.Takes o.beside n };
 
-    ghost Lets = { λ o s event. scrolls_off event s ≡ true → vec_len o.lines.now + 397 ≤ vec_capacity o.lines.now };
+    ghost Lets = { λ o s event. (scrolls_off event s ≡ true → vec_len o.lines.now + 397 ≤ vec_capacity o.lines.now)
+        × A.Lets o.beside s event };
 
-    ghost Fits = { λ o s n. RowFits n s
-        × (1 ≤ n → (s.cursor.wrap && is_at_end s) ≡ true → vec_len o.lines.now + 397 ≤ vec_capacity o.lines.now) };
+    ghost Fits = { λ o s n. (RowFits n s
+        × (1 ≤ n → (s.cursor.wrap && is_at_end s) ≡ true → vec_len o.lines.now + 397 ≤ vec_capacity o.lines.now))
+        × A.Fits o.beside s n };
 
-    ghost Stopped = { λ o. vec_capacity o.lines.now < vec_len o.lines.now + 397 };
+    ghost Stopped = { λ o. (vec_capacity o.lines.now < vec_len o.lines.now + 397) ⊎ A.Stopped o.beside };
 
     ghost Stops = { true };
 
-    ghost cut = { lines_cut (λ o. o.lines.now.items) (λ o. vec_capacity o.lines.now) (λ o. o.lines.ghost_name) };
+    ghost cut = { both_cut
+        (λ o s bytes p. (p.lines.ghost_name ≡ o.lines.ghost_name)
+        × Logs s bytes o.lines.now.items p.lines.now.items × (vec_capacity o.lines.now ≤ vec_capacity p.lines.now))
+        A.Saw (λ o n. ⊤) A.Takes (λ o. o) (λ o. o.beside)
+        (lines_cut (λ o. o.lines.now.items) (λ o. vec_capacity o.lines.now) (λ o. o.lines.ghost_name)) A.cut };
 
     #[inline(always)]
     fn stops(&self) -> bool {
@@ -174,25 +222,32 @@ impl Observer for Lines<'_> {
 
     #[inline(always)]
     fn lets(&self, terminal: &Terminal, kind: EventKind, values: &[u16]) -> bool {
-        self.has_room() || !terminal.scrolls_off(kind)
+        (has_room(self.lines) || !terminal.scrolls_off(kind))
+            && self.beside.lets(terminal, kind, values)
     }
 
     #[inline(always)]
     fn event(&mut self, terminal: &Terminal, bytes: &[u8], kind: EventKind, values: &[u16]) {
-        self.keep(terminal, kind)
+        terminal.line_off_reserved(kind, self.lines);
+        self.beside.event(terminal, bytes, kind, values);
     }
 
     #[inline(always)]
     fn limit(&self, terminal: &Terminal) -> usize {
-        terminal.row_limit(self.has_room())
+        terminal
+            .row_limit(has_room(self.lines))
+            .min(self.beside.limit(terminal))
     }
 
     #[inline(always)]
     fn run(&mut self, terminal: &Terminal, bytes: &[u8]) {
         spelled();
-        self.keep(terminal, EventKind::Print(bytes[0]))
+        terminal.line_off_reserved(EventKind::Print(bytes[0]), self.lines);
+        self.beside.run(terminal, bytes);
     }
 
     #[inline(always)]
-    fn part(&mut self, bytes: &[u8]) {}
+    fn part(&mut self, bytes: &[u8]) {
+        self.beside.part(bytes);
+    }
 }

@@ -9,7 +9,7 @@ use Rattle.vt_utf8.specs.Decoding.{read, characters, pending_after}
 use Rattle.vt_utf8.specs.Translation.{translation}
 use Rattle.vt_utf8.specs.Play.{translated_all, translated, play_utf8}
 use Rattle.vt_utf8.specs.Private.Feeds.{FeedsUtf8}
-use Rattle.vt_utf8.specs.Private.Whole.{IsWhole}
+use Rattle.vt_utf8.specs.Decoding.{IsWhole}
 use Rattle.vt_utf8.proofs.Cuts.{translated-append}
 
 -- a piece from a place on

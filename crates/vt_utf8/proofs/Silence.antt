@@ -1,10 +1,10 @@
 -- A character beyond ASCII causes no report.
-use Rattle.std.proofs.Common.{◌≡◌, ℕ, zero, suc, take, drop, ◌+◌, ◌-◌, ◌≤◌, Bool, true, false, not, List, [], ◌∷◌, ◌++◌, All, Some, inl, inr, refl, sym, ap, ◌∙◌, arith}
+use Rattle.std.proofs.Common.{◌≡◌, ℕ, zero, suc, take, drop, ◌+◌, ◌-◌, ◌≤◌, Bool, true, false, not, List, [], ◌∷◌, ◌++◌, All, length, Some, inl, inr, refl, sym, ap, ◌∙◌, arith, append_assoc}
 use Rattle.std.specs.Prelude.{nat_lt, nat_le, ◌==◌, ◌&&◌, slice_index_or, if◌then◌else◌}
 use Rattle.std.specs.List.{list_all}
 use Rattle.std.proofs.lemmas.Bool.{and_parts}
 use Rattle.std.proofs.lemmas.List.{take-append-drop}
-use Rattle.std.proofs.Math.Seq.{take-add}
+use Rattle.std.proofs.Math.Seq.{take-add, take-length}
 use Rattle.std.proofs.lemmas.Bool.Decides.{nat_tests}
 use Rattle.std.proofs.lemmas.List.Elements.{All-append, All-from_recursion}
 use Rattle.std.proofs.lemmas.Grind.{flat_map-append}
@@ -27,6 +27,7 @@ use Rattle.vt_glyph.specs.GraphicSets.{GraphicSets}
 use Rattle.vt_glyph.specs.Invocation.{set_at}
 use Rattle.vt_glyph.specs.Spell.{spelling_of, code_of}
 use Rattle.vt_glyph.specs.Laws.{GlyphLaws, SpellingLaws}
+use Rattle.vt_term.specs.Scrolling.{log}
 use Rattle.vt_term.specs.State.{Display, State}
 use Rattle.vt_term.specs.Sound.{IsSound}
 use Rattle.vt_term.specs.Functions.{effect}
@@ -310,3 +311,20 @@ module _ (two : (s : State) (a b : List ℕ) → play s (a ++ b) ≡ both (play 
       → u ≡ (play t (take n (drop at bytes))).state → u ≡ (play s (take (at + n) bytes)).state
   state-more s t u bytes at n first second =
       rw (take-add at n bytes, two s (take at bytes) (take n (drop at bytes)), ← first) second
+
+-- ---- the lines of a part of bytes
+
+pub log-more : ((s : State) (a b : List ℕ) → log s (a ++ b) ≡ log s a ++ log (play s a).state b) → (s t : State)
+    (bytes : List ℕ) (at n : ℕ) (before mid after : List ℕ) → t ≡ (play s (take at bytes)).state
+    → mid ≡ before ++ log s (take at bytes) → after ≡ mid ++ log t (take n (drop at bytes))
+    → after ≡ before ++ log s (take (at + n) bytes)
+log-more two s t bytes at n before mid after is first second =
+    let a = take at bytes in
+    let b = take n (drop at bytes) in
+    second ∙ ap (λ (x : List ℕ). x ++ log t b) first ∙ append_assoc before (log s a) (log t b)
+    ∙ ap (λ (x : List ℕ). before ++ x)
+    (ap (λ (u : State). log s a ++ log u b) is ∙ sym (ap (λ (xs : List ℕ). log s xs) (take-add at n bytes) ∙ two s a b))
+
+-- all of a list
+pub all-of : (xs : List ℕ) (n : ℕ) → n ≡ length xs → take n xs ≡ xs
+all-of xs n is = ap (λ (k : ℕ). take k xs) is ∙ take-length xs

@@ -5,7 +5,7 @@ use Rattle.std.specs.Prelude.{Option, IfSome, slice_index, ◌==◌, nat_lt, con
 use Rattle.std.proofs.lemmas.Bool.Decides.{nat_tests}
 use Rattle.bstr.specs.Utf8.{Decoded, decoded, bad, good, second, continues, code_of_2, code_of_3, code_of_4}
 use Rattle.vt_utf8.specs.Decoding.{is_begun, read}
-use Rattle.vt_utf8.specs.Private.Whole.{IsWhole}
+use Rattle.vt_utf8.specs.Decoding.{IsWhole}
 use Rattle.vt_utf8.proofs.Reading.{when-begun, when-whole}
 
 -- ---- bytes of a character, the first of which is one of several

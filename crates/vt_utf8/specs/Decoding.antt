@@ -1,6 +1,6 @@
 -- Bytes as UTF-8: characters, and the pending part at their end. (The Unicode Standard, 3.9: Table 3-7, and U+FFFD for each
 -- maximal subpart of what is ill-formed)
-use Rattle.std.specs.Prelude.{ℕ, List, [], ◌∷◌, ◌++◌, length, Bool, ◌==◌, ◌&&◌, nat_lt, Option, Some, None}
+use Rattle.std.specs.Prelude.{◌≡◌, ◌≤◌, ℕ, List, [], ◌∷◌, ◌++◌, length, take, Bool, ◌==◌, ◌&&◌, nat_lt, Option, Some, None}
 use Rattle.std.specs.Prelude.{slice_index, if◌then◌else◌}
 use Rattle.bstr.specs.Utf8.{decoded, lead_len, replacement, or_replacement}
 
@@ -53,3 +53,10 @@ characters pending (b ∷ bytes) = (read pending b).characters ++ characters (re
 abbrev pub pending_after : List ℕ → List ℕ → List ℕ
 pending_after pending [] = pending
 pending_after pending (b ∷ bytes) = pending_after (read pending b).pending bytes
+
+-- the character c takes the first n bytes of these, if nothing is pending
+pub record IsWhole (bytes : List ℕ) (c n : ℕ) : Type 0 where
+  pub some : 1 ≤ n
+  pub within : n ≤ length bytes
+  pub characters : characters [] (take n bytes) ≡ c ∷ []
+  pub pending : pending_after [] (take n bytes) ≡ []

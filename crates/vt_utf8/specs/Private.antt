@@ -2,4 +2,3 @@
 pub mod Codes
 pub mod Feeds
 pub mod Ascii
-pub mod Whole

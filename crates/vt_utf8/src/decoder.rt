@@ -2,7 +2,7 @@
 ghost use Rattle.std.specs.Prelude.{◌≡◌, ◌<◌, ◌≤◌, ◌++◌, [], ◌∷◌, ◌==◌, length, IfSome};
 ghost use Rattle.std.specs.Option.{option_to_list};
 ghost use Rattle.bstr.specs.Utf8.{continues, decoded, lead_len, replacement};
-ghost use Rattle.vt_utf8.specs.Private.Whole.{IsWhole};
+ghost use Rattle.vt_utf8.specs.Decoding.{IsWhole};
 ghost use Rattle.vt_utf8.specs.Decoding.{is_begun, pending_of, given_up, read, read_first};
 
 use arrayvec::ArrayVec;
@@ -89,7 +89,7 @@ fn three_bytes(piece: &[u8]) -> Option<char>
 
 /// Returns the character beyond ASCII at the front of a chunk, if it is whole, and how many bytes it takes.
 #[inline(always)]
-pub(crate) fn whole_character(piece: &[u8]) -> Option<(char, usize)>
+pub fn whole_character(piece: &[u8]) -> Option<(char, usize)>
     ensures { IfSome result (λ found. (0x80 ≤ found.0) × IsWhole piece.now found.0 found.1) }
 {
     if let Some(c) = three_bytes(piece) {
@@ -132,6 +132,15 @@ impl Decoder {
         }
         let mut pending = ArrayVec::new();
         let _ = pending.try_extend_from_slice(bytes);
+        Decoder { pending }
+    }
+
+    /// Returns a decoder with the same bytes pending.
+    pub fn copied(&self) -> Decoder
+        ensures { result ≡ self.now }
+    {
+        let mut pending = ArrayVec::new();
+        let _ = pending.try_extend_from_slice(self.pending.as_slice());
         Decoder { pending }
     }
 

@@ -7,6 +7,7 @@ ghost use Rattle.std.specs.declared.option.Option.TheVariants.{None};
 ghost use Rattle.bstr.specs.Utf8.{replacement};
 ghost use Rattle.vt_syntax.specs.declared.held.Held.TheVariants.{Nothing};
 ghost use Rattle.vt_term.specs.Play.{play};
+ghost use Rattle.vt_term.specs.Scrolling.{log};
 ghost use Rattle.vt_utf8.specs.Cells.{cells};
 ghost use Rattle.vt_utf8.specs.Similar.{shown};
 ghost use Rattle.vt_utf8.specs.Decoding.{pending_after};
@@ -18,11 +19,11 @@ use crate::ascii::ascii_run;
 use crate::decoder::{Decoder, whole_character};
 use crate::laws::{ascii, cuts, silence, writes};
 use crate::similar::{code_of, glyph_of_code};
-use crate::translation::{has_one_cell, translation};
+use crate::translation::{TRANSLATION_LIMIT, has_one_cell, translation};
 use std::alloc::AllocError;
 use vt_syntax::Held;
-use vt_term::laws::{cuts as played_cuts, soundness as played_soundness};
-use vt_term::{REPORT_LIMIT, Terminal};
+use vt_term::laws::{cuts as played_cuts, log_cuts, soundness as played_soundness};
+use vt_term::{REPORT_LIMIT, ROW_TEXT_LIMIT, Terminal};
 
 /// Plays a chunk of a host's UTF-8, and appends the reports to `out`. `decoder` keeps what is pending between chunks.
 ///
@@ -295,6 +296,61 @@ fn feed_silently(terminal: &mut Terminal, bytes: &[u8], out: &mut Vec<u8>)
     while at < bytes.len() {
         let count = most.min(bytes.len() - at);
         terminal.feed_reserved(&bytes[at..at + count], out);
+        at += count;
+    }
+}
+
+/// The most bytes of lines that a character scrolls off: a line for each byte of its translation.
+pub const LINES_LIMIT: usize = TRANSLATION_LIMIT * ROW_TEXT_LIMIT;
+
+const _: () = prove!(LINES_LIMIT == 8734);
+
+/// Plays a character beyond ASCII, which causes no report, and appends the lines that scroll off to `lines`. These have
+/// capacity for `LINES_LIMIT` more bytes.
+pub fn feed_beyond_ascii_log(
+    terminal: &mut Terminal,
+    c: char,
+    out: &mut Vec<u8>,
+    lines: &mut Vec<u8>,
+)
+    requires beyond { 0x80 ≤ c }
+    requires room { vec_len out.old + 10 ≤ vec_capacity out.old }
+    requires lines_room { vec_len lines.old + LINES_LIMIT ≤ vec_capacity lines.old }
+    ensures state { terminal.new ≡ (play terminal.old (translation terminal.old c)).state }
+    ensures silent { (play terminal.old (translation terminal.old c)).reports ≡ [] }
+    ensures out { out.new.items ≡ out.old.items }
+    ensures lines { lines.new.items ≡ lines.old.items ++ log terminal.old (translation terminal.old c) }
+    ensures lines_bounded { vec_len lines.new ≤ vec_len lines.old + LINES_LIMIT }
+    ensures capacity { vec_capacity out.old ≤ vec_capacity out.new }
+    ensures lines_capacity { vec_capacity lines.old ≤ vec_capacity lines.new }
+{
+    let _ = terminal.width();
+    silence();
+    let bytes = translation(terminal, c);
+    feed_silently_log(terminal, bytes.as_slice(), out, lines);
+}
+
+/// Plays bytes that cause no report, and appends the lines that scroll off. `out` may have capacity for the reports of only
+/// one of the bytes.
+fn feed_silently_log(terminal: &mut Terminal, bytes: &[u8], out: &mut Vec<u8>, lines: &mut Vec<u8>)
+    requires silent { (play terminal.old bytes.now).reports ≡ [] }
+    requires room { vec_len out.old + 10 ≤ vec_capacity out.old }
+    requires lines_room { vec_len lines.old + ROW_TEXT_LIMIT * length bytes.now ≤ vec_capacity lines.old }
+    ensures state { terminal.new ≡ (play terminal.old bytes.now).state }
+    ensures out { out.new.items ≡ out.old.items }
+    ensures lines { lines.new.items ≡ lines.old.items ++ log terminal.old bytes.now }
+    ensures lines_bounded { vec_len lines.new ≤ vec_len lines.old + ROW_TEXT_LIMIT * length bytes.now }
+    ensures capacity { vec_capacity out.old ≤ vec_capacity out.new }
+    ensures lines_capacity { vec_capacity lines.old ≤ vec_capacity lines.new }
+{
+    let _ = terminal.width();
+    played_cuts();
+    log_cuts();
+    let most = (out.capacity() - out.len()) / REPORT_LIMIT;
+    let mut at = 0;
+    while at < bytes.len() {
+        let count = most.min(bytes.len() - at);
+        terminal.feed_log_reserved(&bytes[at..at + count], out, lines);
         at += count;
     }
 }

@@ -10,7 +10,9 @@ mod similar;
 mod translation;
 
 pub use ascii::ascii_run;
-pub use decoder::Decoder;
-pub use feeding::{feed_beyond_ascii, feed_utf8, feed_utf8_reserved};
+pub use decoder::{Decoder, whole_character};
+pub use feeding::{
+    LINES_LIMIT, feed_beyond_ascii, feed_beyond_ascii_log, feed_utf8, feed_utf8_reserved,
+};
 pub use showing::shown_as;
 pub use translation::{BYTE_LIMIT, Bytes, TRANSLATION_LIMIT, cells, translated};

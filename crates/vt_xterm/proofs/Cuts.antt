@@ -6,6 +6,7 @@ use Rattle.std.proofs.lemmas.List.Sums.{fold-append}
 use Rattle.vt_syntax.specs.declared.event.Event.{Event}
 use Rattle.vt_syntax.specs.Held.{IsHeldPart, spell, events_from, held_from}
 use Rattle.vt_syntax.specs.Laws.{SplitLaw}
+use Rattle.vt_screen.specs.declared.cell.Cell.{Cell}
 use Rattle.vt_term.specs.Reports.{report}
 use Rattle.vt_term.specs.Play.{joined}
 use Rattle.vt_utf8.specs.Decoding.{characters, pending_after}
@@ -13,11 +14,12 @@ use Rattle.vt_utf8.proofs.Cuts.{characters-append, ascii-characters}
 use Rattle.vt_xterm.specs.Pages.{Screens}
 use Rattle.vt_xterm.specs.Front.{xterm_effect}
 use Rattle.vt_xterm.specs.Play.{Whole, WholePlayed, screens_of, after_events, reports_of, play_bytes, play_character, both}
-use Rattle.vt_xterm.specs.Play.{play_characters, play_xterm, play_xterm_all}
+use Rattle.vt_xterm.specs.Play.{play_characters, play_xterm, play_xterm_all, nothing_played}
+use Rattle.vt_xterm.specs.Log.{xterm_line_off, xterm_lines_off}
 
 pub both-assoc : (a b c : WholePlayed) → both a (both b c) ≡ both (both a b) c
 both-assoc a b c =
-    ap (λ (r : List ℕ). record { whole = c.whole; reports = r }) (sym (append_assoc a.reports b.reports c.reports))
+    rw (append_assoc a.reports b.reports c.reports, append_assoc a.lines b.lines c.lines) refl
 
 -- ---- events and bytes
 
@@ -33,6 +35,14 @@ reports_of-append (x ∷ xs) ys s =
     ∙ sym (append_assoc (report x s.display) (reports_of xs (xterm_effect x s))
     (reports_of ys (after_events xs (xterm_effect x s))))
 
+lines_off-append : (xs ys : List Event) (s : Screens)
+    → xterm_lines_off (xs ++ ys) s ≡ xterm_lines_off xs s ++ xterm_lines_off ys (after_events xs s)
+lines_off-append [] ys s = refl
+lines_off-append (x ∷ xs) ys s =
+    ap (λ (t : List (List Cell)). xterm_line_off x s ++ t) (lines_off-append xs ys (xterm_effect x s))
+    ∙ sym (append_assoc (xterm_line_off x s) (xterm_lines_off xs (xterm_effect x s))
+    (xterm_lines_off ys (after_events xs (xterm_effect x s))))
+
 module _ (split : SplitLaw) where
   pub bytes-two : (w : Whole) (a b : List ℕ)
       → play_bytes w (a ++ b) ≡ both (play_bytes w a) (play_bytes (play_bytes w a).whole b)
@@ -45,9 +55,10 @@ module _ (split : SplitLaw) where
         split.held_append w.state.held a b,
         after_events-append first second (screens_of w),
         reports_of-append first second (screens_of w),
+        lines_off-append first second (screens_of w),
       ) refl
 
-  pub bytes-nothing : (w : Whole) → IsHeldPart w.state.held → play_bytes w [] ≡ record { whole = w; reports = [] }
+  pub bytes-nothing : (w : Whole) → IsHeldPart w.state.held → play_bytes w [] ≡ nothing_played w
   unfolding play_bytes
   bytes-nothing w held = rw (split.events_nil w.state.held held, split.held_nil w.state.held held) refl
 
@@ -65,7 +76,7 @@ characters-two w (c ∷ xs) ys =
     ap (λ (p : WholePlayed). both one p) (characters-two one.whole xs ys)
     ∙ both-assoc one (play_characters one.whole xs) (play_characters (play_characters one.whole xs).whole ys)
 
-pub xterm-nothing : (w : Whole) (pending : List ℕ) → play_xterm w pending [] ≡ record { whole = w; reports = [] }
+pub xterm-nothing : (w : Whole) (pending : List ℕ) → play_xterm w pending [] ≡ nothing_played w
 unfolding play_xterm
 xterm-nothing w pending = refl
 

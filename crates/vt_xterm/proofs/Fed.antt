@@ -1,25 +1,27 @@
 -- What feeding leaves.
-use Rattle.std.proofs.Common.{◌≡◌, ℕ, ◌+◌, List, [], ◌∷◌, ◌++◌, All, ◌<◌, take, drop, refl, sym, ap, ◌∙◌, append_assoc, subst, false, arith}
-use Rattle.std.specs.Prelude.{◌≤◌, nat_lt}
+use Rattle.std.proofs.Common.{◌≡◌, ℕ, ◌+◌, List, [], ◌∷◌, ◌++◌, All, ◌<◌, take, drop, length, refl, sym, ap, ◌∙◌, append_assoc, subst, false, arith}
+use Rattle.std.specs.Prelude.{◌≤◌, nat_lt, if◌then◌else◌}
 use Rattle.std.proofs.lemmas.Bool.Decides.{nat_tests}
 use Rattle.std.proofs.Common.{append-nil}
-use Rattle.std.proofs.Math.Seq.{take-add}
+use Rattle.std.proofs.Math.Seq.{take-add, take-length}
+use Rattle.std.proofs.lemmas.List.{take_all}
 use Rattle.vt_syntax.specs.declared.event.Event.{Event}
 use Rattle.vt_syntax.specs.Held.{IsHeldPart, events_from, held_from}
 use Rattle.vt_syntax.specs.Laws.{SplitLaw}
 use Rattle.vt_term.specs.State.{State}
 use Rattle.vt_term.specs.Reports.{report}
 use Rattle.vt_term.specs.Play.{play}
-use Rattle.vt_utf8.specs.Decoding.{read, characters, pending_after}
+use Rattle.vt_term.specs.Scrolling.{scrolled_off}
+use Rattle.vt_utf8.specs.Decoding.{read, characters, pending_after, IsWhole}
 use Rattle.vt_utf8.specs.Translation.{translation}
-use Rattle.vt_utf8.proofs.Cuts.{ascii-characters, ascii-pending, pending-append}
+use Rattle.vt_utf8.proofs.Cuts.{ascii-pending, pending-append}
 use Rattle.vt_xterm.specs.Pages.{PagesState, screens, shown_by}
 use Rattle.vt_xterm.specs.Front.{xterm_effect}
 use Rattle.vt_xterm.specs.Play.{Whole, WholePlayed, FrontState, behind, both, play_bytes}
-use Rattle.vt_xterm.specs.Play.{play_character, play_characters, play_xterm}
+use Rattle.vt_xterm.specs.Play.{play_character, play_characters, play_xterm, nothing_played}
 use Rattle.vt_xterm.specs.Private.Finding.{PlaysTerminals}
 use Rattle.vt_xterm.specs.Private.Feeds.{whole_of, Leaves, FeedsBytes, FeedsXterm}
-use Rattle.vt_xterm.proofs.Cuts.{bytes-two, bytes-nothing, character-ascii, characters-ascii, characters-two, xterm-nothing, xterm-two}
+use Rattle.vt_xterm.proofs.Cuts.{bytes-two, bytes-nothing, character-ascii, characters-two, xterm-nothing, xterm-two, xterm-ascii}
 use Rattle.vt_xterm.proofs.Terminals.{bytes-terminals}
 
 -- one play after another
@@ -32,7 +34,7 @@ leaves-both p q r v u before mid after first second is = record {
       ∙ ap (λ (x : WholePlayed). before ++ x.reports) (sym is);
 }
 
-leaves-nothing : (p : WholePlayed) (w : Whole) (out : List ℕ) → p ≡ record { whole = w; reports = [] } → Leaves p w out out
+leaves-nothing : (p : WholePlayed) (w : Whole) (out : List ℕ) → p ≡ nothing_played w → Leaves p w out out
 leaves-nothing p w out is = record {
   whole = ap (λ (x : WholePlayed). x.whole) (sym is);
   reports = sym (append-nil out) ∙ ap (λ (x : WholePlayed). out ++ x.reports) (sym is);
@@ -99,17 +101,18 @@ feeds-event s mid t pages q bytes event before after is read left kept told =
 
 -- ---- UTF-8
 
+pub ascii-played : SplitLaw → (w : Whole) (pending bytes : List ℕ) → IsHeldPart w.state.held → pending ≡ []
+    → All (λ b. b < 0x80) bytes → play_xterm w pending bytes ≡ play_bytes w bytes
+ascii-played split w pending bytes held none all =
+    ap (λ (p : List ℕ). play_xterm w p bytes) none ∙ xterm-ascii split w bytes held all
+
 ascii-fed : SplitLaw → (s t : State) (front new : FrontState) (bytes before after : List ℕ) → IsHeldPart s.held
     → front.pending ≡ [] → new.pending ≡ [] → All (λ b. b < 0x80) bytes
     → FeedsBytes (whole_of s front.pages) bytes (whole_of t new.pages) before after
     → FeedsXterm s front bytes t new before after
-unfolding play_xterm
 ascii-fed split s t front new bytes before after held none still all fed =
     let w = whole_of s front.pages in
-    let is : play_characters w (characters front.pending bytes) ≡ play_bytes w bytes =
-    ap (λ (p : List ℕ). play_characters w (characters p bytes)) none
-    ∙ ap (λ (cs : List ℕ). play_characters w cs) (ascii-characters bytes all)
-    ∙ characters-ascii split w bytes held all in
+    let is = ascii-played split w front.pending bytes held none all in
     record {
       leaves = record {
         whole = fed.whole ∙ ap (λ (p : WholePlayed). p.whole) (sym is);
@@ -185,16 +188,17 @@ xterm-more s t u front mid new piece at n before out after first second =
 pub leaves-ascii : (w v : Whole) (c : ℕ) (before after : List ℕ) → c < 0x80 → FeedsBytes w (c ∷ []) v before after
     → Leaves (play_characters w (c ∷ [])) v before after
 leaves-ascii w v c before after low fed =
-    leaves-both (play_bytes w (c ∷ [])) (record { whole = v; reports = [] }) (play_characters w (c ∷ [])) v v before after
+    leaves-both (play_bytes w (c ∷ [])) (nothing_played v) (play_characters w (c ∷ [])) v v before after
     after fed (record { whole = refl; reports = sym (append-nil after) })
-    (ap (λ (p : WholePlayed). both p (record { whole = p.whole; reports = [] })) (character-ascii w c low)
-    ∙ ap (λ (x : Whole). both (play_bytes w (c ∷ [])) (record { whole = x; reports = [] })) (sym fed.whole))
+    (ap (λ (p : WholePlayed). both p (nothing_played p.whole)) (character-ascii w c low)
+    ∙ ap (λ (x : Whole). both (play_bytes w (c ∷ [])) (nothing_played x)) (sym fed.whole))
 
 -- beyond ASCII it is played as on a VT220
-character-beyond : (s : State) (pages : PagesState) (c : ℕ) → 0x80 ≤ c → play_character (whole_of s pages) c
+pub character-beyond : (s : State) (pages : PagesState) (c : ℕ) → 0x80 ≤ c → play_character (whole_of s pages) c
     ≡ record {
       whole = whole_of (play s (translation s c)).state pages;
       reports = (play s (translation s c)).reports;
+      lines = if pages.alternate then [] else scrolled_off s (translation s c);
     }
 unfolding play_character
 character-beyond s pages c high = let is : nat_lt c 0x80 ≡ false = grind (arith, nat_tests) in rw is refl
@@ -213,3 +217,42 @@ leaves-beyond s t pages c out after high left silent same = record {
       ∙ ap (λ (p : WholePlayed). p.whole) (sym (character-beyond s pages c high));
   reports = same ∙ sym (ap (λ (r : List ℕ). out ++ r) (silent-beyond s pages c high silent) ∙ append-nil out);
 }
+
+-- a whole character with nothing pending
+pub whole-played : (w : Whole) (pending piece : List ℕ) (c n : ℕ) → pending ≡ [] → IsWhole piece c n
+    → play_xterm w pending (take n piece) ≡ play_characters w (c ∷ [])
+unfolding play_xterm
+whole-played w pending piece c n none whole =
+    ap (λ (p : List ℕ). play_characters w (characters p (take n piece))) none
+    ∙ ap (λ (cs : List ℕ). play_characters w cs) whole.characters
+
+whole-fed : (s t : State) (front : FrontState) (piece : List ℕ) (c n : ℕ) (before after : List ℕ) → front.pending ≡ []
+    → IsWhole piece c n → Leaves (play_characters (whole_of s front.pages) (c ∷ [])) (whole_of t front.pages) before after
+    → FeedsXterm s front (take n piece) t front before after
+whole-fed s t front piece c n before after none whole left =
+    let all = whole-played (behind s front) front.pending piece c n none whole in record {
+      leaves = record {
+        whole = left.whole ∙ ap (λ (p : WholePlayed). p.whole) (sym all);
+        reports = left.reports ∙ ap (λ (p : WholePlayed). before ++ p.reports) (sym all);
+      };
+      left = none ∙ sym (ap (λ (p : List ℕ). pending_after p (take n piece)) none ∙ whole.pending);
+    }
+
+pub feeds-whole : (s t : State) (inside front : FrontState) (piece : List ℕ) (c n : ℕ) (before after : List ℕ)
+    → inside ≡ front → front.pending ≡ [] → IsWhole piece c n
+    → Leaves (play_characters (whole_of s inside.pages) (c ∷ [])) (whole_of t inside.pages) before after
+    → FeedsXterm s front (take n piece) t front before after
+feeds-whole s t inside front piece c n before after is none whole left =
+    whole-fed s t front piece c n before after none whole
+    (subst (λ (f : FrontState). Leaves (play_characters (whole_of s f.pages) (c ∷ [])) (whole_of t f.pages) before after) is
+    left)
+
+-- all of a piece
+pub feeds-all : (s t : State) (front new : FrontState) (piece : List ℕ) (n : ℕ) (before after : List ℕ)
+    → n ≡ length piece → FeedsXterm s front (take n piece) t new before after → FeedsXterm s front piece t new before after
+feeds-all s t front new piece n before after is fed =
+    subst (λ (bytes : List ℕ). FeedsXterm s front bytes t new before after)
+    (ap (λ (k : ℕ). take k piece) is ∙ take-length piece) fed
+
+pub one-byte : (n b : ℕ) → 1 ≤ n → take n (b ∷ []) ≡ b ∷ []
+one-byte n b some = take_all n (b ∷ []) (omega (arith, some))

@@ -4,3 +4,4 @@ mod Terminals
 mod Fed
 mod Times
 mod Screens
+mod Logged

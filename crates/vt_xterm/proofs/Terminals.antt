@@ -1,6 +1,7 @@
 -- Bytes whose events all have a VT220's effect are played as on a VT220.
 use Rattle.std.proofs.Common.{◌≡◌, ℕ, List, [], ◌∷◌, ◌++◌, All, map, refl, sym, ap, ◌∙◌, subst, Bool, true, false, None}
 use Rattle.std.specs.Bool.{OnFalse}
+use Rattle.std.specs.Prelude.{if◌then◌else◌}
 use Rattle.std.specs.List.{list_any}
 use Rattle.vt_syntax.specs.declared.event.Event.{Event}
 use Rattle.vt_syntax.specs.declared.event.Event.TheVariants.{Print, Sequence}
@@ -14,10 +15,13 @@ use Rattle.vt_term.specs.Functions.{effect, sequence_in, sequences_of}
 use Rattle.vt_term.specs.Rendition.{select_graphic_rendition}
 use Rattle.vt_term.specs.Reports.{report}
 use Rattle.vt_term.specs.Play.{play, after_events, reports_of}
+use Rattle.vt_screen.specs.declared.cell.Cell.{Cell}
+use Rattle.vt_term.specs.Scrolling.{line_off, lines_off, scrolled_off}
 use Rattle.vt_term.proofs.Bytes.{graphic-events}
 use Rattle.vt_xterm.specs.Pages.{Screens, on_display}
 use Rattle.vt_xterm.specs.Attributes.{begins_colour}
-use Rattle.vt_xterm.specs.Front.{functions_of, function_in}
+use Rattle.vt_xterm.specs.Front.{functions_of, function_in, xterm_effect}
+use Rattle.vt_xterm.specs.Log.{function_off, page_line_off, xterm_lines_off}
 use Rattle.vt_xterm.specs.Play as xterm
 use Rattle.vt_xterm.specs.Play.{Whole, play_bytes}
 use Rattle.vt_xterm.specs.Private.Finding.{IsTerminals, AreTerminals, PlaysTerminals}
@@ -26,9 +30,11 @@ use Rattle.vt_xterm.proofs.Colours.{without-colours}
 -- SGR without a colour
 plain-rendition : (values : List ℕ) → list_any begins_colour values ≡ false
     → IsTerminals (Sequence None (record { items = values }) None 0x6D)
-unfolding functions_of function_in sequence_in sequences_of
-plain-rendition values none = λ s.
-    ap (λ (params : List ℕ). on_display (select_graphic_rendition params) s) (without-colours values none)
+unfolding functions_of function_in sequence_in sequences_of function_off
+plain-rendition values none = λ s. (
+  ap (λ (params : List ℕ). on_display (select_graphic_rendition params) s) (without-colours values none),
+  refl,
+)
 
 pub rendition-own : (values : List ℕ) (last : ℕ) (r : Bool) → last ≡ 0x6D → r ≡ list_any begins_colour values
     → OnFalse r (IsTerminals (Sequence None (record { items = values }) None last))
@@ -44,7 +50,7 @@ terminals-one events event is own = subst AreTerminals (sym is) (own, tt)
 prints-terminals : (bytes : List ℕ) → AreTerminals (map Print bytes)
 unfolding AreTerminals
 prints-terminals [] = tt
-prints-terminals (b ∷ bytes) = (λ s. refl, prints-terminals bytes)
+prints-terminals (b ∷ bytes) = (λ s. (refl, refl), prints-terminals bytes)
 
 pub terminals-run : SpellingLaw → (s : State) (bytes : List ℕ) → s.held ≡ Nothing → All HasGlyph bytes
     → PlaysTerminals s bytes
@@ -57,7 +63,7 @@ after-terminals : (events : List Event) (s : Screens) → AreTerminals events
 unfolding AreTerminals
 after-terminals [] s all = refl
 after-terminals (event ∷ events) s all =
-    ap (λ (t : Screens). xterm.after_events events t) (all.0 s)
+    ap (λ (t : Screens). xterm.after_events events t) (all.0 s).0
     ∙ after-terminals events (on_display (effect event) s) all.1
 
 reports-terminals : (events : List Event) (s : Screens) → AreTerminals events
@@ -66,14 +72,46 @@ unfolding AreTerminals
 reports-terminals [] s all = refl
 reports-terminals (event ∷ events) s all =
     ap (λ (r : List ℕ). report event s.display ++ r)
-    (ap (λ (t : Screens). xterm.reports_of events t) (all.0 s)
+    (ap (λ (t : Screens). xterm.reports_of events t) (all.0 s).0
     ∙ reports-terminals events (on_display (effect event) s) all.1)
 
-pub bytes-terminals : (w : Whole) (bytes : List ℕ) → PlaysTerminals w.state bytes → play_bytes w bytes
-    ≡ record { whole = record w { state = (play w.state bytes).state }; reports = (play w.state bytes).reports }
-unfolding play_bytes play
+-- no line on the alternate page, and those of a VT220 on the main one
+alternate-off : (events : List Event) (s : Screens) → s.pages.alternate ≡ true → AreTerminals events
+    → xterm_lines_off events s ≡ []
+unfolding AreTerminals
+alternate-off [] s is all = refl
+alternate-off (event ∷ events) s is all =
+    ap (λ (b : Bool). (if b then [] else page_line_off event s.display) ++ xterm_lines_off events (xterm_effect event s)) is
+    ∙ ap (λ (t : Screens). xterm_lines_off events t) (all.0 s).0
+    ∙ alternate-off events (on_display (effect event) s) is all.1
+
+main-off : (events : List Event) (s : Screens) → s.pages.alternate ≡ false → AreTerminals events
+    → xterm_lines_off events s ≡ lines_off events s.display
+unfolding AreTerminals
+main-off [] s is all = refl
+main-off (event ∷ events) s is all =
+    ap (λ (b : Bool). (if b then [] else page_line_off event s.display) ++ xterm_lines_off events (xterm_effect event s)) is
+    ∙ ap (λ (t : List (List Cell)). t ++ xterm_lines_off events (xterm_effect event s)) (all.0 s).1
+    ∙ ap (λ (t : List (List Cell)). line_off event s.display ++ t)
+    (ap (λ (t : Screens). xterm_lines_off events t) (all.0 s).0
+    ∙ main-off events (on_display (effect event) s) is all.1)
+
+lines-terminals : (events : List Event) (s : Screens) (alternate : Bool) → s.pages.alternate ≡ alternate
+    → AreTerminals events → xterm_lines_off events s ≡ if s.pages.alternate then [] else lines_off events s.display
+lines-terminals events s true is all =
+    alternate-off events s is all ∙ ap (λ (b : Bool). if b then [] else lines_off events s.display) (sym is)
+lines-terminals events s false is all =
+    main-off events s is all ∙ ap (λ (b : Bool). if b then [] else lines_off events s.display) (sym is)
+
+pub bytes-terminals : (w : Whole) (bytes : List ℕ) → PlaysTerminals w.state bytes → play_bytes w bytes ≡ record {
+  whole = record w { state = (play w.state bytes).state };
+  reports = (play w.state bytes).reports;
+  lines = if w.pages.alternate then [] else scrolled_off w.state bytes;
+}
+unfolding play_bytes play scrolled_off
 bytes-terminals w bytes all =
     rw (
       after-terminals (events_from w.state.held bytes) (xterm.screens_of w) all,
       reports-terminals (events_from w.state.held bytes) (xterm.screens_of w) all,
+      lines-terminals (events_from w.state.held bytes) (xterm.screens_of w) w.pages.alternate refl all,
     ) refl

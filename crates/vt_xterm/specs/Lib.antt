@@ -5,5 +5,6 @@ pub mod Scroll
 pub mod Attributes
 pub mod Pages
 pub mod Front
+pub mod Log
 pub mod Play
 pub mod Private

@@ -1,23 +1,29 @@
--- What UTF-8 leaves and reports under TERM=xterm.
-use Rattle.std.specs.Prelude.{ℕ, List, [], ◌∷◌, ◌++◌, nat_lt, fold, if◌then◌else◌}
+-- What UTF-8 leaves, reports and scrolls off under TERM=xterm.
+use Rattle.std.specs.Prelude.{ℕ, List, [], ◌∷◌, ◌++◌, nat_lt, fold, flat_map, if◌then◌else◌}
 use Rattle.vt_syntax.specs.declared.event.Event.{Event}
 use Rattle.vt_syntax.specs.Held.{events_from, held_from}
+use Rattle.vt_screen.specs.declared.cell.Cell.{Cell}
 use Rattle.vt_term.specs.State.{State}
+use Rattle.vt_term.specs.Text.{line_text}
+use Rattle.vt_term.specs.Scrolling.{scrolled_off}
 use Rattle.vt_term.specs.Reports.{report}
 use Rattle.vt_term.specs.Play.{play}
 use Rattle.vt_utf8.specs.Decoding.{characters, pending_after}
 use Rattle.vt_utf8.specs.Translation.{translation}
 use Rattle.vt_xterm.specs.Pages.{PagesState, Screens, screens, shown_by, pages_at_power_up}
 use Rattle.vt_xterm.specs.Front.{xterm_effect}
+use Rattle.vt_xterm.specs.Log.{xterm_lines_off}
 
 -- the state of a terminal, and the pages behind it
 pub record Whole : Type 0 where
   pub state : State
   pub pages : PagesState
 
+-- what is left, the report bytes, and the lines that scroll off
 pub record WholePlayed : Type 0 where
   pub whole : Whole
   pub reports : List ℕ
+  pub lines : List (List Cell)
 
 abbrev pub screens_of : Whole → Screens
 screens_of w = screens w.state w.pages
@@ -51,6 +57,7 @@ play_bytes w bytes = record {
     pages = (after_events (events_from w.state.held bytes) (screens_of w)).pages;
   };
   reports = reports_of (events_from w.state.held bytes) (screens_of w);
+  lines = xterm_lines_off (events_from w.state.held bytes) (screens_of w);
 }
 
 -- a byte is played as it is, and a character beyond ASCII by its bytes on a VT220, which no function here changes
@@ -59,15 +66,24 @@ play_character w c =
     if nat_lt c 0x80 then play_bytes w (c ∷ []) else record {
       whole = record w { state = (play w.state (translation w.state c)).state };
       reports = (play w.state (translation w.state c)).reports;
+      lines = if w.pages.alternate then [] else scrolled_off w.state (translation w.state c);
     }
 
 -- two plays, one after the other
 abbrev pub both : WholePlayed → WholePlayed → WholePlayed
-both before after = record { whole = after.whole; reports = before.reports ++ after.reports }
+both before after = record {
+  whole = after.whole;
+  reports = before.reports ++ after.reports;
+  lines = before.lines ++ after.lines;
+}
+
+-- nothing is played
+abbrev pub nothing_played : Whole → WholePlayed
+nothing_played w = record { whole = w; reports = []; lines = [] }
 
 -- characters in turn
 abbrev pub play_characters : Whole → List ℕ → WholePlayed
-play_characters w [] = record { whole = w; reports = [] }
+play_characters w [] = nothing_played w
 play_characters w (c ∷ cs) = both (play_character w c) (play_characters (play_character w c).whole cs)
 
 -- bytes after a pending part, as UTF-8; the pending part that they leave is `pending_after`
@@ -76,7 +92,11 @@ play_xterm w pending bytes = play_characters w (characters pending bytes)
 
 -- chunks in turn, each after the pending part that those before it leave
 abbrev pub play_xterm_all : Whole → List ℕ → List (List ℕ) → WholePlayed
-play_xterm_all w pending [] = record { whole = w; reports = [] }
+play_xterm_all w pending [] = nothing_played w
 play_xterm_all w pending (piece ∷ pieces) =
     both (play_xterm w pending piece)
     (play_xterm_all (play_xterm w pending piece).whole (pending_after pending piece) pieces)
+
+-- the log of bytes: the texts of the lines that they scroll off. (this profile)
+abbrev pub xterm_log : Whole → List ℕ → List ℕ → List ℕ
+xterm_log w pending bytes = flat_map line_text (play_xterm w pending bytes).lines

@@ -1,3 +1,4 @@
 -- What private contracts alone cite.
 pub mod Finding
 pub mod Feeds
+pub mod Logs

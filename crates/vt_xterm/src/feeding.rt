@@ -1,21 +1,25 @@
 //! Feeding: what a host sends under TERM=xterm changes a terminal's state, and gives report bytes.
-ghost use Rattle.std.specs.Prelude.{◌≡◌, ◌<◌, ◌+◌, ◌*◌, ◌≤◌, ◌++◌, [], ◌∷◌, All, length, take};
+ghost use Rattle.std.specs.Prelude.{◌≡◌, ◌<◌, ◌+◌, ◌*◌, ◌≤◌, ◌++◌, [], ◌∷◌, ℕ, All, length, take};
 ghost use Rattle.std.specs.Prelude.{vec_len, vec_capacity, OnOk, OnErr, IsOk, IfSome};
 ghost use Rattle.std.specs.Option.{option_to_list};
 ghost use Rattle.bstr.specs.Utf8.{replacement};
+ghost use Rattle.vt_syntax.specs.Event.{event_of};
 ghost use Rattle.vt_utf8.specs.Decoding.{pending_after};
-ghost use Rattle.vt_xterm.specs.Play.{behind, play_characters, play_xterm};
+ghost use Rattle.vt_xterm.specs.Pages.{screens};
+ghost use Rattle.vt_xterm.specs.Log.{xterm_line_off};
+ghost use Rattle.vt_xterm.specs.Play.{behind, play_bytes, play_characters, play_xterm, xterm_log};
 ghost use Rattle.vt_xterm.specs.Private.Feeds.{whole_of, Leaves, FeedsBytes, FeedsXterm};
 
 use crate::finder::Finder;
 use crate::front::{Front, Pages};
 use crate::functions::carry_out;
 use crate::laws::cuts;
+use crate::log::{LINES_LIMIT, Log};
 use std::alloc::AllocError;
 use vt_syntax::laws::one_split;
-use vt_syntax::{Taken, Values};
-use vt_term::{REPORT_LIMIT, Terminal};
-use vt_utf8::{ascii_run, feed_beyond_ascii};
+use vt_syntax::{EventKind, Taken, Values};
+use vt_term::{Lines, REPORT_LIMIT, Terminal};
+use vt_utf8::{ascii_run, feed_beyond_ascii, whole_character};
 
 /// Plays a chunk of a host's bytes, in UTF-8 and with the functions of xterm, and appends the reports to `out`. `front` keeps
 /// what is pending between chunks, and the page that isn't shown.
@@ -70,170 +74,417 @@ pub fn feed_xterm_reserved(
     ensures bounded { vec_len out.new ≤ vec_len out.old + 10 * length piece.now }
     ensures capacity { vec_capacity out.old ≤ vec_capacity out.new }
 {
+    feed_front(terminal, front, piece, &mut Finder, out);
+}
+
+/// Plays the front of a chunk of a host's bytes, in UTF-8 and with the functions of xterm. It appends the reports to `reports`
+/// and the lines that scroll off the main page to `lines`. Returns how many bytes it played. `front` keeps what is pending
+/// between chunks, and the page that isn't shown.
+///
+/// If it stops early, `lines` has fewer than `LINES_LIMIT` bytes free, the capacity of two screens. `reports` has capacity for
+/// ten more bytes for each byte of the chunk. It never fails and allocates nothing.
+pub fn feed_xterm_log_reserved(
+    terminal: &mut Terminal,
+    front: &mut Front,
+    piece: &[u8],
+    reports: &mut Vec<u8>,
+    lines: &mut Vec<u8>,
+) -> usize
+    requires { vec_len reports.old + 10 * length piece.now ≤ vec_capacity reports.old }
+    ensures within { result ≤ length piece.now }
+    ensures all { result < length piece.now → vec_capacity lines.new < vec_len lines.new + LINES_LIMIT }
+    ensures state { terminal.new ≡ (play_xterm (behind terminal.old front.old) front.old.pending
+        (take result piece.now)).whole.state }
+    ensures pages { front.new.pages ≡ (play_xterm (behind terminal.old front.old) front.old.pending
+        (take result piece.now)).whole.pages }
+    ensures pending { front.new.pending ≡ pending_after front.old.pending (take result piece.now) }
+    ensures reports { reports.new.items ≡ reports.old.items ++ (play_xterm (behind terminal.old front.old)
+        front.old.pending (take result piece.now)).reports }
+    ensures lines { lines.new.items ≡ lines.old.items
+        ++ xterm_log (behind terminal.old front.old) front.old.pending (take result piece.now) }
+    ensures reports_bounded { vec_len reports.new ≤ vec_len reports.old + 10 * result }
+    ensures reports_capacity { vec_capacity reports.old ≤ vec_capacity reports.new }
+    ensures lines_capacity { vec_capacity lines.old ≤ vec_capacity lines.new }
+{
+    let mut log = Lines {
+        lines,
+        beside: Finder,
+    };
+    feed_front(terminal, front, piece, &mut log, reports)
+}
+
+/// Plays the front of a chunk, until the log is full. Returns how many bytes it played.
+fn feed_front<L: Log>(
+    terminal: &mut Terminal,
+    front: &mut Front,
+    piece: &[u8],
+    log: &mut L,
+    out: &mut Vec<u8>,
+) -> usize
+    requires { vec_len out.old + 10 * length piece.now ≤ vec_capacity out.old }
+    ensures within { result ≤ length piece.now }
+    ensures all { result < length piece.now → L.IsFull log.new }
+    ensures fed { FeedsXterm terminal.old front.old (take result piece.now) terminal.new front.new
+        out.old.items out.new.items }
+    ensures keeps { L.Keeps log.old (play_xterm (behind terminal.old front.old) front.old.pending
+        (take result piece.now)).lines log.new }
+    ensures bounded { vec_len out.new ≤ vec_len out.old + 10 * result }
+    ensures capacity { vec_capacity out.old ≤ vec_capacity out.new }
+{
     cuts();
     let mut at = 0;
     while at < piece.len() {
-        at += feed_next(terminal, front, &piece[at..], out);
+        let count = feed_next(terminal, front, &piece[at..], log, out);
+        if count == 0 {
+            return at;
+        }
+        at += count;
     }
+    at
 }
 
-/// Plays the front of a chunk that isn't empty: the ASCII bytes there if nothing is pending, otherwise a byte. Returns how
-/// many bytes it played.
+/// Plays the front of a chunk that isn't empty. Returns how many bytes it played: none if the log is full.
 #[inline(always)]
-fn feed_next(terminal: &mut Terminal, front: &mut Front, piece: &[u8], out: &mut Vec<u8>) -> usize
+fn feed_next<L: Log>(
+    terminal: &mut Terminal,
+    front: &mut Front,
+    piece: &[u8],
+    log: &mut L,
+    out: &mut Vec<u8>,
+) -> usize
     requires some { 1 ≤ length piece.now }
     requires room { vec_len out.old + 10 * length piece.now ≤ vec_capacity out.old }
-    ensures some { 1 ≤ result }
+    ensures none { result ≡ 0 → L.IsFull log.new }
     ensures within { result ≤ length piece.now }
     ensures fed { FeedsXterm terminal.old front.old (take result piece.now) terminal.new front.new
         out.old.items out.new.items }
+    ensures keeps { L.Keeps log.old (play_xterm (behind terminal.old front.old) front.old.pending
+        (take result piece.now)).lines log.new }
     ensures bounded { vec_len out.new ≤ vec_len out.old + 10 * result }
     ensures capacity { vec_capacity out.old ≤ vec_capacity out.new }
 {
     if front.decoder.is_empty() {
-        let run = ascii_run(piece);
-        if run > 0 {
-            feed_ascii(terminal, front, &piece[..run], out);
-            return run;
-        }
+        return feed_first(terminal, front, piece, log, out);
     }
-    feed_byte(terminal, front, piece[0], out);
+    if log.is_full() {
+        return 0;
+    }
+    feed_byte(terminal, front, piece[0], log, out);
     1
 }
 
-/// Plays ASCII bytes with nothing pending.
+/// Plays the front of a chunk that isn't empty, with nothing pending: ASCII bytes, a whole character or a byte. Returns how many
+/// bytes it played: none if the log is full.
 #[inline(always)]
-fn feed_ascii(terminal: &mut Terminal, front: &mut Front, run: &[u8], out: &mut Vec<u8>)
+fn feed_first<L: Log>(
+    terminal: &mut Terminal,
+    front: &mut Front,
+    piece: &[u8],
+    log: &mut L,
+    out: &mut Vec<u8>,
+) -> usize
+    requires nothing { front.old.pending ≡ [] }
+    requires some { 1 ≤ length piece.now }
+    requires room { vec_len out.old + 10 * length piece.now ≤ vec_capacity out.old }
+    ensures none { result ≡ 0 → L.IsFull log.new }
+    ensures within { result ≤ length piece.now }
+    ensures fed { FeedsXterm terminal.old front.old (take result piece.now) terminal.new front.new
+        out.old.items out.new.items }
+    ensures keeps { L.Keeps log.old (play_xterm (behind terminal.old front.old) front.old.pending
+        (take result piece.now)).lines log.new }
+    ensures bounded { vec_len out.new ≤ vec_len out.old + 10 * result }
+    ensures capacity { vec_capacity out.old ≤ vec_capacity out.new }
+{
+    let run = ascii_run(piece);
+    if run > 0 {
+        return feed_ascii(terminal, front, &piece[..run], log, out);
+    }
+    if log.is_full() {
+        return 0;
+    }
+    match whole_character(piece) {
+        Some((c, size)) => {
+            feed_beyond(terminal, &front.pages, c, log, out);
+            size
+        }
+        None => {
+            feed_byte(terminal, front, piece[0], log, out);
+            1
+        }
+    }
+}
+
+/// Plays ASCII bytes with nothing pending. Returns how many it played: fewer if the log is full.
+#[inline(always)]
+fn feed_ascii<L: Log>(
+    terminal: &mut Terminal,
+    front: &mut Front,
+    run: &[u8],
+    log: &mut L,
+    out: &mut Vec<u8>,
+) -> usize
     requires nothing { front.old.pending ≡ [] }
     requires ascii { All (λ b. b < 0x80) run.now }
     requires room { vec_len out.old + 10 * length run.now ≤ vec_capacity out.old }
-    ensures fed { FeedsXterm terminal.old front.old run.now terminal.new front.new out.old.items out.new.items }
-    ensures bounded { vec_len out.new ≤ vec_len out.old + 10 * length run.now }
+    ensures within { result ≤ length run.now }
+    ensures all { result < length run.now → L.IsFull log.new }
+    ensures fed { FeedsXterm terminal.old front.old (take result run.now) terminal.new front.new out.old.items out.new.items }
+    ensures keeps { L.Keeps log.old (play_xterm (behind terminal.old front.old) front.old.pending
+        (take result run.now)).lines log.new }
+    ensures bounded { vec_len out.new ≤ vec_len out.old + 10 * result }
     ensures capacity { vec_capacity out.old ≤ vec_capacity out.new }
 {
     let _ = terminal.width();
     one_split();
-    feed_bytes(terminal, &mut front.pages, run, out);
+    feed_bytes(terminal, &mut front.pages, run, log, out)
 }
 
 /// Plays a byte.
-fn feed_byte(terminal: &mut Terminal, front: &mut Front, b: u8, out: &mut Vec<u8>)
-    requires { vec_len out.old + 10 ≤ vec_capacity out.old }
+fn feed_byte<L: Log>(
+    terminal: &mut Terminal,
+    front: &mut Front,
+    b: u8,
+    log: &mut L,
+    out: &mut Vec<u8>,
+)
+    requires room { vec_len out.old + 10 ≤ vec_capacity out.old }
+    requires lines_room { L.HasRoom log.old 19056 }
     ensures fed { FeedsXterm terminal.old front.old (b ∷ []) terminal.new front.new out.old.items out.new.items }
+    ensures keeps { L.Keeps log.old (play_xterm (behind terminal.old front.old) front.old.pending (b ∷ [])).lines log.new }
     ensures bounded { vec_len out.new ≤ vec_len out.old + 10 }
     ensures capacity { vec_capacity out.old ≤ vec_capacity out.new }
 {
     let (lost, character) = front.decoder.push(b);
-    feed_lost(terminal, &front.pages, lost, out);
-    feed_completed(terminal, &mut front.pages, character, out);
+    feed_lost(terminal, &front.pages, lost, log, out);
+    feed_completed(terminal, &mut front.pages, character, log, out);
 }
 
 /// Plays U+FFFD if what was pending is ill-formed. It causes no report.
 #[inline(always)]
-fn feed_lost(terminal: &mut Terminal, pages: &Pages, lost: Option<char>, out: &mut Vec<u8>)
+fn feed_lost<L: Log>(
+    terminal: &mut Terminal,
+    pages: &Pages,
+    lost: Option<char>,
+    log: &mut L,
+    out: &mut Vec<u8>,
+)
     requires lost { IfSome lost (λ c. c ≡ replacement) }
     requires room { vec_len out.old + 10 ≤ vec_capacity out.old }
+    requires lines_room { L.HasRoom log.old 19056 }
     ensures leaves { Leaves (play_characters (whole_of terminal.old pages.now) (option_to_list lost))
         (whole_of terminal.new pages.now) out.old.items out.new.items }
+    ensures keeps { L.Keeps log.old (play_characters (whole_of terminal.old pages.now) (option_to_list lost)).lines log.new }
+    ensures left { L.HasRoom log.new 9528 }
     ensures out { out.new.items ≡ out.old.items }
     ensures capacity { vec_capacity out.old ≤ vec_capacity out.new }
 {
     let _ = pages;
     match lost {
-        Some(c) => feed_beyond_ascii(terminal, c, out),
+        Some(c) => feed_beyond(terminal, pages, c, log, out),
         None => {}
     }
 }
 
 /// Plays the character that a byte completes, if it completes one.
 #[inline(always)]
-fn feed_completed(
+fn feed_completed<L: Log>(
     terminal: &mut Terminal,
     pages: &mut Pages,
     character: Option<char>,
+    log: &mut L,
     out: &mut Vec<u8>,
 )
-    requires { vec_len out.old + 10 ≤ vec_capacity out.old }
+    requires room { vec_len out.old + 10 ≤ vec_capacity out.old }
+    requires lines_room { L.HasRoom log.old 9528 }
     ensures leaves { Leaves (play_characters (whole_of terminal.old pages.old) (option_to_list character))
         (whole_of terminal.new pages.new) out.old.items out.new.items }
+    ensures keeps { L.Keeps log.old (play_characters (whole_of terminal.old pages.old) (option_to_list character)).lines
+        log.new }
     ensures bounded { vec_len out.new ≤ vec_len out.old + 10 }
     ensures capacity { vec_capacity out.old ≤ vec_capacity out.new }
 {
     match character {
-        Some(c) => feed_character(terminal, pages, c, out),
+        Some(c) => feed_character(terminal, pages, c, log, out),
         None => {}
     }
 }
 
 /// Plays a character.
-fn feed_character(terminal: &mut Terminal, pages: &mut Pages, c: char, out: &mut Vec<u8>)
-    requires { vec_len out.old + 10 ≤ vec_capacity out.old }
+fn feed_character<L: Log>(
+    terminal: &mut Terminal,
+    pages: &mut Pages,
+    c: char,
+    log: &mut L,
+    out: &mut Vec<u8>,
+)
+    requires room { vec_len out.old + 10 ≤ vec_capacity out.old }
+    requires lines_room { L.HasRoom log.old 9528 }
     ensures leaves { Leaves (play_characters (whole_of terminal.old pages.old) (c ∷ []))
         (whole_of terminal.new pages.new) out.old.items out.new.items }
+    ensures keeps { L.Keeps log.old (play_characters (whole_of terminal.old pages.old) (c ∷ [])).lines log.new }
     ensures bounded { vec_len out.new ≤ vec_len out.old + 10 }
     ensures capacity { vec_capacity out.old ≤ vec_capacity out.new }
 {
     if (c as u32) < 0x80 {
-        feed_bytes(terminal, pages, &[c as u8], out);
+        feed_event(terminal, pages, &[c as u8], log, out);
     } else {
-        feed_beyond_ascii(terminal, c, out);
+        feed_beyond(terminal, pages, c, log, out);
     }
 }
 
-/// Plays bytes of the terminal, with the functions of xterm.
-fn feed_bytes(terminal: &mut Terminal, pages: &mut Pages, piece: &[u8], out: &mut Vec<u8>)
+/// Plays a character beyond ASCII, which causes no report.
+#[inline(always)]
+fn feed_beyond<L: Log>(
+    terminal: &mut Terminal,
+    pages: &Pages,
+    c: char,
+    log: &mut L,
+    out: &mut Vec<u8>,
+)
+    requires beyond { 0x80 ≤ c }
+    requires room { vec_len out.old + 10 ≤ vec_capacity out.old }
+    requires lines_room { L.HasRoom log.old 9528 }
+    ensures leaves { Leaves (play_characters (whole_of terminal.old pages.now) (c ∷ []))
+        (whole_of terminal.new pages.now) out.old.items out.new.items }
+    ensures keeps { L.Keeps log.old (play_characters (whole_of terminal.old pages.now) (c ∷ [])).lines log.new }
+    ensures left { (n : ℕ) → L.HasRoom log.old (n + 8734) → L.HasRoom log.new n }
+    ensures out { out.new.items ≡ out.old.items }
+    ensures capacity { vec_capacity out.old ≤ vec_capacity out.new }
+{
+    if pages.is_alternate() {
+        feed_beyond_ascii(terminal, c, out);
+    } else {
+        log.character(terminal, c, out);
+    }
+}
+
+/// Plays bytes of the terminal, with the functions of xterm. Returns how many it played: fewer if the log is full.
+fn feed_bytes<L: Log>(
+    terminal: &mut Terminal,
+    pages: &mut Pages,
+    piece: &[u8],
+    log: &mut L,
+    out: &mut Vec<u8>,
+) -> usize
     requires { vec_len out.old + 10 * length piece.now ≤ vec_capacity out.old }
-    ensures fed { FeedsBytes (whole_of terminal.old pages.old) piece.now (whole_of terminal.new pages.new)
+    ensures within { result ≤ length piece.now }
+    ensures all { result < length piece.now → L.IsFull log.new }
+    ensures fed { FeedsBytes (whole_of terminal.old pages.old) (take result piece.now) (whole_of terminal.new pages.new)
         out.old.items out.new.items }
-    ensures bounded { vec_len out.new ≤ vec_len out.old + 10 * length piece.now }
+    ensures keeps { L.Keeps log.old (play_bytes (whole_of terminal.old pages.old) (take result piece.now)).lines log.new }
+    ensures bounded { vec_len out.new ≤ vec_len out.old + 10 * result }
     ensures capacity { vec_capacity out.old ≤ vec_capacity out.new }
 {
     let _ = terminal.width();
     one_split();
     let mut at = 0;
     while at < piece.len() {
-        at += feed_some(terminal, pages, &piece[at..], out);
+        let count = feed_some(terminal, pages, &piece[at..], log, out);
+        if count == 0 {
+            return at;
+        }
+        at += count;
     }
+    at
 }
 
 /// Plays the front of a chunk that isn't empty: up to the first event that isn't a VT220's, and this event. Returns how many
-/// bytes it played.
+/// bytes it played: none if the log is full.
 #[inline(always)]
-fn feed_some(terminal: &mut Terminal, pages: &mut Pages, piece: &[u8], out: &mut Vec<u8>) -> usize
+fn feed_some<L: Log>(
+    terminal: &mut Terminal,
+    pages: &mut Pages,
+    piece: &[u8],
+    log: &mut L,
+    out: &mut Vec<u8>,
+) -> usize
     requires some { 1 ≤ length piece.now }
     requires room { vec_len out.old + 10 * length piece.now ≤ vec_capacity out.old }
-    ensures some { 1 ≤ result }
+    ensures none { result ≡ 0 → L.IsFull log.new }
     ensures within { result ≤ length piece.now }
     ensures fed { FeedsBytes (whole_of terminal.old pages.old) (take result piece.now)
         (whole_of terminal.new pages.new) out.old.items out.new.items }
+    ensures keeps { L.Keeps log.old (play_bytes (whole_of terminal.old pages.old) (take result piece.now)).lines log.new }
     ensures bounded { vec_len out.new ≤ vec_len out.old + 10 * result }
     ensures capacity { vec_capacity out.old ≤ vec_capacity out.new }
 {
     one_split();
-    let played = terminal.feed_observed(piece, &mut Finder, out);
-    if played == piece.len() {
+    let played = feed_terminals(terminal, pages, piece, log, out);
+    if played == piece.len() || log.is_full() {
         return played;
     }
-    played + feed_event(terminal, pages, &piece[played..], out)
+    played + feed_event(terminal, pages, &piece[played..], log, out)
+}
+
+/// Plays the front of a chunk, up to the first event that isn't a VT220's, or up to a line for which there is no capacity.
+/// Returns how many bytes it played.
+#[inline(always)]
+fn feed_terminals<L: Log>(
+    terminal: &mut Terminal,
+    pages: &Pages,
+    piece: &[u8],
+    log: &mut L,
+    out: &mut Vec<u8>,
+) -> usize
+    requires { vec_len out.old + 10 * length piece.now ≤ vec_capacity out.old }
+    ensures within { result ≤ length piece.now }
+    ensures fed { FeedsBytes (whole_of terminal.old pages.now) (take result piece.now)
+        (whole_of terminal.new pages.now) out.old.items out.new.items }
+    ensures keeps { L.Keeps log.old (play_bytes (whole_of terminal.old pages.now) (take result piece.now)).lines log.new }
+    ensures bounded { vec_len out.new ≤ vec_len out.old + 10 * result }
+    ensures capacity { vec_capacity out.old ≤ vec_capacity out.new }
+{
+    if pages.is_alternate() {
+        terminal.feed_observed(piece, &mut Finder, out)
+    } else {
+        log.feed(terminal, piece, out)
+    }
 }
 
 /// Plays the front of a chunk that isn't empty, up to the first event. Returns how many bytes it played.
 #[inline(never)]
-fn feed_event(terminal: &mut Terminal, pages: &mut Pages, piece: &[u8], out: &mut Vec<u8>) -> usize
+fn feed_event<L: Log>(
+    terminal: &mut Terminal,
+    pages: &mut Pages,
+    piece: &[u8],
+    log: &mut L,
+    out: &mut Vec<u8>,
+) -> usize
     requires some { 1 ≤ length piece.now }
     requires room { vec_len out.old + 10 ≤ vec_capacity out.old }
+    requires lines_room { L.HasRoom log.old 9528 }
     ensures some { 1 ≤ result }
     ensures within { result ≤ length piece.now }
     ensures fed { FeedsBytes (whole_of terminal.old pages.old) (take result piece.now)
         (whole_of terminal.new pages.new) out.old.items out.new.items }
+    ensures keeps { L.Keeps log.old (play_bytes (whole_of terminal.old pages.old) (take result piece.now)).lines log.new }
     ensures bounded { vec_len out.new ≤ vec_len out.old + 10 * result }
     ensures capacity { vec_capacity out.old ≤ vec_capacity out.new }
 {
     let mut values = Values::new();
     let Taken { bytes, event } = terminal.next_event(piece, &mut values);
-    match event {
-        Some(kind) => carry_out(terminal, pages, kind, values.as_slice(), out),
-        None => {}
-    }
+    let Some(kind) = event else {
+        return bytes;
+    };
+    log_event(terminal, pages, kind, values.as_slice(), log);
+    carry_out(terminal, pages, kind, values.as_slice(), out);
     bytes
+}
+
+/// Gives the log the lines that an event is about to scroll off.
+#[inline(always)]
+fn log_event<L: Log>(
+    terminal: &Terminal,
+    pages: &Pages,
+    kind: EventKind,
+    values: &[u16],
+    log: &mut L,
+)
+    requires { L.HasRoom log.old 9528 }
+    ensures { L.Keeps log.old (xterm_line_off (event_of kind values.now) (screens terminal.now pages.now)) log.new }
+{
+    if pages.is_alternate() {
+        return;
+    }
+    log.event(terminal, kind, values);
 }

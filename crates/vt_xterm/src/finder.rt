@@ -26,7 +26,7 @@ fn has_colour(values: &[u16]) -> bool
 
 /// Returns whether a control sequence without marker and intermediate isn't a VT220's.
 #[inline(always)]
-#[tactic(auto, unfolding(crate::specs::Front::functions_of, crate::specs::Front::function_in))]
+#[tactic(auto, unfolding(crate::specs::Front::functions_of, crate::specs::Front::function_in, crate::specs::Log::function_off))]
 fn is_own_plain(values: &[u16], last: u8) -> bool
     ensures { OnFalse result (IsTerminals (Sequence None (record { items = values.now }) None last)) }
 {
@@ -53,7 +53,7 @@ fn is_own_plain(values: &[u16], last: u8) -> bool
 
 /// Returns whether a control sequence isn't a VT220's.
 #[inline(always)]
-#[tactic(auto, unfolding(crate::specs::Front::functions_of, crate::specs::Front::function_in))]
+#[tactic(auto, unfolding(crate::specs::Front::functions_of, crate::specs::Front::function_in, crate::specs::Log::function_off))]
 fn is_own_sequence(marker: Option<u8>, values: &[u16], inter: Option<u8>, last: u8) -> bool
     ensures { OnFalse result (IsTerminals (Sequence marker (record { items = values.now }) inter last)) }
 {

@@ -28,6 +28,23 @@ impl Model for Pages {
 }
 
 impl Pages {
+    /// Returns whether the alternate page is shown.
+    #[inline(always)]
+    pub(crate) fn is_alternate(&self) -> bool
+        ensures { result ≡ self.now.alternate }
+    {
+        self.alternate
+    }
+
+    /// Makes the pages equal to others.
+    fn copy_from(&mut self, other: &Pages)
+        ensures { self.new ≡ other.now }
+    {
+        self.other.copy_from(&other.other);
+        self.alternate = other.alternate;
+        self.resizes = other.resizes;
+    }
+
     /// Makes the pages as at power-up: both blank, and the main one shown.
     pub(crate) fn reset(&mut self)
         ensures { self.new ≡ pages_at_power_up }
@@ -69,6 +86,14 @@ impl Front {
                 resizes: false,
             },
         })
+    }
+
+    /// Makes what the front keeps equal to what another one keeps. It never fails and allocates nothing.
+    pub fn copy_from(&mut self, other: &Front)
+        ensures { self.new ≡ other.now }
+    {
+        self.decoder = other.decoder.copied();
+        self.pages.copy_from(&other.pages);
     }
 
     /// Returns the pending bytes of UTF-8: at most three.

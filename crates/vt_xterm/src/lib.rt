@@ -11,9 +11,11 @@ mod finder;
 mod front;
 mod functions;
 pub mod laws;
+mod log;
 mod modes;
 mod repeating;
 mod tabs;
 
-pub use feeding::{feed_xterm, feed_xterm_reserved};
+pub use feeding::{feed_xterm, feed_xterm_log_reserved, feed_xterm_reserved};
 pub use front::Front;
+pub use log::LINES_LIMIT;

@@ -3,7 +3,7 @@ ghost use Rattle.std.specs.Prelude.{◌≤◌};
 
 use std::alloc::Global;
 use std::test::Fail;
-use vt_log::{feed_log, feed_pages};
+use vt_log::feed_pages;
 use vt_replay::{Fault, Format, Request, TerminalType, Watched, What, Word, carry_out};
 use vt_term::Terminal;
 use vt_vectors::{ShortReader, ShortWriter, vector, vector_count};
@@ -273,7 +273,7 @@ fn each_read_fails(alloc: Global, input: &[u8], word: Word) -> Result<bool, Fail
             if word == Word::Pages {
                 feed_pages(&mut terminal, byte, &mut reports, &mut lines)?;
             } else {
-                feed_log(&mut terminal, byte, &mut reports, &mut lines)?;
+                terminal.feed_log(byte, &mut reports, &mut lines)?;
             }
         }
     }

@@ -5,7 +5,6 @@ ghost use Rattle.std.specs.Prelude.{◌≤◌};
 use std::alloc::Global;
 use std::process::Abort;
 use std::test::Fail;
-use vt_log::feed_log;
 use vt_term::Terminal;
 
 /// Asserts what a test has found of a row, which it names.
@@ -27,7 +26,7 @@ pub(super) fn logged(
     let mut reports = Vec::new(alloc);
     let mut lines = Vec::new(alloc);
     for piece in input.chunks(size) {
-        feed_log(&mut terminal, piece, &mut reports, &mut lines)?;
+        terminal.feed_log(piece, &mut reports, &mut lines)?;
     }
     if with_screen {
         terminal.text(&mut lines)?;

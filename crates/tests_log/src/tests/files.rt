@@ -4,9 +4,8 @@ ghost use Rattle.std.specs.Prelude.{◌≤◌};
 use super::common::{holds, logged};
 use std::alloc::Global;
 use std::test::Fail;
-use vt_log::{LINE_LIMIT, feed_log_reserved};
 use vt_syntax::EventKind;
-use vt_term::Terminal;
+use vt_term::{ROW_TEXT_LIMIT, Terminal};
 
 /// Numbered lines with an end each.
 fn numbered(alloc: Global, count: u32, end: &[u8]) -> Result<Vec<u8>, Fail> {
@@ -45,8 +44,8 @@ fn feed_to_a_line(
 ) -> Result<usize, Fail> {
     let piece = &bytes[..bytes.len().min(4096)];
     let mut reports = Vec::with_capacity(alloc, 40960)?;
-    let mut line = Vec::with_capacity(alloc, LINE_LIMIT)?;
-    let played = feed_log_reserved(terminal, piece, &mut reports, &mut line);
+    let mut line = Vec::with_capacity(alloc, ROW_TEXT_LIMIT)?;
+    let played = terminal.feed_log_reserved(piece, &mut reports, &mut line);
     lines.extend_from_slice(&line)?;
     Ok(played)
 }
@@ -84,7 +83,7 @@ fn fitting_lines(alloc: Global, input: &[u8], capacity: usize) -> Result<(Vec<u8
     let mut terminal = Terminal::new(alloc)?;
     let mut reports = Vec::with_capacity(alloc, 40960)?;
     let mut lines = Vec::with_capacity(alloc, capacity)?;
-    let played = terminal.feed_lines_reserved(piece, &mut reports, &mut lines);
+    let played = terminal.feed_log_reserved(piece, &mut reports, &mut lines);
     Ok((lines, played))
 }
 
@@ -93,7 +92,7 @@ fn fitting_lines(alloc: Global, input: &[u8], capacity: usize) -> Result<(Vec<u8
 fn is_read_in_time(alloc: Global) -> Result<bool, Fail> {
     let input = numbered(alloc, 30, b"\r\n")?;
     let (none, first) = fitting_lines(alloc, &input, 0)?;
-    let (line, second) = fitting_lines(alloc, &input, LINE_LIMIT)?;
+    let (line, second) = fitting_lines(alloc, &input, ROW_TEXT_LIMIT)?;
     Ok(
         none.is_empty()
             && first == 373

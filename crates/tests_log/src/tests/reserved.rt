@@ -4,7 +4,7 @@ ghost use Rattle.std.specs.Prelude.{◌≤◌};
 use super::common::holds;
 use std::alloc::Global;
 use std::test::Fail;
-use vt_log::{feed_log_reserved, feed_pages_reserved};
+use vt_log::feed_pages_reserved;
 use vt_term::Terminal;
 
 /// Lines that scroll off, two screens that are blanked, and a report.
@@ -19,7 +19,7 @@ fn log_takes_no_memory(alloc: Global, room: usize) -> Result<bool, Fail> {
     let mut reports = Vec::with_capacity(alloc, 10 * INPUT.len())?;
     let mut lines = Vec::with_capacity(alloc, room)?;
     let before = (reports.capacity(), lines.capacity());
-    let played = feed_log_reserved(&mut terminal, INPUT, &mut reports, &mut lines);
+    let played = terminal.feed_log_reserved(INPUT, &mut reports, &mut lines);
     Ok((reports.capacity(), lines.capacity()) == before && (played == INPUT.len()) == (room > 397))
 }
 

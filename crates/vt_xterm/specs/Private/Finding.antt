@@ -8,13 +8,15 @@ use Rattle.vt_syntax.specs.Laws.{SplitLaw}
 use Rattle.vt_term.specs.State.{State}
 use Rattle.vt_term.specs.Functions.{effect}
 use Rattle.vt_term.specs.Play.{play}
+use Rattle.vt_term.specs.Scrolling.{line_off}
 use Rattle.vt_term.specs.Observing.{AreCut}
 use Rattle.vt_xterm.specs.Pages.{Screens, on_display}
 use Rattle.vt_xterm.specs.Front.{xterm_effect}
+use Rattle.vt_xterm.specs.Log.{page_line_off}
 
--- the event has a VT220's effect
+-- the event has a VT220's effect, and scrolls off what it scrolls off there
 abbrev pub IsTerminals : Event → Type 0
-IsTerminals event = (s : Screens) → xterm_effect event s ≡ on_display (effect event) s
+IsTerminals event = (s : Screens) → (xterm_effect event s ≡ on_display (effect event) s) × (page_line_off event s.display ≡ line_off event s.display)
 
 unfoldable pub AreTerminals : List Event → Type 0
 AreTerminals [] = ⊤

@@ -1,5 +1,5 @@
 use Rattle.std.proofs.Common.{◌∙◌, ◌-◌, sym, arith}
-use Rattle.vt_term.proofs.Lines.{trimmed-take-space, trimmed-take-spaces, trimmed-take-glyph}
+use Rattle.vt_term.proofs.RowTexts.{trimmed-take-space, trimmed-take-spaces, trimmed-take-glyph}
 use Rattle.vt_term.proofs.line.end_of_text.Goals as goal
 
 pub loop-end-preserved : goal.loop-end-preserved

@@ -2,7 +2,7 @@ use Rattle.std.proofs.Common.{◌∙◌, ◌++◌, ◌+◌, ◌-◌, drop, take,
 use Rattle.std.specs.Prelude.{encode_utf8_all}
 use Rattle.vt_screen.specs.declared.cell.Cell.{Cell}
 use Rattle.vt_term.specs.Text.{glyphs_of}
-use Rattle.vt_term.proofs.Lines.{encoded-parts}
+use Rattle.vt_term.proofs.RowTexts.{encoded-parts}
 use Rattle.vt_term.proofs.line.push_characters.Goals as goal
 
 pub loop-at-preserved : goal.loop-at-preserved

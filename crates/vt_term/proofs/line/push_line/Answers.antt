@@ -3,7 +3,7 @@ use Rattle.std.proofs.Math.Seq.{take-length}
 use Rattle.std.proofs.lemmas.List.{length-take-le}
 use Rattle.std.specs.Prelude.{encode_utf8_all}
 use Rattle.vt_syntax.specs.Class.{IsPlain}
-use Rattle.vt_term.proofs.Lines.{plain-line, trimmed-glyphs}
+use Rattle.vt_term.proofs.RowTexts.{plain-line, trimmed-glyphs}
 use Rattle.vt_term.proofs.line.push_line.Goals as goal
 
 pub returns-then-plain_run-end-clause-items : goal.returns-then-plain_run-end-clause-items

@@ -1,5 +1,5 @@
 use Rattle.std.proofs.Common.{◌∙◌, ◌++◌, List, ℕ, ap, arith}
-use Rattle.vt_term.proofs.Lines.{plain-front}
+use Rattle.vt_term.proofs.RowTexts.{plain-front}
 use Rattle.vt_term.proofs.line.push_next.Goals as goal
 
 pub returns-then-contains-clause-items : goal.returns-then-contains-clause-items

@@ -1,10 +1,18 @@
 use Rattle.std.specs.Option.{option_to_list}
 use Rattle.vt_xterm.proofs.Fed.{feeds-byte}
+use Rattle.vt_xterm.proofs.Logged.{keeps-byte}
 use Rattle.vt_xterm.proofs.feeding.feed_byte.Goals as goal
 
 pub returns-clause-fed : goal.returns-clause-fed
-returns-clause-fed c =
+returns-clause-fed g c =
     feeds-byte c.args.terminal.now c.feed_lost.new.terminal c.feed_completed.new.terminal _ _ _ c.args.b
     (option_to_list c.push-lost.result.0) (option_to_list c.push-lost.result.1) c.args.out.now.items
     c.feed_lost.new.out.items c.feed_completed.new.out.items c.front.view_is c.push-lost.ensures.characters
     c.push-lost.ensures.pending c.feed_lost.ensures.leaves c.feed_completed.ensures.leaves
+
+pub returns-clause-keeps : goal.returns-clause-keeps
+returns-clause-keeps g c =
+    keeps-byte g.L.Log.Keeps g.L.Log.HasRoom g.met.L.Log.kept c.args.terminal.now c.feed_lost.new.terminal _ _ c.args.b
+    (option_to_list c.push-lost.result.0) (option_to_list c.push-lost.result.1) c.args.log.now c.feed_lost.new.log
+    c.feed_completed.new.log c.front.view_is c.push-lost.ensures.characters c.feed_lost.ensures.leaves.whole
+    c.feed_lost.ensures.keeps c.feed_completed.ensures.keeps

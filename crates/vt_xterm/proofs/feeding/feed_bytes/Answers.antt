@@ -1,27 +1,58 @@
-use Rattle.std.proofs.Common.{arith, length-drop}
+use Rattle.std.proofs.Common.{◌≡◌, ◌+◌, [], arith, ap, length-drop}
 use Rattle.vt_term.proofs.Bytes.{rest-of}
+use Rattle.vt_xterm.specs.Play.{WholePlayed, play_bytes}
 use Rattle.vt_xterm.specs.Private.Feeds.{whole_of}
+use Rattle.vt_xterm.proofs.Cuts.{bytes-nothing}
 use Rattle.vt_xterm.proofs.Fed.{feeds-nothing, feeds-more}
+use Rattle.vt_xterm.proofs.Logged.{keeps-nothing, keeps-bytes}
 use Rattle.vt_xterm.proofs.feeding.feed_bytes.Goals as goal
 
 pub loop-at-init : goal.loop-at-init
-loop-at-init c = record {
-  within = omega arith;
-  fed = feeds-nothing c.one_split.ensures (whole_of c.args.terminal.now c.args.pages.now) c.args.out.now.items
-      c.width.ensures.sound.held;
-  bounded = omega arith;
-  capacity = omega arith;
-}
-
-pub loop-at-preserved : goal.loop-at-preserved
-loop-at-preserved c =
-    let rest = rest-of c.args.piece.now c.loop-at.at in
-    let inside = simp length-drop at (rw rest at c.feed_some-at.ensures.within) in record {
-      within = omega (arith, inside);
-      fed = feeds-more c.one_split.ensures (whole_of c.args.terminal.now c.args.pages.now)
-          (whole_of c.loop-at.terminal c.loop-at.pages) (whole_of c.feed_some-at.new.terminal c.feed_some-at.new.pages)
-          c.args.piece.now c.loop-at.at c.feed_some-at.result c.args.out.now.items c.loop-at.out.items
-          c.feed_some-at.new.out.items c.loop-at.invariant.fed (rw rest at c.feed_some-at.ensures.fed);
+loop-at-init g c =
+    let w = whole_of c.args.terminal.now c.args.pages.now in record {
+      within = omega arith;
+      fed = feeds-nothing c.one_split.ensures w c.args.out.now.items c.width.ensures.sound.held;
+      keeps = keeps-nothing g.L.Log.Keeps g.L.Log.HasRoom g.met.L.Log.kept c.args.log.now (play_bytes w []).lines
+          (ap (λ (x : WholePlayed). x.lines) (bytes-nothing c.one_split.ensures w c.width.ensures.sound.held));
       bounded = omega arith;
       capacity = omega arith;
     }
+
+pub loop-at-preserved : goal.loop-at-preserved
+loop-at-preserved g c =
+    let rest = rest-of c.args.piece.now c.loop-at.at in
+    let next = c.feed_some-count in
+    let w = whole_of c.args.terminal.now c.args.pages.now in
+    let v = whole_of c.loop-at.terminal c.loop-at.pages in
+    let inside = simp length-drop at (rw rest at next.ensures.within) in record {
+      within = omega (arith, inside);
+      fed = feeds-more c.one_split.ensures w v (whole_of next.new.terminal next.new.pages) c.args.piece.now c.loop-at.at
+          next.result c.args.out.now.items c.loop-at.out.items next.new.out.items c.loop-at.invariant.fed
+          (rw rest at next.ensures.fed);
+      keeps = keeps-bytes g.L.Log.Keeps g.L.Log.HasRoom g.met.L.Log.kept c.one_split.ensures w v c.args.piece.now c.loop-at.at
+          next.result c.args.log.now c.loop-at.log next.new.log c.loop-at.invariant.fed.whole c.loop-at.invariant.keeps
+          (rw rest at next.ensures.keeps);
+      bounded = omega arith;
+      capacity = omega arith;
+    }
+
+-- the log is full, so the last call played no bytes
+pub returns-then-count-eq0-clause-fed : goal.returns-then-count-eq0-clause-fed
+returns-then-count-eq0-clause-fed g c =
+    let next = c.feed_some-count in
+    let w = whole_of c.args.terminal.now c.args.pages.now in
+    let v = whole_of c.loop-at.terminal c.loop-at.pages in
+    let none : c.loop-at.at + next.result ≡ c.loop-at.at = omega (arith, c.if-count-eq0.true) in
+    rw none at (feeds-more c.one_split.ensures w v (whole_of next.new.terminal next.new.pages) c.args.piece.now c.loop-at.at
+    next.result c.args.out.now.items c.loop-at.out.items next.new.out.items c.loop-at.invariant.fed
+    (rw (rest-of c.args.piece.now c.loop-at.at) at next.ensures.fed))
+
+pub returns-then-count-eq0-clause-keeps : goal.returns-then-count-eq0-clause-keeps
+returns-then-count-eq0-clause-keeps g c =
+    let next = c.feed_some-count in
+    let w = whole_of c.args.terminal.now c.args.pages.now in
+    let v = whole_of c.loop-at.terminal c.loop-at.pages in
+    let none : c.loop-at.at + next.result ≡ c.loop-at.at = omega (arith, c.if-count-eq0.true) in
+    rw none at (keeps-bytes g.L.Log.Keeps g.L.Log.HasRoom g.met.L.Log.kept c.one_split.ensures w v c.args.piece.now c.loop-at.at
+    next.result c.args.log.now c.loop-at.log next.new.log c.loop-at.invariant.fed.whole c.loop-at.invariant.keeps
+    (rw (rest-of c.args.piece.now c.loop-at.at) at next.ensures.keeps))

@@ -1,15 +1,19 @@
-use Rattle.vt_xterm.specs.Private.Feeds.{whole_of}
-use Rattle.vt_xterm.proofs.Fed.{leaves-ascii, leaves-beyond}
+use Rattle.std.proofs.Common.{ℕ, List, subst, take}
+use Rattle.vt_xterm.specs.Private.Feeds.{whole_of, FeedsBytes}
+use Rattle.vt_xterm.proofs.Fed.{leaves-ascii, one-byte}
+use Rattle.vt_xterm.proofs.Logged.{keeps-ascii-character}
 use Rattle.vt_xterm.proofs.feeding.feed_character.Goals as goal
 
 pub returns-then-c-lt128-clause-leaves : goal.returns-then-c-lt128-clause-leaves
-returns-then-c-lt128-clause-leaves c =
-    leaves-ascii (whole_of c.args.terminal.now c.args.pages.now)
-    (whole_of c.feed_bytes.new.terminal c.feed_bytes.new.pages) c.args.c c.args.out.now.items
-    c.feed_bytes.new.out.items c.if-c-lt128.true c.feed_bytes.ensures.fed
+returns-then-c-lt128-clause-leaves g c =
+    let w = whole_of c.args.terminal.now c.args.pages.now in
+    let v = whole_of c.feed_event.new.terminal c.feed_event.new.pages in
+    leaves-ascii w v c.args.c c.args.out.now.items c.feed_event.new.out.items c.if-c-lt128.true
+    (subst (λ (bytes : List ℕ). FeedsBytes w bytes v c.args.out.now.items c.feed_event.new.out.items)
+    (one-byte c.feed_event.result c.args.c c.feed_event.ensures.some) c.feed_event.ensures.fed)
 
-pub returns-else-c-lt128-clause-leaves : goal.returns-else-c-lt128-clause-leaves
-returns-else-c-lt128-clause-leaves c =
-    leaves-beyond c.args.terminal.now c.feed_beyond_ascii.new.terminal c.args.pages.now c.args.c c.args.out.now.items
-    c.feed_beyond_ascii.new.out.items c.if-c-lt128.false c.feed_beyond_ascii.ensures.state
-    c.feed_beyond_ascii.ensures.silent c.feed_beyond_ascii.ensures.out
+pub returns-then-c-lt128-clause-keeps : goal.returns-then-c-lt128-clause-keeps
+returns-then-c-lt128-clause-keeps g c =
+    keeps-ascii-character g.L.Log.Keeps g.L.Log.HasRoom g.met.L.Log.kept (whole_of c.args.terminal.now c.args.pages.now) c.args.c
+    c.feed_event.result c.args.log.now c.feed_event.new.log c.if-c-lt128.true c.feed_event.ensures.some
+    c.feed_event.ensures.keeps

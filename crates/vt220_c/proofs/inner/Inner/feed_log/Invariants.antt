@@ -1,7 +1,7 @@
 use Rattle.std.proofs.Common.{◌≡◌, ◌*◌, ◌-◌, ◌≤◌, true, false, length, take}
 use Rattle.std.specs.Prelude.{vec_capacity}
 use Rattle.vt_term.specs.Play.{play}
-use Rattle.vt_log.specs.Log.{log}
+use Rattle.vt_term.specs.Scrolling.{log}
 use Rattle.vt220_c.specs.Bells.{bells}
 use Rattle.vt220_c.specs.Written.{written_over}
 use Rattle.vt220_c.proofs.inner.Inner.feed_log.Given as goal

@@ -6,12 +6,15 @@ use Rattle.vt_term.proofs.Scrolled.{no-line}
 use Rattle.vt_term.proofs.scrolling.LinesObserver.part.Goals as goal
 
 pub returns : goal.returns
-returns c = λ s none. (
-  refl,
-  record {
-    lines = sym (ap (λ (rows : List (List Cell)). c.args.self.now.lines.now.items ++ flat_map line_text rows)
-        (no-line s c.args.bytes.now none) ∙ append-nil c.args.self.now.lines.now.items);
-    bounded = omega arith;
-  },
-  omega arith,
+returns g c = λ s none. (
+  (
+    refl,
+    record {
+      lines = sym (ap (λ (rows : List (List Cell)). c.args.self.now.lines.now.items ++ flat_map line_text rows)
+          (no-line s c.args.bytes.now none) ∙ append-nil c.args.self.now.lines.now.items);
+      bounded = omega arith;
+    },
+    omega arith,
+  ),
+  c.part.ensures s none,
 )

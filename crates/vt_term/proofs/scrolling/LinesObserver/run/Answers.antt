@@ -1,4 +1,4 @@
-use Rattle.std.proofs.Common.{[], arith}
+use Rattle.std.proofs.Common.{[], refl, arith}
 use Rattle.std.specs.Prelude.{slice_index}
 use Rattle.vt_syntax.specs.declared.event.Event.TheVariants.{Print}
 use Rattle.vt_term.specs.Scrolling.{line_off}
@@ -6,13 +6,16 @@ use Rattle.vt_term.proofs.Scrolled.{run-line, logs-one}
 use Rattle.vt_term.proofs.scrolling.LinesObserver.run.Goals as goal
 
 pub returns : goal.returns
-returns c = λ s same between.
-    let few = c.keep.ensures.bounded in
+returns g c = λ s same between.
+    let few = c.line_off_reserved.ensures.bounded in
     let bytes = c.args.bytes.now in (
-      c.keep.ensures.same_reference,
-      logs-one s bytes c.args.self.now.lines.now.items c.keep.new.self.lines.now.items
-          (line_off (Print (slice_index bytes 0)) s.display) c.requires.some
-          (run-line c.spelled.ensures s bytes between c.requires.graphic c.requires.some (rw same c.requires.fits.0))
-          (rw same (c.keep.ensures.lines [])) (omega (arith, few)),
-      c.keep.ensures.capacity,
+      (
+        refl,
+        logs-one s bytes c.args.self.now.lines.now.items c.line_off_reserved.new.lines.items
+            (line_off (Print (slice_index bytes 0)) s.display) c.requires.some
+            (run-line c.spelled.ensures s bytes between c.requires.graphic c.requires.some (rw same c.requires.fits.0.0))
+            (rw same (c.line_off_reserved.ensures.lines [])) (omega (arith, few)),
+        c.line_off_reserved.ensures.capacity,
+      ),
+      c.run.ensures s same between,
     )

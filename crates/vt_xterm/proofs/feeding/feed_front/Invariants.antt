@@ -1,16 +1,19 @@
 -- The bytes before the place are played.
 use Rattle.std.proofs.Common.{◌+◌, ◌-◌, ◌*◌, ◌≤◌, length, take, vec_len, vec_capacity}
+use Rattle.vt_xterm.specs.Play.{behind, play_xterm}
 use Rattle.vt_xterm.specs.Private.Feeds.{FeedsXterm}
-use Rattle.vt_xterm.proofs.feeding.feed_xterm_reserved.Given as goal
+use Rattle.vt_xterm.proofs.feeding.feed_front.Given as goal
 
 abbrev pub invariant-loop-at : goal.invariant-loop-at
-invariant-loop-at l = record {
+invariant-loop-at g l = record {
   within : l.at ≤ length l.piece;
   fed : FeedsXterm l.initial.terminal l.initial.front (take l.at l.piece) l.terminal l.front l.initial.out.items
       l.out.items;
+  keeps : g.L.Log.Keeps l.initial.log
+      (play_xterm (behind l.initial.terminal l.initial.front) l.initial.front.pending (take l.at l.piece)).lines l.log;
   bounded : vec_len l.out ≤ vec_len l.initial.out + 10 * l.at;
   capacity : vec_capacity l.initial.out ≤ vec_capacity l.out;
 }
 
 abbrev pub decreases-loop-at : goal.decreases-loop-at
-decreases-loop-at l = length l.piece - l.at
+decreases-loop-at g l = length l.piece - l.at

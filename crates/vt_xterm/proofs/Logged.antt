@@ -1,0 +1,202 @@
+-- The lines that are kept, in parts.
+use Rattle.std.proofs.Common.{◌≡◌, ℕ, ◌+◌, List, [], ◌∷◌, ◌++◌, take, drop, sym, ap, ◌∙◌, subst, append-nil, All, ◌<◌, Bool, true, false}
+use Rattle.std.specs.Prelude.{flat_map, ◌≤◌, if◌then◌else◌}
+use Rattle.std.proofs.Math.Seq.{take-add}
+use Rattle.std.proofs.lemmas.Grind.{flat_map-append}
+use Rattle.vt_syntax.specs.Laws.{SplitLaw}
+use Rattle.vt_screen.specs.declared.cell.Cell.{Cell}
+use Rattle.vt_term.specs.Text.{line_text}
+use Rattle.vt_syntax.specs.declared.event.Event.{Event}
+use Rattle.vt_syntax.specs.Held.{IsHeldPart, events_from, held_from}
+use Rattle.vt_term.specs.State.{State}
+use Rattle.vt_term.specs.Scrolling.{scrolled_off}
+use Rattle.vt_utf8.specs.Decoding.{read, characters, pending_after, IsWhole}
+use Rattle.vt_utf8.specs.Translation.{translation}
+use Rattle.vt_xterm.specs.Pages.{PagesState, screens}
+use Rattle.vt_xterm.specs.Log.{page_line_off, xterm_line_off, xterm_lines_off}
+use Rattle.vt_xterm.specs.Play.{Whole, WholePlayed, FrontState, behind, screens_of, xterm_log}
+use Rattle.vt_xterm.specs.Play.{play_bytes, play_character, play_characters, play_xterm}
+use Rattle.vt_xterm.specs.Private.Finding.{PlaysTerminals}
+use Rattle.vt_xterm.specs.Private.Feeds.{whole_of}
+use Rattle.vt_xterm.specs.Private.Logs.{AreKept}
+use Rattle.vt_xterm.proofs.Cuts.{bytes-two, character-ascii, characters-two, xterm-nothing, xterm-two}
+use Rattle.vt_xterm.proofs.Terminals.{bytes-terminals}
+use Rattle.vt_xterm.proofs.Fed.{ascii-played, whole-played, character-beyond, one-byte}
+
+abbrev pub Rows : Type 0
+Rows = List (List Cell)
+
+-- ---- the law of the log
+
+pub log-nothing : (w : Whole) (pending : List ℕ) → xterm_log w pending [] ≡ []
+log-nothing w pending = ap (λ (p : WholePlayed). flat_map line_text p.lines) (xterm-nothing w pending)
+
+pub log-two : (w : Whole) (pending a b : List ℕ) → xterm_log w pending (a ++ b)
+    ≡ xterm_log w pending a ++ xterm_log (play_xterm w pending a).whole (pending_after pending a) b
+log-two w pending a b =
+    ap (λ (p : WholePlayed). flat_map line_text p.lines) (xterm-two w pending a b)
+    ∙ flat_map-append line_text (play_xterm w pending a).lines
+    (play_xterm (play_xterm w pending a).whole (pending_after pending a) b).lines
+
+-- ---- what is kept
+
+module _ {O : Type 0} (Keeps : O → Rows → O → Type 0) (HasRoom : O → ℕ → Type 0) (kept : AreKept Keeps HasRoom) where
+  pub keeps-nothing : (o : O) (rows : Rows) → rows ≡ [] → Keeps o rows o
+  keeps-nothing o rows is = subst (λ (r : Rows). Keeps o r o) (sym is) (kept.nothing o)
+
+  pub keeps-both : (o p q : O) (a b rows : Rows) → Keeps o a p → Keeps p b q → rows ≡ a ++ b → Keeps o rows q
+  keeps-both o p q a b rows first second is = subst (λ (r : Rows). Keeps o r q) (sym is) (kept.more o p q a b first second)
+
+  pub keeps-bytes : SplitLaw → (w v : Whole) (piece : List ℕ) (at n : ℕ) (o p q : O)
+      → v ≡ (play_bytes w (take at piece)).whole → Keeps o (play_bytes w (take at piece)).lines p
+      → Keeps p (play_bytes v (take n (drop at piece))).lines q → Keeps o (play_bytes w (take (at + n) piece)).lines q
+  keeps-bytes split w v piece at n o p q is first second =
+      let a = take at piece in
+      let b = take n (drop at piece) in
+      keeps-both o p q (play_bytes w a).lines (play_bytes v b).lines (play_bytes w (take (at + n) piece)).lines first second
+      (ap (λ (bytes : List ℕ). (play_bytes w bytes).lines) (take-add at n piece)
+      ∙ ap (λ (x : WholePlayed). x.lines) (bytes-two split w a b)
+      ∙ ap (λ (x : Whole). (play_bytes w a).lines ++ (play_bytes x b).lines) (sym is))
+
+  pub keeps-characters : (w v : Whole) (xs ys : List ℕ) (o p q : O) → v ≡ (play_characters w xs).whole
+      → Keeps o (play_characters w xs).lines p → Keeps p (play_characters v ys).lines q
+      → Keeps o (play_characters w (xs ++ ys)).lines q
+  keeps-characters w v xs ys o p q is first second =
+      keeps-both o p q (play_characters w xs).lines (play_characters v ys).lines (play_characters w (xs ++ ys)).lines first
+      second
+      (ap (λ (x : WholePlayed). x.lines) (characters-two w xs ys)
+      ∙ ap (λ (x : Whole). (play_characters w xs).lines ++ (play_characters x ys).lines) (sym is))
+
+  pub keeps-xterm : (w v : Whole) (pending after piece : List ℕ) (at n : ℕ) (o p q : O)
+      → v ≡ (play_xterm w pending (take at piece)).whole → after ≡ pending_after pending (take at piece)
+      → Keeps o (play_xterm w pending (take at piece)).lines p
+      → Keeps p (play_xterm v after (take n (drop at piece))).lines q
+      → Keeps o (play_xterm w pending (take (at + n) piece)).lines q
+  keeps-xterm w v pending after piece at n o p q is left first second =
+      let a = take at piece in
+      let b = take n (drop at piece) in
+      keeps-both o p q (play_xterm w pending a).lines (play_xterm v after b).lines
+      (play_xterm w pending (take (at + n) piece)).lines first second
+      (ap (λ (bytes : List ℕ). (play_xterm w pending bytes).lines) (take-add at n piece)
+      ∙ ap (λ (x : WholePlayed). x.lines) (xterm-two w pending a b)
+      ∙ ap (λ (x : Whole). (play_xterm w pending a).lines ++ (play_xterm x (pending_after pending a) b).lines) (sym is)
+      ∙ ap (λ (x : List ℕ). (play_xterm w pending a).lines ++ (play_xterm v x b).lines) (sym left))
+
+  -- ---- UTF-8
+
+  pub keeps-ascii : SplitLaw → (s : State) (inside front : FrontState) (bytes : List ℕ) (o p : O) → inside ≡ front
+      → IsHeldPart s.held → front.pending ≡ [] → All (λ b. b < 0x80) bytes
+      → Keeps o (play_bytes (whole_of s inside.pages) bytes).lines p
+      → Keeps o (play_xterm (behind s front) front.pending bytes).lines p
+  keeps-ascii split s inside front bytes o p is held none all keeps =
+      subst (λ (rows : Rows). Keeps o rows p)
+      (ap (λ (f : FrontState). (play_bytes (whole_of s f.pages) bytes).lines) is
+      ∙ ap (λ (x : WholePlayed). x.lines) (sym (ascii-played split (behind s front) front.pending bytes held none all)))
+      keeps
+
+  pub keeps-byte : (s t : State) (inside front : FrontState) (b : ℕ) (xs ys : List ℕ) (o p q : O) → inside ≡ front
+      → xs ++ ys ≡ (read inside.pending b).characters
+      → whole_of t inside.pages ≡ (play_characters (whole_of s inside.pages) xs).whole
+      → Keeps o (play_characters (whole_of s inside.pages) xs).lines p
+      → Keeps p (play_characters (whole_of t inside.pages) ys).lines q
+      → Keeps o (play_xterm (behind s front) front.pending (b ∷ [])).lines q
+  unfolding play_xterm
+  keeps-byte s t inside front b xs ys o p q is are left first second =
+      subst (λ (f : FrontState). Keeps o (play_characters (behind s f) (characters f.pending (b ∷ []))).lines q) is
+      (subst (λ (cs : List ℕ). Keeps o (play_characters (whole_of s inside.pages) cs).lines q)
+      (are ∙ sym (append-nil (read inside.pending b).characters))
+      (keeps-characters (whole_of s inside.pages) (whole_of t inside.pages) xs ys o p q left first second))
+
+  pub keeps-whole : (s : State) (inside front : FrontState) (piece : List ℕ) (c n : ℕ) (o p : O) → inside ≡ front
+      → front.pending ≡ [] → IsWhole piece c n → Keeps o (play_characters (whole_of s inside.pages) (c ∷ [])).lines p
+      → Keeps o (play_xterm (behind s front) front.pending (take n piece)).lines p
+  keeps-whole s inside front piece c n o p is none whole keeps =
+      subst (λ (x : WholePlayed). Keeps o x.lines p)
+      (ap (λ (f : FrontState). play_characters (whole_of s f.pages) (c ∷ [])) is
+      ∙ sym (whole-played (behind s front) front.pending piece c n none whole))
+      keeps
+
+  pub keeps-none : (s : State) (front : FrontState) (o : O) → Keeps o (play_xterm (behind s front) front.pending []).lines o
+  keeps-none s front o =
+      keeps-nothing o (play_xterm (behind s front) front.pending []).lines
+      (ap (λ (x : WholePlayed). x.lines) (xterm-nothing (behind s front) front.pending))
+
+  -- ---- a character
+
+  pub keeps-ascii-character : (w : Whole) (c n : ℕ) (o p : O) → c < 0x80 → 1 ≤ n
+      → Keeps o (play_bytes w (take n (c ∷ []))).lines p → Keeps o (play_characters w (c ∷ [])).lines p
+  keeps-ascii-character w c n o p low some keeps =
+      subst (λ (rows : Rows). Keeps o rows p)
+      (ap (λ (bytes : List ℕ). (play_bytes w bytes).lines) (one-byte n c some)
+      ∙ ap (λ (x : WholePlayed). x.lines) (sym (character-ascii w c low))
+      ∙ sym (append-nil (play_character w c).lines))
+      keeps
+
+  beyond-lines : (s : State) (pages : PagesState) (c : ℕ) → 0x80 ≤ c → (play_characters (whole_of s pages) (c ∷ [])).lines
+      ≡ if pages.alternate then [] else scrolled_off s (translation s c)
+  beyond-lines s pages c high =
+      append-nil (play_character (whole_of s pages) c).lines
+      ∙ ap (λ (x : WholePlayed). x.lines) (character-beyond s pages c high)
+
+  pub keeps-alternate : (s : State) (pages : PagesState) (c : ℕ) (o : O) → 0x80 ≤ c → pages.alternate ≡ true
+      → Keeps o (play_characters (whole_of s pages) (c ∷ [])).lines o
+  keeps-alternate s pages c o high is =
+      keeps-nothing o (play_characters (whole_of s pages) (c ∷ [])).lines
+      (beyond-lines s pages c high ∙ ap (λ (b : Bool). if b then [] else scrolled_off s (translation s c)) is)
+
+  pub keeps-main : (s : State) (pages : PagesState) (c : ℕ) (o p : O) → 0x80 ≤ c → pages.alternate ≡ false
+      → Keeps o (scrolled_off s (translation s c)) p → Keeps o (play_characters (whole_of s pages) (c ∷ [])).lines p
+  keeps-main s pages c o p high is keeps =
+      subst (λ (rows : Rows). Keeps o rows p)
+      (sym (beyond-lines s pages c high ∙ ap (λ (b : Bool). if b then [] else scrolled_off s (translation s c)) is))
+      keeps
+
+  -- ---- bytes whose events are a VT220's
+
+  terminals-lines : (s : State) (pages : PagesState) (bytes : List ℕ) → PlaysTerminals s bytes
+      → (play_bytes (whole_of s pages) bytes).lines ≡ if pages.alternate then [] else scrolled_off s bytes
+  terminals-lines s pages bytes all = ap (λ (x : WholePlayed). x.lines) (bytes-terminals (whole_of s pages) bytes all)
+
+  pub terminals-alternate : (s : State) (pages : PagesState) (bytes : List ℕ) (o : O) → PlaysTerminals s bytes
+      → pages.alternate ≡ true → Keeps o (play_bytes (whole_of s pages) bytes).lines o
+  terminals-alternate s pages bytes o all is =
+      keeps-nothing o (play_bytes (whole_of s pages) bytes).lines
+      (terminals-lines s pages bytes all ∙ ap (λ (b : Bool). if b then [] else scrolled_off s bytes) is)
+
+  pub terminals-main : (s : State) (pages : PagesState) (bytes : List ℕ) (o p : O) → PlaysTerminals s bytes
+      → pages.alternate ≡ false → Keeps o (scrolled_off s bytes) p → Keeps o (play_bytes (whole_of s pages) bytes).lines p
+  terminals-main s pages bytes o p all is keeps =
+      subst (λ (rows : Rows). Keeps o rows p)
+      (sym (terminals-lines s pages bytes all ∙ ap (λ (b : Bool). if b then [] else scrolled_off s bytes) is)) keeps
+
+  -- ---- bytes without an event, and bytes that are one event
+
+  pub part-keeps : (w : Whole) (bytes : List ℕ) (o : O) → events_from w.state.held bytes ≡ []
+      → Keeps o (play_bytes w bytes).lines o
+  unfolding play_bytes
+  part-keeps w bytes o none =
+      keeps-nothing o (xterm_lines_off (events_from w.state.held bytes) (screens_of w))
+      (ap (λ (events : List Event). xterm_lines_off events (screens_of w)) none)
+
+  pub event-keeps : (s mid : State) (pages : PagesState) (bytes : List ℕ) (event : Event) (o p : O)
+      → events_from s.held bytes ≡ event ∷ [] → mid ≡ record s { held = held_from s.held bytes }
+      → Keeps o (xterm_line_off event (screens mid pages)) p → Keeps o (play_bytes (whole_of s pages) bytes).lines p
+  unfolding play_bytes
+  event-keeps s mid pages bytes event o p is read keeps =
+      subst (λ (rows : Rows). Keeps o rows p)
+      (ap (λ (m : State). xterm_line_off event (screens m pages)) read
+      ∙ sym (ap (λ (events : List Event). xterm_lines_off events (screens s pages)) is
+      ∙ append-nil (xterm_line_off event (screens s pages))))
+      keeps
+
+  pub alternate-keeps : (s : State) (pages : PagesState) (event : Event) (o : O) → pages.alternate ≡ true
+      → Keeps o (xterm_line_off event (screens s pages)) o
+  alternate-keeps s pages event o is =
+      keeps-nothing o (xterm_line_off event (screens s pages))
+      (ap (λ (b : Bool). if b then [] else page_line_off event s.display) is)
+
+  pub main-keeps : (s : State) (pages : PagesState) (event : Event) (o p : O) → pages.alternate ≡ false
+      → Keeps o (page_line_off event s.display) p → Keeps o (xterm_line_off event (screens s pages)) p
+  main-keeps s pages event o p is keeps =
+      subst (λ (rows : Rows). Keeps o rows p) (ap (λ (b : Bool). if b then [] else page_line_off event s.display) (sym is))
+      keeps

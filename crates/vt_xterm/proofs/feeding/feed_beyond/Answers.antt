@@ -1,0 +1,29 @@
+use Rattle.std.proofs.Common.{◌+◌, arith, sym, ◌∙◌}
+use Rattle.vt_xterm.proofs.Fed.{leaves-beyond}
+use Rattle.vt_xterm.proofs.Logged.{keeps-alternate, keeps-main}
+use Rattle.vt_xterm.proofs.feeding.feed_beyond.Goals as goal
+
+pub returns-then-is_alternate-clause-leaves : goal.returns-then-is_alternate-clause-leaves
+returns-then-is_alternate-clause-leaves g c =
+    leaves-beyond c.args.terminal.now c.feed_beyond_ascii.new.terminal c.args.pages.now c.args.c c.args.out.now.items
+    c.feed_beyond_ascii.new.out.items c.requires.beyond c.feed_beyond_ascii.ensures.state
+    c.feed_beyond_ascii.ensures.silent c.feed_beyond_ascii.ensures.out
+
+pub returns-then-is_alternate-clause-keeps : goal.returns-then-is_alternate-clause-keeps
+returns-then-is_alternate-clause-keeps g c =
+    keeps-alternate g.L.Log.Keeps g.L.Log.HasRoom g.met.L.Log.kept c.args.terminal.now c.args.pages.now c.args.c c.args.log.now
+    c.requires.beyond (sym c.is_alternate.ensures ∙ c.if-is_alternate.true)
+
+pub returns-then-is_alternate-clause-left : goal.returns-then-is_alternate-clause-left
+returns-then-is_alternate-clause-left g c = λ n room. g.met.L.Log.kept.less c.args.log.now n (n + 8734) (omega arith) room
+
+pub returns-else-is_alternate-clause-leaves : goal.returns-else-is_alternate-clause-leaves
+returns-else-is_alternate-clause-leaves g c =
+    leaves-beyond c.args.terminal.now c.character.new.terminal c.args.pages.now c.args.c c.args.out.now.items
+    c.character.new.out.items c.requires.beyond c.character.ensures.state c.character.ensures.silent
+    c.character.ensures.out
+
+pub returns-else-is_alternate-clause-keeps : goal.returns-else-is_alternate-clause-keeps
+returns-else-is_alternate-clause-keeps g c =
+    keeps-main g.L.Log.Keeps g.L.Log.HasRoom g.met.L.Log.kept c.args.terminal.now c.args.pages.now c.args.c c.args.log.now
+    c.character.new.self c.requires.beyond (sym c.is_alternate.ensures ∙ c.if-is_alternate.false) c.character.ensures.keeps

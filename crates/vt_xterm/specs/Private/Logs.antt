@@ -1,0 +1,34 @@
+-- Where lines go. Contracts of private functions cite this, and no public clause does.
+use Rattle.std.specs.Prelude.{◌≡◌, ◌≤◌, ◌+◌, ℕ, List, [], ◌++◌, flat_map, ⊤}
+use Rattle.std.proofs.Common.{refl, sym, ap, ◌∙◌, arith, append_assoc, append-nil}
+use Rattle.std.proofs.lemmas.Grind.{flat_map-append}
+use Rattle.vt_screen.specs.declared.cell.Cell.{Cell}
+use Rattle.vt_term.specs.Text.{line_text}
+
+-- no lines change nothing, and lines in turn are the lines joined; where there is room there is room for less
+pub record AreKept {O : Type 0} (Keeps : O → List (List Cell) → O → Type 0) (HasRoom : O → ℕ → Type 0) : Type 0 where
+  pub nothing : (o : O) → Keeps o [] o
+  pub more : (o p q : O) (a b : List (List Cell)) → Keeps o a p → Keeps p b q → Keeps o (a ++ b) q
+  pub less : (o : O) (m n : ℕ) → m ≤ n → HasRoom o n → HasRoom o m
+
+pub nowhere_kept : {O : Type 0} → AreKept {O = O} (λ o rows p. ⊤) (λ o n. ⊤)
+nowhere_kept = record {
+  nothing = λ o. tt;
+  more = λ o p q a b first second. tt;
+  less = λ o m n less room. tt;
+}
+
+pub lines_kept : {O N : Type 0} (lines : O → List ℕ) (used room : O → ℕ) (name : O → N) → AreKept {O = O}
+    (λ o rows p. (name p ≡ name o) × (lines p ≡ lines o ++ flat_map line_text rows) × (room o ≤ room p))
+    (λ o n. used o + n ≤ room o)
+lines_kept lines used room name = record {
+  nothing = λ o. (refl, sym (append-nil (lines o)), omega arith);
+  more = λ o p q a b first second. (
+    second.0 ∙ first.0,
+    second.1 ∙ ap (λ (t : List ℕ). t ++ flat_map line_text b) first.1
+        ∙ append_assoc (lines o) (flat_map line_text a) (flat_map line_text b)
+        ∙ ap (λ (t : List ℕ). lines o ++ t) (sym (flat_map-append line_text a b)),
+    omega (arith, first.2, second.2),
+  );
+  less = λ o m n less room. omega (arith, less, room);
+}

@@ -2,6 +2,8 @@ pub mod Due
 pub mod Encoding
 pub mod Log
 pub mod Output
+pub mod PageCuts
+pub mod Pages
 pub mod Playing
 pub mod Request
 pub mod Status

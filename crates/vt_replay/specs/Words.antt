@@ -2,7 +2,7 @@
 use Rattle.std.specs.Prelude.{ℕ, List, [], Bool, Result, false}
 use Rattle.vt_device.specs.Runs.{Flags}
 use Rattle.vt_term.specs.State.{power_up}
-use Rattle.vt_log.specs.Pages.{pages}
+use Rattle.vt_replay.specs.Pages.{pages}
 use Rattle.vt_trace.specs.Trace.{trace, tracer_all, text_end}
 use Rattle.vt_trace.specs.declared.tracing.Tracer.{Tracer}
 use Rattle.vt_trace.specs.Summary.{summary}
@@ -14,7 +14,7 @@ use Rattle.vt_recording.specs.declared.format.Encoding.{Encoding}
 use Rattle.vt_recording.specs.declared.format.Encoding.TheVariants.{Dec}
 use Rattle.vt_replay.specs.Due.{sent_by, end_by, there_by}
 use Rattle.vt_replay.specs.Encoding.{decoded}
-use Rattle.vt_replay.specs.Log.{lines, screen}
+use Rattle.vt_replay.specs.Log.{screen, lines_in, screen_in}
 use Rattle.vt_replay.specs.Output.{OutputTable, always}
 use Rattle.vt_replay.specs.Playing.{language_of, played_as}
 
@@ -59,12 +59,14 @@ of_decoded encoding written ending = record {
   there = always;
 }
 
--- a row a word, for a terminal and in an encoding. Only a replay plays xterm. A trace and a summary are of the bytes as they are
+-- a row a word, for a terminal and in an encoding. A replay and a log play xterm. A trace and a summary are of the bytes as they are
 abbrev pub due_of : Word → TerminalType → Encoding → Due
 due_of (Replay what) terminal encoding =
     let played = played_as (language_of terminal encoding) in
     record { written = sent_by played what; ending = end_by played what; there = there_by played what }
-due_of Log terminal encoding = of_decoded encoding lines screen
+due_of Log terminal encoding =
+    let language = language_of terminal encoding in
+    record { written = lines_in language; ending = screen_in language; there = always }
 due_of Pages terminal encoding = of_decoded encoding pages_written screen
 due_of Trace terminal encoding = of_decoded Dec trace_written trace_ending
 due_of Summary terminal encoding = of_decoded Dec nothing summary

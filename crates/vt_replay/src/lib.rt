@@ -2,6 +2,7 @@
 //! re-exports the command line of the crate vt_cli.
 #![tactic(auto)]
 
+mod blanks;
 mod decoding;
 mod engine;
 mod language;
@@ -9,6 +10,7 @@ pub mod laws;
 mod logging;
 mod output;
 mod outputs;
+mod pages;
 mod player;
 mod requests;
 mod status;
@@ -17,6 +19,7 @@ pub use engine::{replay, run, run_from};
 pub use language::Language;
 pub use logging::{write_log, write_log_from};
 pub use output::{Output, front_for, write_output, write_output_from};
+pub use pages::{PAGE_LIMIT, feed_pages, feed_pages_reserved};
 pub use requests::{Outcome, carry_out, format_of, lacks_times};
 pub use vt_cli::{
     Encoding, Format, Moment, Refused, Request, Settings, TerminalType, What, Word, request,

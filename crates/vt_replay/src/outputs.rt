@@ -3,16 +3,16 @@ ghost use Rattle.std.specs.Prelude.{◌≡◌, ⊤, ◌+◌, ◌*◌, ◌/◌, �
 ghost use Rattle.vt_term.specs.State.{power_up};
 ghost use Rattle.vt_term.specs.Play.{play};
 ghost use Rattle.vt_term.specs.Text.{text};
-ghost use Rattle.vt_log.specs.Pages.{pages};
+ghost use Rattle.vt_replay.specs.Pages.{pages};
 ghost use Rattle.vt_trace.specs.Trace.{trace, tracer_all, text_end};
 ghost use Rattle.vt_trace.specs.Counted.{HasCounted};
 ghost use Rattle.vt_trace.specs.Summary.{summary};
 ghost use Rattle.vt_replay.specs.Words.{tracer_at_start};
 
+use crate::laws::pages_cut;
 use crate::output::{Output, front_for};
+use crate::pages::{PAGE_LIMIT, feed_pages_reserved};
 use std::alloc::{AllocError, Global};
-use vt_log::laws::pages_cut;
-use vt_log::{PAGE_LIMIT, feed_pages_reserved};
 use vt_term::laws::{cuts, soundness};
 use vt_term::{REPORT_LIMIT, Terminal};
 use vt_trace::laws::cuts as trace_cuts;

@@ -11,6 +11,7 @@ ghost use Rattle.vt_replay.specs.Request.{encoding_wanted, cast_encoding, encodi
 
 use crate::engine::run_from;
 use crate::language::Language;
+use crate::laws::pages_cut;
 use crate::logging::write_log_from;
 use crate::output::write_output_from;
 use crate::outputs::{ContentOutput, PageOutput, SummaryOutput, TraceOutput};
@@ -18,7 +19,6 @@ use std::alloc::{AllocError, Global};
 use std::io::{Read, Write};
 use vt_cli::{Encoding, Format, Moment, Request, Word};
 use vt_device::{Source, Watched};
-use vt_log::laws::pages_cut;
 use vt_recording::{Break, Content, Detected, Fault, Taken, detect, read_recording, take_apart};
 use vt_term::laws::soundness;
 
@@ -148,12 +148,10 @@ fn carry_out_word<S: Source, W: Write>(
     ensures whole { S.ended reader.new ≡ true → IsAtEnd (S.remaining reader.new) }
 {
     let (piece, limit) = (request.piece, request.limit);
+    let language = Language::of(request.terminal, encoding);
     match request.word {
-        Word::Replay(what) => {
-            let language = Language::of(request.terminal, encoding);
-            run_from(alloc, reader, writer, what, language, piece, limit)
-        }
-        Word::Log => write_log_from(alloc, reader, writer, encoding, piece, limit),
+        Word::Replay(what) => run_from(alloc, reader, writer, what, language, piece, limit),
+        Word::Log => write_log_from(alloc, reader, writer, language, piece, limit),
         Word::Pages => write_pages(alloc, reader, writer, encoding, piece, limit),
         Word::Trace => write_trace(alloc, reader, writer, piece, limit),
         Word::Summary => write_summary(alloc, reader, writer, piece, limit),

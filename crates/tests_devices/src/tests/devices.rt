@@ -3,8 +3,7 @@ ghost use Rattle.std.specs.Prelude.{◌≤◌};
 
 use std::alloc::Global;
 use std::test::Fail;
-use vt_log::feed_pages;
-use vt_replay::{Fault, Format, Request, TerminalType, Watched, What, Word, carry_out};
+use vt_replay::{Fault, Format, Request, TerminalType, Watched, What, Word, carry_out, feed_pages};
 use vt_term::Terminal;
 use vt_vectors::{ShortReader, ShortWriter, vector, vector_count};
 

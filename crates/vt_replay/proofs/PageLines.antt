@@ -18,8 +18,8 @@ use Rattle.vt_screen.specs.declared.cell.Cell.{Cell}
 use Rattle.vt_term.specs.ScrollSteps.{Fits}
 use Rattle.vt_term.proofs.Scrolled.{run-line}
 use Rattle.vt_term.proofs.Bytes.{graphic-events}
-use Rattle.vt_log.specs.Pages.{taken_off, pages_off, pages}
-use Rattle.vt_log.specs.PageCuts.{IsPaged}
+use Rattle.vt_replay.specs.Pages.{taken_off, pages_off, pages}
+use Rattle.vt_replay.specs.PageCuts.{IsPaged}
 
 prints-pages : (bytes : List ℕ) (s : Display)
     → pages_off (map Print bytes) s ≡ flat_map line_text (lines_off (map Print bytes) s)

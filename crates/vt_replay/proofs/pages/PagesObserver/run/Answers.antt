@@ -1,9 +1,9 @@
 use Rattle.std.proofs.Common.{arith}
 use Rattle.std.specs.Prelude.{slice_index}
 use Rattle.vt_syntax.specs.declared.event.Event.TheVariants.{Print}
-use Rattle.vt_log.specs.Pages.{taken_off}
-use Rattle.vt_log.proofs.PageLines.{paged-one, run-pages}
-use Rattle.vt_log.proofs.pages.PagesObserver.run.Goals as goal
+use Rattle.vt_replay.specs.Pages.{taken_off}
+use Rattle.vt_replay.proofs.PageLines.{paged-one, run-pages}
+use Rattle.vt_replay.proofs.pages.PagesObserver.run.Goals as goal
 
 pub returns : goal.returns
 returns c = λ s same between.

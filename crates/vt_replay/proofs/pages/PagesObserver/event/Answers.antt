@@ -1,8 +1,8 @@
 use Rattle.std.proofs.Common.{arith}
 use Rattle.vt_syntax.specs.Event.{event_of}
-use Rattle.vt_log.specs.Pages.{taken_off}
-use Rattle.vt_log.proofs.PageLines.{one-page, paged-one}
-use Rattle.vt_log.proofs.pages.PagesObserver.event.Goals as goal
+use Rattle.vt_replay.specs.Pages.{taken_off}
+use Rattle.vt_replay.proofs.PageLines.{one-page, paged-one}
+use Rattle.vt_replay.proofs.pages.PagesObserver.event.Goals as goal
 
 pub returns : goal.returns
 returns c = λ s same is.

@@ -4,8 +4,8 @@ ghost use Rattle.std.specs.Prelude.{vec_len, vec_capacity, OnOk, OnErr, IsOk};
 ghost use Rattle.vt_term.specs.Play.{play};
 ghost use Rattle.std.specs.Bool.{OnTrue, OnFalse};
 ghost use Rattle.vt_syntax.specs.Event.{event_of};
-ghost use Rattle.vt_log.specs.Pages.{pages, taken_off};
-ghost use Rattle.vt_log.specs.PageCuts.{takes_off};
+ghost use Rattle.vt_replay.specs.Pages.{pages, taken_off};
+ghost use Rattle.vt_replay.specs.PageCuts.{takes_off};
 
 use crate::blanks::{blanks_screen, push_page, takes_off};
 use std::alloc::AllocError;
@@ -121,7 +121,7 @@ impl Observer for Pages<'_> {
     ghost use Rattle.std.specs.Prelude.{◌≡◌, ◌<◌, ◌≤◌, ◌+◌, ◌&&◌, vec_len, vec_capacity, true, ⊤};
     ghost use Rattle.vt_term.specs.Scrolling.{is_at_end};
     ghost use Rattle.vt_term.specs.ScrollSteps.{Fits as RowFits};
-    ghost use Rattle.vt_log.specs.PageCuts.{IsPaged, pages_cut, takes_off};
+    ghost use Rattle.vt_replay.specs.PageCuts.{IsPaged, pages_cut, takes_off};
 
     ghost Saw = { λ o s bytes p. (p.lines.ghost_name ≡ o.lines.ghost_name)
         × IsPaged s bytes o.lines.now.items p.lines.now.items

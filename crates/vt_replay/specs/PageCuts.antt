@@ -10,7 +10,7 @@ use Rattle.vt_term.specs.Functions.{effect}
 use Rattle.vt_term.specs.Play.{play, after_events}
 use Rattle.vt_term.specs.Observing.{AreCut}
 use Rattle.vt_term.specs.Scrolling.{scrolls_off}
-use Rattle.vt_log.specs.Pages.{blanks_screen, taken_off, pages_off, pages}
+use Rattle.vt_replay.specs.Pages.{blanks_screen, taken_off, pages_off, pages}
 
 -- the event takes lines off the screen
 abbrev pub takes_off : Event → Display → Bool

@@ -17,7 +17,7 @@ use Rattle.vt_term.specs.Parameters.{first, count}
 use Rattle.vt_term.specs.Editing.{names_area, display_area, erase_in_display, insert_line, delete_line, is_inside}
 use Rattle.vt_term.specs.Modes.{with_mode, change_modes, private_modes}
 use Rattle.vt_term.specs.Functions.{effect, plain_escape, sequence_in, sequences_of, byte}
-use Rattle.vt_log.specs.Pages.{erases_all, moves_all, blanks_screen, IsBlank}
+use Rattle.vt_replay.specs.Pages.{erases_all, moves_all, blanks_screen, IsBlank}
 
 -- a formula that is blank at each place
 formula-blank : PlaceLaws → (w : ℕ) (f : ℕ → ℕ → Cell) → ((r c : ℕ) → 1 ≤ r → r ≤ 24 → 1 ≤ c → c ≤ w → f r c ≡ blank)

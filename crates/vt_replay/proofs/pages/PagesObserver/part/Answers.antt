@@ -1,6 +1,6 @@
 use Rattle.std.proofs.Common.{◌++◌, ◌∙◌, List, ℕ, refl, sym, ap, arith, append-nil}
-use Rattle.vt_log.proofs.PageLines.{no-pages}
-use Rattle.vt_log.proofs.pages.PagesObserver.part.Goals as goal
+use Rattle.vt_replay.proofs.PageLines.{no-pages}
+use Rattle.vt_replay.proofs.pages.PagesObserver.part.Goals as goal
 
 pub returns : goal.returns
 returns c = λ s none. (

@@ -1,5 +1,5 @@
-use Rattle.vt_log.specs.PageCuts.{pages-append, pages-nothing}
-use Rattle.vt_log.proofs.laws.pages_cut.Goals as goal
+use Rattle.vt_replay.specs.PageCuts.{pages-append, pages-nothing}
+use Rattle.vt_replay.proofs.laws.pages_cut.Goals as goal
 
 pub returns-clause-none : goal.returns-clause-none
 returns-clause-none c = pages-nothing c.one_split.ensures

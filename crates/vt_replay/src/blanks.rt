@@ -3,8 +3,8 @@ ghost use Rattle.std.specs.Prelude.{◌≡◌, ◌+◌, ◌≤◌, ◌++◌, Lis
 ghost use Rattle.vt_syntax.specs.Event.{event_of};
 ghost use Rattle.vt_glyph.specs.LookUp.{contains};
 ghost use Rattle.vt_term.specs.Parameters.{first};
-ghost use Rattle.vt_log.specs.Pages.{erases_all, moves_all, blanks_by, is_reset, blanks_screen, page};
-ghost use Rattle.vt_log.specs.PageCuts.{takes_off};
+ghost use Rattle.vt_replay.specs.Pages.{erases_all, moves_all, blanks_by, is_reset, blanks_screen, page};
+ghost use Rattle.vt_replay.specs.PageCuts.{takes_off};
 
 use vt_syntax::EventKind;
 use vt_term::{ROWS, TEXT_LIMIT, Terminal};

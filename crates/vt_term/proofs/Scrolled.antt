@@ -1,6 +1,6 @@
 -- Bytes that scroll no line off, and the event that does.
 use Rattle.std.proofs.Common.{◌≡◌, ℕ, ◌+◌, ◌≤◌, List, [], ◌∷◌, ◌++◌, length, map, refl, sym, ap, ◌∙◌}
-use Rattle.std.specs.Prelude.{slice_index}
+use Rattle.std.specs.Prelude.{slice_index, ◌&&◌, not}
 use Rattle.std.specs.Bool.{OnTrue}
 use Rattle.std.proofs.Common.{Bool, append-nil, arith, rules, true, false, Option, Some, None, All, inl, inr}
 use Rattle.vt_syntax.specs.declared.event.Event.{Event}
@@ -8,12 +8,12 @@ use Rattle.vt_syntax.specs.declared.event.Event.TheVariants.{Print}
 use Rattle.vt_syntax.specs.declared.held.Held.TheVariants.{Nothing}
 use Rattle.vt_syntax.specs.Held.{events_from}
 use Rattle.vt_syntax.specs.Laws.{SpellingLaw, SplitLaw}
-use Rattle.vt_glyph.specs.Invocation.{HasGlyph, glyph_read, after_read}
+use Rattle.vt_glyph.specs.Invocation.{HasGlyph, has_no_glyph, glyph_read, after_read}
 use Rattle.vt_screen.specs.declared.cell.Cell.{Cell}
 use Rattle.vt_term.specs.State.{Display, State}
 use Rattle.vt_term.specs.Functions.{effect}
 use Rattle.vt_term.specs.Writing.{write_if_read, put_glyph}
-use Rattle.vt_term.specs.Scrolling.{line_off, lines_off, scrolled_off, log}
+use Rattle.vt_term.specs.Scrolling.{is_at_end, line_off, lines_off, scrolled_off, scrolls_off, log}
 use Rattle.vt_term.specs.ScrollSteps.{EndInRow, Fits, Logs}
 use Rattle.vt_term.specs.Text.{line_text}
 use Rattle.vt_term.specs.Sound.{IsSound}
@@ -41,6 +41,20 @@ one-line s bytes event is = rw is (append-nil (line_off event s.display))
 pub logs-one : (s : State) (bytes xs ys : List ℕ) (rows : List (List Cell)) → 1 ≤ length bytes
     → scrolled_off s bytes ≡ rows → ys ≡ xs ++ flat_map line_text rows → length ys ≤ length xs + 397 → Logs s bytes xs ys
 logs-one s bytes xs ys rows some is told few = record { lines = rw is told; bounded = omega (arith, some, few) }
+
+-- a line that is appended fits
+pub line-fits : (off : Bool) (len after end : ℕ) → len ≤ end → after ≤ len + 397 → (off ≡ true → len + 397 ≤ end)
+    → (off ≡ false → after ≡ len) → after ≤ end
+line-fits true len after end fits few room none = omega (arith, few, room refl)
+line-fits false len after end fits few room none = omega (arith, fits, none refl)
+
+both-of : (wrap none at : Bool) → ((wrap && not none) && at) ≡ true → (wrap && at) ≡ true
+both-of true true at off = absurd cc
+both-of true false at off = off
+both-of false none at off = absurd cc
+
+pub print-off : (b : ℕ) (s : Display) → scrolls_off (Print b) s ≡ true → (s.cursor.wrap && is_at_end s) ≡ true
+print-off b s off = both-of s.cursor.wrap (has_no_glyph b) (is_at_end s) off
 
 -- ---- the texts of the lines
 

@@ -62,14 +62,18 @@ logs-more split s a b xs ys zs first second = record {
   bounded = omega (arith, first.bounded, second.bounded, length-append a b);
 }
 
-pub lines_cut : {O N : Type 0} (lines : O → List ℕ) (room : O → ℕ) (name : O → N) → AreCut {O = O}
-    (λ o s bytes p. (name p ≡ name o) × Logs s bytes (lines o) (lines p) × (room o ≤ room p)) (λ o n. ⊤)
-lines_cut lines room name = record {
-  nothing = λ split o s sound. (refl, logs-nothing split s (lines o) sound, omega arith);
+pub lines_cut : {O N : Type 0} (lines : O → List ℕ) (len end room : O → ℕ) (name : O → N) → AreCut {O = O}
+    (λ o s bytes p. (name p ≡ name o) × (end p ≡ end o) × Logs s bytes (lines o) (lines p) × (room o ≤ room p)
+    × (len o ≤ end o → len p ≤ end o))
+    (λ o n. ⊤)
+lines_cut lines len end room name = record {
+  nothing = λ split o s sound. (refl, refl, logs-nothing split s (lines o) sound, omega arith, λ fits. fits);
   more = λ split o p q s a b sound first second. (
     second.0 ∙ first.0,
-    logs-more split s a b (lines o) (lines p) (lines q) first.1 second.1,
-    omega (arith, first.2, second.2),
+    second.1 ∙ first.1,
+    logs-more split s a b (lines o) (lines p) (lines q) first.2 second.2,
+    omega (arith, first.3, second.3),
+    λ fits. rw (← first.1) (second.4 (rw first.1 (first.4 fits))),
   );
   fewer = λ o m n few takes. tt;
   left = λ o p s bytes n saw takes. tt;

@@ -1,5 +1,5 @@
 //! Feeding with the lines that scroll off the top of the screen.
-ghost use Rattle.std.specs.Prelude.{◌≡◌, ◌+◌, ◌*◌, ◌≤◌, ◌<◌, ◌++◌, ◌&&◌, ℕ, List, true, false, length, take};
+ghost use Rattle.std.specs.Prelude.{◌≡◌, ◌+◌, ◌*◌, ◌≤◌, ◌<◌, ◌⊎◌, ◌++◌, ◌&&◌, ℕ, List, true, false, length, take};
 ghost use Rattle.std.specs.Prelude.{flat_map};
 ghost use Rattle.std.specs.Prelude.{vec_len, vec_capacity, OnOk, OnErr, IsOk};
 ghost use Rattle.std.specs.Bool.{OnTrue, OnFalse};
@@ -96,6 +96,7 @@ impl Terminal {
     {
         let mut observer = Lines {
             lines,
+            end: usize::MAX,
             beside: Nobody,
         };
         self.feed_observed(piece, &mut observer, reports)
@@ -109,6 +110,8 @@ impl Terminal {
             → vec_len lines.old + ROW_TEXT_LIMIT ≤ vec_capacity lines.old }
         ensures lines { (values : List ℕ) → lines.new.items ≡ lines.old.items
             ++ flat_map line_text (line_off (event_of kind values) self.now.display) }
+        ensures none { (values : List ℕ) → scrolls_off (event_of kind values) self.now.display ≡ false
+            → vec_len lines.new ≡ vec_len lines.old }
         ensures bounded { vec_len lines.new ≤ vec_len lines.old + ROW_TEXT_LIMIT }
         ensures capacity { vec_capacity lines.old ≤ vec_capacity lines.new }
     {
@@ -166,54 +169,61 @@ impl Terminal {
     }
 }
 
-/// Returns whether there is capacity for a line.
-#[inline(always)]
-fn has_room(lines: &Vec<u8>) -> bool
-    ensures room { OnTrue result (vec_len lines.now + ROW_TEXT_LIMIT ≤ vec_capacity lines.now) }
-    ensures full { OnFalse result (vec_capacity lines.now < vec_len lines.now + ROW_TEXT_LIMIT) }
-{
-    lines.capacity() - lines.len() >= ROW_TEXT_LIMIT
-}
-
 /// The observer that keeps the texts of the lines that scroll off, with another observer beside it. It stops the feed before a
-/// line for which there is no capacity.
+/// line that might not fit.
 #[derive(Drop)]
 pub struct Lines<'a, A: Drop> {
     /// The texts, behind what was there before.
     pub lines: &'a mut Vec<u8>,
+    /// The length up to which texts are appended, if there is capacity.
+    pub end: usize,
     /// The observer that is asked and told next.
     pub beside: A,
+}
+
+/// Returns whether there is capacity for a line, which then ends at `end` or before.
+#[inline(always)]
+fn has_room(lines: &Vec<u8>, end: usize) -> bool
+    ensures room { OnTrue result (vec_len lines.now + ROW_TEXT_LIMIT ≤ vec_capacity lines.now) }
+    ensures fits { OnTrue result (vec_len lines.now + ROW_TEXT_LIMIT ≤ end) }
+    ensures full { OnFalse result ((vec_capacity lines.now < vec_len lines.now + ROW_TEXT_LIMIT)
+        ⊎ (end < vec_len lines.now + ROW_TEXT_LIMIT)) }
+{
+    lines.len() + ROW_TEXT_LIMIT <= end.min(lines.capacity())
 }
 
 impl<A: Observer + Drop> Observer for Lines<'_, A> {
     ghost use Rattle.std.specs.Prelude.{◌≡◌, ◌≤◌, ◌<◌, ◌+◌, ◌&&◌, ◌⊎◌, vec_len, vec_capacity};
     ghost use Rattle.std.specs.Prelude.{true, ⊤};
     ghost use Rattle.vt_term.specs.Scrolling.{scrolls_off, is_at_end};
-    ghost use Rattle.vt_term.specs.ScrollSteps.{Fits as RowFits, Logs};
+    ghost use Rattle.vt_term.specs.ScrollSteps.{Fits as RowFits, HasRoom, Logs};
     ghost use Rattle.vt_term.specs.Observers.{lines_cut, both_cut};
 
-    ghost Saw = { λ o s bytes p. ((p.lines.ghost_name ≡ o.lines.ghost_name)
-        × Logs s bytes o.lines.now.items p.lines.now.items × (vec_capacity o.lines.now ≤ vec_capacity p.lines.now))
-        × A.Saw o.beside s bytes p.beside };
+    ghost Saw = { λ o s bytes p. ((p.lines.ghost_name ≡ o.lines.ghost_name) × (p.end ≡ o.end)
+        × Logs s bytes o.lines.now.items p.lines.now.items × (vec_capacity o.lines.now ≤ vec_capacity p.lines.now)
+        × (vec_len o.lines.now ≤ o.end → vec_len p.lines.now ≤ o.end)) × A.Saw o.beside s bytes p.beside };
 
     ghost Takes = { λ o n. ⊤ × A.Takes o.beside n };
 
-    ghost Lets = { λ o s event. (scrolls_off event s ≡ true → vec_len o.lines.now + 397 ≤ vec_capacity o.lines.now)
+    ghost Lets = { λ o s event. (scrolls_off event s ≡ true → HasRoom (vec_len o.lines.now) (vec_capacity o.lines.now) o.end)
         × A.Lets o.beside s event };
 
     ghost Fits = { λ o s n. (RowFits n s
-        × (1 ≤ n → (s.cursor.wrap && is_at_end s) ≡ true → vec_len o.lines.now + 397 ≤ vec_capacity o.lines.now))
-        × A.Fits o.beside s n };
+        × (1 ≤ n → (s.cursor.wrap && is_at_end s) ≡ true
+        → HasRoom (vec_len o.lines.now) (vec_capacity o.lines.now) o.end)) × A.Fits o.beside s n };
 
-    ghost Stopped = { λ o. (vec_capacity o.lines.now < vec_len o.lines.now + 397) ⊎ A.Stopped o.beside };
+    ghost Stopped = { λ o. ((vec_capacity o.lines.now < vec_len o.lines.now + 397) ⊎ (o.end < vec_len o.lines.now + 397))
+        ⊎ A.Stopped o.beside };
 
     ghost Stops = { true };
 
     ghost cut = { both_cut
-        (λ o s bytes p. (p.lines.ghost_name ≡ o.lines.ghost_name)
-        × Logs s bytes o.lines.now.items p.lines.now.items × (vec_capacity o.lines.now ≤ vec_capacity p.lines.now))
+        (λ o s bytes p. (p.lines.ghost_name ≡ o.lines.ghost_name) × (p.end ≡ o.end)
+        × Logs s bytes o.lines.now.items p.lines.now.items × (vec_capacity o.lines.now ≤ vec_capacity p.lines.now)
+        × (vec_len o.lines.now ≤ o.end → vec_len p.lines.now ≤ o.end))
         A.Saw (λ o n. ⊤) A.Takes (λ o. o) (λ o. o.beside)
-        (lines_cut (λ o. o.lines.now.items) (λ o. vec_capacity o.lines.now) (λ o. o.lines.ghost_name)) A.cut };
+        (lines_cut (λ o. o.lines.now.items) (λ o. vec_len o.lines.now) (λ o. o.end) (λ o. vec_capacity o.lines.now)
+        (λ o. o.lines.ghost_name)) A.cut };
 
     #[inline(always)]
     fn stops(&self) -> bool {
@@ -222,7 +232,7 @@ impl<A: Observer + Drop> Observer for Lines<'_, A> {
 
     #[inline(always)]
     fn lets(&self, terminal: &Terminal, kind: EventKind, values: &[u16]) -> bool {
-        (has_room(self.lines) || !terminal.scrolls_off(kind))
+        (!terminal.scrolls_off(kind) || has_room(self.lines, self.end))
             && self.beside.lets(terminal, kind, values)
     }
 
@@ -235,7 +245,7 @@ impl<A: Observer + Drop> Observer for Lines<'_, A> {
     #[inline(always)]
     fn limit(&self, terminal: &Terminal) -> usize {
         terminal
-            .row_limit(has_room(self.lines))
+            .row_limit(has_room(self.lines, self.end))
             .min(self.beside.limit(terminal))
     }
 

@@ -1,5 +1,5 @@
 //! Feeding: what a host sends under TERM=xterm changes a terminal's state, and gives report bytes.
-ghost use Rattle.std.specs.Prelude.{◌≡◌, ◌<◌, ◌+◌, ◌*◌, ◌≤◌, ◌++◌, [], ◌∷◌, ℕ, All, length, take};
+ghost use Rattle.std.specs.Prelude.{◌≡◌, ◌<◌, ◌+◌, ◌*◌, ◌≤◌, ◌++◌, ◌⊎◌, [], ◌∷◌, ℕ, All, length, take};
 ghost use Rattle.std.specs.Prelude.{vec_len, vec_capacity, OnOk, OnErr, IsOk, IfSome};
 ghost use Rattle.std.specs.Option.{option_to_list};
 ghost use Rattle.bstr.specs.Utf8.{replacement};
@@ -78,21 +78,23 @@ pub fn feed_xterm_reserved(
 }
 
 /// Plays the front of a chunk of a host's bytes, in UTF-8 and with the functions of xterm. It appends the reports to `reports`
-/// and the lines that scroll off the main page to `lines`. Returns how many bytes it played. `front` keeps what is pending
-/// between chunks, and the page that isn't shown.
+/// and at most `most` bytes of the lines that scroll off the main page to `lines`. Returns how many bytes it played. `front`
+/// keeps what is pending between chunks, and the page that isn't shown.
 ///
-/// If it stops early, `lines` has fewer than `LINES_LIMIT` bytes free, the capacity of two screens. `reports` has capacity for
-/// ten more bytes for each byte of the chunk. It never fails and allocates nothing.
+/// If it stops early, `lines` has fewer than `LINES_LIMIT` bytes free, the capacity of two screens, or fewer of `most` are left.
+/// `reports` has capacity for ten more bytes for each byte of the chunk. It never fails and allocates nothing.
 pub fn feed_xterm_log_reserved(
     terminal: &mut Terminal,
     front: &mut Front,
     piece: &[u8],
     reports: &mut Vec<u8>,
     lines: &mut Vec<u8>,
+    most: usize,
 ) -> usize
     requires { vec_len reports.old + 10 * length piece.now ≤ vec_capacity reports.old }
     ensures within { result ≤ length piece.now }
-    ensures all { result < length piece.now → vec_capacity lines.new < vec_len lines.new + LINES_LIMIT }
+    ensures all { result < length piece.now → (vec_capacity lines.new < vec_len lines.new + LINES_LIMIT)
+        ⊎ (vec_len lines.old + most < vec_len lines.new + LINES_LIMIT) }
     ensures state { terminal.new ≡ (play_xterm (behind terminal.old front.old) front.old.pending
         (take result piece.now)).whole.state }
     ensures pages { front.new.pages ≡ (play_xterm (behind terminal.old front.old) front.old.pending
@@ -103,11 +105,14 @@ pub fn feed_xterm_log_reserved(
     ensures lines { lines.new.items ≡ lines.old.items
         ++ xterm_log (behind terminal.old front.old) front.old.pending (take result piece.now) }
     ensures reports_bounded { vec_len reports.new ≤ vec_len reports.old + 10 * result }
+    ensures lines_bounded { vec_len lines.new ≤ vec_len lines.old + most }
     ensures reports_capacity { vec_capacity reports.old ≤ vec_capacity reports.new }
     ensures lines_capacity { vec_capacity lines.old ≤ vec_capacity lines.new }
 {
+    let end = lines.len().saturating_add(most);
     let mut log = Lines {
         lines,
+        end,
         beside: Finder,
     };
     feed_front(terminal, front, piece, &mut log, reports)

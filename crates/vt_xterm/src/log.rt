@@ -26,18 +26,18 @@ pub(crate) trait Log: Drop {
     /// The log after it got lines.
     ghost Keeps: { Self → List (List Cell) → Self → Type 0 };
 
-    /// There is capacity for so many bytes of lines.
+    /// There is room for so many bytes of lines.
     ghost HasRoom: { Self → ℕ → Type 0 };
 
-    /// There isn't capacity for two screens.
+    /// There is no room for two screens.
     ghost IsFull: { Self → Type 0 };
 
-    /// Returns whether there isn't capacity for two screens.
+    /// Returns whether there is no room for two screens.
     fn is_full(&self) -> bool
         ensures full { OnTrue result (IsFull self.now) }
         ensures room { OnFalse result (HasRoom self.now 19056) };
 
-    /// Plays the front of a chunk, up to the first event that isn't a VT220's, or up to a line for which there is no capacity.
+    /// Plays the front of a chunk, up to the first event that isn't a VT220's, or up to a line for which there is no room.
     /// Returns how many bytes it played.
     fn feed(&mut self, terminal: &mut Terminal, piece: &[u8], out: &mut Vec<u8>) -> usize
         requires { vec_len out.old + 10 * length piece.now ≤ vec_capacity out.old }
@@ -104,24 +104,25 @@ impl Log for Finder {
 
 /// The lines go behind others.
 impl Log for Lines<'_, Finder> {
-    ghost use Rattle.std.specs.Prelude.{◌≡◌, ◌≤◌, ◌<◌, ◌+◌, ◌++◌, flat_map, vec_len, vec_capacity};
+    ghost use Rattle.std.specs.Prelude.{◌≡◌, ◌≤◌, ◌<◌, ◌+◌, ◌++◌, ◌⊎◌, flat_map, vec_len, vec_capacity};
     ghost use Rattle.vt_term.specs.Text.{line_text};
     ghost use Rattle.vt_xterm.specs.Private.Logs.{lines_kept};
 
-    ghost Keeps = { λ o rows p. (p.lines.ghost_name ≡ o.lines.ghost_name)
+    ghost Keeps = { λ o rows p. (p.lines.ghost_name ≡ o.lines.ghost_name) × (p.end ≡ o.end)
         × (p.lines.now.items ≡ o.lines.now.items ++ flat_map line_text rows)
-        × (vec_capacity o.lines.now ≤ vec_capacity p.lines.now) };
+        × (vec_capacity o.lines.now ≤ vec_capacity p.lines.now)
+        × (vec_len o.lines.now ≤ o.end → vec_len p.lines.now ≤ o.end) };
 
-    ghost HasRoom = { λ o n. vec_len o.lines.now + n ≤ vec_capacity o.lines.now };
+    ghost HasRoom = { λ o n. (vec_len o.lines.now + n ≤ vec_capacity o.lines.now) × (vec_len o.lines.now + n ≤ o.end) };
 
-    ghost IsFull = { λ o. vec_capacity o.lines.now < vec_len o.lines.now + 19056 };
+    ghost IsFull = { λ o. (vec_capacity o.lines.now < vec_len o.lines.now + 19056) ⊎ (o.end < vec_len o.lines.now + 19056) };
 
-    ghost kept = { lines_kept (λ o. o.lines.now.items) (λ o. vec_len o.lines.now) (λ o. vec_capacity o.lines.now)
-        (λ o. o.lines.ghost_name) };
+    ghost kept = { lines_kept (λ o. o.lines.now.items) (λ o. vec_len o.lines.now) (λ o. o.end)
+        (λ o. vec_capacity o.lines.now) (λ o. o.lines.ghost_name) };
 
     #[inline(always)]
     fn is_full(&self) -> bool {
-        self.lines.capacity() - self.lines.len() < LINES_LIMIT
+        self.end.min(self.lines.capacity()) < self.lines.len() + LINES_LIMIT
     }
 
     #[inline(always)]
@@ -144,6 +145,7 @@ fn push_line_off(terminal: &Terminal, kind: EventKind, values: &[u16], lines: &m
     requires { vec_len lines.old + TEXT_LIMIT ≤ vec_capacity lines.old }
     ensures items { lines.new.items
         ≡ lines.old.items ++ flat_map line_text (page_line_off (event_of kind values.now) terminal.now.display) }
+    ensures bounded { vec_len lines.new ≤ vec_len lines.old + TEXT_LIMIT }
     ensures capacity { vec_capacity lines.old ≤ vec_capacity lines.new }
 {
     match kind {
@@ -171,6 +173,7 @@ fn push_function(
     requires { vec_len lines.old + TEXT_LIMIT ≤ vec_capacity lines.old }
     ensures items { lines.new.items
         ≡ lines.old.items ++ flat_map line_text (function_off marker inter last values.now terminal.now.display) }
+    ensures bounded { vec_len lines.new ≤ vec_len lines.old + TEXT_LIMIT }
     ensures capacity { vec_capacity lines.old ≤ vec_capacity lines.new }
 {
     match (marker, inter) {
@@ -185,6 +188,7 @@ fn push_plain(terminal: &Terminal, last: u8, values: &[u16], lines: &mut Vec<u8>
     requires { vec_len lines.old + TEXT_LIMIT ≤ vec_capacity lines.old }
     ensures items { lines.new.items
         ≡ lines.old.items ++ flat_map line_text (function_off None None last values.now terminal.now.display) }
+    ensures bounded { vec_len lines.new ≤ vec_len lines.old + TEXT_LIMIT }
     ensures capacity { vec_capacity lines.old ≤ vec_capacity lines.new }
 {
     match last {
@@ -198,6 +202,7 @@ fn push_plain(terminal: &Terminal, last: u8, values: &[u16], lines: &mut Vec<u8>
 fn push_rows(terminal: &Terminal, n: u16, lines: &mut Vec<u8>)
     requires { vec_len lines.old + TEXT_LIMIT ≤ vec_capacity lines.old }
     ensures items { lines.new.items ≡ lines.old.items ++ flat_map line_text (rows_off n terminal.now.display) }
+    ensures bounded { vec_len lines.new ≤ vec_len lines.old + TEXT_LIMIT }
     ensures capacity { vec_capacity lines.old ≤ vec_capacity lines.new }
 {
     let _ = terminal.width();
@@ -213,6 +218,7 @@ fn push_first(terminal: &Terminal, count: usize, lines: &mut Vec<u8>)
     requires room { vec_len lines.old + TEXT_LIMIT ≤ vec_capacity lines.old }
     ensures items { lines.new.items ≡ lines.old.items
         ++ flat_map line_text (first_rows count terminal.now.display.grid) }
+    ensures bounded { vec_len lines.new ≤ vec_len lines.old + TEXT_LIMIT }
     ensures capacity { vec_capacity lines.old ≤ vec_capacity lines.new }
 {
     for row in 1..count + 1 {
@@ -224,6 +230,7 @@ fn push_first(terminal: &Terminal, count: usize, lines: &mut Vec<u8>)
 fn push_repeated(terminal: &Terminal, lines: &mut Vec<u8>)
     requires { vec_len lines.old + TEXT_LIMIT ≤ vec_capacity lines.old }
     ensures items { lines.new.items ≡ lines.old.items ++ flat_map line_text (repeat_off terminal.now.display) }
+    ensures bounded { vec_len lines.new ≤ vec_len lines.old + TEXT_LIMIT }
     ensures capacity { vec_capacity lines.old ≤ vec_capacity lines.new }
 {
     if terminal.cursor().wrap && terminal.is_at_end() {

@@ -18,17 +18,20 @@ nowhere_kept = record {
   less = λ o m n less room. tt;
 }
 
-pub lines_kept : {O N : Type 0} (lines : O → List ℕ) (used room : O → ℕ) (name : O → N) → AreKept {O = O}
-    (λ o rows p. (name p ≡ name o) × (lines p ≡ lines o ++ flat_map line_text rows) × (room o ≤ room p))
-    (λ o n. used o + n ≤ room o)
-lines_kept lines used room name = record {
-  nothing = λ o. (refl, sym (append-nil (lines o)), omega arith);
+pub lines_kept : {O N : Type 0} (lines : O → List ℕ) (len end room : O → ℕ) (name : O → N) → AreKept {O = O}
+    (λ o rows p. (name p ≡ name o) × (end p ≡ end o) × (lines p ≡ lines o ++ flat_map line_text rows) × (room o ≤ room p)
+    × (len o ≤ end o → len p ≤ end o))
+    (λ o n. (len o + n ≤ room o) × (len o + n ≤ end o))
+lines_kept lines len end room name = record {
+  nothing = λ o. (refl, refl, sym (append-nil (lines o)), omega arith, λ fits. fits);
   more = λ o p q a b first second. (
     second.0 ∙ first.0,
-    second.1 ∙ ap (λ (t : List ℕ). t ++ flat_map line_text b) first.1
+    second.1 ∙ first.1,
+    second.2 ∙ ap (λ (t : List ℕ). t ++ flat_map line_text b) first.2
         ∙ append_assoc (lines o) (flat_map line_text a) (flat_map line_text b)
         ∙ ap (λ (t : List ℕ). lines o ++ t) (sym (flat_map-append line_text a b)),
-    omega (arith, first.2, second.2),
+    omega (arith, first.3, second.3),
+    λ fits. rw (← first.1) (second.4 (rw first.1 (first.4 fits))),
   );
-  less = λ o m n less room. omega (arith, less, room);
+  less = λ o m n less room. (omega (arith, less, room.0), omega (arith, less, room.1));
 }

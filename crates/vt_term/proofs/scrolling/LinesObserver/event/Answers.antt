@@ -1,7 +1,7 @@
 use Rattle.std.proofs.Common.{refl, arith}
 use Rattle.vt_syntax.specs.Event.{event_of}
-use Rattle.vt_term.specs.Scrolling.{line_off}
-use Rattle.vt_term.proofs.Scrolled.{one-line, logs-one}
+use Rattle.vt_term.specs.Scrolling.{line_off, scrolls_off}
+use Rattle.vt_term.proofs.Scrolled.{one-line, logs-one, line-fits}
 use Rattle.vt_term.proofs.scrolling.LinesObserver.event.Goals as goal
 
 pub returns : goal.returns
@@ -10,10 +10,13 @@ returns g c = λ s same is.
     let event = event_of c.args.kind c.args.values.now in (
       (
         refl,
+        refl,
         logs-one s c.args.bytes.now c.args.self.now.lines.now.items c.line_off_reserved.new.lines.items
             (line_off event s.display) c.requires.some (one-line s c.args.bytes.now event is)
             (rw same (c.line_off_reserved.ensures.lines c.args.values.now)) (omega (arith, few)),
         c.line_off_reserved.ensures.capacity,
+        λ fits. line-fits (scrolls_off event c.args.terminal.now.display) _ _ _ fits c.line_off_reserved.ensures.bounded
+            (λ off. (c.requires.lets.0 off).1) (c.line_off_reserved.ensures.none c.args.values.now),
       ),
       c.event.ensures s same is,
     )

@@ -9,12 +9,14 @@ pub returns : goal.returns
 returns g c = λ s none. (
   (
     refl,
+    refl,
     record {
       lines = sym (ap (λ (rows : List (List Cell)). c.args.self.now.lines.now.items ++ flat_map line_text rows)
           (no-line s c.args.bytes.now none) ∙ append-nil c.args.self.now.lines.now.items);
       bounded = omega arith;
     },
     omega arith,
+    λ fits. fits,
   ),
   c.part.ensures s none,
 )

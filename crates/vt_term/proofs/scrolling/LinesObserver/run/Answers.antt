@@ -1,8 +1,8 @@
 use Rattle.std.proofs.Common.{[], refl, arith}
 use Rattle.std.specs.Prelude.{slice_index}
 use Rattle.vt_syntax.specs.declared.event.Event.TheVariants.{Print}
-use Rattle.vt_term.specs.Scrolling.{line_off}
-use Rattle.vt_term.proofs.Scrolled.{run-line, logs-one}
+use Rattle.vt_term.specs.Scrolling.{line_off, scrolls_off}
+use Rattle.vt_term.proofs.Scrolled.{run-line, logs-one, line-fits, print-off}
 use Rattle.vt_term.proofs.scrolling.LinesObserver.run.Goals as goal
 
 pub returns : goal.returns
@@ -11,11 +11,16 @@ returns g c = λ s same between.
     let bytes = c.args.bytes.now in (
       (
         refl,
+        refl,
         logs-one s bytes c.args.self.now.lines.now.items c.line_off_reserved.new.lines.items
             (line_off (Print (slice_index bytes 0)) s.display) c.requires.some
             (run-line c.spelled.ensures s bytes between c.requires.graphic c.requires.some (rw same c.requires.fits.0.0))
             (rw same (c.line_off_reserved.ensures.lines [])) (omega (arith, few)),
         c.line_off_reserved.ensures.capacity,
+        λ fits. line-fits (scrolls_off (Print (slice_index bytes 0)) c.args.terminal.now.display) _ _ _ fits
+            c.line_off_reserved.ensures.bounded
+            (λ off. (c.requires.fits.0.1 c.requires.some (print-off (slice_index bytes 0) c.args.terminal.now.display off)).1)
+            (c.line_off_reserved.ensures.none []),
       ),
       c.run.ensures s same between,
     )

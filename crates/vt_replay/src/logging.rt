@@ -256,6 +256,7 @@ impl Output for XtermLogOutput {
             &chunk[..count],
             &mut self.reports,
             out,
+            LINES_LIMIT,
         )
     }
 

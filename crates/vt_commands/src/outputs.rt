@@ -4,8 +4,7 @@ ghost use Rattle.vt_term.specs.State.{power_up};
 ghost use Rattle.vt_term.specs.Play.{play};
 ghost use Rattle.vt_term.specs.Text.{text};
 ghost use Rattle.vt_log.specs.Pages.{pages};
-ghost use Rattle.vt_trace.specs.Trace.{trace, tracer_all, text_end};
-ghost use Rattle.vt_commands.specs.Words.{tracer_at_start};
+ghost use Rattle.vt_trace.specs.Trace.{trace, tracer_all, tracer_at_start, end_lines};
 
 use std::alloc::{AllocError, Global};
 use vt_log::laws::pages_cut;
@@ -104,7 +103,7 @@ impl TraceOutput {
 impl Output for TraceOutput {
     ghost written = { λ o bytes. trace o.terminal o.tracer bytes };
 
-    ghost ending = { λ o bytes. text_end (tracer_all o.terminal o.tracer bytes).in_text };
+    ghost ending = { λ o bytes. end_lines (tracer_all o.terminal o.tracer bytes) };
 
     ghost there = { λ o bytes. true };
 
@@ -112,7 +111,7 @@ impl Output for TraceOutput {
 
     ghost counted = { λ o. o.tracer.place };
 
-    ghost reserve = { λ o. 61440 };
+    ghost reserve = { λ o. 107520 };
 
     fn capacity(&self) -> usize {
         256 * TRACE_LIMIT

@@ -58,7 +58,7 @@ impl Room {
     fn new(alloc: Global, piece: usize) -> Result<Room, Fault>
         ensures counts { IfOk result (λ room. HasCounted [] room.counts) }
         ensures buffer { IfOk result (λ room. length room.buffer.items ≡ piece) }
-        ensures out { IfOk result (λ room. 309351 ≤ vec_capacity room.out) }
+        ensures out { IfOk result (λ room. 309607 ≤ vec_capacity room.out) }
         ensures memory { IfErr result (λ fault. fault ≡ Fault.Memory) }
     {
         Ok(Room {
@@ -84,7 +84,7 @@ fn summary_in_room<S: Source, W: Write>(
     requires limit_in_range { limit ≤ 1099511627776 }
     requires new { HasCounted [] counts.old }
     requires some_room { 1 ≤ length buffer.old }
-    requires room { 309351 ≤ vec_capacity out.old }
+    requires room { 309607 ≤ vec_capacity out.old }
     ensures answer { Moves (S.remaining reader.old) (S.remaining reader.new) (W.contents writer.old.device)
         (W.contents writer.new.device)
         (λ b w. OutputTable nothing summary always result (length buffer.old) b w (record { reader_failed = S.failed reader.new; reader_ended = S.ended reader.new; writer_failed = writer.new.failed }) limit) }

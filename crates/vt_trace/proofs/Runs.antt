@@ -39,7 +39,7 @@ same_tracer a b c d v e f = ap (λ n. made n c v) e ∙ ap (λ m. made b m v) f
 tail_of_all : (b : ℕ) (run : List ℕ) → All IsShown (b ∷ run) → All IsShown run
 tail_of_all b run all = λ k d low. all (suc k) d (omega (arith, low))
 
-tail_of_plain : (b : ℕ) (run : List ℕ) → All IsPlain (b ∷ run) → All IsPlain run
+pub tail_of_plain : (b : ℕ) (run : List ℕ) → All IsPlain (b ∷ run) → All IsPlain run
 tail_of_plain b run all = λ k d low. all (suc k) d (omega (arith, low))
 
 -- ---- bytes that end no item without a function
@@ -56,7 +56,7 @@ none_skipped : (t : Tracer) (h : Held) (b : ℕ) → cuts_off h b ≡ false → 
 unfolding skipped
 none_skipped t h b whole inner =
     let place = item_place t h b in
-    let kind = ended_kind t h b in
+    let kind = ended_kind t.code h b in
     let first = item_first t h b in
     ap (λ (v : Bool). skipped_lines t v (ends_silent h b) place kind first) whole
     ∙ ap (λ (v : Bool). skipped_lines t false v place kind first) inner
@@ -248,7 +248,7 @@ unfolding first_graphic
 graphic_first [] last = refl
 graphic_first (b ∷ front) last = refl
 
-no_true : true ≡ false → ⊥
+pub no_true : true ≡ false → ⊥
 no_true h = cc
 
 not_begins : (h : Held) (b : ℕ) → h ≢ Nothing → IsPlain b → begins h b ≡ false
@@ -271,17 +271,17 @@ not_nothing held.Spoilt other = refl
 no_sub : (b : ℕ) → IsPlain b → eqb b 0x1A ≡ false
 no_sub b i = let low : 0x20 ≤ b = i.0 in grind (arith, nat_tests, low)
 
-not_cut : (h : Held) (b : ℕ) → h ≢ Nothing → IsPlain b → cuts_off h b ≡ false
+pub not_cut : (h : Held) (b : ℕ) → h ≢ Nothing → IsPlain b → cuts_off h b ≡ false
 not_cut h b other i =
     ap (λ (v : Bool). not (is_nothing h) && (v || eqb b 0x1A)) (not_begins h b other i)
     ∙ ap (λ (v : Bool). not (is_nothing h) && v) (no_sub b i) ∙ and_false (not (is_nothing h))
 
-not_ended : (h : Held) (b : ℕ) → held_from h (b ∷ []) ≢ Nothing → ends_silent h b ≡ false
+pub not_ended : (h : Held) (b : ℕ) → held_from h (b ∷ []) ≢ Nothing → ends_silent h b ≡ false
 not_ended h b other =
     ap (λ (v : Bool). is_empty (events_from h (b ∷ [])) && v) (not_nothing (held_from h (b ∷ [])) other)
     ∙ and_false (is_empty (events_from h (b ∷ [])))
 
-event_ends : (h : Held) (b : ℕ) (e : Event) → events_from h (b ∷ []) ≡ e ∷ [] → ends_silent h b ≡ false
+pub event_ends : (h : Held) (b : ℕ) (e : Event) → events_from h (b ∷ []) ≡ e ∷ [] → ends_silent h b ≡ false
 event_ends h b e is = ap (λ (es : List Event). is_empty es && is_nothing (held_from h (b ∷ []))) is
 
 abbrev one_written : State → Tracer → ℕ → ℕ → ℕ → Event → List ℕ
@@ -289,7 +289,7 @@ one_written s t place begin last e = written t.in_text (place_of place begin las
 
 module _ (law : SpellingLaw) (split : SplitLaw) where
   -- plain bytes that give another event than a character aren't read between sequences
-  not_between : (front : List ℕ) (last : ℕ) (e : Event) (h : Held) → All IsPlain (front ++ last ∷ []) → is_graphic e ≡ false
+  pub not_between : (front : List ℕ) (last : ℕ) (e : Event) (h : Held) → All IsPlain (front ++ last ∷ []) → is_graphic e ≡ false
       → events_from h (front ++ last ∷ []) ≡ e ∷ [] → h ≢ Nothing
   unfolding first_graphic
   not_between front last e h all other events is =
@@ -361,18 +361,18 @@ module _ (law : SpellingLaw) (split : SplitLaw) where
       ∙ ap (λ m. made begin (m + 1) v) (quiet_place s t b n)
 
   -- the parts of bytes that have one event, at their last byte
-  first_quiet : (h : Held) (b : ℕ) (front : List ℕ) → events_from h (b ∷ front) ≡ [] → events_from h (b ∷ []) ≡ []
+  pub first_quiet : (h : Held) (b : ℕ) (front : List ℕ) → events_from h (b ∷ front) ≡ [] → events_from h (b ∷ []) ≡ []
   first_quiet h b front none =
       no_bytes (events_from h (b ∷ [])) (events_from (held_from h (b ∷ [])) front)
       (sym (split.events_append h (b ∷ []) front) ∙ none)
 
-  rest_quiet : (h : Held) (b : ℕ) (front : List ℕ) → events_from h (b ∷ front) ≡ []
+  pub rest_quiet : (h : Held) (b : ℕ) (front : List ℕ) → events_from h (b ∷ front) ≡ []
       → events_from (held_from h (b ∷ [])) front ≡ []
   rest_quiet h b front none =
       no_more (events_from h (b ∷ [])) (events_from (held_from h (b ∷ [])) front)
       (sym (split.events_append h (b ∷ []) front) ∙ none)
 
-  rest_event : (h : Held) (b : ℕ) (rest : List ℕ) (e : Event) → events_from h (b ∷ []) ≡ [] → events_from h (b ∷ rest) ≡ e ∷ []
+  pub rest_event : (h : Held) (b : ℕ) (rest : List ℕ) (e : Event) → events_from h (b ∷ []) ≡ [] → events_from h (b ∷ rest) ≡ e ∷ []
       → events_from (held_from h (b ∷ [])) rest ≡ e ∷ []
   rest_event h b rest e here events =
       ap (λ (es : List Event). es ++ events_from (held_from h (b ∷ [])) rest) (sym here)

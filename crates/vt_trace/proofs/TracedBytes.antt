@@ -67,7 +67,7 @@ pub record IsFound (t : Tracer) (b : ℕ) (events : List Event) (cut ended : Boo
   pub cuts : cut ≡ cuts_off h b
   pub ends : ended ≡ ends_silent h b
   pub begins : begin ≡ item_place t h b
-  pub kind_is : kind ≡ ended_kind t h b
+  pub kind_is : kind ≡ ended_kind t.code h b
   pub code_is : code ≡ code_after t.code (is_string h) (held_from h (b ∷ [])) b
   pub first_are : first ≡ item_first t h b
   pub is_between : between ≡ is_nothing (held_from h (b ∷ []))
@@ -82,7 +82,7 @@ module _ (s : State) (t : Tracer) (b : ℕ) (events : List Event) (cut ended : B
       ∙ ap (λ (v : Bool). skipped_lines t (cuts_off h b) v begin kind first) found.ends
       ∙ ap (λ n. skipped_lines t (cuts_off h b) (ends_silent h b) n kind first) found.begins
       ∙ ap (λ n. skipped_lines t (cuts_off h b) (ends_silent h b) (item_place t h b) n first) found.kind_is
-      ∙ ap (λ (l : List ℕ). skipped_lines t (cuts_off h b) (ends_silent h b) (item_place t h b) (ended_kind t h b) l)
+      ∙ ap (λ (l : List ℕ). skipped_lines t (cuts_off h b) (ends_silent h b) (item_place t h b) (ended_kind t.code h b) l)
       found.first_are
 
   text_on : t.in_text && not (cut || ended) ≡ goes_on t s.held b

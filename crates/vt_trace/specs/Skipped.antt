@@ -1,8 +1,10 @@
 -- What is no event: the items of the split that have no function, and what is left at the end. (this profile)
 use Rattle.std.specs.Prelude.{ℕ, List, [], ◌∷◌, ◌++◌, Bool, true, false, Option, Some, None, ◌==◌, ◌||◌, ◌&&◌, not, ◌+◌}
-use Rattle.std.specs.Prelude.{codes, length, nat_lt, take, if◌then◌else◌}
+use Rattle.std.specs.Prelude.{codes, length, map, nat_lt, take, if◌then◌else◌}
+use Rattle.std.specs.List.{flat_map}
 use Rattle.vt_syntax.specs.declared.event.Event.{Event}
 use Rattle.vt_syntax.specs.Items.{Beginning, OfEscape, OfControl, OfString, Item, Single, Ended, Cut}
+use Rattle.vt_syntax.specs.Split.{split_of}
 use Rattle.vt_syntax.specs.Reading.{single_function, function, is_cancel}
 use Rattle.vt_glyph.specs.LookUp.{look_up}
 use Rattle.vt_trace.specs.Lines.{shown, line}
@@ -27,6 +29,10 @@ kind_names =
     ∷ (0x9E, codes "PM string")
     ∷ (0x9F, codes "APC string")
     ∷ []
+
+-- the numbers of all kinds
+abbrev pub all_kinds : List ℕ
+all_kinds = 0x18 ∷ 0x7F ∷ map (λ row. row.0) kind_names
 
 -- the name of a kind; CAN and DEL have none
 unfoldable pub kind_name : ℕ → Option (List ℕ)
@@ -59,6 +65,19 @@ item_kind (Cut beginning) = cut_kind beginning ∷ []
 abbrev pub rest_kind : Option Beginning → List ℕ
 rest_kind None = []
 rest_kind (Some beginning) = cut_kind beginning ∷ []
+
+-- of the items of bytes
+abbrev pub item_kinds : List ℕ → List ℕ
+item_kinds bytes = flat_map item_kind (split_of bytes).items
+
+-- of bytes: those of their items, and of what is left
+abbrev pub kinds_of : List ℕ → List ℕ
+kinds_of bytes = item_kinds bytes ++ rest_kind (split_of bytes).rest
+
+-- the C1 control that opens the string which is left, and 0 if none is
+abbrev pub code_of : Option Beginning → ℕ
+code_of (Some (OfString opening code content)) = code
+code_of _ = 0
 
 -- ---- lines
 

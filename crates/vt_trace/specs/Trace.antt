@@ -1,11 +1,14 @@
 -- The trace: the lines of the events of bytes, with their places, texts and reports, and of what is no event. (this profile)
-use Rattle.std.specs.Prelude.{ℕ, ◌+◌, List, [], ◌∷◌, ◌++◌, Bool, true, false, not, ◌==◌, ◌||◌, ◌&&◌, nat_le, nat_lt}
+use Rattle.std.specs.Prelude.{◌≡◌, ℕ, ◌+◌, List, [], ◌∷◌, ◌++◌, Bool, true, false, not, ◌==◌, ◌||◌, ◌&&◌, nat_le, nat_lt}
 use Rattle.std.specs.Prelude.{codes, decimal, length, take, if◌then◌else◌}
 use Rattle.vt_syntax.specs.declared.event.Event.{Event}
 use Rattle.vt_syntax.specs.declared.event.Event.TheVariants.{Print, Control, Escape, Sequence}
 use Rattle.vt_syntax.specs.declared.held.Held.{Held}
 use Rattle.vt_syntax.specs.declared.held.Held.TheVariants as held
-use Rattle.vt_syntax.specs.Held.{events_from, held_from}
+use Rattle.std.specs.List.{flat_map}
+use Rattle.vt_syntax.specs.Items.{item_bytes, rest_bytes}
+use Rattle.vt_syntax.specs.Split.{split_of}
+use Rattle.vt_syntax.specs.Held.{events_from, held_after, held_from}
 use Rattle.vt_glyph.specs.Invocation.{has_no_glyph}
 use Rattle.vt_term.specs.State.{Display, State}
 use Rattle.vt_term.specs.Functions.{effect}
@@ -13,7 +16,7 @@ use Rattle.vt_term.specs.Reports.{report}
 use Rattle.vt_term.specs.Play.{play}
 use Rattle.vt_trace.specs.declared.tracing.Tracer.{Tracer}
 use Rattle.vt_trace.specs.Lines.{shown_byte, shown, line, event_line}
-use Rattle.vt_trace.specs.Skipped.{cut_sequence, spoilt_sequence, is_empty, skipped_line}
+use Rattle.vt_trace.specs.Skipped.{cut_sequence, spoilt_sequence, is_empty, code_of, skipped_line}
 
 -- ---- tracers
 
@@ -102,18 +105,18 @@ abbrev pub code_after : ℕ → Bool → Held → ℕ → ℕ
 code_after code in_string held b =
     if is_string held then (if in_string then code else (if nat_lt b 0x80 then b + 0x40 else b)) else 0
 
--- the kind of what is held
-abbrev pub open_kind : Tracer → ℕ
-open_kind t = if t.code == 0 then cut_sequence else t.code
+-- the kind of what is held, with the C1 control of a string or 0
+abbrev pub open_kind : ℕ → ℕ
+open_kind code = if code == 0 then cut_sequence else code
 
 -- the kind of an item without a function that ends with a byte, which isn't SUB
-abbrev pub ended_kind : Tracer → Held → ℕ → ℕ
-ended_kind t held b =
-    if is_nothing held then b else (if t.code == 0 && not (b == 0x18) then spoilt_sequence else open_kind t)
+abbrev pub ended_kind : ℕ → Held → ℕ → ℕ
+ended_kind code held b =
+    if is_nothing held then b else (if code == 0 && not (b == 0x18) then spoilt_sequence else open_kind code)
 
 -- what is written of what is held, when it is cut off
 abbrev pub open_lines : Tracer → List ℕ
-open_lines t = text_end t.in_text ++ skipped_line t.begin (open_kind t) t.first.items
+open_lines t = text_end t.in_text ++ skipped_line t.begin (open_kind t.code) t.first.items
 
 -- what is written of an item without a function: one that is cut off, or one that has ended
 abbrev pub skipped_lines : Tracer → (cut ended : Bool) → (place kind : ℕ) → List ℕ → List ℕ
@@ -123,7 +126,7 @@ skipped_lines t cut ended place kind first =
 -- what is written of the item that a byte cuts off or ends, if it has no function
 unfoldable pub skipped : Tracer → Held → ℕ → List ℕ
 skipped t held b =
-    skipped_lines t (cuts_off held b) (ends_silent held b) (item_place t held b) (ended_kind t held b) (item_first t held b)
+    skipped_lines t (cuts_off held b) (ends_silent held b) (item_place t held b) (ended_kind t.code held b) (item_first t held b)
 
 -- whether a text may go on after it
 unfoldable pub goes_on : Tracer → Held → ℕ → Bool
@@ -170,3 +173,11 @@ trace s t (b ∷ bytes) = traced s t b ++ trace (play s (b ∷ [])).state (trace
 unfoldable pub tracer_all : State → Tracer → List ℕ → Tracer
 tracer_all s t [] = t
 tracer_all s t (b ∷ bytes) = tracer_all (play s (b ∷ [])).state (tracer_after s t b) bytes
+
+-- what a tracer keeps of bytes, by their split: of what is left it has the place, which is the length of the items before
+-- it, the first bytes, and the C1 control of a string
+pub record IsAfter (bytes : List ℕ) (t : Tracer) : Type 0 where
+  pub place : t.place ≡ length bytes
+  pub begin : is_nothing (held_after bytes) ≡ false → t.begin ≡ length (flat_map item_bytes (split_of bytes).items)
+  pub first : t.first.items ≡ take 33 (rest_bytes (split_of bytes).rest)
+  pub code : t.code ≡ code_of (split_of bytes).rest

@@ -218,7 +218,7 @@ fn is_alone(kind: EventKind, item: &[u8]) -> bool
 
 /// Returns whether all bytes are plain. (Speed: they are few.)
 #[inline(always)]
-fn are_plain(bytes: &[u8]) -> bool
+pub(crate) fn are_plain(bytes: &[u8]) -> bool
     ensures { OnTrue result (All IsPlain bytes.now) }
 {
     for b in bytes.iter() {
@@ -231,7 +231,7 @@ fn are_plain(bytes: &[u8]) -> bool
 
 /// Returns whether an event is a graphic byte.
 #[inline(always)]
-fn is_print(kind: EventKind) -> bool
+pub(crate) fn is_print(kind: EventKind) -> bool
     ensures { (values : List ℕ) → result ≡ is_graphic (event_of kind values) }
 {
     match kind {

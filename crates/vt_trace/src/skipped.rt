@@ -1,7 +1,10 @@
 //! What is no event: the lines of items without a function.
 ghost use Rattle.std.specs.Prelude.{◌≡◌, ◌+◌, ◌≤◌, ◌++◌, [], ◌∷◌, ◌&&◌, ◌||◌, not, ℕ, List, length, take, if◌then◌else◌, IfSome};
 ghost use Rattle.std.specs.Prelude.{option_copied, vec_len, vec_capacity};
-ghost use Rattle.vt_syntax.specs.Event.{event_in};
+ghost use Rattle.std.specs.Option.{option_to_list};
+ghost use Rattle.vt_syntax.specs.Event.{event_in, event_of};
+ghost use Rattle.vt_syntax.specs.Spelling.{IsEvent};
+ghost use Rattle.vt_trace.specs.Runs.{step_kind};
 ghost use Rattle.vt_syntax.specs.Held.{events_from, held_from};
 ghost use Rattle.vt_trace.specs.Skipped.{kind_name, kind_column, first_column, skipped_line, is_empty};
 ghost use Rattle.vt_trace.specs.Trace.{item_place, is_nothing, is_string, cuts_off, ends_silent, item_first, code_after};
@@ -45,15 +48,11 @@ pub(crate) fn kind_name(kind: u8) -> Option<&'static str>
     }
 }
 
-/// What was found of a byte: its event, and the item that it belongs to, ends or cuts off.
+/// What a byte is: its event, and the end of an item without a function.
 #[derive(Drop)]
-pub(crate) struct Found {
+pub(crate) struct Step {
     /// The event that the byte completes.
     pub(crate) event: Option<EventKind>,
-    /// Where the item of the byte began.
-    pub(crate) begin: u64,
-    /// The first bytes of that item.
-    first: First,
     /// Whether the byte cuts off what was held.
     cut: bool,
     /// Whether the byte ends an item that has no function.
@@ -66,19 +65,73 @@ pub(crate) struct Found {
     is_between: bool,
 }
 
+impl Step {
+    /// Returns the kind of the item without a function that the byte cuts off or ends. `code` is that of a string that was
+    /// held before.
+    pub(crate) fn skipped(&self, code: u8) -> Option<u8>
+        ensures { option_to_list result ≡ step_kind code self.now.cut self.now.ended self.now.kind }
+    {
+        if self.cut {
+            Some(open_kind(code))
+        } else if self.ended {
+            Some(self.kind)
+        } else {
+            None
+        }
+    }
+}
+
+/// Reads a byte with a parser. `code` is the C1 control that opened the string which is held, and 0 if none is.
+pub(crate) fn read(code: u8, parser: &mut Parser, b: u8, values: &mut Values) -> Step
+    ensures event { event_in result.event values.new ≡ events_from parser.old (b ∷ []) }
+    ensures in_range { IfSome result.event (λ kind. IsEvent (event_of kind values.new)) }
+    ensures held { parser.new ≡ held_from parser.old (b ∷ []) }
+    ensures cut { result.cut ≡ cuts_off parser.old b }
+    ensures ended { result.ended ≡ ends_silent parser.old b }
+    ensures kind { result.kind ≡ ended_kind code parser.old b }
+    ensures code { result.code ≡ code_after code (is_string parser.old) (held_from parser.old (b ∷ [])) b }
+    ensures is_between { result.is_between ≡ is_nothing (held_from parser.old (b ∷ [])) }
+{
+    let held = parser.held();
+    let cut = cuts_off(held, b);
+    let kind = ended_kind(code, held, b);
+    let in_string = is_string(held);
+    let event = read_one(parser, b, values);
+    let next = parser.held();
+    Step {
+        event,
+        cut,
+        ended: ends_silent(event, next),
+        kind,
+        code: code_after(code, in_string, next, b),
+        is_between: is_nothing(next),
+    }
+}
+
+/// What was found of a byte in a trace: the step, and the item that the byte belongs to.
+#[derive(Drop)]
+pub(crate) struct Found {
+    /// What the byte is.
+    pub(crate) step: Step,
+    /// Where the item began.
+    pub(crate) begin: u64,
+    /// The first bytes of the item.
+    first: First,
+}
+
 impl Found {
     /// Returns whether a text that is open before the byte may go on at its event.
     pub(crate) fn goes_on(&self, in_text: bool) -> bool
-        ensures { result ≡ in_text && not (self.now.cut || self.now.ended) }
+        ensures { result ≡ in_text && not (self.now.step.cut || self.now.step.ended) }
     {
-        in_text && !(self.cut || self.ended)
+        in_text && !(self.step.cut || self.step.ended)
     }
 
     /// Returns the first bytes of what is held after the byte.
     pub(crate) fn kept(self) -> First
-        ensures { result.items ≡ if self.is_between then [] else self.first.items }
+        ensures { result.items ≡ if self.step.is_between then [] else self.first.items }
     {
-        if self.is_between {
+        if self.step.is_between {
             ArrayVec::new()
         } else {
             self.first
@@ -88,38 +141,28 @@ impl Found {
 
 /// Reads a byte with a parser, and returns what is found of it.
 pub(crate) fn find(tracer: &Tracer, parser: &mut Parser, b: u8, values: &mut Values) -> Found
-    ensures event { event_in result.event values.new ≡ events_from parser.old (b ∷ []) }
+    ensures event { event_in result.step.event values.new ≡ events_from parser.old (b ∷ []) }
+    ensures cut { result.step.cut ≡ cuts_off parser.old b }
+    ensures ended { result.step.ended ≡ ends_silent parser.old b }
+    ensures kind { result.step.kind ≡ ended_kind tracer.now.code parser.old b }
+    ensures code { result.step.code ≡ code_after tracer.now.code (is_string parser.old) (held_from parser.old (b ∷ [])) b }
+    ensures is_between { result.step.is_between ≡ is_nothing (held_from parser.old (b ∷ [])) }
     ensures begin { result.begin ≡ item_place tracer.now parser.old b }
     ensures first { result.first.items ≡ item_first tracer.now parser.old b }
-    ensures cut { result.cut ≡ cuts_off parser.old b }
-    ensures ended { result.ended ≡ ends_silent parser.old b }
-    ensures kind { result.kind ≡ ended_kind tracer.now parser.old b }
-    ensures code { result.code ≡ code_after tracer.now.code (is_string parser.old) (held_from parser.old (b ∷ [])) b }
-    ensures is_between { result.is_between ≡ is_nothing (held_from parser.old (b ∷ [])) }
 {
-    let held = parser.held();
-    let begin = item_place(tracer, held, b);
-    let first = item_first(tracer, held, b);
-    let cut = cuts_off(held, b);
-    let kind = ended_kind(tracer, held, b);
-    let in_string = is_string(held);
-    let event = read_one(parser, b, values);
-    let next = parser.held();
+    let begin = item_place(tracer, parser.held(), b);
+    let first = item_first(tracer, parser.held(), b);
     Found {
-        event,
+        step: read(tracer.code, parser, b, values),
         begin,
         first,
-        cut,
-        ended: ends_silent(event, next),
-        kind,
-        code: code_after(tracer.code, in_string, next, b),
-        is_between: is_nothing(next),
     }
 }
 
 /// Reads a byte.
 fn read_one(parser: &mut Parser, b: u8, values: &mut Values) -> Option<EventKind>
     ensures event { event_in result values.new ≡ events_from parser.old (b ∷ []) }
+    ensures in_range { IfSome result (λ kind. IsEvent (event_of kind values.new)) }
     ensures held { parser.new ≡ held_from parser.old (b ∷ []) }
 {
     parser.next(&[b], values).event
@@ -197,42 +240,38 @@ fn code_after(code: u8, in_string: bool, held: &Held, b: u8) -> u8
 }
 
 /// Returns the kind of an item without a function that ends with a byte, which isn't SUB.
-fn ended_kind(tracer: &Tracer, held: &Held, b: u8) -> u8
-    ensures { result ≡ ended_kind tracer.now held.now b }
+fn ended_kind(code: u8, held: &Held, b: u8) -> u8
+    ensures { result ≡ ended_kind code held.now b }
 {
     if is_nothing(held) {
         b
-    } else if tracer.code == 0 && b != 0x18 {
+    } else if code == 0 && b != 0x18 {
         SPOILT_SEQUENCE
     } else {
-        open_kind(tracer)
+        open_kind(code)
     }
 }
 
 /// Returns the kind of what is held.
-fn open_kind(tracer: &Tracer) -> u8
-    ensures { result ≡ open_kind tracer.now }
+pub(crate) fn open_kind(code: u8) -> u8
+    ensures { result ≡ open_kind code }
 {
-    if tracer.code == 0 {
-        CUT_SEQUENCE
-    } else {
-        tracer.code
-    }
+    if code == 0 { CUT_SEQUENCE } else { code }
 }
 
 /// Appends what is written of the item that a byte cuts off or ends, if it has no function.
 pub(crate) fn push_skipped(tracer: &Tracer, found: &Found, out: &mut Vec<u8>)
     requires { vec_len out.old + SKIPPED_LIMIT ≤ vec_capacity out.old }
     ensures items { out.new.items ≡ out.old.items
-        ++ skipped_lines tracer.now found.now.cut found.now.ended found.now.begin found.now.kind found.now.first.items }
+        ++ skipped_lines tracer.now found.now.step.cut found.now.step.ended found.now.begin found.now.step.kind found.now.first.items }
     ensures bounded { vec_len out.new ≤ vec_len out.old + SKIPPED_LIMIT }
     ensures capacity { vec_capacity out.old ≤ vec_capacity out.new }
 {
-    if found.cut {
+    if found.step.cut {
         push_open(tracer, out);
-    } else if found.ended {
+    } else if found.step.ended {
         push_end(tracer.in_text, out);
-        push_skipped_line(found.begin, found.kind, found.first.as_slice(), out);
+        push_skipped_line(found.begin, found.step.kind, found.first.as_slice(), out);
     }
 }
 
@@ -246,7 +285,7 @@ pub(crate) fn push_open(tracer: &Tracer, out: &mut Vec<u8>)
     push_end(tracer.in_text, out);
     push_skipped_line(
         tracer.begin,
-        open_kind(tracer),
+        open_kind(tracer.code),
         tracer.first.as_slice(),
         out,
     );

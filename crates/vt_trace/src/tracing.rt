@@ -135,7 +135,7 @@ pub fn trace_byte(
         found.goes_on(tracer.in_text),
         found.begin,
         b,
-        found.event,
+        found.step.event,
         values.as_slice(),
         &reports[before..],
         out,
@@ -144,7 +144,7 @@ pub fn trace_byte(
         place: tracer.place + 1,
         begin: found.begin,
         in_text,
-        code: found.code,
+        code: found.step.code,
         first: found.kept(),
     };
 }

@@ -1,10 +1,9 @@
 -- What each word writes. (this profile)
-use Rattle.std.specs.Prelude.{ℕ, List, [], Bool, Result, false}
+use Rattle.std.specs.Prelude.{ℕ, List, [], Bool, Result}
 use Rattle.vt_device.specs.Runs.{Flags}
 use Rattle.vt_term.specs.State.{power_up}
 use Rattle.vt_replay.specs.Pages.{pages}
-use Rattle.vt_trace.specs.Trace.{trace, tracer_all, text_end}
-use Rattle.vt_trace.specs.declared.tracing.Tracer.{Tracer}
+use Rattle.vt_trace.specs.Trace.{trace, tracer_all, tracer_at_start, end_lines}
 use Rattle.vt_trace.specs.Summary.{summary}
 use Rattle.vt_cli.specs.declared.what.TerminalType.{TerminalType}
 use Rattle.vt_cli.specs.declared.what.Word.{Word}
@@ -25,15 +24,12 @@ pages_written bytes = pages power_up bytes
 
 -- ---- trace
 
-abbrev pub tracer_at_start : Tracer
-tracer_at_start = record { place = 0; begin = 0; in_text = false }
-
 abbrev pub trace_written : List ℕ → List ℕ
 trace_written bytes = trace power_up tracer_at_start bytes
 
--- the end of a text, if the last line is one
+-- the end of a text, if the last line is one, and the line of a sequence or string that is still open
 abbrev pub trace_ending : List ℕ → List ℕ
-trace_ending bytes = text_end (tracer_all power_up tracer_at_start bytes).in_text
+trace_ending bytes = end_lines (tracer_all power_up tracer_at_start bytes)
 
 -- ---- content
 

@@ -4,10 +4,9 @@ ghost use Rattle.vt_term.specs.State.{power_up};
 ghost use Rattle.vt_term.specs.Play.{play};
 ghost use Rattle.vt_term.specs.Text.{text};
 ghost use Rattle.vt_replay.specs.Pages.{pages};
-ghost use Rattle.vt_trace.specs.Trace.{trace, tracer_all, text_end};
+ghost use Rattle.vt_trace.specs.Trace.{trace, tracer_all, tracer_at_start, end_lines};
 ghost use Rattle.vt_trace.specs.Counted.{HasCounted};
 ghost use Rattle.vt_trace.specs.Summary.{summary};
-ghost use Rattle.vt_replay.specs.Words.{tracer_at_start};
 
 use crate::laws::pages_cut;
 use crate::output::{Output, front_for};
@@ -110,7 +109,7 @@ impl Output for TraceOutput {
 
     ghost Took = { λ o before. ⊤ };
 
-    ghost ending = { λ o before bytes. text_end (tracer_all o.terminal o.tracer bytes).in_text };
+    ghost ending = { λ o before bytes. end_lines (tracer_all o.terminal o.tracer bytes) };
 
     ghost there = { λ o bytes. true };
 
@@ -118,7 +117,7 @@ impl Output for TraceOutput {
 
     ghost counted = { λ o. o.tracer.place };
 
-    ghost reserve = { λ o. 61440 };
+    ghost reserve = { λ o. 107520 };
 
     fn capacity(&self) -> usize {
         256 * TRACE_LIMIT
@@ -177,7 +176,7 @@ impl Output for SummaryOutput {
 
     ghost counted = { λ o. 0 };
 
-    ghost reserve = { λ o. 309351 };
+    ghost reserve = { λ o. 309607 };
 
     fn capacity(&self) -> usize {
         SUMMARY_LIMIT

@@ -1,7 +1,7 @@
 -- The bytes before the place are written.
 use Rattle.std.proofs.Common.{◌≡◌, ◌+◌, ◌*◌, ◌≤◌, ◌++◌, take, vec_len, vec_capacity}
 use Rattle.vt_trace.specs.Lines.{shown}
-use Rattle.vt_trace.proofs.tracing.push_all_shown.Given as goal
+use Rattle.vt_trace.proofs.bytes.push_all_shown.Given as goal
 
 abbrev pub invariant-loop-b : goal.invariant-loop-b
 invariant-loop-b l = record {

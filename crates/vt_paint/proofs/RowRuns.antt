@@ -9,7 +9,7 @@ use Rattle.vt_screen.specs.Cells.{blank, brush_of}
 use Rattle.vt_screen.specs.Grid.{Grid, cell_at, row_of}
 use Rattle.vt_screen.specs.Same.{same_brush, when}
 use Rattle.vt_paint.specs.Same.{is_blank}
-use Rattle.vt_paint.specs.Controls.{cursor_position, brush_events}
+use Rattle.vt_controls.specs.Controls.{cursor_position, brush_events}
 use Rattle.vt_paint.specs.Pieces.{left_of, needs_header, header, glyph_events, piece_of, piece, pieces_from}
 use Rattle.std.proofs.lemmas.Bool.{and_parts, eq-eqb, cases_lt}
 use Rattle.std.proofs.lemmas.List.{take_more, length-take, get_or-take, get_or-drop, get_or-set_same, get_or-set_other}
@@ -19,7 +19,7 @@ use Rattle.vt_screen.proofs.Lists.{length-mid_of}
 use borrow.Rule.Slice.PartMut.{put_mid, mid_of, post_of}
 use Rattle.vt_paint.specs.Private.HeaderParts.{brush_number, IsPlain}
 use Rattle.vt_paint.proofs.Equality.{same_brush-is, same_numbers}
-use Rattle.vt_paint.proofs.Tests.{not_true}
+use Rattle.vt_controls.proofs.Tests.{not_true}
 use Rattle.vt_paint.proofs.Pushing.{appended-more, blank_piece, events, then_events}
 use Rattle.vt_paint.proofs.Painting.{left_of-first, left_of-next}
 

@@ -1,3 +1,4 @@
 mod Trimming
 mod Ranges
 mod Cutting
+pub mod Sequences

@@ -7,7 +7,7 @@ use Rattle.vt_screen.specs.declared.cell.Cell.{Cell}
 use Rattle.vt_screen.specs.Cells.{brush_of}
 use Rattle.vt_glyph.specs.Spell.{spelling_of}
 use Rattle.vt_paint.specs.Same.{is_blank}
-use Rattle.vt_paint.specs.Controls.{brush_events, spelling_events}
+use Rattle.vt_controls.specs.Controls.{brush_events, spelling_events}
 
 -- CUP up to its column
 unfoldable pub row_part : ℕ → List ℕ

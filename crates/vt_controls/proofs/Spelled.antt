@@ -12,7 +12,7 @@ use Rattle.vt_glyph.specs.declared.set.Set.{Set}
 use Rattle.vt_syntax.specs.Spelling.{spell_event}
 use Rattle.vt_screen.specs.declared.cell.Rendition.{Rendition}
 use Rattle.vt_controls.specs.declared.modes.TheConstants.{FRONTS, LENGTHS}
-use Rattle.vt_controls.specs.Controls.{rendition_to, mode_event, designation_of}
+use Rattle.vt_controls.specs.Controls.{mode_event}
 use Rattle.vt_controls.specs.Spoken.{Escape, Sequence, are_attributes, is_spoken, Speaks}
 use Rattle.vt_controls.specs.Private.Attributes.{attributes}
 use Rattle.vt_controls.specs.Private.Tables.{mode_last}
@@ -52,21 +52,11 @@ two_numbers before n m one two three four all last none a b c d e =
 -- ---- SGR
 
 -- a test of each rendition
-abbrev pub all_renditions : (Rendition → Bool) → Bool
+abbrev all_renditions : (Rendition → Bool) → Bool
 all_renditions p = all_brushes (λ brush. p brush.rendition)
 
-pub at_rendition : (p : Rendition → Bool) → all_renditions p ≡ true → (r : Rendition) → p r ≡ true
+at_rendition : (p : Rendition → Bool) → all_renditions p ≡ true → (r : Rendition) → p r ≡ true
 at_rendition p h r = at_brush (λ brush. p brush.rendition) h (record { rendition = r; protected = false })
-
-pub rendition_spelled : (r : Rendition) → 0x1B ∷ 0x5B ∷ ((0x30 ∷ attributes r) ++ 0x6D ∷ []) ≡ spell_event (rendition_to r)
-unfolding all_brushes both_pass digits
-rendition_spelled r =
-    same_bytes-is _ _ (at_rendition (λ r. same_bytes (0x1B ∷ 0x5B ∷ ((0x30 ∷ attributes r) ++ 0x6D ∷ []))
-    (spell_event (rendition_to r))) refl r)
-
-pub rendition_is : (r : Rendition) → are_attributes (0x30 ∷ attributes r) ≡ true
-unfolding all_brushes both_pass
-rendition_is r = at_rendition (λ r. are_attributes (0x30 ∷ attributes r)) refl r
 
 pub attributes_behind : (r : Rendition) → are_attributes (drop 1 (attributes r)) ≡ true
 unfolding all_brushes both_pass

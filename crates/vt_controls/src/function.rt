@@ -1,7 +1,7 @@
 //! Control functions, each spelled once.
 ghost use Rattle.std.specs.Prelude.{◌≡◌, ◌+◌, ◌≤◌, ◌<◌, ◌++◌, ◌∷◌, [], true, length, take, codes, vec_len, vec_capacity};
 ghost use Rattle.vt_syntax.specs.Spelling.{spell_event};
-ghost use Rattle.vt_controls.specs.Controls.{sequence_of, cursor_position, margins_to, clear_all_tabs, rendition_to, all_attributes};
+ghost use Rattle.vt_controls.specs.Controls.{sequence_of, cursor_position, margins_to, clear_all_tabs, all_attributes};
 ghost use Rattle.vt_controls.specs.Controls.{protection_to, set_tab, shift_to, reset_to_initial_state, soft_reset, save_cursor};
 ghost use Rattle.vt_controls.specs.Controls.{designation_of, left_event, right_event, mode_event};
 ghost use Rattle.vt_controls.specs.Spoken.{Control, Escape, Sequence, is_spoken, is_one_of, Speaks};
@@ -252,17 +252,6 @@ impl Function {
 
     // ---- attributes and protection
 
-    /// Returns SGR: 0, and then the attributes that are set.
-    #[inline]
-    pub fn rendition(new: Rendition) -> Function
-        ensures value { result ≡ spell_event (rendition_to new) }
-        ensures short { length result ≤ 12 }
-    {
-        let mut text = *b"0        ";
-        let at = put_attributes(new, 1, &mut text);
-        Function::sequence(&text[..at], b"m")
-    }
-
     /// Returns SGR that changes attributes: those that are newly set. If one is reset, all are reset first, by an empty
     /// parameter.
     #[inline]
@@ -277,8 +266,8 @@ impl Function {
             blink: new.blink && (reset || !old.blink),
             reverse: new.reverse && (reset || !old.reverse),
         };
-        let mut text = [0; 9];
-        let at = put_attributes(newly, 0, &mut text);
+        let mut text = [0; 8];
+        let at = put_attributes(newly, &mut text);
         if reset || at == 0 {
             Function::sequence(&text[..at], b"m")
         } else {
@@ -410,8 +399,8 @@ impl Function {
 
 /// Writes `;` and an attribute, if it is set. Returns the position after it.
 #[inline(always)]
-fn put_attribute(digit: u8, set: bool, at: usize, text: &mut [u8; 9]) -> usize
-    requires { at ≤ 7 }
+fn put_attribute(digit: u8, set: bool, at: usize, text: &mut [u8; 8]) -> usize
+    requires { at ≤ 6 }
     ensures items { take result text.new ≡ take at text.old ++ attribute set digit }
     ensures bounded { result ≤ at + 2 }
 {
@@ -423,14 +412,13 @@ fn put_attribute(digit: u8, set: bool, at: usize, text: &mut [u8; 9]) -> usize
     at + 2
 }
 
-/// Writes each attribute that is set, after `;`. Returns the position after them.
+/// Writes each attribute that is set, after `;`. Returns the number of bytes.
 #[inline(always)]
-fn put_attributes(look: Rendition, at: usize, text: &mut [u8; 9]) -> usize
-    requires { at ≤ 1 }
-    ensures items { take result text.new ≡ take at text.old ++ attributes look }
-    ensures bounded { result ≤ at + 8 }
+fn put_attributes(look: Rendition, text: &mut [u8; 8]) -> usize
+    ensures items { take result text.new ≡ attributes look }
+    ensures bounded { result ≤ 8 }
 {
-    let at = put_attribute(b'1', look.bold, at, text);
+    let at = put_attribute(b'1', look.bold, 0, text);
     let at = put_attribute(b'4', look.underline, at, text);
     let at = put_attribute(b'5', look.blink, at, text);
     put_attribute(b'7', look.reverse, at, text)

@@ -112,7 +112,7 @@ same_codes m n back back_2 = elim (eqb_tells m n) [
   ]
 ]
 
-pub same_numbers : (a b : Brush) → eqb (brush_number a) (brush_number b) ≡ same_brush a b
+same_numbers : (a b : Brush) → eqb (brush_number a) (brush_number b) ≡ same_brush a b
 unfolding all_brushes both_pass
 same_numbers a b =
     let test : Brush → Brush → Bool = λ a b. same_bool (eqb (brush_number a) (brush_number b)) (same_brush a b) in

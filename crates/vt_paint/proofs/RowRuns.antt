@@ -1,24 +1,18 @@
 -- A row by runs: what a cell's piece is behind a blank cell, behind one of its own brush, and behind any other.
-use Rattle.std.proofs.Common.{◌≡◌, ◌+◌, ◌-◌, ◌≤◌, ◌<◌, ◌&&◌, ◌||◌, not, ℕ, zero, suc, Bool, true, false, List, [], ◌∷◌, ◌++◌}
-use Rattle.std.proofs.Common.{length, length-drop, length-set, take, drop, get_or, set, inl, inr, refl, sym, ap, subst, ◌∙◌, append-nil, append_assoc, arith}
+use Rattle.std.proofs.Common.{◌≡◌, ◌+◌, ◌≤◌, ◌&&◌, ◌||◌, not, ℕ, Bool, true, false, List, [], ◌∷◌, ◌++◌, refl, sym}
+use Rattle.std.proofs.Common.{ap, ◌∙◌, append-nil, append_assoc, arith}
 use Rattle.vt_syntax.specs.declared.event.Event.{Event}
 use Rattle.vt_syntax.specs.Spelling.{spell_events}
 use Rattle.vt_screen.specs.declared.cell.Brush.{Brush}
 use Rattle.vt_screen.specs.declared.cell.Cell.{Cell}
 use Rattle.vt_screen.specs.Cells.{blank, brush_of}
-use Rattle.vt_screen.specs.Grid.{Grid, cell_at, row_of}
+use Rattle.vt_screen.specs.Grid.{Grid, cell_at}
 use Rattle.vt_screen.specs.Same.{same_brush, when}
 use Rattle.vt_paint.specs.Same.{is_blank}
 use Rattle.vt_controls.specs.Controls.{cursor_position, brush_events}
 use Rattle.vt_paint.specs.Pieces.{left_of, needs_header, header, glyph_events, piece_of, piece, pieces_from}
-use Rattle.std.proofs.lemmas.Bool.{and_parts, eq-eqb, cases_lt}
-use Rattle.std.proofs.lemmas.List.{take_more, length-take, get_or-take, get_or-drop, get_or-set_same, get_or-set_other}
-use Rattle.std.proofs.Math.Seq.{take-append-le, take-append-add}
-use Rattle.vt_screen.proofs.Places.{get_or-row_of, length-row_of}
-use Rattle.vt_screen.proofs.Lists.{length-mid_of}
-use borrow.Rule.Slice.PartMut.{put_mid, mid_of, post_of}
-use Rattle.vt_paint.specs.Private.HeaderParts.{brush_number, IsPlain}
-use Rattle.vt_paint.proofs.Equality.{same_brush-is, same_numbers}
+use Rattle.std.proofs.lemmas.Bool.{and_parts}
+use Rattle.vt_paint.proofs.Equality.{same_brush-is}
 use Rattle.vt_controls.proofs.Tests.{not_true}
 use Rattle.vt_paint.proofs.Pushing.{appended-more, blank_piece, events, then_events}
 use Rattle.vt_paint.proofs.Painting.{left_of-first, left_of-next}
@@ -119,99 +113,3 @@ more_written g r i cell old before after here i1 shown on first second =
     appended-more (λ c. piece g r c) 1 i (i + 1) (i + 1) (glyph_events cell) old before after (omega arith) refl first second
     (sym (ap (λ l. piece_of r (i + 1) l (cell_at g r (i + 1))) (left_of-next g r i i1)
     ∙ inside_leaves r (i + 1) (cell_at g r i) (cell_at g r (i + 1)) shown (rw (← here) on) ∙ rw here refl))
-
--- the cells of a row up to the i-th are written, and that one has the brush of a run
-pub record IsInRun (g : Grid) (r i number : ℕ) (old written : List ℕ) : Type 0 where
-  pub items : written ≡ old ++ spell_events (pieces_from g r 1 i)
-  pub shown : is_blank (cell_at g r i) ≡ false
-  pub brush : number ≡ brush_number (brush_of (cell_at g r i))
-
-same_run : (left cell : Cell) (number : ℕ) → number ≡ brush_number (brush_of left) → number ≡ brush_number (brush_of cell)
-    → is_blank cell ≡ false → goes_on left cell ≡ true
-same_run left cell number l c shown =
-    ap (λ b. b && not (is_blank cell))
-    (sym (same_numbers (brush_of left) (brush_of cell)) ∙ eq-eqb _ _ (sym l ∙ c)) ∙ ap not shown
-
--- n plain cells more
-pub plain_written : (g : Grid) (r i number : ℕ) (old front part : List ℕ) → 1 ≤ i → IsInRun g r i number old front
-    → (n : ℕ) → n ≤ length part
-    → ((k : ℕ) → k < n → IsPlain number (cell_at g r (i + k + 1)) (get_or part k 0))
-    → IsInRun g r (i + n) number old (front ++ take n part)
-unfolding glyph_events
-plain_written g r i number old front part i1 run zero fits are =
-    subst (λ m. IsInRun g r m number old (front ++ [])) (omega arith)
-    (subst (λ (xs : List ℕ). IsInRun g r i number old xs) (sym (append-nil front)) run)
-plain_written g r i number old front part i1 run (suc n) fits are =
-    let before = plain_written g r i number old front part i1 run n (omega arith) (λ k h. are k (omega arith)) in
-    let here = are n (omega arith) in
-    let next : i + n + 1 ≡ i + suc n = omega arith in
-    let count : n + 1 ≡ suc n = omega arith in
-    let behind : front ++ take (suc n) part ≡ (front ++ take n part) ++ get_or part n 0 ∷ [] =
-    ap (λ (xs : List ℕ). front ++ xs) (ap (λ m. take m part) (sym count) ∙ take_more part n 0 (omega arith))
-    ∙ sym (append_assoc front (take n part) (get_or part n 0 ∷ [])) in
-    subst (λ m. IsInRun g r m number old (front ++ take (suc n) part)) next (record {
-      items = more_written g r (i + n) (cell_at g r (i + n + 1)) old (front ++ take n part) (front ++ take (suc n) part) refl
-          (omega arith) before.shown
-          (same_run (cell_at g r (i + n)) (cell_at g r (i + n + 1)) number before.brush here.brush here.shown) before.items
-          (behind ∙ ap (λ (xs : List ℕ). (front ++ take n part) ++ xs) (sym here.glyph));
-      shown = here.shown;
-      brush = here.brush;
-    })
-
--- a cell of the rest of a row
-rest-is : (g : Grid) (r i k : ℕ) (cells : List Cell) → cells ≡ row_of g r → k < length (take (length cells - i) (drop i cells))
-    → get_or (take (length cells - i) (drop i cells)) k blank ≡ cell_at g r (i + k + 1)
-rest-is g r i k cells e low =
-    let few : k < length cells - i = omega (arith, low, length-take (length cells - i) (drop i cells)) in
-    let back : i + k ≡ i + k + 1 - 1 = omega arith in
-    get_or-take (length cells - i) (drop i cells) k blank few ∙ get_or-drop i cells k blank
-    ∙ ap (λ n. get_or cells n blank) back ∙ ap (λ xs. get_or xs (i + k + 1 - 1) blank) e
-    ∙ get_or-row_of g r (i + k + 1) blank (omega arith) (omega (arith, few, ap length e, length-row_of g r))
-
--- a line whose part was written, up to a place in that part
-front-put_mid : (at k n : ℕ) (line part : List ℕ) → at ≤ length line
-    → take (at + n) (put_mid at k line part) ≡ take at line ++ take n (part ++ post_of at k line)
-front-put_mid at k n line part long =
-    let front : length (take at line) ≡ at = rw length-take (omega arith) in
-    ap (λ m. take (m + n) (put_mid at k line part)) (sym front)
-    ∙ take-append-add (take at line) (part ++ post_of at k line) n
-
-pub plain_behind : (g : Grid) (r i number at n : ℕ) (cells : List Cell) (old front line part : List ℕ)
-    → cells ≡ row_of g r → 1 ≤ i → n ≤ length (take (length cells - i) (drop i cells))
-    → length part ≡ length (take (length cells - i) (drop i cells)) → at ≤ length line
-    → ((k : ℕ) → k < n → IsPlain number (get_or (take (length cells - i) (drop i cells)) k blank) (get_or part k 0))
-    → IsInRun g r i number old (front ++ take at line)
-    → (k : ℕ) → IsInRun g r (i + n) number old (front ++ take (at + n) (put_mid at k line part))
-plain_behind g r i number at n cells old front line part e i1 fits long at_fits are run k =
-    subst (λ (xs : List ℕ). IsInRun g r (i + n) number old xs)
-    (append_assoc front (take at line) (take n part)
-    ∙ ap (λ (xs : List ℕ). front ++ (take at line ++ xs)) (sym (take-append-le n part (post_of at k line) (omega arith)))
-    ∙ ap (λ (xs : List ℕ). front ++ xs) (sym (front-put_mid at k n line part at_fits)))
-    (plain_written g r i number old (front ++ take at line) part i1 run n (omega arith)
-    (λ j h. subst (λ x. IsPlain number x (get_or part j 0)) (rest-is g r i j cells e (omega arith)) (are j h)))
-
--- two plain cells more
-pub two_plain : (number i a b : ℕ) (cells : List Cell) (part : List ℕ) → i + 1 < length part
-    → ((k : ℕ) → k < i → IsPlain number (get_or cells k blank) (get_or part k 0))
-    → IsPlain number (get_or cells i blank) a → IsPlain number (get_or cells (i + 1) blank) b
-    → (k : ℕ) → k < i + 2 → IsPlain number (get_or cells k blank) (get_or (set (set part i a) (i + 1) b) k 0)
-two_plain number i a b cells part fits are first second k h =
-    let next = set part i a in
-    elim (cases_lt k i) [
-      | inl low ↦
-          subst (λ x. IsPlain number (get_or cells k blank) x)
-          (sym (get_or-set_other next (i + 1) k b 0 (λ e. omega (arith, e)) ∙ get_or-set_other part i k a 0 (λ e. omega (arith, e))))
-          (are k low)
-      | inr high ↦ elim (cases_lt k (i + 1)) [
-        | inl low ↦
-            let here : i ≡ k = omega arith in
-            subst (λ j. IsPlain number (get_or cells j blank) (get_or (set next (i + 1) b) j 0)) here
-            (subst (λ x. IsPlain number (get_or cells i blank) x)
-            (sym (get_or-set_other next (i + 1) i b 0 (λ e. omega (arith, e)) ∙ get_or-set_same part i a 0 (omega arith))) first)
-        | inr above ↦
-            let here : i + 1 ≡ k = omega arith in
-            subst (λ j. IsPlain number (get_or cells j blank) (get_or (set next (i + 1) b) j 0)) here
-            (subst (λ x. IsPlain number (get_or cells (i + 1) blank) x)
-            (sym (get_or-set_same next (i + 1) b 0 (omega (arith, length-set part i a)))) second)
-      ]
-    ]

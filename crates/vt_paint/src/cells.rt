@@ -1,12 +1,12 @@
 //! The cells of the screen. The output has capacity for them.
 ghost use Rattle.std.specs.Prelude.{◌≡◌, ◌+◌, ◌*◌, ◌^◌, ◌≤◌, ◌<◌, ◌++◌, ◌||◌, ◌&&◌, not, true, false, length, take, vec_len};
-ghost use Rattle.std.specs.Prelude.{ℕ, slice_index_or, vec_capacity};
+ghost use Rattle.std.specs.Prelude.{vec_capacity};
 ghost use Rattle.vt_glyph.specs.Spell.{spelling_of};
 ghost use Rattle.vt_glyph.specs.Encoding.{encoding_of};
 ghost use Rattle.std.specs.List.{list_all};
 ghost use Rattle.vt_syntax.specs.Spelling.{spell_events};
 ghost use Rattle.vt_screen.specs.declared.cell.Brush.{Brush};
-ghost use Rattle.vt_screen.specs.Cells.{blank, brush_of};
+ghost use Rattle.vt_screen.specs.Cells.{brush_of};
 ghost use Rattle.vt_screen.specs.Grid.{Grid, cell_at, row_of, last_row};
 ghost use Rattle.vt_screen.specs.Same.{same_brush, when};
 ghost use Rattle.vt_paint.specs.Same.{is_blank as is_blank_cell};
@@ -14,7 +14,7 @@ ghost use Rattle.vt_controls.specs.Controls.{spelling_sets_events, spelling_even
 ghost use Rattle.vt_paint.specs.Pieces.{row_pieces};
 ghost use Rattle.vt_paint.specs.Items.{cells_item};
 ghost use Rattle.vt_paint.specs.Private.Room.{head_room};
-ghost use Rattle.vt_paint.specs.Private.HeaderParts.{brush_number, lowest_word, IsPlain};
+ghost use Rattle.vt_paint.specs.Private.HeaderParts.{brush_number, lowest_word};
 
 use crate::line::{LINE, MANY, ROW_LIMIT, put, put_glyph, put_header};
 use crate::tables::cell_brush_number;
@@ -94,40 +94,6 @@ impl Run {
         self.is_plain(cell) || word >> 24 == self.number && word != BLANK
     }
 
-    /// Writes the glyph of a cell that is known to be plain in this run. Returns whether it is.
-    #[inline(always)]
-    fn put_if_plain(&self, cell: &Cell, byte: &mut u8) -> bool
-        ensures { result ≡ true → IsPlain self.now.number cell.now byte.new }
-    {
-        if !self.is_plain(cell) {
-            return false;
-        }
-        *byte = cell.glyph.code() as u8;
-        true
-    }
-
-    /// Speed: writes the glyphs of cells, two at a time, up to the first one that isn't known to be plain in this run.
-    /// Returns how many. Of an odd number the last may be left out.
-    #[inline(always)]
-    fn put_plain(&self, cells: &[Cell], part: &mut [u8]) -> usize
-        requires { length part.old ≡ length cells.now }
-        ensures written { (k : ℕ) → k < result
-            → IsPlain self.now.number (slice_index_or cells.now k blank) (slice_index_or part.new k 0) }
-        ensures within { result ≤ length cells.now }
-    {
-        let mut i = 0;
-        while cells.len() - i >= 2 {
-            if !self.put_if_plain(&cells[i], &mut part[i]) {
-                return i;
-            }
-            if !self.put_if_plain(&cells[i + 1], &mut part[i + 1]) {
-                return i + 1;
-            }
-            i += 2;
-        }
-        i
-    }
-
     /// Writes the glyph of a cell. Returns the position after it.
     #[inline(always)]
     fn put_next(&self, cell: &Cell, at: usize, line: &mut [u8; LINE]) -> usize
@@ -167,10 +133,6 @@ fn put_row(row: usize, cells: &[Cell], line: &mut [u8; LINE], out: &mut Vec<u8>)
             let run = Run::of(first);
             at = put_header(row, i, first.brush(), at, line);
             at = put_glyph(first.glyph, at, line);
-            let rest = &cells[i..];
-            let count = run.put_plain(rest, &mut line[at..at + rest.len()]);
-            at += count;
-            i += count;
             while i < cells.len() && run.goes_on(&cells[i]) {
                 at = run.put_next(&cells[i], at, line);
                 i += 1;

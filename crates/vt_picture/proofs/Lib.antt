@@ -1,4 +1,3 @@
 mod Trimming
 mod Ranges
 mod Cutting
-pub mod Sequences

@@ -1,11 +1,11 @@
 //! The screen as text with its attributes.
 ghost use Rattle.std.specs.Prelude.{◌≡◌, ◌+◌, ◌*◌, ◌≤◌, ◌++◌, length, vec_len, vec_capacity, OnOk, OnErr, IsOk};
-ghost use Rattle.vt_picture.specs.Show.{change, shown_line, show};
+ghost use Rattle.vt_picture.specs.Show.{change, rendition_sequence, shown_line, show};
 
 use crate::bytes::push_glyph;
 use crate::looks::without_blank_end;
 use std::alloc::AllocError;
-use vt_controls::{Function, push_bytes};
+use vt_controls::{push_bytes, push_when};
 use vt_screen::{Cell, Rendition};
 use vt_term::{ROWS, STOPS, Terminal};
 
@@ -15,8 +15,22 @@ pub const SHOW_LIMIT: usize = ROWS * (16 * STOPS + 13);
 
 const _: () = prove!(SHOW_LIMIT == 51000);
 
+/// Appends SGR with 0 and the attributes that are set.
+fn push_rendition(look: Rendition, out: &mut Vec<u8>)
+    requires { vec_len out.old + 12 ≤ vec_capacity out.old }
+    ensures items { out.new.items ≡ out.old.items ++ rendition_sequence look }
+    ensures bounded { vec_len out.new ≤ vec_len out.old + 12 }
+    ensures capacity { vec_capacity out.old ≤ vec_capacity out.new }
+{
+    push_bytes(b"\x1B[0", out);
+    push_when(look.bold, b";1", out);
+    push_when(look.underline, b";4", out);
+    push_when(look.blink, b";5", out);
+    push_when(look.reverse, b";7", out);
+    push_bytes(b"m", out);
+}
+
 /// Appends SGR if the attributes change.
-#[tactic(auto, using(crate::proofs::Sequences::rendition_spelled))]
 fn push_change(before: Rendition, after: Rendition, out: &mut Vec<u8>)
     requires { vec_len out.old + 12 ≤ vec_capacity out.old }
     ensures items { out.new.items ≡ out.old.items ++ change before after }
@@ -24,7 +38,7 @@ fn push_change(before: Rendition, after: Rendition, out: &mut Vec<u8>)
     ensures capacity { vec_capacity out.old ≤ vec_capacity out.new }
 {
     if before != after {
-        Function::rendition(after).push(out);
+        push_rendition(after, out);
     }
 }
 

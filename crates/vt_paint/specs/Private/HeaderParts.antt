@@ -1,13 +1,9 @@
--- The parts of a header, the index of a brush, and the plain cells of a run. No public clause cites them.
-use Rattle.std.specs.Prelude.{◌≡◌, ℕ, ◌+◌, ◌*◌, ◌==◌, false, List, [], ◌∷◌, ◌++◌, if◌then◌else◌, decimal, drop}
+-- The parts of a header, and the index of a brush. No public clause cites them.
+use Rattle.std.specs.Prelude.{ℕ, ◌+◌, ◌*◌, ◌==◌, List, [], ◌∷◌, ◌++◌, if◌then◌else◌, decimal, drop}
 use Rattle.vt_syntax.specs.Spelling.{spell_events}
 use Rattle.vt_screen.specs.declared.cell.Brush.{Brush}
 pub use Rattle.vt_screen.specs.Words.{bit, brush_number, cell_word}
-use Rattle.vt_screen.specs.declared.cell.Cell.{Cell}
-use Rattle.vt_screen.specs.Cells.{brush_of}
-use Rattle.vt_glyph.specs.Spell.{spelling_of}
-use Rattle.vt_paint.specs.Same.{is_blank}
-use Rattle.vt_controls.specs.Controls.{brush_events, spelling_events}
+use Rattle.vt_controls.specs.Controls.{brush_events}
 
 -- CUP up to its column
 unfoldable pub row_part : ℕ → List ℕ
@@ -30,9 +26,3 @@ brush_index brush =
 -- the lowest word of a plain glyph in a brush of this number that isn't blank: of a space, or of the character behind it
 abbrev pub lowest_word : ℕ → ℕ
 lowest_word number = 0x1000000 * number + (if number == 0 then 0x21 else 0x20)
-
--- a cell that has the brush of this number, isn't blank, and is written by this byte alone
-pub record IsPlain (number : ℕ) (cell : Cell) (byte : ℕ) : Type 0 where
-  pub brush : number ≡ brush_number (brush_of cell)
-  pub shown : is_blank cell ≡ false
-  pub glyph : spell_events (spelling_events (spelling_of cell.glyph)) ≡ byte ∷ []

@@ -1,4 +1,4 @@
-use Rattle.std.proofs.Common.{◌≡◌, ◌+◌, ◌++◌, take, false, true, arith, refl, sym, ap, ◌∙◌}
+use Rattle.std.proofs.Common.{◌≡◌, ◌+◌, false, true, arith, refl, sym, ap, ◌∙◌}
 use Rattle.vt_screen.specs.Cells.{brush_of}
 use Rattle.vt_screen.specs.Grid.{Grid, row_of, cell_at}
 use Rattle.vt_paint.specs.Same.{is_blank}
@@ -6,7 +6,7 @@ use Rattle.vt_paint.specs.Private.HeaderParts.{brush_number}
 use Rattle.vt_paint.specs.Pieces.{glyph_events}
 use Rattle.vt_paint.proofs.Pushing.{cell-is}
 use Rattle.vt_paint.proofs.RowRuns.{goes_on, first_fresh, blank_fresh, run_fresh, none_written, first_written}
-use Rattle.vt_paint.proofs.RowRuns.{behind_all, more_written, plain_behind, IsInRun, goes_on-shows, goes_on-brush}
+use Rattle.vt_paint.proofs.RowRuns.{behind_all, more_written, goes_on-shows, goes_on-brush}
 use Rattle.vt_paint.proofs.cells.put_row.Goals as goal
 
 pub loop-i-init : goal.loop-i-init
@@ -49,25 +49,15 @@ loop-i-then-not-is_blank-init c =
     λ (g : Grid) (e : c.args.cells.now ≡ row_of g r). cell-is g r i
     c.args.cells.now cell e (omega arith) c.index-cells-i.is in
     let shown : is_blank cell ≡ false = sym c.is_blank.ensures ∙ c.if-not-is_blank.true in
-    let first : (g : Grid) → c.args.cells.now ≡ row_of g r
-    → IsInRun g r (i + 1) c.of-run.result.number c.args.out.now.items
-    (c.push_many-at.new.out.items ++ take c.put_glyph-at.result c.put_glyph-at.new.line) =
-    λ g e. record {
-      items = first_written g r i cell _ _ _ _ _ (cell_is g e) (c.loop-i.invariant.fresh g e (omega arith)) shown
+    record {
+      items = λ g e. first_written g r i cell _ _ _ _ _ (cell_is g e) (c.loop-i.invariant.fresh g e (omega arith)) shown
           c.brush.ensures
           (c.push_many-at.ensures.items ∙ c.loop-i.invariant.items g e)
           (behind_all _ _ _ _ c.put_header-at.ensures.items) (behind_all _ _ _ _ c.put_glyph-at.ensures.items);
-      shown = ap (λ x. is_blank x) (sym (cell_is g e)) ∙ shown;
-      brush = c.of-run.ensures ∙ ap (λ x. brush_number (brush_of x)) (cell_is g e);
-    } in
-    let run =
-    λ (g : Grid) (e : c.args.cells.now ≡ row_of g r). plain_behind g r (i + 1) c.of-run.result.number c.put_glyph-at.result
-    c.put_plain-count.result c.args.cells.now c.args.out.now.items c.push_many-at.new.out.items c.put_glyph-at.new.line
-    c.put_plain-count.new.part e (omega arith) c.put_plain-count.ensures.within (omega arith) (omega arith)
-    c.put_plain-count.ensures.written (first g e) _ in
-    record {
-      items = λ g e. (run g e).items;
-      left = λ g e. ((run g e).shown, (run g e).brush);
+      left = λ g e. (
+        ap (λ x. is_blank x) (sym (cell_is g e)) ∙ shown,
+        c.of-run.ensures ∙ ap (λ x. brush_number (brush_of x)) (cell_is g e),
+      );
       on = (omega arith, omega arith);
       within = omega arith;
       fits = omega (

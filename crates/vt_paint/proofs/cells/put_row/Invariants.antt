@@ -28,7 +28,7 @@ invariant-loop-i-then-not-is_blank l = record {
       × (l.run.number ≡ brush_number (brush_of (cell_at g l.row l.i)));
   on : (1 ≤ l.i) × (l.initial.i ≤ l.i);
   within : l.i ≤ length l.cells;
-  fits : l.at ≤ 1565 + 3 * l.i;
+  fits : l.at + 3 * l.initial.i ≤ 1565 + 3 * l.i;
   bounded : vec_len l.out + l.at ≤ vec_len l.fn.out + 29 * l.i;
   capacity : vec_capacity l.fn.out ≤ vec_capacity l.out;
 }

@@ -5,7 +5,7 @@ ghost use Rattle.vt_syntax.specs.declared.held.Held.TheVariants.{Nothing};
 ghost use Rattle.vt_term.specs.Play.{play};
 ghost use Rattle.vt_term.specs.Scrolling.{log};
 ghost use Rattle.vt_paint.specs.Changes.{differing};
-ghost use Rattle.vt_paint.specs.Spoken.{Speaks};
+ghost use Rattle.vt_controls.specs.Spoken.{Speaks};
 ghost use Rattle.vt_utf8.specs.Decoding.{pending_after};
 ghost use Rattle.vt_utf8.specs.Play.{translated};
 ghost use Rattle.vt220_c.specs.Bells.{bells};

@@ -9,7 +9,7 @@ ghost use Rattle.vt_picture.specs.Show.{show};
 ghost use Rattle.vt_picture.specs.Picture.{picture};
 ghost use Rattle.vt_paint.specs.Repaint.{paint};
 ghost use Rattle.vt_paint.specs.Changes.{differing};
-ghost use Rattle.vt_paint.specs.Spoken.{Speaks};
+ghost use Rattle.vt_controls.specs.Spoken.{Speaks};
 ghost use Rattle.vt220_c.specs.Forms.{written_as, Answers};
 ghost use Rattle.vt220_c.specs.Status.{status_ok, status_closed, status_partial, status_room, status_no_row};
 ghost use Rattle.vt220_c.specs.Written.{written_over, IsRepaint, UpdatedOver};

@@ -18,14 +18,14 @@ use Rattle.vt_term.specs.Modes.{with_mode}
 use Rattle.vt_term.specs.Functions.{sequence_in, sequences_of, plain_escape, effect}
 use Rattle.vt_term.specs.Reports.{line_of_cursor}
 use Rattle.vt_paint.specs.Same.{same_saved}
-use Rattle.vt_paint.specs.Controls.{margins_to, brush_events, sets_events, spelling_sets_events, private_mode}
-use Rattle.vt_paint.specs.Controls.{cursor_position, save_cursor}
+use Rattle.vt_controls.specs.Controls.{margins_to, brush_events, sets_events, spelling_sets_events, private_mode}
+use Rattle.vt_controls.specs.Controls.{cursor_position, save_cursor}
 use Rattle.vt_paint.specs.Pieces.{glyph_events, pieces, is_blank_grid}
 use Rattle.vt_paint.specs.Items.{cells_item, margins_item, origin_item, position_item, wrap_item, last_items}
 use Rattle.vt_paint.specs.Items.{saved_events, saved_item}
 use Rattle.vt_paint.proofs.AfterEvents.{display_after, display_after-append, Makes, MakesSome, then_makes, one_makes}
 use Rattle.vt_paint.proofs.AfterEvents.{none_makes}
-use Rattle.vt_paint.proofs.Tests.{not_true}
+use Rattle.vt_controls.proofs.Tests.{not_true}
 use Rattle.vt_paint.proofs.Equality.{is_blank-is, same_saved-is}
 use Rattle.vt_paint.proofs.Painting.{painted, all_blank, painted_none, glyph_leaves, shown, IsReady, behind}
 use Rattle.vt_paint.proofs.Painting.{AreGlyphs, pieces_leaves, cursor_leaves, put_again}

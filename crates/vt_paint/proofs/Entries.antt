@@ -1,15 +1,15 @@
--- The spelling of some control functions, and the tables of parts of headers, by computing.
+-- The tables of parts of headers, by computing.
 use Rattle.std.proofs.Common.{◌≡◌, cond, append_assoc, append-nil, ap, ◌∙◌, ℕ, List, [], ◌∷◌, ◌++◌, refl, ◌+◌, ◌-◌}
 use Rattle.std.proofs.Common.{◌*◌, ◌≤◌, ◌==◌, Bool, true, take, slice_index_or, nat_le, arith}
 use Rattle.std.specs.Prelude.{decimal, ◌==◌}
 use Rattle.std.specs.Fmt.{digits}
 use Rattle.std.specs.Cmp.Lexicographic.{pointwise, pointwise_decides}
 use Rattle.std.proofs.lemmas.Bool.Decides.{Decides-eqb}
-use Rattle.vt_paint.proofs.Tests.{both_pass, all_brushes, at_brush}
+use Rattle.vt_controls.proofs.Spelled.{same_bytes}
+use Rattle.vt_controls.proofs.Tests.{both_pass, all_brushes, at_brush}
 use Rattle.vt_syntax.specs.Spelling.{spell_events, spell_event}
 use Rattle.vt_screen.specs.declared.cell.Brush.{Brush}
-use Rattle.vt_paint.specs.Controls.{cursor_position, brush_events, clear_all_tabs, set_tab}
-use Rattle.vt_paint.specs.Private.ChangeEvents.{has_all, short_brush_events, start_item}
+use Rattle.vt_controls.specs.Controls.{cursor_position, brush_events}
 use Rattle.std.specs.List.{range_with_len, list_all}
 use Rattle.std.proofs.lemmas.Bool.{leb-true}
 use Rattle.vt_glyph.proofs.Lists.{all_in_range}
@@ -17,44 +17,6 @@ use borrow.Rule.Slice.PartMut.{mid_of}
 use mir.Val.{bool_byte}
 use Rattle.vt_paint.specs.declared.tables.TheConstants.{ROW_PARTS, COLUMN_PARTS, BRUSHES, BRUSH_LENGTHS}
 use Rattle.vt_paint.specs.Private.HeaderParts.{row_part, column_part, brush_part, brush_index}
-
-pub clear_spelled : spell_events (clear_all_tabs ∷ []) ≡ (0x1B ∷ 0x5B ∷ 0x33 ∷ 0x67 ∷ [])
-unfolding digits
-clear_spelled = refl
-
-first_row : decimal 1 ≡ 0x31 ∷ []
-unfolding digits
-first_row = refl
-
-behind_column : (d : List ℕ) → ((d ++ []) ++ (0x48 ∷ [])) ++ (0x1B ∷ 0x48 ∷ []) ≡ d ++ (0x48 ∷ 0x1B ∷ 0x48 ∷ [])
-behind_column d = ap (λ x. (x ++ (0x48 ∷ [])) ++ (0x1B ∷ 0x48 ∷ [])) (append-nil d)
-    ∙ append_assoc d (0x48 ∷ []) (0x1B ∷ 0x48 ∷ [])
-
--- a stop: CUP in the first row, and HTS
-pub stop_spelled : (c : ℕ) → spell_events (cursor_position 1 c ∷ set_tab ∷ []) ≡ (0x1B ∷ 0x5B ∷ 0x31 ∷ 0x3B ∷ [])
-    ++ (decimal c ++ (0x48 ∷ 0x1B ∷ 0x48 ∷ []))
-stop_spelled c =
-    rw first_row (ap (λ (x : List ℕ). let all : List ℕ = 0x1B ∷ 0x5B ∷ 0x31 ∷ 0x3B ∷ x in
-    all) (behind_column (decimal c)))
-
--- DECSTR, and DECAWM set
-pub start_spelled : spell_events start_item ≡ (0x1B ∷ 0x5B ∷ 0x30 ∷ 0x21 ∷ 0x70 ∷ 0x1B ∷ 0x5B ∷ 0x3F ∷ 0x37 ∷ 0x68 ∷ [])
-unfolding start_item digits
-start_spelled = refl
-
--- SGR without the 0 if every attribute is set, and DECSCA
-pub short_spelled : (brush : Brush) → spell_events (short_brush_events brush)
-    ≡ cond (has_all brush.rendition) (0x1B ∷ 0x5B ∷ 0x31 ∷ 0x3B ∷ 0x34 ∷ 0x3B ∷ 0x35 ∷ 0x3B ∷ 0x37 ∷ 0x6D ∷ 0x1B ∷ 0x5B
-    ∷ cond brush.protected 0x31 0x30 ∷ 0x22 ∷ 0x71 ∷ []) (spell_events (brush_events brush))
-unfolding brush_events short_brush_events digits all_brushes both_pass
-short_spelled brush =
-    (pointwise_decides Decides-eqb _ _).0 (at_brush (λ brush. pointwise (λ a b. a == b) (spell_events (short_brush_events brush))
-    (cond (has_all brush.rendition) (0x1B ∷ 0x5B ∷ 0x31 ∷ 0x3B ∷ 0x34 ∷ 0x3B ∷ 0x35 ∷ 0x3B ∷ 0x37 ∷ 0x6D ∷ 0x1B ∷ 0x5B
-    ∷ cond brush.protected 0x31 0x30 ∷ 0x22 ∷ 0x71 ∷ []) (spell_events (brush_events brush)))) refl brush)
-
--- bytes are equal, by a test
-abbrev same_bytes : List ℕ → List ℕ → Bool
-same_bytes = pointwise (λ a b. a == b)
 
 -- ---- brushes
 

@@ -3,8 +3,6 @@ pub mod Brushes
 pub mod Stops
 pub mod ModeItems
 pub mod Chain
-pub mod Speech
-pub mod Tests
 pub mod Within
 pub mod Canonical
 pub mod Pushing

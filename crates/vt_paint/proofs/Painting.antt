@@ -20,7 +20,7 @@ use Rattle.vt_glyph.specs.Invocation.{glyph_read, after_read}
 use Rattle.vt_glyph.specs.Spell.{spelling_of, code_of, shifted_for, AreSpellingSets}
 use Rattle.vt_term.specs.Writing.{write_glyph}
 use Rattle.vt_term.specs.Functions.{control, sequence_in, sequences_of, effect}
-use Rattle.vt_paint.specs.Controls.{spelling_events, cursor_position, brush_events, protection_to, rendition_to}
+use Rattle.vt_controls.specs.Controls.{spelling_events, cursor_position, brush_events, protection_to, rendition_to}
 use Rattle.vt_paint.specs.Pieces.{glyph_events, left_of, needs_header, header, piece_of, piece, pieces}
 use Rattle.std.proofs.lemmas.Bool.{lt-ltb, le-ltb, ne_eqb}
 use Rattle.vt_screen.specs.Same.{same_brush}
@@ -30,7 +30,8 @@ use Rattle.vt_paint.proofs.Brushes.{brush_leaves}
 use Rattle.vt_screen.specs.declared.cell.Rendition.{Rendition}
 use Rattle.vt_term.specs.Rendition.{with_attribute}
 use Rattle.vt_paint.specs.Changes.{same_cell, differs_at, is_marked, AreMarked}
-use Rattle.vt_paint.specs.Private.ChangeEvents.{has_all, all_attributes, short_brush_events, change_of, change}
+use Rattle.vt_controls.specs.Controls.{all_attributes}
+use Rattle.vt_paint.specs.Private.ChangeEvents.{has_all, short_brush_events, change_of, change}
 use Rattle.vt_paint.specs.Private.ChangeEvents.{changed_cells}
 
 -- the place comes before row r, column c

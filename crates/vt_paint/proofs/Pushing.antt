@@ -1,11 +1,18 @@
 -- One more piece, one more row, one more stop.
 use Rattle.std.proofs.Common.{length, ◌≡◌, ◌≤◌, ◌<◌, ◌+◌, ◌-◌, ℕ, zero, suc, Bool, true, false, List, [], ◌∷◌, ◌++◌}
 use Rattle.std.proofs.Common.{get_or, None, refl, sym, ap, ◌∙◌, arith, append-nil, append_assoc, ◌||◌, ◌&&◌, not}
-use Rattle.std.proofs.Common.{cond}
+use Rattle.std.proofs.Common.{cond, map, take}
 use Rattle.std.specs.List.{range_with_len, flat_map, list_all}
 use Rattle.std.proofs.lemmas.Grind.{flat_map-append}
 use Rattle.std.proofs.lemmas.List.Folds.{list_all-append}
 use Rattle.std.proofs.lemmas.List.Sums.{AllPass-from_list_all}
+use Rattle.std.proofs.lemmas.List.{take_more, get_or-map}
+use Rattle.std.proofs.Math.ListN.{get_or-append}
+use Rattle.vt_term.specs.declared.state.Modes.{Modes}
+use Rattle.vt_term.specs.State.{modes_at_power_up}
+use Rattle.vt_controls.specs.declared.modes.TheConstants.{AT_POWER_UP}
+use Rattle.vt_controls.specs.Controls.{private_mode, report_form, ModeRow, mode_rows, mode_event}
+use Rattle.vt_paint.specs.Items.{mode_item, row_item}
 use Rattle.vt_glyph.proofs.Lists.{all_in_range}
 use Rattle.vt_paint.proofs.Equality.{or_false, not_false}
 use Rattle.vt_screen.specs.Cells.{blank}
@@ -16,7 +23,7 @@ use Rattle.vt_glyph.specs.declared.set.Set.{Set}
 use Rattle.vt_glyph.specs.GraphicSets.{GraphicSets}
 use Rattle.vt_paint.specs.Same.{is_blank}
 use Rattle.vt_screen.specs.Same.{when}
-use Rattle.vt_paint.specs.Controls.{sets_events}
+use Rattle.vt_controls.specs.Controls.{sets_events}
 use Rattle.vt_paint.specs.Pieces.{left_of, piece_of, pieces_from, row_pieces, rows_from}
 use Rattle.vt_screen.specs.declared.cell.Cell.{Cell}
 use Rattle.vt_screen.specs.Grid.{Grid, cell_at, row_of}
@@ -89,10 +96,9 @@ events es h = record { is = h }
 pub event : {old new : List ℕ} (e : Event) → new ≡ old ++ spell_event e → Appends old new (e ∷ [])
 event {old} {new} e h = record { is = h ∙ ap (λ (xs : List ℕ). old ++ xs) (sym (append-nil (spell_event e))) }
 
--- events whose spelling is these bytes
-pub bytes_of : {old new : List ℕ} (es : List Event) (bytes : List ℕ) → spell_events es ≡ bytes → new ≡ old ++ bytes
-    → Appends old new es
-bytes_of {old} {new} es bytes is h = record { is = h ∙ ap (λ (xs : List ℕ). old ++ xs) (sym is) }
+-- a control function that is the spelling of an event
+pub function : {old new bytes : List ℕ} (e : Event) → bytes ≡ spell_event e → new ≡ old ++ bytes → Appends old new (e ∷ [])
+function {old} {new} {bytes} e is h = event e (h ∙ ap (λ (xs : List ℕ). old ++ xs) is)
 
 -- where a test passes
 pub bytes_where : {old new : List ℕ} (b : Bool) (es : List Event) → new ≡ old ++ when b (spell_events es)
@@ -197,3 +203,32 @@ shown-unless true true es = refl
 shown-unless true false es = refl
 shown-unless false true es = refl
 shown-unless false false es = refl
+
+-- ---- modes
+
+abbrev row_at : ℕ → ModeRow
+row_at i = get_or mode_rows i (report_form, λ m. m.reports_8bit)
+
+row_is : (known : Bool) (m : Modes) (values : List Bool) (i : ℕ) → i < 12 → values ≡ map (λ (row : ModeRow). row.1 m) mode_rows
+    → mode_item known (get_or AT_POWER_UP i false) (mode_event i) (get_or values i false) ≡ row_item known m (row_at i)
+row_is known m values i low is =
+    let at_power_up : get_or AT_POWER_UP i false ≡ (row_at i).1 modes_at_power_up =
+    get_or-map (λ (row : ModeRow). row.1 modes_at_power_up) mode_rows i (report_form, λ m. m.reports_8bit) false low in
+    let event : mode_event i ≡ (row_at i).0 =
+    get_or-append (map (λ (row : ModeRow). row.0) mode_rows) (private_mode 3 ∷ private_mode 6 ∷ []) (private_mode 6) i low
+    ∙ get_or-map (λ (row : ModeRow). row.0) mode_rows i (report_form, λ m. m.reports_8bit) (private_mode 6) low in
+    let on : get_or values i false ≡ (row_at i).1 m =
+    ap (λ (xs : List Bool). get_or xs i false) is
+    ∙ get_or-map (λ (row : ModeRow). row.1 m) mode_rows i (report_form, λ m. m.reports_8bit) false low in
+    rw (at_power_up, event, on) refl
+
+-- one more mode
+pub mode_more : (known : Bool) (m : Modes) (values : List Bool) (i : ℕ) (old before after : List ℕ) → i < 12
+    → values ≡ map (λ (row : ModeRow). row.1 m) mode_rows
+    → before ≡ old ++ spell_events (flat_map (row_item known m) (take i mode_rows))
+    → after ≡ before
+    ++ spell_events (mode_item known (get_or AT_POWER_UP i false) (mode_event i) (get_or values i false))
+    → after ≡ old ++ spell_events (flat_map (row_item known m) (take (i + 1) mode_rows))
+mode_more known m values i old before after low is first second =
+    rw (second, first, row_is known m values i low is, take_more mode_rows i (report_form, λ m. m.reports_8bit) low)
+    (simp (flat_map-append, append_assoc, append-nil))

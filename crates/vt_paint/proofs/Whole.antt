@@ -32,8 +32,8 @@ use Rattle.vt_syntax.proofs.Cutting.{read, escape}
 use Rattle.vt_term.specs.Play.{after_events, play}
 use Rattle.vt_paint.specs.Items.{stops_item, cells_item}
 use Rattle.vt_paint.specs.Repaint.{repaint_events, paint}
-use Rattle.vt_paint.specs.Spoken.{Speaks}
-use Rattle.vt_paint.proofs.Speech.{speaks-ascii}
+use Rattle.vt_controls.specs.Spoken.{Speaks}
+use Rattle.vt_controls.proofs.Speech.{speaks-ascii}
 use Rattle.vt_paint.proofs.Within.{AreSpelledWithin, sound_glyphs, repaint_within, changes_within}
 use Rattle.vt_paint.proofs.Stops.{with_stops, reset_leaves, stops_leaves}
 

@@ -1,7 +1,7 @@
 -- What a repaint and changes ask for are events, none of which is answered, and their spelling is short.
-use Rattle.vt_paint.specs.Controls.{reset_to_initial_state, shift_to_2, clear_all_tabs, shift_to_3, sequence_of}
-use Rattle.vt_paint.specs.Controls.{private_mode, cursor_position, brush_events, set_tab, left_event, right_event}
-use Rattle.vt_paint.specs.Controls.{sets_events, spelling_sets_events, spelling_events, save_cursor}
+use Rattle.vt_controls.specs.Controls.{reset_to_initial_state, shift_to_2, clear_all_tabs, shift_to_3, sequence_of}
+use Rattle.vt_controls.specs.Controls.{private_mode, cursor_position, brush_events, set_tab, left_event, right_event}
+use Rattle.vt_controls.specs.Controls.{sets_events, spelling_sets_events, spelling_events, save_cursor}
 use Rattle.vt_screen.proofs.Composed.{test-at}
 use Rattle.vt_screen.proofs.Places.{width-bounds}
 use Rattle.vt_glyph.proofs.Charts.{space_is_glyph}
@@ -10,7 +10,7 @@ use Rattle.vt_paint.specs.Pieces.{is_blank_grid, piece, needs_header, row_pieces
 use Rattle.vt_paint.specs.Pieces.{piece_of, pieces}
 use Rattle.vt_paint.specs.Private.ChangeEvents.{changed_row, change, short_brush_events, change_of, changed_cells}
 use Rattle.vt_paint.specs.Private.ChangeEvents.{start_item, saved_cursor, record_item, change_events}
-use Rattle.vt_paint.specs.Spoken.{are_numbers, is_one_of, Speaks, element_bytes}
+use Rattle.vt_controls.specs.Spoken.{are_numbers, is_one_of, Speaks, element_bytes}
 use Rattle.vt_term.specs.State.{has_stop_at, stops_at_power_up, saved_at_power_up, Display, last_column, saved_sets}
 use Rattle.vt_term.specs.State.{modes_at_power_up}
 use Rattle.std.proofs.Common.{◌≡◌, Bool, true, false, not, cond, eqb, leb, ◌&&◌, ℕ, zero, suc, ◌+◌, ◌-◌, ◌*◌, ◌≤◌}
@@ -38,13 +38,14 @@ use Rattle.vt_paint.specs.Same.{same_saved, is_blank}
 use Rattle.vt_term.specs.declared.state.Margins.{Margins}
 use Rattle.vt_glyph.specs.Designation.{final_of}
 use Rattle.vt_glyph.proofs.Lists.{all_taken}
-use Rattle.vt_paint.proofs.Speech.{speaks-one, speaks-none, speaks-append, two_numbers_are}
-use Rattle.vt_paint.proofs.Tests.{all_sets, all_three, at_three, both_pass, at_bool, all_brushes, at_brush, at_set}
-use Rattle.vt_paint.proofs.Tests.{is_fine, fine_is, fine_silent, is_event, element_of}
+use Rattle.vt_controls.proofs.Speech.{speaks-none, speaks-append, two_numbers_are, fine_speaks}
+use Rattle.vt_controls.proofs.Tests.{all_sets, all_three, at_three, both_pass, at_bool, all_brushes, at_brush, at_set}
+use Rattle.vt_controls.proofs.Tests.{is_fine, fine_is, fine_silent, is_event, element_of}
 use Rattle.vt_syntax.specs.Class.{opens_string}
 use Rattle.vt_syntax.specs.Held.{spell_values}
 use Rattle.vt_paint.specs.Items.{is_wide, stop_events, made_stops, stops_item, saved_events, saved_item, cells_item}
-use Rattle.vt_paint.specs.Items.{margins_item, origin_item, wrap_item, ModeRow, row_item, mode_rows, modes_item}
+use Rattle.vt_controls.specs.Controls.{ModeRow, mode_rows}
+use Rattle.vt_paint.specs.Items.{margins_item, origin_item, wrap_item, row_item, modes_item}
 use Rattle.vt_paint.specs.Items.{shift_item, last_items}
 use Rattle.vt_glyph.specs.declared.glyph.Spelling.TheVariants.{Plain, Second, Third}
 use Rattle.vt_screen.specs.declared.cell.Brush.{Brush}
@@ -62,22 +63,6 @@ use Rattle.vt_term.specs.Play.{reports_of, after_events}
 use Rattle.vt_paint.specs.Repaint.{repaint_events}
 use Rattle.vt_paint.specs.Changes.{differs_at, differing_from, differing, is_marked, AreMarked, AreChanges}
 use Rattle.vt_paint.proofs.Painting.{AreGlyphs}
-use Rattle.vt_paint.specs.Spoken as spoken
-
-element_is : (e : Event) → element_bytes (element_of e) ≡ spell_event e
-element_is (Print b) = refl
-element_is (Control b) = go (ltb b 0x80)
-  where
-    go : (t : Bool)
-        → element_bytes (cond t (spoken.Control b) (spoken.Escape ((b - 0x40) ∷ [])))
-        ≡ cond t (b ∷ []) (0x1B ∷ (b - 0x40) ∷ [])
-    go true = refl
-    go false = refl
-element_is (Escape inter last) = refl
-element_is (Sequence marker params inter last) = refl
-
-fine_speaks : (e : Event) → is_fine e ≡ true → Speaks (spell_event e)
-fine_speaks e h = subst Speaks (element_is e) (speaks-one (element_of e) (and_parts (is_event e) _ h).1)
 
 -- these are events, which report nothing, and their spelling is spoken and has at most n bytes
 pub record AreSpelledWithin (n : ℕ) (es : List Event) : Type 0 where

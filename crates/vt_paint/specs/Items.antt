@@ -17,10 +17,10 @@ use Rattle.vt_term.specs.State.{modes_at_power_up}
 use Rattle.vt_term.specs.Reports.{line_of_cursor}
 use Rattle.vt_screen.specs.Same.{same_bool, when}
 use Rattle.vt_paint.specs.Same.{same_saved}
-use Rattle.vt_paint.specs.Controls.{ansi_mode, private_mode, cursor_position, margins_to}
-use Rattle.vt_paint.specs.Controls.{clear_all_tabs, brush_events, set_tab, shift_to_2, shift_to_3}
-use Rattle.vt_paint.specs.Controls.{save_cursor, keypad, report_form, sets_events}
-use Rattle.vt_paint.specs.Controls.{spelling_sets_events}
+use Rattle.vt_controls.specs.Controls.{private_mode, cursor_position, margins_to, ModeRow, mode_rows}
+use Rattle.vt_controls.specs.Controls.{clear_all_tabs, brush_events, set_tab}
+use Rattle.vt_controls.specs.Controls.{save_cursor, sets_events, shift_to}
+use Rattle.vt_controls.specs.Controls.{spelling_sets_events}
 use Rattle.vt_paint.specs.Pieces.{glyph_events, pieces, is_blank_grid}
 
 -- 2. If the stops differ from power-up, they are made on a wide screen, which has all their columns. The width of the
@@ -88,18 +88,7 @@ wrap_item g cursor =
 
 -- 8. The brush: brush_events. 9. The sets: sets_events.
 
--- 10. The modes, each by what sets or resets it and by its value: the ANSI ones first; then the keypad and the form of
--- reports.
-abbrev pub ModeRow : Type 0
-ModeRow = (Bool → Event) × (Modes → Bool)
-
-abbrev pub mode_rows : List ModeRow
-mode_rows =
-    (ansi_mode 2, λ m. m.kam) ∷ (ansi_mode 4, λ m. m.irm) ∷ (ansi_mode 12, λ m. m.srm) ∷ (ansi_mode 20, λ m. m.lnm)
-    ∷ (private_mode 1, λ m. m.decckm) ∷ (private_mode 4, λ m. m.decsclm) ∷ (private_mode 5, λ m. m.decscnm)
-    ∷ (private_mode 7, λ m. m.decawm) ∷ (private_mode 8, λ m. m.decarm) ∷ (private_mode 25, λ m. m.dectcem)
-    ∷ (keypad, λ m. m.keypad_application) ∷ (report_form, λ m. m.reports_8bit) ∷ []
-
+-- 10. The modes, in the order of their table, with the keypad and the form of reports.
 abbrev pub row_item : Bool → Modes → ModeRow → List Event
 row_item known m row = mode_item known (row.1 modes_at_power_up) row.0 (row.1 m)
 
@@ -109,7 +98,7 @@ modes_item known m = flat_map (row_item known m) mode_rows
 -- 11. A pending single shift.
 unfoldable pub shift_item : Option ℕ → List Event
 shift_item None = []
-shift_item (Some slot) = (if slot == 2 then shift_to_2 else shift_to_3) ∷ []
+shift_item (Some slot) = shift_to slot ∷ []
 
 -- 5 to 11, when the width, the stops, the saved record and the cells are made
 unfoldable pub last_items : Bool → Display → List Event

@@ -8,7 +8,7 @@ use Rattle.vt_screen.specs.Cells.{blank, brush_of}
 use Rattle.vt_screen.specs.Grid.{Grid, cell_at, row_of, last_row}
 use Rattle.vt_screen.specs.Same.{same_brush, when}
 use Rattle.vt_paint.specs.Same.{is_blank}
-use Rattle.vt_paint.specs.Controls.{cursor_position, brush_events, spelling_events}
+use Rattle.vt_controls.specs.Controls.{cursor_position, brush_events, spelling_events}
 
 -- the cell to the left of a place; left of column 1 counts as blank
 unfoldable pub left_of : Grid → ℕ → ℕ → Cell

@@ -5,7 +5,7 @@ use Rattle.vt_syntax.specs.Spelling.{spell_events}
 use Rattle.vt_term.specs.State.{Display, State, last_column}
 use Rattle.vt_term.specs.Sound.{IsSound}
 use Rattle.vt_term.specs.Play.{play}
-use Rattle.vt_paint.specs.Controls.{reset_to_initial_state}
+use Rattle.vt_controls.specs.Controls.{reset_to_initial_state}
 use Rattle.vt_paint.specs.Items.{stops_item, saved_item, cells_item, last_items}
 
 -- the events of a repaint: its items in order, after RIS

@@ -10,15 +10,15 @@ ghost use Rattle.vt_screen.specs.Cells.{brush_of};
 ghost use Rattle.vt_screen.specs.Grid.{Grid, cell_at, row_of, last_row};
 ghost use Rattle.vt_screen.specs.Same.{same_brush, when};
 ghost use Rattle.vt_paint.specs.Same.{is_blank as is_blank_cell};
-ghost use Rattle.vt_paint.specs.Controls.{spelling_sets_events, spelling_events};
+ghost use Rattle.vt_controls.specs.Controls.{spelling_sets_events, spelling_events};
 ghost use Rattle.vt_paint.specs.Pieces.{row_pieces};
 ghost use Rattle.vt_paint.specs.Items.{cells_item};
 ghost use Rattle.vt_paint.specs.Private.Room.{head_room};
 ghost use Rattle.vt_paint.specs.Private.HeaderParts.{brush_number, lowest_word};
 
 use crate::line::{LINE, MANY, ROW_LIMIT, put, put_glyph, put_header};
-use crate::room::{push_bytes, push_when};
 use crate::tables::cell_brush_number;
+use vt_controls::{push_bytes, push_when};
 use vt_screen::laws::rows;
 use vt_screen::{COLUMNS, Cell};
 use vt_term::{ROWS, Terminal};

@@ -9,23 +9,20 @@ ghost use Rattle.vt_term.specs.State.{State};
 ghost use Rattle.vt_term.specs.Sound.{IsSound};
 ghost use Rattle.vt_term.specs.Play.{play};
 ghost use Rattle.vt_paint.specs.Changes.{differing, AreChanges, Changes};
-ghost use Rattle.vt_paint.specs.Spoken.{Speaks};
+ghost use Rattle.vt_controls.specs.Spoken.{Speaks};
 ghost use Rattle.vt_paint.specs.Private.ChangeEvents.{has_all, short_brush_events, change_of};
 ghost use Rattle.vt_paint.specs.Private.ChangeEvents.{changed_row, changed_cells, record_item, change_events};
 
 use crate::PAINT_LIMIT;
 use crate::cells::SPELLING_SETS;
-use crate::controls::{push_brush, push_cursor_to, push_glyph, push_sets};
-use crate::items::{DECOM, push_private_mode_item};
+use crate::controls::{push_brush, push_glyph, push_sets};
+use crate::items::push_mode_item;
 use crate::line::ROW_LIMIT;
 use crate::paint::{push_last, push_wrap};
-use crate::room::push_bytes;
+use vt_controls::{DECAWM, DECOM, Function, push_bytes};
 use vt_screen::laws::rows;
 use vt_screen::{Brush, COLUMNS, Cell, Rendition};
 use vt_term::{Cursor, ROWS, STOPS, Saved, Terminal};
-
-/// DECSTR, and DECAWM set.
-const START: &[u8] = b"\x1B[0!p\x1B[?7h";
 
 // ---- the cells
 
@@ -37,7 +34,7 @@ fn has_all(attributes: Rendition) -> bool
 }
 
 /// Appends SGR and DECSCA, in at most 15 bytes: without the 0 of SGR if every attribute is set.
-#[tactic(auto, using(crate::proofs::Entries::short_spelled))]
+#[tactic(auto, unfolding(crate::specs::Private::ChangeEvents::short_brush_events, vt_controls::specs::Controls::brush_events))]
 fn push_short_brush(brush: Brush, out: &mut Vec<u8>)
     requires { vec_len out.old + 17 ≤ vec_capacity out.old }
     ensures items { out.new.items ≡ out.old.items ++ spell_events (short_brush_events brush) }
@@ -46,10 +43,9 @@ fn push_short_brush(brush: Brush, out: &mut Vec<u8>)
 {
     if !has_all(brush.rendition) {
         push_brush(brush, out);
-    } else if brush.protected {
-        push_bytes(b"\x1B[1;4;5;7m\x1B[1\"q", out);
     } else {
-        push_bytes(b"\x1B[1;4;5;7m\x1B[0\"q", out);
+        Function::all_attributes().push(out);
+        Function::protection(brush.protected).push(out);
     }
 }
 
@@ -64,7 +60,7 @@ fn push_change(row: usize, col: usize, marked: bool, cell: &Cell, out: &mut Vec<
     ensures capacity { vec_capacity out.old ≤ vec_capacity out.new }
 {
     if marked {
-        push_cursor_to(row, col, out);
+        Function::cursor_to(row as u8, col as u8).push(out);
         push_short_brush(cell.brush(), out);
         push_glyph(cell.glyph, out);
     }
@@ -112,8 +108,8 @@ fn push_record(t: &Terminal, saved: &Saved, out: &mut Vec<u8>)
     ensures bounded { vec_len out.new ≤ vec_len out.old + 70 }
     ensures capacity { vec_capacity out.old ≤ vec_capacity out.new }
 {
-    push_private_mode_item(DECOM, true, false, saved.origin, out);
-    push_cursor_to(saved.row, saved.col, out);
+    push_mode_item(DECOM, true, false, saved.origin, out);
+    Function::cursor_to(saved.row as u8, saved.col as u8).push(out);
     let cursor = Cursor {
         row: saved.row,
         col: saved.col,
@@ -122,7 +118,7 @@ fn push_record(t: &Terminal, saved: &Saved, out: &mut Vec<u8>)
     push_wrap(t, cursor, out);
     push_brush(saved.brush, out);
     push_sets(&saved.g, saved.gl, saved.gr, out);
-    push_bytes(b"\x1B7", out);
+    Function::save_cursor().push(out);
 }
 
 // ---- the whole
@@ -150,7 +146,8 @@ fn push_changes(marks: &[[bool; STOPS]; ROWS], t: &Terminal, out: &mut Vec<u8>)
     ensures capacity { vec_capacity out.old ≤ vec_capacity out.new }
 {
     let _ = t.width();
-    push_bytes(START, out);
+    Function::soft_reset().push(out);
+    Function::mode(DECAWM, true).push(out);
     push_bytes(SPELLING_SETS, out);
     push_changed_cells(marks, t, out);
     push_record(t, &t.saved(), out);

@@ -4,33 +4,26 @@ ghost use Rattle.vt_syntax.specs.Spelling.{spell_events};
 ghost use Rattle.vt_screen.specs.Grid.{columns};
 ghost use Rattle.vt_screen.specs.Cells.{brush_of};
 ghost use Rattle.vt_screen.specs.Same.{when};
-ghost use Rattle.vt_paint.specs.Controls.{ansi_mode, keypad, report_form, private_mode, cursor_position, set_tab, brush_events};
+ghost use Rattle.vt_controls.specs.Controls.{mode_event, cursor_position, set_tab, brush_events};
 ghost use Rattle.vt_paint.specs.Pieces.{glyph_events};
 ghost use Rattle.vt_paint.specs.Items.{stops_from, made_stops, stops_item, saved_item, saved_events, margins_item};
 ghost use Rattle.vt_paint.specs.Items.{mode_item, modes_item, shift_item};
 
-use crate::controls::{
-    push_ansi_mode, push_brush, push_cursor_to, push_glyph, push_margins_to, push_private_mode,
-    push_sets,
-};
-use crate::room::{push_bytes, push_number, push_when};
+use crate::controls::{push_brush, push_glyph, push_sets};
+use vt_controls::{AT_POWER_UP, DECCOLM, DECOM, Function, mode_values, push_when};
 use vt_screen::{COLUMNS, Cell, ROWS};
 use vt_term::{Margins, Modes, STOPS, Saved, stops_at_power_up};
 
-const DECCOLM: u8 = 3;
-
-pub(crate) const DECOM: u8 = 6;
-
-/// Appends SM or RM of a private mode if a test passes.
-pub(crate) fn push_private_mode_when(test: bool, number: u8, on: bool, out: &mut Vec<u8>)
-    requires number { number < 100 }
+/// Appends what sets or resets a mode, given its index, if a test passes.
+fn push_mode_when(test: bool, index: usize, on: bool, out: &mut Vec<u8>)
+    requires index { index < 14 }
     requires room { vec_len out.old + 6 ≤ vec_capacity out.old }
-    ensures items { out.new.items ≡ out.old.items ++ spell_events (when test (private_mode number on ∷ [])) }
+    ensures items { out.new.items ≡ out.old.items ++ spell_events (when test (mode_event index on ∷ [])) }
     ensures bounded { vec_len out.new ≤ vec_len out.old + 6 }
     ensures capacity { vec_capacity out.old ≤ vec_capacity out.new }
 {
     if test {
-        push_private_mode(number, on, out);
+        Function::mode(index, on).push(out);
     }
 }
 
@@ -45,9 +38,8 @@ fn push_stop(stop: bool, col: usize, out: &mut Vec<u8>)
     ensures capacity { vec_capacity out.old ≤ vec_capacity out.new }
 {
     if stop {
-        push_bytes(b"\x1B[1;", out);
-        push_number(col as u8, out);
-        push_bytes(b"H\x1BH", out);
+        Function::cursor_to(1, col as u8).push(out);
+        Function::set_tab().push(out);
     }
 }
 
@@ -69,10 +61,10 @@ fn push_made_stops(wide: bool, stops: &[bool; STOPS], out: &mut Vec<u8>)
     ensures bounded { vec_len out.new ≤ vec_len out.old + 10 * COLUMNS + 16 }
     ensures capacity { vec_capacity out.old ≤ vec_capacity out.new }
 {
-    push_private_mode(DECCOLM, true, out);
-    push_bytes(b"\x1B[3g", out);
+    Function::mode(DECCOLM, true).push(out);
+    Function::clear_all_tabs().push(out);
     push_each_stop(stops, out);
-    push_private_mode_when(!wide, DECCOLM, false, out);
+    push_mode_when(!wide, DECCOLM, false, out);
 }
 
 /// Appends the stops and the width.
@@ -85,7 +77,7 @@ pub(crate) fn push_stops(width: usize, stops: &[bool; STOPS], out: &mut Vec<u8>)
 {
     let wide = width == STOPS;
     if *stops == stops_at_power_up() {
-        push_private_mode_when(wide, DECCOLM, true, out);
+        push_mode_when(wide, DECCOLM, true, out);
     } else {
         push_made_stops(wide, stops, out);
     }
@@ -102,13 +94,13 @@ fn push_saved_events(saved: &Saved, out: &mut Vec<u8>)
     ensures bounded { vec_len out.new ≤ vec_len out.old + 57 }
     ensures capacity { vec_capacity out.old ≤ vec_capacity out.new }
 {
-    push_private_mode_when(saved.origin, DECOM, true, out);
-    push_cursor_to(saved.row, saved.col, out);
+    push_mode_when(saved.origin, DECOM, true, out);
+    Function::cursor_to(saved.row as u8, saved.col as u8).push(out);
     push_when(saved.wrap, b" ", out);
     push_brush(saved.brush, out);
     push_sets(&saved.g, saved.gl, saved.gr, out);
-    push_bytes(b"\x1B7", out);
-    push_private_mode_when(saved.origin, DECOM, false, out);
+    Function::save_cursor().push(out);
+    push_mode_when(saved.origin, DECOM, false, out);
 }
 
 /// Appends the saved record.
@@ -139,7 +131,7 @@ pub(crate) fn push_margins(m: Margins, out: &mut Vec<u8>)
     ensures capacity { vec_capacity out.old ≤ vec_capacity out.new }
 {
     if m.top != 1 || m.bottom != ROWS {
-        push_margins_to(m.top, m.bottom, out);
+        Function::margins_to(m.top as u8, m.bottom as u8).push(out);
     }
 }
 
@@ -156,85 +148,36 @@ pub(crate) fn push_cell(cell: &Cell, out: &mut Vec<u8>)
 
 // ---- 10: the modes
 
-fn push_ansi_mode_item(number: u8, known: bool, at_power_up: bool, on: bool, out: &mut Vec<u8>)
-    requires number { number < 100 }
-    requires room { vec_len out.old + 6 ≤ vec_capacity out.old }
-    ensures items { out.new.items ≡ out.old.items ++ spell_events (mode_item known at_power_up (ansi_mode number) on) }
-    ensures bounded { vec_len out.new ≤ vec_len out.old + 5 }
-    ensures capacity { vec_capacity out.old ≤ vec_capacity out.new }
-{
-    if !known || on != at_power_up {
-        push_ansi_mode(number, on, out);
-    }
-}
-
-pub(crate) fn push_private_mode_item(
-    number: u8,
+/// Appends what sets or resets a mode, given its index, unless it is known to be as at power-up and is to stay so.
+pub(crate) fn push_mode_item(
+    index: usize,
     known: bool,
     at_power_up: bool,
     on: bool,
     out: &mut Vec<u8>,
 )
-    requires number { number < 100 }
+    requires index { index < 14 }
     requires room { vec_len out.old + 6 ≤ vec_capacity out.old }
-    ensures items { out.new.items ≡ out.old.items ++ spell_events (mode_item known at_power_up (private_mode number) on) }
+    ensures items { out.new.items ≡ out.old.items ++ spell_events (mode_item known at_power_up (mode_event index) on) }
     ensures bounded { vec_len out.new ≤ vec_len out.old + 6 }
     ensures capacity { vec_capacity out.old ≤ vec_capacity out.new }
 {
     if !known || on != at_power_up {
-        push_private_mode(number, on, out);
-    }
-}
-
-/// Appends DECKPAM or DECKPNM.
-fn push_keypad_item(known: bool, application: bool, out: &mut Vec<u8>)
-    requires { vec_len out.old + 2 ≤ vec_capacity out.old }
-    ensures items { out.new.items ≡ out.old.items ++ spell_events (mode_item known false keypad application) }
-    ensures bounded { vec_len out.new ≤ vec_len out.old + 2 }
-    ensures capacity { vec_capacity out.old ≤ vec_capacity out.new }
-{
-    if application {
-        push_bytes(b"\x1B=", out);
-    } else if !known {
-        push_bytes(b"\x1B>", out);
-    }
-}
-
-/// Appends S8C1T or S7C1T.
-fn push_report_form_item(known: bool, eight: bool, out: &mut Vec<u8>)
-    requires { vec_len out.old + 3 ≤ vec_capacity out.old }
-    ensures items { out.new.items ≡ out.old.items ++ spell_events (mode_item known false report_form eight) }
-    ensures bounded { vec_len out.new ≤ vec_len out.old + 3 }
-    ensures capacity { vec_capacity out.old ≤ vec_capacity out.new }
-{
-    if eight {
-        push_bytes(b"\x1B G", out);
-    } else if !known {
-        push_bytes(b"\x1B F", out);
+        Function::mode(index, on).push(out);
     }
 }
 
 /// Appends the modes, the keypad and the form of reports. If `known` is true, each is as at power-up, and only those
 /// that differ from it are appended.
-#[tactic(auto, unfolding(crate::specs::Items::modes_item))]
 pub(crate) fn push_modes(known: bool, m: Modes, out: &mut Vec<u8>)
-    requires { vec_len out.old + 61 ≤ vec_capacity out.old }
+    requires { vec_len out.old + 72 ≤ vec_capacity out.old }
     ensures items { out.new.items ≡ out.old.items ++ spell_events (modes_item known m) }
-    ensures bounded { vec_len out.new ≤ vec_len out.old + 61 }
+    ensures bounded { vec_len out.new ≤ vec_len out.old + 72 }
     ensures capacity { vec_capacity out.old ≤ vec_capacity out.new }
 {
-    push_ansi_mode_item(2, known, false, m.kam, out);
-    push_ansi_mode_item(4, known, false, m.irm, out);
-    push_ansi_mode_item(12, known, true, m.srm, out);
-    push_ansi_mode_item(20, known, false, m.lnm, out);
-    push_private_mode_item(1, known, false, m.decckm, out);
-    push_private_mode_item(4, known, false, m.decsclm, out);
-    push_private_mode_item(5, known, false, m.decscnm, out);
-    push_private_mode_item(7, known, true, m.decawm, out);
-    push_private_mode_item(8, known, true, m.decarm, out);
-    push_private_mode_item(25, known, true, m.dectcem, out);
-    push_keypad_item(known, m.keypad_application, out);
-    push_report_form_item(known, m.reports_8bit, out);
+    for (i, on) in mode_values(m).iter().enumerate() {
+        push_mode_item(i, known, AT_POWER_UP[i], *on, out);
+    }
 }
 
 // ---- 11: a pending single shift
@@ -246,9 +189,7 @@ pub(crate) fn push_shift(pending: Option<u8>, out: &mut Vec<u8>)
     ensures bounded { vec_len out.new ≤ vec_len out.old + 2 }
     ensures capacity { vec_capacity out.old ≤ vec_capacity out.new }
 {
-    match pending {
-        None => {}
-        Some(2) => push_bytes(b"\x1BN", out),
-        Some(_) => push_bytes(b"\x1BO", out),
+    if let Some(slot) = pending {
+        Function::single_shift(slot).push(out);
     }
 }

@@ -6,7 +6,7 @@ ghost use Rattle.vt_term.specs.Sound.{IsSound};
 ghost use Rattle.vt_term.specs.Play.{play};
 ghost use Rattle.std.specs.Str.{IsAscii};
 ghost use Rattle.vt_paint.specs.Repaint.{paint, IsRebuilt, AreBytes};
-ghost use Rattle.vt_paint.specs.Spoken.{Speaks};
+ghost use Rattle.vt_controls.specs.Spoken.{Speaks};
 
 use crate::PAINT_LIMIT;
 use vt_term::laws::soundness;

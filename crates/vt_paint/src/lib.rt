@@ -9,7 +9,6 @@ mod items;
 pub mod laws;
 mod line;
 mod paint;
-mod room;
 mod tables;
 
 pub use changes::repaint_changes_reserved;

@@ -3,9 +3,10 @@
 ghost use Rattle.std.specs.Prelude.{◌≡◌, ◌+◌, ◌≤◌, ◌<◌, ◌++◌, ◌∷◌, [], take, length};
 ghost use Rattle.vt_syntax.specs.Spelling.{spell_event, spell_events};
 ghost use Rattle.vt_glyph.specs.Spell.{spelling_of};
-ghost use Rattle.vt_paint.specs.Controls.{cursor_position, brush_events, spelling_events};
+ghost use Rattle.vt_controls.specs.Controls.{cursor_position, brush_events, spelling_events};
 
 use crate::tables::{brush_part, column_part, row_part};
+use vt_controls::put_front;
 use vt_glyph::Glyph;
 use vt_screen::{Brush, COLUMNS, ROWS};
 
@@ -28,20 +29,6 @@ pub(crate) fn put(byte: u8, at: usize, line: &mut [u8; LINE]) -> usize
 {
     line[at] = byte;
     at + 1
-}
-
-/// Writes the first `len` bytes of a part, which is copied whole.
-#[inline(always)]
-fn put_front(part: &[u8], len: usize, at: usize, line: &mut [u8; LINE]) -> usize
-    requires len { len ≤ length part.now }
-    requires room { at + length part.now ≤ LINE }
-    ensures items { take result line.new ≡ take at line.old ++ take len part.now }
-    ensures next { result ≡ at + len }
-{
-    for (i, byte) in part.iter().enumerate() {
-        line[at + i] = *byte;
-    }
-    at + len
 }
 
 /// Writes the header of cells: their position and their brush.

@@ -7,14 +7,13 @@ ghost use Rattle.vt_paint.specs.Items.{position_item, wrap_item, last_items};
 ghost use Rattle.vt_paint.specs.Repaint.{paint, IsRebuilt};
 
 use crate::cells::{push_cells, row_cell};
-use crate::controls::{push_brush, push_cursor_to, push_sets};
+use crate::controls::{push_brush, push_sets};
 use crate::items::{
-    DECOM, push_cell, push_margins, push_modes, push_private_mode_item, push_saved, push_shift,
-    push_stops,
+    push_cell, push_margins, push_mode_item, push_modes, push_saved, push_shift, push_stops,
 };
 use crate::laws::rebuilds;
-use crate::room::push_bytes;
 use thiserror::Error;
+use vt_controls::{DECOM, Function};
 use vt_screen::{COLUMNS, ROWS};
 use vt_term::{Cursor, Terminal};
 
@@ -64,7 +63,7 @@ pub(crate) fn push_cursor(t: &Terminal, out: &mut Vec<u8>)
     } else {
         cursor.row
     };
-    push_cursor_to(line, cursor.col, out);
+    Function::cursor_to(line as u8, cursor.col as u8).push(out);
     push_wrap(t, cursor, out);
 }
 
@@ -72,16 +71,16 @@ pub(crate) fn push_cursor(t: &Terminal, out: &mut Vec<u8>)
 /// If `known` is true, the modes are as at power-up, and those that stay so are left out.
 #[tactic(auto, unfolding(crate::specs::Items::last_items))]
 pub(crate) fn push_last(t: &Terminal, known: bool, out: &mut Vec<u8>)
-    requires { vec_len out.old + 139 ≤ vec_capacity out.old }
+    requires { vec_len out.old + 152 ≤ vec_capacity out.old }
     ensures items { out.new.items ≡ out.old.items ++ spell_events (last_items known t.now.display) }
-    ensures bounded { vec_len out.new ≤ vec_len out.old + 139 }
+    ensures bounded { vec_len out.new ≤ vec_len out.old + 152 }
     ensures capacity { vec_capacity out.old ≤ vec_capacity out.new }
 {
     // The width's contract gives the soundness of the state, and so the bounds of the margins.
     let _ = t.width();
     let sets = t.sets();
     push_margins(t.margins(), out);
-    push_private_mode_item(DECOM, known, false, t.modes().decom, out);
+    push_mode_item(DECOM, known, false, t.modes().decom, out);
     push_cursor(t, out);
     push_brush(t.brush(), out);
     push_sets(&sets.designations(), sets.left(), sets.right(), out);
@@ -125,7 +124,7 @@ pub fn repaint_reserved(t: &Terminal, out: &mut Vec<u8>)
     ensures capacity { vec_capacity out.old ≤ vec_capacity out.new }
 {
     rebuilds();
-    push_bytes(b"\x1Bc", out);
+    Function::reset().push(out);
     push_stops(t.width(), t.stops(), out);
     push_saved(&t.saved(), out);
     push_cells(t, t.cursor().wrap, out);

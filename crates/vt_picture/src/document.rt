@@ -4,10 +4,11 @@ ghost use Rattle.vt_term.specs.State.{Display};
 ghost use Rattle.vt_picture.specs.Picture.{alternative, alternative_line, cursor_picture, document_start};
 ghost use Rattle.vt_picture.specs.Picture.{group, group_start, picture, rows_picture, style};
 
-use crate::bytes::{push_bytes, push_escaped, push_number};
+use crate::bytes::push_escaped;
 use crate::looks::without_blank_end;
 use crate::runs::{fill, push_rectangle, push_row, width_of};
 use std::alloc::AllocError;
+use vt_controls::{push_bytes, push_number};
 use vt_screen::Cell;
 use vt_term::{ROWS, STOPS, Terminal};
 

@@ -6,8 +6,9 @@ ghost use Rattle.vt_picture.specs.Picture.{left_of, width_of, top_of, baseline_o
 ghost use Rattle.vt_picture.specs.Picture.{run_length as run_length_of, is_followed as is_followed_by, fill};
 ghost use Rattle.vt_picture.specs.Picture.{run_attributes, run_start, shown_cell, cells_picture, row_picture};
 
-use crate::bytes::{push_bytes, push_escaped, push_number, push_when};
+use crate::bytes::push_escaped;
 use crate::looks::is_blank;
+use vt_controls::{push_bytes, push_number, push_when};
 use vt_screen::{COLUMNS, Cell, Rendition};
 
 /// Returns the left edge of a column, in units.

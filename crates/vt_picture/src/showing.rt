@@ -2,9 +2,10 @@
 ghost use Rattle.std.specs.Prelude.{◌≡◌, ◌+◌, ◌*◌, ◌≤◌, ◌++◌, length, vec_len, vec_capacity, OnOk, OnErr, IsOk};
 ghost use Rattle.vt_picture.specs.Show.{change, rendition_sequence, shown_line, show};
 
-use crate::bytes::{push_bytes, push_glyph, push_when};
+use crate::bytes::push_glyph;
 use crate::looks::without_blank_end;
 use std::alloc::AllocError;
+use vt_controls::{push_bytes, push_when};
 use vt_screen::{Cell, Rendition};
 use vt_term::{ROWS, STOPS, Terminal};
 

@@ -1,32 +1,11 @@
 -- Elements that are appended.
-use Rattle.std.proofs.Common.{◌≡◌, Bool, true, false, ℕ, ◌+◌, ◌<◌, ◌≤◌, List, [], ◌∷◌, ◌++◌, length, take, drop, refl}
+use Rattle.std.proofs.Common.{◌≡◌, ℕ, ◌+◌, ◌<◌, ◌≤◌, List, [], ◌∷◌, ◌++◌, length, take, drop}
 use Rattle.std.proofs.Common.{sym, ap, subst, ◌∙◌, append_assoc, append-nil, set}
 use Rattle.std.proofs.Math.Seq.{drop-append_seam}
 use Rattle.std.proofs.lemmas.List.{take_more_set}
-use Rattle.vt_paint.specs.Spoken.{are_attributes, Speaks}
-use Rattle.vt_paint.proofs.Speech.{speaks-none, speaks-append, character_speaks}
-use Rattle.vt_update.specs.Private.Attributes.{attributes}
+use Rattle.vt_controls.specs.Spoken.{Speaks}
+use Rattle.vt_controls.proofs.Speech.{speaks-none, speaks-append, character_speaks}
 use Rattle.vt_update.specs.Private.Appended.{Appended}
-
--- what spoke, and an element in three parts behind it
-pub put_speaks : (before front middle back first second all : List ℕ) → Speaks before
-    → Speaks (front ++ (middle ++ back)) → first ≡ before ++ front → second ≡ first ++ middle → all ≡ second ++ back
-    → Speaks all
-put_speaks before front middle back first second all h k one two three =
-    subst Speaks
-    (sym (three ∙ ap (λ xs. xs ++ back) (two ∙ ap (λ xs. xs ++ middle) one)
-    ∙ append_assoc (before ++ front) middle back ∙ append_assoc before front (middle ++ back)))
-    (speaks-append before (front ++ (middle ++ back)) h k)
-
--- the same with two parts in the middle, and a byte between them
-pub put_two_speaks : (before front first second back one two three four all : List ℕ) (b : ℕ) → Speaks before
-    → Speaks (front ++ ((first ++ b ∷ second) ++ back)) → one ≡ before ++ front → two ≡ one ++ first
-    → three ≡ two ++ b ∷ [] → four ≡ three ++ second → all ≡ four ++ back
-    → Speaks all
-put_two_speaks before front first second back one two three four all b h k e1 e2 e3 e4 e5 =
-    put_speaks before front (first ++ b ∷ second) back one four all h k e1
-    (e4 ∙ ap (λ xs. xs ++ second) (e3 ∙ ap (λ xs. xs ++ b ∷ []) e2) ∙ append_assoc (one ++ first) (b ∷ []) second
-    ∙ append_assoc one first (b ∷ second)) e5
 
 -- a character more, at a place
 pub character_more : (all : List ℕ) (at next b : ℕ) → next ≡ at + 1 → at < length all → 0x20 ≤ b → b ≤ 0x7E
@@ -35,24 +14,6 @@ character_more all at next b e inside low high h =
     subst Speaks
     (sym (ap (λ n. take n (set all at b)) e ∙ take_more_set all at b inside))
     (speaks-append (take at all) (b ∷ []) h (character_speaks b low high))
-
-pub attributes_behind : (b u k r : Bool) → are_attributes (drop 1 (attributes b u k r)) ≡ true
-attributes_behind true true true true = refl
-attributes_behind true true true false = refl
-attributes_behind true true false true = refl
-attributes_behind true true false false = refl
-attributes_behind true false true true = refl
-attributes_behind true false true false = refl
-attributes_behind true false false true = refl
-attributes_behind true false false false = refl
-attributes_behind false true true true = refl
-attributes_behind false true true false = refl
-attributes_behind false true false true = refl
-attributes_behind false true false false = refl
-attributes_behind false false true true = refl
-attributes_behind false false true false = refl
-attributes_behind false false false true = refl
-attributes_behind false false false false = refl
 
 -- ---- what is appended to the output
 

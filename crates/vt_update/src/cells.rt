@@ -5,6 +5,7 @@ ghost use Rattle.vt_update.specs.Private.Appended.{Appended};
 
 use crate::remote::Remote;
 use crate::rows::{BLANK, Rows};
+use vt_controls::Function;
 use vt_screen::{Cell, ROWS};
 use vt_term::Terminal;
 
@@ -164,11 +165,11 @@ impl Remote {
             Erased::Nothing
         } else if below > 0 && here.wrapping_add(below) > ERASURE {
             self.go(row, col, to);
-            self.chosen.sequence(b"", b"J");
+            self.chosen.put(Function::erase_below());
             Erased::Below
         } else if here > ERASURE {
             self.go(row, col, to);
-            self.chosen.sequence(b"", b"K");
+            self.chosen.put(Function::erase_right());
             Erased::Line
         } else {
             Erased::Nothing

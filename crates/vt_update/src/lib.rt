@@ -5,9 +5,12 @@ mod cells;
 mod choice;
 mod chosen;
 pub mod laws;
+mod motion;
 mod remote;
 mod rows;
 mod scrolling;
+mod state;
 mod updating;
+mod writing;
 
 pub use updating::{UPDATE_LIMIT, UpdateError, update, update_reserved};

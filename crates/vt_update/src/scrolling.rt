@@ -2,8 +2,9 @@
 ghost use Rattle.std.specs.Prelude.{◌≤◌, ◌<◌, ◌+◌};
 ghost use Rattle.vt_screen.specs.Grid.{last_row};
 
-use crate::remote::Remote;
+use crate::remote::{Remote, number};
 use crate::rows::{Rows, filled, unlike};
+use vt_controls::Function;
 use vt_screen::{Cell, ROWS, same_cells};
 use vt_term::{Margins, Terminal};
 
@@ -226,11 +227,11 @@ impl Remote {
         let (deleted, inserted) = if up { (top, low) } else { (low, top) };
         if up || bottom != margins.bottom {
             self.go(deleted, 1, to);
-            self.chosen.numbered(by, b'M');
+            self.chosen.put(Function::delete_lines(number(by)));
         }
         if !up || bottom != margins.bottom {
             self.go(inserted, 1, to);
-            self.chosen.numbered(by, b'L');
+            self.chosen.put(Function::insert_lines(number(by)));
         }
     }
 }

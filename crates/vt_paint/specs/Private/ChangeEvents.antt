@@ -1,8 +1,7 @@
 -- The events that change one screen into another. No public clause cites them. (this profile)
-use Rattle.std.specs.Prelude.{ℕ, List, [], ◌∷◌, ◌++◌, Bool, true, false, Some, None, ◌&&◌, if◌then◌else◌, codes}
+use Rattle.std.specs.Prelude.{ℕ, List, [], ◌∷◌, ◌++◌, Bool, true, false, ◌&&◌, if◌then◌else◌}
 use Rattle.std.specs.List.{range_with_len, flat_map}
 use Rattle.vt_syntax.specs.declared.event.Event.{Event}
-use Rattle.vt_syntax.specs.declared.event.Event.TheVariants.{Sequence}
 use Rattle.vt_screen.specs.declared.cell.Rendition.{Rendition}
 use Rattle.vt_screen.specs.declared.cell.Brush.{Brush}
 use Rattle.vt_screen.specs.declared.cell.Cell.{Cell}
@@ -11,26 +10,17 @@ use Rattle.vt_screen.specs.Grid.{Grid, cell_at, last_row}
 use Rattle.vt_term.specs.declared.state.Cursor.{Cursor}
 use Rattle.vt_term.specs.declared.state.Saved.{Saved}
 use Rattle.vt_term.specs.State.{Display, saved_sets}
-use Rattle.vt_term.specs.Functions.{byte}
 use Rattle.vt_screen.specs.Same.{when}
-use Rattle.vt_paint.specs.Controls.{sequence_of, private_mode, cursor_position, rendition_to, protection_to}
-use Rattle.vt_paint.specs.Controls.{brush_events, save_cursor, sets_events, spelling_sets_events}
+use Rattle.vt_controls.specs.Controls.{private_mode, cursor_position, rendition_to, all_attributes, protection_to, soft_reset}
+use Rattle.vt_controls.specs.Controls.{brush_events, save_cursor, sets_events, spelling_sets_events}
 use Rattle.vt_paint.specs.Pieces.{glyph_events}
 use Rattle.vt_paint.specs.Items.{origin_item, wrap_item, last_items}
 use Rattle.vt_paint.specs.Changes.{is_marked}
-
--- DECSTR
-abbrev pub soft_reset : Event
-soft_reset = Sequence None (record { items = 0 ∷ [] }) (Some (byte (codes "!"))) (byte (codes "p"))
 
 -- ---- the cells
 
 abbrev pub has_all : Rendition → Bool
 has_all r = r.bold && (r.underline && (r.blink && r.reverse))
-
--- SGR, all four attributes
-abbrev pub all_attributes : Event
-all_attributes = sequence_of (1 ∷ 4 ∷ 5 ∷ 7 ∷ []) (byte (codes "m"))
 
 -- SGR without the 0 if every attribute is set
 abbrev pub short_rendition : Rendition → Event

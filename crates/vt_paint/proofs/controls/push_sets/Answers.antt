@@ -1,18 +1,26 @@
-use Rattle.std.proofs.Common.{append_assoc, append-nil}
-use Rattle.vt_paint.specs.Controls.{sets_events}
+use Rattle.std.proofs.Common.{None, ap, ◌∙◌, codes}
+use Rattle.vt_syntax.specs.Spelling.{spell_event}
+use Rattle.vt_glyph.specs.GraphicSets.{GraphicSets}
+use Rattle.vt_glyph.specs.Invocation.{set_at}
+use Rattle.vt_controls.specs.Controls.{designation, left_event, right_event, sets_events}
+use Rattle.vt_paint.proofs.Pushing.{then_events, function}
 use Rattle.vt_paint.proofs.controls.push_sets.Goals as goal
 
 pub returns-clause-items : goal.returns-clause-items
 unfolding sets_events
 returns-clause-items c =
-    rw (
-      c.push_right.ensures.items,
-      c.push_left.ensures.items,
-      c.push_bytes-2.ensures.items,
-      c.push_bytes.ensures.items,
-      c.final_at.ensures,
-      c.final_at-2.ensures,
-      c.final_at-3.ensures,
-      c.final_at-4.ensures,
-    )
-    (simp (append_assoc, append-nil))
+    let sets : GraphicSets = record { g = c.args.g.now; left = c.args.left; right = c.args.right; pending = None } in
+    (then_events
+    (function (designation (codes "(") (set_at sets 0))
+    (c.designation.ensures.value ∙ ap (λ s. spell_event (designation (codes "(") s)) c.set_in.ensures) c.push.ensures.items)
+    (then_events
+    (function (designation (codes ")") (set_at sets 1))
+    (c.designation-2.ensures.value ∙ ap (λ s. spell_event (designation (codes ")") s)) c.set_in-2.ensures) c.push-2.ensures.items)
+    (then_events
+    (function (designation (codes "*") (set_at sets 2))
+    (c.designation-3.ensures.value ∙ ap (λ s. spell_event (designation (codes "*") s)) c.set_in-3.ensures) c.push-3.ensures.items)
+    (then_events
+    (function (designation (codes "+") (set_at sets 3))
+    (c.designation-4.ensures.value ∙ ap (λ s. spell_event (designation (codes "+") s)) c.set_in-4.ensures) c.push-4.ensures.items)
+    (then_events (function (left_event c.args.left) c.lock_left.ensures.value c.push-5.ensures.items)
+    (function (right_event c.args.right) c.lock_right.ensures.value c.push-6.ensures.items)))))).is

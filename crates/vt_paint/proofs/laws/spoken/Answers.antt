@@ -1,4 +1,4 @@
-use Rattle.vt_paint.proofs.Speech.{speaks-ascii}
+use Rattle.vt_controls.proofs.Speech.{speaks-ascii}
 use Rattle.vt_paint.proofs.Whole.{speaks}
 use Rattle.vt_paint.proofs.laws.spoken.Goals as goal
 

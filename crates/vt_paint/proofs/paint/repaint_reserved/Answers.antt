@@ -15,6 +15,7 @@ returns-clause-items c =
       c.push_stops.ensures.items,
       c.stops.ensures,
       c.width.ensures.width,
-      c.push_bytes.ensures.items,
+      c.push.ensures.items,
+      c.reset.ensures.value,
     )
     (simp (flat_map-append, append_assoc))

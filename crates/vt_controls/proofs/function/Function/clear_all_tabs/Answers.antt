@@ -1,0 +1,6 @@
+use Rattle.std.specs.Fmt.{digits}
+use Rattle.vt_controls.proofs.function.Function.clear_all_tabs.Goals as goal
+
+pub returns-clause-value : goal.returns-clause-value
+unfolding digits
+returns-clause-value c = c.sequence.ensures

@@ -1,0 +1,169 @@
+-- The control functions that a repaint is made of, as events. (EK-VT220-RM, chapter 4; ECMA-48)
+use Rattle.std.specs.Prelude.{ℕ, List, [], ◌∷◌, ◌++◌, Bool, Some, None, ◌==◌, if◌then◌else◌, codes, map}
+use Rattle.std.specs.Prelude.{slice_index_or}
+use Rattle.vt_syntax.specs.declared.event.Event.{Event}
+use Rattle.vt_syntax.specs.declared.event.Event.TheVariants.{Print, Control, Escape, Sequence}
+use Rattle.vt_glyph.specs.declared.set.Set.{Set}
+use Rattle.vt_glyph.specs.declared.set.Set.TheVariants.{Ascii, Special, Supplemental}
+use Rattle.vt_glyph.specs.declared.glyph.Spelling.{Spelling}
+use Rattle.vt_glyph.specs.declared.glyph.Spelling.TheVariants.{Plain, Second, Third}
+use Rattle.vt_glyph.specs.GraphicSets.{GraphicSets}
+use Rattle.vt_glyph.specs.Designation.{final_of}
+use Rattle.vt_glyph.specs.Invocation.{set_at}
+use Rattle.vt_screen.specs.declared.cell.Rendition.{Rendition}
+use Rattle.vt_screen.specs.declared.cell.Brush.{Brush}
+use Rattle.vt_screen.specs.Same.{when}
+use Rattle.vt_term.specs.declared.state.Modes.{Modes}
+use Rattle.vt_term.specs.Functions.{byte}
+
+-- ---- control sequences
+
+-- of values alone
+abbrev pub sequence_of : List ℕ → ℕ → Event
+sequence_of values last = Sequence None (record { items = values }) None last
+
+-- SM and RM of an ANSI mode
+abbrev pub ansi_mode : ℕ → Bool → Event
+ansi_mode number on = sequence_of (number ∷ []) (if on then byte (codes "h") else byte (codes "l"))
+
+-- SM and RM of a private mode: 3 is DECCOLM, 6 DECOM and 7 DECAWM
+abbrev pub private_mode : ℕ → Bool → Event
+private_mode number on =
+    Sequence (Some (byte (codes "?"))) (record { items = number ∷ [] }) None
+    (if on then byte (codes "h") else byte (codes "l"))
+
+-- CUP, always with both numbers
+abbrev pub cursor_position : ℕ → ℕ → Event
+cursor_position line col = sequence_of (line ∷ col ∷ []) (byte (codes "H"))
+
+-- DECSTBM
+abbrev pub margins_to : ℕ → ℕ → Event
+margins_to top bottom = sequence_of (top ∷ bottom ∷ []) (byte (codes "r"))
+
+-- TBC: all stops go
+abbrev pub clear_all_tabs : Event
+clear_all_tabs = sequence_of (3 ∷ []) (byte (codes "g"))
+
+-- SGR: 0, and then the attributes that are set
+abbrev pub rendition_values : Rendition → List ℕ
+rendition_values r =
+    0 ∷ (when r.bold (1 ∷ [])
+    ++ (when r.underline (4 ∷ []) ++ (when r.blink (5 ∷ []) ++ when r.reverse (7 ∷ []))))
+
+abbrev pub rendition_to : Rendition → Event
+rendition_to r = sequence_of (rendition_values r) (byte (codes "m"))
+
+-- SGR, all four attributes
+abbrev pub all_attributes : Event
+all_attributes = sequence_of (1 ∷ 4 ∷ 5 ∷ 7 ∷ []) (byte (codes "m"))
+
+-- DECSCA
+abbrev pub protection_to : Bool → Event
+protection_to protected =
+    Sequence None (record { items = (if protected then 1 else 0) ∷ [] }) (Some 0x22) (byte (codes "q"))
+
+-- the attributes and the protection
+unfoldable pub brush_events : Brush → List Event
+brush_events brush = rendition_to brush.rendition ∷ protection_to brush.protected ∷ []
+
+-- DECSTR
+abbrev pub soft_reset : Event
+soft_reset = Sequence None (record { items = 0 ∷ [] }) (Some (byte (codes "!"))) (byte (codes "p"))
+
+-- ---- controls and escape sequences
+
+-- HTS, SS2 and SS3, in their 7-bit forms ESC H, ESC N and ESC O
+abbrev pub set_tab : Event
+set_tab = Control 0x88
+
+abbrev pub shift_to_2 : Event
+shift_to_2 = Control 0x8E
+
+abbrev pub shift_to_3 : Event
+shift_to_3 = Control 0x8F
+
+-- SS2 and SS3, by their slots
+abbrev pub shift_to : ℕ → Event
+shift_to slot = if slot == 2 then shift_to_2 else shift_to_3
+
+-- RIS
+abbrev pub reset_to_initial_state : Event
+reset_to_initial_state = Escape None (byte (codes "c"))
+
+-- DECSC
+abbrev pub save_cursor : Event
+save_cursor = Escape None (byte (codes "7"))
+
+-- DECKPAM and DECKPNM
+abbrev pub keypad : Bool → Event
+keypad application = Escape None (if application then byte (codes "=") else byte (codes ">"))
+
+-- S8C1T and S7C1T
+abbrev pub report_form : Bool → Event
+report_form eight = Escape (Some (byte (codes " "))) (if eight then byte (codes "G") else byte (codes "F"))
+
+-- ---- sets
+
+-- SCS, by the intermediate of G0, G1, G2 or G3
+abbrev pub designation : List ℕ → Set → Event
+designation inter set = Escape (Some (byte inter)) (final_of set)
+
+-- SCS, by the slot
+abbrev pub designation_of : ℕ → Set → Event
+designation_of slot set =
+    if slot == 0 then designation (codes "(") set else (
+    if slot == 1 then designation (codes ")") set else (
+    if slot == 2 then designation (codes "*") set else designation (codes "+") set))
+
+-- LS0 (SI), LS1 (SO), LS2, LS3
+abbrev pub left_event : ℕ → Event
+left_event slot =
+    if slot == 0 then Control 0x0F else (
+    if slot == 1 then Control 0x0E else (
+    if slot == 2 then Escape None (byte (codes "n")) else Escape None (byte (codes "o"))))
+
+-- LS1R, LS2R, LS3R
+abbrev pub right_event : ℕ → Event
+right_event slot =
+    if slot == 1 then Escape None (byte (codes "~")) else (
+    if slot == 2 then Escape None (byte (codes "}")) else Escape None (byte (codes "|")))
+
+-- G0 to G3, then GL, then GR
+unfoldable pub sets_events : GraphicSets → List Event
+sets_events sets =
+    designation (codes "(") (set_at sets 0) ∷ designation (codes ")") (set_at sets 1)
+    ∷ designation (codes "*") (set_at sets 2) ∷ designation (codes "+") (set_at sets 3)
+    ∷ left_event sets.left ∷ right_event sets.right ∷ []
+
+-- the sets that the spellings of glyphs are for
+abbrev pub spelling_sets_events : List Event
+spelling_sets_events =
+    designation (codes "(") Ascii ∷ designation (codes "*") Supplemental ∷ designation (codes "+") Special
+    ∷ left_event 0 ∷ []
+
+-- ---- modes
+
+-- A mode by what sets or resets it and by its value: the ANSI ones first; then the keypad and the form of reports.
+abbrev pub ModeRow : Type 0
+ModeRow = (Bool → Event) × (Modes → Bool)
+
+abbrev pub mode_rows : List ModeRow
+mode_rows =
+    (ansi_mode 2, λ m. m.kam) ∷ (ansi_mode 4, λ m. m.irm) ∷ (ansi_mode 12, λ m. m.srm) ∷ (ansi_mode 20, λ m. m.lnm)
+    ∷ (private_mode 1, λ m. m.decckm) ∷ (private_mode 4, λ m. m.decsclm) ∷ (private_mode 5, λ m. m.decscnm)
+    ∷ (private_mode 7, λ m. m.decawm) ∷ (private_mode 8, λ m. m.decarm) ∷ (private_mode 25, λ m. m.dectcem)
+    ∷ (keypad, λ m. m.keypad_application) ∷ (report_form, λ m. m.reports_8bit) ∷ []
+
+-- what sets or resets a mode: one of the table, then DECCOLM and DECOM
+abbrev pub mode_event : ℕ → Bool → Event
+mode_event index =
+    slice_index_or (map (λ (row : ModeRow). row.0) mode_rows ++ private_mode 3 ∷ private_mode 6 ∷ []) index
+    (private_mode 6)
+
+-- ---- glyphs
+
+-- a glyph's spelling: its code, after a single shift to G2 or G3
+abbrev pub spelling_events : Spelling → List Event
+spelling_events (Plain code) = Print code ∷ []
+spelling_events (Second code) = shift_to_2 ∷ Print code ∷ []
+spelling_events (Third code) = shift_to_3 ∷ Print code ∷ []

@@ -1,0 +1,86 @@
+//! The table of modes.
+ghost use Rattle.std.specs.Prelude.{◌≡◌, ◌<◌, map};
+ghost use Rattle.vt_controls.specs.Controls.{mode_rows};
+ghost use Rattle.vt_controls.specs.Private.Tables.{mode_last};
+
+use vt_term::Modes;
+
+/// The number of modes that have a value in [`Modes`], with the keypad and the form of reports, and without DECOM.
+pub const MODES: usize = 12;
+
+/// The index of IRM.
+pub const IRM: usize = 1;
+
+/// The index of DECAWM.
+pub const DECAWM: usize = 7;
+
+/// The index of DECCOLM, whose value is the width.
+pub const DECCOLM: usize = 12;
+
+/// The index of DECOM, which moves the cursor.
+pub const DECOM: usize = 13;
+
+/// What each mode is set and reset by, without its last byte.
+pub(crate) const FRONTS: [[u8; 5]; 14] = [
+    // KAM, IRM, SRM and LNM
+    *b"\x1B[2  ",
+    *b"\x1B[4  ",
+    *b"\x1B[12 ",
+    *b"\x1B[20 ",
+    // DECCKM, DECSCLM, DECSCNM, DECAWM, DECARM and DECTCEM
+    *b"\x1B[?1 ",
+    *b"\x1B[?4 ",
+    *b"\x1B[?5 ",
+    *b"\x1B[?7 ",
+    *b"\x1B[?8 ",
+    *b"\x1B[?25",
+    // DECKPAM and DECKPNM, S8C1T and S7C1T
+    *b"\x1B    ",
+    *b"\x1B    ",
+    // DECCOLM and DECOM
+    *b"\x1B[?3 ",
+    *b"\x1B[?6 ",
+];
+
+/// The lengths of these.
+pub(crate) const LENGTHS: [usize; 14] = [3, 3, 4, 4, 4, 4, 4, 4, 4, 5, 1, 2, 4, 4];
+
+/// The last bytes of what sets them.
+const SET: [u8; 14] = *b"hhhhhhhhhh=Ghh";
+
+/// The last bytes of what resets them.
+const RESET: [u8; 14] = *b"llllllllll>Fll";
+
+/// Returns the last byte of what sets or resets a mode.
+#[inline(always)]
+pub(crate) fn last_of(index: usize, on: bool) -> u8
+    requires { index < 14 }
+    ensures { result ≡ mode_last index on }
+{
+    if on { SET[index] } else { RESET[index] }
+}
+
+/// The values at power-up, in the order of the table.
+pub const AT_POWER_UP: [bool; MODES] = [
+    false, false, true, false, false, false, false, true, true, true, false, false,
+];
+
+/// Returns the value of each mode, in the order of the table.
+pub fn mode_values(m: Modes) -> [bool; MODES]
+    ensures { result ≡ map (λ row. row.1 m) mode_rows }
+{
+    [
+        m.kam,
+        m.irm,
+        m.srm,
+        m.lnm,
+        m.decckm,
+        m.decsclm,
+        m.decscnm,
+        m.decawm,
+        m.decarm,
+        m.dectcem,
+        m.keypad_application,
+        m.reports_8bit,
+    ]
+}

@@ -17,7 +17,7 @@ const OPEN = [
   ["feed", [bytes("x")]], ["feedLog", [bytes("x")]], ["reset", []], ["text", []], ["rowText", [1]], ["show", []], ["picture", []], ["repaint", []],
   ["cells", [1]], ["copyFrom", ["other"]], ["update", ["other"]], ["sameState", ["other"]], ["changedRows", ["other"]], ["rowChanges", ["other", 1]],
 ];
-const PROPERTIES = ["cursor", "margins", "modes", "brush", "sets", "saved", "stops", "width", "bells", "isBetween", "held"];
+const PROPERTIES = ["cursor", "margins", "modes", "brush", "sets", "saved", "stops", "width", "bells", "isBetween", "held", "pending", "alternate"];
 
 function values({ Terminal }, core, check) {
   const t = new Terminal(core);

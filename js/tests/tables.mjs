@@ -152,15 +152,17 @@ function timelines(vt220, core, check) {
 
 /** The same under TERM=xterm, with a text that is away while the alternate page is shown. */
 function pagesInTime(vt220, core, check) {
-  const parts = ["main \xe2\x80\x9cW\xe2\x80\x9d\x1b[3;3H\xe2", "\x1b[?1049h\x1b[2Jother\x1b[3b", "\x1b[?1049l\xc3\xa9\x1b[24H\x1b[2S\x1b[?47h"].map(ascii);
+  const parts = ["main \xe2\x80\x9cW\xe2\x80\x9d\x1b[3;3H\xe2", "\x1b[?1049h\x1b[2Jother\x1b[3b", "\x1b[?1049l\xc3\xa9\x1b[24H\x1b[2S\x1b[?47h", "\x1b[?47l"].map(ascii);
   let end = 0;
   const ends = parts.map((part) => (end += part.length)), input = ascii(parts.map((part) => String.fromCharCode(...part)).join(""));
-  const options = { terminal: "xterm" }, recording = { bytes: input, times: [1, 2, 3], ends };
+  const options = { terminal: "xterm" }, recording = { bytes: input, times: [1, 2, 3, 4], ends };
   for (const every of [1, 3, 20]) {
     const line = new vt220.Timeline(core, recording, { every, ...options });
     exact(vt220, core, line, options, input, check);
     const [other] = line.search("other");
-    check("a search on the alternate page", other?.time === 2 && other.until === Infinity && other.row === 3);
+    check("a search on the alternate page", other?.time === 2 && other.until === 4 && other.row === 3);
+    const [back] = line.search("\u00e9");
+    check("a search after an SU on the main page", back?.time === 4 && back.row === 1 && back.column === 4);
     check("a search on the main page", line.search("main \u201cW\u201d")[0]?.until === 2);
     check("checkpoints of both pages", line.checkpoints > (every === 20 ? 1 : 5));
     line.close();

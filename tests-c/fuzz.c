@@ -78,30 +78,38 @@ static size_t feed_log(vt220 *t, const uint8_t *bytes, size_t len, unsigned cut,
     return filled;
 }
 
-/* Feeds UTF-8 with its log, or without one if `lines` is null, in chunks and with buffers of different sizes. Returns how many bytes of
- * replies came; *logged receives how many of lines. */
-static size_t feed_utf8(vt220 *t, vt220_utf8 *u, const uint8_t *bytes, size_t len, unsigned cut, uint8_t *reports, uint8_t *lines, size_t *logged) {
+/* Feeds UTF-8 with its log, or without one if `lines` is null, in chunks and with buffers of different sizes, under TERM=xterm if `pages`
+ * isn't null. Returns how many bytes of replies came; *logged receives how many of lines. */
+static size_t feed_characters(vt220 *t, vt220_utf8 *u, vt220_xterm *pages, const uint8_t *bytes, size_t len, unsigned cut, uint8_t *reports,
+                              uint8_t *lines, size_t *logged) {
+    const size_t limit = pages != NULL ? VT220_XTERM_LINES_LIMIT : VT220_UTF8_LINES_LIMIT;
     size_t at = 0, filled = 0, written, off = 0;
     unsigned n = cut;
     *logged = 0;
     while (at < len) {
         n = n * 1103515245u + 12345;
         size_t part = cut == 0 ? len - at : 1 + (n >> 16) % (cut + 1);
-        size_t size = VT220_REPORT_LIMIT + (n >> 20) % 400, lines_size = VT220_UTF8_LINES_LIMIT + (n >> 22) % 1000;
+        size_t size = VT220_REPORT_LIMIT + (n >> 20) % 400, lines_size = limit + (n >> 22) % 1000;
         if (part > len - at) part = len - at;
         uint8_t *chunk = (uint8_t *)malloc(part), *room = (uint8_t *)malloc(size), *lines_room = (uint8_t *)malloc(lines_size);
         if (chunk == NULL || room == NULL || lines_room == NULL) abort();
         memcpy(chunk, bytes + at, part);
-        size_t taken = lines == NULL ? vt220_feed_utf8(t, u, chunk, part, room, size, &written)
-                                     : vt220_feed_log_utf8(t, &s, u, chunk, part, room, size, &written, lines_room, lines_size, &off);
-        MUST(taken >= 1 && taken <= part && written <= VT220_REPORT_LIMIT * taken && written <= size && off <= lines_size && u->len <= 3);
-        MUST(taken == part || size - written < VT220_REPORT_LIMIT || (lines != NULL && lines_size - off < VT220_UTF8_LINES_LIMIT));
+        size_t taken = pages != NULL   ? vt220_feed_log_xterm(t, &s, pages, chunk, part, room, size, &written, lines_room, lines_size, &off)
+                       : lines == NULL ? vt220_feed_utf8(t, u, chunk, part, room, size, &written)
+                                       : vt220_feed_log_utf8(t, &s, u, chunk, part, room, size, &written, lines_room, lines_size, &off);
+        MUST(taken >= 1 && taken <= part && written <= VT220_REPORT_LIMIT * taken && written <= size && off <= lines_size);
+        MUST(u == NULL || u->len <= 3);
+        MUST(taken == part || size - written < VT220_REPORT_LIMIT || (lines != NULL && lines_size - off < limit));
         memcpy(reports + filled, room, written);
         if (lines != NULL) memcpy(lines + *logged, lines_room, off);
         at += taken, filled += written, *logged += off;
         free(chunk), free(room), free(lines_room);
     }
     return filled;
+}
+
+static size_t feed_utf8(vt220 *t, vt220_utf8 *u, const uint8_t *bytes, size_t len, unsigned cut, uint8_t *reports, uint8_t *lines, size_t *logged) {
+    return feed_characters(t, u, NULL, bytes, len, cut, reports, lines, logged);
 }
 
 static bool same_pending(const vt220_utf8 *u, const vt220_utf8 *v) { return u->len == v->len && memcmp(u->bytes, v->bytes, sizeof u->bytes) == 0; }
@@ -144,24 +152,57 @@ static uint64_t count_bells(vt220 *t, const uint8_t *bytes, size_t len) {
     return count;
 }
 
-/* However input under TERM=xterm is cut, replies, bells, what is pending and both pages are the same. `b` and `c` are left in any state. */
-static void look_at_xterm(const uint8_t *bytes, size_t len, unsigned cut) {
+/* Both terminals show the same under TERM=xterm, and so do their alternate and their main pages, of which the last one is left. */
+static void same_pages(void) {
     static const char *const switches[] = {"", "\030\033[?47h", "\033[?47l"};
     vt220_utf8 u, v;
-    MUST(vt220_feed_xterm(&b, &x, (const uint8_t *)"\033c", 2, NULL, 0, NULL) == 2 && vt220_feed_xterm(&c, &y, (const uint8_t *)"\033c", 2, NULL, 0, NULL) == 2);
-    MUST(vt220_same_state(&b, &power_up) && vt220_same_state(&c, &power_up) && !vt220_xterm_alternate(&x) && !vt220_xterm_alternate(&y));
-    uint64_t bells_b = vt220_bells(&b), bells_c = vt220_bells(&c);
-    size_t all = feed_by(&b, &x, bytes, len, 0, reports_a);
-    MUST(feed_by(&c, &y, bytes, len, cut, reports_b) == all && memcmp(reports_a, reports_b, all) == 0);
-    MUST(vt220_bells(&b) - bells_b == vt220_bells(&c) - bells_c);
     MUST(vt220_xterm_pending(&x, &u) && vt220_xterm_pending(&y, &v) && same_pending(&u, &v));
-    see(50, vt220_xterm_alternate(&x) + 2u * u.len);
     for (size_t i = 0; i < sizeof switches / sizeof switches[0]; i++) {
         const uint8_t *change = (const uint8_t *)switches[i];
         size_t length = strlen(switches[i]);
         MUST(vt220_feed_xterm(&b, &x, change, length, NULL, 0, NULL) == length && vt220_feed_xterm(&c, &y, change, length, NULL, 0, NULL) == length);
         MUST(vt220_same_state(&b, &c) && vt220_xterm_alternate(&x) == vt220_xterm_alternate(&y));
     }
+}
+
+/* Brings `b` and `c` under TERM=xterm into their state at power-up. */
+static void reset_pages(void) {
+    MUST(vt220_feed_xterm(&b, &x, (const uint8_t *)"\033c", 2, NULL, 0, NULL) == 2 && vt220_feed_xterm(&c, &y, (const uint8_t *)"\033c", 2, NULL, 0, NULL) == 2);
+    MUST(vt220_same_state(&b, &power_up) && vt220_same_state(&c, &power_up) && !vt220_xterm_alternate(&x) && !vt220_xterm_alternate(&y));
+}
+
+/* However input under TERM=xterm is cut, replies, bells, what is pending, both pages and the lines are the same, and a log changes none of
+ * the others. `b` and `c` are left in any state. */
+static void look_at_xterm(const uint8_t *bytes, size_t len, unsigned cut) {
+    /* no sequence scrolls off more lines than it has bytes, times the rows of the screen */
+    static uint8_t lines_b[VT220_ROWS * VT220_ROW_TEXT_LIMIT * LONGEST], lines_c[VT220_ROWS * VT220_ROW_TEXT_LIMIT * LONGEST];
+    size_t logged_b, logged_c, half = len / 2;
+    vt220_utf8 u;
+    reset_pages();
+    uint64_t bells_b = vt220_bells(&b), bells_c = vt220_bells(&c);
+    size_t all = feed_by(&b, &x, bytes, len, 0, reports_a);
+    MUST(feed_by(&c, &y, bytes, len, cut, reports_b) == all && memcmp(reports_a, reports_b, all) == 0);
+    MUST(vt220_bells(&b) - bells_b == vt220_bells(&c) - bells_c && vt220_xterm_pending(&x, &u));
+    see(50, vt220_xterm_alternate(&x) + 2u * u.len);
+    bells_b = vt220_bells(&b) - bells_b;
+    same_pages();
+    reset_pages();
+    bells_c = vt220_bells(&c);
+    MUST(feed_by(&b, &x, bytes, len, 0, reports_a) == all);
+    MUST(feed_characters(&c, NULL, &y, bytes, len, 0, reports_b, lines_b, &logged_b) == all && memcmp(reports_a, reports_b, all) == 0);
+    MUST(vt220_bells(&c) - bells_c == bells_b);
+    see(51, logged_b > 0);
+    same_pages();
+    /* The second half also goes on from a copy. */
+    reset_pages();
+    bells_c = vt220_bells(&c);
+    size_t first = feed_characters(&c, NULL, &y, bytes, half, cut, reports_b, lines_c, &logged_c), more;
+    MUST(vt220_copy(&b, &c) == VT220_OK && vt220_xterm_copy(&x, &y) == VT220_OK);
+    MUST(first + feed_characters(&c, NULL, &y, bytes + half, len - half, cut, reports_b + first, lines_c + logged_c, &more) == all);
+    MUST(memcmp(reports_a, reports_b, all) == 0 && logged_c + more == logged_b && memcmp(lines_b, lines_c, logged_b) == 0);
+    MUST(vt220_bells(&c) - bells_c == bells_b);
+    MUST(feed_by(&b, &x, bytes + half, len - half, cut, reports_b) == all - first && memcmp(reports_a + first, reports_b, all - first) == 0);
+    same_pages();
 }
 
 typedef uint32_t writer(const vt220 *, vt220_scratch *, uint8_t *, size_t, size_t *);

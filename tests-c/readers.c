@@ -71,18 +71,21 @@ static void *reads(void *unused) {
     vt220_scratch s = VT220_INIT;
     vt220 mine = VT220_INIT;
     uint8_t *out = (uint8_t *)malloc(VT220_PICTURE_LIMIT);
+    vt220_xterm my_page = VT220_INIT;
     vt220_utf8 u;
     size_t written, bad = 0;
-    if (out == NULL || vt220_scratch_open(&s) != VT220_OK || vt220_open(&mine) != VT220_OK) abort();
+    if (out == NULL || vt220_scratch_open(&s) != VT220_OK || vt220_open(&mine) != VT220_OK || vt220_xterm_open(&my_page) != VT220_OK) abort();
     for (int i = 0; i < ROUNDS; i++) {
         if (!reads_all(one, twin, &s, out)) bad++;
         if (!vt220_xterm_is_open(other_page) || !vt220_xterm_alternate(other_page) || !vt220_xterm_pending(other_page, &u) || u.len != 2) bad++;
         /* It may also be what others are copied from and led to. */
+        if (vt220_xterm_copy(&my_page, other_page) != VT220_OK || !vt220_xterm_alternate(&my_page)) bad++;
         if (vt220_copy(&mine, one) != VT220_OK || !vt220_same_state(&mine, one) || vt220_reset(&mine) != VT220_OK) bad++;
         if (vt220_update(&mine, one, &s, out, VT220_UPDATE_LIMIT, &written) != VT220_OK || !vt220_same_state(&mine, one)) bad++;
     }
     __atomic_fetch_add(&wrong, bad, __ATOMIC_SEQ_CST);
     vt220_close(&mine);
+    vt220_xterm_close(&my_page);
     vt220_scratch_close(&s);
     free(out);
     return unused;

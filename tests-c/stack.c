@@ -7,7 +7,7 @@ enum { STACK = 256 * 1024, PAINT = 0xA5, LIMIT = 8192 };
 
 static vt220 a = VT220_INIT, b = VT220_INIT;
 static vt220_scratch s = VT220_INIT;
-static vt220_xterm x = VT220_INIT;
+static vt220_xterm x = VT220_INIT, y = VT220_INIT;
 static uint8_t out[VT220_PICTURE_LIMIT], input[60000];
 static size_t written;
 
@@ -62,6 +62,14 @@ static void *feeds_xterm(void *unused) {
     return unused;
 }
 
+static void *logs_xterm(void *unused) {
+    static uint8_t lines[100000];
+    size_t lines_written;
+    for (size_t at = 0; at < sizeof input;)
+        at += vt220_feed_log_xterm(&b, &s, &x, input + at, sizeof input - at, NULL, 0, NULL, lines, sizeof lines, &lines_written);
+    return unused;
+}
+
 static void *writes(void *unused) {
     vt220_text(&b, &s, out, sizeof out, &written);
     vt220_row_text(&b, &s, 1, out, sizeof out, &written);
@@ -95,6 +103,7 @@ static void *reads(void *unused) {
 
 static void *copies(void *unused) {
     vt220_copy(&a, &b);
+    vt220_xterm_copy(&y, &x);
     vt220_reset(&a);
     return unused;
 }
@@ -140,7 +149,7 @@ static void fill(void) {
 int main(void) {
     fill();
     CHECK(vt220_open(&a) == VT220_OK && vt220_open(&b) == VT220_OK && vt220_scratch_open(&s) == VT220_OK);
-    CHECK(vt220_xterm_open(&x) == VT220_OK);
+    CHECK(vt220_xterm_open(&x) == VT220_OK && vt220_xterm_open(&y) == VT220_OK);
     depth(opens), depth(feeds);
     size_t empty = depth(nothing);
     CHECK(empty < STACK / 2);
@@ -150,6 +159,7 @@ int main(void) {
     measure("feed without replies", drops, LIMIT, empty);
     measure("feed in UTF-8", feeds_utf8, LIMIT, empty);
     measure("feed under TERM=xterm", feeds_xterm, LIMIT, empty);
+    measure("feed with a log under TERM=xterm", logs_xterm, LIMIT, empty);
     measure("feed with a log", logs, LIMIT, empty);
     /* Updates of all kinds: nothing differs, little, much, the width. */
     static const char *const states[] = {"\030", "a", "\033[5;5H\033[1mb\033[24H\n\n", "\033#8", "\033[?3h", "\033[2J\033[3;20rx\033[?6h", "\033[3g"};
@@ -166,6 +176,6 @@ int main(void) {
     measure("picture", draws, LIMIT, empty);
     measure("readers", reads, LIMIT, empty);
     measure("copy and reset", copies, LIMIT, empty);
-    vt220_close(&a), vt220_close(&b), vt220_scratch_close(&s), vt220_xterm_close(&x);
+    vt220_close(&a), vt220_close(&b), vt220_scratch_close(&s), vt220_xterm_close(&x), vt220_xterm_close(&y);
     return finish("stack");
 }

@@ -3,19 +3,20 @@
 #include "check.h"
 #include "../c/vt220.c"
 
-static handle t, u, s, x;
-static uint8_t out[VT220_PICTURE_LIMIT], lines[VT220_UTF8_LINES_LIMIT];
+static handle t, u, s, x, y;
+static uint8_t out[VT220_PICTURE_LIMIT], lines[VT220_XTERM_LINES_LIMIT];
 static vt220_utf8 pending;
 static size_t written, logged, rung;
 
 #define STAYS(call)                                                       \
     do {                                                                  \
-        void *blocks[] = {t.at, u.at, s.at, x.at};                             \
+        void *blocks[] = {t.at, u.at, s.at, x.at, y.at};                  \
         (void)(call);                                                     \
         check(t.at == blocks[0] && t.is_open, #call, "stays");            \
         check(u.at == blocks[1] && u.is_open, #call, "stays");            \
         check(s.at == blocks[2] && s.is_open, #call, "stays");            \
         check(x.at == blocks[3] && x.is_open, #call, "stays");            \
+        check(y.at == blocks[4] && y.is_open, #call, "stays");            \
     } while (0)
 
 /* The calls that write bytes, with a buffer of this size. */
@@ -61,7 +62,7 @@ int main(void) {
     /* Blank, with text, with columns that the other terminal lacks, and inside a sequence. */
     static const char *const states[] = {"\030", "abc\033[5;10H\033[1mx\a", "\033[?3hwide", "\033[1"};
     CHECK(core_open(&t) == VT220_OK && core_open(&u) == VT220_OK && core_scratch_open(&s) == VT220_OK);
-    CHECK(core_xterm_open(&x) == VT220_OK);
+    CHECK(core_xterm_open(&x) == VT220_OK && core_xterm_open(&y) == VT220_OK);
     for (size_t i = 0; i < sizeof states / sizeof states[0]; i++) {
         const uint8_t *bytes = (const uint8_t *)states[i];
         size_t len = strlen(states[i]);
@@ -74,6 +75,8 @@ int main(void) {
         STAYS(core_feed_log_utf8(&u, &s, &pending, bytes, len, true, out, sizeof out, &written, lines, sizeof lines, &logged, &rung));
         STAYS(core_feed_xterm(&u, &x, bytes, len, true, out, sizeof out, &written, &rung));
         STAYS(core_feed_xterm(&u, &x, (const uint8_t *)"\033[?1049h\a\xE2", 10, false, out, sizeof out, &written, &rung));
+        STAYS(core_feed_log_xterm(&u, &s, &x, bytes, len, true, out, sizeof out, &written, lines, sizeof lines, &logged, &rung));
+        STAYS(core_xterm_copy(&y, &x));
         STAYS(core_xterm_alternate(&x));
         STAYS(core_xterm_pending(&x, &pending));
         STAYS(core_copy(&u, &t));
@@ -83,5 +86,6 @@ int main(void) {
     core_close(&u);
     core_scratch_close(&s);
     core_xterm_close(&x);
+    core_xterm_close(&y);
     return finish("stays");
 }

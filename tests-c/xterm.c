@@ -30,12 +30,37 @@ static void feed(pair *p, const uint8_t *bytes, size_t len, size_t chunk, struct
     }
 }
 
+/* The sizes of the buffers of a feed with its log. */
+typedef struct sizes {
+    size_t reports, lines;
+} sizes;
+
+static const sizes smallest = {VT220_REPORT_LIMIT, VT220_XTERM_LINES_LIMIT}, large = {5120, 200000};
+
+/* Feeds a whole chunk with its log, in as many calls as the buffers need. Appends the replies and the lines. */
+static void feed_chunk(pair *p, const uint8_t *bytes, size_t len, sizes size, struct bytes *replies, struct bytes *lines) {
+    static uint8_t room[5120], lines_room[200000];
+    for (size_t at = 0, written, off; at < len;) {
+        size_t taken = vt220_feed_log_xterm(&p->t, &s, &p->x, bytes + at, len - at, room, size.reports, &written, lines_room, size.lines, &off);
+        bool is_full = size.reports - written < VT220_REPORT_LIMIT || size.lines - off < VT220_XTERM_LINES_LIMIT;
+        CHECK(written <= size.reports && off <= size.lines && (taken == len - at || is_full));
+        if (taken == 0 || taken > len - at) abort();
+        append(replies, room, written), append(lines, lines_room, off);
+        at += taken;
+    }
+}
+
+/* Feeds bytes with their log, in chunks of so many. */
+static void feed_log(pair *p, const uint8_t *bytes, size_t len, size_t chunk, sizes size, struct bytes *replies, struct bytes *lines) {
+    for (size_t at = 0; at < len; at += chunk) feed_chunk(p, bytes + at, len - at < chunk ? len - at : chunk, size, replies, lines);
+}
+
 /* --- the rows --- */
 
 typedef struct row {
     const char *name;
     struct bytes data, reports, pending;
-    char text[1024], brush[64];
+    char text[1024], lines[1024], brush[64];
     unsigned long cursor_row, cursor_col, alternate, bells;
 } row;
 
@@ -59,6 +84,7 @@ static void copy_text(char *to, const char *from) {
 
 static void set_field(row *r, const char *field, char *value) {
     if (strcmp(field, "text") == 0) copy_text(r->text, value);
+    else if (strcmp(field, "lines") == 0) copy_text(r->lines, value);
     else if (strcmp(field, "brush") == 0) snprintf(r->brush, sizeof r->brush, "%s", value);
     else if (strcmp(field, "reports") == 0) append_hex(&r->reports, value);
     else if (strcmp(field, "pending") == 0) append_hex(&r->pending, value);
@@ -103,11 +129,14 @@ static bool has_pending(const vt220_xterm *x, const struct bytes *wanted) {
     return vt220_xterm_pending(x, &u) && u.len <= 3 && same_bytes(wanted, u.bytes, u.len);
 }
 
-static void play_row(const row *r, size_t chunk) {
+/* Plays a row in chunks, with its log in buffers of these sizes, or without one if `size` is null. */
+static void play_row(const row *r, size_t chunk, const sizes *size) {
     pair p = opened();
-    struct bytes replies = {0};
+    struct bytes replies = {0}, lines = {0};
     vt220_cursor_place cursor;
-    feed(&p, r->data.at, r->data.len, chunk, &replies);
+    if (size == NULL) feed(&p, r->data.at, r->data.len, chunk, &replies);
+    else feed_log(&p, r->data.at, r->data.len, chunk, *size, &replies, &lines);
+    check(size == NULL || same_bytes(&lines, (const uint8_t *)r->lines, strlen(r->lines)), r->name, "the lines");
     check(shows(&p.t, r->text), r->name, "the text");
     check(vt220_cursor(&p.t, &cursor) && cursor.row == r->cursor_row && cursor.col == r->cursor_col, r->name, "the cursor");
     check(vt220_xterm_alternate(&p.x) == (r->alternate != 0), r->name, "the page");
@@ -115,7 +144,7 @@ static void play_row(const row *r, size_t chunk) {
     check(vt220_bells(&p.t) == r->bells, r->name, "the bells");
     check(same_bytes(&replies, r->reports.at, r->reports.len), r->name, "the replies");
     check(has_pending(&p.x, &r->pending), r->name, "what is pending");
-    free(replies.at);
+    free(replies.at), free(lines.at);
     closed(&p);
 }
 
@@ -127,7 +156,9 @@ static void rows(const char *path) {
     while (fgets(line, sizeof line, file) != NULL) {
         if (line[0] == '#') continue;
         row r = read_row(line);
-        play_row(&r, 1), play_row(&r, 3), play_row(&r, LEN);
+        const sizes *const buffers[] = {NULL, &smallest, &large};
+        for (size_t i = 0; i < sizeof buffers / sizeof buffers[0]; i++)
+            play_row(&r, 1, buffers[i]), play_row(&r, 3, buffers[i]), play_row(&r, LEN, buffers[i]);
         free(r.data.at), free(r.reports.at), free(r.pending.at);
         count++;
     }
@@ -159,6 +190,36 @@ static void handles(void) {
     CHECK(!vt220_xterm_is_open(&moved));
 }
 
+/* A log needs three open handles, and changes nothing without them. */
+static void log_handles(void) {
+    static uint8_t lines[VT220_XTERM_LINES_LIMIT];
+    vt220 t = VT220_INIT, no_terminal = VT220_INIT;
+    vt220_scratch no_scratch = VT220_INIT;
+    vt220_xterm x = VT220_INIT, no_xterm = VT220_INIT;
+    uint8_t out[20];
+    size_t written = 9, off = 9;
+    CHECK(vt220_open(&t) == VT220_OK && vt220_xterm_open(&x) == VT220_OK && vt220_feed_xterm(&t, &x, BYTES("\xE2\x80"), NULL, 0, NULL) == 2);
+    CHECK(vt220_feed_log_xterm(&no_terminal, &s, &x, BYTES("a"), out, sizeof out, &written, lines, sizeof lines, &off) == 0 && written == 0 && off == 0);
+    written = off = 9;
+    CHECK(vt220_feed_log_xterm(&t, &no_scratch, &x, BYTES("a"), out, sizeof out, &written, lines, sizeof lines, &off) == 0 && written == 0 && off == 0);
+    written = off = 9;
+    CHECK(vt220_feed_log_xterm(&t, &s, &no_xterm, BYTES("a"), out, sizeof out, &written, lines, sizeof lines, &off) == 0 && written == 0 && off == 0);
+    CHECK(vt220_feed_log_xterm(&t, &s, &no_xterm, BYTES("a"), NULL, 0, NULL, lines, sizeof lines, &off) == 0 && off == 0);
+    CHECK(shows(&t, "") && has_pending(&x, &(struct bytes){(uint8_t *)"\xE2\x80", 2, 2}));
+    /* no bytes, null pointers, and buffers without capacity */
+    CHECK(vt220_feed_log_xterm(&t, &s, &x, NULL, 0, NULL, 0, &written, NULL, 0, &off) == 0 && written == 0 && off == 0);
+    CHECK(vt220_feed_log_xterm(&t, &s, &x, BYTES("\x9C"), NULL, 0, &written, lines, sizeof lines, &off) == 0 && written == 0 && off == 0);
+    CHECK(vt220_feed_log_xterm(&t, &s, &x, BYTES("\x9C"), out, VT220_REPORT_LIMIT - 1, &written, lines, sizeof lines, &off) == 0);
+    CHECK(vt220_feed_log_xterm(&t, &s, &x, BYTES("\x9C"), out, VT220_REPORT_LIMIT, &written, NULL, 0, &off) == 0 && off == 0);
+    CHECK(vt220_feed_log_xterm(&t, &s, &x, BYTES("\x9C"), out, VT220_REPORT_LIMIT, &written, lines, VT220_XTERM_LINES_LIMIT - 1, &off) == 0);
+    CHECK(shows(&t, "") && has_pending(&x, &(struct bytes){(uint8_t *)"\xE2\x80", 2, 2}));
+    CHECK(vt220_feed_log_xterm(&t, &s, &x, BYTES("\x9C"), out, VT220_REPORT_LIMIT, &written, lines, VT220_XTERM_LINES_LIMIT, &off) == 1 && shows(&t, "\""));
+    /* a null `written` drops the replies, and the lines are written */
+    CHECK(vt220_feed_log_xterm(&t, &s, &x, BYTES("\033[6nü\033[S"), NULL, 0, NULL, lines, sizeof lines, &off) == 9 && shows(&t, ""));
+    CHECK(off == 4 && memcmp(lines, "\"ü\n", 4) == 0);
+    vt220_close(&t), vt220_xterm_close(&x);
+}
+
 /* Another terminal with a new one of these goes on from a repaint, as if the main page were shown. */
 static void copies(void) {
     static uint8_t out[VT220_PAINT_LIMIT];
@@ -171,6 +232,57 @@ static void copies(void) {
     CHECK(vt220_reset(&p.t) == VT220_OK && shows(&p.t, "") && vt220_xterm_alternate(&p.x));
     CHECK(vt220_feed_xterm(&p.t, &p.x, BYTES("\033[?1049l"), NULL, 0, NULL) == 8 && shows(&p.t, "main"));
     closed(&p), closed(&q);
+}
+
+/* Both show the same, and so do their alternate and their main pages. */
+static void same_pages(pair *p, pair *q) {
+    static const char *const switches[] = {"", "\030\033[?47h", "\033[?47l"};
+    for (size_t i = 0; i < sizeof switches / sizeof switches[0]; i++) {
+        const uint8_t *bytes = (const uint8_t *)switches[i];
+        size_t len = strlen(switches[i]);
+        CHECK(vt220_feed_xterm(&p->t, &p->x, bytes, len, NULL, 0, NULL) == len && vt220_feed_xterm(&q->t, &q->x, bytes, len, NULL, 0, NULL) == len);
+        CHECK(vt220_same_state(&p->t, &q->t) && vt220_xterm_alternate(&p->x) == vt220_xterm_alternate(&q->x));
+    }
+}
+
+/* A terminal and what it needs, both copied inside any character and sequence and on both pages, go on as the first ones do. */
+static void go_on_alike(void) {
+    static const char input[] = "main\033[?40h\xE2\x80\x9C\033[3G\033[?1049h\033[2Jalt\xF0\x9F\x98\x80\033[5;5H\033[6n\033[?1049lé\033[24H\033[3S\xC3";
+    static const size_t len = sizeof input - 1;
+    for (size_t at = 0; at <= len; at++) {
+        pair p = opened(), q = opened();
+        struct bytes replies = {0}, others = {0}, lines = {0}, other_lines = {0};
+        const uint8_t *rest = (const uint8_t *)input + at;
+        vt220_utf8 u, v;
+        CHECK(vt220_feed_xterm(&p.t, &p.x, (const uint8_t *)input, at, NULL, 0, NULL) == at);
+        CHECK(vt220_feed_xterm(&q.t, &q.x, BYTES("other\033[?47h\033[?1048hpage\xE2"), NULL, 0, NULL) == 24);
+        CHECK(vt220_copy(&q.t, &p.t) == VT220_OK && vt220_xterm_copy(&q.x, &p.x) == VT220_OK);
+        CHECK(vt220_xterm_alternate(&p.x) == vt220_xterm_alternate(&q.x) && vt220_xterm_pending(&p.x, &u) && vt220_xterm_pending(&q.x, &v));
+        CHECK(u.len == v.len && memcmp(u.bytes, v.bytes, sizeof u.bytes) == 0 && vt220_same_state(&p.t, &q.t));
+        feed_log(&p, rest, len - at, LEN, large, &replies, &lines), feed_log(&q, rest, len - at, 1, smallest, &others, &other_lines);
+        CHECK(same_bytes(&replies, others.at, others.len) && same_bytes(&lines, other_lines.at, other_lines.len));
+        same_pages(&p, &q);
+        free(replies.at), free(others.at), free(lines.at), free(other_lines.at);
+        closed(&p), closed(&q);
+    }
+}
+
+static void copied_handles(void) {
+    pair p = opened(), q = opened();
+    vt220_xterm none = VT220_INIT;
+    CHECK(vt220_feed_xterm(&p.t, &p.x, BYTES("main\033[?47halt\xE2"), NULL, 0, NULL) == 14);
+    CHECK(vt220_xterm_copy(&none, &p.x) == VT220_CLOSED && vt220_xterm_copy(&p.x, &none) == VT220_CLOSED && vt220_xterm_copy(&none, &none) == VT220_CLOSED);
+    CHECK(!vt220_xterm_is_open(&none) && vt220_xterm_alternate(&p.x));
+    /* to itself, also by a handle that was moved */
+    vt220_xterm same = p.x;
+    CHECK(vt220_xterm_copy(&p.x, &p.x) == VT220_OK && vt220_xterm_copy(&p.x, &same) == VT220_OK);
+    CHECK(vt220_xterm_alternate(&p.x) && has_pending(&p.x, &(struct bytes){(uint8_t *)"\xE2", 1, 1}));
+    /* the first one doesn't change the second after the copy */
+    CHECK(vt220_xterm_copy(&q.x, &p.x) == VT220_OK && vt220_feed_xterm(&p.t, &p.x, BYTES("\033c"), NULL, 0, NULL) == 2);
+    CHECK(vt220_feed_xterm(&q.t, &q.x, BYTES("\033[?47l"), NULL, 0, NULL) == 6 && shows(&q.t, "main") && !vt220_xterm_alternate(&q.x));
+    closed(&p);
+    CHECK(vt220_feed_xterm(&q.t, &q.x, BYTES("\033[?47h"), NULL, 0, NULL) == 6 && shows(&q.t, "␦"));
+    closed(&q);
 }
 
 /* Each reply needs VT220_REPORT_LIMIT free bytes. */
@@ -211,17 +323,6 @@ static void fill(uint8_t *input) {
     }
 }
 
-/* Both show the same, and so do their alternate and their main pages. */
-static void same_pages(pair *p, pair *q) {
-    static const char *const switches[] = {"", "\030\033[?47h", "\033[?47l"};
-    for (size_t i = 0; i < sizeof switches / sizeof switches[0]; i++) {
-        const uint8_t *bytes = (const uint8_t *)switches[i];
-        size_t len = strlen(switches[i]);
-        CHECK(vt220_feed_xterm(&p->t, &p->x, bytes, len, NULL, 0, NULL) == len && vt220_feed_xterm(&q->t, &q->x, bytes, len, NULL, 0, NULL) == len);
-        CHECK(vt220_same_state(&p->t, &q->t) && vt220_xterm_alternate(&p->x) == vt220_xterm_alternate(&q->x));
-    }
-}
-
 /* An input of several blocks leads to the same, whole and in any chunks. */
 static void blocks(uint8_t *input) {
     static const size_t sizes[] = {1, 2, 7, 511, 513, BLOCK - 1, BLOCK, BLOCK + 1};
@@ -237,6 +338,31 @@ static void blocks(uint8_t *input) {
         free(replies.at), free(others.at);
         closed(&whole), closed(&cut);
     }
+}
+
+/* An input of several blocks scrolls off the same lines in any chunks and buffers. State and replies are those without a log. */
+static void logged_blocks(uint8_t *input) {
+    static const size_t chunks[] = {1, 7, 513, BLOCK, LEN};
+    struct bytes replies = {0}, lines = {0};
+    pair plain = opened();
+    fill(input);
+    feed(&plain, input, LEN, LEN, &replies);
+    for (size_t i = 0; i < sizeof chunks / sizeof chunks[0]; i++) {
+        for (int is_large = 0; is_large < 2; is_large++) {
+            pair logged = opened(), fresh = opened();
+            struct bytes others = {0}, found = {0};
+            feed_log(&logged, input, LEN, chunks[i], is_large ? large : smallest, &others, &found);
+            if (lines.at == NULL) append(&lines, found.at, found.len);
+            CHECK(found.len > 1000 && same_bytes(&lines, found.at, found.len));
+            CHECK(same_bytes(&replies, others.at, others.len) && vt220_bells(&plain.t) == vt220_bells(&logged.t));
+            CHECK(vt220_copy(&fresh.t, &plain.t) == VT220_OK && vt220_xterm_copy(&fresh.x, &plain.x) == VT220_OK);
+            same_pages(&fresh, &logged);
+            free(others.at), free(found.at);
+            closed(&logged), closed(&fresh);
+        }
+    }
+    free(replies.at), free(lines.at);
+    closed(&plain);
 }
 
 /* A page of the main screen is kept over an input of several blocks, with bells at the ends of blocks. */
@@ -259,9 +385,13 @@ int main(int argc, char **argv) {
     CHECK(vt220_scratch_open(&s) == VT220_OK);
     rows(argv[1]);
     handles();
+    log_handles();
     copies();
+    go_on_alike();
+    copied_handles();
     small_buffers();
     blocks(input);
+    logged_blocks(input);
     page_over_blocks(input);
     vt220_scratch_close(&s);
     free(input);

@@ -252,6 +252,15 @@ func (x *Xterm) Pending() []byte {
 	return d.Pending()
 }
 
+// CopyFrom makes what x keeps equal to what another one keeps. If the terminals are copied too, by Terminal.CopyFrom, both go on alike. It
+// returns ErrClosed if one of the two is closed.
+func (x *Xterm) CopyFrom(other *Xterm) error {
+	return result(C.vt220_xterm_copy(&x.handle, &other.handle))
+}
+
+// isOpen returns whether x is there and open.
+func (x *Xterm) isOpen() bool { return x != nil && bool(C.vt220_xterm_is_open(&x.handle)) }
+
 // Terminal is a VT220. It is closed by Close, or when nothing refers to it any more.
 type Terminal struct {
 	_       noCopy
@@ -318,7 +327,7 @@ func (t *Terminal) FeedUTF8(d *Decoder, bytes []byte) (reports []byte) {
 // FeedXterm plays all bytes of a program that has TERM=xterm or xterm-256color, and returns the reports to it. It plays nothing if x is nil
 // or closed.
 func (t *Terminal) FeedXterm(x *Xterm, bytes []byte) (reports []byte) {
-	if x == nil || !bool(C.vt220_xterm_is_open(&x.handle)) {
+	if !x.isOpen() {
 		return nil
 	}
 	return t.feed(bytes, func(at *C.uint8_t, length C.size_t, written *C.size_t) C.size_t {
@@ -354,6 +363,19 @@ func (t *Terminal) FeedLogUTF8(d *Decoder, bytes []byte, s *Scratch) (reports, l
 	pending := d.handle()
 	return t.feedLog(bytes, s, func(at *C.uint8_t, length C.size_t, written, logged *C.size_t) C.size_t {
 		return C.vt220_feed_log_utf8(&t.handle, &s.handle, pending, at, length, &t.reports[0], C.size_t(len(t.reports)), written,
+			&s.out[0], C.size_t(len(s.out)), logged)
+	})
+}
+
+// FeedLogXterm plays all bytes of a program that has TERM=xterm or xterm-256color. It returns the reports, and the lines that scroll off
+// the top of the main page. The alternate page has no such lines. It returns ErrClosed if one of the three is nil or closed, and has then
+// played nothing.
+func (t *Terminal) FeedLogXterm(x *Xterm, bytes []byte, s *Scratch) (reports, lines []byte, err error) {
+	if !x.isOpen() {
+		return nil, nil, ErrClosed
+	}
+	return t.feedLog(bytes, s, func(at *C.uint8_t, length C.size_t, written, logged *C.size_t) C.size_t {
+		return C.vt220_feed_log_xterm(&t.handle, &s.handle, &x.handle, at, length, &t.reports[0], C.size_t(len(t.reports)), written,
 			&s.out[0], C.size_t(len(s.out)), logged)
 	})
 }

@@ -8,7 +8,7 @@ import (
 )
 
 // xtermRow is what a row of tests-c/xterm.txt has.
-type xtermRow struct{ text, cursor, alternate, brush, bells, pending, reports string }
+type xtermRow struct{ text, lines, cursor, alternate, brush, bells, pending, reports string }
 
 func xtermRowOf(t *testing.T, fields []string) (wanted xtermRow) {
 	wanted = xtermRow{cursor: "1;1", alternate: "0", bells: "0"}
@@ -18,6 +18,8 @@ func xtermRowOf(t *testing.T, fields []string) (wanted xtermRow) {
 		switch name {
 		case "text":
 			wanted.text = strings.ReplaceAll(value, `\n`, "\n")
+		case "lines":
+			wanted.lines = strings.ReplaceAll(value, `\n`, "\n")
 		case "cursor":
 			wanted.cursor = value
 		case "alternate":
@@ -45,15 +47,26 @@ func xterm(t *testing.T) *Xterm {
 	return x
 }
 
+// fedXterm returns what chunks of a size lead to, with the log and without one. Another terminal is copied from it after each chunk.
 func fedXterm(t *testing.T, s *Scratch, input []byte, size int) (found xtermRow) {
-	terminal, x := open(t, ""), xterm(t)
+	terminal, x, other, copied := open(t, ""), xterm(t), open(t, ""), xterm(t)
 	defer x.Close()
+	defer copied.Close()
 	for len(input) > 0 {
 		piece := input
 		if len(piece) > size {
 			piece = piece[:size]
 		}
-		found.reports += string(terminal.FeedXterm(x, piece))
+		reports, lines, err := terminal.FeedLogXterm(x, piece, s)
+		if err != nil || string(other.FeedXterm(copied, piece)) != string(reports) || !other.SameState(terminal) || copied.Alternate() != x.Alternate() {
+			t.Errorf("% X: the log differs: %v", piece, err)
+		}
+		other.Reset()
+		if other.CopyFrom(terminal) != nil || copied.CopyFrom(x) != nil {
+			t.Error("a copy")
+		}
+		found.reports += string(reports)
+		found.lines += string(lines)
 		input = input[len(piece):]
 	}
 	text, err := terminal.Text(s)
@@ -114,11 +127,23 @@ func TestXtermClosed(t *testing.T) {
 	if terminal.FeedXterm(x, []byte("c\x1b[6n")) != nil || x.Alternate() || len(x.Pending()) != 0 {
 		t.Error("closed")
 	}
+	for _, none := range []*Xterm{nil, x} {
+		if _, _, err := terminal.FeedLogXterm(none, []byte("x"), s); err != ErrClosed {
+			t.Error("a closed one has a log", err)
+		}
+	}
+	if other := xterm(t); x.CopyFrom(other) != ErrClosed || other.CopyFrom(x) != ErrClosed {
+		t.Error("copies of a closed one")
+	}
+	if _, _, err := terminal.FeedLogXterm(xterm(t), []byte("x"), nil); err != ErrClosed {
+		t.Error("a log without a scratch buffer", err)
+	}
 	if text, err := terminal.Text(s); err != nil || strings.TrimRight(text, "\n") != "" {
 		t.Errorf("%q %v", text, err)
 	}
 	terminal.Close()
-	if open := xterm(t); terminal.FeedXterm(open, []byte("x")) != nil {
-		t.Error("a closed terminal")
+	open := xterm(t)
+	if _, _, err := terminal.FeedLogXterm(open, []byte("x"), s); err != ErrClosed || terminal.FeedXterm(open, []byte("x")) != nil {
+		t.Error("a closed terminal", err)
 	}
 }

@@ -163,25 +163,44 @@ def utf8():
     check(len(rows) >= 30, "utf8", f"{len(rows)} rows")
 
 
-def fed_xterm(data, size):
+def fed_xterm(data, size, feed):
     """Returns what a new terminal of TERM=xterm that is fed chunks of a size has and returned, by the names of tests-c/xterm.txt."""
     with vt220.Terminal(terminal="xterm") as terminal:
-        reports = b"".join(terminal.feed(data[at : at + size]) for at in range(0, len(data), size))
+        told = [feed(terminal, data[at : at + size]) for at in range(0, len(data), size)]
         cursor, brush = terminal.cursor(), terminal.brush()
         return {"text": terminal.text().rstrip("\n"), "cursor": f"{cursor.row};{cursor.col}", "alternate": str(int(terminal.alternate())),
                 "brush": " ".join(name for name in ("bold", "underline", "blink", "reverse") if getattr(brush, name)), "bells": str(terminal.bells()),
-                "pending": terminal.pending(), "reports": reports}
+                "pending": terminal.pending(), "reports": b"".join(reports for reports, _ in told), "lines": "".join(lines for _, lines in told)}
+
+
+def both_pages(terminal):
+    """Returns the text of the page that is shown and of the other one, which it leaves shown."""
+    shown = terminal.text()
+    terminal.feed(b"\030\033[?47l" if terminal.alternate() else b"\030\033[?47h")
+    return shown, terminal.text()
+
+
+def copied_xterm(data, at):
+    """Returns whether a copy after so many bytes leads to the same end, on both pages, and scrolls off the same lines."""
+    with vt220.Terminal(terminal="xterm") as first:
+        first.feed(data[:at])
+        with first.copy() as second:
+            same = second.pending() == first.pending() and second.alternate() == first.alternate()
+            return same and first.feed_log(data[at:]) == second.feed_log(data[at:]) and both_pages(first) == both_pages(second)
 
 
 def xterm():
-    """Each row of tests-c/xterm.txt, whole and byte by byte."""
+    """Each row of tests-c/xterm.txt, whole and byte by byte, and from a copy at each byte."""
     rows = [line.split("\t") for line in XTERM.read_text(encoding="utf-8").splitlines() if not line.startswith("#")]
-    at_power_up = {"text": "", "cursor": "1;1", "alternate": "0", "brush": "", "bells": "0", "pending": "", "reports": ""}
+    at_power_up = {"text": "", "cursor": "1;1", "alternate": "0", "brush": "", "bells": "0", "pending": "", "reports": "", "lines": ""}
     for name, data, *fields in rows:
         data, wanted = bytes.fromhex(data), at_power_up | dict(field.split("=", 1) for field in fields)
         wanted = {of: bytes.fromhex(value) if of in ("pending", "reports") else value.replace("\\n", "\n") for of, value in wanted.items()}
         for size in (len(data), 1):
-            check(fed_xterm(data, size) == wanted, "xterm", f"{name}: chunks of {size}")
+            check(fed_xterm(data, size, vt220.Terminal.feed_log) == wanted, "xterm", f"{name}: chunks of {size}")
+            found = fed_xterm(data, size, lambda terminal, piece: (terminal.feed(piece), ""))
+            check(found == {**wanted, "lines": ""}, "xterm", f"{name}: chunks of {size} without the log")
+        check(all(copied_xterm(data, at) for at in range(len(data))), "xterm", f"{name}: copies")
     check(len(rows) >= 40, "xterm", f"{len(rows)} rows")
 
 
@@ -190,8 +209,11 @@ def terminals():
         check((terminal.terminal, terminal.encoding, other.terminal) == ("xterm", "utf-8", "vt220"), "terminals", "names")
         check(terminal.feed_until_report(b"main\033[?1049h\033[6n\xe2") == (16, b"\033[1;5R") and terminal.alternate(), "terminals", "a report")
         check(not other.alternate() and other.feed(b"\033[?1049h") == b"" and not other.alternate(), "terminals", "a VT220 has one page")
-        check(raises(ValueError, terminal.copy) and raises(ValueError, terminal.copy_from, other), "terminals", "no copies")
-        check(raises(ValueError, terminal.feed_log, b"x"), "terminals", "no log")
+        check(raises(ValueError, terminal.copy_from, other) and terminal.alternate(), "terminals", "no copy of a VT220")
+        terminal.feed(b"\xe2\x80")
+        copied = terminal.copy()
+        check((copied.terminal, copied.alternate(), copied.pending()) == ("xterm", True, b"\xe2\x80"), "terminals", "a copy")
+        check(copied.feed_log(b"\x9c\033[?1049l\033[S") == (b"", "main\n") and terminal.alternate(), "terminals", "the copy's log")
         other.copy_from(terminal)
         check(other.same_state(terminal) and terminal.feed(b"\033[?1049l\xe2") == b"" and terminal.text() == "main\n" + "\n" * 23, "terminals", "the main page")
         terminal.feed(b"\033[?1049h\033]0;title\xe2")

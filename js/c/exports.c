@@ -187,6 +187,41 @@ EXPORT(shown) uint32_t js_shown(uint32_t character) {
     return glyph;
 }
 
+/* --- TERM=xterm --- */
+
+_Static_assert(LINES >= VT220_XTERM_LINES_LIMIT, "a call takes at least one byte");
+
+/* Opens what a terminal needs under TERM=xterm. Returns its address, or 0 if the allocation failed. */
+EXPORT(xterm_open) uint32_t js_xterm_open(void) {
+    tried got = rattle_alloc(sizeof(vt220_xterm), _Alignof(vt220_xterm));
+    if (!got.ok) return 0;
+    vt220_xterm *x = got.p;
+    *x = (vt220_xterm)VT220_INIT;
+    if (vt220_xterm_open(x) == VT220_OK) return address(x);
+    rattle_dealloc(x);
+    return 0;
+}
+
+EXPORT(xterm_close) void js_xterm_close(uint32_t x) {
+    vt220_xterm_close(AT(vt220_xterm, x));
+    rattle_dealloc(AT(vt220_xterm, x));
+}
+
+EXPORT(xterm_copy) uint32_t js_xterm_copy(uint32_t to, uint32_t from) { return vt220_xterm_copy(AT(vt220_xterm, to), AT(vt220_xterm, from)); }
+EXPORT(xterm_alternate) uint32_t js_xterm_alternate(uint32_t x) { return vt220_xterm_alternate(AT(vt220_xterm, x)); }
+
+/* Writes the pending part to what `utf8` returns. */
+EXPORT(xterm_pending) void js_xterm_pending(uint32_t x) { vt220_xterm_pending(AT(vt220_xterm, x), &utf8); }
+
+EXPORT(feed_xterm) uint32_t js_feed_xterm(uint32_t t, uint32_t x, uint32_t from, uint32_t to) {
+    return (uint32_t)vt220_feed_xterm(AT(vt220, t), AT(vt220_xterm, x), input + from, to - from, reports, REPORTS, &written);
+}
+
+EXPORT(feed_log_xterm) uint32_t js_feed_log_xterm(uint32_t t, uint32_t x, uint32_t from, uint32_t to) {
+    return (uint32_t)vt220_feed_log_xterm(AT(vt220, t), &scratch, AT(vt220_xterm, x), input + from, to - from, reports, REPORTS, &written,
+                                          lines, LINES, &lines_written);
+}
+
 /* --- for tests --- */
 
 /* Allocates, moves and frees a block, which the library does with no size but its own. Returns whether the heap did as it should. */

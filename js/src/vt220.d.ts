@@ -31,6 +31,8 @@ export interface Core {
 
 /** The encoding of what a host sends: the VT220's own bytes, or UTF-8. */
 export type Encoding = "dec" | "utf-8";
+/** The terminal that a host writes for: a VT220, or what programs send under TERM=xterm or xterm-256color. */
+export type TerminalName = "vt220" | "xterm";
 
 /**
  * Loads the core. The source is the bytes of vt220.wasm, its module, or a response with it, or a promise of one of these. Without one,
@@ -119,16 +121,22 @@ export type Held = "nothing" | "escape" | "control" | "string";
  * more. A closed terminal throws CLOSED, except from close() and isOpen. On an error nothing has changed.
  */
 export declare class Terminal {
-  /** Without an encoding the host sends the VT220's own bytes. */
-  constructor(core: Core, options?: { encoding?: Encoding });
+  /** Without an encoding the host sends the VT220's own bytes. With the terminal "xterm" it always sends UTF-8. */
+  constructor(core: Core, options?: { encoding?: Encoding; terminal?: TerminalName });
   readonly encoding: Encoding;
+  readonly terminal: TerminalName;
+  /** Whether the alternate page is shown. A VT220 has none. The page that isn't shown is no part of a state, a repaint or an update. */
+  readonly alternate: boolean;
   /** Frees the terminal's memory. Does nothing if it is closed. */
   close(): void;
   readonly isOpen: boolean;
 
   /** Processes input from the host, in chunks of any size. Returns the replies to it. */
   feed(bytes: Uint8Array): Uint8Array;
-  /** Does the same, and also returns the lines that scroll off the top of the screen, each as rowText returns it. */
+  /**
+   * Does the same, and also returns the lines that scroll off the top of the screen, each as rowText returns it. The alternate page has no
+   * such lines.
+   */
   feedLog(bytes: Uint8Array): { replies: Uint8Array; lines: string[] };
   /**
    * The bytes at the end of the input that begin a character of UTF-8, at most three. Nothing shows them yet. They aren't part of the
@@ -137,7 +145,10 @@ export declare class Terminal {
   readonly pending: Uint8Array;
   /** Resets the terminal to its power-up state, as RIS does, also inside a sequence. Nothing is pending then. */
   reset(): void;
-  /** Brings this terminal into the state of `from`, also inside a sequence. If its encoding is UTF-8, `pending` is copied, too. */
+  /**
+   * Brings this terminal into the state of `from`, also inside a sequence. If its encoding is UTF-8, `pending` is copied, too. A terminal of
+   * TERM=xterm also gets both pages. Throws TypeError if it is one and `from` isn't.
+   */
   copyFrom(from: Terminal): void;
 
   /** Returns the screen as 24 lines, each without the spaces at its end, and LF. */

@@ -16,7 +16,9 @@ const SAVED = ["row", "column", "wrap", "origin", ...BRUSH, "g0", "g1", "g2", "g
 const FLAGS = new Set(["wrap", "origin", ...BRUSH, ...MODES]);
 const SET_NAMES = new Set(["g0", "g1", "g2", "g3"]);
 const ENCODINGS = ["dec", "utf-8"];
+const TERMINALS = ["vt220", "xterm"];
 const PENDING = 4; // bytes: three of a character of UTF-8, and how many of them are pending
+const RIS = Uint8Array.of(0x1b, 0x63); // resets both pages
 const CELL = 12; // bytes: the number of the glyph, five attributes and three reserved bytes
 
 export class Vt220Error extends Error {
@@ -56,10 +58,10 @@ function guarded(exports) {
   const calls = {};
   for (const [name, call] of Object.entries(exports)) {
     if (typeof call !== "function") continue;
-    calls[name] = (a, b, c) => {
+    calls[name] = (a, b, c, d) => {
       if (isInside) throw new Vt220Error("BROKEN", "an earlier call ended in a fault of WebAssembly; load the module again");
       isInside = true;
-      const result = call(a, b, c);
+      const result = call(a, b, c, d);
       isInside = false;
       return result;
     };
@@ -98,7 +100,7 @@ class Core {
     this.expect(this.calls.start());
     this.version = this.calls.version();
     this.inputSize = this.calls.input_size();
-    this.#left = new FinalizationRegistry((at) => this.calls.close(at));
+    this.#left = new FinalizationRegistry(([close, at]) => this.calls[close](at));
   }
 
   /** The memory, which has a new buffer after it has grown. */
@@ -138,16 +140,18 @@ class Core {
     return new Uint32Array(this.#memory.buffer, this.calls[buffer](), count);
   }
 
-  open(terminal) {
-    const at = this.calls.open();
+  /** Opens a handle of a terminal by a call of the module, and returns its address. A terminal that is left is closed by the other call. */
+  open(terminal, open, close) {
+    const at = this.calls[open]();
     if (at === 0) this.expect(MEMORY);
-    this.#left.register(terminal, at, terminal);
+    this.#left.register(terminal, [close, at], terminal);
     return at;
   }
 
-  close(terminal, at) {
+  close(terminal, at, xterm) {
     this.#left.unregister(terminal);
     this.calls.close(at);
+    if (xterm !== 0) this.calls.xterm_close(xterm);
   }
 
   key(key, modes) {
@@ -174,23 +178,30 @@ class Core {
 export class Terminal {
   #core;
   #at;
+  #xterm = 0; // the address of what TERM=xterm needs, or 0
   #isUtf8;
   #pending = new Uint8Array(PENDING);
 
-  constructor(core, { encoding = "dec" } = {}) {
+  constructor(core, { encoding = "dec", terminal = "vt220" } = {}) {
     if (!(core instanceof Core)) throw new TypeError("a terminal needs the core that load() returns");
     if (!ENCODINGS.includes(encoding)) throw new TypeError(`an encoding is one of ${ENCODINGS.join(", ")}`);
+    if (!TERMINALS.includes(terminal)) throw new TypeError(`a terminal is one of ${TERMINALS.join(", ")}`);
     this.#core = core;
-    this.#isUtf8 = encoding === "utf-8";
-    this.#at = core.open(this);
+    this.#isUtf8 = encoding === "utf-8" || terminal === "xterm";
+    this.#at = core.open(this, "open", "close");
+    if (terminal === "xterm") this.#xterm = core.open(this, "xterm_open", "xterm_close");
   }
 
   get encoding() {
     return ENCODINGS[Number(this.#isUtf8)];
   }
 
+  get terminal() {
+    return TERMINALS[Number(this.#xterm !== 0)];
+  }
+
   close() {
-    if (this.#at !== 0) this.#core.close(this, this.#at);
+    if (this.#at !== 0) this.#core.close(this, this.#at, this.#xterm);
     this.#at = 0;
   }
 
@@ -210,19 +221,28 @@ export class Terminal {
     return terminal.#handle;
   }
 
+  /** Returns the call of the module that plays bytes of its input for this terminal, from one place to another. */
+  #playing(name) {
+    const { calls } = this.#core, handle = this.#handle, xterm = this.#xterm;
+    if (xterm !== 0) return (from, to) => calls[`${name}_xterm`](handle, xterm, from, to);
+    const call = calls[this.#isUtf8 ? `${name}_utf8` : name];
+    return (from, to) => call(handle, from, to);
+  }
+
   /** Feeds bytes by a call of the module, and passes the replies and the lines of each to `take`. */
   #feed(name, bytes, take) {
     if (!(bytes instanceof Uint8Array)) throw new TypeError("a terminal is fed a Uint8Array");
-    const core = this.#core, handle = this.#handle, call = this.#isUtf8 ? `${name}_utf8` : name;
+    const core = this.#core, play = this.#playing(name);
     if (this.#isUtf8) core.bytes.set(this.#pending, core.calls.utf8());
     for (let at = 0; at < bytes.length; ) {
       const size = core.input(bytes.subarray(at));
       for (let fed = 0; fed < size; ) {
-        fed += core.calls[call](handle, fed, size);
+        fed += play(fed, size);
         take(core.calls.written());
       }
       at += size;
     }
+    if (this.#xterm !== 0) core.calls.xterm_pending(this.#xterm);
     if (this.#isUtf8) this.#pending = core.copied("utf8", PENDING);
   }
 
@@ -279,13 +299,21 @@ export class Terminal {
   }
 
   copyFrom(from) {
-    this.#core.expect(this.#core.calls.copy(this.#handle, this.#other(from)));
+    const { calls } = this.#core, other = this.#other(from);
+    if (this.#xterm !== 0 && from.#xterm === 0) throw new TypeError("a terminal of TERM=xterm is copied from another one of these");
+    this.#core.expect(calls.copy(this.#handle, other));
+    if (this.#xterm !== 0) this.#core.expect(calls.xterm_copy(this.#xterm, from.#xterm));
     if (this.#isUtf8) this.#pending = from.#pending.slice();
   }
 
   reset() {
+    if (this.#xterm !== 0) this.feed(RIS);
     this.#core.expect(this.#core.calls.reset(this.#handle));
     this.#pending.fill(0);
+  }
+
+  get alternate() {
+    return this.#handle && this.#xterm !== 0 && this.#core.calls.xterm_alternate(this.#xterm) !== 0;
   }
 
   get pending() {

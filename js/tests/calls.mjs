@@ -17,7 +17,7 @@ const OPEN = [
   ["feed", [bytes("x")]], ["feedLog", [bytes("x")]], ["reset", []], ["text", []], ["rowText", [1]], ["show", []], ["picture", []], ["repaint", []],
   ["cells", [1]], ["copyFrom", ["other"]], ["update", ["other"]], ["sameState", ["other"]], ["changedRows", ["other"]], ["rowChanges", ["other", 1]],
 ];
-const PROPERTIES = ["cursor", "margins", "modes", "brush", "sets", "saved", "stops", "width", "bells", "isBetween", "held"];
+const PROPERTIES = ["cursor", "margins", "modes", "brush", "sets", "saved", "stops", "width", "bells", "isBetween", "held", "pending", "alternate"];
 
 function values({ Terminal }, core, check) {
   const t = new Terminal(core);
@@ -115,18 +115,27 @@ async function modules({ load, Terminal }, wasm, check) {
   check("a load of other bytes", isRefused);
 }
 
-/** Tests many terminals, which are closed and made again in the same memory. */
-function memory({ Terminal }, core, check) {
-  const round = () => {
-    const made = Array.from({ length: 200 }, () => new Terminal(core));
+/** Tests many terminals and checkpoints, which are closed and made again in the same memory. */
+function memory({ Terminal, Timeline }, core, check) {
+  const round = (options) => {
+    const made = Array.from({ length: 200 }, () => new Terminal(core, options));
     made.forEach((terminal, i) => terminal.feed(bytes(`terminal ${i}`)));
     const isRight = made.every((terminal, i) => terminal.rowText(1) === `terminal ${i}`);
     made.forEach((terminal) => terminal.close());
     return isRight;
   };
-  check("200 terminals", round());
-  const size = core.bytes.length;
-  check("200 terminals again", round() && core.bytes.length === size);
+  const recording = { bytes: bytes("x".repeat(20000)), times: [1], ends: [20000] };
+  const checkpoints = () => {
+    const line = new Timeline(core, recording, { every: 200, terminal: "xterm" });
+    const count = line.seekTime(1).isOpen && line.checkpoints;
+    line.close();
+    return count === 101;
+  };
+  for (const [what, call] of [["200 terminals", () => round()], ["200 of TERM=xterm", () => round({ terminal: "xterm" })], ["100 checkpoints", checkpoints]]) {
+    check(what, call());
+    const size = core.bytes.length;
+    check(`${what} again`, call() && core.bytes.length === size);
+  }
 }
 
 /** Tests that a fault of WebAssembly ends the use of a core, and leaves others alone. */

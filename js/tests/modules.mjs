@@ -1,4 +1,4 @@
-// Tests the package in node: the vectors, inputs beside the library for C, each call, the Timeline, and UTF-8.
+// Tests the package in node: the vectors, inputs beside the library for C, each call, the Timeline, UTF-8 and TERM=xterm.
 //   node tests/modules.mjs PACKAGE VECTORS HASHES [first]      the last line is 'N passed, M failed'; with `first` it ends at the first failure
 import { readFile } from "node:fs/promises";
 import { pathToFileURL } from "node:url";
@@ -6,8 +6,8 @@ import { Worker } from "node:worker_threads";
 import { calls } from "./calls.mjs";
 import { hashes } from "./hashes.mjs";
 import { keys } from "./keys.mjs";
+import { tables } from "./tables.mjs";
 import { timelines } from "./timelines.mjs";
-import { utf8 } from "./utf8.mjs";
 import { vectors } from "./vectors.mjs";
 
 const [place, vectorFile, hashFile, first] = process.argv.slice(2);
@@ -36,7 +36,8 @@ all.forEach(([input, theirs], i) => check(`beside the library, ${input.slice(0, 
 keys(core, await readFile(new URL("../../tests-c/keys.txt", import.meta.url), "utf8"), check);
 await calls(vt220, wasm, check);
 timelines(vt220, core, check);
-utf8(vt220, core, await readFile(new URL("../../tests-c/utf8.txt", import.meta.url), "utf8"), check);
+const table = (name) => readFile(new URL(`../../tests-c/${name}.txt`, import.meta.url), "utf8");
+tables(vt220, core, { utf8: await table("utf8"), xterm: await table("xterm") }, check);
 
 const script = `import { load, Terminal } from ${JSON.stringify(pathToFileURL(`${place}/src/vt220.js`).href)};
 import { parentPort } from "node:worker_threads";

@@ -1,19 +1,20 @@
 // Uses each type of the package; tsc --strict has to accept it, and to refuse the lines after @ts-expect-error.
 import { COLUMNS, load, ROWS, Terminal, Vt220Error } from "vt220";
-import type { Attributes, Cell, Code, Core, Cursor, Encoding, Held, Margins, Modes, Saved, Sets } from "vt220";
+import type { Attributes, Cell, Code, Core, Cursor, Encoding, Held, Margins, Modes, Saved, Sets, TerminalName } from "vt220";
 import { Timeline } from "vt220/timeline";
 import type { Recording, Span } from "vt220/timeline";
 
 export async function use(bytes: Uint8Array): Promise<string> {
   const core: Core = await load(), from: Core = await load(bytes), rows: 24 = ROWS, columns: 132 = COLUMNS;
   const terminal = new Terminal(core), other = new Terminal(from, { encoding: "utf-8" });
+  const xterm = new Terminal(core, { terminal: "xterm" }), name: TerminalName = xterm.terminal, isAlternate: boolean = xterm.alternate;
   const encoding: Encoding = other.encoding, pending: Uint8Array = other.pending, shown: string = core.shown("x");
   const replies: Uint8Array = terminal.feed(bytes), { lines }: { lines: string[] } = terminal.feedLog(bytes);
   const cells: Cell[] = terminal.cells(1), cursor: Cursor = terminal.cursor, margins: Margins = terminal.margins, modes: Modes = terminal.modes;
   const brush: Attributes = terminal.brush, sets: Sets = terminal.sets, saved: Saved = terminal.saved, held: Held = terminal.held;
   const parts: [Uint8Array, Uint8Array, boolean, number[], boolean[]] = [terminal.repaint(), terminal.update(other), terminal.sameState(other), terminal.changedRows(other), terminal.rowChanges(other, 1)];
   const recording: Recording = { bytes, times: [0], ends: Float64Array.of(bytes.length) };
-  const line = new Timeline(core, recording, { every: 100, encoding }), spans: Span[] = line.search("x", { matchCase: true, limit: 3 });
+  const line = new Timeline(core, recording, { every: 100, encoding, terminal: name }), spans: Span[] = line.search("x", { matchCase: true, limit: 3 });
   try {
     terminal[Symbol.dispose]();
   } catch (error) {
@@ -27,5 +28,7 @@ export async function use(bytes: Uint8Array): Promise<string> {
   new Terminal();
   // @ts-expect-error: no such encoding
   new Terminal(core, { encoding: "latin-1" });
-  return [rows, columns, replies, lines, cells, cursor, margins, modes, brush, sets, saved, held, parts, pending, shown, spans, core.key("Up", modes), core.keyLength(bytes), line.seek(1).text()].join();
+  // @ts-expect-error: no such terminal
+  new Terminal(core, { terminal: "vt100" });
+  return [rows, columns, replies, lines, cells, cursor, margins, modes, brush, sets, saved, held, parts, pending, shown, spans, isAlternate, core.key("Up", modes), core.keyLength(bytes), line.seek(1).text()].join();
 }

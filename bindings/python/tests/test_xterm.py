@@ -8,6 +8,7 @@ import pytest
 import vt220
 from vt220 import rig as rig_module
 from vt220.keyboard import Key, spelled
+from vt220.page import template
 from vt220.rig import END, HOME, Failure, Reports
 
 # A limit that only says that something hangs.
@@ -67,7 +68,9 @@ def test_a_failure_names_the_terminal(tmp_path):
         with pytest.raises(Failure) as failure:
             rig.ended()
     words = str(failure.value)
-    assert "page:" not in words and (tmp_path / "failed.svg").exists()
+    assert (tmp_path / "failed.svg").exists() and ("page:" in words) == (template() is not None)
+    if template() is not None:
+        assert '"terminal": "xterm"' in (tmp_path / "failed.html").read_text(encoding="utf-8")
     command = re.search(r"play it:   python3 -m vt220 (--terminal xterm .*)   \(or: vt220 show (.*)\)$", words, re.M)
     assert command[1] == command[2]
     played = subprocess.run([sys.executable, "-m", "vt220", *command[1].split()], capture_output=True, text=True, check=True)

@@ -285,7 +285,9 @@ def _declare(library: ctypes.PyDLL) -> None:
         ("xterm_close", None, [handle]),
         ("xterm_alternate", boolean, [handle]),
         ("xterm_pending", boolean, [handle, pending]),
+        ("xterm_copy", status, [handle, handle]),
         ("feed_xterm", size, [handle, handle, buffer, size, buffer, size, told]),
+        ("feed_log_xterm", size, [handle, handle, handle, buffer, size, buffer, size, told, buffer, size, told]),
         ("shown", ctypes.c_uint32, [ctypes.c_uint32, told]),
         ("text", status, [handle, handle, buffer, size, told]),
         ("row_text", status, [handle, handle, size, buffer, size, told]),
@@ -477,8 +479,7 @@ class Terminal:
     """Opens a terminal in its power-up state. Its host sends the VT220's own bytes ("dec"), or UTF-8 ("utf-8").
 
     With terminal="xterm" its host sends what programs send under TERM=xterm-256color. This is always UTF-8. alternate() returns whether
-    the alternate page is shown. The page that isn't shown is no part of a copy, a repaint or an update, so copies of such a terminal
-    raise ValueError, and so does feed_log().
+    the alternate page is shown. A copy has both pages. The page that isn't shown is no part of a repaint or an update.
 
     It is closed by close(), by the end of a with statement, or when nothing refers to it any more. Raises Memory if an allocation
     fails. Each call of a closed terminal except close() raises Closed.
@@ -537,9 +538,7 @@ class Terminal:
     def _playing(self, name: str, *handles: _Handle) -> Callable[..., int]:
         """Returns the library's call that plays bytes in this encoding, with the handles and the pending part that it takes."""
         if self._xterm is not None:
-            if len(handles) > 1:
-                raise ValueError("a terminal of TERM=xterm has no log")
-            return functools.partial(_library.vt220_feed_xterm, *handles, self._xterm.handle)
+            return functools.partial(getattr(_library, f"{name}_xterm"), *handles, self._xterm.handle)
         if self._utf8 is None:
             return functools.partial(getattr(_library, name), *handles)
         return functools.partial(getattr(_library, f"{name}_utf8"), *handles, self._utf8)
@@ -561,7 +560,7 @@ class Terminal:
     def feed_log(self, data: Bytes) -> Tuple[bytes, str]:
         """Plays all bytes of the host. Returns the reports to it, and the lines that scroll off the top of the screen.
 
-        Each line is as row_text() returns it. Raises TypeError if `data` isn't bytes-like.
+        Each line is as row_text() returns it. The alternate page has no such lines. Raises TypeError if `data` isn't bytes-like.
         """
         work = _work
         play, data = self._playing("vt220_feed_log", self._opened(), work.scratch.handle), _whole(data)
@@ -642,11 +641,16 @@ class Terminal:
         return [place + 1 for place, changed in enumerate(marks.changed) if changed]
 
     def copy_from(self, other: "Terminal") -> None:
-        """Brings this terminal into the state of another one, also if the other is inside a sequence. In UTF-8 pending() is copied, too."""
-        if self._xterm is not None:
-            raise ValueError("a terminal of TERM=xterm isn't copied: the page that isn't shown would be missing")
+        """Brings this terminal into the state of another one, also if the other is inside a sequence. In UTF-8 pending() is copied, too.
+
+        A terminal of TERM=xterm also gets both pages. Raises ValueError if it is one and the other isn't.
+        """
+        if self._xterm is not None and other._xterm is None:
+            raise ValueError("a terminal of TERM=xterm isn't copied from a VT220, which has one page")
         _expect(_library.vt220_copy(self._opened(), other._opened()))
-        if self._utf8 is not None:
+        if self._xterm is not None and other._xterm is not None:
+            _expect(_library.vt220_xterm_copy(self._xterm.handle, other._xterm.handle))
+        elif self._utf8 is not None:
             other.pending()
             self._utf8 = _Utf8.from_buffer_copy(other._utf8 or _Utf8())
 

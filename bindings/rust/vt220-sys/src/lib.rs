@@ -25,6 +25,7 @@ pub const VT220_ROWS: usize = 24;
 pub const VT220_COLUMNS: usize = 132;
 pub const VT220_REPORT_LIMIT: usize = 10;
 pub const VT220_UTF8_LINES_LIMIT: usize = 17468;
+pub const VT220_XTERM_LINES_LIMIT: usize = 19056;
 pub const VT220_TEXT_LIMIT: usize = 9528;
 pub const VT220_ROW_TEXT_LIMIT: usize = 397;
 pub const VT220_SHOW_LIMIT: usize = 51000;
@@ -235,6 +236,7 @@ extern "C" {
     pub fn vt220_xterm_is_open(x: *const vt220_xterm) -> bool;
     pub fn vt220_xterm_alternate(x: *const vt220_xterm) -> bool;
     pub fn vt220_xterm_pending(x: *const vt220_xterm, u: *mut vt220_utf8) -> bool;
+    pub fn vt220_xterm_copy(to: *mut vt220_xterm, from: *const vt220_xterm) -> u32;
     pub fn vt220_feed_xterm(
         t: *mut vt220,
         x: *mut vt220_xterm,
@@ -243,6 +245,19 @@ extern "C" {
         reports: *mut u8,
         size: usize,
         written: *mut usize,
+    ) -> usize;
+    pub fn vt220_feed_log_xterm(
+        t: *mut vt220,
+        s: *mut vt220_scratch,
+        x: *mut vt220_xterm,
+        bytes: *const u8,
+        len: usize,
+        reports: *mut u8,
+        size: usize,
+        written: *mut usize,
+        lines: *mut u8,
+        lines_size: usize,
+        lines_written: *mut usize,
     ) -> usize;
     pub fn vt220_shown(character: u32, cells: *mut usize) -> u32;
     pub fn vt220_bells(t: *const vt220) -> u64;

@@ -17,6 +17,7 @@ pub use vt220_sys::{
     VT220_REPORT_LIMIT as REPORT_LIMIT, VT220_ROWS as ROWS, VT220_ROW_TEXT_LIMIT as ROW_TEXT_LIMIT,
     VT220_SHOW_LIMIT as SHOW_LIMIT, VT220_TEXT_LIMIT as TEXT_LIMIT, VT220_UPDATE_LIMIT as UPDATE_LIMIT,
     VT220_TYPED_LIMIT as TYPED_LIMIT, VT220_UTF8_LINES_LIMIT as UTF8_LINES_LIMIT, VT220_VERSION as VERSION,
+    VT220_XTERM_LINES_LIMIT as XTERM_LINES_LIMIT,
 };
 
 /// Holds the cursor, and whether the next character begins a new line.
@@ -275,6 +276,13 @@ impl Xterm {
         unsafe { sys::vt220_xterm_pending(&self.0, &mut decoder.0) };
         decoder
     }
+
+    /// Makes what this one keeps equal to what another one keeps. If the terminals are copied too, by `Terminal::copy_from`, both go on
+    /// alike.
+    pub fn copy_from(&mut self, other: &Xterm) {
+        // SAFETY: both handles are open.
+        unsafe { sys::vt220_xterm_copy(&mut self.0, &other.0) };
+    }
 }
 
 impl Drop for Xterm {
@@ -440,6 +448,15 @@ impl Terminal {
         let (t, u) = (&mut self.0, &mut decoder.0);
         replies_and_lines(bytes, scratch, |s, rest, (out, size, written), (log, logged)| unsafe {
             sys::vt220_feed_log_utf8(t, s, u, rest.as_ptr(), rest.len(), out, size, written, log, PICTURE_LIMIT, logged)
+        })
+    }
+
+    /// Processes all bytes of a program that has TERM=xterm or xterm-256color. Returns the replies to it, and the lines that scroll off
+    /// the top of the main page. The alternate page has no such lines.
+    pub fn feed_log_xterm(&mut self, xterm: &mut Xterm, bytes: &[u8], scratch: &mut Scratch) -> (Vec<u8>, String) {
+        let (t, x) = (&mut self.0, &mut xterm.0);
+        replies_and_lines(bytes, scratch, |s, rest, (out, size, written), (log, logged)| unsafe {
+            sys::vt220_feed_log_xterm(t, s, x, rest.as_ptr(), rest.len(), out, size, written, log, PICTURE_LIMIT, logged)
         })
     }
 

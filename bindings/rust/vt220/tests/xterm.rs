@@ -6,10 +6,11 @@ fn bytes_of(hex: &str) -> Vec<u8> {
     hex.split_whitespace().map(|byte| u8::from_str_radix(byte, 16).unwrap()).collect()
 }
 
-/// What a row has: the screen, the cursor, the page, the attributes, the bells, the pending bytes and the reports.
+/// What a row has: the screen, the lines that scroll off, the cursor, the page, the attributes, the bells, the pending bytes and the reports.
 #[derive(Debug, PartialEq)]
 struct Row {
     text: String,
+    lines: String,
     cursor: String,
     alternate: bool,
     brush: String,
@@ -20,10 +21,11 @@ struct Row {
 
 fn row_of(fields: &[&str]) -> Row {
     let none = String::new;
-    let mut row = Row { text: none(), cursor: "1;1".to_string(), alternate: false, brush: none(), bells: 0, pending: vec![], reports: vec![] };
+    let mut row = Row { text: none(), lines: none(), cursor: "1;1".to_string(), alternate: false, brush: none(), bells: 0, pending: vec![], reports: vec![] };
     for field in fields {
         match field.split_once('=').unwrap() {
             ("text", text) => row.text = text.replace("\\n", "\n"),
+            ("lines", lines) => row.lines = lines.replace("\\n", "\n"),
             ("cursor", place) => row.cursor = place.to_string(),
             ("alternate", shown) => row.alternate = shown == "1",
             ("brush", names) => row.brush = names.to_string(),
@@ -36,13 +38,26 @@ fn row_of(fields: &[&str]) -> Row {
     row
 }
 
+/// Returns what chunks of a size lead to, with the log and without one. Another terminal is copied from it after each chunk.
 fn fed(input: &[u8], size: usize, scratch: &mut Scratch) -> Row {
     let (mut terminal, mut xterm) = (Terminal::new().unwrap(), Xterm::new().unwrap());
-    let reports = input.chunks(size).flat_map(|piece| terminal.feed_xterm(&mut xterm, piece)).collect();
+    let (mut other, mut copied) = (Terminal::new().unwrap(), Xterm::new().unwrap());
+    let (mut reports, mut lines) = (Vec::new(), String::new());
+    for piece in input.chunks(size) {
+        let (now, off) = terminal.feed_log_xterm(&mut xterm, piece, scratch);
+        assert_eq!(other.feed_xterm(&mut copied, piece), now);
+        assert!(other.same_state(&terminal) && copied.alternate() == xterm.alternate() && copied.pending() == xterm.pending());
+        (other, copied) = (Terminal::new().unwrap(), Xterm::new().unwrap());
+        other.copy_from(&terminal);
+        copied.copy_from(&xterm);
+        reports.extend(now);
+        lines += &off;
+    }
     let (cursor, brush) = (terminal.cursor(), terminal.brush());
     let set = [(brush.bold, "bold"), (brush.underline, "underline"), (brush.blink, "blink"), (brush.reverse, "reverse")];
     Row {
         text: terminal.text(scratch).trim_end_matches('\n').to_string(),
+        lines,
         cursor: format!("{};{}", cursor.row, cursor.col),
         alternate: xterm.alternate(),
         brush: set.iter().filter(|(is_set, _)| *is_set).map(|(_, name)| *name).collect::<Vec<_>>().join(" "),

@@ -1,0 +1,178 @@
+// UTF-8 and TERM=xterm: each row of tests-c/utf8.txt and tests-c/xterm.txt, whole and byte by byte, and from a checkpoint at each byte.
+const bytes = (hex) => Uint8Array.from(hex.match(/[0-9A-F]{2}/g) ?? [], (digits) => parseInt(digits, 16));
+const hex = (data) => Array.from(data, (byte) => byte.toString(16).toUpperCase().padStart(2, "0")).join(" ");
+const ascii = (text) => Uint8Array.from(text, (c) => c.charCodeAt(0));
+const equal = (a, b) => a.length === b.length && a.every((byte, i) => byte === b[i]);
+
+/** The tables: how a terminal is made for each, what it has at power-up, and how many rows there are at least. */
+const COMMON = { text: "", pending: "", reports: "", lines: "" };
+const TABLES = {
+  utf8: { options: { encoding: "utf-8" }, atPowerUp: COMMON, least: 30 },
+  xterm: { options: { terminal: "xterm" }, atPowerUp: { ...COMMON, cursor: "1;1", alternate: "0", brush: "", bells: "0" }, least: 50 },
+};
+
+/** Returns what is read of a terminal, by the names of the tables. */
+function read(terminal) {
+  const { cursor, brush, alternate, bells, pending } = terminal;
+  return {
+    text: terminal.text().replace(/\n+$/, ""), pending: hex(pending), cursor: `${cursor.row};${cursor.column}`, alternate: String(Number(alternate)),
+    brush: ["bold", "underline", "blink", "reverse"].filter((name) => brush[name]).join(" "), bells: String(bells),
+  };
+}
+
+/** Feeds chunks of a size to a new terminal by one of its calls. Returns what it has and returned. */
+function fed(core, Terminal, options, input, size, log) {
+  const terminal = new Terminal(core, options), replies = [], lines = [];
+  for (let at = 0; at < input.length; at += size) {
+    const piece = input.subarray(at, at + size), got = log ? terminal.feedLog(piece) : { replies: terminal.feed(piece), lines: [] };
+    replies.push(...got.replies);
+    lines.push(...got.lines.map((line) => line + "\n"));
+  }
+  const found = { ...read(terminal), reports: hex(replies), lines: lines.join("") };
+  terminal.close();
+  return found;
+}
+
+/** Returns whether two terminals have the same state, the same pending bytes and the same pages. Leaves another page shown. */
+function same(a, b) {
+  const isSame = a.sameState(b) && equal(a.pending, b.pending) && a.alternate === b.alternate;
+  for (const each of [a, b]) each.feed(ascii(each.alternate ? "\x18\x1b[?47l" : "\x18\x1b[?47h"));
+  return isSame && a.sameState(b);
+}
+
+/** Returns whether a copy after so many bytes leads to the same end, and a VT220's repaint with what is pending. */
+function resumes(core, Terminal, options, input, at) {
+  const [whole, first, second, copied] = Array.from({ length: 4 }, () => new Terminal(core, options));
+  whole.feed(input);
+  first.feed(input.subarray(0, at));
+  copied.copyFrom(first);
+  if (first.isBetween && first.terminal === "vt220") second.feed(first.repaint()), second.feed(first.pending);
+  else second.copyFrom(first);
+  for (const each of [copied, second]) each.feed(input.subarray(at));
+  const isSame = equal(whole.pending, second.pending) && whole.sameState(second) && same(whole, copied);
+  for (const each of [whole, first, second, copied]) each.close();
+  return isSame;
+}
+
+function rows({ Terminal }, core, of, file, check) {
+  const { options, atPowerUp, least } = TABLES[of];
+  let count = 0;
+  for (const line of file.split("\n")) {
+    if (line === "" || line.startsWith("#")) continue;
+    count++;
+    const [name, digits, ...fields] = line.split("\t"), input = bytes(digits);
+    const changed = fields.map((field) => [field.slice(0, field.indexOf("=")), field.slice(field.indexOf("=") + 1).replaceAll("\\n", "\n")]);
+    const wanted = { ...atPowerUp, ...Object.fromEntries(changed) };
+    for (const size of [input.length, 1]) {
+      for (const log of [false, true]) {
+        const found = fed(core, Terminal, options, input, size, log), due = { ...wanted, lines: log ? wanted.lines : "" };
+        for (const field of Object.keys(due)) check(`${of}, ${name}: ${field}`, found[field] === due[field]);
+      }
+    }
+    for (let at = 0; at < input.length; at++) check(`${of}, ${name}: a checkpoint at ${at}`, resumes(core, Terminal, options, input, at));
+  }
+  check(`the rows of ${of}`, count >= least);
+}
+
+// By the tables of docs/SPECIFICATION.md, 'UTF-8'.
+const SHOWN = [["Welt", "Welt"], ["\u201cWelt\u201d", '"Welt"'], ["\u2501\u251b", "\u2500\u2518"], ["\u4e16x", "\u2426 x"], ["e\u0301", "e"], ["\u00ad", "-"], ["\uff21", "A "],
+  ["\u{1f600}", "\u2426 "], ["a\n\t\x7f", "a\n\t\x7f"], ["\u0085", ""], ["", ""]];
+
+function encodings({ Terminal }, core, check) {
+  const thrown = (call) => { try { call(); } catch (error) { return error.code ?? error.name; } return null; };
+  const terminal = new Terminal(core, { encoding: "utf-8" }), other = new Terminal(core, {});
+  check("the encodings", terminal.encoding === "utf-8" && other.encoding === "dec" && new Terminal(core).encoding === "dec");
+  check("another encoding", ["utf8", "UTF-8", "", null, 8].every((encoding) => thrown(() => new Terminal(core, { encoding })) === "TypeError"));
+  terminal.feed(bytes("63 C3"));
+  other.copyFrom(terminal);
+  check("what is pending is next to the state", other.sameState(terminal) && equal(terminal.pending, [0xc3]) && other.pending.length === 0);
+  terminal.pending[0] = 0x41;
+  check("what is pending is a copy", equal(terminal.pending, [0xc3]));
+  terminal.copyFrom(other);
+  check("a copy of other bytes has nothing pending", terminal.pending.length === 0);
+  terminal.feed(bytes("E2 80"));
+  terminal.reset();
+  check("after a reset nothing is pending", terminal.pending.length === 0);
+  const many = new TextEncoder().encode("\u2514\u4e16\x1b[6n".repeat(40000));
+  check("many replies in UTF-8", terminal.feed(many).length > 200000 && terminal.pending.length === 0);
+  for (const [text, shown] of SHOWN) check(`how ${JSON.stringify(text)} is shown`, core.shown(text) === shown);
+  terminal.close();
+  check("closed: pending", thrown(() => terminal.pending) === "CLOSED");
+  other.close();
+}
+
+function terminals({ Terminal }, core, check) {
+  const thrown = (call) => { try { call(); } catch (error) { return error.code ?? error.name; } return null; };
+  const terminal = new Terminal(core, { terminal: "xterm" }), other = new Terminal(core, { encoding: "utf-8", terminal: "vt220" });
+  check("the terminals", terminal.terminal === "xterm" && terminal.encoding === "utf-8" && other.terminal === "vt220" && new Terminal(core).terminal === "vt220");
+  check("another terminal", ["xterm-256color", "", null, 8].every((name) => thrown(() => new Terminal(core, { terminal: name })) === "TypeError"));
+  terminal.feed(ascii("main\x1b[?1049h\xe2"));
+  other.feed(ascii("\x1b[?1049h"));
+  check("the pages", terminal.alternate && !other.alternate && equal(terminal.pending, [0xe2]));
+  check("no copy of a VT220", thrown(() => terminal.copyFrom(other)) === "TypeError" && terminal.alternate);
+  other.copyFrom(terminal);
+  check("a VT220 copies the page that is shown", other.sameState(terminal) && equal(other.pending, [0xe2]));
+  const copied = new Terminal(core, { terminal: "xterm" });
+  copied.copyFrom(terminal);
+  terminal.copyFrom(terminal);
+  terminal.reset();
+  check("a reset", !terminal.alternate && terminal.pending.length === 0 && terminal.text().trim() === "");
+  check("a copy's log", copied.alternate && copied.feedLog(ascii("\x1b[?1049l\x1b[S")).lines.join() === "main");
+  const many = copied.feed(ascii("\x1b[6n".repeat(40000) + "\x1b[?47h"));
+  check("many replies under TERM=xterm", many.length === 240000 && copied.alternate);
+  for (const each of [terminal, copied, other]) each.close();
+  check("closed: alternate", thrown(() => terminal.alternate) === "CLOSED" && thrown(() => terminal.feed(ascii("x"))) === "CLOSED" && thrown(() => terminal.reset()) === "CLOSED");
+  check("closed: copies", thrown(() => new Terminal(core, { terminal: "xterm" }).copyFrom(copied)) === "CLOSED");
+}
+
+/** Returns whether a Timeline is exact at each byte, from all positions that a seek begins at. */
+function exact({ Terminal }, core, line, options, input, check) {
+  for (const to of [input.length, ...input.keys(), ...[...input.keys()].reverse()]) {
+    const plain = new Terminal(core, options);
+    plain.feed(input.subarray(0, to));
+    const copied = new Terminal(core, options);
+    copied.copyFrom(line.seek(to));
+    check(`a seek to byte ${to} of ${options.terminal ?? options.encoding}`, line.position === to && same(plain, copied));
+    for (const each of [plain, copied]) each.close();
+  }
+}
+
+/** A Timeline is exact at each byte, and finds a text by what is shown for it. */
+function timelines(vt220, core, check) {
+  const input = bytes("E2 80 E2 80 9C 57 E2 80 9D C3 0D 0A E4 B8 96 F0 9F 98 80 1B 5B 31 C3 A9 E2 80");
+  const recording = { bytes: input, times: [1, 2, 3], ends: [2, 11, input.length] };
+  const options = { encoding: "utf-8" };
+  for (const every of [1, 2, 5]) {
+    const line = new vt220.Timeline(core, recording, { every, ...options });
+    exact(vt220, core, line, options, input, check);
+    check("a search in UTF-8", line.search("\u201cW\u201d")[0]?.time === 2 && line.search("\u4e16\u{1f600}")[0]?.row === 2 && line.search("\u{1f600}\u00e9")[0]?.column === 3);
+    line.close();
+  }
+}
+
+/** The same under TERM=xterm, with a text that is away while the alternate page is shown. */
+function pagesInTime(vt220, core, check) {
+  const parts = ["main \xe2\x80\x9cW\xe2\x80\x9d\x1b[3;3H\xe2", "\x1b[?1049h\x1b[2Jother\x1b[3b", "\x1b[?1049l\xc3\xa9\x1b[24H\x1b[2S\x1b[?47h", "\x1b[?47l"].map(ascii);
+  let end = 0;
+  const ends = parts.map((part) => (end += part.length)), input = ascii(parts.map((part) => String.fromCharCode(...part)).join(""));
+  const options = { terminal: "xterm" }, recording = { bytes: input, times: [1, 2, 3, 4], ends };
+  for (const every of [1, 3, 20]) {
+    const line = new vt220.Timeline(core, recording, { every, ...options });
+    exact(vt220, core, line, options, input, check);
+    const [other] = line.search("other");
+    check("a search on the alternate page", other?.time === 2 && other.until === 4 && other.row === 3);
+    const [back] = line.search("\u00e9");
+    check("a search after an SU on the main page", back?.time === 4 && back.row === 1 && back.column === 4);
+    check("a search on the main page", line.search("main \u201cW\u201d")[0]?.until === 2);
+    check("checkpoints of both pages", line.checkpoints > (every === 20 ? 1 : 5));
+    line.close();
+  }
+}
+
+export function tables(vt220, core, files, check) {
+  for (const of of Object.keys(TABLES)) rows(vt220, core, of, files[of], check);
+  encodings(vt220, core, check);
+  terminals(vt220, core, check);
+  timelines(vt220, core, check);
+  pagesInTime(vt220, core, check);
+}

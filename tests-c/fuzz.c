@@ -155,6 +155,8 @@ static void look_at_xterm(const uint8_t *bytes, size_t len, unsigned cut) {
     MUST(feed_by(&c, &y, bytes, len, cut, reports_b) == all && memcmp(reports_a, reports_b, all) == 0);
     MUST(vt220_bells(&b) - bells_b == vt220_bells(&c) - bells_c);
     MUST(vt220_xterm_pending(&x, &u) && vt220_xterm_pending(&y, &v) && same_pending(&u, &v));
+    /* A copy goes on instead of the second one. */
+    if (cut % 2 == 1) MUST(vt220_copy(&c, &b) == VT220_OK && vt220_xterm_copy(&y, &x) == VT220_OK);
     see(50, vt220_xterm_alternate(&x) + 2u * u.len);
     for (size_t i = 0; i < sizeof switches / sizeof switches[0]; i++) {
         const uint8_t *change = (const uint8_t *)switches[i];

@@ -102,10 +102,17 @@ size_t core_feed_xterm(handle *t, handle *x, const uint8_t *bytes, size_t len, b
     return core_feed(t, bytes, len, counts, reports, size, written, rung);
 }
 
+size_t core_feed_log_xterm(handle *t, handle *s, handle *x, const uint8_t *bytes, size_t len, bool counts, uint8_t *reports, size_t size,
+                           size_t *written, uint8_t *lines, size_t lines_size, size_t *lines_written, size_t *rung) {
+    move(x);
+    return core_feed_log(t, s, bytes, len, counts, reports, size, written, lines, lines_size, lines_written, rung);
+}
+
 uint32_t core_shown(uint32_t character, size_t *cells) { return *cells = 1, character; }
 
 uint32_t core_reset(handle *t) { return move(t), VT220_OK; }
 uint32_t core_copy(handle *to, handle *from) { return move(to), stay(from), VT220_OK; }
+uint32_t core_xterm_copy(handle *to, handle *from) { return move(to), stay(from), VT220_OK; }
 
 #define WRITES(name) \
     uint32_t core_##name(handle *t, handle *s, uint8_t *out, size_t size, size_t *written) { return stay(t), move(s), VT220_OK; }
@@ -142,7 +149,7 @@ bool core_same_state(handle *a, handle *b) { return stay(a), stay(b), true; }
 
 static vt220 t = VT220_INIT, u = VT220_INIT;
 static vt220_scratch s = VT220_INIT;
-static vt220_xterm x = VT220_INIT;
+static vt220_xterm x = VT220_INIT, y = VT220_INIT;
 static vt220_utf8 pending;
 static uint8_t out[100], lines[1000];
 static size_t written, logged;
@@ -150,7 +157,7 @@ static size_t written, logged;
 /* Each call that may move a block, twice: the second finds what the first left. */
 static void handles_have_the_new_blocks(void) {
     CHECK(vt220_open(&t) == VT220_OK && vt220_open(&u) == VT220_OK && vt220_scratch_open(&s) == VT220_OK);
-    CHECK(vt220_xterm_open(&x) == VT220_OK);
+    CHECK(vt220_xterm_open(&x) == VT220_OK && vt220_xterm_open(&y) == VT220_OK);
     for (int turn = 0; turn < 2; turn++) {
         CHECK(vt220_feed(&t, BYTES("a\ab"), out, sizeof out, &written) == 3);
         CHECK(vt220_feed(&t, BYTES("a\ab"), NULL, 0, NULL) == 3);
@@ -160,12 +167,15 @@ static void handles_have_the_new_blocks(void) {
         CHECK(vt220_feed_log_utf8(&t, &s, &pending, BYTES("a\ab"), out, sizeof out, &written, lines, sizeof lines, &logged) == 3);
         CHECK(vt220_feed_xterm(&t, &x, BYTES("a\ab"), out, sizeof out, &written) == 3 && vt220_xterm_alternate(&x) && vt220_xterm_pending(&x, &pending));
         CHECK(vt220_feed_xterm(&t, &x, BYTES("a\ab"), NULL, 0, NULL) == 3);
+        CHECK(vt220_feed_log_xterm(&t, &s, &x, BYTES("a\ab"), out, sizeof out, &written, lines, sizeof lines, &logged) == 3);
+        CHECK(vt220_feed_log_xterm(&t, &s, &x, BYTES("a\ab"), NULL, 0, NULL, lines, sizeof lines, &logged) == 3);
+        CHECK(vt220_xterm_copy(&y, &x) == VT220_OK && vt220_xterm_copy(&x, &x) == VT220_OK);
         CHECK(vt220_reset(&t) == VT220_OK && vt220_copy(&t, &u) == VT220_OK);
         CHECK(vt220_update(&t, &u, &s, out, sizeof out, &written) == VT220_OK);
         CHECK(vt220_text(&t, &s, out, sizeof out, &written) == VT220_OK && vt220_row_text(&t, &s, 1, out, sizeof out, &written) == VT220_OK);
         CHECK(vt220_show(&t, &s, out, sizeof out, &written) == VT220_OK && vt220_picture(&t, &s, out, sizeof out, &written) == VT220_OK);
         CHECK(vt220_repaint(&t, &s, out, sizeof out, &written) == VT220_OK && vt220_same_state(&t, &u));
-        CHECK(live_blocks() == 4);
+        CHECK(live_blocks() == 5);
     }
 }
 
@@ -194,7 +204,7 @@ int main(void) {
     vt220_close(&t);
     vt220_close(&u);
     vt220_scratch_close(&s);
-    vt220_xterm_close(&x);
+    vt220_xterm_close(&x), vt220_xterm_close(&y);
     CHECK(live_blocks() == 0);
     return finish("moved");
 }

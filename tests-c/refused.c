@@ -81,18 +81,19 @@ static void none_taken(void) {
     static vt220_cell cells[VT220_COLUMNS];
     vt220 t = VT220_INIT, to = VT220_INIT;
     vt220_scratch s = VT220_INIT;
-    vt220_xterm x = VT220_INIT;
+    vt220_xterm x = VT220_INIT, y = VT220_INIT;
     vt220_cursor_place cursor;
     vt220_margin_rows margins;
     vt220_mode_set modes;
     memset(&modes, 0, sizeof modes);
     size_t written;
     CHECK(vt220_open(&t) == VT220_OK && vt220_open(&to) == VT220_OK && vt220_scratch_open(&s) == VT220_OK && vt220_xterm_open(&x) == VT220_OK);
+    CHECK(vt220_xterm_open(&y) == VT220_OK);
     calls = 0;
     CHECK(vt220_feed(&t, BYTES("\033[?3h\033[6nx\n"), out, 110, &written) == 11 && written == 6);
     CHECK(vt220_text(&t, &s, out, sizeof out, &written) == VT220_OK && vt220_repaint(&t, &s, out, sizeof out, &written) == VT220_OK);
     CHECK(vt220_update(&to, &t, &s, out, sizeof out, &written) == VT220_OK && vt220_same_state(&t, &to));
-    static uint8_t lines[VT220_ROW_TEXT_LIMIT];
+    static uint8_t lines[VT220_ROW_TEXT_LIMIT], log[VT220_XTERM_LINES_LIMIT];
     size_t logged;
     CHECK(vt220_feed_log(&t, &s, BYTES("y\033[24H\n"), out, 100, &written, lines, sizeof lines, &logged) == 7 && logged > 0);
     CHECK(vt220_update(&to, &t, &s, out, sizeof out, &written) == VT220_OK && vt220_same_state(&t, &to));
@@ -109,11 +110,14 @@ static void none_taken(void) {
     CHECK(vt220_feed(&t, BYTES("\033[1;2;3\a"), out, sizeof out, &written) == 8 && vt220_bells(&t) == 1);
     CHECK(vt220_copy(&to, &t) == VT220_OK && vt220_same_state(&to, &t) && vt220_reset(&t) == VT220_OK && vt220_status_text(0) != NULL);
     CHECK(vt220_feed_xterm(&t, &x, BYTES("\033[?1049h\033[3G\xC3\xA9\a\033[6n"), out, 220, &written) == 19 && written == 6 && vt220_xterm_alternate(&x));
+    CHECK(vt220_feed_log_xterm(&t, &s, &x, BYTES("\033[?1049l\033[S"), out, 100, &written, log, sizeof log, &logged) == 11 && logged > 0);
+    CHECK(vt220_xterm_copy(&y, &x) == VT220_OK);
     CHECK(calls == 0);
     vt220_close(&t);
     vt220_close(&to);
     vt220_scratch_close(&s);
     vt220_xterm_close(&x);
+    vt220_xterm_close(&y);
     CHECK(blocks == 0 && calls == 0);
 }
 

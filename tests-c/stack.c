@@ -7,7 +7,7 @@ enum { STACK = 256 * 1024, PAINT = 0xA5, LIMIT = 8192 };
 
 static vt220 a = VT220_INIT, b = VT220_INIT;
 static vt220_scratch s = VT220_INIT;
-static vt220_xterm x = VT220_INIT;
+static vt220_xterm x = VT220_INIT, y = VT220_INIT;
 static uint8_t out[VT220_PICTURE_LIMIT], input[60000];
 static size_t written;
 
@@ -57,8 +57,13 @@ static void *feeds_utf8(void *unused) {
 }
 
 static void *feeds_xterm(void *unused) {
+    static uint8_t lines[100000];
+    size_t lines_written;
     vt220_feed_xterm(&b, &x, input, sizeof input, NULL, 0, NULL);
     for (size_t at = 0; at < sizeof input;) at += vt220_feed_xterm(&b, &x, input + at, sizeof input - at, out, 5120, &written);
+    for (size_t at = 0; at < sizeof input;)
+        at += vt220_feed_log_xterm(&b, &s, &x, input + at, sizeof input - at, NULL, 0, NULL, lines, sizeof lines, &lines_written);
+    vt220_xterm_copy(&y, &x);
     return unused;
 }
 
@@ -140,7 +145,7 @@ static void fill(void) {
 int main(void) {
     fill();
     CHECK(vt220_open(&a) == VT220_OK && vt220_open(&b) == VT220_OK && vt220_scratch_open(&s) == VT220_OK);
-    CHECK(vt220_xterm_open(&x) == VT220_OK);
+    CHECK(vt220_xterm_open(&x) == VT220_OK && vt220_xterm_open(&y) == VT220_OK);
     depth(opens), depth(feeds);
     size_t empty = depth(nothing);
     CHECK(empty < STACK / 2);
@@ -166,6 +171,6 @@ int main(void) {
     measure("picture", draws, LIMIT, empty);
     measure("readers", reads, LIMIT, empty);
     measure("copy and reset", copies, LIMIT, empty);
-    vt220_close(&a), vt220_close(&b), vt220_scratch_close(&s), vt220_xterm_close(&x);
+    vt220_close(&a), vt220_close(&b), vt220_scratch_close(&s), vt220_xterm_close(&x), vt220_xterm_close(&y);
     return finish("stack");
 }

@@ -3,7 +3,7 @@
 #include "check.h"
 #include "../c/vt220.c"
 
-static handle t, u, s, x;
+static handle t, u, s, x, y;
 static uint8_t out[VT220_PICTURE_LIMIT], lines[VT220_UTF8_LINES_LIMIT];
 static vt220_utf8 pending;
 static size_t written, logged, rung;
@@ -61,7 +61,7 @@ int main(void) {
     /* Blank, with text, with columns that the other terminal lacks, and inside a sequence. */
     static const char *const states[] = {"\030", "abc\033[5;10H\033[1mx\a", "\033[?3hwide", "\033[1"};
     CHECK(core_open(&t) == VT220_OK && core_open(&u) == VT220_OK && core_scratch_open(&s) == VT220_OK);
-    CHECK(core_xterm_open(&x) == VT220_OK);
+    CHECK(core_xterm_open(&x) == VT220_OK && core_xterm_open(&y) == VT220_OK);
     for (size_t i = 0; i < sizeof states / sizeof states[0]; i++) {
         const uint8_t *bytes = (const uint8_t *)states[i];
         size_t len = strlen(states[i]);
@@ -74,6 +74,8 @@ int main(void) {
         STAYS(core_feed_log_utf8(&u, &s, &pending, bytes, len, true, out, sizeof out, &written, lines, sizeof lines, &logged, &rung));
         STAYS(core_feed_xterm(&u, &x, bytes, len, true, out, sizeof out, &written, &rung));
         STAYS(core_feed_xterm(&u, &x, (const uint8_t *)"\033[?1049h\a\xE2", 10, false, out, sizeof out, &written, &rung));
+        STAYS(core_feed_log_xterm(&u, &s, &x, bytes, len, true, out, sizeof out, &written, lines, sizeof lines, &logged, &rung));
+        STAYS(core_xterm_copy(&y, &x));
         STAYS(core_xterm_alternate(&x));
         STAYS(core_xterm_pending(&x, &pending));
         STAYS(core_copy(&u, &t));
@@ -83,5 +85,6 @@ int main(void) {
     core_close(&u);
     core_scratch_close(&s);
     core_xterm_close(&x);
+    core_xterm_close(&y);
     return finish("stays");
 }

@@ -159,11 +159,25 @@ static void handles(void) {
     CHECK(!vt220_xterm_is_open(&moved));
 }
 
-/* Another terminal with a new one of these goes on from a repaint, as if the main page were shown. */
+/* A copy has both pages, both modes, and what is pending. Another terminal with a new one of these goes on from a repaint, as if the main page
+ * were shown. */
 static void copies(void) {
     static uint8_t out[VT220_PAINT_LIMIT];
     pair p = opened(), q = opened();
+    vt220_xterm none = VT220_INIT;
+    vt220_utf8 u;
     size_t len;
+    CHECK(vt220_feed_xterm(&p.t, &p.x, BYTES("main\033[?40h\033[?47halt\xE2\x94"), NULL, 0, NULL) == 21);
+    CHECK(vt220_feed_xterm(&q.t, &q.x, BYTES("\033[?3hother\033[?47hpage\xC3"), NULL, 0, NULL) == 21);
+    CHECK(vt220_xterm_copy(&q.x, &p.x) == VT220_OK && vt220_copy(&q.t, &p.t) == VT220_OK && vt220_xterm_copy(&p.x, &p.x) == VT220_OK);
+    CHECK(vt220_xterm_alternate(&q.x) && vt220_xterm_pending(&q.x, &u) && u.len == 2 && u.bytes[0] == 0xE2 && u.bytes[1] == 0x94);
+    CHECK(vt220_feed_xterm(&p.t, &p.x, BYTES("\x8C"), NULL, 0, NULL) == 1 && shows(&p.t, "    alt┌") && shows(&q.t, "    alt"));
+    CHECK(vt220_feed_xterm(&q.t, &q.x, BYTES("\x8C"), NULL, 0, NULL) == 1 && vt220_same_state(&p.t, &q.t));
+    CHECK(vt220_feed_xterm(&q.t, &q.x, BYTES("\033[?47l"), NULL, 0, NULL) == 6 && shows(&q.t, "main") && vt220_xterm_alternate(&p.x));
+    CHECK(vt220_feed_xterm(&q.t, &q.x, BYTES("\033[?3h"), NULL, 0, NULL) == 5 && vt220_width(&q.t) == 132);
+    CHECK(vt220_xterm_copy(&none, &p.x) == VT220_CLOSED && vt220_xterm_copy(&p.x, &none) == VT220_CLOSED && vt220_xterm_alternate(&p.x));
+    closed(&p), closed(&q);
+    p = opened(), q = opened();
     CHECK(vt220_feed_xterm(&p.t, &p.x, BYTES("main\033[?1049halt"), NULL, 0, NULL) == 15);
     CHECK(vt220_repaint(&p.t, &s, out, sizeof out, &len) == VT220_OK);
     CHECK(vt220_feed_xterm(&q.t, &q.x, out, len, NULL, 0, NULL) == len && vt220_same_state(&p.t, &q.t));
@@ -190,6 +204,65 @@ static void small_buffers(void) {
     CHECK(filled == 18 && memcmp(all, "\033[1;2R\033[1;2R\033[1;3R", 18) == 0);
     /* a null `written` drops the replies */
     CHECK(vt220_feed_xterm(&p.t, &p.x, BYTES("\033[6nü\033[c"), NULL, 0, NULL) == 9 && shows(&p.t, " éü"));
+    closed(&p);
+}
+
+/* --- the log --- */
+
+/* What scrolls a line off, by hand from the header; and nothing does on the alternate page, or below a top margin. */
+static void log_of_lines(void) {
+    static const struct {
+        const char *bytes, *lines;
+    } rows[] = {
+        {"one\033[24H\n", "one\n"},
+        {"one\r\ntwo\r\nthree\033[2S", "one\ntwo\n"},
+        {"one\033[99S", "one\n\n\n\n\n\n\n\n\n\n\n\n\n\n\n\n\n\n\n\n\n\n\n\n"},
+        {"one\033[?1049h\033[24H\n\033[3S\033[?1049l", ""},
+        {"one\033[?47h\033[24H\n\033[?47l\n", "one\n"},
+        {"one\033[2;9r\033[S\033[9H\n", ""},
+        {"one\033[T\033[24H\n", "\n"},
+        {"one\033[24;79Hxy\033[b", "one\n"},
+        {"\xC3\xA9\033[24H\n\xE2", "\xC3\xA9\n"},
+    };
+    static uint8_t lines[VT220_XTERM_LINES_LIMIT];
+    uint8_t reports[VT220_REPORT_LIMIT];
+    for (size_t i = 0; i < sizeof rows / sizeof rows[0]; i++) {
+        for (size_t chunk = 1; chunk < 100; chunk += 98) {
+            pair p = opened();
+            struct bytes found = {0};
+            size_t len = strlen(rows[i].bytes), written, off;
+            for (size_t at = 0; at < len; at += chunk) {
+                size_t part = len - at < chunk ? len - at : chunk;
+                const uint8_t *bytes = (const uint8_t *)rows[i].bytes + at;
+                for (size_t taken = 0, now = 1; taken < part && now > 0; taken += now) {
+                    now = vt220_feed_log_xterm(&p.t, &s, &p.x, bytes + taken, part - taken, reports, sizeof reports, &written, lines, sizeof lines, &off);
+                    CHECK(now > 0);
+                    append(&found, lines, off);
+                }
+            }
+            check(same_bytes(&found, (const uint8_t *)rows[i].lines, strlen(rows[i].lines)), rows[i].bytes, "the lines");
+            free(found.at);
+            closed(&p);
+        }
+    }
+}
+
+/* With less capacity it takes nothing, and a closed handle changes nothing. */
+static void log_of_small_buffers(void) {
+    static uint8_t lines[VT220_XTERM_LINES_LIMIT];
+    vt220 no_terminal = VT220_INIT;
+    vt220_scratch no_scratch = VT220_INIT;
+    vt220_xterm no_pages = VT220_INIT;
+    uint8_t reports[VT220_REPORT_LIMIT];
+    size_t written = 9, off = 9;
+    pair p = opened();
+    CHECK(vt220_feed_log_xterm(&no_terminal, &s, &p.x, BYTES("a"), reports, sizeof reports, &written, lines, sizeof lines, &off) == 0 && written == 0 && off == 0);
+    CHECK(vt220_feed_log_xterm(&p.t, &no_scratch, &p.x, BYTES("a"), reports, sizeof reports, &written, lines, sizeof lines, &off) == 0 && shows(&p.t, ""));
+    CHECK(vt220_feed_log_xterm(&p.t, &s, &no_pages, BYTES("a"), reports, sizeof reports, &written, lines, sizeof lines, &off) == 0 && shows(&p.t, ""));
+    CHECK(vt220_feed_log_xterm(&p.t, &s, &p.x, BYTES("a"), reports, sizeof reports, &written, lines, sizeof lines - 1, &off) == 0 && shows(&p.t, ""));
+    CHECK(vt220_feed_log_xterm(&p.t, &s, &p.x, BYTES("a"), reports, sizeof reports - 1, &written, lines, sizeof lines, &off) == 0 && shows(&p.t, ""));
+    CHECK(vt220_feed_log_xterm(&p.t, &s, &p.x, BYTES("a"), reports, sizeof reports, &written, lines, sizeof lines, &off) == 1 && shows(&p.t, "a"));
+    CHECK(vt220_feed_log_xterm(&p.t, &s, &p.x, BYTES("\033[6n\a"), NULL, 0, NULL, lines, sizeof lines, &off) == 5 && off == 0 && vt220_bells(&p.t) == 1);
     closed(&p);
 }
 
@@ -222,6 +295,31 @@ static void same_pages(pair *p, pair *q) {
     }
 }
 
+/* With a log it leads to the same, and to the same lines in any chunks. */
+static void blocks_with_a_log(const uint8_t *input, const pair *whole, const struct bytes *wanted) {
+    static const size_t sizes[] = {LEN, 7, BLOCK + 1};
+    static uint8_t lines[4 * VT220_XTERM_LINES_LIMIT];
+    struct bytes first = {0};
+    for (size_t i = 0; i < sizeof sizes / sizeof sizes[0]; i++) {
+        uint8_t reports[100];
+        pair p = opened();
+        struct bytes replies = {0}, log = {0};
+        for (size_t at = 0, now = 1, written, off; at < LEN && now > 0; at += now) {
+            size_t part = LEN - at < sizes[i] ? LEN - at : sizes[i];
+            now = vt220_feed_log_xterm(&p.t, &s, &p.x, input + at, part, reports, sizeof reports, &written, lines, sizeof lines, &off);
+            append(&replies, reports, written), append(&log, lines, off);
+        }
+        CHECK(vt220_same_state(&p.t, &whole->t) && vt220_xterm_alternate(&p.x) == vt220_xterm_alternate(&whole->x));
+        CHECK(vt220_bells(&p.t) == vt220_bells(&whole->t) && same_bytes(&replies, wanted->at, wanted->len) && log.len > 100);
+        CHECK(i == 0 || same_bytes(&log, first.at, first.len));
+        if (i == 0) first = log;
+        else free(log.at);
+        free(replies.at);
+        closed(&p);
+    }
+    free(first.at);
+}
+
 /* An input of several blocks leads to the same, whole and in any chunks. */
 static void blocks(uint8_t *input) {
     static const size_t sizes[] = {1, 2, 7, 511, 513, BLOCK - 1, BLOCK, BLOCK + 1};
@@ -233,6 +331,7 @@ static void blocks(uint8_t *input) {
         feed(&cut, input, LEN, sizes[i], &others);
         CHECK(vt220_bells(&whole.t) > 100 && vt220_bells(&whole.t) == vt220_bells(&cut.t));
         CHECK(replies.len > 100 && same_bytes(&others, replies.at, replies.len));
+        if (i == 0) blocks_with_a_log(input, &whole, &replies);
         same_pages(&whole, &cut);
         free(replies.at), free(others.at);
         closed(&whole), closed(&cut);
@@ -261,6 +360,8 @@ int main(int argc, char **argv) {
     handles();
     copies();
     small_buffers();
+    log_of_lines();
+    log_of_small_buffers();
     blocks(input);
     page_over_blocks(input);
     vt220_scratch_close(&s);

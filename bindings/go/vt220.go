@@ -245,6 +245,11 @@ func (x *Xterm) Close() { C.vt220_xterm_close(&x.handle) }
 // Alternate returns whether the alternate page is shown, and false if it is closed.
 func (x *Xterm) Alternate() bool { return bool(C.vt220_xterm_alternate(&x.handle)) }
 
+// CopyFrom brings x into the state of other, as Terminal.CopyFrom does for their terminals. It returns ErrClosed if one of the two is closed.
+func (x *Xterm) CopyFrom(other *Xterm) error {
+	return result(C.vt220_xterm_copy(&x.handle, &other.handle))
+}
+
 // Pending returns the bytes at the end of the input that begin a character of UTF-8, at most three.
 func (x *Xterm) Pending() []byte {
 	var d Decoder
@@ -354,6 +359,18 @@ func (t *Terminal) FeedLogUTF8(d *Decoder, bytes []byte, s *Scratch) (reports, l
 	pending := d.handle()
 	return t.feedLog(bytes, s, func(at *C.uint8_t, length C.size_t, written, logged *C.size_t) C.size_t {
 		return C.vt220_feed_log_utf8(&t.handle, &s.handle, pending, at, length, &t.reports[0], C.size_t(len(t.reports)), written,
+			&s.out[0], C.size_t(len(s.out)), logged)
+	})
+}
+
+// FeedLogXterm plays all bytes of a program that has TERM=xterm or xterm-256color, and otherwise does as FeedLog. It returns ErrClosed also if
+// x is nil or closed.
+func (t *Terminal) FeedLogXterm(x *Xterm, bytes []byte, s *Scratch) (reports, lines []byte, err error) {
+	if x == nil || !bool(C.vt220_xterm_is_open(&x.handle)) {
+		return nil, nil, ErrClosed
+	}
+	return t.feedLog(bytes, s, func(at *C.uint8_t, length C.size_t, written, logged *C.size_t) C.size_t {
+		return C.vt220_feed_log_xterm(&t.handle, &s.handle, &x.handle, at, length, &t.reports[0], C.size_t(len(t.reports)), written,
 			&s.out[0], C.size_t(len(s.out)), logged)
 	})
 }

@@ -122,3 +122,24 @@ func TestXtermClosed(t *testing.T) {
 		t.Error("a closed terminal")
 	}
 }
+
+func TestXtermLogAndCopies(t *testing.T) {
+	terminal, x, s := open(t, ""), xterm(t), scratch(t)
+	reports, lines, err := terminal.FeedLogXterm(x, []byte("main\x1b[24H\n\x1b[6n\x1b[?47halt\xe2"), s)
+	if err != nil || string(reports) != "\x1b[24;1R" || string(lines) != "main\n" {
+		t.Errorf("%q %q %v", reports, lines, err)
+	}
+	other, copied := open(t, ""), xterm(t)
+	if other.CopyFrom(terminal) != nil || copied.CopyFrom(x) != nil || !copied.Alternate() || string(copied.Pending()) != "\xe2" {
+		t.Error("a copy")
+	}
+	terminal.FeedXterm(x, []byte("\x94\x8c\x1b[?47lx"))
+	other.FeedXterm(copied, []byte("\x94\x8c\x1b[?47lx"))
+	if !terminal.SameState(other) || copied.Alternate() {
+		t.Error("which goes on alike")
+	}
+	copied.Close()
+	if _, _, err := other.FeedLogXterm(copied, []byte("x"), s); err != ErrClosed || copied.CopyFrom(x) != ErrClosed || x.CopyFrom(copied) != ErrClosed {
+		t.Error("closed")
+	}
+}

@@ -190,8 +190,12 @@ def terminals():
         check((terminal.terminal, terminal.encoding, other.terminal) == ("xterm", "utf-8", "vt220"), "terminals", "names")
         check(terminal.feed_until_report(b"main\033[?1049h\033[6n\xe2") == (16, b"\033[1;5R") and terminal.alternate(), "terminals", "a report")
         check(not other.alternate() and other.feed(b"\033[?1049h") == b"" and not other.alternate(), "terminals", "a VT220 has one page")
-        check(raises(ValueError, terminal.copy) and raises(ValueError, terminal.copy_from, other), "terminals", "no copies")
-        check(raises(ValueError, terminal.feed_log, b"x"), "terminals", "no log")
+        with terminal.copy() as copied:
+            check(copied.same_state(terminal) and copied.alternate(), "terminals", "a copy")
+            check(copied.feed_log(b"\033[?1049l\033[24H\n\xe2") == (b"", "main\n") and terminal.alternate(), "terminals", "which has both pages, and a log")
+            with copied.copy() as again:
+                check(again.pending() == b"\xe2" and not again.alternate(), "terminals", "and what is pending")
+        check(raises(ValueError, terminal.copy_from, other), "terminals", "a VT220 has one page, too")
         other.copy_from(terminal)
         check(other.same_state(terminal) and terminal.feed(b"\033[?1049l\xe2") == b"" and terminal.text() == "main\n" + "\n" * 23, "terminals", "the main page")
         terminal.feed(b"\033[?1049h\033]0;title\xe2")

@@ -285,7 +285,9 @@ def _declare(library: ctypes.PyDLL) -> None:
         ("xterm_close", None, [handle]),
         ("xterm_alternate", boolean, [handle]),
         ("xterm_pending", boolean, [handle, pending]),
+        ("xterm_copy", status, [handle, handle]),
         ("feed_xterm", size, [handle, handle, buffer, size, buffer, size, told]),
+        ("feed_log_xterm", size, [handle, handle, handle, buffer, size, buffer, size, told, buffer, size, told]),
         ("shown", ctypes.c_uint32, [ctypes.c_uint32, told]),
         ("text", status, [handle, handle, buffer, size, told]),
         ("row_text", status, [handle, handle, size, buffer, size, told]),
@@ -477,8 +479,7 @@ class Terminal:
     """Opens a terminal in its power-up state. Its host sends the VT220's own bytes ("dec"), or UTF-8 ("utf-8").
 
     With terminal="xterm" its host sends what programs send under TERM=xterm-256color. This is always UTF-8. alternate() returns whether
-    the alternate page is shown. The page that isn't shown is no part of a copy, a repaint or an update, so copies of such a terminal
-    raise ValueError, and so does feed_log().
+    the alternate page is shown. The page that isn't shown is part of a copy, but not of a repaint, an update or same_state().
 
     It is closed by close(), by the end of a with statement, or when nothing refers to it any more. Raises Memory if an allocation
     fails. Each call of a closed terminal except close() raises Closed.
@@ -537,9 +538,7 @@ class Terminal:
     def _playing(self, name: str, *handles: _Handle) -> Callable[..., int]:
         """Returns the library's call that plays bytes in this encoding, with the handles and the pending part that it takes."""
         if self._xterm is not None:
-            if len(handles) > 1:
-                raise ValueError("a terminal of TERM=xterm has no log")
-            return functools.partial(_library.vt220_feed_xterm, *handles, self._xterm.handle)
+            return functools.partial(getattr(_library, f"{name}_xterm"), *handles, self._xterm.handle)
         if self._utf8 is None:
             return functools.partial(getattr(_library, name), *handles)
         return functools.partial(getattr(_library, f"{name}_utf8"), *handles, self._utf8)
@@ -642,10 +641,15 @@ class Terminal:
         return [place + 1 for place, changed in enumerate(marks.changed) if changed]
 
     def copy_from(self, other: "Terminal") -> None:
-        """Brings this terminal into the state of another one, also if the other is inside a sequence. In UTF-8 pending() is copied, too."""
-        if self._xterm is not None:
-            raise ValueError("a terminal of TERM=xterm isn't copied: the page that isn't shown would be missing")
+        """Brings this terminal into the state of another one, also if the other is inside a sequence. In UTF-8 pending() is copied, too.
+
+        Under TERM=xterm the page that isn't shown is copied as well. Raises ValueError if this terminal has one and the other hasn't.
+        """
+        if self._xterm is not None and other._xterm is None:
+            raise ValueError("a terminal of TERM=xterm has two pages, and a VT220 has one")
         _expect(_library.vt220_copy(self._opened(), other._opened()))
+        if self._xterm is not None and other._xterm is not None:
+            _expect(_library.vt220_xterm_copy(self._xterm.handle, other._xterm.handle))
         if self._utf8 is not None:
             other.pending()
             self._utf8 = _Utf8.from_buffer_copy(other._utf8 or _Utf8())

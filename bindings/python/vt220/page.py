@@ -20,7 +20,7 @@ __all__ = ["FIELDS", "NoTemplate", "page", "template"]
 FIELDS = ("TITLE", "NOTES", "OPTIONS", "BYTES", "CHUNKS")
 # How a page plays, if its options don't name it. Times are in seconds; a marker is a time and a label.
 OPTIONS: Mapping[str, object] = {"start": 0, "poster": None, "speed": 1, "pause": 1, "autoplay": False, "loop": False, "stops": False, "encoding": "dec",
-                                "markers": ()}
+                                "terminal": "vt220", "markers": ()}
 
 
 class NoTemplate(OSError):

@@ -423,15 +423,13 @@ class Rig:
 def _write_page(path: str, rig: Rig) -> str:
     """Writes the page that plays what the program wrote, and returns the line that names it. Without a template there is none.
 
-    It first shows the end. Its markers are what the test sent. The page has no terminal for TERM=xterm, so there is none for it either.
+    It first shows the end. Its markers are what the test sent.
     """
-    if rig.terminal.terminal == "xterm":
-        return ""
     chunks = [(int(event.at * 1e6), len(event.data)) for event in rig.events if event.who == "program"]
     markers = [(event.at, _short(event.data)) for event in rig.events if event.who == "test"]
     end = chunks[-1][0] / 1e6 if chunks else 0
     try:
-        text = page(bytes(rig.recording), chunks, " ".join(rig.argv), poster=end, markers=markers, encoding=rig.encoding)
+        text = page(bytes(rig.recording), chunks, " ".join(rig.argv), poster=end, markers=markers, encoding=rig.encoding, terminal=rig.terminal.terminal)
     except NoTemplate:
         return ""
     pathlib.Path(path).write_text(text, encoding="utf-8")

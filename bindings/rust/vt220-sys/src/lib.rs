@@ -244,6 +244,20 @@ extern "C" {
         size: usize,
         written: *mut usize,
     ) -> usize;
+    pub fn vt220_feed_log_xterm(
+        t: *mut vt220,
+        s: *mut vt220_scratch,
+        x: *mut vt220_xterm,
+        bytes: *const u8,
+        len: usize,
+        reports: *mut u8,
+        size: usize,
+        written: *mut usize,
+        lines: *mut u8,
+        lines_size: usize,
+        lines_written: *mut usize,
+    ) -> usize;
+    pub fn vt220_xterm_copy(to: *mut vt220_xterm, from: *const vt220_xterm) -> u32;
     pub fn vt220_shown(character: u32, cells: *mut usize) -> u32;
     pub fn vt220_bells(t: *const vt220) -> u64;
     pub fn vt220_reset(t: *mut vt220) -> u32;

@@ -262,6 +262,12 @@ impl Xterm {
         Ok(Xterm(handle))
     }
 
+    /// Brings this into the state of `other`, as `Terminal::copy_from` does for their terminals.
+    pub fn copy_from(&mut self, other: &Xterm) {
+        // SAFETY: both handles are open.
+        unsafe { sys::vt220_xterm_copy(&mut self.0, &other.0) };
+    }
+
     /// Returns whether the alternate page is shown.
     pub fn alternate(&self) -> bool {
         // SAFETY: the handle is open.
@@ -440,6 +446,14 @@ impl Terminal {
         let (t, u) = (&mut self.0, &mut decoder.0);
         replies_and_lines(bytes, scratch, |s, rest, (out, size, written), (log, logged)| unsafe {
             sys::vt220_feed_log_utf8(t, s, u, rest.as_ptr(), rest.len(), out, size, written, log, PICTURE_LIMIT, logged)
+        })
+    }
+
+    /// Processes all bytes of a program that has TERM=xterm or xterm-256color, and otherwise does as `feed_log`.
+    pub fn feed_log_xterm(&mut self, xterm: &mut Xterm, bytes: &[u8], scratch: &mut Scratch) -> (Vec<u8>, String) {
+        let (t, x) = (&mut self.0, &mut xterm.0);
+        replies_and_lines(bytes, scratch, |s, rest, (out, size, written), (log, logged)| unsafe {
+            sys::vt220_feed_log_xterm(t, s, x, rest.as_ptr(), rest.len(), out, size, written, log, PICTURE_LIMIT, logged)
         })
     }
 

@@ -74,6 +74,20 @@ fn rows() {
 }
 
 #[test]
+fn log_and_copies() {
+    let (mut terminal, mut xterm, mut scratch) = (Terminal::new().unwrap(), Xterm::new().unwrap(), Scratch::new().unwrap());
+    let (reports, lines) = terminal.feed_log_xterm(&mut xterm, b"main\x1b[24H\n\x1b[6n\x1b[?47halt\xe2", &mut scratch);
+    assert_eq!((reports.as_slice(), lines.as_str()), (b"\x1b[24;1R".as_slice(), "main\n"));
+    let (mut other, mut copied) = (terminal.try_clone().unwrap(), Xterm::new().unwrap());
+    copied.copy_from(&xterm);
+    assert!(copied.alternate() && copied.pending().pending() == b"\xe2");
+    for (terminal, xterm) in [(&mut terminal, &mut xterm), (&mut other, &mut copied)] {
+        terminal.feed_xterm(xterm, b"\x94\x8c\x1b[?47lx");
+    }
+    assert!(terminal.same_state(&other) && !copied.alternate());
+}
+
+#[test]
 fn capacity() {
     let (mut terminal, mut xterm) = (Terminal::new().unwrap(), Xterm::new().unwrap());
     assert_eq!(terminal.feed_xterm_into(&mut xterm, b"\x1b[6n", &mut [0; 9]), (0, 0));

@@ -8,6 +8,12 @@
 #define EXPORT(name) __attribute__((export_name(#name)))
 #define AT(type, p) ((type *)(uintptr_t)(p))
 
+/* A terminal, and what it needs under TERM=xterm, which is closed otherwise. The address of both is that of the terminal. */
+typedef struct terminal {
+    vt220 t;
+    vt220_xterm x;
+} terminal;
+
 /* INPUT is how many bytes are fed at once. With REPORTS and LINES bytes a call takes as many as without a limit. */
 enum { INPUT = 65536, REPORTS = 5120, LINES = 204800 };
 
@@ -16,8 +22,11 @@ static uint8_t input[INPUT], reports[REPORTS], lines[LINES], out[VT220_PICTURE_L
 static vt220_cell cells[VT220_COLUMNS];
 static uint32_t part[VT220_COLUMNS]; /* the fields of a struct, in the header's order */
 static size_t written, lines_written;
+static vt220_utf8 utf8; /* what is pending: JavaScript writes it before a feed of UTF-8, and reads it afterwards */
 
 _Static_assert(sizeof(vt220_cell) == 12, "JavaScript reads three words a cell");
+_Static_assert(__builtin_offsetof(terminal, t) == 0, "a terminal is the address of its handle");
+_Static_assert(sizeof utf8 == 4 && LINES >= VT220_XTERM_LINES_LIMIT && LINES >= VT220_UTF8_LINES_LIMIT, "JavaScript copies four bytes; a call takes at least one byte");
 _Static_assert(LINES >= VT220_ROW_TEXT_LIMIT && REPORTS >= VT220_REPORT_LIMIT, "a call takes at least one byte");
 
 static uint32_t address(const void *p) { return (uint32_t)(uintptr_t)p; }
@@ -43,20 +52,21 @@ EXPORT(status_text) uint32_t js_status_text(uint32_t status) { return address(vt
 /* Opens the scratch buffer, before any other call. Returns a status. */
 EXPORT(start) uint32_t js_start(void) { return vt220_scratch_open(&scratch); }
 
-/* Opens a terminal. Returns its address, or 0 if the allocation failed. */
-EXPORT(open) uint32_t js_open(void) {
-    tried got = rattle_alloc(sizeof(vt220), _Alignof(vt220));
-    if (!got.ok) return 0;
-    vt220 *t = got.p;
-    *t = (vt220)VT220_INIT;
-    if (vt220_open(t) == VT220_OK) return address(t);
-    rattle_dealloc(t);
-    return 0;
-}
-
 EXPORT(close) void js_close(uint32_t t) {
     vt220_close(AT(vt220, t));
-    rattle_dealloc(AT(vt220, t));
+    vt220_xterm_close(&AT(terminal, t)->x);
+    rattle_dealloc(AT(terminal, t));
+}
+
+/* Opens a terminal, also for TERM=xterm. Returns its address, or 0 if an allocation failed. */
+EXPORT(open) uint32_t js_open(uint32_t is_xterm) {
+    tried got = rattle_alloc(sizeof(terminal), _Alignof(terminal));
+    if (!got.ok) return 0;
+    terminal *it = got.p;
+    *it = (terminal){VT220_INIT, VT220_INIT};
+    if (vt220_open(&it->t) == VT220_OK && (!is_xterm || vt220_xterm_open(&it->x) == VT220_OK)) return address(it);
+    js_close(address(it));
+    return 0;
 }
 
 /* --- the host's bytes --- */
@@ -70,9 +80,37 @@ EXPORT(feed_log) uint32_t js_feed_log(uint32_t t, uint32_t from, uint32_t to) {
     return (uint32_t)vt220_feed_log(AT(vt220, t), &scratch, input + from, to - from, reports, REPORTS, &written, lines, LINES, &lines_written);
 }
 
+/* These two are for a terminal of TERM=xterm. */
+EXPORT(feed_xterm) uint32_t js_feed_xterm(uint32_t t, uint32_t from, uint32_t to) {
+    terminal *it = AT(terminal, t);
+    size_t taken = vt220_feed_xterm(&it->t, &it->x, input + from, to - from, reports, REPORTS, &written);
+    vt220_xterm_pending(&it->x, &utf8);
+    return (uint32_t)taken;
+}
+
+EXPORT(feed_log_xterm) uint32_t js_feed_log_xterm(uint32_t t, uint32_t from, uint32_t to) {
+    terminal *it = AT(terminal, t);
+    size_t taken = vt220_feed_log_xterm(&it->t, &scratch, &it->x, input + from, to - from, reports, REPORTS, &written, lines, LINES, &lines_written);
+    vt220_xterm_pending(&it->x, &utf8);
+    return (uint32_t)taken;
+}
+
+EXPORT(alternate) uint32_t js_alternate(uint32_t t) { return vt220_xterm_alternate(&AT(terminal, t)->x); }
+
 EXPORT(bells) double js_bells(uint32_t t) { return (double)vt220_bells(AT(vt220, t)); }
-EXPORT(reset) uint32_t js_reset(uint32_t t) { return vt220_reset(AT(vt220, t)); }
-EXPORT(copy) uint32_t js_copy(uint32_t to, uint32_t from) { return vt220_copy(AT(vt220, to), AT(vt220, from)); }
+
+/* RIS resets the pages of a terminal of TERM=xterm as well. */
+EXPORT(reset) uint32_t js_reset(uint32_t t) {
+    terminal *it = AT(terminal, t);
+    vt220_feed_xterm(&it->t, &it->x, (const uint8_t *)"\033c", 2, NULL, 0, NULL);
+    return vt220_reset(&it->t);
+}
+
+/* Both pages are copied if both have them. */
+EXPORT(copy) uint32_t js_copy(uint32_t to, uint32_t from) {
+    vt220_xterm_copy(&AT(terminal, to)->x, &AT(terminal, from)->x);
+    return vt220_copy(AT(vt220, to), AT(vt220, from));
+}
 
 /* --- what is written to `out` --- */
 
@@ -162,11 +200,6 @@ EXPORT(key) uint32_t js_key(uint32_t modes, uint32_t len) {
 EXPORT(key_length) uint32_t js_key_length(uint32_t len) { return (uint32_t)vt220_key_length((const char *)input, len); }
 
 /* --- UTF-8 --- */
-
-/* The pending part. JavaScript writes it before a feed of UTF-8, and reads it afterwards. */
-static vt220_utf8 utf8;
-
-_Static_assert(sizeof utf8 == 4 && LINES >= VT220_UTF8_LINES_LIMIT, "JavaScript copies four bytes; a call takes at least one byte");
 
 EXPORT(utf8) uint32_t js_utf8(void) { return address(&utf8); }
 

@@ -248,7 +248,7 @@ class Page {
 async function begin() {
   const [wasm, bytes, list] = await Promise.all(["wasm", "bytes", "chunks"].map(unpacked));
   const core = await load(wasm), options = JSON.parse($("options").textContent);
-  const page = new Page(core, new Timeline(core, recording(bytes, list), { encoding: options.encoding }), options);
+  const page = new Page(core, new Timeline(core, recording(bytes, list), { encoding: options.encoding, terminal: options.terminal }), options);
   page.start();
   page.drawMarks();
   globalThis.page = page;

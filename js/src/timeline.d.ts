@@ -1,4 +1,4 @@
-import type { Core, Encoding, Terminal } from "./vt220.js";
+import type { Core, Encoding, Terminal, TerminalType } from "./vt220.js";
 
 /** A recording: what came at each time. */
 export interface Recording {
@@ -29,11 +29,11 @@ export interface Span {
  */
 export declare class Timeline {
   /**
-   * `every` is how many bytes lie between two checkpoints. `encoding` is that of the recording, as a Terminal takes it. Throws TypeError
-   * or RangeError if the recording isn't one.
+   * `every` is how many bytes lie between two checkpoints. `encoding` and `terminal` are those of the recording, as a Terminal takes them.
+   * For an xterm a checkpoint has 56 KB, and otherwise a repaint. Throws TypeError or RangeError if the recording isn't one.
    */
-  constructor(core: Core, recording: Recording, options?: { every?: number; encoding?: Encoding });
-  /** Closes the terminal. */
+  constructor(core: Core, recording: Recording, options?: { every?: number; encoding?: Encoding; terminal?: TerminalType });
+  /** Closes the terminal, and those of the checkpoints. */
   close(): void;
   /** The terminal at the position. Only look at it: seek() feeds it. */
   readonly terminal: Terminal;

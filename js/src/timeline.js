@@ -1,6 +1,6 @@
 // timeline.js: the terminal at each moment of a recording. A position is a number of bytes, and the state there is that of the bytes
 // before it. So it doesn't depend on how a seek got there: from the beginning, or from a checkpoint, which is a repaint and the pending
-// bytes of UTF-8.
+// bytes of UTF-8. A repaint has one page, so under TERM=xterm a checkpoint is a copy of the terminal.
 import { ROWS, Terminal } from "./vt220.js";
 
 /** How many bytes lie between two checkpoints. A seek plays at most about as many. */
@@ -35,20 +35,21 @@ export class Timeline {
   #every;
   #checkpoints;
 
-  constructor(core, recording, { every = EVERY, encoding } = {}) {
+  constructor(core, recording, { every = EVERY, encoding, terminal } = {}) {
     checked(recording);
     this.#core = core;
     this.#bytes = recording.bytes;
     this.#times = Float64Array.from(recording.times);
     this.#ends = Float64Array.from(recording.ends);
     this.#every = Math.max(1, every);
-    this.terminal = new Terminal(core, { encoding });
+    this.terminal = new Terminal(core, { encoding, terminal });
     this.position = 0;
     this.#checkpoints = [this.#checkpoint()];
   }
 
   close() {
     this.terminal.close();
+    for (const { copy } of this.#checkpoints) copy?.close();
   }
 
   get length() {
@@ -91,7 +92,20 @@ export class Timeline {
   }
 
   #checkpoint() {
-    return { position: this.position, repaint: this.terminal.repaint(), pending: this.terminal.pending };
+    const { position, terminal } = this;
+    if (terminal.terminal === "vt220") return { position, repaint: terminal.repaint(), pending: terminal.pending };
+    const copy = new Terminal(this.#core, { terminal: terminal.terminal });
+    copy.copyFrom(terminal);
+    return { position, copy };
+  }
+
+  /** Brings the terminal to a checkpoint. */
+  #restore({ position, repaint, pending, copy }) {
+    this.position = position;
+    if (copy) return this.terminal.copyFrom(copy);
+    this.terminal.reset();
+    this.terminal.feed(repaint);
+    this.terminal.feed(pending);
   }
 
   /** Plays up to a position. Sets a checkpoint at the first place between sequences that is far enough from the last one. */
@@ -108,12 +122,7 @@ export class Timeline {
   seek(position) {
     const to = Math.max(0, Math.min(Math.trunc(position) || 0, this.length));
     const from = this.#checkpoints[firstIndex(this.#checkpoints.length, (i) => this.#checkpoints[i].position > to) - 1];
-    if (to < this.position || from.position > this.position) {
-      this.terminal.reset();
-      this.terminal.feed(from.repaint);
-      this.terminal.feed(from.pending);
-      this.position = from.position;
-    }
+    if (to < this.position || from.position > this.position) this.#restore(from);
     this.#play(to);
     return this.terminal;
   }
@@ -124,9 +133,9 @@ export class Timeline {
 
   search(text, { matchCase = false, limit = Infinity } = {}) {
     const fold = (line) => (matchCase ? line : line.toLowerCase());
-    const { encoding } = this.terminal, wanted = fold(encoding === "utf-8" ? this.#core.shown(text) : text);
+    const { encoding, terminal } = this.terminal, wanted = fold(encoding === "utf-8" ? this.#core.shown(text) : text);
     // A row's text has no spaces at its end, and the second cell of a character is one.
-    const screens = new Screens(this.#core, encoding), spans = [], end = encoding === "utf-8" ? " " : "";
+    const screens = new Screens(this.#core, { encoding, terminal }), spans = [], end = encoding === "utf-8" ? " " : "";
     if (wanted === "") return spans;
     const places = new Array(ROWS).fill(-1);
     let open = null, at = 0;
@@ -150,8 +159,8 @@ if (Symbol.dispose) Timeline.prototype[Symbol.dispose] = Timeline.prototype.clos
 
 /** A terminal, and one in the state in which its rows were last looked at. */
 class Screens {
-  constructor(core, encoding) {
-    this.terminal = new Terminal(core, { encoding });
+  constructor(core, options) {
+    this.terminal = new Terminal(core, options);
     this.seen = new Terminal(core);
   }
 

@@ -32,6 +32,9 @@ export interface Core {
 /** The encoding of what a host sends: the VT220's own bytes, or UTF-8. */
 export type Encoding = "dec" | "utf-8";
 
+/** The terminal that a host writes for: a VT220, or what TERM=xterm-256color names, whose host always sends UTF-8. */
+export type TerminalType = "vt220" | "xterm";
+
 /**
  * Loads the core. The source is the bytes of vt220.wasm, its module, or a response with it, or a promise of one of these. Without one,
  * it is the file of this package.
@@ -119,9 +122,12 @@ export type Held = "nothing" | "escape" | "control" | "string";
  * more. A closed terminal throws CLOSED, except from close() and isOpen. On an error nothing has changed.
  */
 export declare class Terminal {
-  /** Without an encoding the host sends the VT220's own bytes. */
-  constructor(core: Core, options?: { encoding?: Encoding });
+  /** Without an encoding the host sends the VT220's own bytes, and for an xterm UTF-8. */
+  constructor(core: Core, options?: { encoding?: Encoding; terminal?: TerminalType });
   readonly encoding: Encoding;
+  readonly terminal: TerminalType;
+  /** Whether the alternate page is shown, which a VT220 hasn't. The page that isn't shown is no part of a repaint, an update or sameState. */
+  readonly alternate: boolean;
   /** Frees the terminal's memory. Does nothing if it is closed. */
   close(): void;
   readonly isOpen: boolean;
@@ -137,7 +143,10 @@ export declare class Terminal {
   readonly pending: Uint8Array;
   /** Resets the terminal to its power-up state, as RIS does, also inside a sequence. Nothing is pending then. */
   reset(): void;
-  /** Brings this terminal into the state of `from`, also inside a sequence. If its encoding is UTF-8, `pending` is copied, too. */
+  /**
+   * Brings this terminal into the state of `from`, also inside a sequence. If its encoding is UTF-8, `pending` is copied, too. For an xterm
+   * both pages are copied, and `from` is one as well.
+   */
   copyFrom(from: Terminal): void;
 
   /** Returns the screen as 24 lines, each without the spaces at its end, and LF. */

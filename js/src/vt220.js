@@ -16,6 +16,7 @@ const SAVED = ["row", "column", "wrap", "origin", ...BRUSH, "g0", "g1", "g2", "g
 const FLAGS = new Set(["wrap", "origin", ...BRUSH, ...MODES]);
 const SET_NAMES = new Set(["g0", "g1", "g2", "g3"]);
 const ENCODINGS = ["dec", "utf-8"];
+const TERMINALS = ["vt220", "xterm"];
 const PENDING = 4; // bytes: three of a character of UTF-8, and how many of them are pending
 const CELL = 12; // bytes: the number of the glyph, five attributes and three reserved bytes
 
@@ -138,8 +139,8 @@ class Core {
     return new Uint32Array(this.#memory.buffer, this.calls[buffer](), count);
   }
 
-  open(terminal) {
-    const at = this.calls.open();
+  open(terminal, isXterm) {
+    const at = this.calls.open(Number(isXterm));
     if (at === 0) this.expect(MEMORY);
     this.#left.register(terminal, at, terminal);
     return at;
@@ -175,14 +176,26 @@ export class Terminal {
   #core;
   #at;
   #isUtf8;
+  #isXterm;
   #pending = new Uint8Array(PENDING);
 
-  constructor(core, { encoding = "dec" } = {}) {
+  constructor(core, { terminal = "vt220", encoding = terminal === "xterm" ? "utf-8" : "dec" } = {}) {
     if (!(core instanceof Core)) throw new TypeError("a terminal needs the core that load() returns");
     if (!ENCODINGS.includes(encoding)) throw new TypeError(`an encoding is one of ${ENCODINGS.join(", ")}`);
+    if (!TERMINALS.includes(terminal)) throw new TypeError(`a terminal is one of ${TERMINALS.join(", ")}`);
+    if (terminal === "xterm" && encoding === "dec") throw new TypeError("under TERM=xterm a host sends UTF-8");
     this.#core = core;
     this.#isUtf8 = encoding === "utf-8";
-    this.#at = core.open(this);
+    this.#isXterm = terminal === "xterm";
+    this.#at = core.open(this, this.#isXterm);
+  }
+
+  get terminal() {
+    return TERMINALS[Number(this.#isXterm)];
+  }
+
+  get alternate() {
+    return this.#core.calls.alternate(this.#handle) !== 0;
   }
 
   get encoding() {
@@ -213,7 +226,7 @@ export class Terminal {
   /** Feeds bytes by a call of the module, and passes the replies and the lines of each to `take`. */
   #feed(name, bytes, take) {
     if (!(bytes instanceof Uint8Array)) throw new TypeError("a terminal is fed a Uint8Array");
-    const core = this.#core, handle = this.#handle, call = this.#isUtf8 ? `${name}_utf8` : name;
+    const core = this.#core, handle = this.#handle, call = this.#isXterm ? `${name}_xterm` : this.#isUtf8 ? `${name}_utf8` : name;
     if (this.#isUtf8) core.bytes.set(this.#pending, core.calls.utf8());
     for (let at = 0; at < bytes.length; ) {
       const size = core.input(bytes.subarray(at));
@@ -279,7 +292,9 @@ export class Terminal {
   }
 
   copyFrom(from) {
-    this.#core.expect(this.#core.calls.copy(this.#handle, this.#other(from)));
+    const at = this.#other(from);
+    if (this.#isXterm && !from.#isXterm) throw new TypeError("a terminal of TERM=xterm has two pages, and a VT220 has one");
+    this.#core.expect(this.#core.calls.copy(this.#handle, at));
     if (this.#isUtf8) this.#pending = from.#pending.slice();
   }
 

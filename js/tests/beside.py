@@ -88,6 +88,30 @@ def described(terminal, last):
     return "\n".join([terminal.text(), terminal.show(), terminal.picture(), flat, terminal.held(), ",".join(map(str, changed)), *marks, cells])
 
 
+# The terminals that play each input as well, with the log: UTF-8, and TERM=xterm.
+OTHERS = ({"encoding": "utf-8"}, {"terminal": "xterm"})
+
+
+def played(data, options):
+    """Returns what such a terminal shows and returned, in parts."""
+    terminal = vt220.Terminal(**options)
+    replies, half = terminal.feed(data[: len(data) >> 1]), terminal.copy()
+    more, lines = terminal.feed_log(data[len(data) >> 1 :])
+    other, log = half.feed_log(data[len(data) >> 1 :])
+    terminal.feed(b"\x18")
+    facts = f"{terminal.bells()} {int(terminal.alternate())} {int(other == more and log == lines)}"
+    return [replies, more, lines.encode(), facts.encode(), terminal.pending(), terminal.repaint(), half.text().encode()]
+
+
+def planes():
+    """Returns a hash for each plane of Unicode: how its characters are shown."""
+    characters = (chr(code) for code in range(0x110000) if not 0xD800 <= code < 0xE000)
+    texts = ["" for _ in range(17)]
+    for character in characters:
+        texts[ord(character) >> 16] += character
+    return [hash_of([vt220.shown(text).encode()]) for text in texts]
+
+
 def hashes(data):
     last, made = vt220.Terminal(), []
     for each in data:
@@ -100,6 +124,7 @@ def hashes(data):
         terminal.feed(b"\x18")
         shown = vt220.Terminal()
         shown.copy_from(last)
-        made.append(hash_of([replies, more, lines[:-1].encode(), text.encode(), terminal.repaint(), shown.update(terminal), halfway.update(terminal)]))
+        parts = [replies, more, lines[:-1].encode(), text.encode(), terminal.repaint(), shown.update(terminal), halfway.update(terminal)]
+        made.append(hash_of(parts + [part for options in OTHERS for part in played(each, options)]))
         last = terminal
     return made

@@ -1,14 +1,15 @@
-// Tests the package in node: the vectors, inputs beside the library for C, each call, the Timeline, and UTF-8.
+// Tests the package in node: the vectors, inputs beside the library for C, each call, the Timeline, UTF-8, and TERM=xterm.
 //   node tests/modules.mjs PACKAGE VECTORS HASHES [first]      the last line is 'N passed, M failed'; with `first` it ends at the first failure
 import { readFile } from "node:fs/promises";
 import { pathToFileURL } from "node:url";
 import { Worker } from "node:worker_threads";
 import { calls } from "./calls.mjs";
-import { hashes } from "./hashes.mjs";
+import { hashes, planes } from "./hashes.mjs";
 import { keys } from "./keys.mjs";
 import { timelines } from "./timelines.mjs";
 import { utf8 } from "./utf8.mjs";
 import { vectors } from "./vectors.mjs";
+import { xterm } from "./xterm.mjs";
 
 const [place, vectorFile, hashFile, first] = process.argv.slice(2);
 const from = (name) => import(new URL(name, pathToFileURL(`${place}/`)));
@@ -30,13 +31,15 @@ passed += got.passed;
 failed += got.failed;
 
 const all = JSON.parse(await readFile(hashFile, "utf8"));
-const mine = hashes(vt220, core, all.map(([input]) => new Uint8Array(Buffer.from(input, "base64"))));
-all.forEach(([input, theirs], i) => check(`beside the library, ${input.slice(0, 200)}`, mine[i] === theirs));
+const mine = hashes(vt220, core, all.inputs.map(([input]) => new Uint8Array(Buffer.from(input, "base64"))));
+all.inputs.forEach(([input, theirs], i) => check(`beside the library, ${input.slice(0, 200)}`, mine[i] === theirs));
+planes(core).forEach((each, i) => check(`how plane ${i} of Unicode is shown`, each === all.planes[i]));
 
 keys(core, await readFile(new URL("../../tests-c/keys.txt", import.meta.url), "utf8"), check);
 await calls(vt220, wasm, check);
 timelines(vt220, core, check);
 utf8(vt220, core, await readFile(new URL("../../tests-c/utf8.txt", import.meta.url), "utf8"), check);
+xterm(vt220, core, await readFile(new URL("../../tests-c/xterm.txt", import.meta.url), "utf8"), check);
 
 const script = `import { load, Terminal } from ${JSON.stringify(pathToFileURL(`${place}/src/vt220.js`).href)};
 import { parentPort } from "node:worker_threads";

@@ -1,12 +1,12 @@
 // Uses each type of the package; tsc --strict has to accept it, and to refuse the lines after @ts-expect-error.
 import { COLUMNS, load, ROWS, Terminal, Vt220Error } from "vt220";
-import type { Attributes, Cell, Code, Core, Cursor, Encoding, Held, Margins, Modes, Saved, Sets } from "vt220";
+import type { Attributes, Cell, Code, Core, Cursor, Encoding, Held, Margins, Modes, Saved, Sets, TerminalType } from "vt220";
 import { Timeline } from "vt220/timeline";
 import type { Recording, Span } from "vt220/timeline";
 
 export async function use(bytes: Uint8Array): Promise<string> {
   const core: Core = await load(), from: Core = await load(bytes), rows: 24 = ROWS, columns: 132 = COLUMNS;
-  const terminal = new Terminal(core), other = new Terminal(from, { encoding: "utf-8" });
+  const terminal = new Terminal(core), other = new Terminal(from, { encoding: "utf-8" }), third = new Terminal(core, { terminal: "xterm" });
   const encoding: Encoding = other.encoding, pending: Uint8Array = other.pending, shown: string = core.shown("x");
   const replies: Uint8Array = terminal.feed(bytes), { lines }: { lines: string[] } = terminal.feedLog(bytes);
   const cells: Cell[] = terminal.cells(1), cursor: Cursor = terminal.cursor, margins: Margins = terminal.margins, modes: Modes = terminal.modes;
@@ -25,6 +25,9 @@ export async function use(bytes: Uint8Array): Promise<string> {
   terminal.width = 80;
   // @ts-expect-error: a terminal needs its core
   new Terminal();
+  const kind: TerminalType = third.terminal, alternate: boolean = third.alternate;
+  // @ts-expect-error: no such terminal
+  new Terminal(core, { terminal: "xterm-256color" });
   // @ts-expect-error: no such encoding
   new Terminal(core, { encoding: "latin-1" });
   return [rows, columns, replies, lines, cells, cursor, margins, modes, brush, sets, saved, held, parts, pending, shown, spans, core.key("Up", modes), core.keyLength(bytes), line.seek(1).text()].join();

@@ -3,9 +3,8 @@
 
 ghost use Rattle.std.specs.Prelude.{◌≡◌, ◌⊎◌, IfErr, MatchResult};
 ghost use Rattle.std.specs.Process.{exit_status};
-ghost use Rattle.vt_commands.specs.Fault.{status_of};
-ghost use Rattle.vt_commands.specs.declared.fault.Fault.TheVariants.{Replay};
-ghost use Rattle.vt_replay.specs.declared.fault.Fault.TheVariants as replay;
+ghost use Rattle.vt_recording.specs.Fault.{status_of};
+ghost use Rattle.vt_recording.specs.declared.fault.Fault.TheVariants.{Memory, Write};
 
 mod notes;
 mod peeked;
@@ -19,22 +18,13 @@ use std::env::{self, Env};
 use std::fs::{File, Files};
 use std::io::{self, ErrorKind, Input, Read, Write};
 use std::process::ExitCode;
-use vt_commands::{
+use vt_replay::{
     Fault, Format, Outcome, Part, Refused, Request, Watched, What, Word, carry_out, detect,
-    format_of, lacks_times, read_timing, request,
+    format_of, lacks_times, read_recording, request,
 };
 
 /// The exit status of a wrong command line.
 const BAD_COMMAND_LINE: u8 = 2;
-
-/// An allocation failed.
-const MEMORY: Fault = Fault::Replay(vt_replay::Fault::Memory);
-
-/// The input or the timing file can't be opened or read.
-const READ: Fault = Fault::Replay(vt_replay::Fault::Read);
-
-/// The output can't be written.
-const WRITE: Fault = Fault::Replay(vt_replay::Fault::Write);
 
 /// Ends the program with a fault's line and status.
 fn ended_by(rt: &impl Eprint, fault: Fault) -> ExitCode
@@ -46,14 +36,14 @@ fn ended_by(rt: &impl Eprint, fault: Fault) -> ExitCode
 
 /// Returns the arguments. `Err` is what the program ends with if they aren't text or allocation fails.
 fn words<R: Env + AllocGlobal + Eprint>(rt: &R) -> Result<Vec<String>, ExitCode>
-    ensures { IfErr result (λ ended. (exit_status ended ≡ status_of (Replay replay.Memory)) ⊎ (exit_status ended ≡ 2)) }
+    ensures { IfErr result (λ ended. (exit_status ended ≡ status_of Memory) ⊎ (exit_status ended ≡ 2)) }
 {
     match env::args(rt) {
         Ok(words) => match words.collect(rt.alloc()) {
             Ok(words) => Ok(words),
-            Err(_) => Err(ended_by(rt, MEMORY)),
+            Err(_) => Err(ended_by(rt, Fault::Memory)),
         },
-        Err(error) if error.kind() == ErrorKind::OutOfMemory => Err(ended_by(rt, MEMORY)),
+        Err(error) if error.kind() == ErrorKind::OutOfMemory => Err(ended_by(rt, Fault::Memory)),
         Err(_) => {
             let _ = eprintln!(rt; "vt220: bad command line");
             let _ = eprintln!(rt;
@@ -69,18 +59,18 @@ fn words<R: Env + AllocGlobal + Eprint>(rt: &R) -> Result<Vec<String>, ExitCode>
 /// failed write.
 fn refused_by<R: Print + Eprint + AllocGlobal>(rt: &R, refused: &Refused) -> ExitCode
     ensures { (exit_status result ≡ refused.now.status)
-        ⊎ ((refused.now.status ≡ 0) × (exit_status result ≡ status_of (Replay replay.Write))) }
+        ⊎ ((refused.now.status ≡ 0) × (exit_status result ≡ status_of Write)) }
 {
     match refused.status {
         0 => match print!(rt; "{}", refused.text) {
             Ok(()) => ExitCode::SUCCESS,
             Err(error) => {
-                let status = ended_by(rt, WRITE);
+                let status = ended_by(rt, Fault::Write);
                 print_error(rt, STANDARD_OUTPUT, Some(error));
                 status
             }
         },
-        1 => ended_by(rt, MEMORY),
+        1 => ended_by(rt, Fault::Memory),
         status => {
             let _ = eprint!(rt; "{}", refused.text);
             ExitCode::from(status)
@@ -127,8 +117,8 @@ fn ended_early(
 /// Returns the end of a request whose input couldn't be opened or looked at.
 fn ended_unread(rt: &impl AllocGlobal, request: &Request, error: io::Error) -> Ended {
     let fault = match error.kind() {
-        ErrorKind::OutOfMemory => MEMORY,
-        _ => READ,
+        ErrorKind::OutOfMemory => Fault::Memory,
+        _ => Fault::Read,
     };
     ended_early(rt, request, fault, Part::Recording, Some(error))
 }
@@ -143,7 +133,7 @@ fn carry_out_on<R: Print + AllocGlobal, D: Read + Drop>(
 ) -> Ended {
     let mut input = match Peeked::new(rt.alloc(), device) {
         Ok(input) => input,
-        Err(AllocError) => return ended_early(rt, request, MEMORY, Part::Recording, None),
+        Err(AllocError) => return ended_early(rt, request, Fault::Memory, Part::Recording, None),
     };
     if request.format.is_none() {
         if let Err(error) = input.look(rt.alloc()) {
@@ -182,7 +172,7 @@ fn carry_out_in<R: Print + AllocGlobal, D: Read + Drop>(
     Ended {
         outcome: Outcome {
             replaced: outcome.replaced,
-            ended: outcome.ended.and(flushed.map_err(|_| WRITE)),
+            ended: outcome.ended.and(flushed.map_err(|_| Fault::Write)),
         },
         part: Part::Recording,
         error: error.or(flushed.err()),
@@ -216,10 +206,10 @@ fn carry_out_with_timing<R: Files + Input + Print + AllocGlobal>(
     };
     let file = match File::open(rt, name.as_str()) {
         Ok(file) => file,
-        Err(error) => return ended_early(rt, request, READ, Part::Timing, Some(error)),
+        Err(error) => return ended_early(rt, request, Fault::Read, Part::Timing, Some(error)),
     };
     let mut reader = Watched::new(file);
-    match read_timing(rt.alloc(), &mut reader, request.limit) {
+    match read_recording(rt.alloc(), &mut reader, request.limit as usize) {
         Ok(bytes) => carry_out_by_name(rt, Some(&bytes), request),
         Err(fault) => ended_early(rt, request, fault, Part::Timing, reader.error()),
     }
@@ -229,7 +219,7 @@ fn carry_out_with_timing<R: Files + Input + Print + AllocGlobal>(
 /// ends without a line.
 fn is_silent(word: Word, fault: Fault, error: Option<io::Error>) -> bool {
     let is_left = match error {
-        Some(error) => fault == WRITE && error.kind() == ErrorKind::BrokenPipe,
+        Some(error) => fault == Fault::Write && error.kind() == ErrorKind::BrokenPipe,
         None => false,
     };
     match word {

@@ -1,7 +1,7 @@
 //! The notes on standard error: what the input looks like, and at which size it was recorded. They change nothing else.
 
 use crate::reasons::name_of;
-use vt_commands::{Compression, Detected, Format, Part, Request, detect};
+use vt_replay::{Compression, Detected, Format, Part, Request, detect};
 
 /// A size of a screen: columns and rows.
 #[derive(Clone, Copy, PartialEq, Eq)]

@@ -2,7 +2,7 @@
 
 use std::alloc::{AllocError, Global};
 use std::io::{self, Read};
-use vt_commands::DETECTION_LENGTH;
+use vt_replay::DETECTION_LENGTH;
 
 /// The most bytes of one read that looks ahead.
 const PIECE: usize = 4096;

@@ -3,7 +3,7 @@
 use crate::notes::hint_of;
 use std::alloc::{AllocError, Global};
 use std::io::Error;
-use vt_commands::{Break, Detected, Fault, Format, Part, Request};
+use vt_replay::{Break, Detected, Fault, Format, Part, Request};
 
 /// What the operating system's number of an error comes after in its message.
 const BEFORE_THE_NUMBER: &str = " (os error ";
@@ -33,21 +33,21 @@ pub(crate) fn print_reason<R: Eprint + AllocGlobal>(
 ) {
     let input = name_of(request, seen.part);
     let _ = match fault {
-        Fault::Replay(vt_replay::Fault::Memory) => Ok(()),
-        Fault::Replay(vt_replay::Fault::Partial) => {
+        Fault::Memory => Ok(()),
+        Fault::Partial => {
             eprintln!(rt;
                 "vt220: {input}: the last sequence has no end; vt220 status prints its kind"
             )
         }
-        Fault::Replay(vt_replay::Fault::Read) => {
+        Fault::Read => {
             print_error(rt, input, seen.error);
             Ok(())
         }
-        Fault::Replay(vt_replay::Fault::Write) => {
+        Fault::Write => {
             print_error(rt, STANDARD_OUTPUT, seen.error);
             Ok(())
         }
-        Fault::Replay(vt_replay::Fault::TooLong) => {
+        Fault::TooLong => {
             let limit = request.limit;
             eprintln!(rt; "vt220: {input}: more than {limit} bytes; a greater --limit allows them")
         }

@@ -77,8 +77,7 @@ encoding_of command (Some name) = encoding_named command name
 -- the command of this name plays xterm
 abbrev pub plays_xterm : Text → Bool
 plays_xterm command =
-    not (bytes_eq command (codes "log")) && (not (bytes_eq command (codes "pages"))
-    && (reads_utf8 command && not (bytes_eq command (codes "content"))))
+    not (bytes_eq command (codes "pages")) && (reads_utf8 command && not (bytes_eq command (codes "content")))
 
 -- xterm, for a command and the encoding that was asked for: it reads UTF-8
 abbrev pub xterm_for : (command : Text) → Option Encoding → Result TerminalType Complaint
@@ -162,4 +161,4 @@ line_of OnlyDec =
 line_of NoTerminal = codes "vt220: --terminal is vt220 or xterm" ++ 0x0A ∷ []
 line_of OnlyUtf8 = codes "vt220: --terminal xterm reads UTF-8, and not --encoding dec" ++ 0x0A ∷ []
 line_of OnlyVt220 =
-    codes "vt220: log, pages, trace, summary and content play no xterm" ++ 0x0A ∷ codes "vt220: text, show, picture, status, reports and repaint do" ++ 0x0A ∷ []
+    codes "vt220: pages, trace, summary and content play no xterm" ++ 0x0A ∷ codes "vt220: text, show, picture, status, reports, repaint and log do" ++ 0x0A ∷ []

@@ -72,8 +72,8 @@ impl Complaint {
             Complaint::NoTerminal => "vt220: --terminal is vt220 or xterm\n",
             Complaint::OnlyUtf8 => "vt220: --terminal xterm reads UTF-8, and not --encoding dec\n",
             Complaint::OnlyVt220 => {
-                "vt220: log, pages, trace, summary and content play no xterm\n\
-                 vt220: text, show, picture, status, reports and repaint do\n"
+                "vt220: pages, trace, summary and content play no xterm\n\
+                 vt220: text, show, picture, status, reports, repaint and log do\n"
             }
         }
     }
@@ -185,7 +185,7 @@ fn encoding_of(command: &str, name: Option<&str>) -> Result<Option<Encoding>, Co
 fn plays_xterm(command: &str) -> bool
     ensures { result ≡ plays_xterm command.now }
 {
-    !matches!(command, "log" | "pages" | "trace" | "summary" | "content")
+    !matches!(command, "pages" | "trace" | "summary" | "content")
 }
 
 /// Returns xterm, for a command and the encoding that was asked for.

@@ -3,11 +3,12 @@ pub mod Characters
 pub mod Content
 pub mod Detection
 pub mod Events
-pub mod Moment
+pub mod Fault
 pub mod Lines
+pub mod Moment
 pub mod Reading
-pub mod Seconds
 pub mod Script
+pub mod Seconds
 pub mod Steps
 pub mod Taken
 pub mod Timing

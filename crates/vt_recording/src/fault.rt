@@ -1,18 +1,75 @@
-//! The faults of reading a recording.
-ghost use Rattle.std.specs.Prelude.{◌≡◌};
+//! Why a request ends early.
+ghost use Rattle.std.specs.Prelude.{◌≡◌, Some};
+ghost use Rattle.vt_recording.specs.Fault.{status_of, line_of};
 
+use crate::format::{Break, Part};
 use std::alloc::AllocError;
+use std::error::Error;
+use std::fmt;
 
-/// The reason for which a recording wasn't read to its end.
+/// Why a request ends early. The message is the line that the program prints.
 #[derive(Clone, Copy, Debug, PartialEq, Eq)]
 pub enum Fault {
-    /// Allocation failed.
+    /// An allocation failed.
     Memory,
+    /// A repaint was asked for, and the input ends inside a sequence.
+    Partial,
     /// A read of the input failed.
     Read,
+    /// A write of the output failed.
+    Write,
     /// The input has more bytes than the limit.
     TooLong,
+    /// The recording breaks its format at this place. What came before it was played, and what is due was written.
+    Broken(Break),
+    /// The beginning of the input decided on its format, which has no times, and the moment is one. Nothing was written.
+    NoTimes,
 }
+
+impl Fault {
+    /// Returns the status with which the program ends.
+    pub fn status(&self) -> u8
+        ensures { result ≡ status_of self.now }
+    {
+        match self {
+            Fault::Memory => 1,
+            Fault::NoTimes => 2,
+            Fault::Partial => 3,
+            Fault::Read => 4,
+            Fault::Write => 5,
+            Fault::TooLong => 6,
+            Fault::Broken(_) => 7,
+        }
+    }
+}
+
+impl fmt::Display for Fault {
+    ghost output = { λ fault. Some (line_of fault) };
+
+    fn fmt<W: fmt::Write>(&self, f: &mut fmt::Formatter<W>) -> fmt::Result {
+        match self {
+            Fault::Memory => write!(f, "vt220: out of memory"),
+            Fault::Partial => write!(f, "vt220: input ends inside a sequence"),
+            Fault::Read => write!(f, "vt220: read failed"),
+            Fault::Write => write!(f, "vt220: write failed"),
+            Fault::TooLong => write!(f, "vt220: input is longer than the limit"),
+            Fault::Broken(place) => match place.part {
+                Part::Recording => {
+                    write!(f, "vt220: the recording is broken at byte {}", place.at)
+                }
+                Part::Timing => {
+                    write!(f, "vt220: the timing file is broken at byte {}", place.at)
+                }
+            },
+            Fault::NoTimes => write!(
+                f,
+                "vt220: the input has no times; give --until in bytes, as 4096b"
+            ),
+        }
+    }
+}
+
+impl Error for Fault {}
 
 impl From<AllocError> for Fault {
     ghost use Rattle.vt_recording.specs.declared.fault.Fault.TheVariants.{Memory};

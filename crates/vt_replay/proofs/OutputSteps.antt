@@ -14,6 +14,11 @@ Writes = List ℕ → List ℕ
 abbrev pub Holds : Type 0
 Holds = List ℕ → Bool
 
+-- a host's bytes were decoded: what is decoded of bytes that come after them
+pub record IsDecodedAfter (decoded : Writes) (b : List ℕ) (decoded_after : Writes) : Type 0 where
+  pub on : (more : List ℕ) → decoded (b ++ more) ≡ decoded b ++ decoded_after more
+  pub none : decoded_after [] ≡ []
+
 -- bytes, and then more of them
 pub then_more : (written ending : Writes) (there : Holds) (b c : List ℕ) (middle middle_ending : Writes) (middle_there : Holds) (last last_ending : Writes) (last_there : Holds)
     → IsAfter written ending there b middle middle_ending middle_there → IsAfter middle middle_ending middle_there c last last_ending last_there
@@ -31,14 +36,28 @@ rest-of chunk at =
     let e : length chunk - at ≡ length (drop at chunk) = sym (length-drop at chunk) in
     rw e (take-length (drop at chunk))
 
+-- all of a chunk is taken
+pub taken_all : (chunk : List ℕ) (at : ℕ) → at ≤ length chunk → length chunk ≤ at → take at chunk ≡ chunk
+taken_all chunk at within all =
+    let e : at ≡ length chunk = omega (arith, within, all) in
+    rw e (take-length chunk)
+
 -- one more turn of a chunk
-pub next_turn : (written ending : Writes) (there : Holds) (chunk : List ℕ) (at n : ℕ) (middle middle_ending : Writes) (middle_there : Holds) (last last_ending : Writes) (last_there : Holds)
-    → IsAfter written ending there (take at chunk) middle middle_ending middle_there
-    → IsAfter middle middle_ending middle_there (take n (drop at chunk)) last last_ending last_there
-    → IsAfter written ending there (take (at + n) chunk) last last_ending last_there
-next_turn written ending there chunk at n middle middle_ending middle_there last last_ending last_there first second =
-    rw (take-add at n chunk)
-    (then_more written ending there (take at chunk) _ middle middle_ending middle_there last last_ending last_there first second)
+pub next_turn : (written : Writes) (ending : List ℕ → Writes) (there : Holds) (before chunk : List ℕ) (at n : ℕ) (middle : Writes) (middle_ending : List ℕ → Writes) (middle_there : Holds) (last : Writes) (last_ending : List ℕ → Writes) (last_there : Holds)
+    → IsAfter written (ending before) there (take at chunk) middle (middle_ending (before ++ take at chunk)) middle_there
+    → ((taken : List ℕ) → IsAfter middle (middle_ending taken) middle_there (take n (drop at chunk)) last (last_ending (taken ++ take n (drop at chunk))) last_there)
+    → IsAfter written (ending before) there (take (at + n) chunk) last (last_ending (before ++ take (at + n) chunk)) last_there
+next_turn written ending there before chunk at n middle middle_ending middle_there last last_ending last_there first second =
+    rw (take-add at n chunk, ← append_assoc before (take at chunk) (take n (drop at chunk)))
+    (then_more written (ending before) there (take at chunk) _ middle (middle_ending (before ++ take at chunk)) middle_there last
+    (last_ending ((before ++ take at chunk) ++ take n (drop at chunk))) last_there first (second (before ++ take at chunk)))
+
+-- one more turn is taken
+pub next_taken : (before chunk : List ℕ) (at n : ℕ) (Middle Last : List ℕ → Type 0) → Middle (before ++ take at chunk)
+    → ((taken : List ℕ) → Middle taken → Last (taken ++ take n (drop at chunk))) → Last (before ++ take (at + n) chunk)
+next_taken before chunk at n Middle Last first second =
+    rw (take-add at n chunk, ← append_assoc before (take at chunk) (take n (drop at chunk)))
+    (second (before ++ take at chunk) first)
 
 pub turn_written : (written ending : Writes) (there : Holds) (chunk : List ℕ) (at n : ℕ) (middle middle_ending : Writes) (middle_there : Holds)
     → IsAfter written ending there (take at chunk) middle middle_ending middle_there
@@ -93,17 +112,40 @@ pub there_so : (written ending : Writes) (there : Holds) (b : List ℕ) (last la
     → IsAfter written ending there b last last_ending last_there → there b ≡ last_there []
 there_so written ending there b last last_ending last_there after = sym (ap there (append-nil b)) ∙ after.there_on []
 
--- an output that is given what a chunk is decoded to
-pub through : (decoded decoded_after : Writes) (chunk : List ℕ) (written ending : Writes) (there : Holds)
+-- one more chunk is decoded
+pub decoded_more : (decoded middle last : Writes) (b chunk : List ℕ) → IsDecodedAfter decoded b middle
+    → IsDecodedAfter middle chunk last → IsDecodedAfter decoded (b ++ chunk) last
+decoded_more decoded middle last b chunk first second = record {
+  on = λ more. rw (append_assoc, first.on (chunk ++ more), second.on more, first.on chunk, append_assoc) refl;
+  none = second.none;
+}
+
+-- an output that is given what a host's bytes are decoded to
+pub through : (decoded decoded_after : Writes) (b : List ℕ) (written ending : Writes) (there : Holds)
     (last last_ending : Writes) (last_there : Holds)
-    → ((more : List ℕ) → decoded (chunk ++ more) ≡ decoded chunk ++ decoded_after more) → decoded_after [] ≡ []
-    → IsAfter written ending there (decoded chunk) last last_ending last_there
-    → IsAfter (λ bytes. written (decoded bytes)) (λ bytes. ending (decoded bytes)) (λ bytes. there (decoded bytes)) chunk
+    → IsDecodedAfter decoded b decoded_after
+    → IsAfter written ending there (decoded b) last last_ending last_there
+    → IsAfter (λ bytes. written (decoded bytes)) (λ bytes. ending (decoded bytes)) (λ bytes. there (decoded bytes)) b
     (λ bytes. last (decoded_after bytes)) (λ bytes. last_ending (decoded_after bytes))
     (λ bytes. last_there (decoded_after bytes))
-through decoded decoded_after chunk written ending there last last_ending last_there on none after = record {
-  on = λ more. ap written (on more) ∙ after.on (decoded_after more);
-  end_on = λ more. ap ending (on more) ∙ after.end_on (decoded_after more);
-  there_on = λ more. ap there (on more) ∙ after.there_on (decoded_after more);
-  none = ap last none ∙ after.none;
+through decoded decoded_after b written ending there last last_ending last_there d after = record {
+  on = λ more. ap written (d.on more) ∙ after.on (decoded_after more);
+  end_on = λ more. ap ending (d.on more) ∙ after.end_on (decoded_after more);
+  there_on = λ more. ap there (d.on more) ∙ after.there_on (decoded_after more);
+  none = ap last d.none ∙ after.none;
 }
+
+-- an output that is given what one more chunk is decoded to
+pub after_more : (host middle : Writes) (b chunk : List ℕ) (written ending : Writes) (there : Holds) (now : Writes) (now_ending : List ℕ → Writes) (now_there : Holds) (last : Writes) (last_ending : List ℕ → Writes) (last_there : Holds)
+    → IsDecodedAfter host b middle
+    → IsAfter written ending there (host b) now (now_ending (host b)) now_there
+    → ((taken : List ℕ) → IsAfter now (now_ending taken) now_there (middle chunk) last (last_ending (taken ++ middle chunk)) last_there)
+    → IsAfter written ending there (host (b ++ chunk)) last (last_ending (host (b ++ chunk))) last_there
+after_more host middle b chunk written ending there now now_ending now_there last last_ending last_there d first second =
+    rw (d.on chunk)
+    (then_more written ending there (host b) (middle chunk) now (now_ending (host b)) now_there last
+    (last_ending (host b ++ middle chunk)) last_there first (second (host b)))
+
+pub took_more : (host middle : Writes) (b chunk : List ℕ) (Now Last : List ℕ → Type 0) → IsDecodedAfter host b middle
+    → Now (host b) → ((taken : List ℕ) → Now taken → Last (taken ++ middle chunk)) → Last (host (b ++ chunk))
+took_more host middle b chunk Now Last d first second = rw (d.on chunk) (second (host b) first)

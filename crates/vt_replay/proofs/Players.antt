@@ -1,15 +1,17 @@
 -- What a player leaves and reports of more bytes.
-use Rattle.std.proofs.Common.{◌≡◌, ℕ, List, ◌++◌, ap, refl}
+use Rattle.std.proofs.Common.{◌≡◌, ℕ, List, [], ◌++◌, ap, refl}
 use Rattle.vt_term.specs.State.{State, power_up}
 use Rattle.vt_term.specs.Sound.{IsSound}
 use Rattle.vt_term.specs.Play.{play, both}
 use Rattle.vt_utf8.specs.Decoding.{pending_after}
 use Rattle.vt_utf8.specs.Play.{play_utf8}
-use Rattle.vt_xterm.specs.Play.{Whole, WholePlayed, FrontState, play_xterm, behind, both as both_whole}
+use Rattle.vt_term.specs.Text.{text}
+use Rattle.vt_xterm.specs.Play.{Whole, WholePlayed, FrontState, play_xterm, xterm_log, behind, both as both_whole}
 use Rattle.vt_recording.specs.declared.format.Encoding.{Encoding}
 use Rattle.vt_recording.specs.declared.format.Encoding.TheVariants.{Dec, Utf8}
 use Rattle.vt_cli.specs.declared.what.TerminalType.TheVariants.{Vt220}
 use Rattle.vt_replay.specs.Encoding.{decoded}
+use Rattle.vt_replay.specs.Output.{IsAfter, always}
 use Rattle.vt_replay.specs.Playing.{language_of, on_terminal, played_as}
 
 pub utf8_on : (s t : State) (pending after chunk more : List ℕ)
@@ -32,6 +34,28 @@ pub xterm_on : (s t : State) (front after : FrontState) (chunk more : List ℕ)
 xterm_on s t front after chunk more two state pages left =
     rw (state, pages, left)
     (ap (λ (p : WholePlayed). on_terminal p) (two (behind s front) front.pending chunk more))
+
+-- the log of what xterm plays, and its screen
+pub xterm_log_after : (s t : State) (front after : FrontState) (chunk : List ℕ)
+    → ((w : Whole) (pending a b : List ℕ) → play_xterm w pending (a ++ b)
+    ≡ both_whole (play_xterm w pending a) (play_xterm (play_xterm w pending a).whole (pending_after pending a) b))
+    → ((w : Whole) (pending a b : List ℕ) → xterm_log w pending (a ++ b)
+    ≡ xterm_log w pending a ++ xterm_log (play_xterm w pending a).whole (pending_after pending a) b)
+    → ((w : Whole) (pending : List ℕ) → xterm_log w pending [] ≡ [])
+    → t ≡ (play_xterm (behind s front) front.pending chunk).whole.state
+    → after.pages ≡ (play_xterm (behind s front) front.pending chunk).whole.pages
+    → after.pending ≡ pending_after front.pending chunk
+    → IsAfter (xterm_log (behind s front) front.pending)
+    (λ x. text (play_xterm (behind s front) front.pending x).whole.state) always chunk
+    (xterm_log (behind t after) after.pending)
+    (λ x. text (play_xterm (behind t after) after.pending x).whole.state) always
+xterm_log_after s t front after chunk two log_two log_none state pages left = record {
+  on = λ more. rw (state, pages, left) (log_two (behind s front) front.pending chunk more);
+  end_on = λ more. rw (state, pages, left)
+      (ap (λ (p : WholePlayed). text p.whole.state) (two (behind s front) front.pending chunk more));
+  there_on = λ more. refl;
+  none = log_none (behind t after) after.pending;
+}
 
 -- UTF-8 is played as what it is translated to
 pub as_decoded : (encoding : Encoding) (bytes : List ℕ)

@@ -1,9 +1,9 @@
 -- What a replay of bytes has to write. (this profile)
-use Rattle.std.specs.Prelude.{◌≡◌, ℕ, List, [], ◌++◌, length, Bool, true, false}
+use Rattle.std.specs.Prelude.{ℕ, List, [], length, Bool, true, false, Result}
 use Rattle.vt_syntax.specs.declared.held.Held.{Held}
 use Rattle.vt_syntax.specs.declared.held.Held.TheVariants.{Nothing}
-use Rattle.vt_term.specs.State.{State, power_up}
-use Rattle.vt_term.specs.Play.{Played, play}
+use Rattle.vt_term.specs.State.{State}
+use Rattle.vt_term.specs.Play.{Played}
 use Rattle.vt_term.specs.Text.{text}
 use Rattle.vt_term.specs.declared.terminal.TheConstants.{TEXT_LIMIT}
 use Rattle.vt_paint.specs.Repaint.{paint}
@@ -14,6 +14,9 @@ use Rattle.vt_picture.specs.declared.showing.TheConstants.{SHOW_LIMIT}
 use Rattle.vt_picture.specs.declared.document.TheConstants.{PICTURE_LIMIT}
 use Rattle.vt_cli.specs.declared.what.What.{What}
 use Rattle.vt_cli.specs.declared.what.What.TheVariants.{Text, Reports, Repaint, Status, Show, Picture}
+use Rattle.vt_device.specs.Runs.{Flags}
+use Rattle.vt_recording.specs.declared.fault.Fault.{Fault}
+use Rattle.vt_replay.specs.Output.{OutputTable}
 use Rattle.vt_replay.specs.Status.{status}
 use Rattle.vt_replay.specs.declared.status.TheConstants.{STATUS_LIMIT}
 
@@ -26,10 +29,6 @@ sent Status reports = []
 sent Show reports = []
 sent Picture reports = []
 
--- what of it goes out for these bytes
-abbrev pub sent_for : What → List ℕ → List ℕ
-sent_for what bytes = sent what (play power_up bytes).reports
-
 -- what is due after the whole input
 abbrev pub due_at_end : What → State → ℕ → List ℕ
 due_at_end Text s reported = text s
@@ -39,13 +38,7 @@ due_at_end Status s reported = status s reported
 due_at_end Show s reported = show s
 due_at_end Picture s reported = picture s
 
--- what is due for these bytes: what goes out while they are read, and then what is due at their end
-abbrev pub due : What → List ℕ → List ℕ
-due what bytes =
-    let played = play power_up bytes in
-    sent what played.reports ++ due_at_end what played.state (length played.reports)
-
--- the most bytes of it; private contracts alone speak of this
+-- the most bytes of that; private contracts alone speak of this
 abbrev pub room_for : What → ℕ
 room_for Text = TEXT_LIMIT
 room_for Reports = 0
@@ -53,10 +46,6 @@ room_for Repaint = PAINT_LIMIT
 room_for Status = STATUS_LIMIT
 room_for Show = SHOW_LIMIT
 room_for Picture = PICTURE_LIMIT
-
--- a repaint is there between sequences only, all else always
-abbrev pub IsThere : What → State → Type 0
-IsThere what s = what ≡ Repaint → s.held ≡ Nothing
 
 -- ---- a replay as an output, by what bytes leave and report
 
@@ -82,7 +71,7 @@ abbrev pub is_nothing : Held → Bool
 is_nothing Nothing = true
 is_nothing held = false
 
--- what is asked for is there, as `IsThere` says
+-- what is asked for is there: a repaint between sequences only, all else always
 abbrev pub is_there : What → State → Bool
 is_there Text s = true
 is_there Reports s = true
@@ -94,3 +83,8 @@ is_there Picture s = true
 -- what goes out for bytes at their end is there
 abbrev pub there_by : (played : List ℕ → Played) → What → List ℕ → Bool
 there_by played what bytes = is_there what (played bytes).state
+
+-- what each answer of a replay says of a host's bytes, by what bytes leave and report
+abbrev pub PlayedTable : (played : List ℕ → Played) → What → Result (Unit {0}) Fault → (piece : ℕ) → (b w : List ℕ) → Flags → (limit : ℕ) → Type 0
+PlayedTable played what result piece b w f limit =
+    OutputTable (sent_by played what) (end_by played what) (there_by played what) result piece b w f limit

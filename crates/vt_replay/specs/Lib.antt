@@ -1,8 +1,10 @@
 pub mod Due
 pub mod Encoding
-pub mod Fault
 pub mod Log
 pub mod Output
+pub mod PageCuts
+pub mod Pages
 pub mod Playing
-pub mod Run
+pub mod Request
 pub mod Status
+pub mod Words

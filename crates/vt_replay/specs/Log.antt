@@ -1,12 +1,15 @@
--- What a log takes from its reader and gives to its writer. (this profile)
-use Rattle.std.specs.Prelude.{ℕ, List, Result}
-use Rattle.vt_device.specs.Runs.{Flags}
+-- What a log writes of a host's bytes. (this profile)
+use Rattle.std.specs.Prelude.{ℕ, List, []}
 use Rattle.vt_term.specs.State.{power_up}
 use Rattle.vt_term.specs.Play.{play}
 use Rattle.vt_term.specs.Text.{text}
 use Rattle.vt_term.specs.Scrolling.{log}
-use Rattle.vt_replay.specs.declared.fault.Fault.{Fault}
-use Rattle.vt_replay.specs.Output.{OutputTable, always}
+use Rattle.vt_xterm.specs.Play.{xterm_log, behind, front_at_power_up}
+use Rattle.vt_recording.specs.declared.format.Encoding.TheVariants as encoding
+use Rattle.vt_replay.specs.declared.language.Language.{Language}
+use Rattle.vt_replay.specs.declared.language.Language.TheVariants.{Dec, Utf8, Xterm}
+use Rattle.vt_replay.specs.Encoding.{decoded}
+use Rattle.vt_replay.specs.Playing.{played_as}
 
 -- the lines that scroll off
 abbrev pub lines : List ℕ → List ℕ
@@ -16,6 +19,14 @@ lines bytes = log power_up bytes
 abbrev pub screen : List ℕ → List ℕ
 screen bytes = text (play power_up bytes).state
 
--- what each answer of a log says: lines go out as they come, and the screen at the end
-abbrev pub LogTable : Result (Unit {0}) Fault → (piece : ℕ) → (b w : List ℕ) → Flags → (limit : ℕ) → Type 0
-LogTable result piece b w f limit = OutputTable lines screen always result piece b w f limit
+-- the lines that scroll off, in each language of the host
+abbrev pub lines_in : Language → List ℕ → List ℕ
+lines_in Dec bytes = lines bytes
+lines_in Utf8 bytes = lines (decoded encoding.Utf8 bytes)
+lines_in Xterm bytes = xterm_log (behind power_up front_at_power_up) [] bytes
+
+-- the text of the screen, in each language
+abbrev pub screen_in : Language → List ℕ → List ℕ
+screen_in Dec bytes = screen bytes
+screen_in Utf8 bytes = screen (decoded encoding.Utf8 bytes)
+screen_in Xterm bytes = text (played_as Xterm bytes).state

@@ -4,8 +4,8 @@ use Rattle.vt_device.specs.Runs.{Flags, AreFlags}
 use Rattle.vt_device.specs.Writing.{IsProperBeginning}
 use Rattle.vt_recording.specs.declared.format.Encoding.{Encoding}
 use Rattle.vt_replay.specs.Encoding.{decoded}
-use Rattle.vt_replay.specs.declared.fault.Fault.{Fault}
-use Rattle.vt_replay.specs.declared.fault.Fault.TheVariants.{Memory, Partial, Read, Write, TooLong}
+use Rattle.vt_recording.specs.declared.fault.Fault.{Fault}
+use Rattle.vt_recording.specs.declared.fault.Fault.TheVariants.{Memory, Partial, Read, Write, TooLong, Broken, NoTimes}
 
 -- what an output writes at the end is always there
 abbrev pub always : List ℕ → Bool
@@ -54,6 +54,8 @@ OutputTable written ending there (Err Read) piece b w f limit = AreFlags f true 
 OutputTable written ending there (Err Write) piece b w f limit = IsCutOutput written ending there piece b w f × (length b ≤ limit)
 OutputTable written ending there (Err TooLong) piece b w f limit = AreFlags f false false false × (length b ≡ limit + 1)
     × (w ≡ written (take limit b))
+OutputTable written ending there (Err (Broken place)) piece b w f limit = ⊥
+OutputTable written ending there (Err NoTimes) piece b w f limit = ⊥
 
 -- what each answer says of a host's bytes in an encoding, of which the terminal's bytes are given to the output
 abbrev pub EncodedTable : Encoding → (written ending : List ℕ → List ℕ) → (there : List ℕ → Bool) → Result (Unit {0}) Fault → (piece : ℕ) → (b w : List ℕ) → Flags → (limit : ℕ) → Type 0
@@ -63,15 +65,15 @@ EncodedTable encoding written ending there result piece b w f limit =
 
 -- ---- the parts of an output
 
--- what each answer of the reading part says, of an output that then writes so of bytes that come
-abbrev pub ComingTable : (written ending : List ℕ → List ℕ) → (there : List ℕ → Bool) → Result (Unit {0}) Fault → (written_after ending_after : List ℕ → List ℕ) → (there_after : List ℕ → Bool) → (piece : ℕ) → (b w : List ℕ) → Flags → (limit : ℕ) → Type 0
-ComingTable written ending there (Ok u) written_after ending_after there_after piece b w f limit = AreFlags f false true false
-    × (length b ≤ limit) × (w ≡ written b) × IsAfter written ending there b written_after ending_after there_after
-ComingTable written ending there (Err Memory) written_after ending_after there_after piece b w f limit = ⊥
-ComingTable written ending there (Err Partial) written_after ending_after there_after piece b w f limit = ⊥
-ComingTable written ending there (Err Read) written_after ending_after there_after piece b w f limit = AreFlags f true false false
-    × (length b ≤ limit) × (w ≡ written b)
-ComingTable written ending there (Err Write) written_after ending_after there_after piece b w f limit = AreFlags f false false true
-    × (length b ≤ limit) × IsCutBefore written piece b w
-ComingTable written ending there (Err TooLong) written_after ending_after there_after piece b w f limit = AreFlags f false false false
-    × (length b ≡ limit + 1) × (w ≡ written (take limit b))
+-- what each answer of the reading part says, with a fact that holds after the whole input
+abbrev pub ComingTable : (written : List ℕ → List ℕ) → Result (Unit {0}) Fault → (after : Type 0) → (piece : ℕ) → (b w : List ℕ) → Flags → (limit : ℕ) → Type 0
+ComingTable written (Ok u) after piece b w f limit = AreFlags f false true false × (length b ≤ limit) × (w ≡ written b) × after
+ComingTable written (Err Memory) after piece b w f limit = ⊥
+ComingTable written (Err Partial) after piece b w f limit = ⊥
+ComingTable written (Err Read) after piece b w f limit = AreFlags f true false false × (length b ≤ limit) × (w ≡ written b)
+ComingTable written (Err Write) after piece b w f limit = AreFlags f false false true × (length b ≤ limit)
+    × IsCutBefore written piece b w
+ComingTable written (Err TooLong) after piece b w f limit = AreFlags f false false false × (length b ≡ limit + 1)
+    × (w ≡ written (take limit b))
+ComingTable written (Err (Broken place)) after piece b w f limit = ⊥
+ComingTable written (Err NoTimes) after piece b w f limit = ⊥

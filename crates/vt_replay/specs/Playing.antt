@@ -10,11 +10,10 @@ use Rattle.vt_recording.specs.declared.format.Encoding.TheVariants as encoding
 use Rattle.vt_cli.specs.declared.what.What.{What}
 use Rattle.vt_cli.specs.declared.what.TerminalType.{TerminalType}
 use Rattle.vt_cli.specs.declared.what.TerminalType.TheVariants as terminal
-use Rattle.vt_replay.specs.declared.fault.Fault.{Fault}
+use Rattle.vt_recording.specs.declared.fault.Fault.{Fault}
 use Rattle.vt_replay.specs.declared.language.Language.{Language}
 use Rattle.vt_replay.specs.declared.language.Language.TheVariants.{Dec, Utf8, Xterm}
-use Rattle.vt_replay.specs.Due.{sent_by, end_by, there_by}
-use Rattle.vt_replay.specs.Output.{OutputTable}
+use Rattle.vt_replay.specs.Due.{PlayedTable}
 
 -- the language of a host that sends for a terminal, in an encoding: for an xterm it sends UTF-8
 abbrev pub language_of : TerminalType → Encoding → Language
@@ -34,6 +33,4 @@ played_as Xterm bytes = on_terminal (play_xterm (behind power_up front_at_power_
 
 -- what each answer of a replay says of a host's bytes in a language
 abbrev pub ReplayTable : Language → What → Result (Unit {0}) Fault → (piece : ℕ) → (b w : List ℕ) → Flags → (limit : ℕ) → Type 0
-ReplayTable language what result piece b w f limit =
-    OutputTable (sent_by (played_as language) what) (end_by (played_as language) what) (there_by (played_as language) what)
-    result piece b w f limit
+ReplayTable language what result piece b w f limit = PlayedTable (played_as language) what result piece b w f limit

@@ -1,13 +1,12 @@
 //! The replay of an input: what is due of a terminal is an output.
-ghost use Rattle.std.specs.Prelude.{◌≡◌, ◌+◌, ◌*◌, ◌≤◌, ◌++◌, [], ℕ, true, false, length, max, vec_len, vec_capacity};
+ghost use Rattle.std.specs.Prelude.{◌≡◌, ⊤, ◌+◌, ◌*◌, ◌≤◌, ◌++◌, [], ℕ, true, false, length, max, vec_len, vec_capacity};
 ghost use Rattle.std.specs.Io.KnownBytes.{IsAtEnd};
-ghost use Rattle.vt_replay.specs.Due.{sent, due_at_end, room_for, is_there, is_sent, sent_by, end_by, there_by};
+ghost use Rattle.vt_term.specs.State.{power_up};
+ghost use Rattle.vt_term.specs.Play.{play};
+ghost use Rattle.vt_replay.specs.Due.{due_at_end, room_for, is_there, is_sent, sent_by, there_by, PlayedTable};
 ghost use Rattle.vt_device.specs.Runs.{Moves};
-ghost use Rattle.vt_replay.specs.Output.{OutputTable};
 ghost use Rattle.vt_replay.specs.Playing.{ReplayTable};
-ghost use Rattle.vt_replay.specs.Run.{Table};
 
-use crate::fault::Fault;
 use crate::language::Language;
 use crate::output::{Output, front_for, write_output_from};
 use crate::player::{PlainPlayer, Player, Utf8Player, XtermPlayer};
@@ -18,6 +17,7 @@ use vt_cli::{Encoding, Settings, What};
 use vt_device::{Source, Watched};
 use vt_paint::{PAINT_LIMIT, repaint_reserved};
 use vt_picture::{PICTURE_LIMIT, SHOW_LIMIT, picture_reserved, show_reserved};
+use vt_recording::Fault;
 use vt_term::{REPORT_LIMIT, TEXT_LIMIT, Terminal};
 
 /// Plays the reader's bytes on a new terminal, and writes what is due. Neither device has failed before, and the reader
@@ -49,7 +49,7 @@ pub fn run<R: Read, W: Write>(
     requires limit_in_range { limit ≤ 1099511627776 }
     ensures answer { Moves (R.remaining reader.old.device) (R.remaining reader.new.device) (W.contents writer.old.device)
         (W.contents writer.new.device)
-        (λ b w. Table result what piece b w (record { reader_failed = reader.new.failed; reader_ended = reader.new.ended; writer_failed = writer.new.failed }) limit) }
+        (λ b w. PlayedTable (play power_up) what result piece b w (record { reader_failed = reader.new.failed; reader_ended = reader.new.ended; writer_failed = writer.new.failed }) limit) }
     ensures whole { reader.new.ended ≡ true → IsAtEnd (R.remaining reader.new.device) }
 {
     run_from(alloc, reader, writer, what, Language::Dec, piece, limit)
@@ -112,7 +112,7 @@ fn run_by<P: Player, S: Source, W: Write>(
     requires limit_in_range { limit ≤ 1099511627776 }
     ensures answer { Moves (S.remaining reader.old) (S.remaining reader.new) (W.contents writer.old.device)
         (W.contents writer.new.device)
-        (λ b w. OutputTable (sent_by (P.played player) what) (end_by (P.played player) what) (there_by (P.played player) what) result piece b w (record { reader_failed = S.failed reader.new; reader_ended = S.ended reader.new; writer_failed = writer.new.failed }) limit) }
+        (λ b w. PlayedTable (P.played player) what result piece b w (record { reader_failed = S.failed reader.new; reader_ended = S.ended reader.new; writer_failed = writer.new.failed }) limit) }
     ensures whole { S.ended reader.new ≡ true → IsAtEnd (S.remaining reader.new) }
 {
     let mut output = DueOutput::new(player, what, piece);
@@ -136,7 +136,7 @@ pub fn replay<R: Read, W: Write>(
     requires writer_works { writer.old.failed ≡ false }
     ensures answer { Moves (R.remaining reader.old.device) (R.remaining reader.new.device) (W.contents writer.old.device)
         (W.contents writer.new.device)
-        (λ b w. Table result settings.now.what settings.now.piece b w (record { reader_failed = reader.new.failed; reader_ended = reader.new.ended; writer_failed = writer.new.failed }) settings.now.limit) }
+        (λ b w. PlayedTable (play power_up) settings.now.what result settings.now.piece b w (record { reader_failed = reader.new.failed; reader_ended = reader.new.ended; writer_failed = writer.new.failed }) settings.now.limit) }
     ensures whole { reader.new.ended ≡ true → IsAtEnd (R.remaining reader.new.device) }
 {
     run(
@@ -182,7 +182,9 @@ impl<P: Player> DueOutput<P> {
 impl<P: Player> Output for DueOutput<P> {
     ghost written = { λ o bytes. sent_by (P.played o.player) o.what bytes };
 
-    ghost ending = { λ o bytes. due_at_end o.what (P.played o.player bytes).state
+    ghost Took = { λ o before. ⊤ };
+
+    ghost ending = { λ o before bytes. due_at_end o.what (P.played o.player bytes).state
         (o.reported + length (P.played o.player bytes).reports) };
 
     ghost there = { λ o bytes. there_by (P.played o.player) o.what bytes };

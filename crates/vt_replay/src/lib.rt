@@ -1,24 +1,31 @@
-//! The replay engine: plays a reader's bytes on a terminal, and writes what is due to a writer. It re-exports the command
-//! line of the crate vt_cli.
+//! The engine: carries out a request of the command line on a reader's bytes, and writes what is due to a writer. It
+//! re-exports the command line of the crate vt_cli.
 #![tactic(auto)]
 
+mod blanks;
 mod decoding;
 mod engine;
-mod fault;
 mod language;
 pub mod laws;
 mod logging;
 mod output;
+mod outputs;
+mod pages;
 mod player;
+mod requests;
 mod status;
 
 pub use engine::{replay, run, run_from};
-pub use fault::Fault;
 pub use language::Language;
 pub use logging::{write_log, write_log_from};
 pub use output::{Output, front_for, write_output, write_output_from};
+pub use pages::{PAGE_LIMIT, feed_pages, feed_pages_reserved};
+pub use requests::{Outcome, carry_out, format_of, lacks_times};
 pub use vt_cli::{
     Encoding, Format, Moment, Refused, Request, Settings, TerminalType, What, Word, request,
     settings,
 };
 pub use vt_device::Watched;
+pub use vt_recording::{
+    Break, Compression, DETECTION_LENGTH, Detected, Fault, Part, detect, read_recording,
+};

@@ -1,27 +1,34 @@
 //! The log of an input: its lines are written as they scroll off, and its screen at the end.
-ghost use Rattle.std.specs.Prelude.{◌≡◌, ◌*◌, ◌/◌, ◌≤◌, true, false, vec_capacity, IfOk};
+ghost use Rattle.std.specs.Prelude.{◌≡◌, ⊤, ◌*◌, ◌/◌, ◌≤◌, true, false, vec_capacity, IfOk};
 ghost use Rattle.std.specs.Io.KnownBytes.{IsAtEnd};
 ghost use Rattle.vt_term.specs.State.{power_up};
 ghost use Rattle.vt_term.specs.Play.{play};
 ghost use Rattle.vt_term.specs.Text.{text};
 ghost use Rattle.vt_term.specs.Scrolling.{log};
 ghost use Rattle.vt_device.specs.Runs.{Moves};
-ghost use Rattle.vt_replay.specs.Log.{LogTable, lines, screen};
-ghost use Rattle.vt_replay.specs.Output.{EncodedTable, always};
+ghost use Rattle.vt_xterm.specs.Play.{play_xterm, xterm_log, behind, front_at_power_up};
+ghost use Rattle.vt_replay.specs.declared.language.Language.TheVariants.{Xterm};
+ghost use Rattle.vt_replay.specs.Log.{lines, screen, lines_in, screen_in};
+ghost use Rattle.vt_replay.specs.Output.{OutputTable, EncodedTable, always};
 
-use crate::fault::Fault;
+use crate::language::Language;
 use crate::output::{Output, front_for, write_output_from};
 use std::alloc::{AllocError, Global};
 use std::io::{Read, Write};
 use vt_cli::Encoding;
 use vt_device::{Source, Watched};
+use vt_recording::Fault;
 use vt_term::laws::{cuts, log_cuts, soundness};
 use vt_term::{REPORT_LIMIT, ROW_TEXT_LIMIT, TEXT_LIMIT, Terminal};
+use vt_xterm::laws::{cuts as xterm_cuts, log_cuts as xterm_log_cuts};
+use vt_xterm::{Front, LINES_LIMIT as XTERM_LINES_LIMIT, feed_xterm_log_reserved};
 
 /// The capacity for lines between two writes: 64 lines, more than a screen.
 const LINES_LIMIT: usize = 64 * ROW_TEXT_LIMIT;
 
 const _: () = prove!(TEXT_LIMIT <= LINES_LIMIT);
+
+const _: () = prove!(XTERM_LINES_LIMIT <= LINES_LIMIT);
 
 /// Plays the reader's bytes on a new terminal, and writes its log: the lines that scroll off the top of the screen, in
 /// order, and after the whole input the text of the screen. Neither device has failed before, and the reader hasn't ended.
@@ -45,18 +52,44 @@ pub fn write_log<R: Read, W: Write>(
     requires limit_in_range { limit ≤ 1099511627776 }
     ensures answer { Moves (R.remaining reader.old.device) (R.remaining reader.new.device) (W.contents writer.old.device)
         (W.contents writer.new.device)
-        (λ b w. LogTable result piece b w (record { reader_failed = reader.new.failed; reader_ended = reader.new.ended; writer_failed = writer.new.failed }) limit) }
+        (λ b w. OutputTable lines screen always result piece b w (record { reader_failed = reader.new.failed; reader_ended = reader.new.ended; writer_failed = writer.new.failed }) limit) }
     ensures whole { reader.new.ended ≡ true → IsAtEnd (R.remaining reader.new.device) }
 {
-    write_log_from(alloc, reader, writer, Encoding::Dec, piece, limit)
+    write_vt220_log(alloc, reader, writer, Encoding::Dec, piece, limit)
 }
 
-/// Writes the log of a source's bytes in an encoding, as `write_log` does of a reader's. The source hasn't failed or ended
-/// before. In UTF-8 the terminal's bytes are played, and what is pending at the end isn't. `piece` and `limit` count the
-/// host's bytes.
+/// Writes the log of a source's bytes in a language, as `write_log` does of a reader's. The source hasn't failed or ended
+/// before. Under TERM=xterm no line scrolls off the alternate page. What is pending of UTF-8 at the end isn't played.
+/// `piece` and `limit` count the host's bytes.
 ///
 /// `Err` is what `write_log` returns.
 pub fn write_log_from<S: Source, W: Write>(
+    alloc: Global,
+    reader: &mut S,
+    writer: &mut Watched<W>,
+    language: Language,
+    piece: usize,
+    limit: u64,
+) -> Result<(), Fault>
+    requires reader_works { S.failed reader.old ≡ false }
+    requires reader_goes_on { S.ended reader.old ≡ false }
+    requires writer_works { writer.old.failed ≡ false }
+    requires piece_in_range { (1 ≤ piece) × (piece ≤ 65536) }
+    requires limit_in_range { limit ≤ 1099511627776 }
+    ensures answer { Moves (S.remaining reader.old) (S.remaining reader.new) (W.contents writer.old.device)
+        (W.contents writer.new.device)
+        (λ b w. OutputTable (lines_in language) (screen_in language) always result piece b w (record { reader_failed = S.failed reader.new; reader_ended = S.ended reader.new; writer_failed = writer.new.failed }) limit) }
+    ensures whole { S.ended reader.new ≡ true → IsAtEnd (S.remaining reader.new) }
+{
+    match language {
+        Language::Dec => write_vt220_log(alloc, reader, writer, Encoding::Dec, piece, limit),
+        Language::Utf8 => write_vt220_log(alloc, reader, writer, Encoding::Utf8, piece, limit),
+        Language::Xterm => write_xterm_log(alloc, reader, writer, piece, limit),
+    }
+}
+
+/// Writes the log of a VT220.
+fn write_vt220_log<S: Source, W: Write>(
     alloc: Global,
     reader: &mut S,
     writer: &mut Watched<W>,
@@ -78,6 +111,30 @@ pub fn write_log_from<S: Source, W: Write>(
     soundness();
     let mut output = LogOutput::new(alloc, piece)?;
     write_output_from(alloc, &mut output, encoding, reader, writer, piece, limit)
+}
+
+/// Writes the log of a terminal under TERM=xterm.
+fn write_xterm_log<S: Source, W: Write>(
+    alloc: Global,
+    reader: &mut S,
+    writer: &mut Watched<W>,
+    piece: usize,
+    limit: u64,
+) -> Result<(), Fault>
+    requires reader_works { S.failed reader.old ≡ false }
+    requires reader_goes_on { S.ended reader.old ≡ false }
+    requires writer_works { writer.old.failed ≡ false }
+    requires piece_in_range { (1 ≤ piece) × (piece ≤ 65536) }
+    requires limit_in_range { limit ≤ 1099511627776 }
+    ensures answer { Moves (S.remaining reader.old) (S.remaining reader.new) (W.contents writer.old.device)
+        (W.contents writer.new.device)
+        (λ b w. OutputTable (lines_in Xterm) (screen_in Xterm) always result piece b w (record { reader_failed = S.failed reader.new; reader_ended = S.ended reader.new; writer_failed = writer.new.failed }) limit) }
+    ensures whole { S.ended reader.new ≡ true → IsAtEnd (S.remaining reader.new) }
+{
+    xterm_log_cuts();
+    let mut output = XtermLogOutput::new(alloc, piece)?;
+    let dec = Encoding::Dec;
+    write_output_from(alloc, &mut output, dec, reader, writer, piece, limit)
 }
 
 /// The lines that scroll off, and at the end the screen.
@@ -105,7 +162,9 @@ impl LogOutput {
 impl Output for LogOutput {
     ghost written = { λ o bytes. log o.terminal bytes };
 
-    ghost ending = { λ o bytes. text (play o.terminal bytes).state };
+    ghost Took = { λ o before. ⊤ };
+
+    ghost ending = { λ o before bytes. text (play o.terminal bytes).state };
 
     ghost there = { λ o bytes. true };
 
@@ -126,7 +185,8 @@ impl Output for LogOutput {
         soundness();
         self.reports.clear();
         let count = front_for(chunk, &self.reports);
-        self.terminal.feed_log_reserved(&chunk[..count], &mut self.reports, out)
+        self.terminal
+            .feed_log_reserved(&chunk[..count], &mut self.reports, out)
     }
 
     fn is_there(&self) -> bool {
@@ -136,6 +196,76 @@ impl Output for LogOutput {
     fn end(&self, out: &mut Vec<u8>) {
         let _ = self.terminal.width();
         cuts();
+        self.terminal.text_reserved(out)
+    }
+}
+
+/// The lines that scroll off under TERM=xterm, and at the end the screen.
+#[derive(Drop)]
+struct XtermLogOutput {
+    terminal: Terminal,
+    front: Front,
+    /// The reports of a chunk, which are dropped.
+    reports: Vec<u8>,
+}
+
+impl XtermLogOutput {
+    /// Returns the output of a new terminal and its front, with memory for chunks of so many bytes. `Err` means that
+    /// allocation failed.
+    fn new(alloc: Global, piece: usize) -> Result<XtermLogOutput, AllocError>
+        requires { piece ≤ 65536 }
+        ensures terminal { IfOk result (λ o. o.terminal ≡ power_up) }
+        ensures front { IfOk result (λ o. o.front ≡ front_at_power_up) }
+        ensures reports { IfOk result (λ o. 10 * piece ≤ vec_capacity o.reports) }
+    {
+        Ok(XtermLogOutput {
+            terminal: Terminal::new(alloc)?,
+            front: Front::new(alloc)?,
+            reports: Vec::with_capacity(alloc, REPORT_LIMIT * piece)?,
+        })
+    }
+}
+
+impl Output for XtermLogOutput {
+    ghost written = { λ o bytes. xterm_log (behind o.terminal o.front) o.front.pending bytes };
+
+    ghost Took = { λ o before. ⊤ };
+
+    ghost ending = { λ o before bytes. text (play_xterm (behind o.terminal o.front) o.front.pending bytes).whole.state };
+
+    ghost there = { λ o bytes. true };
+
+    ghost most = { λ o. vec_capacity o.reports / 10 };
+
+    ghost counted = { λ o. 0 };
+
+    ghost reserve = { λ o. 25408 };
+
+    fn capacity(&self) -> usize {
+        LINES_LIMIT
+    }
+
+    fn feed(&mut self, chunk: &[u8], out: &mut Vec<u8>) -> usize {
+        xterm_cuts();
+        xterm_log_cuts();
+        self.reports.clear();
+        let count = front_for(chunk, &self.reports);
+        feed_xterm_log_reserved(
+            &mut self.terminal,
+            &mut self.front,
+            &chunk[..count],
+            &mut self.reports,
+            out,
+            LINES_LIMIT,
+        )
+    }
+
+    fn is_there(&self) -> bool {
+        true
+    }
+
+    fn end(&self, out: &mut Vec<u8>) {
+        xterm_cuts();
         self.terminal.text_reserved(out)
     }
 }

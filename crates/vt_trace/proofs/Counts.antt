@@ -18,24 +18,28 @@ use Rattle.vt_syntax.specs.Held.{IsHeldPart, events_from, held_from, held_after}
 use Rattle.vt_syntax.specs.Laws.{SplitLaw}
 use Rattle.vt_glyph.proofs.Lists.{all_in_range}
 use Rattle.vt_trace.specs.Names.{name_of, numbered}
-use Rattle.vt_trace.specs.Summary.{kind_number, has_name, is_ignored_kind, times_named, times_ignored, counted}
+use Rattle.std.specs.Option.{option_to_list}
+use Rattle.vt_syntax.specs.Split.{split_of}
+use Rattle.vt_trace.specs.Skipped.{item_kinds, rest_kind, kinds_of}
+use Rattle.vt_trace.specs.Runs.{times_at}
+use Rattle.vt_trace.specs.Summary.{kind_number, has_name, is_ignored_kind, times_named, times_ignored, times_skipped, counted, all_ignored}
 use Rattle.vt_trace.specs.Summary.{ignored_lines, named_lines, named_line, count_line, summary}
 use Rattle.vt_trace.specs.Counted.{AreCounts, HasCounted}
 use Rattle.vt_trace.specs.declared.summary.Summary.{Summary}
 
 -- ---- one more event
 
-pub fold_one : (f : ℕ → Event → ℕ) (a : ℕ) (events : List Event) (e : Event)
+fold_one : {A : Type 0} (f : ℕ → A → ℕ) (a : ℕ) (events : List A) (e : A)
     → fold f a (events ++ e ∷ []) ≡ f (fold f a events) e
 fold_one f a [] e = refl
 fold_one f a (x ∷ events) e = fold_one f (f a x) events e
 
-pub counts_one : (p : Event → Bool) (events : List Event) (e : Event) → p e ≡ true
+pub counts_one : {A : Type 0} (p : A → Bool) (events : List A) (e : A) → p e ≡ true
     → count_by p (events ++ e ∷ []) ≡ count_by p events + 1
 counts_one p events e h =
     fold_one (λ a x. a + cond (p x) 1 0) 0 events e ∙ ap (λ (b : Bool). count_by p events + cond b 1 0) h
 
-pub counts_none : (p : Event → Bool) (events : List Event) (e : Event) → p e ≡ false
+pub counts_none : {A : Type 0} (p : A → Bool) (events : List A) (e : A) → p e ≡ false
     → count_by p (events ++ e ∷ []) ≡ count_by p events
 counts_none p events e h =
     fold_one (λ a x. a + cond (p x) 1 0) 0 events e ∙ ap (λ (b : Bool). count_by p events + cond b 1 0) h
@@ -81,61 +85,92 @@ pub ignored_by : (k : ℕ) (e : Event) → name_of e ≡ None → is_ignored_kin
 ignored_by k e is =
     ap (λ (o : Option (List ℕ)). (elim o [ None ↦ true | Some name ↦ false ]) && kind_number e == k) is
 
-module _ (events : List Event) (ignored named : List ℕ) (e : Event) (counts : AreCounts events ignored named) where
-  -- an event with a name
-  pub counts-named : (n : ℕ) (more : List ℕ) → name_of e ≡ Some (numbered n) → n < 75 → length named ≡ 75
-      → more ≡ set named n (min (get_or named n 0 + 1) (2 ^ 64 - 1)) → AreCounts (events ++ e ∷ []) ignored more
-  unfolding times_named times_ignored
-  counts-named n more is within len was = record {
-    size = counts.size;
-    of_ignored = λ k. counts.of_ignored k
-        ∙ ap counted (sym (counts_none (is_ignored_kind k) events e (not_ignored k e (numbered n) is)));
-    of_named = λ k low. rw was (go k low (eqb_tells k n));
-  }
-    where
-      go : (k : ℕ) → k < 75 → ((eqb k n ≡ true) × (k ≡ n)) ⊎ ((eqb k n ≡ false) × (k ≢ n))
-          → get_or (set named n (min (get_or named n 0 + 1) (2 ^ 64 - 1))) k 0
-          ≡ counted (count_by (has_name (numbered k)) (events ++ e ∷ []))
-      go k low (inl t) =
-          rw t.1 (get_or-set_same named n _ 0 (omega (arith, within, len))
-          ∙ ap (λ m. min (m + 1) (2 ^ 64 - 1)) (counts.of_named n within)
-          ∙ sym (one_more (count_by (has_name (numbered n)) events))
-          ∙ ap counted (sym (counts_one (has_name (numbered n)) events e
-          (named_by (numbered n) (numbered n) e is ∙ itself (numbered n)))))
-      go k low (inr f) =
-          get_or-set_other named n k _ 0 f.1 ∙ counts.of_named k low
-          ∙ ap counted (sym (counts_none (has_name (numbered k)) events e
-          (named_by (numbered k) (numbered n) e is ∙ apart k n low within f.1)))
+-- one more in a table, at the number n of the whole table
+abbrev pub IsSet : List ℕ → ℕ → List ℕ → Type 0
+IsSet ignored n more = n < length ignored → more ≡ set ignored n (min (get_or ignored n 0 + 1) (2 ^ 64 - 1))
 
-  -- an event that is ignored
-  pub counts-ignored : (n : ℕ) (more : List ℕ) → name_of e ≡ None → kind_number e ≡ n
-      → n < 13312 → (n < length ignored → more ≡ set ignored n (min (get_or ignored n 0 + 1) (2 ^ 64 - 1))) → length more ≡ length ignored
-      → AreCounts (events ++ e ∷ []) more named
-  unfolding times_named times_ignored
-  counts-ignored n more is kind within inside len = record {
+-- where the table has a count more, and elsewhere
+set_at : (ignored more : List ℕ) (n k c d : ℕ) → IsSet ignored n more → n < length ignored → get_or ignored k 0 ≡ counted c
+    → (n ≡ k → d ≡ c + 1) → (n ≢ k → d ≡ c) → get_or more k 0 ≡ counted d
+set_at ignored more n k c d inside low was here there = go (eqb_tells n k)
+  where
+    go : ((eqb n k ≡ true) × (n ≡ k)) ⊎ ((eqb n k ≡ false) × (n ≢ k)) → get_or more k 0 ≡ counted d
+    go (inl t) =
+        ap (λ (xs : List ℕ). get_or xs k 0) (inside low) ∙ ap (λ m. get_or (set ignored n (min (get_or ignored n 0 + 1) (2 ^ 64 - 1))) m 0) (sym t.1)
+        ∙ get_or-set_same ignored n _ 0 low ∙ ap (λ m. min (get_or ignored m 0 + 1) (2 ^ 64 - 1)) t.1
+        ∙ ap (λ m. min (m + 1) (2 ^ 64 - 1)) was ∙ sym (one_more c) ∙ ap counted (sym (here t.1))
+    go (inr f) =
+        ap (λ (xs : List ℕ). get_or xs k 0) (inside low) ∙ get_or-set_other ignored n k _ 0 (λ h. f.1 (sym h)) ∙ was
+        ∙ ap counted (sym (there f.1))
+
+pub not_equal : (n k : ℕ) → n ≢ k → eqb n k ≡ false
+not_equal n k other = go (eqb_tells n k)
+  where
+    go : ((eqb n k ≡ true) × (n ≡ k)) ⊎ ((eqb n k ≡ false) × (n ≢ k)) → eqb n k ≡ false
+    go (inl t) = absurd (other t.1)
+    go (inr f) = f.0
+
+is_equal : (n k : ℕ) → n ≡ k → eqb n k ≡ true
+is_equal n k same = go (eqb_tells n k)
+  where
+    go : ((eqb n k ≡ true) × (n ≡ k)) ⊎ ((eqb n k ≡ false) × (n ≢ k)) → eqb n k ≡ true
+    go (inl t) = t.0
+    go (inr f) = absurd (f.1 same)
+
+module _ (events : List Event) (kinds ignored named : List ℕ) (counts : AreCounts events kinds ignored named) where
+  -- an item without a function
+  pub counts-skipped : (n : ℕ) (more : List ℕ) → n < 13312 → IsSet ignored n more → length more ≡ length ignored
+      → AreCounts events (kinds ++ n ∷ []) more named
+  unfolding times_named times_ignored times_skipped
+  counts-skipped n more within inside len = record {
     size = len ∙ counts.size;
-    of_ignored = λ k. go k (eqb_tells n k);
-    of_named = λ k low. counts.of_named k low
-        ∙ ap counted (sym (counts_none (has_name (numbered k)) events e (not_named (numbered k) e is)));
+    of_ignored = λ k.
+        let size : length ignored ≡ 13312 = counts.size in
+        let a = count_by (is_ignored_kind k) events in
+        let b = count_by (λ m. m == k) kinds in
+        set_at ignored more n k (a + b) (a + count_by (λ m. m == k) (kinds ++ n ∷ [])) inside (omega (arith, within, size))
+        (counts.of_ignored k)
+        (λ same. let one = counts_one (λ m. m == k) kinds n (is_equal n k same) in omega (arith, one))
+        (λ other. let none = counts_none (λ m. m == k) kinds n (not_equal n k other) in omega (arith, none));
+    of_named = counts.of_named;
   }
-    where
-      go : (k : ℕ) → ((eqb n k ≡ true) × (n ≡ k)) ⊎ ((eqb n k ≡ false) × (n ≢ k))
-          → get_or more k 0 ≡ counted (count_by (is_ignored_kind k) (events ++ e ∷ []))
-      go k (inl t) =
+
+  module _ (e : Event) where
+    -- an event with a name
+    pub counts-named : (n : ℕ) (more : List ℕ) → name_of e ≡ Some (numbered n) → n < 75 → length named ≡ 75
+        → more ≡ set named n (min (get_or named n 0 + 1) (2 ^ 64 - 1)) → AreCounts (events ++ e ∷ []) kinds ignored more
+    unfolding times_named times_ignored times_skipped
+    counts-named n more is within len was = record {
+      size = counts.size;
+      of_ignored = λ k. counts.of_ignored k ∙ ap (λ m. counted (m + count_by (λ i. i == k) kinds))
+          (sym (counts_none (is_ignored_kind k) events e (not_ignored k e (numbered n) is)));
+      of_named = λ k low. set_at named more n k (count_by (has_name (numbered k)) events)
+          (count_by (has_name (numbered k)) (events ++ e ∷ [])) (λ h. was) (omega (arith, within, len)) (counts.of_named k low)
+          (λ same. counts_one (has_name (numbered k)) events e
+          (named_by (numbered k) (numbered n) e is ∙ ap (λ m. pointwise nat_eq (numbered k) (numbered m)) same ∙ itself (numbered k)))
+          (λ other. counts_none (has_name (numbered k)) events e
+          (named_by (numbered k) (numbered n) e is ∙ apart k n low within (λ h. other (sym h))));
+    }
+
+    -- an event that is ignored
+    pub counts-ignored : (n : ℕ) (more : List ℕ) → name_of e ≡ None → kind_number e ≡ n
+        → n < 13312 → IsSet ignored n more → length more ≡ length ignored → AreCounts (events ++ e ∷ []) kinds more named
+    unfolding times_named times_ignored times_skipped
+    counts-ignored n more is kind within inside len = record {
+      size = len ∙ counts.size;
+      of_ignored = λ k.
           let size : length ignored ≡ 13312 = counts.size in
-          let place : k < length ignored = omega (arith, within, t.1, size) in
-          let set_here : more ≡ set ignored k (min (get_or ignored k 0 + 1) (2 ^ 64 - 1)) = rw t.1 at (inside (rw t.1 place)) in
-          rw set_here (get_or-set_same ignored k _ 0 place
-          ∙ ap (λ m. min (m + 1) (2 ^ 64 - 1)) (counts.of_ignored k)
-          ∙ sym (one_more (count_by (is_ignored_kind k) events))
-          ∙ ap counted (sym (counts_one (is_ignored_kind k) events e
-          (ignored_by k e is ∙ ap (λ m. m == k) kind ∙ t.0))))
-      go k (inr f) =
-          let size : length ignored ≡ 13312 = counts.size in
-          ap (λ (xs : List ℕ). get_or xs k 0) (inside (omega (arith, within, size)))
-          ∙ get_or-set_other ignored n k _ 0 (λ h. f.1 (sym h)) ∙ counts.of_ignored k
-          ∙ ap counted (sym (counts_none (is_ignored_kind k) events e
-          (ignored_by k e is ∙ ap (λ m. m == k) kind ∙ f.0)))
+          let a = count_by (is_ignored_kind k) events in
+          let b = count_by (λ m. m == k) kinds in
+          set_at ignored more n k (a + b) (count_by (is_ignored_kind k) (events ++ e ∷ []) + b) inside (omega (arith, within, size))
+          (counts.of_ignored k)
+          (λ same. let one = counts_one (is_ignored_kind k) events e
+          (ignored_by k e is ∙ ap (λ m. m == k) kind ∙ is_equal n k same) in omega (arith, one))
+          (λ other. let none = counts_none (is_ignored_kind k) events e
+          (ignored_by k e is ∙ ap (λ m. m == k) kind ∙ not_equal n k other) in omega (arith, none));
+      of_named = λ k low. counts.of_named k low
+          ∙ ap counted (sym (counts_none (has_name (numbered k)) events e (not_named (numbered k) e is)));
+    }
 
 -- ---- bytes
 
@@ -173,8 +208,8 @@ zeros_long : (n : ℕ) → length (zeros_of n) ≡ n
 zeros_long n = length-replicate n zero
 
 -- no events
-pub none_counted : AreCounts [] (replicate 13312 0) (replicate 75 0)
-unfolding times_named times_ignored
+pub none_counted : AreCounts [] [] (replicate 13312 0) (replicate 75 0)
+unfolding times_named times_ignored times_skipped
 none_counted = record {
   size = zeros_long 13312;
   of_ignored = λ k. zeros 13312 k;
@@ -241,27 +276,49 @@ chain before a b c x y z first second third =
 abbrev pub found_at : List ℕ → ℕ → ℕ
 found_at counts number = get_or counts number 0
 
-pub same_ignored : (events : List Event) (ignored named : List ℕ) → AreCounts events ignored named
-    → ignored_lines (found_at ignored) ≡ ignored_lines (λ number. counted (times_ignored number events))
-same_ignored events ignored named counts =
-    let same : found_at ignored ≡ (λ number. counted (times_ignored number events)) = λ i number. counts.of_ignored number i in
+-- what is open at the end
+last_counted : (events : List Event) (kinds ignored named : List ℕ) (kind : ℕ) → AreCounts events kinds ignored named
+    → (k : ℕ) (v : Bool) → eqb kind k ≡ v
+    → cond v (counted (get_or ignored k 0 + 1)) (get_or ignored k 0) ≡ all_ignored events (kinds ++ kind ∷ []) k
+unfolding times_skipped
+last_counted events kinds ignored named kind counts k true is =
+    let one = counts_one (λ m. m == k) kinds kind is in
+    ap (λ n. counted (n + 1)) (counts.of_ignored k)
+    ∙ sym (one_more (times_ignored k events + count_by (λ m. m == k) kinds))
+    ∙ ap (λ n. counted n) (omega (arith, one))
+last_counted events kinds ignored named kind counts k false is =
+    counts.of_ignored k ∙ ap (λ n. counted (times_ignored k events + n)) (sym (counts_none (λ m. m == k) kinds kind is))
+
+with_last : (events : List Event) (kinds ignored named : List ℕ) (last : Option ℕ) → AreCounts events kinds ignored named
+    → (k : ℕ) → times_at ignored last k ≡ all_ignored events (kinds ++ option_to_list last) k
+with_last events kinds ignored named None counts k =
+    counts.of_ignored k ∙ ap (λ (l : List ℕ). all_ignored events l k) (sym (append-nil kinds))
+with_last events kinds ignored named (Some kind) counts k = last_counted events kinds ignored named kind counts k (eqb kind k) refl
+
+pub same_ignored : (events : List Event) (kinds ignored named : List ℕ) (last : Option ℕ) → AreCounts events kinds ignored named
+    → ignored_lines (times_at ignored last) ≡ ignored_lines (all_ignored events (kinds ++ option_to_list last))
+same_ignored events kinds ignored named last counts =
+    let same : times_at ignored last ≡ all_ignored events (kinds ++ option_to_list last) =
+    λ i number. with_last events kinds ignored named last counts number i in
     ap ignored_lines same
 
-pub same_named : (events : List Event) (ignored named : List ℕ) → AreCounts events ignored named
+pub same_named : (events : List Event) (kinds ignored named : List ℕ) → AreCounts events kinds ignored named
     → named_lines (found_at named) ≡ named_lines (λ number. counted (times_named (numbered number) events))
-same_named events ignored named counts =
+same_named events kinds ignored named counts =
     flat_agree (named_line (found_at named)) (named_line (λ number. counted (times_named (numbered number) events))) 0 75
     (λ k low high. ap (λ n. count_line n (numbered k)) (counts.of_named k (omega (arith, high))))
 
-pub summed : (s : Summary) (bytes before first out : List ℕ) → HasCounted bytes s
-    → first ≡ before ++ ignored_lines (found_at s.ignored.items) → out ≡ first ++ named_lines (found_at s.named)
+pub summed : (s : Summary) (bytes before first out : List ℕ) (last : Option ℕ) → HasCounted bytes s
+    → option_to_list last ≡ rest_kind (split_of bytes).rest
+    → first ≡ before ++ ignored_lines (times_at s.ignored.items last) → out ≡ first ++ named_lines (found_at s.named)
     → out ≡ before ++ summary bytes
 unfolding summary
-summed s bytes before first out was one two =
+summed s bytes before first out last was is one two =
     let events = events_of bytes in
     two ∙ ap (λ (l : List ℕ). l ++ named_lines (found_at s.named)) one
-    ∙ append_assoc before (ignored_lines (found_at s.ignored.items)) (named_lines (found_at s.named))
+    ∙ append_assoc before (ignored_lines (times_at s.ignored.items last)) (named_lines (found_at s.named))
     ∙ ap (λ (l : List ℕ). before ++ (l ++ named_lines (found_at s.named)))
-    (same_ignored events s.ignored.items s.named was.counts)
-    ∙ ap (λ (l : List ℕ). before ++ (ignored_lines (λ number. counted (times_ignored number events)) ++ l))
-    (same_named events s.ignored.items s.named was.counts)
+    (same_ignored events (item_kinds bytes) s.ignored.items s.named last was.counts
+    ∙ ap (λ (l : List ℕ). ignored_lines (all_ignored events (item_kinds bytes ++ l))) is)
+    ∙ ap (λ (l : List ℕ). before ++ (ignored_lines (all_ignored events (kinds_of bytes)) ++ l))
+    (same_named events (item_kinds bytes) s.ignored.items s.named was.counts)

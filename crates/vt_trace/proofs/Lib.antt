@@ -7,3 +7,5 @@ mod Traces
 mod Counts
 mod Runs
 mod Digits
+mod ItemKinds
+mod Places

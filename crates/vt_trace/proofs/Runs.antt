@@ -3,7 +3,7 @@ use Rattle.std.proofs.Common.{◌≡◌, ◌≢◌, inl, ℕ, suc, ◌+◌, ◌-
 use Rattle.std.proofs.Common.{refl, sym, ap, ◌∙◌, arith, length, map, append-nil, append_assoc, drop, take, add-zero, Option, Some, None, eqb, length-take}
 use Rattle.std.proofs.lemmas.List.{take_more}
 use Rattle.std.proofs.Math.Seq.{take-length, take-take, take-add}
-use Rattle.std.specs.Prelude.{All, slice_index}
+use Rattle.std.specs.Prelude.{All, slice_index, ◌&&◌}
 use Rattle.std.proofs.lemmas.Bool.Decides.{nat_tests}
 use Rattle.std.proofs.lemmas.List.Elements.{All-cons, All-append}
 use Rattle.vt_syntax.specs.declared.event.Event.{Event}
@@ -22,17 +22,16 @@ use Rattle.vt_term.specs.Parameters.{first}
 use Rattle.vt_term.specs.Play.{play, Played, after_events}
 use Rattle.vt_trace.specs.declared.tracing.Tracer.{Tracer}
 use Rattle.vt_trace.specs.Lines.{shown_byte, event_line}
+use Rattle.vt_trace.specs.Skipped.{is_empty}
 use Rattle.vt_trace.specs.Trace.{begins, item_place, place_of, is_text, text_of, text_begin, text_end, written, written_all, text_after}
-use Rattle.vt_trace.specs.Trace.{traced, tracer_after, trace, tracer_all}
+use Rattle.vt_trace.specs.Trace.{between, is_nothing, is_string, cuts_off, ends_silent, item_first, code_after, ended_kind, skipped_lines}
+use Rattle.vt_trace.specs.Trace.{skipped, goes_on, traced, tracer_after, trace, tracer_all}
 use Rattle.vt_trace.proofs.Counts.{nothing-held}
 use Rattle.vt_trace.proofs.Traces.{Plays, Keeps, Lines, Tracers, more-lines, more-tracer}
 use Rattle.vt_trace.specs.Runs.{IsShown, IsOne, Traces, is_graphic, is_request}
 
-abbrev tracer_at : Tracer → ℕ → Bool → Tracer
-tracer_at t n v = record { place = t.place + 1; begin = n; in_text = v }
-
 abbrev made : ℕ → ℕ → Bool → Tracer
-made n m v = record { place = m; begin = n; in_text = v }
+made n m v = between m n v
 
 same_tracer : (a b c d : ℕ) (v : Bool) → a ≡ b → c ≡ d → made a c v ≡ made b d v
 same_tracer a b c d v e f = ap (λ n. made n c v) e ∙ ap (λ m. made b m v) f
@@ -40,8 +39,62 @@ same_tracer a b c d v e f = ap (λ n. made n c v) e ∙ ap (λ m. made b m v) f
 tail_of_all : (b : ℕ) (run : List ℕ) → All IsShown (b ∷ run) → All IsShown run
 tail_of_all b run all = λ k d low. all (suc k) d (omega (arith, low))
 
-tail_of_plain : (b : ℕ) (run : List ℕ) → All IsPlain (b ∷ run) → All IsPlain run
+pub tail_of_plain : (b : ℕ) (run : List ℕ) → All IsPlain (b ∷ run) → All IsPlain run
 tail_of_plain b run all = λ k d low. all (suc k) d (omega (arith, low))
+
+-- ---- bytes that end no item without a function
+
+and_true : (v : Bool) → v && true ≡ v
+and_true true = refl
+and_true false = refl
+
+and_false : (v : Bool) → v && false ≡ false
+and_false true = refl
+and_false false = refl
+
+none_skipped : (t : Tracer) (h : Held) (b : ℕ) → cuts_off h b ≡ false → ends_silent h b ≡ false → skipped t h b ≡ []
+unfolding skipped
+none_skipped t h b whole inner =
+    let place = item_place t h b in
+    let kind = ended_kind t.code h b in
+    let first = item_first t h b in
+    ap (λ (v : Bool). skipped_lines t v (ends_silent h b) place kind first) whole
+    ∙ ap (λ (v : Bool). skipped_lines t false v place kind first) inner
+
+still_on : (t : Tracer) (h : Held) (b : ℕ) → cuts_off h b ≡ false → ends_silent h b ≡ false → goes_on t h b ≡ t.in_text
+unfolding goes_on
+still_on t h b whole inner =
+    ap (λ (v : Bool). t.in_text && not (v || ends_silent h b)) whole
+    ∙ ap (λ (v : Bool). t.in_text && not v) inner ∙ and_true t.in_text
+
+-- what is written of such a byte, and the tracer after it
+event_traced : (s : State) (t : Tracer) (b : ℕ) → cuts_off s.held b ≡ false → ends_silent s.held b ≡ false
+    → traced s t b
+    ≡ written_all t.in_text (place_of t.place (item_place t s.held b) b) (events_from s.held (b ∷ [])) s.display
+unfolding traced
+event_traced s t b whole inner =
+    let at = place_of t.place (item_place t s.held b) b in
+    let events = events_from s.held (b ∷ []) in
+    ap (λ (l : List ℕ). l ++ written_all (goes_on t s.held b) at events s.display) (none_skipped t s.held b whole inner)
+    ∙ ap (λ (v : Bool). written_all v at events s.display) (still_on t s.held b whole inner)
+
+event_text : (s : State) (t : Tracer) (b : ℕ) → cuts_off s.held b ≡ false → ends_silent s.held b ≡ false
+    → (tracer_after s t b).in_text ≡ text_after t.in_text (events_from s.held (b ∷ []))
+unfolding tracer_after
+event_text s t b whole inner =
+    ap (λ (v : Bool). text_after v (events_from s.held (b ∷ []))) (still_on t s.held b whole inner)
+
+-- after the last byte of an item
+tracer_between : (s : State) (t : Tracer) (b : ℕ) → cuts_off s.held b ≡ false → ends_silent s.held b ≡ false
+    → held_from s.held (b ∷ []) ≡ Nothing
+    → tracer_after s t b ≡ made (item_place t s.held b) (t.place + 1) (text_after t.in_text (events_from s.held (b ∷ [])))
+unfolding tracer_after
+tracer_between s t b whole inner none =
+    let n = item_place t s.held b in
+    let events = events_from s.held (b ∷ []) in
+    let first = item_first t s.held b in
+    ap (λ (h : Held). record { place = t.place + 1; begin = n; in_text = text_after (goes_on t s.held b) events; code = code_after t.code (is_string s.held) h b; first = record { items = cond (is_nothing h) [] first } }) none
+    ∙ ap (λ (v : Bool). made n (t.place + 1) (text_after v events)) (still_on t s.held b whole inner)
 
 -- ---- texts
 
@@ -101,40 +154,48 @@ module _ (law : SpellingLaw) where
   character_events : (s : State) (b : ℕ) → s.held ≡ Nothing → HasGlyph b → events_from s.held (b ∷ []) ≡ Print b ∷ []
   character_events s b nothing i = ap (λ (h : Held). events_from h (b ∷ [])) nothing ∙ glyph_events law b i
 
+  whole_character : (s : State) (b : ℕ) → s.held ≡ Nothing → cuts_off s.held b ≡ false
+  whole_character s b nothing = ap (λ (h : Held). cuts_off h b) nothing
+
+  has_event : (s : State) (b : ℕ) → s.held ≡ Nothing → HasGlyph b → ends_silent s.held b ≡ false
+  has_event s b nothing i =
+      ap (λ (es : List Event). is_empty es && is_nothing (held_from s.held (b ∷ []))) (character_events s b nothing i)
+
   pub traced_character : (s : State) (t : Tracer) (b : ℕ) → s.held ≡ Nothing → HasGlyph b
       → traced s t b ≡ text_of t.in_text t.place b
-  unfolding traced
   traced_character s t b nothing i =
-      ap (λ (es : List Event). written_all t.in_text (place_of t.place (item_place t s.held b) b) es s.display)
+      event_traced s t b (whole_character s b nothing) (has_event s b nothing i)
+      ∙ ap (λ (es : List Event). written_all t.in_text (place_of t.place (item_place t s.held b) b) es s.display)
       (character_events s b nothing i)
       ∙ text_written t.in_text t.place b s.display (place_of t.place (item_place t s.held b) b) i refl
 
   pub tracer_character : (s : State) (t : Tracer) (b : ℕ) → s.held ≡ Nothing → HasGlyph b
-      → tracer_after s t b ≡ record { place = t.place + 1; begin = t.place; in_text = true }
-  unfolding tracer_after
+      → tracer_after s t b ≡ made t.place (t.place + 1) true
   tracer_character s t b nothing i =
-      ap (λ (h : Held). tracer_at t (item_place t h b) (text_after t.in_text (events_from s.held (b ∷ [])))) nothing
-      ∙ ap (λ (es : List Event). tracer_at t t.place (text_after t.in_text es)) (character_events s b nothing i)
-      ∙ ap (λ (v : Bool). tracer_at t t.place v) (glyph-text t.in_text b i)
+      tracer_between s t b (whole_character s b nothing) (has_event s b nothing i)
+      (ap (λ (h : Held). held_from h (b ∷ [])) nothing ∙ glyph_held law b i)
+      ∙ ap (λ (h : Held). made (item_place t h b) (t.place + 1) (text_after t.in_text (events_from s.held (b ∷ [])))) nothing
+      ∙ ap (λ (es : List Event). made t.place (t.place + 1) (text_after t.in_text es)) (character_events s b nothing i)
+      ∙ ap (λ (v : Bool). made t.place (t.place + 1) v) (glyph-text t.in_text b i)
 
   traced_shown : (s : State) (t : Tracer) (b : ℕ) → s.held ≡ Nothing → IsShown b
       → traced s t b ≡ text_of t.in_text t.place b
   traced_shown s t b nothing i = traced_character s t b nothing (shown-glyph b i)
 
   tracer_shown : (s : State) (t : Tracer) (b : ℕ) → s.held ≡ Nothing → IsShown b
-      → tracer_after s t b ≡ record { place = t.place + 1; begin = t.place; in_text = true }
+      → tracer_after s t b ≡ made t.place (t.place + 1) true
   tracer_shown s t b nothing i = tracer_character s t b nothing (shown-glyph b i)
 
   -- a text
   pub tracer_text : (s : State) (t : Tracer) (b : ℕ) (run : List ℕ) → s.held ≡ Nothing → All IsShown (b ∷ run)
-      → tracer_all s t (b ∷ run) ≡ record { place = t.place + length run + 1; begin = t.place + length run; in_text = true }
+      → tracer_all s t (b ∷ run) ≡ made (t.place + length run) (t.place + length run + 1) true
   unfolding tracer_all
   tracer_text s t b [] nothing all =
       tracer_shown s t b nothing (all 0 0 (omega arith)) ∙ same_tracer t.place (t.place + 0) (t.place + 1) (t.place + 0 + 1) true
       (omega arith) (omega arith)
   tracer_text s t b (c ∷ run) nothing all =
       let first : IsShown b = all 0 0 (omega arith) in
-      let u : Tracer = record { place = t.place + 1; begin = t.place; in_text = true } in
+      let u : Tracer = made t.place (t.place + 1) true in
       ap (λ (u : Tracer). tracer_all (play s (b ∷ [])).state u (c ∷ run)) (tracer_shown s t b nothing first)
       ∙ tracer_text (play s (b ∷ [])).state u c run (still_nothing law s b nothing first) (tail_of_all b (c ∷ run) all)
       ∙ same_tracer (t.place + 1 + length run) (t.place + length (c ∷ run)) (t.place + 1 + length run + 1)
@@ -147,7 +208,7 @@ module _ (law : SpellingLaw) where
   trace_on s t [] nothing text all = refl
   trace_on s t (b ∷ run) nothing text all =
       let first : IsShown b = all 0 0 (omega arith) in
-      let u : Tracer = record { place = t.place + 1; begin = t.place; in_text = true } in
+      let u : Tracer = made t.place (t.place + 1) true in
       ap (λ (l : List ℕ). l ++ trace (play s (b ∷ [])).state (tracer_after s t b) run)
       (traced_shown s t b nothing first ∙ ap (λ (v : Bool). text_of v t.place b) text ∙ shown-itself b first)
       ∙ ap (λ (u : Tracer). b ∷ trace (play s (b ∷ [])).state u run) (tracer_shown s t b nothing first)
@@ -159,7 +220,7 @@ module _ (law : SpellingLaw) where
   unfolding trace
   trace_text s t b run nothing all =
       let first : IsShown b = all 0 0 (omega arith) in
-      let u : Tracer = record { place = t.place + 1; begin = t.place; in_text = true } in
+      let u : Tracer = made t.place (t.place + 1) true in
       ap (λ (l : List ℕ). l ++ trace (play s (b ∷ [])).state (tracer_after s t b) run)
       (traced_shown s t b nothing first ∙ ap (λ (l : List ℕ). text_begin t.in_text t.place ++ l) (shown-itself b first))
       ∙ ap (λ (u : Tracer). (text_begin t.in_text t.place ++ b ∷ []) ++ trace (play s (b ∷ [])).state u run)
@@ -187,7 +248,7 @@ unfolding first_graphic
 graphic_first [] last = refl
 graphic_first (b ∷ front) last = refl
 
-no_true : true ≡ false → ⊥
+pub no_true : true ≡ false → ⊥
 no_true h = cc
 
 not_begins : (h : Held) (b : ℕ) → h ≢ Nothing → IsPlain b → begins h b ≡ false
@@ -200,12 +261,35 @@ not_begins (held.Control marker params full phase) b other i =
 not_begins held.Spoilt b other i =
     let low : 0x20 ≤ b = i.0 in let high : b ≤ 0x7E = i.1 in grind (arith, nat_tests, low, high)
 
+not_nothing : (h : Held) → h ≢ Nothing → is_nothing h ≡ false
+not_nothing held.Nothing other = absurd (other refl)
+not_nothing (held.Text osc) other = refl
+not_nothing (held.Escape inters) other = refl
+not_nothing (held.Control marker params full phase) other = refl
+not_nothing held.Spoilt other = refl
+
+no_sub : (b : ℕ) → IsPlain b → eqb b 0x1A ≡ false
+no_sub b i = let low : 0x20 ≤ b = i.0 in grind (arith, nat_tests, low)
+
+pub not_cut : (h : Held) (b : ℕ) → h ≢ Nothing → IsPlain b → cuts_off h b ≡ false
+not_cut h b other i =
+    ap (λ (v : Bool). not (is_nothing h) && (v || eqb b 0x1A)) (not_begins h b other i)
+    ∙ ap (λ (v : Bool). not (is_nothing h) && v) (no_sub b i) ∙ and_false (not (is_nothing h))
+
+pub not_ended : (h : Held) (b : ℕ) → held_from h (b ∷ []) ≢ Nothing → ends_silent h b ≡ false
+not_ended h b other =
+    ap (λ (v : Bool). is_empty (events_from h (b ∷ [])) && v) (not_nothing (held_from h (b ∷ [])) other)
+    ∙ and_false (is_empty (events_from h (b ∷ [])))
+
+pub event_ends : (h : Held) (b : ℕ) (e : Event) → events_from h (b ∷ []) ≡ e ∷ [] → ends_silent h b ≡ false
+event_ends h b e is = ap (λ (es : List Event). is_empty es && is_nothing (held_from h (b ∷ []))) is
+
 abbrev one_written : State → Tracer → ℕ → ℕ → ℕ → Event → List ℕ
 one_written s t place begin last e = written t.in_text (place_of place begin last e) e (report e s.display)
 
 module _ (law : SpellingLaw) (split : SplitLaw) where
   -- plain bytes that give another event than a character aren't read between sequences
-  not_between : (front : List ℕ) (last : ℕ) (e : Event) (h : Held) → All IsPlain (front ++ last ∷ []) → is_graphic e ≡ false
+  pub not_between : (front : List ℕ) (last : ℕ) (e : Event) (h : Held) → All IsPlain (front ++ last ∷ []) → is_graphic e ≡ false
       → events_from h (front ++ last ∷ []) ≡ e ∷ [] → h ≢ Nothing
   unfolding first_graphic
   not_between front last e h all other events is =
@@ -214,38 +298,89 @@ module _ (law : SpellingLaw) (split : SplitLaw) where
       ap first_graphic (sym printed ∙ ap (λ (k : Held). events_from k (front ++ last ∷ [])) (sym is) ∙ events) in
       no_true (sym (graphic_first front last) ∙ first ∙ other)
 
-  -- a byte without an event
-  quiet_traced : (s : State) (t : Tracer) (b : ℕ) → events_from s.held (b ∷ []) ≡ [] → traced s t b ≡ []
-  unfolding traced
-  quiet_traced s t b none =
-      ap (λ (es : List Event). written_all t.in_text (place_of t.place (item_place t s.held b) b) es s.display) none
+  -- a byte without an event, inside an item
+  quiet_traced : (s : State) (t : Tracer) (b : ℕ) → cuts_off s.held b ≡ false → ends_silent s.held b ≡ false
+      → events_from s.held (b ∷ []) ≡ [] → traced s t b ≡ []
+  quiet_traced s t b whole inner none =
+      event_traced s t b whole inner
+      ∙ ap (λ (es : List Event). written_all t.in_text (place_of t.place (item_place t s.held b) b) es s.display) none
 
-  quiet_tracer : (s : State) (t : Tracer) (b : ℕ) → events_from s.held (b ∷ []) ≡ []
-      → tracer_after s t b ≡ made (item_place t s.held b) (t.place + 1) t.in_text
+  quiet_text : (s : State) (t : Tracer) (b : ℕ) → cuts_off s.held b ≡ false → ends_silent s.held b ≡ false
+      → events_from s.held (b ∷ []) ≡ [] → (tracer_after s t b).in_text ≡ t.in_text
+  quiet_text s t b whole inner none =
+      event_text s t b whole inner ∙ ap (λ (es : List Event). text_after t.in_text es) none
+
+  quiet_begin : (s : State) (t : Tracer) (b : ℕ) → (tracer_after s t b).begin ≡ item_place t s.held b
   unfolding tracer_after
-  quiet_tracer s t b none =
-      ap (λ (es : List Event). made (item_place t s.held b) (t.place + 1) (text_after t.in_text es)) none
+  quiet_begin s t b = refl
+
+  quiet_place : (s : State) (t : Tracer) (b n : ℕ) → (tracer_after s t b).place + n ≡ t.place + suc n
+  unfolding tracer_after
+  quiet_place s t b n = omega arith
 
   quiet_display : (s : State) (b : ℕ) → events_from s.held (b ∷ []) ≡ [] → (play s (b ∷ [])).state.display ≡ s.display
   unfolding play
   quiet_display s b none = ap (λ (es : List Event). after_events es s.display) none
 
   -- the byte that completes an event
-  last_traced : (s : State) (t : Tracer) (b begin : ℕ) (e : Event) → events_from s.held (b ∷ []) ≡ e ∷ []
-      → item_place t s.held b ≡ begin → trace s t (b ∷ []) ≡ one_written s t t.place begin b e
-  unfolding trace traced
-  last_traced s t b begin e events at =
-      append-nil (written_all t.in_text (place_of t.place (item_place t s.held b) b) (events_from s.held (b ∷ [])) s.display)
+  last_traced : (s : State) (t : Tracer) (b begin : ℕ) (e : Event) → cuts_off s.held b ≡ false
+      → events_from s.held (b ∷ []) ≡ e ∷ [] → item_place t s.held b ≡ begin
+      → trace s t (b ∷ []) ≡ one_written s t t.place begin b e
+  unfolding trace
+  last_traced s t b begin e whole events at =
+      append-nil (traced s t b) ∙ event_traced s t b whole (event_ends s.held b e events)
       ∙ ap (λ n. written_all t.in_text (place_of t.place n b) (events_from s.held (b ∷ [])) s.display) at
       ∙ ap (λ (es : List Event). written_all t.in_text (place_of t.place begin b) es s.display) events
       ∙ append-nil (one_written s t t.place begin b e)
 
-  last_tracer : (s : State) (t : Tracer) (b begin : ℕ) (e : Event) → events_from s.held (b ∷ []) ≡ e ∷ []
-      → item_place t s.held b ≡ begin → tracer_all s t (b ∷ []) ≡ made begin (t.place + 1) (is_text e)
-  unfolding tracer_all tracer_after
-  last_tracer s t b begin e events at =
-      ap (λ n. made n (t.place + 1) (text_after t.in_text (events_from s.held (b ∷ [])))) at
+  last_tracer : (s : State) (t : Tracer) (b begin : ℕ) (e : Event) → cuts_off s.held b ≡ false
+      → events_from s.held (b ∷ []) ≡ e ∷ [] → held_from s.held (b ∷ []) ≡ Nothing → item_place t s.held b ≡ begin
+      → tracer_all s t (b ∷ []) ≡ made begin (t.place + 1) (is_text e)
+  unfolding tracer_all
+  last_tracer s t b begin e whole events none at =
+      tracer_between s t b whole (event_ends s.held b e events) none
+      ∙ ap (λ n. made n (t.place + 1) (text_after t.in_text (events_from s.held (b ∷ [])))) at
       ∙ ap (λ (es : List Event). made begin (t.place + 1) (text_after t.in_text es)) events
+
+  -- what is written of the rest of an item, after a byte without an event
+  after_quiet : (s : State) (t : Tracer) (b begin last : ℕ) (n : ℕ) (e : Event) → cuts_off s.held b ≡ false
+      → ends_silent s.held b ≡ false → events_from s.held (b ∷ []) ≡ [] → item_place t s.held b ≡ begin
+      → one_written (play s (b ∷ [])).state (tracer_after s t b) ((tracer_after s t b).place + n) (tracer_after s t b).begin last e
+      ≡ one_written s t (t.place + suc n) begin last e
+  after_quiet s t b begin last n e whole inner none at =
+      let u : Tracer = tracer_after s t b in
+      ap (λ (d : Display). written u.in_text (place_of (u.place + n) u.begin last e) e (report e d)) (quiet_display s b none)
+      ∙ ap (λ (v : Bool). written v (place_of (u.place + n) u.begin last e) e (report e s.display)) (quiet_text s t b whole inner none)
+      ∙ ap (λ m. written t.in_text (place_of (u.place + n) m last e) e (report e s.display)) (quiet_begin s t b ∙ at)
+      ∙ ap (λ m. one_written s t m begin last e) (quiet_place s t b n)
+
+  tracer_after_quiet : (s : State) (t : Tracer) (b begin n : ℕ) (v : Bool) → item_place t s.held b ≡ begin
+      → made (tracer_after s t b).begin ((tracer_after s t b).place + n + 1) v ≡ made begin (t.place + suc n + 1) v
+  tracer_after_quiet s t b begin n v at =
+      ap (λ m. made m ((tracer_after s t b).place + n + 1) v) (quiet_begin s t b ∙ at)
+      ∙ ap (λ m. made begin (m + 1) v) (quiet_place s t b n)
+
+  -- the parts of bytes that have one event, at their last byte
+  pub first_quiet : (h : Held) (b : ℕ) (front : List ℕ) → events_from h (b ∷ front) ≡ [] → events_from h (b ∷ []) ≡ []
+  first_quiet h b front none =
+      no_bytes (events_from h (b ∷ [])) (events_from (held_from h (b ∷ [])) front)
+      (sym (split.events_append h (b ∷ []) front) ∙ none)
+
+  pub rest_quiet : (h : Held) (b : ℕ) (front : List ℕ) → events_from h (b ∷ front) ≡ []
+      → events_from (held_from h (b ∷ [])) front ≡ []
+  rest_quiet h b front none =
+      no_more (events_from h (b ∷ [])) (events_from (held_from h (b ∷ [])) front)
+      (sym (split.events_append h (b ∷ []) front) ∙ none)
+
+  pub rest_event : (h : Held) (b : ℕ) (rest : List ℕ) (e : Event) → events_from h (b ∷ []) ≡ [] → events_from h (b ∷ rest) ≡ e ∷ []
+      → events_from (held_from h (b ∷ [])) rest ≡ e ∷ []
+  rest_event h b rest e here events =
+      ap (λ (es : List Event). es ++ events_from (held_from h (b ∷ [])) rest) (sym here)
+      ∙ sym (split.events_append h (b ∷ []) rest) ∙ events
+
+  rest_held : (h : Held) (b : ℕ) (rest : List ℕ) → held_from h (b ∷ rest) ≡ Nothing
+      → held_from (held_from h (b ∷ [])) rest ≡ Nothing
+  rest_held h b rest none = sym (split.held_append h (b ∷ []) rest) ∙ none
 
   -- bytes inside a sequence, up to its last
   pub inside_traced : (front : List ℕ) (last : ℕ) (e : Event) (s : State) (t : Tracer) → All IsPlain (front ++ last ∷ [])
@@ -253,51 +388,48 @@ module _ (law : SpellingLaw) (split : SplitLaw) where
       → trace s t (front ++ last ∷ []) ≡ one_written s t (t.place + length front) t.begin last e
   unfolding trace play
   inside_traced [] last e s t all other none events =
-      last_traced s t last t.begin e events (ap (λ (v : Bool). cond v t.place t.begin)
-      (not_begins s.held last (not_between [] last e s.held all other events) (all 0 0 (omega arith))))
+      let inside = not_between [] last e s.held all other events in
+      let plain = all 0 0 (omega arith) in
+      last_traced s t last t.begin e (not_cut s.held last inside plain) events
+      (ap (λ (v : Bool). cond v t.place t.begin) (not_begins s.held last inside plain))
       ∙ ap (λ n. one_written s t n t.begin last e) (sym (add-zero t.place))
   inside_traced (b ∷ front) last e s t all other none events =
       let next : State = (play s (b ∷ [])).state in
-      let parts = sym (split.events_append s.held (b ∷ []) front) ∙ none in
-      let here = no_bytes (events_from s.held (b ∷ [])) (events_from next.held front) parts in
-      let there = no_more (events_from s.held (b ∷ [])) (events_from next.held front) parts in
-      let whole : events_from next.held (front ++ last ∷ []) ≡ e ∷ [] =
-      ap (λ (es : List Event). es ++ events_from next.held (front ++ last ∷ [])) (sym here)
-      ∙ sym (split.events_append s.held (b ∷ []) (front ++ last ∷ [])) ∙ events in
-      let outside = not_begins s.held b (not_between (b ∷ front) last e s.held all other events) (all 0 0 (omega arith)) in
-      let u : Tracer = made t.begin (t.place + 1) t.in_text in
-      let place : t.place + 1 + length front ≡ t.place + length (b ∷ front) = omega arith in
-      ap (λ (l : List ℕ). l ++ trace next (tracer_after s t b) (front ++ last ∷ [])) (quiet_traced s t b here)
-      ∙ ap (λ (v : Tracer). trace next v (front ++ last ∷ []))
-      (quiet_tracer s t b here ∙ ap (λ (v : Bool). made (cond v t.place t.begin) (t.place + 1) t.in_text) outside)
-      ∙ inside_traced front last e next u (tail_of_plain b (front ++ last ∷ []) all) other there whole
-      ∙ ap (λ (d : Display). written t.in_text (place_of (t.place + 1 + length front) t.begin last e) e (report e d))
-      (quiet_display s b here)
-      ∙ ap (λ n. one_written s t n t.begin last e) place
+      let here = first_quiet s.held b front none in
+      let whole = rest_event s.held b (front ++ last ∷ []) e here events in
+      let rest = tail_of_plain b (front ++ last ∷ []) all in
+      let inside = not_between (b ∷ front) last e s.held all other events in
+      let plain = all 0 0 (omega arith) in
+      let uncut = not_cut s.held b inside plain in
+      let inner = not_ended s.held b (not_between front last e next.held rest other whole) in
+      let u : Tracer = tracer_after s t b in
+      ap (λ (l : List ℕ). l ++ trace next u (front ++ last ∷ [])) (quiet_traced s t b uncut inner here)
+      ∙ inside_traced front last e next u rest other (rest_quiet s.held b front none) whole
+      ∙ after_quiet s t b t.begin last (length front) e uncut inner here
+      (ap (λ (v : Bool). cond v t.place t.begin) (not_begins s.held b inside plain))
 
   pub inside_tracer : (front : List ℕ) (last : ℕ) (e : Event) (s : State) (t : Tracer) → All IsPlain (front ++ last ∷ [])
       → is_graphic e ≡ false → events_from s.held front ≡ [] → events_from s.held (front ++ last ∷ []) ≡ e ∷ []
+      → held_from s.held (front ++ last ∷ []) ≡ Nothing
       → tracer_all s t (front ++ last ∷ []) ≡ made t.begin (t.place + length front + 1) (is_text e)
   unfolding tracer_all play
-  inside_tracer [] last e s t all other none events =
-      last_tracer s t last t.begin e events (ap (λ (v : Bool). cond v t.place t.begin)
-      (not_begins s.held last (not_between [] last e s.held all other events) (all 0 0 (omega arith))))
+  inside_tracer [] last e s t all other none events ends =
+      let inside = not_between [] last e s.held all other events in
+      let plain = all 0 0 (omega arith) in
+      last_tracer s t last t.begin e (not_cut s.held last inside plain) events ends
+      (ap (λ (v : Bool). cond v t.place t.begin) (not_begins s.held last inside plain))
       ∙ ap (λ n. made t.begin (n + 1) (is_text e)) (sym (add-zero t.place))
-  inside_tracer (b ∷ front) last e s t all other none events =
+  inside_tracer (b ∷ front) last e s t all other none events ends =
       let next : State = (play s (b ∷ [])).state in
-      let parts = sym (split.events_append s.held (b ∷ []) front) ∙ none in
-      let here = no_bytes (events_from s.held (b ∷ [])) (events_from next.held front) parts in
-      let there = no_more (events_from s.held (b ∷ [])) (events_from next.held front) parts in
-      let whole : events_from next.held (front ++ last ∷ []) ≡ e ∷ [] =
-      ap (λ (es : List Event). es ++ events_from next.held (front ++ last ∷ [])) (sym here)
-      ∙ sym (split.events_append s.held (b ∷ []) (front ++ last ∷ [])) ∙ events in
-      let outside = not_begins s.held b (not_between (b ∷ front) last e s.held all other events) (all 0 0 (omega arith)) in
-      let u : Tracer = made t.begin (t.place + 1) t.in_text in
-      let place : t.place + 1 + length front ≡ t.place + length (b ∷ front) = omega arith in
-      ap (λ (v : Tracer). tracer_all next v (front ++ last ∷ []))
-      (quiet_tracer s t b here ∙ ap (λ (v : Bool). made (cond v t.place t.begin) (t.place + 1) t.in_text) outside)
-      ∙ inside_tracer front last e next u (tail_of_plain b (front ++ last ∷ []) all) other there whole
-      ∙ ap (λ n. made t.begin (n + 1) (is_text e)) place
+      let here = first_quiet s.held b front none in
+      let whole = rest_event s.held b (front ++ last ∷ []) e here events in
+      let rest = tail_of_plain b (front ++ last ∷ []) all in
+      let inside = not_between (b ∷ front) last e s.held all other events in
+      let plain = all 0 0 (omega arith) in
+      inside_tracer front last e next (tracer_after s t b) rest other (rest_quiet s.held b front none) whole
+      (rest_held s.held b (front ++ last ∷ []) ends)
+      ∙ tracer_after_quiet s t b t.begin (length front) (is_text e)
+      (ap (λ (v : Bool). cond v t.place t.begin) (not_begins s.held b inside plain))
 
   -- an event between sequences: its first byte, and plain ones
   pub one_traced : (front : List ℕ) (last : ℕ) (e : Event) (s : State) (t : Tracer) → s.held ≡ Nothing
@@ -305,53 +437,40 @@ module _ (law : SpellingLaw) (split : SplitLaw) where
       → trace s t (front ++ last ∷ []) ≡ one_written s t (t.place + length front) t.place last e
   unfolding trace play
   one_traced [] last e s t nothing all one =
-      last_traced s t last t.place e (ap (λ (h : Held). events_from h (last ∷ [])) nothing ∙ one.events)
-      (ap (λ (h : Held). item_place t h last) nothing)
+      last_traced s t last t.place e (ap (λ (h : Held). cuts_off h last) nothing)
+      (ap (λ (h : Held). events_from h (last ∷ [])) nothing ∙ one.events) (ap (λ (h : Held). item_place t h last) nothing)
       ∙ ap (λ n. one_written s t n t.place last e) (sym (add-zero t.place))
   one_traced (b ∷ front) last e s t nothing all one =
       let next : State = (play s (b ∷ [])).state in
       let none = ap (λ (h : Held). events_from h (b ∷ front)) nothing ∙ one.silent in
       let events = ap (λ (h : Held). events_from h (b ∷ (front ++ last ∷ []))) nothing ∙ one.events in
-      let parts = sym (split.events_append s.held (b ∷ []) front) ∙ none in
-      let here = no_bytes (events_from s.held (b ∷ [])) (events_from next.held front) parts in
-      let there = no_more (events_from s.held (b ∷ [])) (events_from next.held front) parts in
-      let whole : events_from next.held (front ++ last ∷ []) ≡ e ∷ [] =
-      ap (λ (es : List Event). es ++ events_from next.held (front ++ last ∷ [])) (sym here)
-      ∙ sym (split.events_append s.held (b ∷ []) (front ++ last ∷ [])) ∙ events in
-      let u : Tracer = made t.place (t.place + 1) t.in_text in
-      let place : t.place + 1 + length front ≡ t.place + length (b ∷ front) = omega arith in
-      ap (λ (l : List ℕ). l ++ trace next (tracer_after s t b) (front ++ last ∷ [])) (quiet_traced s t b here)
-      ∙ ap (λ (v : Tracer). trace next v (front ++ last ∷ []))
-      (quiet_tracer s t b here ∙ ap (λ (h : Held). made (item_place t h b) (t.place + 1) t.in_text) nothing)
-      ∙ inside_traced front last e next u all one.other there whole
-      ∙ ap (λ (d : Display). written t.in_text (place_of (t.place + 1 + length front) t.place last e) e (report e d))
-      (quiet_display s b here)
-      ∙ ap (λ n. one_written s t n t.place last e) place
+      let here = first_quiet s.held b front none in
+      let whole = rest_event s.held b (front ++ last ∷ []) e here events in
+      let uncut = ap (λ (h : Held). cuts_off h b) nothing in
+      let inner = not_ended s.held b (not_between front last e next.held all one.other whole) in
+      let u : Tracer = tracer_after s t b in
+      ap (λ (l : List ℕ). l ++ trace next u (front ++ last ∷ [])) (quiet_traced s t b uncut inner here)
+      ∙ inside_traced front last e next u all one.other (rest_quiet s.held b front none) whole
+      ∙ after_quiet s t b t.place last (length front) e uncut inner here (ap (λ (h : Held). item_place t h b) nothing)
 
   pub one_tracer : (front : List ℕ) (last : ℕ) (e : Event) (s : State) (t : Tracer) → s.held ≡ Nothing
-      → All IsPlain (drop 1 (front ++ last ∷ [])) → IsOne front last e
+      → All IsPlain (drop 1 (front ++ last ∷ [])) → IsOne front last e → held_from Nothing (front ++ last ∷ []) ≡ Nothing
       → tracer_all s t (front ++ last ∷ []) ≡ made t.place (t.place + length front + 1) (is_text e)
   unfolding tracer_all play
-  one_tracer [] last e s t nothing all one =
-      last_tracer s t last t.place e (ap (λ (h : Held). events_from h (last ∷ [])) nothing ∙ one.events)
-      (ap (λ (h : Held). item_place t h last) nothing)
+  one_tracer [] last e s t nothing all one ends =
+      last_tracer s t last t.place e (ap (λ (h : Held). cuts_off h last) nothing)
+      (ap (λ (h : Held). events_from h (last ∷ [])) nothing ∙ one.events)
+      (ap (λ (h : Held). held_from h (last ∷ [])) nothing ∙ ends) (ap (λ (h : Held). item_place t h last) nothing)
       ∙ ap (λ n. made t.place (n + 1) (is_text e)) (sym (add-zero t.place))
-  one_tracer (b ∷ front) last e s t nothing all one =
+  one_tracer (b ∷ front) last e s t nothing all one ends =
       let next : State = (play s (b ∷ [])).state in
       let none = ap (λ (h : Held). events_from h (b ∷ front)) nothing ∙ one.silent in
       let events = ap (λ (h : Held). events_from h (b ∷ (front ++ last ∷ []))) nothing ∙ one.events in
-      let parts = sym (split.events_append s.held (b ∷ []) front) ∙ none in
-      let here = no_bytes (events_from s.held (b ∷ [])) (events_from next.held front) parts in
-      let there = no_more (events_from s.held (b ∷ [])) (events_from next.held front) parts in
-      let whole : events_from next.held (front ++ last ∷ []) ≡ e ∷ [] =
-      ap (λ (es : List Event). es ++ events_from next.held (front ++ last ∷ [])) (sym here)
-      ∙ sym (split.events_append s.held (b ∷ []) (front ++ last ∷ [])) ∙ events in
-      let u : Tracer = made t.place (t.place + 1) t.in_text in
-      let place : t.place + 1 + length front ≡ t.place + length (b ∷ front) = omega arith in
-      ap (λ (v : Tracer). tracer_all next v (front ++ last ∷ []))
-      (quiet_tracer s t b here ∙ ap (λ (h : Held). made (item_place t h b) (t.place + 1) t.in_text) nothing)
-      ∙ inside_tracer front last e next u all one.other there whole
-      ∙ ap (λ n. made t.place (n + 1) (is_text e)) place
+      let here = first_quiet s.held b front none in
+      let whole = rest_event s.held b (front ++ last ∷ []) e here events in
+      inside_tracer front last e next (tracer_after s t b) all one.other (rest_quiet s.held b front none) whole
+      (rest_held s.held b (front ++ last ∷ []) (ap (λ (h : Held). held_from h (b ∷ (front ++ last ∷ []))) nothing ∙ ends))
+      ∙ tracer_after_quiet s t b t.place (length front) (is_text e) (ap (λ (h : Held). item_place t h b) nothing)
 
 -- ---- requests
 
@@ -456,12 +575,13 @@ module _ (law : SpellingLaw) (split : SplitLaw) (s : State) (t : Tracer) (item :
       ∙ ap (λ (l : List ℕ). old ++ l) (sym (one_traced law split front last e s t nothing plain_item one_item))
       ∙ ap (λ (l : List ℕ). old ++ trace s t l) (last_apart item some)
 
-  pub event_tracer : (v : Bool) → v ≡ is_text e
+  pub event_tracer : (v : Bool) → held_from Nothing item ≡ Nothing → v ≡ is_text e
       → made t.place (t.place + (length item - 1) + 1) v ≡ tracer_all s t item
-  event_tracer v text =
+  event_tracer v ends text =
       ap (λ (w : Bool). made t.place (t.place + (length item - 1) + 1) w) text
       ∙ ap (λ n. made t.place (t.place + n + 1) (is_text e)) (sym (front_long item some))
-      ∙ sym (one_tracer law split front last e s t nothing plain_item one_item)
+      ∙ sym (one_tracer law split front last e s t nothing plain_item one_item
+      (ap (λ (l : List ℕ). held_from Nothing l) (last_apart item some) ∙ ends))
       ∙ ap (λ (l : List ℕ). tracer_all s t l) (last_apart item some)
 
 -- ---- what is appended of a run and of an event

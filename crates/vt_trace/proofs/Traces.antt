@@ -100,6 +100,11 @@ pub byte_tracer : (s : State) (t : Tracer) (b : ℕ) → tracer_after s t b ≡ 
 unfolding tracer_all
 byte_tracer s t b = refl
 
+-- no byte
+pub untouched : (s : State) (t u : Tracer) (bytes : List ℕ) (n : ℕ) → u ≡ tracer_all s t (take n bytes) → n ≡ 0 → u ≡ t
+unfolding tracer_all
+untouched s t u bytes n is none = is ∙ ap (λ k. tracer_all s t (take k bytes)) none
+
 -- ---- the places
 
 pub place_of_all : (s : State) (t : Tracer) (bytes : List ℕ) → (tracer_all s t bytes).place ≡ t.place + length bytes

@@ -1,5 +1,5 @@
--- The summary of bytes: how often each name occurs among their events. (this profile)
-use Rattle.std.specs.Prelude.{ℕ, ◌+◌, ◌-◌, ◌*◌, ◌^◌, List, [], ◌∷◌, ◌++◌, Bool, false, Option, Some, None, min, codes, decimal}
+-- The summary of bytes: how often each name occurs among their events, and each kind of what is ignored. (this profile)
+use Rattle.std.specs.Prelude.{ℕ, ◌≤◌, ◌+◌, ◌-◌, ◌*◌, ◌^◌, List, [], ◌∷◌, ◌++◌, Bool, false, Option, Some, None, min, codes, decimal}
 use Rattle.std.specs.Prelude.{◌==◌, ◌&&◌, if◌then◌else◌, nat_eq, count_by}
 use Rattle.std.specs.List.{flat_map, range_with_len}
 use Rattle.std.specs.Cmp.Lexicographic.{pointwise}
@@ -8,7 +8,8 @@ use Rattle.vt_syntax.specs.declared.event.Event.TheVariants.{Print, Control, Esc
 use Rattle.vt_syntax.specs.Reading.{events_of}
 use Rattle.vt_trace.specs.Names.{name_of, numbered}
 use Rattle.vt_trace.specs.Ignored.{is_ignored}
-use Rattle.vt_trace.specs.Lines.{bytes_column}
+use Rattle.vt_trace.specs.Lines.{shown_byte, bytes_column}
+use Rattle.vt_trace.specs.Skipped.{kind_name, kinds_of}
 
 -- ---- kinds
 
@@ -31,6 +32,19 @@ kind_number (Escape inter last) = 0x100 + 0x80 * inter_number inter + last
 kind_number (Sequence marker params inter last) =
     0x100 + 0x80 * (17 + 17 * marker_number marker + inter_number inter) + last
 
+-- an event without its values, of which a line of the summary tells: a single byte, whatever it is, or a sequence
+abbrev pub without_values : Event → Event
+without_values (Print b) = Control b
+without_values (Control b) = Control b
+without_values (Escape inter last) = Escape inter last
+without_values (Sequence marker params inter last) = Sequence marker (record { items = [] }) inter last
+
+-- a single byte is at most 0xFF
+abbrev pub IsByteAtMost : Event → Type 0
+IsByteAtMost (Print b) = b ≤ 0xFF
+IsByteAtMost (Control b) = b ≤ 0xFF
+IsByteAtMost _ = Unit {0}
+
 -- ---- counts
 
 -- the event has this name
@@ -46,6 +60,10 @@ times_named name events = count_by (has_name name) events
 
 unfoldable pub times_ignored : ℕ → List Event → ℕ
 times_ignored number events = count_by (is_ignored_kind number) events
+
+-- among kinds of items without a function
+unfoldable pub times_skipped : ℕ → List ℕ → ℕ
+times_skipped number kinds = count_by (λ kind. kind == number) kinds
 
 -- a count stays at the largest 64-bit number
 abbrev pub counted : ℕ → ℕ
@@ -82,9 +100,13 @@ escape_finals = range_with_len 0x30 79
 abbrev pub finals : List ℕ
 finals = range_with_len 0x40 63
 
+-- of a single byte, or of the kind of items without a function that has its number
+abbrev pub single_line : (ℕ → ℕ) → ℕ → List ℕ
+single_line times b = count_line (times b) (codes "ignored " ++ elim (kind_name b) [ None ↦ shown_byte b | Some name ↦ name ])
+
 -- the ignored kinds in the order of their numbers
 abbrev pub ignored_bytes : (ℕ → ℕ) → List ℕ
-ignored_bytes times = flat_map (λ b. ignored_line times (Control b)) (range_with_len 0 0x100)
+ignored_bytes times = flat_map (single_line times) (range_with_len 0 0x100)
 
 abbrev pub ignored_escapes : (ℕ → ℕ) → Option ℕ → List ℕ
 ignored_escapes times inter = flat_map (λ last. ignored_line times (Escape inter last)) escape_finals
@@ -103,12 +125,16 @@ ignored_lines times =
 abbrev pub named_lines : (ℕ → ℕ) → List ℕ
 named_lines times = flat_map (named_line times) (range_with_len 0 75)
 
--- the summary of events
-abbrev pub event_summary : List Event → List ℕ
-event_summary events =
-    ignored_lines (λ number. counted (times_ignored number events))
+-- how often an event was ignored, or an item had no function, whose kind has this number
+abbrev pub all_ignored : List Event → List ℕ → ℕ → ℕ
+all_ignored events kinds number = counted (times_ignored number events + times_skipped number kinds)
+
+-- the summary of events, and of the kinds of items without a function
+abbrev pub event_summary : List Event → List ℕ → List ℕ
+event_summary events kinds =
+    ignored_lines (all_ignored events kinds)
     ++ named_lines (λ number. counted (times_named (numbered number) events))
 
 -- the summary of a terminal's input
 unfoldable pub summary : List ℕ → List ℕ
-summary bytes = event_summary (events_of bytes)
+summary bytes = event_summary (events_of bytes) (kinds_of bytes)

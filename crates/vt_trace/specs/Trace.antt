@@ -1,11 +1,14 @@
--- The trace: the lines of the events of bytes, with their places, texts and reports. (this profile)
-use Rattle.std.specs.Prelude.{ℕ, ◌+◌, List, [], ◌∷◌, ◌++◌, Bool, true, false, not, ◌==◌, ◌||◌, nat_le, if◌then◌else◌}
-use Rattle.std.specs.Prelude.{codes, decimal}
+-- The trace: the lines of the events of bytes, with their places, texts and reports, and of what is no event. (this profile)
+use Rattle.std.specs.Prelude.{◌≡◌, ℕ, ◌+◌, List, [], ◌∷◌, ◌++◌, Bool, true, false, not, ◌==◌, ◌||◌, ◌&&◌, nat_le, nat_lt}
+use Rattle.std.specs.Prelude.{codes, decimal, length, take, if◌then◌else◌}
 use Rattle.vt_syntax.specs.declared.event.Event.{Event}
 use Rattle.vt_syntax.specs.declared.event.Event.TheVariants.{Print, Control, Escape, Sequence}
 use Rattle.vt_syntax.specs.declared.held.Held.{Held}
 use Rattle.vt_syntax.specs.declared.held.Held.TheVariants as held
-use Rattle.vt_syntax.specs.Held.{events_from}
+use Rattle.std.specs.List.{flat_map}
+use Rattle.vt_syntax.specs.Items.{item_bytes, rest_bytes}
+use Rattle.vt_syntax.specs.Split.{split_of}
+use Rattle.vt_syntax.specs.Held.{events_from, held_after, held_from}
 use Rattle.vt_glyph.specs.Invocation.{has_no_glyph}
 use Rattle.vt_term.specs.State.{Display, State}
 use Rattle.vt_term.specs.Functions.{effect}
@@ -13,6 +16,16 @@ use Rattle.vt_term.specs.Reports.{report}
 use Rattle.vt_term.specs.Play.{play}
 use Rattle.vt_trace.specs.declared.tracing.Tracer.{Tracer}
 use Rattle.vt_trace.specs.Lines.{shown_byte, shown, line, event_line}
+use Rattle.vt_trace.specs.Skipped.{cut_sequence, spoilt_sequence, is_empty, code_of, skipped_line}
+
+-- ---- tracers
+
+-- before the first byte, and between items
+abbrev pub between : (place begin : ℕ) → Bool → Tracer
+between n m v = record { place = n; begin = m; in_text = v; code = 0; first = record { items = [] } }
+
+abbrev pub tracer_at_start : Tracer
+tracer_at_start = between 0 0 false
 
 -- ---- places
 
@@ -65,6 +78,64 @@ written in_text place (Print b) reports =
     if has_no_glyph b then text_end in_text ++ event_line place (Print b) else text_of in_text place b
 written in_text place event reports = text_end in_text ++ (event_line place event ++ report_line place reports)
 
+-- ---- what is no event
+
+abbrev pub is_nothing : Held → Bool
+is_nothing held.Nothing = true
+is_nothing _ = false
+
+abbrev pub is_string : Held → Bool
+is_string (held.Text osc) = true
+is_string _ = false
+
+-- the byte cuts off what is held, or is the SUB that ends it, which is an event by itself
+abbrev pub cuts_off : Held → ℕ → Bool
+cuts_off held b = not (is_nothing held) && (begins held b || b == 0x1A)
+
+-- the byte ends an item, and has no event
+abbrev pub ends_silent : Held → ℕ → Bool
+ends_silent held b = is_empty (events_from held (b ∷ [])) && is_nothing (held_from held (b ∷ []))
+
+-- the bytes of an item up to this one: as many as tell its first 32, and whether there are more
+abbrev pub item_first : Tracer → Held → ℕ → List ℕ
+item_first t held b = take 33 ((if begins held b then [] else t.first.items) ++ b ∷ [])
+
+-- the C1 control that opens the string which is held after a byte, and 0 if none is
+abbrev pub code_after : ℕ → Bool → Held → ℕ → ℕ
+code_after code in_string held b =
+    if is_string held then (if in_string then code else (if nat_lt b 0x80 then b + 0x40 else b)) else 0
+
+-- the kind of what is held, with the C1 control of a string or 0
+abbrev pub open_kind : ℕ → ℕ
+open_kind code = if code == 0 then cut_sequence else code
+
+-- the kind of an item without a function that ends with a byte, which isn't SUB
+abbrev pub ended_kind : ℕ → Held → ℕ → ℕ
+ended_kind code held b =
+    if is_nothing held then b else (if code == 0 && not (b == 0x18) then spoilt_sequence else open_kind code)
+
+-- what is written of what is held, when it is cut off
+abbrev pub open_lines : Tracer → List ℕ
+open_lines t = text_end t.in_text ++ skipped_line t.begin (open_kind t.code) t.first.items
+
+-- what is written of an item without a function: one that is cut off, or one that has ended
+abbrev pub skipped_lines : Tracer → (cut ended : Bool) → (place kind : ℕ) → List ℕ → List ℕ
+skipped_lines t cut ended place kind first =
+    if cut then open_lines t else (if ended then text_end t.in_text ++ skipped_line place kind first else [])
+
+-- what is written of the item that a byte cuts off or ends, if it has no function
+unfoldable pub skipped : Tracer → Held → ℕ → List ℕ
+skipped t held b =
+    skipped_lines t (cuts_off held b) (ends_silent held b) (item_place t held b) (ended_kind t.code held b) (item_first t held b)
+
+-- whether a text may go on after it
+unfoldable pub goes_on : Tracer → Held → ℕ → Bool
+goes_on t held b = t.in_text && not (cuts_off held b || ends_silent held b)
+
+-- what is written at the end of bytes: the end of a text, and the line of what is held
+unfoldable pub end_lines : Tracer → List ℕ
+end_lines t = if length t.first.items == 0 then text_end t.in_text else open_lines t
+
 -- ---- bytes
 
 -- what is written of the events of a byte, each in the state before it
@@ -80,14 +151,17 @@ text_after in_text (event ∷ events) = text_after (is_text event) events
 -- what is written of a byte
 unfoldable pub traced : State → Tracer → ℕ → List ℕ
 traced s t b =
-    written_all t.in_text (place_of t.place (item_place t s.held b) b) (events_from s.held (b ∷ [])) s.display
+    skipped t s.held b
+    ++ written_all (goes_on t s.held b) (place_of t.place (item_place t s.held b) b) (events_from s.held (b ∷ [])) s.display
 
--- the tracer after a byte
+-- the tracer after a byte: between items it keeps nothing of one
 unfoldable pub tracer_after : State → Tracer → ℕ → Tracer
 tracer_after s t b = record {
   place = t.place + 1;
   begin = item_place t s.held b;
-  in_text = text_after t.in_text (events_from s.held (b ∷ []));
+  in_text = text_after (goes_on t s.held b) (events_from s.held (b ∷ []));
+  code = code_after t.code (is_string s.held) (held_from s.held (b ∷ [])) b;
+  first = record { items = if is_nothing (held_from s.held (b ∷ [])) then [] else item_first t s.held b };
 }
 
 -- what is written of bytes
@@ -99,3 +173,11 @@ trace s t (b ∷ bytes) = traced s t b ++ trace (play s (b ∷ [])).state (trace
 unfoldable pub tracer_all : State → Tracer → List ℕ → Tracer
 tracer_all s t [] = t
 tracer_all s t (b ∷ bytes) = tracer_all (play s (b ∷ [])).state (tracer_after s t b) bytes
+
+-- what a tracer keeps of bytes, by their split: of what is left it has the place, which is the length of the items before
+-- it, the first bytes, and the C1 control of a string
+pub record IsAfter (bytes : List ℕ) (t : Tracer) : Type 0 where
+  pub place : t.place ≡ length bytes
+  pub begin : is_nothing (held_after bytes) ≡ false → t.begin ≡ length (flat_map item_bytes (split_of bytes).items)
+  pub first : t.first.items ≡ take 33 (rest_bytes (split_of bytes).rest)
+  pub code : t.code ≡ code_of (split_of bytes).rest

@@ -1,5 +1,5 @@
 //! Bytes and numbers, into an output that has the capacity.
-ghost use Rattle.std.specs.Prelude.{◌≡◌, ◌+◌, ◌≤◌, ◌<◌, ◌++◌, Option, length, decimal, vec_len, vec_capacity};
+ghost use Rattle.std.specs.Prelude.{◌≡◌, ◌+◌, ◌*◌, ◌≤◌, ◌<◌, ◌++◌, Option, length, decimal, vec_len, vec_capacity};
 ghost use Rattle.std.specs.Option.{option_to_list};
 ghost use Rattle.vt_trace.specs.Lines.{hex_digit, shown_byte, shown};
 
@@ -76,5 +76,17 @@ pub(crate) fn push_shown_option(b: Option<u8>, out: &mut Vec<u8>)
 {
     if let Some(b) = b {
         push_shown(b, out);
+    }
+}
+
+/// Appends bytes as text.
+pub(crate) fn push_all_shown(bytes: &[u8], out: &mut Vec<u8>)
+    requires { vec_len out.old + 4 * length bytes.now ≤ vec_capacity out.old }
+    ensures items { out.new.items ≡ out.old.items ++ shown bytes.now }
+    ensures bounded { vec_len out.new ≤ vec_len out.old + 4 * length bytes.now }
+    ensures capacity { vec_capacity out.old ≤ vec_capacity out.new }
+{
+    for b in bytes.iter() {
+        push_shown(*b, out);
     }
 }

@@ -15,7 +15,7 @@ use crate::buffer::{BUFFER, put, put_bytes, put_number, put_shown};
 use crate::bytes::push_bytes;
 use crate::laws::cuts;
 use crate::lines::put_line;
-use crate::tracing::{TRACE_LIMIT, Tracer, is_text, place_of, trace_byte};
+use crate::tracing::{EVENT_LIMIT, TRACE_LIMIT, Tracer, is_text, place_of, trace_byte};
 use vt_syntax::laws::{one_split, spelled};
 use vt_syntax::{EventKind, Parser, Values};
 use vt_term::Terminal;
@@ -46,11 +46,9 @@ pub(crate) fn trace_front(
     ensures reports_capacity { vec_capacity reports.old ≤ vec_capacity reports.new }
     ensures capacity { vec_capacity out.old ≤ vec_capacity out.new }
 {
-    let mut after = *tracer;
-    let bytes = push_between(terminal, &mut after, piece, values, buffer, out);
+    let bytes = push_between(terminal, tracer, piece, values, buffer, out);
     if bytes > 0 {
         terminal.feed_reserved(&piece[..bytes], reports);
-        *tracer = after;
         return bytes;
     }
     trace_byte(terminal, tracer, piece[0], values, reports, out);
@@ -71,7 +69,7 @@ fn push_between(
     ensures within { result ≤ length piece.now }
     ensures lines { out.new.items ≡ out.old.items ++ trace terminal.now tracer.old (take result piece.now) }
     ensures tracer { tracer.new ≡ tracer_all terminal.now tracer.old (take result piece.now) }
-    ensures bounded { vec_len out.new ≤ vec_len out.old + TRACE_LIMIT * result }
+    ensures bounded { vec_len out.new ≤ vec_len out.old + EVENT_LIMIT * result }
     ensures capacity { vec_capacity out.old ≤ vec_capacity out.new }
 {
     let _ = terminal.width();
@@ -93,7 +91,7 @@ fn push_fronts(
     requires { tracer.old.place + length piece.now < 2 ^ 64 }
     ensures within { result ≤ length piece.now }
     ensures traces { Traces tracer.old tracer.new (take result piece.now) out.old.items out.new.items }
-    ensures bounded { vec_len out.new ≤ vec_len out.old + TRACE_LIMIT * result }
+    ensures bounded { vec_len out.new ≤ vec_len out.old + EVENT_LIMIT * result }
     ensures capacity { vec_capacity out.old ≤ vec_capacity out.new }
 {
     let room = (out.capacity() - out.len()).min(BUFFER);
@@ -115,7 +113,7 @@ fn put_fronts(
     requires room { room ≤ BUFFER }
     ensures within { result.0 ≤ length piece.now }
     ensures traces { Traces tracer.old tracer.new (take result.0 piece.now) [] (take result.1 buffer.new) }
-    ensures bounded { result.1 ≤ TRACE_LIMIT * result.0 }
+    ensures bounded { result.1 ≤ EVENT_LIMIT * result.0 }
     ensures room { result.1 ≤ room }
 {
     one_split();
@@ -124,7 +122,7 @@ fn put_fronts(
     cuts();
     let mut at = 0;
     let mut end = 0;
-    while at < piece.len() && room - end >= TRACE_LIMIT {
+    while at < piece.len() && room - end >= EVENT_LIMIT {
         let (bytes, next) = put_one(tracer, &piece[at..], values, room, end, buffer);
         if bytes == 0 {
             return (at, end);
@@ -148,12 +146,12 @@ fn put_one(
 ) -> (usize, usize)
     requires some { 1 ≤ length piece.now }
     requires place { tracer.old.place + length piece.now < 2 ^ 64 }
-    requires at { at + TRACE_LIMIT ≤ room }
+    requires at { at + EVENT_LIMIT ≤ room }
     requires room { room ≤ BUFFER }
     ensures within { result.0 ≤ length piece.now }
     ensures traces { Traces tracer.old tracer.new (take result.0 piece.now) (take at buffer.old) (take result.1 buffer.new) }
     ensures place { tracer.new.place ≡ tracer.old.place + result.0 }
-    ensures bounded { result.1 ≤ at + TRACE_LIMIT * result.0 }
+    ensures bounded { result.1 ≤ at + EVENT_LIMIT * result.0 }
     ensures room { result.1 ≤ room }
     ensures none { result.0 ≡ 0 → (tracer.new ≡ tracer.old) × (take at buffer.new ≡ take at buffer.old) }
 {
@@ -220,7 +218,7 @@ fn is_alone(kind: EventKind, item: &[u8]) -> bool
 
 /// Returns whether all bytes are plain. (Speed: they are few.)
 #[inline(always)]
-fn are_plain(bytes: &[u8]) -> bool
+pub(crate) fn are_plain(bytes: &[u8]) -> bool
     ensures { OnTrue result (All IsPlain bytes.now) }
 {
     for b in bytes.iter() {
@@ -233,7 +231,7 @@ fn are_plain(bytes: &[u8]) -> bool
 
 /// Returns whether an event is a graphic byte.
 #[inline(always)]
-fn is_print(kind: EventKind) -> bool
+pub(crate) fn is_print(kind: EventKind) -> bool
     ensures { (values : List ℕ) → result ≡ is_graphic (event_of kind values) }
 {
     match kind {
@@ -272,11 +270,7 @@ fn put_run(tracer: &mut Tracer, run: &[u8], at: usize, buffer: &mut [u8; BUFFER]
     let at = put_text_begin(tracer, at, buffer);
     let end = put_bytes(run, at, buffer);
     let begin = tracer.place + (run.len() as u64 - 1);
-    *tracer = Tracer {
-        place: begin + 1,
-        begin,
-        in_text: true,
-    };
+    tracer.pass(begin + 1, begin, true);
     end
 }
 
@@ -293,11 +287,8 @@ fn put_character(tracer: &mut Tracer, b: u8, at: usize, buffer: &mut [u8; BUFFER
     spelled();
     let at = put_text_begin(tracer, at, buffer);
     let end = put_shown(b, at, buffer);
-    *tracer = Tracer {
-        place: tracer.place + 1,
-        begin: tracer.place,
-        in_text: true,
-    };
+    let begin = tracer.place;
+    tracer.pass(begin + 1, begin, true);
     end
 }
 
@@ -334,10 +325,10 @@ fn put_alone(
     requires no_request { is_request (event_of kind values.now) ≡ false }
     requires plain { All IsPlain (drop 1 item.now) }
     requires place { tracer.old.place + length item.now < 2 ^ 64 }
-    requires room { at + TRACE_LIMIT ≤ BUFFER }
+    requires room { at + EVENT_LIMIT ≤ BUFFER }
     ensures traces { Traces tracer.old tracer.new item.now (take at buffer.old) (take result buffer.new) }
     ensures place { tracer.new.place ≡ tracer.old.place + length item.now }
-    ensures bounded { result ≤ at + TRACE_LIMIT }
+    ensures bounded { result ≤ at + EVENT_LIMIT }
 {
     one_split();
     spelled();
@@ -345,11 +336,7 @@ fn put_alone(
     let last = begin + (item.len() as u64 - 1);
     let place = place_of(last, begin, item[item.len() - 1], kind);
     let end = put_event(tracer.in_text, place, kind, values, at, buffer);
-    *tracer = Tracer {
-        place: last + 1,
-        begin,
-        in_text: is_text(kind),
-    };
+    tracer.pass(last + 1, begin, is_text(kind));
     end
 }
 
@@ -365,9 +352,9 @@ fn put_event(
 ) -> usize
     requires few { length values.now ≤ 16 }
     requires other { is_graphic (event_of kind values.now) ≡ false }
-    requires room { at + TRACE_LIMIT ≤ BUFFER }
+    requires room { at + EVENT_LIMIT ≤ BUFFER }
     ensures items { take result buffer.new ≡ take at buffer.old ++ written in_text place (event_of kind values.now) [] }
-    ensures bounded { result ≤ at + TRACE_LIMIT }
+    ensures bounded { result ≤ at + EVENT_LIMIT }
 {
     let at = put_end(in_text, at, buffer);
     put_line(place, kind, values, at, buffer)

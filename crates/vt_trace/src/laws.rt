@@ -1,13 +1,20 @@
 //! Laws of the definitions alone. A caller calls one for its clauses.
-ghost use Rattle.std.specs.Prelude.{◌≡◌, ◌++◌, List, ℕ, true};
+ghost use Rattle.std.specs.Prelude.{◌≡◌, ◌++◌, List, ℕ, true, false};
+ghost use Rattle.std.specs.List.{list_all};
+ghost use Rattle.vt_glyph.specs.LookUp.{contains};
+ghost use Rattle.vt_syntax.specs.Spelling.{IsEvent};
 ghost use Rattle.vt_term.specs.State.{State};
 ghost use Rattle.vt_term.specs.Sound.{IsSound};
 ghost use Rattle.vt_term.specs.Play.{play};
 ghost use Rattle.vt_syntax.specs.declared.event.Event.{Event};
 ghost use Rattle.vt_trace.specs.Ignored.{is_ignored, HasNoEffect};
+ghost use Rattle.vt_trace.specs.Summary.{kind_number, without_values, IsByteAtMost};
+ghost use Rattle.vt_trace.specs.Skipped.{all_kinds, kinds_of};
 ghost use Rattle.vt_trace.specs.declared.tracing.Tracer.{Tracer};
-ghost use Rattle.vt_trace.specs.Trace.{trace, tracer_all};
+ghost use Rattle.vt_syntax.specs.declared.held.Held.TheVariants.{Nothing};
+ghost use Rattle.vt_trace.specs.Trace.{trace, tracer_all, tracer_at_start, IsAfter};
 
+use vt_syntax::laws::one_split;
 use vt_term::laws::{cuts as play_cuts, soundness};
 
 /// An event is ignored exactly if it leaves every sound display as it is and reports nothing.
@@ -27,4 +34,21 @@ pub fn cuts()
 {
     play_cuts();
     soundness();
+}
+
+/// States that each kind of what is ignored has its own line in a summary: two events with one number differ in their values
+/// alone, and no event has the number of what is no event.
+pub fn kinds()
+    ensures events { (a b : Event) → IsEvent a → IsEvent b → IsByteAtMost a → IsByteAtMost b → kind_number a ≡ kind_number b
+        → without_values a ≡ without_values b }
+    ensures no_event { (event : Event) → IsEvent event → contains all_kinds (kind_number event) ≡ false }
+    ensures no_other { (bytes : List ℕ) → list_all (contains all_kinds) (kinds_of bytes) ≡ true }
+{}
+
+/// States that a tracer which was given bytes, from the first on, keeps what the split says: the place of what is left is the
+/// length of the items before it.
+pub fn places()
+    ensures { (s : State) (bytes : List ℕ) → s.held ≡ Nothing → IsAfter bytes (tracer_all s tracer_at_start bytes) }
+{
+    one_split();
 }

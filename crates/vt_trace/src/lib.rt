@@ -9,10 +9,12 @@ mod lines;
 mod names;
 mod numbers;
 mod sequences;
+mod skipped;
 mod summary;
 mod tracing;
 
 pub use lines::{LINE_LIMIT, push_line};
 pub use names::{is_ignored, name};
+pub use skipped::{First, SKIPPED_LIMIT};
 pub use summary::{SUMMARY_LIMIT, Summary};
 pub use tracing::{TRACE_LIMIT, Tracer, trace_byte, trace_end, trace_reserved};

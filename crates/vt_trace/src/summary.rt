@@ -1,30 +1,39 @@
-//! The summary of bytes that come in chunks: how often each name occurs among their events.
-ghost use Rattle.std.specs.Prelude.{◌≡◌, ℕ, List, ◌+◌, ◌-◌, ◌*◌, ◌^◌, ◌<◌, ◌≤◌, ◌++◌, [], length, take, min, set, get_or};
-ghost use Rattle.std.specs.Prelude.{IfOk, IfSome, vec_len, vec_capacity};
+//! The summary of bytes that come in chunks: how often each name occurs among their events, and each kind of what is
+//! ignored.
+ghost use Rattle.std.specs.Prelude.{◌≡◌, ℕ, List, Option, ◌+◌, ◌-◌, ◌*◌, ◌^◌, ◌<◌, ◌≤◌, ◌++◌, [], ◌∷◌, length, take, min, set, get_or};
+ghost use Rattle.std.specs.Prelude.{IfOk, IfSome, vec_len, vec_capacity, if◌then◌else◌};
+ghost use Rattle.std.specs.Bool.{OnTrue};
+ghost use Rattle.std.specs.Option.{option_to_list};
 ghost use Rattle.vt_syntax.specs.declared.event.Event.{Event};
 ghost use Rattle.vt_syntax.specs.Event.{event_in, event_of};
 ghost use Rattle.vt_trace.specs.Names.{numbered};
-ghost use Rattle.vt_trace.specs.Summary.{kind_number, inter_number, marker_number, summary, count_line, ignored_line};
+ghost use Rattle.vt_trace.specs.Summary.{kind_number, inter_number, marker_number, summary, count_line, ignored_line, single_line};
 ghost use Rattle.vt_trace.specs.Summary.{optionally, intermediates, markers, ignored_bytes, ignored_escapes, ignored_sequences};
 ghost use Rattle.vt_trace.specs.Summary.{ignored_lines, named_lines};
 ghost use Rattle.vt_syntax.specs.Spelling.{IsEvent};
+ghost use Rattle.vt_trace.specs.Trace.{is_nothing, open_kind};
+ghost use Rattle.vt_trace.specs.Runs.{IsItem, times_at};
 ghost use Rattle.vt_trace.specs.Counted.{AreCounts, HasCounted};
 
-use crate::bytes::{push_bytes, push_number};
+use crate::bytes::{push_bytes, push_number, push_shown};
+use crate::fronts::{are_plain, is_print};
 use crate::lines::push_kind;
 use crate::names::number;
 use crate::numbers::{NAMES, word};
+use crate::skipped::{kind_name, open_kind, read};
 use std::alloc::{AllocError, Global};
-use vt_syntax::laws::one_split;
+use vt_syntax::laws::{one_split, spelled};
 use vt_syntax::{EventKind, Parser, Values};
 
-/// How many kinds of events there are.
+/// How many kinds there are.
 const KINDS: usize = 13312;
 
-/// The counts of events by name, and of ignored events by kind.
+/// The counts of events by name, and of what is ignored by kind.
 #[derive(Drop)]
 pub struct Summary {
     parser: Parser,
+    /// The C1 control that opened the string that is held, and 0 if none is.
+    code: u8,
     ignored: Vec<u64>,
     named: [u64; NAMES],
 }
@@ -38,12 +47,14 @@ impl Summary {
         let ignored = vec![in alloc; 0u64; KINDS]?;
         Ok(Summary {
             parser: Parser::new(),
+            code: 0,
             ignored,
             named: [0; NAMES],
         })
     }
 
-    /// Counts the events of a chunk of the host's bytes. It never fails, and it allocates nothing.
+    /// Counts the events of a chunk of the host's bytes, and its items without a function. It never fails, and it allocates
+    /// nothing.
     pub fn count(&mut self, chunk: &[u8])
         ensures { (bytes : List ℕ) → HasCounted bytes self.old → HasCounted (bytes ++ chunk.now) self.new }
     {
@@ -55,41 +66,124 @@ impl Summary {
         }
     }
 
-    /// Counts the first event of a chunk that isn't empty. Returns how many bytes it read.
+    /// Counts the front of a chunk that isn't empty: an event, or a byte. Returns how many bytes it read.
     fn count_front(&mut self, piece: &[u8], values: &mut Values) -> usize
         requires { 1 ≤ length piece.now }
         ensures some { 1 ≤ result }
         ensures within { result ≤ length piece.now }
         ensures counted { (bytes : List ℕ) → HasCounted bytes self.old → HasCounted (bytes ++ take result piece.now) self.new }
     {
+        let bytes = self.count_item(piece, values);
+        if bytes > 0 {
+            return bytes;
+        }
+        self.count_byte(piece[0], values);
+        1
+    }
+
+    /// Speed: counts an event between sequences that is whole at the front of a chunk. Returns how many bytes it has, or 0
+    /// if there is none.
+    #[inline(always)]
+    fn count_item(&mut self, piece: &[u8], values: &mut Values) -> usize
+        requires { 1 ≤ length piece.now }
+        ensures within { result ≤ length piece.now }
+        ensures none { result ≡ 0 → self.new ≡ self.old }
+        ensures counted { 1 ≤ result → (bytes : List ℕ) → HasCounted bytes self.old
+            → HasCounted (bytes ++ take result piece.now) self.new }
+    {
         one_split();
-        let taken = self.parser.next(piece, values);
+        spelled();
+        if !self.parser.is_between() {
+            return 0;
+        }
+        let mut parser = Parser::new();
+        let taken = parser.next(piece, values);
+        if let Some(kind) = taken.event {
+            if parser.is_between() && is_item(kind, &piece[..taken.bytes]) {
+                count_kind(kind, values.as_slice(), &mut self.ignored, &mut self.named);
+                return taken.bytes;
+            }
+        }
+        0
+    }
+
+    /// Counts the event that a byte completes, and the item without a function that it cuts off or ends.
+    fn count_byte(&mut self, b: u8, values: &mut Values)
+        ensures { (bytes : List ℕ) → HasCounted bytes self.old → HasCounted (bytes ++ b ∷ []) self.new }
+    {
+        one_split();
+        let step = read(self.code, &mut self.parser, b, values);
+        count_skipped(step.skipped(self.code), &mut self.ignored);
         count_event(
-            taken.event,
+            step.event,
             values.as_slice(),
             &mut self.ignored,
             &mut self.named,
         );
-        taken.bytes
+        self.code = step.code;
     }
 }
 
-/// The most bytes of a summary: 6954 kinds and 75 names, each with a line.
-pub const SUMMARY_LIMIT: usize = 44 * 6954 + 45 * 75;
+/// The most bytes of a summary: 256 single bytes, 6698 kinds of sequences and 75 names, each with a line.
+pub const SUMMARY_LIMIT: usize = 45 * 256 + 44 * 6698 + 45 * 75;
 
-const _: () = prove!(SUMMARY_LIMIT == 309351);
+const _: () = prove!(SUMMARY_LIMIT == 309607);
 
 impl Summary {
-    /// Appends the summary of the bytes that were counted, in existing capacity. It never fails, and it allocates nothing.
+    /// Appends the summary of the bytes that were counted, in existing capacity. It counts what is open at their end. It
+    /// never fails, and it allocates nothing.
     pub fn push_summary(&self, out: &mut Vec<u8>)
         requires { vec_len out.old + SUMMARY_LIMIT ≤ vec_capacity out.old }
         ensures items { (bytes : List ℕ) → HasCounted bytes self.now → out.new.items ≡ out.old.items ++ summary bytes }
         ensures bounded { vec_len out.new ≤ vec_len out.old + SUMMARY_LIMIT }
         ensures capacity { vec_capacity out.old ≤ vec_capacity out.new }
     {
-        push_ignored_lines(&self.ignored, out);
+        push_ignored_lines(&self.ignored, self.last(), out);
         push_named_lines(&self.named, out);
     }
+
+    /// Returns the kind of what is held, if something is.
+    fn last(&self) -> Option<u8>
+        ensures { option_to_list result ≡ if is_nothing self.now.parser then [] else open_kind self.now.code ∷ [] }
+    {
+        if self.parser.is_between() {
+            None
+        } else {
+            Some(open_kind(self.code))
+        }
+    }
+}
+
+/// Returns whether an event at the end of these bytes is one item with them: the event is a single byte, or it is no
+/// graphic byte and the bytes after the first are plain.
+#[inline(always)]
+fn is_item(kind: EventKind, item: &[u8]) -> bool
+    requires { 1 ≤ length item.now }
+    ensures { OnTrue result ((values : List ℕ) → IsItem item.now (event_of kind values)) }
+{
+    if item.len() == 1 {
+        return true;
+    }
+    let after = &item[1..];
+    !is_print(kind) && are_plain(after)
+}
+
+/// Counts an item without a function, if there is one.
+fn count_skipped(kind: Option<u8>, ignored: &mut Vec<u64>)
+    ensures { (events : List Event) (kinds named : List ℕ) → AreCounts events kinds ignored.old.items named
+        → AreCounts events (kinds ++ option_to_list kind) ignored.new.items named }
+{
+    if let Some(kind) = kind {
+        count_ignored(ignored, as_number(kind));
+    }
+}
+
+/// Returns the number of the kind of an item without a function.
+fn as_number(kind: u8) -> usize
+    ensures number { result ≡ kind }
+    ensures within { result < 13312 }
+{
+    kind as usize
 }
 
 /// Counts an event, if there is one.
@@ -100,12 +194,20 @@ fn count_event(
     named: &mut [u64; NAMES],
 )
     requires { IfSome event (λ kind. IsEvent (event_of kind values.now)) }
-    ensures { (events : List Event) → AreCounts events ignored.old.items named.old
-        → AreCounts (events ++ event_in event values.now) ignored.new.items named.new }
+    ensures { (events : List Event) (kinds : List ℕ) → AreCounts events kinds ignored.old.items named.old
+        → AreCounts (events ++ event_in event values.now) kinds ignored.new.items named.new }
 {
-    let Some(kind) = event else {
-        return;
-    };
+    if let Some(kind) = event {
+        count_kind(kind, values, ignored, named);
+    }
+}
+
+/// Counts an event.
+fn count_kind(kind: EventKind, values: &[u16], ignored: &mut Vec<u64>, named: &mut [u64; NAMES])
+    requires { IsEvent (event_of kind values.now) }
+    ensures { (events : List Event) (kinds : List ℕ) → AreCounts events kinds ignored.old.items named.old
+        → AreCounts (events ++ event_of kind values.now ∷ []) kinds ignored.new.items named.new }
+{
     match number(kind, values) {
         Some(number) => count_named(named, number),
         None => count_ignored(ignored, kind_number(kind)),
@@ -174,108 +276,135 @@ fn marker_number(marker: Option<u8>) -> usize
 }
 
 /// Appends the lines of ignored events.
-fn push_ignored_lines(ignored: &[u64], out: &mut Vec<u8>)
-    requires { vec_len out.old + 305976 ≤ vec_capacity out.old }
-    ensures items { out.new.items ≡ out.old.items ++ ignored_lines (λ number. get_or ignored.now number 0) }
-    ensures bounded { vec_len out.new ≤ vec_len out.old + 305976 }
+fn push_ignored_lines(ignored: &[u64], last: Option<u8>, out: &mut Vec<u8>)
+    requires { vec_len out.old + 306232 ≤ vec_capacity out.old }
+    ensures items { out.new.items ≡ out.old.items ++ ignored_lines (times_at ignored.now last) }
+    ensures bounded { vec_len out.new ≤ vec_len out.old + 306232 }
     ensures capacity { vec_capacity out.old ≤ vec_capacity out.new }
 {
-    push_single_bytes(ignored, out);
-    push_all_escapes(ignored, out);
-    push_all_sequences(ignored, out);
+    push_single_bytes(ignored, last, out);
+    push_all_escapes(ignored, last, out);
+    push_all_sequences(ignored, last, out);
 }
 
 /// Appends the lines of single bytes that were ignored.
-fn push_single_bytes(ignored: &[u64], out: &mut Vec<u8>)
-    requires { vec_len out.old + 11264 ≤ vec_capacity out.old }
-    ensures items { out.new.items ≡ out.old.items ++ ignored_bytes (λ number. get_or ignored.now number 0) }
-    ensures bounded { vec_len out.new ≤ vec_len out.old + 11264 }
+fn push_single_bytes(ignored: &[u64], last: Option<u8>, out: &mut Vec<u8>)
+    requires { vec_len out.old + 11520 ≤ vec_capacity out.old }
+    ensures items { out.new.items ≡ out.old.items ++ ignored_bytes (times_at ignored.now last) }
+    ensures bounded { vec_len out.new ≤ vec_len out.old + 11520 }
     ensures capacity { vec_capacity out.old ≤ vec_capacity out.new }
 {
     for b in 0..0x100u16 {
-        push_ignored(ignored, EventKind::Control(b as u8), out);
+        push_single(ignored, last, b as u8, out);
     }
 }
 
 /// Appends the lines of ignored escape sequences.
-fn push_all_escapes(ignored: &[u64], out: &mut Vec<u8>)
+fn push_all_escapes(ignored: &[u64], last: Option<u8>, out: &mut Vec<u8>)
     requires { vec_len out.old + 59092 ≤ vec_capacity out.old }
     ensures items { out.new.items ≡ out.old.items
-        ++ optionally intermediates (ignored_escapes (λ number. get_or ignored.now number 0)) }
+        ++ optionally intermediates (ignored_escapes (times_at ignored.now last)) }
     ensures bounded { vec_len out.new ≤ vec_len out.old + 59092 }
     ensures capacity { vec_capacity out.old ≤ vec_capacity out.new }
 {
-    push_escapes(ignored, None, out);
+    push_escapes(ignored, last, None, out);
     for inter in 0x20..0x30u8 {
-        push_escapes(ignored, Some(inter), out);
+        push_escapes(ignored, last, Some(inter), out);
     }
 }
 
 /// Appends the lines of ignored control sequences.
-fn push_all_sequences(ignored: &[u64], out: &mut Vec<u8>)
+fn push_all_sequences(ignored: &[u64], last: Option<u8>, out: &mut Vec<u8>)
     requires { vec_len out.old + 235620 ≤ vec_capacity out.old }
     ensures items { out.new.items ≡ out.old.items ++ optionally markers
-        (λ marker. optionally intermediates (ignored_sequences (λ number. get_or ignored.now number 0) marker)) }
+        (λ marker. optionally intermediates (ignored_sequences (times_at ignored.now last) marker)) }
     ensures bounded { vec_len out.new ≤ vec_len out.old + 235620 }
     ensures capacity { vec_capacity out.old ≤ vec_capacity out.new }
 {
-    push_sequences(ignored, None, out);
+    push_sequences(ignored, last, None, out);
     for marker in 0x3C..0x40u8 {
-        push_sequences(ignored, Some(marker), out);
+        push_sequences(ignored, last, Some(marker), out);
     }
 }
 
 /// Appends the lines of ignored escape sequences with an intermediate, or without one.
-fn push_escapes(ignored: &[u64], inter: Option<u8>, out: &mut Vec<u8>)
+fn push_escapes(ignored: &[u64], last: Option<u8>, inter: Option<u8>, out: &mut Vec<u8>)
     requires { vec_len out.old + 3476 ≤ vec_capacity out.old }
-    ensures items { out.new.items ≡ out.old.items ++ ignored_escapes (λ number. get_or ignored.now number 0) inter }
+    ensures items { out.new.items ≡ out.old.items ++ ignored_escapes (times_at ignored.now last) inter }
     ensures bounded { vec_len out.new ≤ vec_len out.old + 3476 }
     ensures capacity { vec_capacity out.old ≤ vec_capacity out.new }
 {
-    for last in 0x30..0x7Fu8 {
-        push_ignored(ignored, EventKind::Escape { inter, last }, out);
+    for byte in 0x30..0x7Fu8 {
+        let kind = EventKind::Escape { inter, last: byte };
+        push_ignored(ignored, last, kind, out);
     }
 }
 
 /// Appends the lines of ignored control sequences with a marker, or without one.
-fn push_sequences(ignored: &[u64], marker: Option<u8>, out: &mut Vec<u8>)
+fn push_sequences(ignored: &[u64], last: Option<u8>, marker: Option<u8>, out: &mut Vec<u8>)
     requires { vec_len out.old + 47124 ≤ vec_capacity out.old }
     ensures items { out.new.items ≡ out.old.items
-        ++ optionally intermediates (ignored_sequences (λ number. get_or ignored.now number 0) marker) }
+        ++ optionally intermediates (ignored_sequences (times_at ignored.now last) marker) }
     ensures bounded { vec_len out.new ≤ vec_len out.old + 47124 }
     ensures capacity { vec_capacity out.old ≤ vec_capacity out.new }
 {
-    push_finals(ignored, marker, None, out);
+    push_finals(ignored, last, marker, None, out);
     for inter in 0x20..0x30u8 {
-        push_finals(ignored, marker, Some(inter), out);
+        push_finals(ignored, last, marker, Some(inter), out);
     }
 }
 
 /// Appends the lines of ignored control sequences with a marker and an intermediate, or without one.
-fn push_finals(ignored: &[u64], marker: Option<u8>, inter: Option<u8>, out: &mut Vec<u8>)
+fn push_finals(
+    ignored: &[u64],
+    last: Option<u8>,
+    marker: Option<u8>,
+    inter: Option<u8>,
+    out: &mut Vec<u8>,
+)
     requires { vec_len out.old + 2772 ≤ vec_capacity out.old }
-    ensures items { out.new.items ≡ out.old.items ++ ignored_sequences (λ number. get_or ignored.now number 0) marker inter }
+    ensures items { out.new.items ≡ out.old.items ++ ignored_sequences (times_at ignored.now last) marker inter }
     ensures bounded { vec_len out.new ≤ vec_len out.old + 2772 }
     ensures capacity { vec_capacity out.old ≤ vec_capacity out.new }
 {
-    for last in 0x40..0x7Fu8 {
+    for byte in 0x40..0x7Fu8 {
         let kind = EventKind::Sequence {
             marker,
             inter,
-            last,
+            last: byte,
         };
-        push_ignored(ignored, kind, out);
+        push_ignored(ignored, last, kind, out);
     }
 }
 
+/// Appends the line of a single byte, or of the kind of items without a function that has its number.
+fn push_single(ignored: &[u64], last: Option<u8>, b: u8, out: &mut Vec<u8>)
+    requires { vec_len out.old + 45 ≤ vec_capacity out.old }
+    ensures items { out.new.items ≡ out.old.items ++ single_line (times_at ignored.now last) b }
+    ensures bounded { vec_len out.new ≤ vec_len out.old + 45 }
+    ensures capacity { vec_capacity out.old ≤ vec_capacity out.new }
+{
+    let count = count_at(ignored, last, b as usize);
+    if count == 0 {
+        return;
+    }
+    push_number(count, out);
+    push_bytes(b"\tignored ", out);
+    match kind_name(b) {
+        Some(name) => push_bytes(name.as_bytes(), out),
+        None => push_shown(b, out),
+    }
+    push_bytes(b"\n", out);
+}
+
 /// Appends the line of ignored events of a kind, if there were any.
-fn push_ignored(ignored: &[u64], kind: EventKind, out: &mut Vec<u8>)
+fn push_ignored(ignored: &[u64], last: Option<u8>, kind: EventKind, out: &mut Vec<u8>)
     requires { vec_len out.old + 44 ≤ vec_capacity out.old }
-    ensures items { out.new.items ≡ out.old.items ++ ignored_line (λ number. get_or ignored.now number 0) (event_of kind []) }
+    ensures items { out.new.items ≡ out.old.items ++ ignored_line (times_at ignored.now last) (event_of kind []) }
     ensures bounded { vec_len out.new ≤ vec_len out.old + 44 }
     ensures capacity { vec_capacity out.old ≤ vec_capacity out.new }
 {
-    let count = count_at(ignored, kind_number(kind));
+    let count = count_at(ignored, last, kind_number(kind));
     if count == 0 {
         return;
     }
@@ -285,8 +414,25 @@ fn push_ignored(ignored: &[u64], kind: EventKind, out: &mut Vec<u8>)
     push_bytes(b"\n", out);
 }
 
+/// Returns a count, with one more if it is that of what is open at the end.
+fn count_at(counts: &[u64], last: Option<u8>, number: usize) -> u64
+    ensures { result ≡ times_at counts.now last number }
+{
+    let count = count_before(counts, number);
+    match last {
+        None => count,
+        Some(kind) => {
+            if kind as usize == number {
+                count.saturating_add(1)
+            } else {
+                count
+            }
+        }
+    }
+}
+
 /// Returns a count, and 0 if there is none.
-fn count_at(counts: &[u64], number: usize) -> u64
+fn count_before(counts: &[u64], number: usize) -> u64
     ensures { result ≡ get_or counts.now number 0 }
 {
     if number < counts.len() {

@@ -5,7 +5,7 @@ ghost use Rattle.vt_term.specs.Play.{play};
 ghost use Rattle.vt_glyph.specs.Invocation.{has_no_glyph};
 ghost use Rattle.vt_trace.specs.Lines.{shown};
 ghost use Rattle.vt_trace.specs.Trace.{begins, item_place, place_of, is_text, text_end, text_of, report_line, written, written_all};
-ghost use Rattle.vt_trace.specs.Trace.{text_after, traced, tracer_after, trace, tracer_all};
+ghost use Rattle.vt_trace.specs.Trace.{text_after, tracer_at_start, between, traced, tracer_after, trace, tracer_all, end_lines};
 ghost use Rattle.vt_trace.specs.Lines.{event_line};
 ghost use Rattle.vt_syntax.specs.Event.{event_in};
 ghost use Rattle.vt_syntax.specs.declared.event.Event.TheVariants.{Print};
@@ -13,16 +13,18 @@ ghost use Rattle.vt_term.specs.State.{Display};
 ghost use Rattle.vt_term.specs.Play.{reports_of};
 
 use crate::buffer::BUFFER;
-use crate::bytes::{push_bytes, push_number, push_shown};
+use crate::bytes::{push_all_shown, push_bytes, push_number, push_shown};
 use crate::fronts::trace_front;
 use crate::laws::cuts;
 use crate::lines::push_line;
+use crate::skipped::{First, SKIPPED_LIMIT, find, push_open, push_skipped};
+use arrayvec::ArrayVec;
 use vt_syntax::{EventKind, Held, Values};
 use vt_term::Terminal;
 use vt_term::laws::cuts as play_cuts;
 
 /// Where a trace is between two bytes.
-#[derive(Clone, Copy, Debug, PartialEq, Eq)]
+#[derive(Clone, Debug, PartialEq, Eq, Drop)]
 pub struct Tracer {
     /// How many bytes came before.
     pub place: u64,
@@ -30,23 +32,41 @@ pub struct Tracer {
     pub begin: u64,
     /// Whether the last line is a text that may go on.
     pub in_text: bool,
+    /// The C1 control that opened the string that is held, and 0 if none is.
+    pub code: u8,
+    /// The first bytes of the sequence or string that is held.
+    pub first: First,
 }
 
 impl Tracer {
     /// Returns the tracer before the first byte, which is at place 0.
     pub fn new() -> Tracer
-        ensures { result ≡ record { place = 0; begin = 0; in_text = false } }
+        ensures { result ≡ tracer_at_start }
     {
         Tracer {
             place: 0,
             begin: 0,
             in_text: false,
+            code: 0,
+            first: ArrayVec::new(),
         }
+    }
+
+    /// Goes on to a place after an item that has an event.
+    #[inline(always)]
+    pub(crate) fn pass(&mut self, place: u64, begin: u64, in_text: bool)
+        ensures { self.new ≡ between place begin in_text }
+    {
+        self.place = place;
+        self.begin = begin;
+        self.in_text = in_text;
+        self.code = 0;
+        self.first.clear();
     }
 }
 
 /// Returns whether a byte is the first of an item.
-fn begins(held: &Held, b: u8) -> bool
+pub(crate) fn begins(held: &Held, b: u8) -> bool
     ensures { result ≡ begins held.now b }
 {
     match held {
@@ -71,15 +91,21 @@ pub(crate) fn place_of(place: u64, begin: u64, b: u8, kind: EventKind) -> u64
     }
 }
 
-/// The most bytes that are written of a byte of the input: the end of a text, a line, and that of a report.
-pub const TRACE_LIMIT: usize = 240;
+/// The most bytes that are written of an event: the end of a text, a line, and that of a report.
+pub(crate) const EVENT_LIMIT: usize = 240;
+
+/// The most bytes that are written of a byte of the input: an item without a function that it cuts off, and an event.
+pub const TRACE_LIMIT: usize = SKIPPED_LIMIT + EVENT_LIMIT;
+
+const _: () = prove!(TRACE_LIMIT == 420);
 
 /// Plays a byte of the host, and appends its report to `reports` and its trace to `out`, in existing capacity.
 ///
 /// The trace is the line of the event that the byte completes, with the place where the event began, and behind it a line
 /// with the report, if there is one. Characters one after another are one line with their text, which stays open until
-/// another event comes. `reports` has capacity for ten more bytes, and `out` for `TRACE_LIMIT`. Fewer than 2^64 - 1 bytes
-/// came before. It never fails, and it allocates nothing.
+/// another event comes. If the byte ends a sequence or string that has no function, or cuts it off, the line of that comes
+/// first. `reports` has capacity for ten more bytes, and `out` for `TRACE_LIMIT`. Fewer than 2^64 - 1 bytes came before.
+/// It never fails, and it allocates nothing.
 pub fn trace_byte(
     terminal: &mut Terminal,
     tracer: &mut Tracer,
@@ -100,24 +126,26 @@ pub fn trace_byte(
     ensures reports_capacity { vec_capacity reports.old ≤ vec_capacity reports.new }
     ensures capacity { vec_capacity out.old ≤ vec_capacity out.new }
 {
-    let mut parser = terminal.parser();
-    let begin = item_place(tracer, parser.held(), b);
-    let taken = parser.next(&[b], values);
+    let found = find(tracer, &mut terminal.parser(), b, values);
+    push_skipped(tracer, &found, out);
     let before = reports.len();
     terminal.feed_reserved(&[b], reports);
     let in_text = push_events(
-        *tracer,
-        begin,
+        tracer.place,
+        found.goes_on(tracer.in_text),
+        found.begin,
         b,
-        taken.event,
+        found.step.event,
         values.as_slice(),
         &reports[before..],
         out,
     );
     *tracer = Tracer {
         place: tracer.place + 1,
-        begin,
+        begin: found.begin,
         in_text,
+        code: found.step.code,
+        first: found.kept(),
     };
 }
 
@@ -167,18 +195,24 @@ pub fn trace_reserved(
     at
 }
 
-/// Appends the end of a trace, after the last byte: LF, if the last line is a text.
+/// Appends the end of a trace, after the last byte: LF if the last line is a text, and the line of a sequence or string that
+/// is still open.
+#[tactic(auto, unfolding(crate::specs::Trace::end_lines))]
 pub fn trace_end(tracer: &Tracer, out: &mut Vec<u8>)
-    requires { vec_len out.old + 1 ≤ vec_capacity out.old }
-    ensures items { out.new.items ≡ out.old.items ++ text_end tracer.now.in_text }
-    ensures bounded { vec_len out.new ≤ vec_len out.old + 1 }
+    requires { vec_len out.old + SKIPPED_LIMIT ≤ vec_capacity out.old }
+    ensures items { out.new.items ≡ out.old.items ++ end_lines tracer.now }
+    ensures bounded { vec_len out.new ≤ vec_len out.old + SKIPPED_LIMIT }
     ensures capacity { vec_capacity out.old ≤ vec_capacity out.new }
 {
-    push_end(tracer.in_text, out);
+    if tracer.first.is_empty() {
+        push_end(tracer.in_text, out);
+    } else {
+        push_open(tracer, out);
+    }
 }
 
 /// Returns the place at which the item of a byte began.
-fn item_place(tracer: &Tracer, held: &Held, b: u8) -> u64
+pub(crate) fn item_place(tracer: &Tracer, held: &Held, b: u8) -> u64
     ensures { result ≡ item_place tracer.now held.now b }
 {
     if begins(held, b) {
@@ -191,7 +225,8 @@ fn item_place(tracer: &Tracer, held: &Held, b: u8) -> u64
 /// Appends what is to be written of the event that a byte completes, if it completes one. Returns whether the last line is then
 /// a text that may go on.
 fn push_events(
-    tracer: Tracer,
+    place: u64,
+    in_text: bool,
     begin: u64,
     b: u8,
     event: Option<EventKind>,
@@ -201,19 +236,25 @@ fn push_events(
 ) -> bool
     requires few { length values.now ≤ 16 }
     requires short { length report.now ≤ 10 }
-    requires room { vec_len out.old + TRACE_LIMIT ≤ vec_capacity out.old }
+    requires room { vec_len out.old + EVENT_LIMIT ≤ vec_capacity out.old }
     ensures lines { (s : Display) → report.now ≡ reports_of (event_in event values.now) s
         → out.new.items ≡ out.old.items
-        ++ written_all tracer.in_text (place_of tracer.place begin b) (event_in event values.now) s }
-    ensures text { result ≡ text_after tracer.in_text (event_in event values.now) }
-    ensures bounded { vec_len out.new ≤ vec_len out.old + TRACE_LIMIT }
+        ++ written_all in_text (place_of place begin b) (event_in event values.now) s }
+    ensures text { result ≡ text_after in_text (event_in event values.now) }
+    ensures bounded { vec_len out.new ≤ vec_len out.old + EVENT_LIMIT }
     ensures capacity { vec_capacity out.old ≤ vec_capacity out.new }
 {
     let Some(kind) = event else {
-        return tracer.in_text;
+        return in_text;
     };
-    let place = place_of(tracer.place, begin, b, kind);
-    push_event(tracer.in_text, place, kind, values, report, out);
+    push_event(
+        in_text,
+        place_of(place, begin, b, kind),
+        kind,
+        values,
+        report,
+        out,
+    );
     is_text(kind)
 }
 
@@ -249,9 +290,9 @@ pub(crate) fn push_event(
 )
     requires few { length values.now ≤ 16 }
     requires short { length report.now ≤ 10 }
-    requires room { vec_len out.old + TRACE_LIMIT ≤ vec_capacity out.old }
+    requires room { vec_len out.old + EVENT_LIMIT ≤ vec_capacity out.old }
     ensures items { out.new.items ≡ out.old.items ++ written in_text place (event_of kind values.now) report.now }
-    ensures bounded { vec_len out.new ≤ vec_len out.old + TRACE_LIMIT }
+    ensures bounded { vec_len out.new ≤ vec_len out.old + EVENT_LIMIT }
     ensures capacity { vec_capacity out.old ≤ vec_capacity out.new }
 {
     match kind {
@@ -264,10 +305,10 @@ pub(crate) fn push_event(
 
 /// Appends what is to be written of a graphic byte.
 fn push_print(in_text: bool, place: u64, b: u8, out: &mut Vec<u8>)
-    requires room { vec_len out.old + TRACE_LIMIT ≤ vec_capacity out.old }
+    requires room { vec_len out.old + EVENT_LIMIT ≤ vec_capacity out.old }
     ensures items { (reports : List ℕ)
         → out.new.items ≡ out.old.items ++ written in_text place (Print b) reports }
-    ensures bounded { vec_len out.new ≤ vec_len out.old + TRACE_LIMIT }
+    ensures bounded { vec_len out.new ≤ vec_len out.old + EVENT_LIMIT }
     ensures capacity { vec_capacity out.old ≤ vec_capacity out.new }
 {
     if has_glyph(b) {
@@ -290,10 +331,10 @@ fn push_other(
 )
     requires few { length values.now ≤ 16 }
     requires short { length report.now ≤ 10 }
-    requires room { vec_len out.old + TRACE_LIMIT ≤ vec_capacity out.old }
+    requires room { vec_len out.old + EVENT_LIMIT ≤ vec_capacity out.old }
     ensures items { out.new.items ≡ out.old.items
         ++ (text_end in_text ++ (event_line place (event_of kind values.now) ++ report_line place report.now)) }
-    ensures bounded { vec_len out.new ≤ vec_len out.old + TRACE_LIMIT }
+    ensures bounded { vec_len out.new ≤ vec_len out.old + EVENT_LIMIT }
     ensures capacity { vec_capacity out.old ≤ vec_capacity out.new }
 {
     push_end(in_text, out);
@@ -303,7 +344,7 @@ fn push_other(
 
 /// Appends the end of a text, if the last line is one.
 #[inline(always)]
-fn push_end(in_text: bool, out: &mut Vec<u8>)
+pub(crate) fn push_end(in_text: bool, out: &mut Vec<u8>)
     requires { vec_len out.old + 1 ≤ vec_capacity out.old }
     ensures items { out.new.items ≡ out.old.items ++ text_end in_text }
     ensures bounded { vec_len out.new ≤ vec_len out.old + 1 }
@@ -344,16 +385,4 @@ fn push_report(place: u64, report: &[u8], out: &mut Vec<u8>)
     push_bytes(b"\treport\t", out);
     push_all_shown(report, out);
     push_bytes(b"\n", out);
-}
-
-/// Appends bytes as text.
-fn push_all_shown(bytes: &[u8], out: &mut Vec<u8>)
-    requires { vec_len out.old + 4 * length bytes.now ≤ vec_capacity out.old }
-    ensures items { out.new.items ≡ out.old.items ++ shown bytes.now }
-    ensures bounded { vec_len out.new ≤ vec_len out.old + 4 * length bytes.now }
-    ensures capacity { vec_capacity out.old ≤ vec_capacity out.new }
-{
-    for b in bytes.iter() {
-        push_shown(*b, out);
-    }
 }

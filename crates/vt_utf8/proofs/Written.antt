@@ -1,6 +1,6 @@
 -- The bytes that write a glyph write it, and leave the sets with no single shift pending.
-use Rattle.std.proofs.Common.{◌≡◌, ℕ, ◌%◌, ◌≤◌, Bool, true, false, List, [], ◌∷◌, ◌++◌, All, length, Option, Some, None, inl, inr, refl, sym, ap, subst, ◌∙◌, arith, append_assoc}
-use Rattle.std.specs.Prelude.{nat_lt, ◌==◌, if◌then◌else◌, is_none, slice_set, slice_index_or}
+use Rattle.std.proofs.Common.{◌≡◌, ℕ, ◌%◌, ◌≤◌, Bool, true, false, List, [], ◌∷◌, ◌++◌, All, length, Option, Some, None, inl, inr, refl, sym, ap, subst, ◌∙◌, arith, append_assoc, append-nil}
+use Rattle.std.specs.Prelude.{nat_lt, ◌==◌, ◌&&◌, if◌then◌else◌, is_none, slice_set, slice_index_or}
 use Rattle.std.proofs.lemmas.Bool.{and_parts, eqb-true}
 use Rattle.std.proofs.lemmas.Bool.Decides.{nat_tests}
 use Rattle.std.proofs.lemmas.List.Elements.{All-append, All-from_recursion}
@@ -24,6 +24,9 @@ use Rattle.vt_glyph.specs.GraphicSets.{GraphicSets}
 use Rattle.vt_glyph.specs.Invocation.{set_at, invoked, has_no_glyph, glyph_read, after_read, shifted_once, designated}
 use Rattle.vt_glyph.specs.Spell.{spelling_of, code_of, shifted_for, AreSpellingSets}
 use Rattle.vt_glyph.specs.Laws.{GlyphLaws, SpellingLaws}
+use Rattle.vt_screen.specs.declared.cell.Cell.{Cell}
+use Rattle.vt_screen.specs.Grid.{row_of}
+use Rattle.vt_term.specs.Scrolling.{is_at_end, line_off, lines_off, scrolled_off}
 use Rattle.vt_term.specs.State.{Display, State}
 use Rattle.vt_term.specs.Sound.{IsSound}
 use Rattle.vt_term.specs.Moving.{next_line}
@@ -32,19 +35,27 @@ use Rattle.vt_term.specs.Functions.{effect, control, escape_with, shift_once}
 use Rattle.vt_term.specs.Reports.{report, control_report}
 use Rattle.vt_term.specs.Play.{Played, play, after_events, reports_of}
 use Rattle.vt_utf8.specs.Translation.{shifted, designation, through_g2, through_g3, reads_ascii}
-use Rattle.vt_utf8.specs.Translation.{spelled_in, written, unshifted, translation}
+use Rattle.vt_utf8.specs.Translation.{spelled_in, written, unshifted, translation, glyph_off}
 use Rattle.vt_utf8.specs.Similar.{shown}
 use Rattle.vt_utf8.specs.Cells.{cells}
 use Rattle.vt_utf8.proofs.Silence.{final, shown-glyph}
 
--- ---- bytes that make one display of another, without a report
+-- ---- bytes that make one display of another, without a report, and the lines that they scroll off
 
-pub record Does (bytes : List ℕ) (d e : Display) : Type 0 where
+pub record Does (bytes : List ℕ) (d e : Display) (off : List (List Cell)) : Type 0 where
   pub events : List Event
   pub spelled : spell_events events ≡ bytes
   pub are_events : All IsEvent events
   pub silent : reports_of events d ≡ []
   pub after : after_events events d ≡ e
+  pub lines : lines_off events d ≡ off
+
+lines-append : (xs ys : List Event) (d : Display)
+    → lines_off (xs ++ ys) d ≡ lines_off xs d ++ lines_off ys (after_events xs d)
+lines-append [] ys d = refl
+lines-append (x ∷ xs) ys d =
+    ap (λ (t : List (List Cell)). line_off x d ++ t) (lines-append xs ys (effect x d))
+    ∙ sym (append_assoc (line_off x d) (lines_off xs (effect x d)) (lines_off ys (after_events xs (effect x d))))
 
 reports-append : (xs ys : List Event) (d : Display)
     → reports_of (xs ++ ys) d ≡ reports_of xs d ++ reports_of ys (after_events xs d)
@@ -53,26 +64,41 @@ reports-append (x ∷ xs) ys d =
     ap (λ (t : List ℕ). report x d ++ t) (reports-append xs ys (effect x d))
     ∙ sym (append_assoc (report x d) (reports_of xs (effect x d)) (reports_of ys (after_events xs (effect x d))))
 
-does-append : (a b : List ℕ) (d e f : Display) → Does a d e → Does b e f → Does (a ++ b) d f
-does-append a b d e f x y = record {
+does-append : (a b : List ℕ) (d e f : Display) (p q : List (List Cell)) → Does a d e p → Does b e f q
+    → Does (a ++ b) d f (p ++ q)
+does-append a b d e f p q x y = record {
   events = x.events ++ y.events;
   spelled = flat_map-append spell_event x.events y.events ∙ rw (x.spelled, y.spelled) refl;
   are_events = All-append IsEvent x.events y.events x.are_events y.are_events;
   silent = reports-append x.events y.events d ∙ rw (x.silent, x.after) y.silent;
   after = fold-append (λ t event. effect event t) d x.events y.events ∙ rw x.after y.after;
+  lines = lines-append x.events y.events d ∙ rw (x.lines, x.after, y.lines) refl;
 }
 
+-- a graphic byte of ASCII
+has-glyph : (code : ℕ) → 0x20 ≤ code → code ≤ 0x7E → has_no_glyph code ≡ false
+has-glyph code low high = let same : code % 0x80 ≡ code = omega arith in rw same (grind (arith, nat_tests))
+
+print-off : (d : Display) (code : ℕ) → 0x20 ≤ code → code ≤ 0x7E → lines_off (Print code ∷ []) d ≡ glyph_off d
+print-off d code low high = rw (has-glyph code low high) (go d.cursor.wrap)
+  where
+    go : (wrap : Bool) → (if (wrap && true) && is_at_end d then row_of d.grid 1 ∷ [] else []) ++ []
+        ≡ if wrap && is_at_end d then row_of d.grid 1 ∷ [] else []
+    go true = append-nil (if is_at_end d then row_of d.grid 1 ∷ [] else [])
+    go false = refl
+
 module _ (d : Display) where
-  does-printed : (code : ℕ) → 0x20 ≤ code → code ≤ 0x7E → Does (code ∷ []) d (print code d)
+  does-printed : (code : ℕ) → 0x20 ≤ code → code ≤ 0x7E → Does (code ∷ []) d (print code d) (glyph_off d)
   does-printed code low high = record {
     events = Print code ∷ [];
     spelled = refl;
     are_events = All-from_recursion IsEvent (Print code ∷ []) (inl (low, high), tt);
     silent = refl;
     after = refl;
+    lines = print-off d code low high;
   }
 
-  does-ss2 : Does (0x1B ∷ 0x4E ∷ []) d (shift_once 2 d)
+  does-ss2 : Does (0x1B ∷ 0x4E ∷ []) d (shift_once 2 d) []
   unfolding opens_string control_report control
   does-ss2 = record {
     events = Control 0x8E ∷ [];
@@ -80,9 +106,10 @@ module _ (d : Display) where
     are_events = All-from_recursion IsEvent (Control 0x8E ∷ []) (inr (omega arith, omega arith, refl), tt);
     silent = refl;
     after = refl;
+    lines = refl;
   }
 
-  does-ss3 : Does (0x1B ∷ 0x4F ∷ []) d (shift_once 3 d)
+  does-ss3 : Does (0x1B ∷ 0x4F ∷ []) d (shift_once 3 d) []
   unfolding opens_string control_report control
   does-ss3 = record {
     events = Control 0x8F ∷ [];
@@ -90,6 +117,7 @@ module _ (d : Display) where
     are_events = All-from_recursion IsEvent (Control 0x8F ∷ []) (inr (omega arith, omega arith, refl), tt);
     silent = refl;
     after = refl;
+    lines = refl;
   }
 
   effect-g2 : (set : Set) → effect (Escape (Some 0x2A) (final_of set)) d ≡ record d { sets = designated 2 set d.sets }
@@ -108,7 +136,7 @@ module _ (d : Display) where
   effect-g3 Special = refl
   effect-g3 Supplemental = refl
 
-  does-g2 : (set : Set) → Does (designation 0x2A set) d (record d { sets = designated 2 set d.sets })
+  does-g2 : (set : Set) → Does (designation 0x2A set) d (record d { sets = designated 2 set d.sets }) []
   does-g2 set = record {
     events = Escape (Some 0x2A) (final_of set) ∷ [];
     spelled = refl;
@@ -116,9 +144,10 @@ module _ (d : Display) where
         (((omega arith, omega arith), final set), tt);
     silent = refl;
     after = effect-g2 set;
+    lines = refl;
   }
 
-  does-g3 : (set : Set) → Does (designation 0x2B set) d (record d { sets = designated 3 set d.sets })
+  does-g3 : (set : Set) → Does (designation 0x2B set) d (record d { sets = designated 3 set d.sets }) []
   does-g3 set = record {
     events = Escape (Some 0x2B) (final_of set) ∷ [];
     spelled = refl;
@@ -126,6 +155,7 @@ module _ (d : Display) where
         (((omega arith, omega arith), final set), tt);
     silent = refl;
     after = effect-g3 set;
+    lines = refl;
   }
 
 -- ---- a glyph doesn't look at the sets, and leaves them
@@ -162,9 +192,6 @@ unfolding glyph_read
 same-read a b code e =
     ap (λ (set : Set). if has_no_glyph code then None else (
     if code == 0x20 then Some space else Some (glyph_of set (code % 0x80)))) e
-
-has-glyph : (code : ℕ) → 0x20 ≤ code → code ≤ 0x7E → has_no_glyph code ≡ false
-has-glyph code low high = let same : code % 0x80 ≡ code = omega arith in rw same (grind (arith, nat_tests))
 
 left-half : (code : ℕ) → code ≤ 0x7E → nat_lt code 0x80 ≡ true
 left-half code high = grind (arith, nat_tests)
@@ -222,22 +249,22 @@ same-final a b e = some-same a b (sym (final-back a) ∙ ap set_of_final e ∙ f
 
 module _ (code n : ℕ) (low : 0x20 ≤ code) (high : code ≤ 0x7E) where
   does-shifted2 : (d : Display) → glyph_read (shifted_once 2 d.sets) code ≡ Some n
-      → Does (shifted 0x4E code) d (write_glyph n (unshifted d))
+      → Does (shifted 0x4E code) d (write_glyph n (unshifted d)) (glyph_off d)
   does-shifted2 d read =
       let e = shift_once 2 d in
-      subst (λ (f : Display). Does (shifted 0x4E code) d f) (prints e code n low high read)
-      (does-append (0x1B ∷ 0x4E ∷ []) (code ∷ []) d e (print code e) (does-ss2 d) (does-printed e code low high))
+      subst (λ (f : Display). Does (shifted 0x4E code) d f (glyph_off d)) (prints e code n low high read)
+      (does-append (0x1B ∷ 0x4E ∷ []) (code ∷ []) d e (print code e) [] (glyph_off e) (does-ss2 d) (does-printed e code low high))
 
   does-shifted3 : (d : Display) → glyph_read (shifted_once 3 d.sets) code ≡ Some n
-      → Does (shifted 0x4F code) d (write_glyph n (unshifted d))
+      → Does (shifted 0x4F code) d (write_glyph n (unshifted d)) (glyph_off d)
   does-shifted3 d read =
       let e = shift_once 3 d in
-      subst (λ (f : Display). Does (shifted 0x4F code) d f) (prints e code n low high read)
-      (does-append (0x1B ∷ 0x4F ∷ []) (code ∷ []) d e (print code e) (does-ss3 d) (does-printed e code low high))
+      subst (λ (f : Display). Does (shifted 0x4F code) d f (glyph_off d)) (prints e code n low high read)
+      (does-append (0x1B ∷ 0x4F ∷ []) (code ∷ []) d e (print code e) [] (glyph_off e) (does-ss3 d) (does-printed e code low high))
 
   module _ (d : Display) (four : length d.sets.g ≡ 4) (set : Set)
       (reads : (sets : GraphicSets) → invoked sets code ≡ set → glyph_read sets code ≡ Some n) where
-    does-through2 : Does (through_g2 d.sets set code) d (write_glyph n (unshifted d))
+    does-through2 : Does (through_g2 d.sets set code) d (write_glyph n (unshifted d)) (glyph_off d)
     does-through2 = go (final_of before == final_of set) refl
       where
         before : Set
@@ -259,16 +286,19 @@ module _ (code n : ℕ) (low : 0x20 ≤ code) (high : code ≤ 0x7E) where
         go : (b : Bool) → (final_of before == final_of set) ≡ b
             → Does (if b then shifted 0x4E code
             else designation 0x2A set ++ (shifted 0x4E code ++ designation 0x2A before)) d (write_glyph n (unshifted d))
+            (glyph_off d)
         go true e = does-shifted2 d (reads (shifted_once 2 d.sets) (same-final before set (eqb-true _ _ e)))
         go false e =
-            subst (λ (f : Display). Does (designation 0x2A set ++ (shifted 0x4E code ++ designation 0x2A before)) d f) back
-            (does-append (designation 0x2A set) (shifted 0x4E code ++ designation 0x2A before) d d1
-            (record d3 { sets = designated 2 before d3.sets }) (does-g2 d set)
-            (does-append (shifted 0x4E code) (designation 0x2A before) d1 d3
-            (record d3 { sets = designated 2 before d3.sets })
-            (does-shifted2 d1 (reads (shifted_once 2 d1.sets) (at2 d.sets.g set four))) (does-g2 d3 before)))
+            let bytes = designation 0x2A set ++ (shifted 0x4E code ++ designation 0x2A before) in
+            let last = record d3 { sets = designated 2 before d3.sets } in
+            subst (λ (rows : List (List Cell)). Does bytes d (write_glyph n (unshifted d)) rows) (append-nil (glyph_off d))
+            (subst (λ (f : Display). Does bytes d f (glyph_off d ++ [])) back
+            (does-append (designation 0x2A set) (shifted 0x4E code ++ designation 0x2A before) d d1 last []
+            (glyph_off d1 ++ []) (does-g2 d set)
+            (does-append (shifted 0x4E code) (designation 0x2A before) d1 d3 last (glyph_off d1) []
+            (does-shifted2 d1 (reads (shifted_once 2 d1.sets) (at2 d.sets.g set four))) (does-g2 d3 before))))
 
-    does-through3 : Does (through_g3 d.sets set code) d (write_glyph n (unshifted d))
+    does-through3 : Does (through_g3 d.sets set code) d (write_glyph n (unshifted d)) (glyph_off d)
     does-through3 = go (final_of before == final_of set) refl
       where
         before : Set
@@ -290,14 +320,17 @@ module _ (code n : ℕ) (low : 0x20 ≤ code) (high : code ≤ 0x7E) where
         go : (b : Bool) → (final_of before == final_of set) ≡ b
             → Does (if b then shifted 0x4F code
             else designation 0x2B set ++ (shifted 0x4F code ++ designation 0x2B before)) d (write_glyph n (unshifted d))
+            (glyph_off d)
         go true e = does-shifted3 d (reads (shifted_once 3 d.sets) (same-final before set (eqb-true _ _ e)))
         go false e =
-            subst (λ (f : Display). Does (designation 0x2B set ++ (shifted 0x4F code ++ designation 0x2B before)) d f) back
-            (does-append (designation 0x2B set) (shifted 0x4F code ++ designation 0x2B before) d d1
-            (record d3 { sets = designated 3 before d3.sets }) (does-g3 d set)
-            (does-append (shifted 0x4F code) (designation 0x2B before) d1 d3
-            (record d3 { sets = designated 3 before d3.sets })
-            (does-shifted3 d1 (reads (shifted_once 3 d1.sets) (at3 d.sets.g set four))) (does-g3 d3 before)))
+            let bytes = designation 0x2B set ++ (shifted 0x4F code ++ designation 0x2B before) in
+            let last = record d3 { sets = designated 3 before d3.sets } in
+            subst (λ (rows : List (List Cell)). Does bytes d (write_glyph n (unshifted d)) rows) (append-nil (glyph_off d))
+            (subst (λ (f : Display). Does bytes d f (glyph_off d ++ [])) back
+            (does-append (designation 0x2B set) (shifted 0x4F code ++ designation 0x2B before) d d1 last []
+            (glyph_off d1 ++ []) (does-g3 d set)
+            (does-append (shifted 0x4F code) (designation 0x2B before) d1 d3 last (glyph_off d1) []
+            (does-shifted3 d1 (reads (shifted_once 3 d1.sets) (at3 d.sets.g set four))) (does-g3 d3 before))))
 
 -- ---- a glyph by its spelling
 
@@ -314,7 +347,7 @@ invokes-ascii sets code high h =
 
 does-spelled : (d : Display) (s : Spelling) (n : ℕ) → length d.sets.g ≡ 4 → 0x20 ≤ code_of s → code_of s ≤ 0x7E
     → glyph_read (shifted_for s spelling_sets) (code_of s) ≡ Some n
-    → Does (spelled_in d.sets s) d (write_glyph n (unshifted d))
+    → Does (spelled_in d.sets s) d (write_glyph n (unshifted d)) (glyph_off d)
 does-spelled d (Plain code) n four low high law = go (reads_ascii d.sets) refl
   where
     reads : (sets : GraphicSets) → invoked sets code ≡ Ascii → glyph_read sets code ≡ Some n
@@ -322,9 +355,9 @@ does-spelled d (Plain code) n four low high law = go (reads_ascii d.sets) refl
         same-read sets spelling_sets code (e ∙ sym (invokes-ascii spelling_sets code high refl)) ∙ law
 
     go : (b : Bool) → reads_ascii d.sets ≡ b
-        → Does (if b then code ∷ [] else through_g2 d.sets Ascii code) d (write_glyph n (unshifted d))
+        → Does (if b then code ∷ [] else through_g2 d.sets Ascii code) d (write_glyph n (unshifted d)) (glyph_off d)
     go true e =
-        subst (λ (f : Display). Does (code ∷ []) d f)
+        subst (λ (f : Display). Does (code ∷ []) d f (glyph_off d))
         (prints d code n low high (reads d.sets (invokes-ascii d.sets code high e))) (does-printed d code low high)
     go false e = does-through2 code n low high d four Ascii reads
 does-spelled d (Second code) n four low high law =
@@ -335,27 +368,40 @@ does-spelled d (Third code) n four low high law =
     (λ sets e. same-read sets (shifted_once 3 spelling_sets) code e ∙ law)
 
 module _ (spelled : SpellingLaw) (spelling : SpellingLaws) where
-  plays : (d e : Display) (bytes : List ℕ) → Does bytes d e
+  plays : (d e : Display) (bytes : List ℕ) (off : List (List Cell)) → Does bytes d e off
       → play (record { display = d; held = Nothing }) bytes
       ≡ record { state = record { display = e; held = Nothing }; reports = [] }
   unfolding play
-  plays d e bytes does =
+  plays d e bytes off does =
       let are : events_of bytes ≡ does.events =
       ap events_of (sym does.spelled) ∙ spelled.all_events does.events does.are_events in
       let left : held_after bytes ≡ Nothing =
       ap held_after (sym does.spelled) ∙ spelled.all_held does.events does.are_events in
       rw (are, left, does.after, does.silent) refl
 
+  scrolls : (d e : Display) (bytes : List ℕ) (off : List (List Cell)) → Does bytes d e off
+      → scrolled_off (record { display = d; held = Nothing }) bytes ≡ off
+  unfolding scrolled_off
+  scrolls d e bytes off does =
+      let are : events_of bytes ≡ does.events =
+      ap events_of (sym does.spelled) ∙ spelled.all_events does.events does.are_events in
+      rw are does.lines
+
+  written-does : (s : State) (n : ℕ) → IsSound s → IsGlyph n
+      → Does (written n s.display.sets) s.display (write_glyph n (unshifted s.display)) (glyph_off s.display)
+  written-does s n sound is =
+      let code = spelling.code n is in
+      does-spelled s.display (spelling_of n) n sound.display.sets.four code.0 code.1
+      (spelling.writes spelling_sets n spelling_sets-are is)
+
   pub writes : (s : State) (n : ℕ) → IsSound s → s.held ≡ Nothing → IsGlyph n
       → play s (written n s.display.sets)
       ≡ record { state = record s { display = write_glyph n (unshifted s.display) }; reports = [] }
   writes s n sound between is =
       let d = s.display in
-      let code = spelling.code n is in
-      let does = does-spelled d (spelling_of n) n sound.display.sets.four code.0 code.1
-      (spelling.writes spelling_sets n spelling_sets-are is) in
+      let does = written-does s n sound is in
       ap (λ h. play (record { display = d; held = h }) (written n d.sets)) between
-      ∙ plays d (write_glyph n (unshifted d)) (written n d.sets) does
+      ∙ plays d (write_glyph n (unshifted d)) (written n d.sets) (glyph_off d) does
       ∙ ap (λ h. record { state = record { display = write_glyph n (unshifted d); held = h }; reports = [] })
       (sym between)
 
@@ -368,6 +414,19 @@ module _ (spelled : SpellingLaw) (spelling : SpellingLaws) where
       let high : nat_lt c 0x80 ≡ false = grind (arith, nat_tests) in
       let bytes : translation s c ≡ written (shown c) s.display.sets = rw (high, between, one) refl in
       ap (λ (b : List ℕ). play s b) bytes ∙ writes s (shown c) sound between (shown-glyph glyphs c)
+
+  -- the line that it scrolls off
+  pub off-one : GlyphLaws → (s : State) (c : ℕ) → IsSound s → s.held ≡ Nothing → 0x80 ≤ c → cells c ≡ 1
+      → scrolled_off s (translation s c) ≡ glyph_off s.display
+  unfolding translation
+  off-one glyphs s c sound between beyond one =
+      let high : nat_lt c 0x80 ≡ false = grind (arith, nat_tests) in
+      let bytes : translation s c ≡ written (shown c) s.display.sets = rw (high, between, one) refl in
+      let d = s.display in
+      ap (λ (b : List ℕ). scrolled_off s b) bytes
+      ∙ ap (λ h. scrolled_off (record { display = d; held = h }) (written (shown c) d.sets)) between
+      ∙ scrolls d (write_glyph (shown c) (unshifted d)) (written (shown c) d.sets) (glyph_off d)
+      (written-does s (shown c) sound (shown-glyph glyphs c))
 
   -- a character without a cell
   pub writes-none : (s : State) (c : ℕ) → s.held ≡ Nothing → 0x80 ≤ c → cells c ≡ 0 → translation s c ≡ []

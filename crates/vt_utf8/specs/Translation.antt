@@ -12,7 +12,10 @@ use Rattle.vt_glyph.specs.Designation.{final_of}
 use Rattle.vt_glyph.specs.GraphicSets.{GraphicSets}
 use Rattle.vt_glyph.specs.Invocation.{set_at}
 use Rattle.vt_glyph.specs.Spell.{spelling_of}
+use Rattle.vt_screen.specs.declared.cell.Cell.{Cell}
+use Rattle.vt_screen.specs.Grid.{row_of}
 use Rattle.vt_term.specs.State.{Display, State, last_column}
+use Rattle.vt_term.specs.Scrolling.{is_at_end as is_at_bottom}
 use Rattle.vt_utf8.specs.Similar.{shown}
 use Rattle.vt_utf8.specs.Cells.{cells}
 
@@ -95,6 +98,10 @@ translation s c = if nat_lt c 0x80 then c ∷ [] else beyond_ascii s.held (put c
 -- ESC, or an ASCII byte with a glyph
 abbrev pub IsPlain : ℕ → Type 0
 IsPlain b = (b ≡ 0x1B) ⊎ ((0x20 ≤ b) × (b ≤ 0x7E))
+
+-- the line that a glyph scrolls off: line 1, if it is written with the wrap flag at the bottom margin
+abbrev pub glyph_off : Display → List (List Cell)
+glyph_off s = if s.cursor.wrap && is_at_bottom s then row_of s.grid 1 ∷ [] else []
 
 -- no single shift is pending
 abbrev pub unshifted : Display → Display

@@ -1,5 +1,5 @@
 //! Feeding: UTF-8 changes a terminal's state, and gives report bytes.
-ghost use Rattle.std.specs.Prelude.{◌≡◌, ◌<◌, ◌+◌, ◌*◌, ◌≤◌, ◌++◌, [], ◌∷◌, ℕ, List, All, length, take, drop};
+ghost use Rattle.std.specs.Prelude.{◌≡◌, ◌<◌, ◌+◌, ◌*◌, ◌≤◌, ◌++◌, [], ◌∷◌, ℕ, List, All, length, take, drop, flat_map};
 ghost use Rattle.std.specs.Prelude.{vec_len, vec_capacity, OnOk, OnErr, IsOk, IfSome};
 ghost use Rattle.std.specs.Bool.{OnTrue};
 ghost use Rattle.std.specs.Option.{option_to_list};
@@ -8,10 +8,12 @@ ghost use Rattle.bstr.specs.Utf8.{replacement};
 ghost use Rattle.vt_syntax.specs.declared.held.Held.TheVariants.{Nothing};
 ghost use Rattle.vt_term.specs.Play.{play};
 ghost use Rattle.vt_term.specs.Scrolling.{log};
+ghost use Rattle.vt_term.specs.Text.{line_text};
+ghost use Rattle.vt_term.specs.Writing.{write_glyph};
 ghost use Rattle.vt_utf8.specs.Cells.{cells};
 ghost use Rattle.vt_utf8.specs.Similar.{shown};
 ghost use Rattle.vt_utf8.specs.Decoding.{pending_after};
-ghost use Rattle.vt_utf8.specs.Translation.{translation};
+ghost use Rattle.vt_utf8.specs.Translation.{glyph_off, translation};
 ghost use Rattle.vt_utf8.specs.Play.{translated_all, play_utf8};
 ghost use Rattle.vt_utf8.specs.Private.Feeds.{FeedsUtf8};
 
@@ -23,7 +25,7 @@ use crate::translation::{TRANSLATION_LIMIT, has_one_cell, translation};
 use std::alloc::AllocError;
 use vt_syntax::Held;
 use vt_term::laws::{cuts as played_cuts, log_cuts, soundness as played_soundness};
-use vt_term::{REPORT_LIMIT, ROW_TEXT_LIMIT, Terminal};
+use vt_term::{Glyph, REPORT_LIMIT, ROW_TEXT_LIMIT, Terminal};
 
 /// Plays a chunk of a host's UTF-8, and appends the reports to `out`. `decoder` keeps what is pending between chunks.
 ///
@@ -318,6 +320,44 @@ pub fn feed_beyond_ascii_log(
     requires lines_room { vec_len lines.old + LINES_LIMIT ≤ vec_capacity lines.old }
     ensures state { terminal.new ≡ (play terminal.old (translation terminal.old c)).state }
     ensures silent { (play terminal.old (translation terminal.old c)).reports ≡ [] }
+    ensures out { out.new.items ≡ out.old.items }
+    ensures lines { lines.new.items ≡ lines.old.items ++ log terminal.old (translation terminal.old c) }
+    ensures lines_bounded { vec_len lines.new ≤ vec_len lines.old + LINES_LIMIT }
+    ensures capacity { vec_capacity out.old ≤ vec_capacity out.new }
+    ensures lines_capacity { vec_capacity lines.old ≤ vec_capacity lines.new }
+{
+    let _ = terminal.width();
+    silence();
+    writes();
+    if writes_glyphs(terminal) && has_one_cell(c) {
+        write_logged(terminal, glyph_of_code(code_of(c)), lines);
+        return;
+    }
+    feed_translated_log(terminal, c, out, lines);
+}
+
+/// Writes a glyph, and appends the line that it scrolls off.
+#[inline(always)]
+fn write_logged(terminal: &mut Terminal, glyph: Glyph, lines: &mut Vec<u8>)
+    requires { vec_len lines.old + LINES_LIMIT ≤ vec_capacity lines.old }
+    ensures terminal { terminal.new ≡ record terminal.old { display = write_glyph glyph terminal.old.display } }
+    ensures lines { lines.new.items ≡ lines.old.items ++ flat_map line_text (glyph_off terminal.old.display) }
+    ensures bounded { vec_len lines.new ≤ vec_len lines.old + LINES_LIMIT }
+    ensures capacity { vec_capacity lines.old ≤ vec_capacity lines.new }
+{
+    if terminal.cursor().wrap && terminal.is_at_end() {
+        terminal.row_text_reserved(1, lines);
+    }
+    terminal.write_glyph(glyph);
+}
+
+/// Plays the bytes that a character beyond ASCII is translated to, and appends the lines that scroll off.
+#[inline(never)]
+fn feed_translated_log(terminal: &mut Terminal, c: char, out: &mut Vec<u8>, lines: &mut Vec<u8>)
+    requires beyond { 0x80 ≤ c }
+    requires room { vec_len out.old + 10 ≤ vec_capacity out.old }
+    requires lines_room { vec_len lines.old + LINES_LIMIT ≤ vec_capacity lines.old }
+    ensures state { terminal.new ≡ (play terminal.old (translation terminal.old c)).state }
     ensures out { out.new.items ≡ out.old.items }
     ensures lines { lines.new.items ≡ lines.old.items ++ log terminal.old (translation terminal.old c) }
     ensures lines_bounded { vec_len lines.new ≤ vec_len lines.old + LINES_LIMIT }

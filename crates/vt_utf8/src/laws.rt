@@ -7,8 +7,9 @@ ghost use Rattle.vt_glyph.specs.Tables.{IsGlyph};
 ghost use Rattle.vt_utf8.specs.Similar.{shown};
 ghost use Rattle.vt_syntax.specs.declared.held.Held.TheVariants.{Nothing};
 ghost use Rattle.vt_term.specs.Writing.{write_glyph};
+ghost use Rattle.vt_term.specs.Scrolling.{scrolled_off};
 ghost use Rattle.vt_utf8.specs.Cells.{cells};
-ghost use Rattle.vt_utf8.specs.Translation.{written, unshifted, translation, IsPlain};
+ghost use Rattle.vt_utf8.specs.Translation.{written, unshifted, translation, glyph_off, IsPlain};
 ghost use Rattle.vt_utf8.specs.Decoding.{read, pending_after};
 ghost use Rattle.vt_utf8.specs.Play.{translated_all, translated, play_utf8, play_utf8_all};
 
@@ -82,8 +83,8 @@ pub fn glyphs()
 }
 
 /// States what a translation does between sequences. The bytes for a glyph write it as any glyph is written, whatever the
-/// sets are, use a pending single shift up and leave the sets. A character of one cell is its glyph, and one without a
-/// cell is no byte. None of this causes a report.
+/// sets are, use a pending single shift up and leave the sets. A character of one cell is its glyph, and scrolls line 1 off
+/// with the wrap flag at the bottom margin. One without a cell is no byte. None of this causes a report.
 pub fn writes()
     ensures glyph { (s : State) (n : ℕ) → IsSound s → s.held ≡ Nothing → IsGlyph n
         → play s (written n s.display.sets)
@@ -91,6 +92,8 @@ pub fn writes()
     ensures one { (s : State) (c : ℕ) → IsSound s → s.held ≡ Nothing → 0x80 ≤ c → cells c ≡ 1
         → play s (translation s c)
         ≡ record { state = record s { display = write_glyph (shown c) (unshifted s.display) }; reports = [] } }
+    ensures off { (s : State) (c : ℕ) → IsSound s → s.held ≡ Nothing → 0x80 ≤ c → cells c ≡ 1
+        → scrolled_off s (translation s c) ≡ glyph_off s.display }
     ensures none { (s : State) (c : ℕ) → s.held ≡ Nothing → 0x80 ≤ c → cells c ≡ 0 → translation s c ≡ [] }
 {
     all_glyphs();

@@ -1,5 +1,5 @@
 -- The lines that scroll off the top of the main page. On the alternate page none do. (xterm's control sequences: SU; ECMA-48 8.3.147)
-use Rattle.std.specs.Prelude.{ℕ, List, [], ◌∷◌, ◌++◌, map, min, unwrap_or, ◌==◌, ◌&&◌, codes, if◌then◌else◌, Option, Some, None}
+use Rattle.std.specs.Prelude.{ℕ, List, [], ◌∷◌, ◌++◌, map, min, unwrap_or, ◌==◌, codes, if◌then◌else◌, Option, Some, None}
 use Rattle.std.specs.List.{range_with_len}
 use Rattle.vt_syntax.specs.declared.event.Event.{Event}
 use Rattle.vt_syntax.specs.declared.event.Event.TheVariants.{Print, Control, Escape, Sequence}
@@ -9,7 +9,8 @@ use Rattle.vt_screen.specs.Grid.{Grid, row_of}
 use Rattle.vt_term.specs.State.{Display}
 use Rattle.vt_term.specs.Parameters.{count}
 use Rattle.vt_term.specs.Functions.{byte}
-use Rattle.vt_term.specs.Scrolling.{is_at_end, line_off}
+use Rattle.vt_term.specs.Scrolling.{line_off}
+use Rattle.vt_utf8.specs.Translation.{glyph_off}
 use Rattle.vt_xterm.specs.Pages.{Screens}
 use Rattle.vt_xterm.specs.Front.{xterm_effect}
 
@@ -21,15 +22,11 @@ first_rows count g = map (λ r. row_of g r) (range_with_len 1 count)
 abbrev pub rows_off : ℕ → Display → List (List Cell)
 rows_off n s = if s.margins.top == 1 then first_rows (min s.margins.bottom n) s.grid else []
 
--- REP: line 1, if the first glyph is written with the wrap flag at the bottom margin; the others stay in its row
-abbrev pub repeat_off : Display → List (List Cell)
-repeat_off s = if s.cursor.wrap && is_at_end s then row_of s.grid 1 ∷ [] else []
-
--- by their final bytes
+-- by their final bytes: SU, and REP, of which the first glyph may scroll a line off and the others stay in its row
 abbrev pub scrolling_functions : List (ℕ × (List ℕ → Display → List (List Cell)))
 scrolling_functions =
     (byte (codes "S"), λ params. rows_off (count params))
-    ∷ (byte (codes "b"), λ params. repeat_off)
+    ∷ (byte (codes "b"), λ params. glyph_off)
     ∷ []
 
 unfoldable pub function_off : Option ℕ → Option ℕ → ℕ → List ℕ → Display → List (List Cell)

@@ -6,8 +6,8 @@ ghost use Rattle.vt_syntax.specs.Event.{event_of};
 ghost use Rattle.vt_term.specs.Play.{play};
 ghost use Rattle.vt_term.specs.Scrolling.{scrolled_off};
 ghost use Rattle.vt_term.specs.Text.{line_text};
-ghost use Rattle.vt_utf8.specs.Translation.{translation};
-ghost use Rattle.vt_xterm.specs.Log.{first_rows, rows_off, repeat_off, function_off, page_line_off};
+ghost use Rattle.vt_utf8.specs.Translation.{glyph_off, translation};
+ghost use Rattle.vt_xterm.specs.Log.{first_rows, rows_off, function_off, page_line_off};
 ghost use Rattle.vt_xterm.specs.Private.Finding.{PlaysTerminals};
 ghost use Rattle.vt_xterm.specs.Private.Logs.{AreKept};
 
@@ -229,7 +229,7 @@ fn push_first(terminal: &Terminal, count: usize, lines: &mut Vec<u8>)
 /// Appends line 1 if the glyph that REP writes is about to scroll it off.
 fn push_repeated(terminal: &Terminal, lines: &mut Vec<u8>)
     requires { vec_len lines.old + TEXT_LIMIT ≤ vec_capacity lines.old }
-    ensures items { lines.new.items ≡ lines.old.items ++ flat_map line_text (repeat_off terminal.now.display) }
+    ensures items { lines.new.items ≡ lines.old.items ++ flat_map line_text (glyph_off terminal.now.display) }
     ensures bounded { vec_len lines.new ≤ vec_len lines.old + TEXT_LIMIT }
     ensures capacity { vec_capacity lines.old ≤ vec_capacity lines.new }
 {

@@ -3,9 +3,7 @@ ghost use Rattle.std.specs.Prelude.{◌≤◌};
 
 use std::alloc::Global;
 use std::test::Fail;
-use vt_commands::{Fault, carry_out};
-use vt_log::feed_pages;
-use vt_replay::{Format, Request, TerminalType, Watched, What, Word};
+use vt_replay::{Fault, Format, Request, TerminalType, Watched, What, Word, carry_out, feed_pages};
 use vt_term::Terminal;
 use vt_vectors::{ShortReader, ShortWriter, vector, vector_count};
 
@@ -16,14 +14,6 @@ const LIMIT: u64 = 268435456;
 const REQUESTS: &[u8] = b"\x1b G\x1b[c\x1b[>c";
 
 const ANSWERS: &[u8] = b"\x9b?62;1;6c\x9b>1;10;0c";
-
-const READ: Fault = Fault::Replay(vt_replay::Fault::Read);
-
-const WRITE: Fault = Fault::Replay(vt_replay::Fault::Write);
-
-const TOO_LONG: Fault = Fault::Replay(vt_replay::Fault::TooLong);
-
-const PARTIAL: Fault = Fault::Replay(vt_replay::Fault::Partial);
 
 /// More bytes than any replay here writes.
 const ROOM: usize = 100_000;
@@ -113,7 +103,7 @@ fn table() -> [(Replay, Result<(), Fault>, usize); 11] {
                 failing_read: Some(7),
                 ..REPORTS
             },
-            Err(READ),
+            Err(Fault::Read),
             9,
         ),
         (
@@ -122,7 +112,7 @@ fn table() -> [(Replay, Result<(), Fault>, usize); 11] {
                 failing_read: Some(7),
                 ..REPORTS
             },
-            Err(READ),
+            Err(Fault::Read),
             0,
         ),
         // six writes, so that a seventh can't fail
@@ -141,7 +131,7 @@ fn table() -> [(Replay, Result<(), Fault>, usize); 11] {
                 failing_write: Some(6),
                 ..REPORTS
             },
-            Err(WRITE),
+            Err(Fault::Write),
             15,
         ),
         (
@@ -150,7 +140,7 @@ fn table() -> [(Replay, Result<(), Fault>, usize); 11] {
                 failing_write: Some(2),
                 ..REPORTS
             },
-            Err(WRITE),
+            Err(Fault::Write),
             3,
         ),
         (
@@ -159,7 +149,7 @@ fn table() -> [(Replay, Result<(), Fault>, usize); 11] {
                 room: 5,
                 ..REPORTS
             },
-            Err(WRITE),
+            Err(Fault::Write),
             5,
         ),
         (
@@ -170,7 +160,7 @@ fn table() -> [(Replay, Result<(), Fault>, usize); 11] {
                 },
                 ..REPORTS
             },
-            Err(TOO_LONG),
+            Err(Fault::TooLong),
             0,
         ),
         (
@@ -181,7 +171,7 @@ fn table() -> [(Replay, Result<(), Fault>, usize); 11] {
                 },
                 ..REPORTS
             },
-            Err(TOO_LONG),
+            Err(Fault::TooLong),
             9,
         ),
         (
@@ -204,7 +194,7 @@ fn table() -> [(Replay, Result<(), Fault>, usize); 11] {
                 failing_read: Some(11),
                 ..REPORTS
             },
-            Err(READ),
+            Err(Fault::Read),
             18,
         ),
         (REPORTS, Ok(()), 18),
@@ -256,7 +246,7 @@ fn ends_before(alloc: Global, input: &[u8], word: Word, is_between: bool) -> Res
     let replay = with_failing_read(word, input.len().saturating_add(2));
     let (answer, _written) = replayed(alloc, input, replay)?;
     Ok(if word == Word::Replay(What::Repaint) && !is_between {
-        answer == Err(PARTIAL)
+        answer == Err(Fault::Partial)
     } else {
         answer == Ok(())
     })
@@ -275,7 +265,7 @@ fn each_read_fails(alloc: Global, input: &[u8], word: Word) -> Result<bool, Fail
             _ => b"",
         };
         let replay = with_failing_read(word, call + 1);
-        if !leaves(alloc, input, replay, Err(READ), due)? {
+        if !leaves(alloc, input, replay, Err(Fault::Read), due)? {
             return Ok(false);
         }
         if let Some(byte) = input.get(call..call + 1) {
@@ -304,7 +294,7 @@ fn each_write_fails(alloc: Global, input: &[u8], word: Word) -> Result<bool, Fai
     let (answered, due) = replayed(alloc, input, with_failing_write(word, None))?;
     for call in 0..due.len() {
         let replay = with_failing_write(word, Some(call + 1));
-        if !leaves(alloc, input, replay, Err(WRITE), &due[..call])? {
+        if !leaves(alloc, input, replay, Err(Fault::Write), &due[..call])? {
             return Ok(false);
         }
     }

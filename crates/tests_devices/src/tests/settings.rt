@@ -1,8 +1,7 @@
 //! What the words ask for, at work: the piece, the limit and the kind; and a read that is passed on whole.
 use std::alloc::Global;
 use std::test::Fail;
-use vt_commands::carry_out;
-use vt_replay::{Fault, Format, Watched, replay, request, settings};
+use vt_replay::{Fault, Format, Watched, carry_out, replay, request, settings};
 use vt_vectors::ShortReader;
 
 /// A line of words, a call of the reader that fails, the answer, and the first line that is written.
@@ -66,14 +65,7 @@ fn carried_out(
     let mut reader = Watched::new(ShortReader::new(b"ABCDE", 100, failing_read));
     let mut writer = Watched::new(Vec::new(alloc));
     let outcome = carry_out(alloc, &mut reader, Format::Raw, None, &mut writer, &asked);
-    let answer = match outcome.ended {
-        Ok(()) => Ok(()),
-        Err(vt_commands::Fault::Replay(fault)) => Err(fault),
-        Err(vt_commands::Fault::Broken(_) | vt_commands::Fault::NoTimes) => {
-            return Err(Fail::new("broken"));
-        }
-    };
-    Ok((answer, writer.into_inner()))
+    Ok((outcome.ended, writer.into_inner()))
 }
 
 /// Returns whether what is returned and written is what a row says.

@@ -4,8 +4,10 @@ ghost use Rattle.std.specs.Prelude.{◌≤◌};
 use std::alloc::Global;
 use std::process::Abort;
 use std::test::Fail;
-use vt_commands::{Break, Fault, Outcome, Part, carry_out};
-use vt_replay::{Encoding, Format, Moment, Request, TerminalType, Watched, What, Word};
+use vt_replay::{
+    Break, Encoding, Fault, Format, Moment, Outcome, Part, Request, TerminalType, Watched, What,
+    Word, carry_out,
+};
 
 /// What a request asks for, besides its piece.
 #[derive(Clone, Copy)]
@@ -80,10 +82,10 @@ const fn of_utf8(word: Word) -> Asked {
     }
 }
 
-/// A replay of what a host sends for xterm.
-const fn of_xterm(what: What) -> Asked {
+/// A word on what a host sends for xterm.
+const fn of_xterm(word: Word) -> Asked {
     Asked {
-        word: Word::Replay(what),
+        word,
         format: Format::Raw,
         timing: None,
         until: None,
@@ -260,35 +262,49 @@ fn utf8_rows() -> [Row; 9] {
 }
 
 /// Rows by hand for xterm, from docs/SPECIFICATION.md.
-fn xterm_rows() -> [Row; 4] {
+fn xterm_rows() -> [Row; 6] {
     [
         (
             "the alternate page, and a column by CHA",
             b"A\x1b[?1049h\x1b[Hhello\x1b[5G!",
-            of_xterm(What::Text),
+            of_xterm(Word::Replay(What::Text)),
             DONE,
             b"hell!\n\n\n\n\n\n\n\n\n\n\n\n\n\n\n\n\n\n\n\n\n\n\n\n",
         ),
         (
             "the main page again, with its cursor",
             b"A\x1b[?1049h\x1b[HB\x1b[?1049lC",
-            of_xterm(What::Text),
+            of_xterm(Word::Replay(What::Text)),
             DONE,
             b"AC\n\n\n\n\n\n\n\n\n\n\n\n\n\n\n\n\n\n\n\n\n\n\n\n",
         ),
         (
             "a colour isn't an attribute",
             b"\x1b[38;5;7mA\xc3\xa9\x1b[2b",
-            of_xterm(What::Show),
+            of_xterm(Word::Replay(What::Show)),
             DONE,
             b"A\xc3\xa9\xc3\xa9\xc3\xa9\n\n\n\n\n\n\n\n\n\n\n\n\n\n\n\n\n\n\n\n\n\n\n\n",
         ),
         (
             "a report of a line and a column by VPA and HPA",
             b"\x1b[3d\x1b[7`\x1b[6n",
-            of_xterm(What::Reports),
+            of_xterm(Word::Replay(What::Reports)),
             DONE,
             b"\x1b[3;7R",
+        ),
+        (
+            "a log has the lines of the main page alone",
+            b"A\x1b[24;1H\nB\x1b[?1049h\x1b[24;1H\n\x1b[?1049l",
+            of_xterm(Word::Log),
+            DONE,
+            b"A\n\n\n\n\n\n\n\n\n\n\n\n\n\n\n\n\n\n\n\n\n\n\n\nB\n",
+        ),
+        (
+            "a log has the lines that SU moves off",
+            b"A\r\n\xc3\xa9\x1b[2S",
+            of_xterm(Word::Log),
+            DONE,
+            b"A\n\xc3\xa9\n\n\n\n\n\n\n\n\n\n\n\n\n\n\n\n\n\n\n\n\n\n\n\n\n",
         ),
     ]
 }
@@ -312,7 +328,7 @@ fn words_are_carried_out_in_utf8(rt: HostRuntime) -> Result<(), Fail> {
 }
 
 #[test]
-fn replays_are_carried_out_for_xterm(rt: HostRuntime) -> Result<(), Fail> {
+fn words_are_carried_out_for_xterm(rt: HostRuntime) -> Result<(), Fail> {
     are_due(&rt, &xterm_rows())
 }
 

@@ -4,7 +4,7 @@ ghost use Rattle.std.specs.Prelude.{◌≤◌};
 use super::common::holds;
 use std::alloc::Global;
 use std::test::Fail;
-use vt_log::feed_pages;
+use vt_replay::feed_pages;
 use vt_term::Terminal;
 
 /// The lines of a screen that shows A in its first cell.

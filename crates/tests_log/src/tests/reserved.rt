@@ -4,7 +4,7 @@ ghost use Rattle.std.specs.Prelude.{◌≤◌};
 use super::common::holds;
 use std::alloc::Global;
 use std::test::Fail;
-use vt_log::feed_pages_reserved;
+use vt_replay::feed_pages_reserved;
 use vt_term::Terminal;
 
 /// Lines that scroll off, two screens that are blanked, and a report.

@@ -412,7 +412,7 @@ const MISFITS: [(&str, &str); 25] = [
         "vt220 text --terminal xterm --encoding dec",
         "vt220: --terminal xterm reads UTF-8, and not --encoding dec\n",
     ),
-    ("vt220 log --terminal xterm", NO_XTERM),
+    ("vt220 pages --terminal xterm", NO_XTERM),
     ("vt220 pages --terminal=xterm --encoding utf-8", NO_XTERM),
     ("vt220 trace --terminal xterm", NO_XTERM),
     ("vt220 content --terminal xterm a", NO_XTERM),
@@ -420,8 +420,8 @@ const MISFITS: [(&str, &str); 25] = [
 
 const NO_TERMINAL: &str = "vt220: --terminal is vt220 or xterm\n";
 
-const NO_XTERM: &str = "vt220: log, pages, trace, summary and content play no xterm\n\
-     vt220: text, show, picture, status, reports and repaint do\n";
+const NO_XTERM: &str = "vt220: pages, trace, summary and content play no xterm\n\
+     vt220: text, show, picture, status, reports, repaint and log do\n";
 
 const NO_ENCODING: &str = "vt220: --encoding is dec or utf-8\n";
 

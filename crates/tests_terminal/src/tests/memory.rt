@@ -6,10 +6,11 @@ use super::common::{LIMIT, Played, holds, holds_at, replayed};
 use super::scarce::{BLOCKS, Scarce};
 use std::alloc::{AllocError, Global};
 use std::test::Fail;
-use vt_commands::{Fault, carry_out};
 use vt_paint::{PAINT_LIMIT, PaintError, repaint, repaint_reserved};
 use vt_picture::{PICTURE_LIMIT, SHOW_LIMIT, picture, picture_reserved, show, show_reserved};
-use vt_replay::{Format, Refused, Request, TerminalType, Watched, What, Word, request};
+use vt_replay::{
+    Fault, Format, Refused, Request, TerminalType, Watched, What, Word, carry_out, request,
+};
 use vt_term::{ROW_TEXT_LIMIT, ROWS, TEXT_LIMIT, Terminal};
 use vt_vectors::{Mismatch, Vector, check, vector, vector_count};
 
@@ -266,7 +267,7 @@ fn calls_with_room_take_no_memory(rt: HostRuntime) -> Result<(), Fail> {
 }
 
 /// What a request returns if allocation fails.
-const MEMORY: Result<(), Fault> = Err(Fault::Replay(vt_replay::Fault::Memory));
+const MEMORY: Result<(), Fault> = Err(Fault::Memory);
 
 /// `carry_out`, and with it `run`, `write_log` and `write_output`.
 #[derive(Drop)]

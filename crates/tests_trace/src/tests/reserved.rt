@@ -4,10 +4,12 @@ ghost use Rattle.std.specs.Prelude.{◌≤◌};
 use std::alloc::Global;
 use std::test::Fail;
 use vt_term::Terminal;
-use vt_trace::{SUMMARY_LIMIT, Summary, TRACE_LIMIT, Tracer, trace_end, trace_reserved};
+use vt_trace::{
+    SKIPPED_LIMIT, SUMMARY_LIMIT, Summary, TRACE_LIMIT, Tracer, trace_end, trace_reserved,
+};
 
-/// A text, controls, a request, an ignored event, and a text that is still open.
-const INPUT: &[u8] = b"Hi\r\n\x1b[6n\x1b[?1049hB";
+/// A text, controls, a request, an ignored event, a string, and a text that is still open.
+const INPUT: &[u8] = b"Hi\r\n\x1b[6n\x1b[?1049h\x9d0;a\x9cB";
 
 /// Returns whether the trace takes no memory with capacity for so many bytes, each with `TRACE_LIMIT`.
 fn trace_takes_no_memory(alloc: Global, count: usize) -> Result<bool, Fail>
@@ -27,7 +29,7 @@ fn trace_takes_no_memory(alloc: Global, count: usize) -> Result<bool, Fail>
 fn end_takes_no_memory(alloc: Global) -> Result<bool, Fail> {
     let mut tracer = Tracer::new();
     tracer.in_text = true;
-    let mut out = Vec::with_capacity(alloc, 1)?;
+    let mut out = Vec::with_capacity(alloc, SKIPPED_LIMIT)?;
     let before = out.capacity();
     trace_end(&tracer, &mut out);
     Ok(out.capacity() == before && out.as_slice() == b"\n".as_slice())

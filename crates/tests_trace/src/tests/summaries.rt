@@ -9,7 +9,7 @@ use vt_trace::{SUMMARY_LIMIT, Summary};
 /// Bytes, and their summary.
 type Row = (&'static [u8], &'static [u8]);
 
-const SUMMARIES: [Row; 5] = [
+const SUMMARIES: [Row; 7] = [
     (b"", b""),
     // Names come in the order of the list, text first.
     (
@@ -23,8 +23,22 @@ const SUMMARIES: [Row; 5] = [
     ),
     // One kind can be ignored with some values, and have a name with others.
     (b"\x1b[5J\x1b[1J\x1b[9J", b"2\tignored \\x1B[J\n1\tED\n"),
-    // A control inside a sequence is an event by itself. A sequence that is cut off, and one that is open, have none.
-    (b"\x1b[3\x08m\x1b[1\x1b[2", b"1\tignored \\x1B[m\n1\tBS\n"),
+    // A control inside a sequence is an event by itself. A sequence that is cut off has its kind, and so has one that is open
+    // at the end.
+    (
+        b"\x1b[3\x08m\x1b[1\x1b[2",
+        b"2\tignored cut sequence\n1\tignored \\x1B[m\n1\tBS\n",
+    ),
+    // Strings, by their openings, in the order of the C1 controls. The 7-bit form of ST is an ignored control.
+    (
+        b"\x1b]0;a\x07\x1b]0;b\x1b\\\x90q\x9c\x1bXc\x9c\x9e\x9c\x1b_d",
+        b"1\tignored DCS string\n1\tignored SOS string\n1\tignored \\x9C\n2\tignored OSC string\n1\tignored PM string\n1\tignored APC string\n",
+    ),
+    // A colon spoils a sequence, and so does a second intermediate. CAN and SUB cut a sequence off.
+    (
+        b"\x1b[38:2::1:2:3mA\x1b#(8\x18\x7f\x1b[3\x18\x1b[3\x1a",
+        b"1\tignored \\x18\n2\tignored cut sequence\n1\tignored \\x7F\n2\tignored spoilt sequence\n1\ttext\n1\tSUB\n",
+    ),
 ];
 
 /// Returns whether the bytes have this summary, in chunks of a size.

@@ -6,27 +6,145 @@ use std::process::Abort;
 use std::test::Fail;
 use vt_syntax::Values;
 use vt_term::Terminal;
-use vt_trace::{TRACE_LIMIT, Tracer, trace_byte, trace_end, trace_reserved};
+use vt_trace::{SKIPPED_LIMIT, TRACE_LIMIT, Tracer, trace_byte, trace_end, trace_reserved};
 
-/// Bytes, and their trace from power-up.
-type Row = (&'static [u8], &'static [u8]);
+/// Bytes, their trace from power-up, and what is written at their end.
+type Row = (&'static [u8], &'static [u8], &'static [u8]);
 
-const TRACES: [Row; 6] = [
+const TRACES: [Row; 25] = [
     // A text, two controls, a request with its report, and a text that is still open.
     (
         b"Hi\r\n\x1b[6nB",
         b"0\ttext\tHi\n2\tCR\t\n3\tLF\t\n4\tDSR\t6\n4\treport\t\\x1B[2;1R\n8\ttext\tB",
+        b"\n",
     ),
     // A control inside a sequence comes before the sequence, at its own place.
-    (b"\x1b[3\x08m", b"3\tBS\t\n0\tignored\t\\x1B[3m\n"),
-    // ESC cuts a sequence off, and begins another one.
-    (b"\x1b[3\x1bc", b"3\tRIS\t\n"),
+    (b"\x1b[3\x08m", b"3\tBS\t\n0\tignored\t\\x1B[3m\n", b""),
     // A C1 control in its 7-bit form begins at its ESC.
-    (b"AA\x1bD", b"0\ttext\tAA\n2\tIND\t\n"),
+    (b"AA\x1bD", b"0\ttext\tAA\n2\tIND\t\n", b""),
     // A graphic byte without a glyph ends a text.
-    (b"A\xffB", b"0\ttext\tA\n1\tignored\t\\xFF\n2\ttext\tB"),
-    // A control string has no line.
-    (b"\x1b]0;a\x1b\\B", b"5\tignored\t\\x9C\n7\ttext\tB"),
+    (
+        b"A\xffB",
+        b"0\ttext\tA\n1\tignored\t\\xFF\n2\ttext\tB",
+        b"\n",
+    ),
+    // CAN and DEL are no events, and have a line as an ignored control has.
+    (
+        b"A\x18\x7fB",
+        b"0\ttext\tA\n1\tignored\t\\x18\n2\tignored\t\\x7F\n3\ttext\tB",
+        b"\n",
+    ),
+    // BEL ends OSC.
+    (
+        b"A\x1b]0;title\x07B",
+        b"0\ttext\tA\n1\tignored OSC string\t\\x1B]0;title\\x07\n11\ttext\tB",
+        b"\n",
+    ),
+    // ST ends a string in its 8-bit form.
+    (
+        b"\x9d0;a\x9cA",
+        b"0\tignored OSC string\t\\x9D0;a\\x9C\n5\ttext\tA",
+        b"\n",
+    ),
+    // In its 7-bit form it cuts the string off, and is a control that is ignored.
+    (
+        b"\x1b]0;a\x1b\\B",
+        b"0\tignored OSC string\t\\x1B]0;a\n5\tignored\t\\x9C\n7\ttext\tB",
+        b"\n",
+    ),
+    (
+        b"\x1bP1$r\x1b\\",
+        b"0\tignored DCS string\t\\x1BP1$r\n5\tignored\t\\x9C\n",
+        b"",
+    ),
+    // BEL is content of every other string.
+    (
+        b"\x90a\x07b\x9c",
+        b"0\tignored DCS string\t\\x90a\\x07b\\x9C\n",
+        b"",
+    ),
+    // The other strings. CAN ends one, too.
+    (
+        b"\x1bXa\x9c\x9eb\x9c\x1b_c\x18",
+        b"0\tignored SOS string\t\\x1BXa\\x9C\n4\tignored PM string\t\\x9Eb\\x9C\n7\tignored APC string\t\\x1B_c\\x18\n",
+        b"",
+    ),
+    // SUB ends a string, and is a control by itself.
+    (
+        b"\x9da\x1aB",
+        b"0\tignored OSC string\t\\x9Da\n2\tSUB\t\n3\ttext\tB",
+        b"\n",
+    ),
+    // A quiet byte between ESC and the letter is carried out at its place.
+    (
+        b"\x1b\x00]a\x07",
+        b"1\tignored\t\\x00\n0\tignored OSC string\t\\x1B\\x00]a\\x07\n",
+        b"",
+    ),
+    // A colon spoils a sequence.
+    (
+        b"\x1b[38:2::255:0:0mX",
+        b"0\tignored spoilt sequence\t\\x1B[38:2::255:0:0m\n16\ttext\tX",
+        b"\n",
+    ),
+    // Controls inside a spoilt sequence are carried out.
+    (
+        b"\x1b[3:\x08m",
+        b"4\tBS\t\n0\tignored spoilt sequence\t\\x1B[3:\\x08m\n",
+        b"",
+    ),
+    // An escape sequence with two intermediates has no function.
+    (
+        b"\x1b#(8A",
+        b"0\tignored spoilt sequence\t\\x1B#(8\n4\ttext\tA",
+        b"\n",
+    ),
+    // ESC cuts a sequence off, and begins another one.
+    (
+        b"\x1b[3\x1bc",
+        b"0\tignored cut sequence\t\\x1B[3\n3\tRIS\t\n",
+        b"",
+    ),
+    // A C1 control cuts a sequence off, and so does a graphic byte of the right half.
+    (
+        b"\x1b[3\x84",
+        b"0\tignored cut sequence\t\\x1B[3\n3\tIND\t\n",
+        b"",
+    ),
+    (
+        b"\x1b\xe9",
+        b"0\tignored cut sequence\t\\x1B\n1\ttext\t\\xE9",
+        b"\n",
+    ),
+    // CAN ends a sequence, and belongs to it. SUB is a control by itself.
+    (
+        b"\x1b[3\x18A",
+        b"0\tignored cut sequence\t\\x1B[3\\x18\n4\ttext\tA",
+        b"\n",
+    ),
+    (
+        b"\x1b(\x1aA",
+        b"0\tignored cut sequence\t\\x1B(\n2\tSUB\t\n3\ttext\tA",
+        b"\n",
+    ),
+    // A line shows the first 32 bytes: all of 32, and `..` after them if there are more.
+    (
+        b"\x1b]0;abcdefghijklmnopqrstuvwxyzA\x07",
+        b"0\tignored OSC string\t\\x1B]0;abcdefghijklmnopqrstuvwxyzA\\x07\n",
+        b"",
+    ),
+    (
+        b"\x1b]0;abcdefghijklmnopqrstuvwxyzABCDEFGHIJ\x07",
+        b"0\tignored OSC string\t\\x1B]0;abcdefghijklmnopqrstuvwxyzAB..\n",
+        b"",
+    ),
+    // What is open at the end has its line there.
+    (b"\x1b]0;a", b"", b"0\tignored OSC string\t\\x1B]0;a\n"),
+    (
+        b"A\x1b[3",
+        b"0\ttext\tA",
+        b"\n1\tignored cut sequence\t\\x1B[3\n",
+    ),
 ];
 
 /// The most bytes of a row, and no place is behind so many.
@@ -56,7 +174,7 @@ fn has_trace(alloc: Global, row: &Row) -> Result<bool, Fail> {
     Ok(out.as_slice() == row.1)
 }
 
-/// Returns whether the bytes have this trace, and LF after it if the last line is a text, in chunks of a size.
+/// Returns whether the bytes have this trace with its end, in chunks of a size.
 fn has_trace_in_chunks(alloc: Global, row: &Row, size: usize) -> Result<bool, Fail>
     requires { 1 ≤ size }
 {
@@ -73,10 +191,8 @@ fn has_trace_in_chunks(alloc: Global, row: &Row, size: usize) -> Result<bool, Fa
         lines.extend_from_slice(&out)?;
     }
     let mut wanted = Vec::from_slice(alloc, row.1)?;
-    if tracer.in_text {
-        wanted.extend_from_slice(b"\n")?;
-    }
-    lines.reserve(1)?;
+    wanted.extend_from_slice(row.2)?;
+    lines.reserve(SKIPPED_LIMIT)?;
     trace_end(&tracer, &mut lines);
     Ok(lines.as_slice() == wanted.as_slice())
 }

@@ -1,11 +1,11 @@
-use Rattle.std.proofs.Common.{◌≡◌, ℕ, ◌*◌, ◌≤◌, ◌<◌, List, length, take, nat_lt, true, false, ap, refl, ◌∙◌}
+use Rattle.std.proofs.Common.{◌≡◌, ℕ, ◌*◌, ◌≤◌, ◌<◌, List, [], length, take, nat_lt, true, false, ap, refl, ◌∙◌}
 use Rattle.std.proofs.Common.{arith, length-append, length-drop}
 use Rattle.std.proofs.lemmas.List.{length-take, take-append-le}
 use Rattle.std.proofs.lemmas.Grind.{common_steps}
 use Rattle.std.proofs.KnownBytes.{Consumes-trans}
 use Rattle.std.proofs.lemmas.Bool.Decides.{nat_tests}
 use Rattle.vt_replay.proofs.Steps.{Moves-step, Moves-end, counted, passed, within-limit}
-use Rattle.vt_replay.proofs.OutputSteps.{then_more, chunk_written, chunk_cut, through}
+use Rattle.vt_replay.proofs.OutputSteps.{chunk_written, chunk_cut, through, decoded_more, after_more, took_more}
 use Rattle.vt_replay.proofs.output.write_coming.Goals as goal
 
 pub loop-left-preserved : goal.loop-left-preserved
@@ -18,6 +18,7 @@ loop-left-preserved g c =
     let given = c.bytes.ensures in
     let all = rw take-append-le at given ∙ decodes.held in
     let after = rw all at c.if-not-write_chunk.ensures.after in
+    let took = rw all at c.if-not-write_chunk.ensures.took in
     let writes = rw all at gives.holds.1 in
     let few = simp length-take at decodes.few in
     let size : length c.bytes.result.now ≤ 44 * c.in-Ok.count =
@@ -26,9 +27,12 @@ loop-left-preserved g c =
       moved = Moves-step _ _ _ _ _ _ _ _ _ gives.w c.loop-left.invariant.moved c.in-Ok.ensures.bytes.0 gives.given
           (λ b w h. (
             counted b _ _ _ _ h.0 bound within,
-            chunk_written _ _ _ b _ w _ _ _ _ h.2 h.1 writes,
-            then_more _ _ _ b _ _ _ _ _ _ _ h.2
-                (through _ _ _ _ _ _ _ _ _ decodes.on decodes.none after),
+            chunk_written _ _ _ b _ w _ _ _ _ (through _ _ b _ _ _ _ _ _ h.2 h.3) h.1 writes,
+            decoded_more _ _ _ b _ h.2 (record { on = decodes.on; none = decodes.none }),
+            after_more _ _ b (take c.in-Ok.count c.read_chunk.new.buf) _ _ _ _ (g.O.Output.ending c.loop-left.output) _ _
+                (g.O.Output.ending c.write_chunk.new.output) _ h.2 h.3 after,
+            took_more _ _ b (take c.in-Ok.count c.read_chunk.new.buf) (g.O.Output.Took c.loop-left.output)
+                (g.O.Output.Took c.write_chunk.new.output) h.2 h.4 took,
           ));
       within = omega (arith, c.loop-left.invariant.within);
       reader_works = grind (arith, common_steps, c.in-Ok.ensures);
@@ -37,8 +41,7 @@ loop-left-preserved g c =
       takes = omega (arith, c.if-not-write_chunk.ensures.most, c.loop-left.invariant.takes);
       decodes = simp (length-append, length-drop)
           (omega (arith, long, c.min-want.ensures, decodes.most, c.loop-left.invariant.decodes));
-      nothing = after.none;
-      none_decoded = decodes.none;
+      nothing = (after []).none;
       reserve = c.if-not-write_chunk.ensures.reserve ∙ c.loop-left.invariant.reserve;
       counted = omega (
         arith,
@@ -69,7 +72,7 @@ returns-then-not-write_chunk-clause-moves g c =
     let size = counted b _ _ _ _ h.0 bound within in (
       record { reader_failed = works; reader_ended = goes_on; writer_failed = gives.holds.0 },
       omega (arith, size),
-      chunk_cut _ _ _ _ b _ w _ _ _ _ h.2 h.1 short part,
+      chunk_cut _ _ _ _ b _ w _ _ _ _ (through _ _ b _ _ _ _ _ _ h.2 h.3) h.1 short part,
     ))
 
 pub returns-in-Ok-eq0-clause-moves : goal.returns-in-Ok-eq0-clause-moves
@@ -85,7 +88,7 @@ returns-in-Ok-eq0-clause-moves g c =
       record { reader_failed = works; reader_ended = ended; writer_failed = c.loop-left.invariant.writer_works },
       omega (arith, h.0),
       h.1,
-      h.2,
+      (h.3, h.4),
     ))
 
 pub returns-in-Ok-read_chunk-clause-moves : goal.returns-in-Ok-read_chunk-clause-moves

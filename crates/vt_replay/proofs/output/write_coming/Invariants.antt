@@ -1,6 +1,7 @@
 use Rattle.std.proofs.Common.{◌≡◌, ◌+◌, ◌*◌, ◌≤◌, [], false, length, vec_capacity}
 use Rattle.vt_device.specs.Runs.{Moves}
 use Rattle.vt_replay.specs.Output.{IsAfter}
+use Rattle.vt_replay.proofs.OutputSteps.{IsDecodedAfter}
 use Rattle.vt_replay.proofs.output.write_coming.Given as goal
 
 abbrev pub invariant-loop-left : goal.invariant-loop-left
@@ -10,12 +11,12 @@ invariant-loop-left g l = record {
       (λ b w.
       (length b + l.left ≡ l.limit)
       × (w ≡ g.O.Output.written l.initial.output (g.D.Decoding.decoded l.initial.decoding b))
-      × IsAfter (λ x. g.O.Output.written l.initial.output (g.D.Decoding.decoded l.initial.decoding x))
-      (λ x. g.O.Output.ending l.initial.output (g.D.Decoding.decoded l.initial.decoding x))
-      (λ x. g.O.Output.there l.initial.output (g.D.Decoding.decoded l.initial.decoding x)) b
-      (λ x. g.O.Output.written l.output (g.D.Decoding.decoded l.decoding x))
-      (λ x. g.O.Output.ending l.output (g.D.Decoding.decoded l.decoding x))
-      (λ x. g.O.Output.there l.output (g.D.Decoding.decoded l.decoding x)));
+      × IsDecodedAfter (g.D.Decoding.decoded l.initial.decoding) b (g.D.Decoding.decoded l.decoding)
+      × IsAfter (g.O.Output.written l.initial.output) (g.O.Output.ending l.initial.output [])
+      (g.O.Output.there l.initial.output) (g.D.Decoding.decoded l.initial.decoding b)
+      (g.O.Output.written l.output) (g.O.Output.ending l.output (g.D.Decoding.decoded l.initial.decoding b))
+      (g.O.Output.there l.output)
+      × g.O.Output.Took l.output (g.D.Decoding.decoded l.initial.decoding b));
   within : l.left ≤ l.limit;
   reader_works : g.S.Source.failed l.reader ≡ false;
   reader_goes_on : g.S.Source.ended l.reader ≡ false;
@@ -23,7 +24,6 @@ invariant-loop-left g l = record {
   takes : 1 ≤ g.O.Output.most l.output;
   decodes : length l.buffer ≤ g.D.Decoding.most l.decoding;
   nothing : g.O.Output.written l.output [] ≡ [];
-  none_decoded : g.D.Decoding.decoded l.decoding [] ≡ [];
   reserve : g.O.Output.reserve l.output ≡ g.O.Output.reserve l.initial.output;
   counted : g.O.Output.counted l.output + 440 * l.left ≤ 440 * l.limit;
   capacity : vec_capacity l.initial.out ≤ vec_capacity l.out;

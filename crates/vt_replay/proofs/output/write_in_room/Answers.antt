@@ -5,7 +5,6 @@ use Rattle.vt_replay.proofs.output.write_in_room.Goals as goal
 
 pub returns-then-not-is_there-clause-answer : goal.returns-then-not-is_there-clause-answer
 returns-then-not-is_there-clause-answer g c =
-    let none = c.in_ok-write_coming.ensures.none_decoded in
     let moved = c.in_ok-write_coming.ensures.moves in
     let h = moved.holds in
     record {
@@ -16,8 +15,7 @@ returns-then-not-is_there-clause-answer g c =
       holds = (
         h.0,
         h.1,
-        there_so _ _ _ _ _ _ _ h.3 ∙ ap (g.O.Output.there c.write_coming.new.output) none
-            ∙ sym c.if-not-is_there.ensures,
+        there_so _ _ _ _ _ _ _ h.3.0 ∙ sym c.if-not-is_there.ensures,
         h.2,
       );
     }
@@ -25,30 +23,25 @@ returns-then-not-is_there-clause-answer g c =
 pub returns-then-write_whole-clause-answer : goal.returns-then-write_whole-clause-answer
 returns-then-write_whole-clause-answer g c =
     let gives = c.if-write_whole.ensures.gives in
-    let none = c.in_ok-write_coming.ensures.none_decoded in
-    let last = gives.holds.1 ∙ c.deref.ensures.value ∙ c.end.ensures in
+    let last = gives.holds.1 ∙ c.deref.ensures.value in
     Moves-write _ _ _ _ _ _ _ _ c.in_ok-write_coming.ensures.moves gives.given (λ b w h. (
       record { reader_failed = h.0.reader_failed; reader_ended = h.0.reader_ended; writer_failed = gives.holds.0 },
       h.1,
-      there_so _ _ _ _ _ _ _ h.3 ∙ ap (g.O.Output.there c.write_coming.new.output) none
-          ∙ sym c.if-not-is_there.ensures,
-      rw (h.2, last, ← none, ends_so _ _ _ _ _ _ _ h.3) refl,
+      there_so _ _ _ _ _ _ _ h.3.0 ∙ sym c.if-not-is_there.ensures,
+      rw (h.2, last, c.end.ensures _ h.3.1, ends_so _ _ _ _ _ _ _ h.3.0) refl,
     ))
 
 pub returns-else-write_whole-clause-answer : goal.returns-else-write_whole-clause-answer
 returns-else-write_whole-clause-answer g c =
     let gives = c.if-write_whole.ensures.gives in
-    let none = c.in_ok-write_coming.ensures.none_decoded in
-    let last = c.deref.ensures.value ∙ c.end.ensures ∙ sym (ap (g.O.Output.ending c.write_coming.new.output) none) in
     Moves-write _ _ _ _ _ _ _ _ c.in_ok-write_coming.ensures.moves gives.given (λ b w h. (
       inr (
         record { reader_failed = h.0.reader_failed; reader_ended = h.0.reader_ended; writer_failed = gives.holds.0 },
-        there_so _ _ _ _ _ _ _ h.3 ∙ ap (g.O.Output.there c.write_coming.new.output) none
-            ∙ sym c.if-not-is_there.ensures,
+        there_so _ _ _ _ _ _ _ h.3.0 ∙ sym c.if-not-is_there.ensures,
         record {
           more = gives.w;
           begins = rw h.2 refl;
-          part = rw (last ∙ ends_so _ _ _ _ _ _ _ h.3) at gives.holds.1;
+          part = rw (c.deref.ensures.value ∙ c.end.ensures _ h.3.1 ∙ ends_so _ _ _ _ _ _ _ h.3.0) at gives.holds.1;
         },
       ),
       h.1,

@@ -1,13 +1,14 @@
 -- The lines before the place are written.
-use Rattle.std.proofs.Common.{◌≡◌, ◌+◌, ◌-◌, ◌*◌, ◌≤◌, ◌++◌, get_or, vec_len, vec_capacity}
+use Rattle.std.proofs.Common.{◌≡◌, ◌+◌, ◌-◌, ◌*◌, ◌≤◌, ◌++◌, vec_len, vec_capacity}
 use Rattle.std.specs.List.{flat_map, range_with_len}
 use Rattle.vt_syntax.specs.declared.event.Event.TheVariants.{Escape}
+use Rattle.vt_trace.specs.Runs.{times_at}
 use Rattle.vt_trace.specs.Summary.{ignored_line}
 use Rattle.vt_trace.proofs.summary.push_escapes.Given as goal
 
-abbrev pub invariant-loop-last : goal.invariant-loop-last
-invariant-loop-last l = record {
-  items : l.out.items ≡ l.initial.out.items ++ flat_map (λ last. ignored_line (λ number. get_or l.ignored number 0) (Escape l.inter last)) (range_with_len 48 (l.last - 48));
-  bounded : vec_len l.out + 44 * 48 ≤ vec_len l.initial.out + 44 * l.last;
+abbrev pub invariant-loop-byte : goal.invariant-loop-byte
+invariant-loop-byte l = record {
+  items : l.out.items ≡ l.initial.out.items ++ flat_map (λ last. ignored_line (times_at l.ignored l.last) (Escape l.inter last)) (range_with_len 48 (l.byte - 48));
+  bounded : vec_len l.out + 44 * 48 ≤ vec_len l.initial.out + 44 * l.byte;
   capacity : vec_capacity l.initial.out ≤ vec_capacity l.out;
 }

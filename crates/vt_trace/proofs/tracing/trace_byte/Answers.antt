@@ -1,60 +1,52 @@
-use Rattle.std.proofs.Common.{rules, length, ◌-◌, ◌+◌, Bool, ◌≡◌, ℕ, List, [], ◌∷◌, arith, ap, sym, ◌∙◌, take, drop}
+use Rattle.std.proofs.Common.{rules, length, ◌-◌, ◌+◌, ◌≡◌, ℕ, List, [], ◌∷◌, arith, ap, sym, ◌∙◌, take, drop, subst, Bool, not, ◌||◌}
+use Rattle.std.specs.Prelude.{◌&&◌}
 use Rattle.vt_syntax.specs.declared.held.Held.{Held}
 use Rattle.vt_syntax.specs.Event.{event_in}
-use Rattle.vt_syntax.specs.Held.{events_from}
 use Rattle.vt_term.specs.Play.{play, reports_of}
-use Rattle.vt_trace.specs.declared.tracing.Tracer.{Tracer}
-use Rattle.vt_trace.specs.Trace.{item_place, text_after}
-use Rattle.vt_trace.proofs.TracedBytes.{rest_of, one_taken, appended, report_of, lines_of, text_of_byte}
+use Rattle.vt_trace.specs.Trace.{text_after}
+use Rattle.vt_trace.proofs.TracedBytes.{IsFound, rest_of, appended, report_of, lines_of, tracer_of}
 use Rattle.vt_trace.proofs.tracing.trace_byte.Goals as goal
 
 pub returns-clause-tracer : goal.returns-clause-tracer
 returns-clause-tracer c =
     let s = c.args.terminal.now in
-    let byte = c.args.b ∷ [] in
-    let whole = one_taken c.args.b c.next-taken.result.bytes (c.next-taken.ensures.some (omega arith))
-    c.next-taken.ensures.within in
-    let events : event_in c.next-taken.result.event c.next-taken.new.values ≡ events_from s.held byte =
-    c.next-taken.ensures.event ∙ ap (λ (bytes : List ℕ). events_from c.parser-parser.result bytes) whole
-    ∙ ap (λ (h : Held). events_from h byte) c.parser-parser.ensures in
-    let done = text_of_byte s c.args.tracer.now c.args.b (event_in c.next-taken.result.event c.next-taken.new.values) events in
-    let begins : c.item_place-begin.result ≡ item_place c.args.tracer.now s.held c.args.b =
-    c.item_place-begin.ensures
-    ∙ ap (λ (h : Held). item_place c.args.tracer.now h c.args.b) (c.held.ensures.value ∙ c.parser-parser.ensures) in
-    let text : c.push_events-in_text.result
-    ≡ text_after c.args.tracer.now.in_text (event_in c.next-taken.result.event c.next-taken.new.values) =
+    let t = c.args.tracer.now in
+    let f = c.find-found.result in
+    let made = c.find-found.ensures in
+    let events = event_in f.step.event c.find-found.new.values in
+    let found : IsFound t c.args.b events f.step.cut f.step.ended f.begin f.step.kind f.step.code f.first.items f.step.is_between s.held =
+    subst (λ (h : Held). IsFound t c.args.b events f.step.cut f.step.ended f.begin f.step.kind f.step.code f.first.items f.step.is_between h) c.parser.ensures
+    (record { events_are = made.event; cuts = made.cut; ends = made.ended; begins = made.begin; kind_is = made.kind; code_is = made.code; first_are = made.first; is_between = made.is_between }) in
+    let text : c.push_events-in_text.result ≡ text_after (t.in_text && not (f.step.cut || f.step.ended)) events =
     c.push_events-in_text.ensures.text
-    ∙ ap (λ (values : List ℕ). text_after c.args.tracer.now.in_text (event_in c.next-taken.result.event values))
-    c.as_slice.ensures.value in
-    let tracer : ℕ → Bool → Tracer =
-    λ n v. record { place = c.args.tracer.now.place + 1; begin = n; in_text = v } in
-    ap (λ (n : ℕ). tracer n c.push_events-in_text.result) begins
-    ∙ ap (tracer (item_place c.args.tracer.now s.held c.args.b)) text ∙ done
+    ∙ ap (λ (values : List ℕ). text_after c.goes_on.result (event_in f.step.event values)) c.as_slice.ensures.value
+    ∙ ap (λ (v : Bool). text_after v events) c.goes_on.ensures in
+    tracer_of s t c.args.b events f.step.cut f.step.ended f.begin f.step.kind f.step.code f.first.items f.step.is_between found
+    c.push_events-in_text.result c.kept.result text c.kept.ensures
 
 pub returns-clause-lines : goal.returns-clause-lines
 returns-clause-lines c =
     let s = c.args.terminal.now in
+    let t = c.args.tracer.now in
     let byte = c.args.b ∷ [] in
-    let whole = one_taken c.args.b c.next-taken.result.bytes (c.next-taken.ensures.some (omega arith))
-    c.next-taken.ensures.within in
-    let events : event_in c.next-taken.result.event c.next-taken.new.values ≡ events_from s.held byte =
-    c.next-taken.ensures.event ∙ ap (λ (bytes : List ℕ). events_from c.parser-parser.result bytes) whole
-    ∙ ap (λ (h : Held). events_from h byte) c.parser-parser.ensures in
-    let report : drop (length c.args.reports.now.items) c.feed_reserved.new.out.items
-    ≡ reports_of (event_in c.next-taken.result.event c.next-taken.new.values) s.display =
+    let f = c.find-found.result in
+    let made = c.find-found.ensures in
+    let events = event_in f.step.event c.find-found.new.values in
+    let found : IsFound t c.args.b events f.step.cut f.step.ended f.begin f.step.kind f.step.code f.first.items f.step.is_between s.held =
+    subst (λ (h : Held). IsFound t c.args.b events f.step.cut f.step.ended f.begin f.step.kind f.step.code f.first.items f.step.is_between h) c.parser.ensures
+    (record { events_are = made.event; cuts = made.cut; ends = made.ended; begins = made.begin; kind_is = made.kind; code_is = made.code; first_are = made.first; is_between = made.is_between }) in
+    let report : drop (length c.args.reports.now.items) c.feed_reserved.new.out.items ≡ reports_of events s.display =
     ap (drop (length c.args.reports.now.items)) c.feed_reserved.ensures.reports
     ∙ appended c.args.reports.now.items (play s byte).reports
-    ∙ report_of s c.args.b (event_in c.next-taken.result.event c.next-taken.new.values) events in
-    let lines = lines_of s c.args.tracer.now c.args.b (event_in c.next-taken.result.event c.next-taken.new.values) events in
-    let begins : c.item_place-begin.result ≡ item_place c.args.tracer.now s.held c.args.b =
-    c.item_place-begin.ensures
-    ∙ ap (λ (h : Held). item_place c.args.tracer.now h c.args.b) (c.held.ensures.value ∙ c.parser-parser.ensures) in
+    ∙ report_of s c.args.b events found.events_are in
     let items = c.feed_reserved.new.out.items in
     let before : c.len-before.result ≡ length c.args.reports.now.items = search (rules, c.len-before.ensures) in
     let slice : take (length c.deref.result.now - c.len-before.result) (drop c.len-before.result c.deref.result.now)
     ≡ drop (length c.args.reports.now.items) items =
     ap (λ (xs : List ℕ). take (length xs - c.len-before.result) (drop c.len-before.result xs)) c.deref.ensures.value
     ∙ rest_of items c.len-before.result ∙ ap (λ (n : ℕ). drop n items) before in
-    rw (sym lines, sym begins, sym c.as_slice.ensures.value)
+    lines_of s t c.args.b events f.step.cut f.step.ended f.begin f.step.kind f.step.code f.first.items f.step.is_between found
+    c.args.out.now.items c.push_skipped.new.out.items c.push_events-in_text.new.out.items c.push_skipped.ensures.items
+    (rw (sym c.as_slice.ensures.value, sym c.goes_on.ensures)
     (c.push_events-in_text.ensures.lines s.display (slice ∙ report ∙ ap
-    (λ (values : List ℕ). reports_of (event_in c.next-taken.result.event values) s.display) (sym c.as_slice.ensures.value)))
+    (λ (values : List ℕ). reports_of (event_in f.step.event values) s.display) (sym c.as_slice.ensures.value))))

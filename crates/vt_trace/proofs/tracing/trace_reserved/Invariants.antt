@@ -13,7 +13,7 @@ invariant-loop-at l = record {
   tracer : l.tracer ≡ tracer_all l.initial.terminal l.initial.tracer (take l.at l.chunk);
   place : l.tracer.place ≡ l.initial.tracer.place + l.at;
   reports_bounded : vec_len l.reports ≤ vec_len l.initial.reports + 10 * l.at;
-  bounded : vec_len l.out ≤ vec_len l.initial.out + 240 * l.at;
+  bounded : vec_len l.out ≤ vec_len l.initial.out + 420 * l.at;
   reports_capacity : vec_capacity l.initial.reports ≤ vec_capacity l.reports;
   capacity : vec_capacity l.initial.out ≤ vec_capacity l.out;
 }

@@ -1,9 +1,10 @@
-use Rattle.vt_utf8.proofs.Written.{writes, writes-one, writes-none}
+use Rattle.vt_utf8.proofs.Written.{writes, writes-one, off-one, writes-none}
 use Rattle.vt_utf8.proofs.laws.writes.Goals as goal
 
 pub returns : goal.returns
 returns c = record {
   glyph = writes c.spelled.ensures c.spelling.ensures;
   one = writes-one c.spelled.ensures c.spelling.ensures c.glyphs.ensures;
+  off = off-one c.spelled.ensures c.spelling.ensures c.glyphs.ensures;
   none = writes-none c.spelled.ensures c.spelling.ensures;
 }

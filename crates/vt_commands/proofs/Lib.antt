@@ -1,3 +1,0 @@
-mod Outcomes
-mod Readings
-mod Tracers

@@ -1,4 +1,0 @@
-pub mod Counting
-pub mod Fault
-pub mod Request
-pub mod Words

@@ -1,2 +1,0 @@
-mod PageLines
-mod Blanked

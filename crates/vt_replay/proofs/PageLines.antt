@@ -1,0 +1,50 @@
+-- The lines and pages of an event, of graphic bytes and of bytes without an event.
+use Rattle.std.proofs.Common.{◌≡◌, ℕ, ◌+◌, ◌≤◌, List, [], ◌∷◌, ◌++◌, length, map, refl, sym, ap, ◌∙◌, append-nil, arith}
+use Rattle.std.proofs.Common.{All}
+use Rattle.std.specs.List.{flat_map}
+use Rattle.std.proofs.lemmas.Grind.{flat_map-append}
+use Rattle.vt_glyph.specs.Invocation.{HasGlyph}
+use Rattle.vt_syntax.specs.declared.event.Event.{Event}
+use Rattle.vt_syntax.specs.declared.event.Event.TheVariants.{Print}
+use Rattle.vt_syntax.specs.declared.held.Held.TheVariants.{Nothing}
+use Rattle.vt_syntax.specs.Held.{events_from}
+use Rattle.vt_syntax.specs.Laws.{SpellingLaw}
+use Rattle.vt_term.specs.State.{Display, State}
+use Rattle.vt_term.specs.Functions.{effect}
+use Rattle.vt_term.specs.Text.{line_text}
+use Rattle.vt_term.specs.Scrolling.{line_off, lines_off, scrolled_off}
+use Rattle.std.specs.Prelude.{slice_index}
+use Rattle.vt_screen.specs.declared.cell.Cell.{Cell}
+use Rattle.vt_term.specs.ScrollSteps.{Fits}
+use Rattle.vt_term.proofs.Scrolled.{run-line}
+use Rattle.vt_term.proofs.Bytes.{graphic-events}
+use Rattle.vt_replay.specs.Pages.{taken_off, pages_off, pages}
+use Rattle.vt_replay.specs.PageCuts.{IsPaged}
+
+prints-pages : (bytes : List ℕ) (s : Display)
+    → pages_off (map Print bytes) s ≡ flat_map line_text (lines_off (map Print bytes) s)
+prints-pages [] s = refl
+prints-pages (b ∷ bytes) s =
+    ap (λ (t : List ℕ). flat_map line_text (line_off (Print b) s) ++ t) (prints-pages bytes (effect (Print b) s))
+    ∙ sym (flat_map-append line_text (line_off (Print b) s) (lines_off (map Print bytes) (effect (Print b) s)))
+
+pub run-pages : SpellingLaw → (s : State) (bytes : List ℕ) → s.held ≡ Nothing → All HasGlyph bytes → 1 ≤ length bytes
+    → Fits (length bytes) s.display → pages s bytes ≡ taken_off (Print (slice_index bytes 0)) s.display
+unfolding pages scrolled_off
+run-pages spelling s bytes between have some fits =
+    let same : pages s bytes ≡ flat_map line_text (scrolled_off s bytes) =
+    rw (between, graphic-events spelling bytes have) (prints-pages bytes s.display) in
+    same ∙ ap (λ (rows : List (List Cell)). flat_map line_text rows) (run-line spelling s bytes between have some fits)
+
+pub no-pages : (s : State) (bytes : List ℕ) → events_from s.held bytes ≡ [] → pages s bytes ≡ []
+unfolding pages
+no-pages s bytes none = rw none refl
+
+pub one-page : (s : State) (bytes : List ℕ) (event : Event) → events_from s.held bytes ≡ event ∷ []
+    → pages s bytes ≡ taken_off event s.display
+unfolding pages
+one-page s bytes event is = rw is (append-nil (taken_off event s.display))
+
+pub paged-one : (s : State) (bytes xs ys text : List ℕ) → 1 ≤ length bytes → pages s bytes ≡ text → ys ≡ xs ++ text
+    → length ys ≤ length xs + 9528 → IsPaged s bytes xs ys
+paged-one s bytes xs ys text some is told few = record { lines = rw is told; bounded = omega (arith, some, few) }

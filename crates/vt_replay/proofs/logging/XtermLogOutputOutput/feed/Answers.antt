@@ -1,0 +1,15 @@
+use Rattle.std.proofs.Common.{◌≡◌, ◌≤◌, take, arith}
+use Rattle.std.proofs.lemmas.List.{length-take, take-take}
+use Rattle.vt_replay.proofs.Players.{xterm_log_after}
+use Rattle.vt_replay.proofs.logging.XtermLogOutputOutput.feed.Goals as goal
+
+pub returns-clause-after : goal.returns-clause-after
+returns-clause-after c = λ before.
+    let fed = c.feed_xterm_log_reserved.ensures in
+    let long = simp length-take at fed.within in
+    let short : c.feed_xterm_log_reserved.result ≤ c.front_for-count.result = omega (arith, long) in
+    let front : take c.feed_xterm_log_reserved.result (take c.front_for-count.result c.args.chunk.now)
+    ≡ take c.feed_xterm_log_reserved.result c.args.chunk.now =
+    take-take c.feed_xterm_log_reserved.result c.front_for-count.result c.args.chunk.now short in
+    rw (← front)
+    (xterm_log_after _ _ _ _ _ c.cuts.ensures.two c.log_cuts.ensures.two c.log_cuts.ensures.none fed.state fed.pages fed.pending)

@@ -1,0 +1,10 @@
+use Rattle.std.proofs.Common.{ap, sym, ◌∙◌}
+use Rattle.vt_trace.specs.declared.tracing.Tracer.{Tracer}
+use Rattle.vt_trace.specs.Trace.{end_lines}
+use Rattle.vt_replay.proofs.Tracers.{no_tracer}
+use Rattle.vt_replay.proofs.outputs.TraceOutputOutput.end.Goals as goal
+
+pub returns : goal.returns
+returns c = λ before took.
+    let items = rw c.requires.empty at c.trace_end.ensures.items in
+    items ∙ ap (λ (t : Tracer). end_lines t) (sym (no_tracer c.args.self.now.terminal c.args.self.now.tracer))

@@ -1,0 +1,12 @@
+use Rattle.std.proofs.Common.{◌∙◌, ap, arith, take}
+use Rattle.std.proofs.lemmas.List.{length-take}
+use Rattle.vt_trace.specs.declared.tracing.Tracer.{Tracer}
+use Rattle.vt_replay.proofs.Tracers.{place_after}
+use Rattle.vt_replay.proofs.outputs.TraceOutputOutput.feed.Goals as goal
+
+pub returns-clause-counted : goal.returns-clause-counted
+returns-clause-counted c =
+    let place = ap (λ (t : Tracer). t.place) c.trace_reserved.ensures.tracer
+    ∙ place_after c.args.self.now.terminal c.args.self.now.tracer (take c.trace_reserved.result (take c.front_for-count.result c.args.chunk.now)) in
+    let long = simp length-take at place in
+    omega (arith, long, c.trace_reserved.ensures.within)

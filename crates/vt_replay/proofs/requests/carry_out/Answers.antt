@@ -1,0 +1,22 @@
+use Rattle.std.proofs.Common.{◌∙◌, sym, [], refl}
+use Rattle.std.proofs.KnownBytes.{Appends-nil}
+use Rattle.vt_replay.proofs.Outcomes.{not_streamed}
+use Rattle.vt_replay.proofs.requests.carry_out.Goals as goal
+
+pub returns-clause-answer : goal.returns-clause-answer
+returns-clause-answer g c =
+    let takes = c.in-Err.ensures.takes in
+    record {
+      b = takes.b;
+      w = [];
+      taken = takes.taken;
+      given = Appends-nil _;
+      holds = not_streamed _ _ _ _ _ takes.b [] _ (sym c.is_streamed.ensures ∙ c.if-is_streamed.false) (record {
+        fault = c.in-Err.fault;
+        why = takes.holds;
+        ended = c.unread-in-Err.ensures.ended;
+        none_replaced = c.unread-in-Err.ensures.none_replaced;
+        nothing = refl;
+        writer_works = c.requires.writer_works;
+      });
+    }

@@ -1,0 +1,137 @@
+-- What a request takes from its reader and gives to its writer. (this profile)
+use Rattle.std.specs.Prelude.{◌≡◌, ◌⊎◌, ℕ, ◌≤◌, ◌<◌, ◌+◌, ◌++◌, ⊤, List, [], length, Bool, true, false, not, Option, Some, None, unwrap_or, Result, Ok, Err}
+use Rattle.vt_device.specs.Runs.{Flags}
+use Rattle.vt_cli.specs.declared.asked.Request.{Request}
+use Rattle.vt_recording.specs.declared.format.Encoding.{Encoding}
+use Rattle.vt_recording.specs.declared.format.Encoding.TheVariants.{Dec, Utf8}
+use Rattle.vt_cli.specs.declared.what.Word.{Word}
+use Rattle.vt_cli.specs.declared.what.Word.TheVariants as word
+use Rattle.vt_recording.specs.declared.format.Format.{Format}
+use Rattle.vt_recording.specs.declared.format.Format.TheVariants as format
+use Rattle.vt_recording.specs.declared.format.Moment.{Moment}
+use Rattle.vt_recording.specs.declared.format.Moment.TheVariants.{Micros, Bytes}
+use Rattle.vt_recording.specs.declared.detection.Detected.{Detected}
+use Rattle.vt_recording.specs.declared.detection.Detected.TheVariants.{Recording, Compressed}
+use Rattle.vt_recording.specs.Detection.{detected}
+use Rattle.vt_recording.specs.declared.format.Break.{Break}
+use Rattle.vt_recording.specs.Taken.{IsTaken}
+use Rattle.vt_recording.specs.declared.fault.Fault.{Fault}
+use Rattle.vt_recording.specs.declared.fault.Fault.TheVariants as fault
+use Rattle.vt_recording.specs.Reading.{ReadTable}
+use Rattle.vt_replay.specs.declared.requests.Outcome.{Outcome}
+use Rattle.vt_replay.specs.Words.{WordTable}
+
+-- the encoding that was asked for, otherwise dec
+abbrev pub encoding_wanted : Option Encoding → Encoding
+encoding_wanted (Some encoding) = encoding
+encoding_wanted None = Dec
+
+-- the encoding of a recording by asciinema, if none was asked for. A trace and a summary read no UTF-8
+abbrev pub cast_encoding : Word → Encoding
+cast_encoding (word.Replay what) = Utf8
+cast_encoding word.Log = Utf8
+cast_encoding word.Pages = Utf8
+cast_encoding word.Trace = Dec
+cast_encoding word.Summary = Dec
+cast_encoding word.Content = Utf8
+
+-- the encoding of the content of a recording in a format, for a word
+abbrev pub encoding_of : Option Encoding → Word → Format → Encoding
+encoding_of wanted word format.Raw = encoding_wanted wanted
+encoding_of wanted word format.Script = encoding_wanted wanted
+encoding_of wanted word format.Ttyrec = encoding_wanted wanted
+encoding_of wanted word format.Asciicast = unwrap_or wanted (cast_encoding word)
+
+-- the input is played as it comes: it is the host's bytes, and all of them are wanted
+abbrev pub is_streamed : Format → Option Moment → Bool
+is_streamed format.Raw None = true
+is_streamed format.Raw (Some m) = false
+is_streamed format.Script until = false
+is_streamed format.Ttyrec until = false
+is_streamed format.Asciicast until = false
+
+-- how a request ends: a fault of the word comes first, then that the recording is broken
+abbrev pub ended_of : (broken : Option Break) → Result (Unit {0}) Fault → Result (Unit {0}) Fault
+ended_of None (Ok u) = Ok u
+ended_of (Some place) (Ok u) = Err (fault.Broken place)
+ended_of broken (Err fault) = Err fault
+
+-- the word was carried out on the input as it came
+pub record IsStreamed (o : Outcome) (r : Request) (b w : List ℕ) (f : Flags) : Type 0 where
+  pub table : WordTable o.ended r.word r.terminal (encoding_wanted r.encoding) r.piece b w f r.limit
+  pub none_replaced : o.replaced ≡ 0
+
+-- how much of a recording's content was played: all of it, unless there was no memory, a write failed, or it is longer than
+-- the limit. It is in memory, so it can't be that a read failed
+abbrev pub AllPlayed : Result (Unit {0}) Fault → (limit : ℕ) → (c rest : List ℕ) → Type 0
+AllPlayed (Ok u) limit c rest = rest ≡ []
+AllPlayed (Err fault.Memory) limit c rest = ⊤
+AllPlayed (Err fault.Partial) limit c rest = rest ≡ []
+AllPlayed (Err fault.Read) limit c rest = ⊥
+AllPlayed (Err fault.Write) limit c rest = ⊤
+AllPlayed (Err fault.TooLong) limit c rest = limit < length c
+AllPlayed (Err (fault.Broken place)) limit c rest = ⊥
+AllPlayed (Err fault.NoTimes) limit c rest = ⊥
+
+-- the word was carried out on the content of a recording, of which c was played, from memory
+pub record IsPlayed (o : Outcome) (r : Request) (encoding : Encoding) (content : List ℕ) (broken : Option Break) (replaced : ℕ) (w : List ℕ)
+    (writer_failed : Bool) : Type 0 where
+  pub c : List ℕ
+  pub rest : List ℕ
+  pub joined : content ≡ c ++ rest
+  pub at_end : Bool
+  pub none_left : at_end ≡ true → rest ≡ []
+  pub played : Result (Unit {0}) Fault
+  pub whole : AllPlayed played r.limit c rest
+  pub table : WordTable played r.word r.terminal encoding r.piece c w (record { reader_failed = false; reader_ended = at_end; writer_failed = writer_failed }) r.limit
+  pub ended : o.ended ≡ ended_of broken played
+  pub replaces : o.replaced ≡ replaced
+
+-- the input was read whole and taken apart, and the word was carried out on its content
+pub record IsTakenApart (o : Outcome) (r : Request) (format : Format) (timing : Option (List ℕ)) (b w : List ℕ) (f : Flags) : Type 0 where
+  pub reader_failed : f.reader_failed ≡ false
+  pub reader_ended : f.reader_ended ≡ true
+  pub within : length b ≤ r.limit
+  pub content : List ℕ
+  pub broken : Option Break
+  pub replaced : ℕ
+  pub taken : IsTaken format (encoding_of r.encoding r.word format) r.until timing b content broken replaced
+  pub played : IsPlayed o r (encoding_of r.encoding r.word format) content broken replaced w f.writer_failed
+
+-- the input wasn't read whole or taken apart, and nothing was written
+pub record IsUnread (o : Outcome) (r : Request) (b w : List ℕ) (f : Flags) : Type 0 where
+  pub fault : Fault
+  pub why : ReadTable (Err fault) b f.reader_failed f.reader_ended r.limit
+  pub ended : o.ended ≡ Err fault
+  pub none_replaced : o.replaced ≡ 0
+  pub nothing : w ≡ []
+  pub writer_works : f.writer_failed ≡ false
+
+abbrev pub OutcomeBy : (streamed : Bool) → Outcome → Request → Format → (timing : Option (List ℕ)) → (b w : List ℕ) → Flags → Type 0
+OutcomeBy true o r format timing b w f = IsStreamed o r b w f
+OutcomeBy false o r format timing b w f = IsTakenApart o r format timing b w f ⊎ IsUnread o r b w f
+
+-- what an outcome says of an input in a format, b being the bytes read and w the bytes written
+abbrev pub OutcomeTable : Outcome → Request → Format → (timing : Option (List ℕ)) → (b w : List ℕ) → Flags → Type 0
+OutcomeTable o r format timing b w f = OutcomeBy (is_streamed format r.until) o r format timing b w f
+
+-- ---- an input whose beginning decides on its format
+
+-- the format that the beginning shows: a compressed file is played as it is
+abbrev pub shown_format : Detected → Format
+shown_format (Recording format) = format
+shown_format (Compressed compression) = format.Raw
+
+-- by the format that was asked for, or else by the beginning
+abbrev pub format_of : Option Format → (beginning : List ℕ) → Format
+format_of (Some format) beginning = format
+format_of None beginning = shown_format (detected beginning)
+
+-- the moment is a time, and the recording has no times
+abbrev pub lacks_times : Format → (timed : Bool) → Option Moment → Bool
+lacks_times format.Raw timed (Some (Micros n)) = true
+lacks_times format.Script timed (Some (Micros n)) = not timed
+lacks_times format.Ttyrec timed (Some (Micros n)) = false
+lacks_times format.Asciicast timed (Some (Micros n)) = false
+lacks_times format timed (Some (Bytes n)) = false
+lacks_times format timed None = false

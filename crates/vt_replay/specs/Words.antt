@@ -1,0 +1,75 @@
+-- What each word writes. (this profile)
+use Rattle.std.specs.Prelude.{ℕ, List, [], Bool, Result}
+use Rattle.vt_device.specs.Runs.{Flags}
+use Rattle.vt_term.specs.State.{power_up}
+use Rattle.vt_replay.specs.Pages.{pages}
+use Rattle.vt_trace.specs.Trace.{trace, tracer_all, tracer_at_start, end_lines}
+use Rattle.vt_trace.specs.Summary.{summary}
+use Rattle.vt_cli.specs.declared.what.TerminalType.{TerminalType}
+use Rattle.vt_cli.specs.declared.what.Word.{Word}
+use Rattle.vt_cli.specs.declared.what.Word.TheVariants.{Replay, Log, Pages, Trace, Summary, Content}
+use Rattle.vt_recording.specs.declared.fault.Fault.{Fault}
+use Rattle.vt_recording.specs.declared.format.Encoding.{Encoding}
+use Rattle.vt_recording.specs.declared.format.Encoding.TheVariants.{Dec}
+use Rattle.vt_replay.specs.Due.{sent_by, end_by, there_by}
+use Rattle.vt_replay.specs.Encoding.{decoded}
+use Rattle.vt_replay.specs.Log.{screen, lines_in, screen_in}
+use Rattle.vt_replay.specs.Output.{OutputTable, always}
+use Rattle.vt_replay.specs.Playing.{language_of, played_as}
+
+-- ---- pages
+
+abbrev pub pages_written : List ℕ → List ℕ
+pages_written bytes = pages power_up bytes
+
+-- ---- trace
+
+abbrev pub trace_written : List ℕ → List ℕ
+trace_written bytes = trace power_up tracer_at_start bytes
+
+-- the end of a text, if the last line is one, and the line of a sequence or string that is still open
+abbrev pub trace_ending : List ℕ → List ℕ
+trace_ending bytes = end_lines (tracer_all power_up tracer_at_start bytes)
+
+-- ---- content
+
+abbrev pub all : List ℕ → List ℕ
+all bytes = bytes
+
+abbrev pub nothing : List ℕ → List ℕ
+nothing bytes = []
+
+-- ---- words
+
+-- what a word writes of a host's bytes: as they come, and at their end, and whether that is there
+pub record Due : Type 0 where
+  pub written : List ℕ → List ℕ
+  pub ending : List ℕ → List ℕ
+  pub there : List ℕ → Bool
+
+-- of the terminal's bytes for the host's
+abbrev pub of_decoded : Encoding → (written ending : List ℕ → List ℕ) → Due
+of_decoded encoding written ending = record {
+  written = λ bytes. written (decoded encoding bytes);
+  ending = λ bytes. ending (decoded encoding bytes);
+  there = always;
+}
+
+-- a row a word, for a terminal and in an encoding. A replay and a log play xterm. A trace and a summary are of the bytes as they are
+abbrev pub due_of : Word → TerminalType → Encoding → Due
+due_of (Replay what) terminal encoding =
+    let played = played_as (language_of terminal encoding) in
+    record { written = sent_by played what; ending = end_by played what; there = there_by played what }
+due_of Log terminal encoding =
+    let language = language_of terminal encoding in
+    record { written = lines_in language; ending = screen_in language; there = always }
+due_of Pages terminal encoding = of_decoded encoding pages_written screen
+due_of Trace terminal encoding = of_decoded Dec trace_written trace_ending
+due_of Summary terminal encoding = of_decoded Dec nothing summary
+due_of Content terminal encoding = of_decoded encoding all nothing
+
+-- what each answer says, by the word
+abbrev pub WordTable : Result (Unit {0}) Fault → Word → TerminalType → Encoding → (piece : ℕ) → (b w : List ℕ) → Flags → (limit : ℕ) → Type 0
+WordTable result word terminal encoding piece b w f limit =
+    let due = due_of word terminal encoding in
+    OutputTable due.written due.ending due.there result piece b w f limit

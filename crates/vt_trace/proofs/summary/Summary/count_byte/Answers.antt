@@ -1,0 +1,47 @@
+use Rattle.std.proofs.Common.{List, ◌++◌, [], ◌∷◌, ◌≡◌, ℕ, Bool, sym, ap, ◌∙◌}
+use Rattle.vt_syntax.specs.declared.event.Event.{Event}
+use Rattle.vt_syntax.specs.declared.held.Held.{Held}
+use Rattle.vt_syntax.specs.Split.{split_of}
+use Rattle.vt_syntax.specs.Event.{event_in}
+use Rattle.vt_syntax.specs.Reading.{events_of}
+use Rattle.vt_syntax.specs.Held.{held_after, held_from}
+use Rattle.std.specs.Option.{option_to_list}
+use Rattle.vt_trace.specs.Skipped.{code_of, item_kinds}
+use Rattle.vt_trace.specs.Trace.{is_string, cuts_off, ends_silent, ended_kind, code_after}
+use Rattle.vt_trace.specs.Runs.{step_kind, byte_kind}
+use Rattle.vt_trace.proofs.Counts.{events_more, held_more}
+use Rattle.vt_trace.proofs.ItemKinds.{kinds_of_byte, code_of_byte}
+use Rattle.vt_trace.proofs.summary.Summary.count_byte.Goals as goal
+
+pub count_event-requires : goal.count_event-requires
+count_event-requires c = rw c.as_slice.ensures.value c.read-step.ensures.in_range
+
+pub returns : goal.returns
+returns c = λ bytes was.
+    let s = c.args.self.now in
+    let held = s.parser in
+    let b = c.args.b in
+    let byte = b ∷ [] in
+    let step = c.read-step.result in
+    let made = c.read-step.ensures in
+    let law = c.one_split.ensures in
+    let events : events_of bytes ++ event_in step.event c.as_slice.result.now ≡ events_of (bytes ++ byte) =
+    ap (λ (values : List ℕ). events_of bytes ++ event_in step.event values) c.as_slice.ensures.value
+    ∙ ap (λ (es : List Event). events_of bytes ++ es) made.event ∙ sym (events_more held bytes byte law was.held) in
+    let kind : option_to_list c.skipped.result ≡ byte_kind (code_of (split_of bytes).rest) (held_after bytes) b =
+    c.skipped.ensures ∙ ap (λ (v : Bool). step_kind s.code v step.ended step.kind) made.cut
+    ∙ ap (λ (v : Bool). step_kind s.code (cuts_off held b) v step.kind) made.ended
+    ∙ ap (λ n. step_kind s.code (cuts_off held b) (ends_silent held b) n) made.kind
+    ∙ ap (λ n. byte_kind n held b) was.code
+    ∙ ap (λ (h : Held). byte_kind (code_of (split_of bytes).rest) h b) was.held in
+    let kinds : item_kinds bytes ++ option_to_list c.skipped.result ≡ item_kinds (bytes ++ byte) =
+    ap (λ (l : List ℕ). item_kinds bytes ++ l) kind ∙ sym (kinds_of_byte bytes b) in
+    record {
+      held = made.held ∙ sym (held_more held bytes byte law was.held);
+      code =
+          made.code ∙ ap (λ n. code_after n (is_string held) (held_from held byte) b) was.code
+          ∙ ap (λ (h : Held). code_after (code_of (split_of bytes).rest) (is_string h) (held_from h byte) b) was.held
+          ∙ sym (code_of_byte bytes b);
+      counts = rw (sym events, sym kinds) (c.count_event.ensures (events_of bytes) (item_kinds bytes ++ option_to_list c.skipped.result)
+          (c.count_skipped.ensures (events_of bytes) (item_kinds bytes) s.named was.counts));
+    }

@@ -1,0 +1,336 @@
+//! What is no event: the lines of items without a function.
+ghost use Rattle.std.specs.Prelude.{◌≡◌, ◌+◌, ◌≤◌, ◌++◌, [], ◌∷◌, ◌&&◌, ◌||◌, not, ℕ, List, length, take, if◌then◌else◌, IfSome};
+ghost use Rattle.std.specs.Prelude.{option_copied, vec_len, vec_capacity};
+ghost use Rattle.std.specs.Option.{option_to_list};
+ghost use Rattle.vt_syntax.specs.Event.{event_in, event_of};
+ghost use Rattle.vt_syntax.specs.Spelling.{IsEvent};
+ghost use Rattle.vt_trace.specs.Runs.{step_kind};
+ghost use Rattle.vt_syntax.specs.Held.{events_from, held_from};
+ghost use Rattle.vt_trace.specs.Skipped.{kind_name, kind_column, first_column, skipped_line, is_empty};
+ghost use Rattle.vt_trace.specs.Trace.{item_place, is_nothing, is_string, cuts_off, ends_silent, item_first, code_after};
+ghost use Rattle.vt_trace.specs.Trace.{open_kind, ended_kind, open_lines, skipped_lines};
+
+use crate::bytes::{push_all_shown, push_bytes, push_number};
+use crate::tracing::{Tracer, begins, item_place, push_end};
+use arrayvec::ArrayVec;
+use vt_syntax::{EventKind, Held, Parser, Values};
+
+/// The kind of a sequence that is cut off.
+pub(crate) const CUT_SEQUENCE: u8 = 0x1B;
+
+/// The kind of a sequence that has its final byte, and no function.
+pub(crate) const SPOILT_SEQUENCE: u8 = 0x9B;
+
+/// How many bytes of an item a line shows.
+const SHOWN: usize = 32;
+
+/// The first bytes of an item: those that a line shows, and one more.
+pub type First = ArrayVec<u8, 33>;
+
+/// The most bytes that are written of an item without a function, with the end of a text before it.
+pub const SKIPPED_LIMIT: usize = 180;
+
+/// Returns the name of a kind, and `None` for CAN and DEL.
+#[tactic(auto, unfolding(crate::specs::Skipped::kind_name))]
+pub(crate) fn kind_name(kind: u8) -> Option<&'static str>
+    ensures word { option_copied result ≡ kind_name kind }
+    ensures short { IfSome result (λ word. length word.now ≤ 15) }
+{
+    match kind {
+        CUT_SEQUENCE => Some("cut sequence"),
+        SPOILT_SEQUENCE => Some("spoilt sequence"),
+        0x90 => Some("DCS string"),
+        0x98 => Some("SOS string"),
+        0x9D => Some("OSC string"),
+        0x9E => Some("PM string"),
+        0x9F => Some("APC string"),
+        _ => None,
+    }
+}
+
+/// What a byte is: its event, and the end of an item without a function.
+#[derive(Drop)]
+pub(crate) struct Step {
+    /// The event that the byte completes.
+    pub(crate) event: Option<EventKind>,
+    /// Whether the byte cuts off what was held.
+    cut: bool,
+    /// Whether the byte ends an item that has no function.
+    ended: bool,
+    /// The kind of that item.
+    kind: u8,
+    /// The C1 control that opened the string which is held after the byte, and 0 if none is.
+    pub(crate) code: u8,
+    /// Whether nothing is held after the byte.
+    is_between: bool,
+}
+
+impl Step {
+    /// Returns the kind of the item without a function that the byte cuts off or ends. `code` is that of a string that was
+    /// held before.
+    pub(crate) fn skipped(&self, code: u8) -> Option<u8>
+        ensures { option_to_list result ≡ step_kind code self.now.cut self.now.ended self.now.kind }
+    {
+        if self.cut {
+            Some(open_kind(code))
+        } else if self.ended {
+            Some(self.kind)
+        } else {
+            None
+        }
+    }
+}
+
+/// Reads a byte with a parser. `code` is the C1 control that opened the string which is held, and 0 if none is.
+pub(crate) fn read(code: u8, parser: &mut Parser, b: u8, values: &mut Values) -> Step
+    ensures event { event_in result.event values.new ≡ events_from parser.old (b ∷ []) }
+    ensures in_range { IfSome result.event (λ kind. IsEvent (event_of kind values.new)) }
+    ensures held { parser.new ≡ held_from parser.old (b ∷ []) }
+    ensures cut { result.cut ≡ cuts_off parser.old b }
+    ensures ended { result.ended ≡ ends_silent parser.old b }
+    ensures kind { result.kind ≡ ended_kind code parser.old b }
+    ensures code { result.code ≡ code_after code (is_string parser.old) (held_from parser.old (b ∷ [])) b }
+    ensures is_between { result.is_between ≡ is_nothing (held_from parser.old (b ∷ [])) }
+{
+    let held = parser.held();
+    let cut = cuts_off(held, b);
+    let kind = ended_kind(code, held, b);
+    let in_string = is_string(held);
+    let event = read_one(parser, b, values);
+    let next = parser.held();
+    Step {
+        event,
+        cut,
+        ended: ends_silent(event, next),
+        kind,
+        code: code_after(code, in_string, next, b),
+        is_between: is_nothing(next),
+    }
+}
+
+/// What was found of a byte in a trace: the step, and the item that the byte belongs to.
+#[derive(Drop)]
+pub(crate) struct Found {
+    /// What the byte is.
+    pub(crate) step: Step,
+    /// Where the item began.
+    pub(crate) begin: u64,
+    /// The first bytes of the item.
+    first: First,
+}
+
+impl Found {
+    /// Returns whether a text that is open before the byte may go on at its event.
+    pub(crate) fn goes_on(&self, in_text: bool) -> bool
+        ensures { result ≡ in_text && not (self.now.step.cut || self.now.step.ended) }
+    {
+        in_text && !(self.step.cut || self.step.ended)
+    }
+
+    /// Returns the first bytes of what is held after the byte.
+    pub(crate) fn kept(self) -> First
+        ensures { result.items ≡ if self.step.is_between then [] else self.first.items }
+    {
+        if self.step.is_between {
+            ArrayVec::new()
+        } else {
+            self.first
+        }
+    }
+}
+
+/// Reads a byte with a parser, and returns what is found of it.
+pub(crate) fn find(tracer: &Tracer, parser: &mut Parser, b: u8, values: &mut Values) -> Found
+    ensures event { event_in result.step.event values.new ≡ events_from parser.old (b ∷ []) }
+    ensures cut { result.step.cut ≡ cuts_off parser.old b }
+    ensures ended { result.step.ended ≡ ends_silent parser.old b }
+    ensures kind { result.step.kind ≡ ended_kind tracer.now.code parser.old b }
+    ensures code { result.step.code ≡ code_after tracer.now.code (is_string parser.old) (held_from parser.old (b ∷ [])) b }
+    ensures is_between { result.step.is_between ≡ is_nothing (held_from parser.old (b ∷ [])) }
+    ensures begin { result.begin ≡ item_place tracer.now parser.old b }
+    ensures first { result.first.items ≡ item_first tracer.now parser.old b }
+{
+    let begin = item_place(tracer, parser.held(), b);
+    let first = item_first(tracer, parser.held(), b);
+    Found {
+        step: read(tracer.code, parser, b, values),
+        begin,
+        first,
+    }
+}
+
+/// Reads a byte.
+fn read_one(parser: &mut Parser, b: u8, values: &mut Values) -> Option<EventKind>
+    ensures event { event_in result values.new ≡ events_from parser.old (b ∷ []) }
+    ensures in_range { IfSome result (λ kind. IsEvent (event_of kind values.new)) }
+    ensures held { parser.new ≡ held_from parser.old (b ∷ []) }
+{
+    parser.next(&[b], values).event
+}
+
+/// Returns whether there is no event, and nothing is held.
+fn ends_silent(event: Option<EventKind>, held: &Held) -> bool
+    ensures { (values : List ℕ) → result ≡ is_empty (event_in event values) && is_nothing held.now }
+{
+    match event {
+        Some(_) => false,
+        None => is_nothing(held),
+    }
+}
+
+/// Returns whether nothing is held.
+fn is_nothing(held: &Held) -> bool
+    ensures { result ≡ is_nothing held.now }
+{
+    matches!(held, Held::Nothing)
+}
+
+/// Returns whether a string is held.
+fn is_string(held: &Held) -> bool
+    ensures { result ≡ is_string held.now }
+{
+    matches!(held, Held::Text { .. })
+}
+
+/// Returns whether a byte cuts off what is held, or is the SUB that ends it.
+fn cuts_off(held: &Held, b: u8) -> bool
+    ensures { result ≡ cuts_off held.now b }
+{
+    !is_nothing(held) && (begins(held, b) || b == 0x1A)
+}
+
+/// Returns the first bytes of an item up to a byte of it.
+fn item_first(tracer: &Tracer, held: &Held, b: u8) -> First
+    ensures { result.items ≡ item_first tracer.now held.now b }
+{
+    if begins(held, b) {
+        with_one(&[], b)
+    } else {
+        with_one(tracer.first.as_slice(), b)
+    }
+}
+
+/// Returns bytes and one more, unless they are all that are kept.
+fn with_one(bytes: &[u8], b: u8) -> First
+    requires { length bytes.now ≤ 33 }
+    ensures { result.items ≡ take 33 (bytes.now ++ b ∷ []) }
+{
+    let mut first = ArrayVec::new();
+    let _ = first.try_extend_from_slice(bytes);
+    if bytes.len() < 33 {
+        first.push(b);
+    }
+    first
+}
+
+/// Returns the C1 control that opens the string which is held after a byte, and 0 if none is. `code` is that of a string
+/// that was held before.
+fn code_after(code: u8, in_string: bool, held: &Held, b: u8) -> u8
+    ensures { result ≡ code_after code in_string held.now b }
+{
+    if !is_string(held) {
+        0
+    } else if in_string {
+        code
+    } else if b < 0x80 {
+        b + 0x40
+    } else {
+        b
+    }
+}
+
+/// Returns the kind of an item without a function that ends with a byte, which isn't SUB.
+fn ended_kind(code: u8, held: &Held, b: u8) -> u8
+    ensures { result ≡ ended_kind code held.now b }
+{
+    if is_nothing(held) {
+        b
+    } else if code == 0 && b != 0x18 {
+        SPOILT_SEQUENCE
+    } else {
+        open_kind(code)
+    }
+}
+
+/// Returns the kind of what is held.
+pub(crate) fn open_kind(code: u8) -> u8
+    ensures { result ≡ open_kind code }
+{
+    if code == 0 { CUT_SEQUENCE } else { code }
+}
+
+/// Appends what is written of the item that a byte cuts off or ends, if it has no function.
+pub(crate) fn push_skipped(tracer: &Tracer, found: &Found, out: &mut Vec<u8>)
+    requires { vec_len out.old + SKIPPED_LIMIT ≤ vec_capacity out.old }
+    ensures items { out.new.items ≡ out.old.items
+        ++ skipped_lines tracer.now found.now.step.cut found.now.step.ended found.now.begin found.now.step.kind found.now.first.items }
+    ensures bounded { vec_len out.new ≤ vec_len out.old + SKIPPED_LIMIT }
+    ensures capacity { vec_capacity out.old ≤ vec_capacity out.new }
+{
+    if found.step.cut {
+        push_open(tracer, out);
+    } else if found.step.ended {
+        push_end(tracer.in_text, out);
+        push_skipped_line(found.begin, found.step.kind, found.first.as_slice(), out);
+    }
+}
+
+/// Appends what is written of what is held, when it is cut off.
+pub(crate) fn push_open(tracer: &Tracer, out: &mut Vec<u8>)
+    requires { vec_len out.old + SKIPPED_LIMIT ≤ vec_capacity out.old }
+    ensures items { out.new.items ≡ out.old.items ++ open_lines tracer.now }
+    ensures bounded { vec_len out.new ≤ vec_len out.old + SKIPPED_LIMIT }
+    ensures capacity { vec_capacity out.old ≤ vec_capacity out.new }
+{
+    push_end(tracer.in_text, out);
+    push_skipped_line(
+        tracer.begin,
+        open_kind(tracer.code),
+        tracer.first.as_slice(),
+        out,
+    );
+}
+
+/// Appends the line of an item without a function.
+fn push_skipped_line(place: u64, kind: u8, first: &[u8], out: &mut Vec<u8>)
+    requires { vec_len out.old + 179 ≤ vec_capacity out.old }
+    ensures items { out.new.items ≡ out.old.items ++ skipped_line place kind first.now }
+    ensures bounded { vec_len out.new ≤ vec_len out.old + 179 }
+    ensures capacity { vec_capacity out.old ≤ vec_capacity out.new }
+{
+    push_number(place, out);
+    push_bytes(b"\t", out);
+    push_kind_column(kind, out);
+    push_bytes(b"\t", out);
+    push_first_column(first, out);
+    push_bytes(b"\n", out);
+}
+
+/// Appends `ignored`, and the kind if it has a name.
+fn push_kind_column(kind: u8, out: &mut Vec<u8>)
+    requires { vec_len out.old + 23 ≤ vec_capacity out.old }
+    ensures items { out.new.items ≡ out.old.items ++ kind_column kind }
+    ensures bounded { vec_len out.new ≤ vec_len out.old + 23 }
+    ensures capacity { vec_capacity out.old ≤ vec_capacity out.new }
+{
+    push_bytes(b"ignored", out);
+    if let Some(name) = kind_name(kind) {
+        push_bytes(b" ", out);
+        push_bytes(name.as_bytes(), out);
+    }
+}
+
+/// Appends the first 32 bytes as text, with `..` after them if there are more.
+fn push_first_column(bytes: &[u8], out: &mut Vec<u8>)
+    requires { vec_len out.old + 130 ≤ vec_capacity out.old }
+    ensures items { out.new.items ≡ out.old.items ++ first_column bytes.now }
+    ensures bounded { vec_len out.new ≤ vec_len out.old + 130 }
+    ensures capacity { vec_capacity out.old ≤ vec_capacity out.new }
+{
+    if bytes.len() > SHOWN {
+        push_all_shown(&bytes[..SHOWN], out);
+        push_bytes(b"..", out);
+    } else {
+        push_all_shown(bytes, out);
+    }
+}

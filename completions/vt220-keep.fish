@@ -11,6 +11,7 @@ complete -c vt220-keep -n "__fish_seen_subcommand_from $sessions" -f -a '(__vt22
 complete -c vt220-keep -n '__fish_seen_subcommand_from new' -s A -d 'Attach to it'
 complete -c vt220-keep -n '__fish_seen_subcommand_from new' -l locale -x -d 'The locale of the command'
 complete -c vt220-keep -n '__fish_seen_subcommand_from new' -l encoding -x -a 'dec utf-8' -d 'What the command writes'
+complete -c vt220-keep -n '__fish_seen_subcommand_from new' -l terminal -x -a 'vt220 xterm' -d 'The terminal that it writes for'
 complete -c vt220-keep -n '__fish_seen_subcommand_from attach' -s r -d 'Only show it'
 complete -c vt220-keep -n '__fish_seen_subcommand_from list' -l tsv -d 'A line for each session, for scripts'
 complete -c vt220-keep -n '__fish_seen_subcommand_from send' -f -a "$keys"

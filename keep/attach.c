@@ -440,6 +440,7 @@ int attach(int socket, const char *name, bool is_read_only) {
     if (result != WIRE_OK) fail(1, "%s %s", name, why);
     it.version = hello.version;
     it.keys.is_utf8 = hello.is_utf8;
+    it.keys.is_xterm = hello.is_xterm;
     it.keys.can_scroll = true;
     int status = hello.is_over ? show_last(name) : follow(name);
     scroll_leave();

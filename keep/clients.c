@@ -194,8 +194,9 @@ static void detach_all(void) {
 static size_t write_line(char *to) {
     char end[64] = "-\t-";
     if (the.is_over) snprintf(end, sizeof end, "%lld\t%d", (long long)the.ending.time, shell_status(the.ending.status));
-    return (size_t)snprintf(to, SMALL_FRAMES, "%s\t%d\t%zu\t%zu\t%ld\t%lld\t%s\t%s\t%s", the.is_over ? "ended" : "running", VT220_ROWS,
-                            vt220_width(&the.terminal), count_attached(), (long)the.command, (long long)the.began, end, the.title, encoding_name(the.is_utf8));
+    return (size_t)snprintf(to, SMALL_FRAMES, "%s\t%d\t%zu\t%zu\t%ld\t%lld\t%s\t%s\t%s\t%s", the.is_over ? "ended" : "running", VT220_ROWS,
+                            vt220_width(&the.terminal), count_attached(), (long)the.command, (long long)the.began, end, the.title,
+                            encoding_name(the.is_utf8), terminal_name(the.is_xterm));
 }
 
 static void answer(struct client *c) {
@@ -225,7 +226,8 @@ static void begin(struct client *c) {
     int len = snprintf((char *)told + 4, sizeof told - 4, "%d.%d.%d", VT220_VERSION / 10000, VT220_VERSION / 100 % 100, VT220_VERSION % 100);
     put(c, FRAME_HELLO, told, 4 + (size_t)len);
     c->ask = (char)c->in[HELLO_ASK];
-    if (has_encoding(c->ask, told[0])) put(c, FRAME_ENCODING, &(uint8_t){the.is_utf8}, 1);
+    if (types_keys(c->ask) && told[0] >= PROTOCOL_ENCODING) put(c, FRAME_ENCODING, &(uint8_t){the.is_utf8}, 1);
+    if (types_keys(c->ask) && told[0] >= PROTOCOL_TERMINAL) put(c, FRAME_TERMINAL, &(uint8_t){the.is_xterm}, 1);
     c->is_read_only = c->in[HELLO_FLAGS] & FLAG_READ_ONLY;
     c->in_len -= HELLO_LENGTH;
     memmove(c->in, c->in + HELLO_LENGTH, c->in_len);

@@ -1,4 +1,4 @@
-/* vt220-keep: keeps programs running in the background, each on an emulated VT220.
+/* vt220-keep: keeps programs running in the background, each on an emulated terminal.
  *   make keeper */
 #include "keep.h"
 #include <errno.h>
@@ -15,9 +15,10 @@
 #include <unistd.h>
 
 static const char usage[] =
-    "usage: vt220-keep new [-A] [--locale=LOCALE] [--encoding=dec|utf-8] NAME COMMAND [ARGUMENT ...]\n"
+    "usage: vt220-keep new [-A] [--locale=LOCALE] [--encoding=dec|utf-8] [--terminal=vt220|xterm] NAME COMMAND [ARGUMENT ...]\n"
     "                                       run a command on a new VT220 in the background;\n"
-    "                                       -A attaches to it, or to the session NAME if there is one\n"
+    "                                       -A attaches to it, or to the session NAME if there is one;\n"
+    "                                       --terminal=xterm: for a command that has TERM=xterm-256color, in UTF-8\n"
     "       vt220-keep attach [-r] NAME     show a session on this terminal, and send it keys; -r only shows it\n"
     "       vt220-keep detach NAME          detach all clients\n"
     "       vt220-keep list [--tsv]         list sessions; --tsv: one line each with tabs, for scripts\n"
@@ -72,7 +73,7 @@ static void set_patience(void) {
 
 struct options {
     bool attaches, is_read_only, is_for_scripts, is_text;
-    const char *locale, *encoding;
+    const char *locale, *encoding, *terminal;
 };
 
 static void check_name(const char *name) {
@@ -111,17 +112,30 @@ static bool is_utf8_locale(const char *named) {
     return strcasestr(named, ".utf-8") != NULL || strcasestr(named, ".utf8") != NULL;
 }
 
-/* Returns whether a new session is in UTF-8: as its option says, or its locale, or that of the environment. */
-static bool is_utf8_wanted(const struct options *options) {
-    bool is_utf8 = options->encoding != NULL && strcmp(options->encoding, encoding_name(true)) == 0;
-    if (options->encoding == NULL) return is_utf8_locale(options->locale != NULL ? options->locale : "");
-    if (!is_utf8 && strcmp(options->encoding, encoding_name(false)) != 0) fail(2, "new: --encoding is dec or utf-8, not '%.100s'", options->encoding);
-    return is_utf8;
+/* Returns whether an option has the second of two names. Ends the program if it has neither. */
+static bool is_second(const char *option, const char *given, const char *first, const char *second) {
+    bool is_so = strcmp(given, second) == 0;
+    if (!is_so && strcmp(given, first) != 0) fail(2, "new: --%s is %s or %s, not '%.100s'", option, first, second, given);
+    return is_so;
+}
+
+/* Returns whether the command of a new session has TERM=xterm-256color. */
+static bool is_xterm_wanted(const struct options *options) {
+    return options->terminal != NULL && is_second("terminal", options->terminal, terminal_name(false), terminal_name(true));
+}
+
+/* Returns whether a new session is in UTF-8: as its option says, or its terminal, or its locale, or that of the environment. */
+static bool is_utf8_wanted(const struct options *options, bool is_xterm) {
+    bool is_named = options->encoding != NULL && is_second("encoding", options->encoding, encoding_name(false), encoding_name(true));
+    if (is_xterm && options->encoding != NULL && !is_named) fail(2, "new: --terminal=xterm is in UTF-8, and doesn't go with --encoding=dec");
+    if (is_xterm || options->encoding != NULL) return is_xterm || is_named;
+    return is_utf8_locale(options->locale != NULL ? options->locale : "");
 }
 
 static int do_new(char **words, const struct options *options) {
     struct folder folder = open_folder();
-    struct beginning beginning = {words[0], options->locale, words + 1, is_utf8_wanted(options)};
+    bool is_xterm = is_xterm_wanted(options);
+    struct beginning beginning = {words[0], options->locale, words + 1, is_utf8_wanted(options, is_xterm), is_xterm};
     check_name(words[0]);
     if (strcmp(words[1], "--") == 0) beginning.command++;
     if (*beginning.command == NULL) fail(2, "new: an argument is missing; vt220-keep --help shows which");
@@ -240,7 +254,7 @@ static const struct command *command_of(const char *word) {
 
 /* Reads the options after the command; returns the index of the first argument. */
 static int read_options(const struct command *command, int argc, char **argv, struct options *options) {
-    static const struct option none[] = {{"help", 0, NULL, 'h'}, {0}}, for_new[] = {{"help", 0, NULL, 'h'}, {"locale", 1, NULL, 'L'}, {"encoding", 1, NULL, 'E'}, {0}},
+    static const struct option none[] = {{"help", 0, NULL, 'h'}, {0}}, for_new[] = {{"help", 0, NULL, 'h'}, {"locale", 1, NULL, 'L'}, {"encoding", 1, NULL, 'E'}, {"terminal", 1, NULL, 'T'}, {0}},
                                for_list[] = {{"help", 0, NULL, 'h'}, {"tsv", 0, NULL, 't'}, {0}};
     const struct option *longer = command->run == do_new ? for_new : command->run == do_list ? for_list : none;
     opterr = 0;
@@ -253,6 +267,7 @@ static int read_options(const struct command *command, int argc, char **argv, st
         case 't': options->is_for_scripts = true; break;
         case 'L': options->locale = optarg; break;
         case 'E': options->encoding = optarg; break;
+        case 'T': options->terminal = optarg; break;
         default: fail(2, "%s: unknown option '%s'; vt220-keep --help lists them", command->word, argv[optind < argc ? optind : argc - 1]);
         }
     }

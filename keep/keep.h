@@ -55,12 +55,14 @@ struct hello {
     uint8_t version, lowest, highest;
     bool is_over; /* the command has ended */
     bool is_utf8; /* its terminal reads UTF-8: known to a client that attaches or sends keys */
+    bool is_xterm; /* the program has TERM=xterm-256color: known to the same clients */
 };
 
 enum { WIRE_OK, WIRE_SILENT, WIRE_FULL, WIRE_OTHER_VERSION };
 
 const char *encoding_name(bool is_utf8);
-bool has_encoding(char ask, uint8_t version); /* whether a client that asks this is sent FRAME_ENCODING */
+const char *terminal_name(bool is_xterm);
+bool types_keys(char ask); /* whether a client that asks this is sent FRAME_ENCODING and FRAME_TERMINAL, if its version has them */
 int wire_begin(int socket, char ask, uint8_t flags, struct hello *hello, char *why);
 bool wire_send(int socket, char letter, const void *bytes, size_t len);
 bool wire_receive(int socket, char *letter, uint8_t *bytes, size_t room, size_t *len);
@@ -82,7 +84,8 @@ bool call_keepers(const struct folder *folder);
 struct beginning {
     const char *name, *locale;
     char **command;
-    bool is_utf8; /* the program reads and writes UTF-8 */
+    bool is_utf8;  /* the program reads and writes UTF-8 */
+    bool is_xterm; /* it has TERM=xterm-256color, and then is in UTF-8 */
 };
 
 #define RESUME "resume" /* the command by which a keeper starts the program that replaces it; its arguments are numbers of files */
@@ -91,24 +94,29 @@ void start_session(const struct folder *folder, const struct beginning *beginnin
 /* Goes on with the session whose state is in a file. If `told` is a file, only reports there whether that is possible. */
 noreturn void resume_session(int state, int told);
 
-/* --- keys.c: what is typed on the outer terminal, as the keys of a VT220 --- */
+/* --- keys.c: what is typed on the outer terminal, as the keys of a VT220 or of an xterm --- */
 
 struct keys {
     uint8_t held[VT220_TYPED_LIMIT]; /* the beginning of a key whose end hasn't come */
     size_t held_len;
     bool is_utf8;    /* characters beyond ASCII are sent as they are typed */
+    bool is_xterm;   /* Home, End, F5 and F13 to F20 are sent as xterm sends them */
     bool rings;      /* something was typed that a VT220 has no key for */
     bool can_scroll; /* PageUp with Shift, Alt or Ctrl isn't sent */
     bool scrolls;    /* it was typed */
 };
 
-enum { KEYS_GROWTH = 2 /* a key has at most this many times the bytes that were typed */ };
+enum {
+    KEYS_GROWTH = 2, /* a key has at most this many times the bytes that were typed */
+    KEY_LIMIT = 8    /* the most bytes of a key that has a name */
+};
 
 size_t keys_translate(struct keys *keys, const vt220 *t, const uint8_t *typed, size_t len, uint8_t *to);
 size_t keys_length(const uint8_t *typed, size_t len);
 size_t keys_flush(struct keys *keys, uint8_t *to); /* what is held isn't the beginning of a key */
-bool keys_meant(const vt220 *t, const char *word, char *meant, size_t room); /* a word is a key's name but for one character */
-size_t keys_named(const vt220 *t, const char *name, uint8_t *to); /* 0 if there is no such key; at most VT220_KEY_LIMIT bytes */
+/* Returns whether a word is a key's name but for one character. */
+bool keys_meant(const struct keys *keys, const vt220 *t, const char *word, char *meant, size_t room);
+size_t keys_named(const struct keys *keys, const vt220 *t, const char *name, uint8_t *to); /* 0 if there is no such key; at most KEY_LIMIT bytes */
 int keys_detach(void); /* the key that detaches, as KEEP_KEY says */
 
 /* --- scroll.c: the log, shown in place of the screen --- */

@@ -1,17 +1,50 @@
-/* What is typed on the outer terminal, as the keys of a VT220.
+/* What is typed on the outer terminal, as the keys of a VT220 or of an xterm.
  *
  * Outer terminals send the cursor keys as `ESC [ A` or `ESC O A`, whichever their own mode asks for, and characters beyond ASCII as
- * UTF-8. vt220_key turns each key into what the program's terminal asks for. A session in UTF-8 gets these characters as they are. */
+ * UTF-8. vt220_key turns each key into what the program's terminal asks for. A session in UTF-8 gets these characters as they are. A
+ * program that has TERM=xterm-256color gets a few keys as xterm sends them. */
 #include "keep.h"
 #include <stdio.h>
 #include <stdlib.h>
 #include <string.h>
+#include <strings.h>
+
+enum { ESC = 0x1B, SS3 = 0x8F, CSI = 0x9B };
 
 static vt220_mode_set modes_of(const vt220 *t) {
     vt220_mode_set modes;
     memset(&modes, 0, sizeof modes);
     vt220_modes(t, &modes);
     return modes;
+}
+
+/* The keys that xterm sends in another way than a VT220, by what comes after CSI, as terminfo has them for xterm-256color: Home and End are
+ * cursor keys, and F13 to F20 are Shift with F1 to F8. */
+static const struct {
+    const char *vt220, *xterm;
+    bool is_cursor; /* SS3 comes before it if DECCKM is set */
+} others[] = {{"1~", "H", true},       {"4~", "F", true},       {"25~", "1;2P", false},  {"26~", "1;2Q", false},  {"28~", "1;2R", false},
+              {"29~", "1;2S", false},  {"31~", "15;2~", false}, {"32~", "17;2~", false}, {"33~", "18;2~", false}, {"34~", "19;2~", false}};
+
+/* Replaces what a VT220 sends for a key by what xterm sends. Returns its length, which is at most KEY_LIMIT. */
+static size_t as_xterm(const vt220_mode_set *modes, uint8_t *sent, size_t len) {
+    size_t head = len > 1 && sent[0] == CSI ? 1 : len > 2 && sent[0] == ESC && sent[1] == '[' ? 2 : 0;
+    for (size_t i = 0; i < sizeof others / sizeof *others && head > 0; i++) {
+        size_t n = strlen(others[i].xterm);
+        if (strlen(others[i].vt220) != len - head || memcmp(sent + head, others[i].vt220, len - head) != 0) continue;
+        if (others[i].is_cursor && modes->decckm) sent[head - 1] = head == 1 ? SS3 : SS3 - 0x40;
+        memcpy(sent + head, others[i].xterm, n);
+        return head + n;
+    }
+    return len;
+}
+
+/* Writes what the key F5 sends, which a VT220 doesn't have: what F6 sends, with another number. */
+static size_t put_f5(const vt220_mode_set *modes, uint8_t *to) {
+    size_t len;
+    vt220_key(modes, "F6", 2, to, KEY_LIMIT, &len);
+    memcpy(to + len - 3, "15", 2);
+    return len;
 }
 
 /* Writes a key that was typed. One that a VT220 doesn't have passes as it came, and so does a character beyond ASCII if the session is in
@@ -21,7 +54,7 @@ static size_t put_key(struct keys *keys, const vt220_mode_set *modes, const uint
     bool is_itself = keys->is_utf8 && *typed >= 0x80;
     uint32_t status = is_itself ? VT220_NO_KEY : vt220_key(modes, (const char *)typed, len, to, KEYS_GROWTH * len, &put);
     if (status == VT220_NO_CHARACTER) keys->rings = true;
-    if (status != VT220_NO_KEY) return put;
+    if (status != VT220_NO_KEY) return keys->is_xterm ? as_xterm(modes, to, put) : put;
     memcpy(to, typed, len);
     return len;
 }
@@ -64,38 +97,39 @@ size_t keys_flush(struct keys *keys, uint8_t *to) {
     return len;
 }
 
-size_t keys_named(const vt220 *t, const char *name, uint8_t *to) {
+size_t keys_named(const struct keys *keys, const vt220 *t, const char *name, uint8_t *to) {
     vt220_mode_set modes = modes_of(t);
     size_t put;
-    vt220_key(&modes, name, strlen(name), to, VT220_KEY_LIMIT, &put);
-    return put;
+    if (keys->is_xterm && strcasecmp(name, "F5") == 0) return put_f5(&modes, to);
+    vt220_key(&modes, name, strlen(name), to, KEY_LIMIT, &put);
+    return keys->is_xterm ? as_xterm(&modes, to, put) : put;
 }
 
 /* Tries a word with one character more, less or another one at a place. Returns whether that is a key's name, which `meant` then has. */
-static bool is_near(const vt220 *t, const char *word, size_t at, char *meant, size_t room) {
+static bool is_near(const struct keys *keys, const vt220 *t, const char *word, size_t at, char *meant, size_t room) {
     static const char others[] = "abcdefghijklmnopqrstuvwxyz0123456789";
-    uint8_t key[VT220_KEY_LIMIT];
+    uint8_t key[KEY_LIMIT];
     snprintf(meant, room, "%.*s%s", (int)at, word, word + at + 1);
-    if (keys_named(t, meant, key) > 0) return true;
+    if (keys_named(keys, t, meant, key) > 0) return true;
     for (const char *other = others; *other != 0; other++) {
         snprintf(meant, room, "%.*s%c%s", (int)at, word, *other, word + at + 1);
-        if (keys_named(t, meant, key) > 0) return true;
+        if (keys_named(keys, t, meant, key) > 0) return true;
         snprintf(meant, room, "%.*s%c%s", (int)at, word, *other, word + at);
-        if (keys_named(t, meant, key) > 0) return true;
+        if (keys_named(keys, t, meant, key) > 0) return true;
     }
     return false;
 }
 
 /* Returns whether a word that is no key was hardly meant as text: ^ and a character, F and a number, or a word with a capital that differs
  * from a key's name by one character. `meant` then has that name, or nothing. */
-bool keys_meant(const vt220 *t, const char *word, char *meant, size_t room) {
+bool keys_meant(const struct keys *keys, const vt220 *t, const char *word, char *meant, size_t room) {
     size_t len = strlen(word);
     bool is_function = word[0] == 'F' && len > 1 && strspn(word + 1, "0123456789") == len - 1;
     *meant = 0;
     if ((word[0] == '^' && len == 2) || is_function) return true;
     if (len < 4 || len + 2 > room || word[0] < 'A' || word[0] > 'Z') return false;
     for (size_t at = 0; at < len; at++) {
-        if (is_near(t, word, at, meant, room)) return true;
+        if (is_near(keys, t, word, at, meant, room)) return true;
     }
     *meant = 0;
     return false;

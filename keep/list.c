@@ -141,8 +141,8 @@ static const char *day_and_time(const char *seconds, char *to, size_t room) {
     return to;
 }
 
-/* A keeper's line: state, rows, columns, clients, process, start, end, exit status, words, encoding; with tabs between them. A list for the
- * eye doesn't have the last one. */
+/* A keeper's line: state, rows, columns, clients, process, start, end, exit status, words, encoding, terminal; with tabs between them. A list
+ * for the eye doesn't have the last two. */
 static void show(const char *name, char *line, bool is_for_scripts) {
     char *field[FIELDS], began[32], ended[32], state[80];
     if (is_for_scripts) {

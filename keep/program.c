@@ -1,4 +1,4 @@
-/* The keeper's side of the program: its pseudo-terminal, and the VT220 that plays what it writes. */
+/* The keeper's side of the program: its pseudo-terminal, and the terminal that plays what it writes. */
 #include "session.h"
 #include <errno.h>
 #include <fcntl.h>
@@ -47,6 +47,7 @@ bool settle(void) {
     size_t len = 0;
     bool is_between = vt220_update(&the.settled, &the.terminal, &the.scratch, unused, sizeof unused, &len) == VT220_OK;
     if (is_between) the.since_len = 0, the.settled_pending = the.pending;
+    if (is_between && the.is_xterm) vt220_xterm_copy(&the.settled_front, &the.front);
     if (is_between && len > 0) the.changes++;
     if (the.width != vt220_width(&the.terminal)) {
         the.width = vt220_width(&the.terminal);
@@ -75,7 +76,10 @@ void remember(const uint8_t *bytes, size_t len) {
 static void feed(const uint8_t *bytes, size_t len) {
     static uint8_t reports[PIECE * VT220_REPORT_LIMIT], lines[PIECE * VT220_ROW_TEXT_LIMIT];
     for (size_t n = 1, written, lines_written; len > 0 && n > 0; bytes += n, len -= n) {
-        if (the.is_utf8) {
+        if (the.is_xterm) {
+            n = vt220_feed_log_xterm(&the.terminal, &the.scratch, &the.front, bytes, len, reports, sizeof reports, &written, lines,
+                                     sizeof lines, &lines_written);
+        } else if (the.is_utf8) {
             n = vt220_feed_log_utf8(&the.terminal, &the.scratch, &the.pending, bytes, len, reports, sizeof reports, &written, lines,
                                     sizeof lines, &lines_written);
         } else {
@@ -88,8 +92,9 @@ static void feed(const uint8_t *bytes, size_t len) {
 }
 
 /* Plays bytes of the program again, on a terminal. */
-void replay(vt220 *t, vt220_utf8 *pending, const uint8_t *bytes, size_t len) {
-    if (the.is_utf8) vt220_feed_utf8(t, pending, bytes, len, NULL, 0, NULL);
+void replay(vt220 *t, vt220_utf8 *pending, vt220_xterm *front, const uint8_t *bytes, size_t len) {
+    if (the.is_xterm) vt220_feed_xterm(t, front, bytes, len, NULL, 0, NULL);
+    else if (the.is_utf8) vt220_feed_utf8(t, pending, bytes, len, NULL, 0, NULL);
     else vt220_feed(t, bytes, len, NULL, 0, NULL);
 }
 
@@ -159,7 +164,7 @@ static void set_environment(const struct beginning *beginning) {
         "LINES", "STY", "TERMCAP", "TERMINFO", "TERM_PROGRAM", "TERM_PROGRAM_VERSION", "TERM_SESSION_ID", "TMUX", "TMUX_PANE",
         "VTE_VERSION", "WEZTERM_PANE", "WINDOW", "WINDOWID", "XTERM_LOCALE", "XTERM_SHELL", "XTERM_VERSION", "ZELLIJ"};
     for (size_t i = 0; i < sizeof others / sizeof *others; i++) unsetenv(others[i]);
-    setenv("TERM", "vt220", 1);
+    setenv("TERM", beginning->is_xterm ? "xterm-256color" : "vt220", 1);
     setenv("KEEP_SESSION", the.name, 1);
     setenv("KEEP_ENCODING", encoding_name(beginning->is_utf8), 1);
     const char *locale = beginning->locale != NULL ? beginning->locale : beginning->is_utf8 ? "" : "C";

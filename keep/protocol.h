@@ -15,10 +15,11 @@
 
 enum {
     PROTOCOL_LOWEST = 1,
-    PROTOCOL_HIGHEST = 4,
+    PROTOCOL_HIGHEST = 5,
     PROTOCOL_LOG = 2,    /* since this version there is a log */
     PROTOCOL_UPGRADE = 3, /* since this version a keeper can become another program */
-    PROTOCOL_ENCODING = 4 /* since this version a client knows whether keys are sent in UTF-8 */
+    PROTOCOL_ENCODING = 4, /* since this version a client knows whether keys are sent in UTF-8 */
+    PROTOCOL_TERMINAL = 5 /* since this version a client knows whether keys are those of xterm */
 };
 enum { HELLO_LENGTH = 8, HELLO_MAGIC = 4, HELLO_LOWEST = 4, HELLO_HIGHEST = 5, HELLO_ASK = 6, HELLO_FLAGS = 7 };
 
@@ -50,6 +51,7 @@ enum {
 enum {
     FRAME_HELLO = 'H',
     FRAME_ENCODING = 'C', /* since version 4, right after FRAME_HELLO, for a client that attaches or sends keys: 1 for UTF-8, otherwise 0 */
+    FRAME_TERMINAL = 'X', /* since version 5, right after FRAME_ENCODING: 1 if the program has TERM=xterm-256color, otherwise 0 */
     FRAME_PLAY = 'P',     /* a repaint first, then updates: the client plays them on its terminal */
     FRAME_BELL = 'B',     /* the program rang the bell */
     FRAME_SCREEN = 'T',   /* the log begins: the text of the screen, which follows the last line of the log */

@@ -46,14 +46,18 @@ static void play_repaint(const struct folder *folder) {
     for (size_t at = 0; at < len;) at += vt220_feed(&it.terminal, it.bytes + at, len - at, none, sizeof none, &reports);
 }
 
+static const char *keyboard(void) {
+    return it.keys.is_xterm ? "an xterm" : "a VT220";
+}
+
 /* Ends the program if one of these words was hardly meant as text. Nothing is sent then. */
 static void look_at_names(char **keys) {
-    uint8_t key[VT220_KEY_LIMIT];
+    uint8_t key[KEY_LIMIT];
     char meant[NAME_LIMIT];
     for (; *keys != NULL; keys++) {
-        if (keys_named(&it.terminal, *keys, key) > 0 || !keys_meant(&it.terminal, *keys, meant, sizeof meant)) continue;
-        if (*meant != 0) fail(2, "a VT220 has no key %s; is it %s? With -l it is sent as text", *keys, meant);
-        fail(2, "a VT220 has no key %s; with -l it is sent as text", *keys);
+        if (keys_named(&it.keys, &it.terminal, *keys, key) > 0 || !keys_meant(&it.keys, &it.terminal, *keys, meant, sizeof meant)) continue;
+        if (*meant != 0) fail(2, "%s has no key %s; is it %s? With -l it is sent as text", keyboard(), *keys, meant);
+        fail(2, "%s has no key %s; with -l it is sent as text", keyboard(), *keys);
     }
 }
 
@@ -65,15 +69,16 @@ void send_keys_to(const struct folder *folder, const char *name, char **keys, bo
     size_t len;
     it.name = name;
     play_repaint(folder);
-    if (!is_text) look_at_names(keys);
     it.socket = existing(folder, name);
     if (wire_begin(it.socket, ASK_SEND, 0, &hello, why) != WIRE_OK) fail(1, "%s %s", name, why);
     it.keys.is_utf8 = hello.is_utf8;
+    it.keys.is_xterm = hello.is_xterm;
+    if (!is_text) look_at_names(keys);
     if (hello.is_over) fail(1, "the command of %s has ended", name);
     if (*keys == NULL) send_input();
     for (; *keys != NULL; keys++) {
         bool is_itself = it.keys.is_utf8 && (uint8_t)**keys >= 0x80; /* a character, which is a key's name only on a VT220 */
-        len = is_text || is_itself ? 0 : keys_named(&it.terminal, *keys, key);
+        len = is_text || is_itself ? 0 : keys_named(&it.keys, &it.terminal, *keys, key);
         if (len > 0) send_bytes(key, len);
         else send_text(*keys, strlen(*keys));
     }

@@ -20,7 +20,9 @@
 #include <sys/wait.h>
 #include <unistd.h>
 
-enum { FORM_LOWEST = 1, FORM = 2 /* since form 2 there is ITEM_ENCODING */ };
+/* Since form 2 there is ITEM_ENCODING, and since form 3 ITEM_TERMINAL. A session without the latter is written in form 2, so that a program
+ * that knows no form 3 can go on with it. */
+enum { FORM_LOWEST = 1, FORM_ENCODING = 2, FORM = 3 };
 
 static const char fits[] = "can go on"; /* what the new program reports; anything else is the reason why it can't */
 
@@ -29,7 +31,7 @@ struct heading {
     uint32_t form;
 };
 
-static const struct heading the_heading = {"keep: state", FORM};
+static const char magic[] = "keep: state";
 
 enum {
     ITEM_SESSION = 'S', /* a struct handed_session */
@@ -37,7 +39,8 @@ enum {
     ITEM_FOLDER = 'D', /* the path of its directory */
     ITEM_TITLE = 'T',
     ITEM_ENCODING = 'E', /* `settled_pending`, if the session is in UTF-8 */
-    ITEM_SCREEN = 'P', /* the repaint of `settled` */
+    ITEM_TERMINAL = 'X', /* instead of it, and empty, if the command has TERM=xterm-256color */
+    ITEM_SCREEN = 'P', /* the repaint of `settled`, or with ITEM_TERMINAL what rebuilds `settled` and `settled_front` */
     ITEM_SINCE = 'H',  /* what was played since then, inside a sequence */
     ITEM_KEYS = 'K',   /* what waits for the program; several items, in their order */
     ITEM_REPORTS = 'R',
@@ -87,21 +90,39 @@ static void put_session(FILE *to) {
     put_item(to, ITEM_TITLE, the.title, strlen(the.title));
 }
 
-/* Writes the terminal. Returns false if these bytes don't lead to its state, since the middle of a long sequence isn't kept. */
-static bool put_terminal(FILE *to, char *why) {
-    static uint8_t bytes[VT220_PAINT_LIMIT];
-    vt220 other = VT220_INIT;
+/* Plays what ITEM_SCREEN has. Returns how many bytes were played. */
+static size_t rebuild(vt220 *t, vt220_xterm *front, const uint8_t *bytes, size_t len) {
+    return the.is_xterm ? vt220_feed_xterm(t, front, bytes, len, NULL, 0, NULL) : vt220_feed(t, bytes, len, NULL, 0, NULL);
+}
+
+/* Returns whether these bytes, and then those that were played since `settled`, lead to the terminal's state. They don't if the middle of a
+ * long sequence wasn't kept. */
+static bool leads_here(vt220 *other, vt220_xterm *front, const uint8_t *bytes, size_t len) {
     vt220_utf8 pending = the.settled_pending;
+    rebuild(other, front, bytes, len);
+    replay(other, &pending, front, the.since, the.since_len);
+    if (the.is_xterm) return front_is_same(&the.terminal, &the.front, other, front);
+    return vt220_same_state(other, &the.terminal) && memcmp(&pending, &the.pending, sizeof pending) == 0;
+}
+
+/* Writes the terminal. Returns false if what is written doesn't lead to its state. */
+static bool put_terminal(FILE *to, char *why) {
+    static uint8_t bytes[FRONT_LIMIT];
+    vt220 other = VT220_INIT;
+    vt220_xterm front = VT220_INIT;
     size_t len = 0;
-    if (the.is_utf8) put_item(to, ITEM_ENCODING, &pending, sizeof pending);
-    vt220_repaint(&the.settled, &the.scratch, bytes, sizeof bytes, &len);
+    if (the.is_xterm) put_item(to, ITEM_TERMINAL, "", 0);
+    else if (the.is_utf8) put_item(to, ITEM_ENCODING, &the.settled_pending, sizeof the.settled_pending);
+    bool is_written = the.is_xterm ? front_paint(&the.settled, &the.settled_front, &the.scratch, bytes, &len)
+                                   : vt220_repaint(&the.settled, &the.scratch, bytes, sizeof bytes, &len) == VT220_OK;
     put_item(to, ITEM_SCREEN, bytes, len);
     put_item(to, ITEM_SINCE, the.since, the.since_len);
-    if (vt220_open(&other) != VT220_OK) return refused(why, "out of memory");
-    vt220_feed(&other, bytes, len, NULL, 0, NULL);
-    replay(&other, &pending, the.since, the.since_len);
-    bool is_same = vt220_same_state(&other, &the.terminal) && memcmp(&pending, &the.pending, sizeof pending) == 0;
+    bool is_open = vt220_open(&other) == VT220_OK && (!the.is_xterm || vt220_xterm_open(&front) == VT220_OK);
+    bool is_same = is_open && is_written && leads_here(&other, &front, bytes, len);
     vt220_close(&other);
+    vt220_xterm_close(&front);
+    if (!is_open) return refused(why, "out of memory");
+    if (!is_written) return refused(why, "its terminal can't be written as bytes");
     return is_same || refused(why, "the command is inside a long control sequence; try again later");
 }
 
@@ -131,7 +152,9 @@ static void put_client(FILE *to, const struct client *c) {
 }
 
 static bool put_state(FILE *to, char *why) {
-    fwrite(&the_heading, sizeof the_heading, 1, to);
+    struct heading heading = {.form = the.is_xterm ? FORM : FORM_ENCODING};
+    memcpy(heading.magic, magic, sizeof magic);
+    fwrite(&heading, sizeof heading, 1, to);
     put_session(to);
     if (!put_terminal(to, why)) return false;
     put_input(to);
@@ -269,6 +292,16 @@ static bool take_encoding(const uint8_t *bytes, size_t len) {
     return true;
 }
 
+static bool take_terminal(void) {
+    the.is_utf8 = the.is_xterm = true;
+    return open_fronts();
+}
+
+static bool take_screen(const uint8_t *bytes, size_t len) {
+    rebuild(&the.settled, &the.settled_front, bytes, len);
+    return rebuild(&the.terminal, &the.front, bytes, len) == len;
+}
+
 static bool take_text(char *to, size_t room, const uint8_t *bytes, size_t len) {
     if (len >= room) return false;
     memcpy(to, bytes, len);
@@ -314,8 +347,9 @@ static bool take_item(char letter, const uint8_t *bytes, size_t len) {
     case ITEM_FOLDER: return take_text(the.folder.path, sizeof the.folder.path, bytes, len);
     case ITEM_TITLE: return take_text(the.title, sizeof the.title, bytes, len);
     case ITEM_ENCODING: return take_encoding(bytes, len);
-    case ITEM_SCREEN: vt220_feed(&the.settled, bytes, len, NULL, 0, NULL); return vt220_feed(&the.terminal, bytes, len, NULL, 0, NULL) == len;
-    case ITEM_SINCE: remember(bytes, len); replay(&the.terminal, &the.pending, bytes, len); return true;
+    case ITEM_TERMINAL: return take_terminal();
+    case ITEM_SCREEN: return take_screen(bytes, len);
+    case ITEM_SINCE: remember(bytes, len); replay(&the.terminal, &the.pending, &the.front, bytes, len); return true;
     case ITEM_KEYS: return add_input(bytes, len, false);
     case ITEM_REPORTS: return add_input(bytes, len, true);
     case ITEM_LINES: log_append(bytes, len); return true;
@@ -342,14 +376,13 @@ static bool take_items(const uint8_t *bytes, size_t len) {
 bool take_over(int state, char *why) {
     struct stat it;
     struct heading heading;
-    bool is_open = vt220_open(&the.terminal) == VT220_OK && vt220_open(&the.settled) == VT220_OK;
-    if (!is_open || vt220_scratch_open(&the.scratch) != VT220_OK) return refused(why, "out of memory");
+    if (!open_terminals()) return refused(why, "out of memory");
     if (fstat(state, &it) != 0 || (size_t)it.st_size < sizeof heading) return refused(why, "there is no state");
     size_t len = (size_t)it.st_size;
     uint8_t *bytes = mmap(NULL, len, PROT_READ, MAP_PRIVATE, state, 0);
     if (bytes == MAP_FAILED) return refused(why, "its state can't be read: %s", strerror(errno));
     memcpy(&heading, bytes, sizeof heading);
-    bool is_state = memcmp(heading.magic, the_heading.magic, sizeof heading.magic) == 0, is_known = is_state && heading.form >= FORM_LOWEST && heading.form <= FORM;
+    bool is_state = memcmp(heading.magic, magic, sizeof magic) == 0, is_known = is_state && heading.form >= FORM_LOWEST && heading.form <= FORM;
     bool is_fine = is_known && take_items(bytes + sizeof heading, len - sizeof heading);
     munmap(bytes, len);
     close(state);

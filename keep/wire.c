@@ -24,8 +24,12 @@ const char *encoding_name(bool is_utf8) {
     return is_utf8 ? "utf-8" : "dec";
 }
 
-bool has_encoding(char ask, uint8_t version) {
-    return version >= PROTOCOL_ENCODING && (ask == ASK_ATTACH || ask == ASK_SEND);
+const char *terminal_name(bool is_xterm) {
+    return is_xterm ? "xterm" : "vt220";
+}
+
+bool types_keys(char ask) {
+    return ask == ASK_ATTACH || ask == ASK_SEND;
 }
 
 static bool receive(int socket, void *to, size_t len) {
@@ -65,14 +69,22 @@ bool wire_receive(int socket, char *letter, uint8_t *bytes, size_t room, size_t 
     return length <= room && receive(socket, bytes, length);
 }
 
-/* Reads the frame that has the session's encoding, if one is sent. An older keeper's session isn't in UTF-8. */
-static int receive_encoding(int socket, char ask, struct hello *hello) {
+/* Reads a frame that has a byte, which is 0 or 1. */
+static bool receive_flag(int socket, char wanted, bool *flag) {
     uint8_t told = 0;
     char letter;
     size_t len;
-    if (!has_encoding(ask, hello->version)) return WIRE_OK;
-    if (!wire_receive(socket, &letter, &told, sizeof told, &len) || letter != FRAME_ENCODING) return WIRE_SILENT;
-    hello->is_utf8 = told == 1;
+    if (!wire_receive(socket, &letter, &told, sizeof told, &len) || letter != wanted) return false;
+    *flag = told == 1;
+    return true;
+}
+
+/* Reads the frames that have the session's encoding and its terminal, if they are sent. An older keeper's session isn't in UTF-8, and its
+ * program writes for a VT220. */
+static int receive_session(int socket, char ask, struct hello *hello) {
+    if (!types_keys(ask)) return WIRE_OK;
+    if (hello->version >= PROTOCOL_ENCODING && !receive_flag(socket, FRAME_ENCODING, &hello->is_utf8)) return WIRE_SILENT;
+    if (hello->version >= PROTOCOL_TERMINAL && !receive_flag(socket, FRAME_TERMINAL, &hello->is_xterm)) return WIRE_SILENT;
     return WIRE_OK;
 }
 
@@ -94,8 +106,8 @@ int wire_begin(int socket, char ask, uint8_t flags, struct hello *hello, char *w
     }
     if (letter != FRAME_HELLO || len < 4) return WIRE_SILENT;
     told[len] = 0;
-    *hello = (struct hello){told[0], told[1], told[2], told[3] != 0, false};
-    if (hello->version >= PROTOCOL_LOWEST && hello->version <= PROTOCOL_HIGHEST) return receive_encoding(socket, ask, hello);
+    *hello = (struct hello){.version = told[0], .lowest = told[1], .highest = told[2], .is_over = told[3] != 0};
+    if (hello->version >= PROTOCOL_LOWEST && hello->version <= PROTOCOL_HIGHEST) return receive_session(socket, ask, hello);
     for (uint8_t *at = told + 4; *at != 0; at++) *at = *at >= ' ' && *at <= '~' ? *at : '?';
     snprintf(why, WHY_LIMIT, "is kept by keep %.100s, which speaks protocol %u to %u; this one speaks %u to %u", (char *)told + 4,
              hello->lowest, hello->highest, PROTOCOL_LOWEST, PROTOCOL_HIGHEST);

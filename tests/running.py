@@ -111,11 +111,20 @@ def finish(results):
     return 1 if failed else 0
 
 
+def rows(name):
+    """Returns the fields of each line of a list in tests/."""
+    lines = [line for line in (TOP / "tests" / name).read_text().splitlines() if line.strip() and not line.startswith("#")]
+    return [[field.strip() for field in line.split("|")] for line in lines]
+
+
 def gate_suites():
     """Returns the suites of tests/suites.txt: for each name its command, and its short command or None."""
-    lines = [line for line in (TOP / "tests/suites.txt").read_text().splitlines() if line.strip() and not line.startswith("#")]
-    fields = [[field.strip() for field in line.split("|")] for line in lines]
-    return {name: (whole, None if short == "-" else short) for name, whole, short in fields}
+    return {name: (whole, None if short == "-" else short) for name, whole, short in rows("suites.txt")}
+
+
+def untried():
+    """Returns the tests of tests/untried.txt, each with the reason."""
+    return dict(rows("untried.txt"))
 
 
 def options(text, *known):

@@ -13,7 +13,7 @@ import sys
 import threading
 import time
 
-from .config import ENCODINGS, Beyond, Settings, Unclear, seconds, within
+from .config import CHOICES, Beyond, Settings, Unclear, seconds, within
 
 LEAVING = 10.0  # seconds to wait for a store after a signal to end
 TAKEN, FAULT, NONE, REFUSED, UNFIT, DENIED, CONFIGURATION = 5, 4, 3, 6, 69, 77, 78
@@ -82,16 +82,24 @@ def do_host(words, settings):
     store = settings.connect(waits=True)
     store.examine(settings.store.unsafe)
     made = store, words.name, settings.host.lease, words.input or settings.host.input
-    encoding = words.encoding or settings.host.encoding
+    language = chosen_language(words, settings.host)
     if not words.replay:
-        return keep_running(made, encoding, words, settings)
-    host = Host(*made, words.replay, encoding=encoding)
+        return keep_running(made, language, words, settings)
+    host = Host(*made, words.replay, None, *language)
     host.register()
     host.end(replay(host, words.replay, words.rate))
     return 0
 
 
-def keep_running(made, encoding, words, settings):
+def chosen_language(words, chosen):
+    """Returns the encoding and the terminal of a session, of the command line or of the configuration. Under TERM=xterm all is UTF-8."""
+    terminal = words.terminal or chosen.terminal
+    if terminal == "xterm" and words.encoding == "dec":
+        raise Unclear("--terminal xterm is in UTF-8, and doesn't go with --encoding dec")
+    return "utf-8" if terminal == "xterm" else words.encoding or chosen.encoding, terminal
+
+
+def keep_running(made, language, words, settings):
     """Runs a command as a session, or goes on with it if its host was killed or is another version's. Returns its exit status."""
     from . import wire
     from .host import Host
@@ -99,8 +107,8 @@ def keep_running(made, encoding, words, settings):
 
     path = wire.path_of(settings.store.url, words.name)
     link, state = held(path, words.command)
-    incarnation, encoding = (state["incarnation"], state["encoding"]) if state else (None, encoding)
-    host = Host(*made, " ".join(words.command), incarnation, encoding)
+    incarnation, *language = (state["incarnation"], state["encoding"], state["terminal"]) if state else (None, *language)
+    host = Host(*made, " ".join(words.command), incarnation, *language)
     try:
         host.resume()
     except Exception:
@@ -209,7 +217,7 @@ def do_type(store, incarnation, words):
     data = os.fsencode(words.text) if words.text is not None else sys.stdin.buffer.read()
     terminal = as_it_is(store, incarnation).terminal
     modes = terminal.modes()
-    keys = typed(data, modes, terminal.encoding)
+    keys = typed(data, modes, terminal.encoding, terminal.terminal)
     if keys.refused:
         raise ValueError(f"no key of a VT220 sends {keys.refused!r}")
     typist = Typist(store, incarnation)
@@ -289,7 +297,8 @@ def add_hosts(add):
     each.add_argument("--metrics", metavar="HOST:PORT", help="serves metrics for Prometheus at this address")
     each = add("host", do_host, "runs a command on a pseudo-terminal of 24 rows by 80 columns, as a session")
     each.add_argument("--input", action="store_true", help="allows viewers to type")
-    each.add_argument("--encoding", choices=ENCODINGS, help="what the command writes: the VT220's own bytes, or UTF-8 (dec)")
+    each.add_argument("--encoding", choices=CHOICES["encoding"], help="what the command writes: the VT220's own bytes, or UTF-8 (dec)")
+    each.add_argument("--terminal", choices=CHOICES["terminal"], help="the terminal that the command writes for; xterm is in UTF-8 (vt220)")
     each.add_argument("--replay", metavar="FILE", help="sends a file's bytes instead of running a command")
     each.add_argument("--user", help="runs the command as this user, which needs root: so it can't read what this host reads")
     each.add_argument("--rate", type=option(int, "rate"), default=9600, help="bytes a second for --replay (9600)")

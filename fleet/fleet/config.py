@@ -11,7 +11,7 @@ from .store import connect
 
 PATHS = ("~/.config/vt220-fleet.conf", "/etc/vt220-fleet.conf")
 DEFAULT_STORE = "redis://127.0.0.1:6379"
-ENCODINGS = ("dec", "utf-8")  # of what a session's program writes
+CHOICES = {"encoding": ("dec", "utf-8"), "terminal": ("vt220", "xterm")}  # of what a session's program writes
 
 
 class Unclear(Exception):
@@ -48,6 +48,7 @@ class Host:
     user: str = ""
     orphan: float = 7 * 86400.0
     encoding: str = "dec"
+    terminal: str = "vt220"
 
 
 @dataclass
@@ -90,8 +91,8 @@ def value_of(kind, text, where, name):
             return YES[text.lower()]
         if text.lower() in NO_LIMIT and kind in (int, float):
             return None
-        if name == "encoding" and text not in ENCODINGS:
-            raise Beyond(f"expected one of {', '.join(ENCODINGS)}")
+        if name in CHOICES and text not in CHOICES[name]:
+            raise Beyond(f"expected one of {', '.join(CHOICES[name])}")
         return kind(text) if kind is str else within(name, seconds(text) if kind is float else kind(text))
     except Beyond as error:
         raise Unclear(f"{where} = {text}: {error}") from None

@@ -6,8 +6,9 @@ import struct
 import subprocess
 
 import vt220.page
+from vt220.process import TERMS
 
-from .keys import encoding_of, key
+from .keys import key, language_of
 from .session import bytes_of
 
 PROGRAM = os.path.join(os.path.dirname(os.path.abspath(__file__)), "..", "..", "crates", "vt220", "out", "vt220")
@@ -28,20 +29,20 @@ def log(store, incarnation, out):
     return first or 0
 
 
-def encoding(store, incarnation):
-    """Returns the encoding of a session's bytes."""
-    return encoding_of(store.hget(key(incarnation, "about"), "encoding"))
+def language(store, incarnation):
+    """Returns the encoding of a session's bytes, and the terminal that they are for."""
+    return language_of(*store.hmget(key(incarnation, "about"), "encoding", "terminal"))
 
 
 def asciicast(store, incarnation, title, out):
     """Writes an asciicast, version 2. Of a session in UTF-8 the characters are written, with U+FFFD for what is ill-formed. Otherwise
     the bytes 80 to FF are the code points U+0080 to U+00FF."""
-    begin = None
-    decode = codecs.getincrementaldecoder("utf-8" if encoding(store, incarnation) == "utf-8" else "latin-1")("replace").decode
+    begin, (encoding, terminal) = None, language(store, incarnation)
+    decode = codecs.getincrementaldecoder("utf-8" if encoding == "utf-8" else "latin-1")("replace").decode
     for _, moment, data in bytes_of(store, incarnation):
         if begin is None:
             begin = moment
-            head = {"version": 2, "width": 80, "height": 24, "timestamp": begin // 1000, "title": title, "env": {"TERM": "vt220"}}
+            head = {"version": 2, "width": 80, "height": 24, "timestamp": begin // 1000, "title": title, "env": {"TERM": TERMS[terminal]}}
             out.write(json.dumps(head).encode() + b"\n")
         out.write(event(moment - begin, decode(data)))
     if begin is not None and (rest := decode(b"", True)):
@@ -60,9 +61,10 @@ def ttyrec(store, incarnation, out):
 
 def page(store, incarnation, title, out):
     """Writes a page that plays the session in a browser."""
+    encoding, terminal = language(store, incarnation)
     parts = [(moment, data) for _, moment, data in bytes_of(store, incarnation)]
     chunks = [((moment - parts[0][0]) * 1000, len(data)) for moment, data in parts]
-    out.write(vt220.page.page(b"".join(data for _, data in parts), chunks, title, encoding=encoding(store, incarnation)).encode())
+    out.write(vt220.page.page(b"".join(data for _, data in parts), chunks, title, encoding=encoding, terminal=terminal).encode())
 
 
 def picture(repaint):

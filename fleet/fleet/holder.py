@@ -2,7 +2,7 @@
 host, which may crash or be replaced by a newer one. It depends on no other package, and changes seldom.
 
 It runs as `python3 -I -S holder.py`, with JSON on standard input: path, name, incarnation, command, user, after how many seconds without
-a host the program is ended, and the encoding of what it writes.
+a host the program is ended, the encoding of what it writes, and the terminal that it writes for.
 """
 import errno
 import fcntl
@@ -138,7 +138,7 @@ class Holder:
         came, _ = self.listener.accept()
         while self.host and self.hear_host():  # it may have ended, after what it said last
             pass
-        state = {each: self.said[each] for each in ("name", "incarnation", "command", "encoding")} | {"busy": self.host is not None}
+        state = {each: self.said[each] for each in ("name", "incarnation", "command", "encoding", "terminal")} | {"busy": self.host is not None}
         state |= {"base": self.base, "end": self.end(), "last": {stream: last.decode() for stream, last in self.last.items()}, "version": 1}
         came.sendall(wire.packed(wire.STATE, 0, json.dumps(state).encode()))
         if self.host:

@@ -44,14 +44,16 @@ class WentBack(keys.Fault):
 class Host:
     """A session's only writer."""
 
-    def __init__(self, store, name, lease=10.0, takes_input=False, command="", incarnation=None, encoding="dec"):
+    def __init__(self, store, name, lease=10.0, takes_input=False, command="", incarnation=None, encoding="dec", terminal="vt220"):
         self.store, self.name, self.lease = store, keys.checked_name(name), lease
         self.incarnation = incarnation or keys.new_id()
         self.me = f"{os.uname().nodename}:{os.getpid()}:{secrets.token_hex(2)}"  # the store takes bytes from this host alone
         self.about = ["host", self.me, "input", int(takes_input), "command", command[:500]]
-        self.encoding, needed = encoding, keys.NEEDED[encoding]
+        self.language = keys.Language(encoding, terminal)
+        needed = keys.NEEDED[self.language]
         if needed > keys.OLDEST:  # a worker that doesn't know this format doesn't take the session
-            self.about += ["encoding", encoding, "needs", needed]
+            said = zip(keys.Language._fields, self.language, keys.DEC)
+            self.about += [word for name, value, usual in said if value != usual for word in (name, value)] + ["needs", needed]
         self.formats, self.format = keys.FORMATS, needed
         # Seconds between two renewals, which are also those that a read of what comes for the program waits.
         self.beat = min(BEAT, lease / 3)
@@ -79,7 +81,7 @@ class Host:
         answer = self.store.run("register", self.name, self.incarnation, int(self.lease * 1000), self.version(), *self.about)
         if answer[0] != "ok":
             raise Taken(f"the name {self.name!r} is held by the host {keys.shown(answer[1])}")
-        self.renewed, self.format = time.monotonic(), keys.agreed(answer[3], self.formats, encoding=self.encoding)
+        self.renewed, self.format = time.monotonic(), keys.agreed(answer[3], self.formats, self.language)
         return int(answer[1]), int(answer[2])
 
     def version(self):
@@ -240,7 +242,7 @@ class Host:
             self.said_fault = keys.shown(answer[4])
             log.error("%s: no worker can continue this session: %s", self.name, self.said_fault)
         else:
-            self.played, self.format = int(answer[2] or 0), keys.agreed(answer[3], self.formats, encoding=self.encoding)
+            self.played, self.format = int(answer[2] or 0), keys.agreed(answer[3], self.formats, self.language)
 
     # What comes for the program.
 

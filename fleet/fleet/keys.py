@@ -15,12 +15,12 @@ the incarnation, so that a name can be used again without meeting anything of it
     fleet:draining               set of the workers that are to hand their sessions over
     fleet:of:WORKER              set of the incarnations that a worker owns
 
-    fleet:INCARNATION:about      hash: name, host, started, owner, end (of the bytes), played, answered, how it ended, and for UTF-8
-                                 the encoding and the format that the session needs
+    fleet:INCARNATION:about      hash: name, host, started, owner, end (of the bytes), played, answered, how it ended, and unless it is
+                                 a VT220 with its own bytes: the encoding, the terminal, and the format that the session needs
     fleet:INCARNATION:bytes      stream of what the host sent. The id of an entry is POSITION-0, the position after its last byte.
                                  The first entry is 0-1; the last one, POSITION-2, carries the exit status
     fleet:INCARNATION:answers    stream of reports. The id of a report is the position just after the byte that asked for it
-    fleet:INCARNATION:checkpoint hash: a position and the repaint of the terminal there, with length, checksum and versions
+    fleet:INCARNATION:checkpoint hash: a position and bytes that rebuild the terminal there, with length, checksum and versions
     fleet:INCARNATION:view       stream for viewers: a repaint, then updates
     fleet:INCARNATION:keys       stream of what viewers typed
     fleet:INCARNATION:signals    stream of the signals that viewers sent
@@ -36,12 +36,24 @@ import re
 import secrets
 import time
 import unicodedata
+from typing import NamedTuple
 
 import vt220
 
-FORMATS = (2, 3)  # the formats that this program reads and writes; since 3 a session has an encoding
+# The formats that this program reads and writes. Since 3 a session has an encoding, and since 4 a terminal.
+FORMATS = (2, 3, 4)
 FORMAT, OLDEST = max(FORMATS), min(FORMATS)
-NEEDED = {"dec": OLDEST, "utf-8": 3}  # the oldest format in which a session of an encoding is written
+
+
+class Language(NamedTuple):
+    """What a session's program writes: the encoding, and the terminal that it writes for."""
+
+    encoding: str = "dec"
+    terminal: str = "vt220"
+
+
+DEC, UTF8, XTERM = Language(), Language("utf-8"), Language("utf-8", "xterm")
+NEEDED = {DEC: OLDEST, UTF8: 3, XTERM: 4}  # the oldest format in which a session of a language is written
 ALL, LIVE, NAMES, WAITING, SUSPECTS, TRYING, FOREIGN, WORKERS, DRAINING = (
     "fleet:all",
     "fleet:live",
@@ -132,12 +144,13 @@ def now():
     return int(time.time() * 1000)
 
 
-def encoding_of(said):
-    """Returns a session's encoding, as `about` has it. Raises Wrong if there is no such one."""
-    encoding = (said or b"dec").decode("ascii", "replace")
-    if encoding not in NEEDED:
-        raise Wrong(f"the session has the encoding {shown(said)[:40]!r}")
-    return encoding
+def language_of(encoding, terminal):
+    """Returns a session's language, as `about` has it. Raises Wrong if there is no such one."""
+    said = [(each or default.encode()).decode("ascii", "replace") for each, default in zip((encoding, terminal), DEC)]
+    if Language(*said) not in NEEDED:
+        wrong = shown(encoding)[:40], shown(terminal)[:40]
+        raise Wrong(f"the session has the encoding {wrong[0]!r}" + (f" and the terminal {wrong[1]!r}" if terminal else ""))
+    return Language(*said)
 
 
 def version(number=FORMAT):
@@ -152,11 +165,11 @@ def format_of(said):
     return int(words[1]) if words else 0
 
 
-def agreed(said, formats=FORMATS, encoding="dec"):
+def agreed(said, formats=FORMATS, language=DEC):
     """Returns the format to write: the newest one that all living workers know, as the store says, if this program knows it. It is
-    never older than the encoding needs."""
+    never older than the language needs."""
     number = int(said) if said.isdigit() else max(formats)
-    return max(number if number in formats else max(formats), NEEDED[encoding])
+    return max(number if number in formats else max(formats), NEEDED[language])
 
 
 def checked_name(name):
@@ -180,12 +193,12 @@ def checksum(at, repaint):
 
 
 def checkpoint(at, repaint, number=FORMAT):
-    """Returns the fields of a checkpoint."""
+    """Returns the fields of a checkpoint: a position, and bytes that rebuild the terminal there."""
     return {"at": at, "length": len(repaint), "sha256": checksum(at, repaint), "v": version(number), "repaint": repaint}
 
 
 def read_checkpoint(fields, formats=FORMATS):
-    """Returns the position and the repaint of a checkpoint. Raises Damaged if it isn't as it was stored, and Version if it isn't of
+    """Returns the position of a checkpoint, and the bytes that rebuild the terminal. Raises Damaged if it isn't as it was stored, and Version if it isn't of
     one of these formats."""
     if b"v" in fields and format_of(fields[b"v"]) not in formats:
         raise Version("a checkpoint", fields[b"v"])

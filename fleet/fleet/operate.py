@@ -9,7 +9,7 @@ from . import keys
 from .claims import SHOWN
 from .keys import key
 
-FIELDS = ("name", "host", "owner", "end", "played", "seen", "closed", "started", "input", "command", "encoding")
+FIELDS = ("name", "host", "owner", "end", "played", "seen", "closed", "started", "input", "command", "encoding", "terminal")
 COLUMNS = ("NAME", "STATE", "HOST", "WORKER", "LAG", "SIZE", "LAST OUTPUT")
 SIGNALS = {"HUP": 1, "INT": 2, "KILL": 9, "TERM": 15}
 
@@ -63,7 +63,7 @@ def described(incarnation, fields, fault, status):
     made = {"incarnation": incarnation, "name": shown["name"], "host": shown["host"], "worker": shown["owner"]}
     made |= {"fault": keys.shown(fault if isinstance(fault, bytes) else b""), "input": fields["input"] == b"1"}
     made |= {"status": keys.shown(status if isinstance(status, bytes) else b""), "closed": shown["closed"]}
-    made |= {"encoding": keys.shown(fields["encoding"]) or "dec"}
+    made |= {name: keys.shown(fields[name]) or usual for name, usual in keys.DEC._asdict().items()}
     made |= {"command": shown["command"], "size": 0, "lag": 0, "started": 0, "seen": 0}
     try:
         end, played, started, seen = (number(fields[name]) for name in ("end", "played", "started", "seen"))

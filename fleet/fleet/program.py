@@ -11,11 +11,11 @@ import sys
 import threading
 import time
 
-from vt220.process import LOCALES
+from vt220.process import LOCALES, TERMS
 
 from . import wire
 from .host import PIECE, Taken
-from .keys import Fault
+from .keys import DEC, Fault
 
 log = logging.getLogger("fleet.host")
 
@@ -24,10 +24,10 @@ GATHER = 0.003  # seconds that a host waits for more of the same output
 PR_SET_DUMPABLE = 4
 
 
-def clean_environment(encoding):
+def clean_environment(language):
     """Returns the environment for the program: nothing of the fleet's, where an address or a password may be."""
     kept = {name: value for name, value in os.environ.items() if not name.startswith("FLEET_") and "REDIS" not in name}
-    return kept | {"TERM": "vt220", "LC_ALL": LOCALES[encoding], "LINES": "24", "COLUMNS": "80"}
+    return kept | {"TERM": TERMS[language.terminal], "LC_ALL": LOCALES[language.encoding], "LINES": "24", "COLUMNS": "80"}
 
 
 def hide():
@@ -35,14 +35,14 @@ def hide():
     ctypes.CDLL(None).prctl(PR_SET_DUMPABLE, 0, 0, 0, 0)
 
 
-def start_holder(path, name, incarnation, command, user=None, orphan=None, encoding="dec"):
+def start_holder(path, name, incarnation, command, user=None, orphan=None, language=DEC):
     """Starts the holder of a session's program. Raises OSError if it can't be."""
     if os.path.exists(path) and not wire.connected(path):
         os.unlink(path)  # of one that was killed
-    said = {"path": path, "name": name, "incarnation": incarnation, "command": command, "user": user, "orphan": orphan, "encoding": encoding}
+    said = {"path": path, "name": name, "incarnation": incarnation, "command": command, "user": user, "orphan": orphan} | language._asdict()
     words = [sys.executable, "-I", "-S", HOLDER]
     pipes = {"stdin": subprocess.PIPE, "stdout": subprocess.PIPE, "stderr": subprocess.DEVNULL}
-    made = subprocess.Popen(words, env=clean_environment(encoding), start_new_session=True, **pipes)
+    made = subprocess.Popen(words, env=clean_environment(language), start_new_session=True, **pipes)
     made.stdin.write(json.dumps(said).encode())
     made.stdin.close()
     answer = made.stdout.readline().decode().strip()
@@ -67,12 +67,12 @@ def held(path, command):
         link.close()
         why = "a host of this machine" if state["busy"] else f"another command here: {' '.join(state['command'])}"
         raise Taken(f"the name {state['name']!r} is held by {why}")
-    return link, {"encoding": "dec"} | state | {"reader": reader, "early": found[1:]}
+    return link, DEC._asdict() | state | {"reader": reader, "early": found[1:]}
 
 
 def started(host, command, path, user=None, orphan=None):
     """Starts a command behind a holder, for a host that is registered. Returns it as a Program."""
-    start_holder(path, host.name, host.incarnation, command, user, orphan, host.encoding)
+    start_holder(path, host.name, host.incarnation, command, user, orphan, host.language)
     return Program(host, *held(path, command))
 
 

@@ -1,23 +1,32 @@
 """A session's terminal, and how it is rebuilt from what the store has.
 
-A terminal's state is a function of the bytes. The repaint of a state, played on any terminal, leaves exactly that state. Bytes
-may be cut anywhere. So a checkpoint and the bytes after its position are the session, for any process that has both. In UTF-8 a
-checkpoint's position is before the bytes that begin a character and wait for its other bytes.
+A terminal's state is a function of the bytes. The bytes that rebuild a state (rebuild.py), played on any terminal, leave exactly that
+state. Bytes may be cut anywhere. So a checkpoint and the bytes after its position are the session, for any process that has both. In UTF-8
+a checkpoint's position is before the bytes that begin a character and wait for its other bytes.
 """
 import vt220
 
-from .keys import FORMATS, Damaged, Long, Lost, Trimmed, Version, Wrong, encoding_of, format_of, key, position, read_checkpoint
+from .keys import DEC, FORMATS, Damaged, Language, Long, Lost, Trimmed, Version, Wrong, format_of, key, language_of, position, read_checkpoint
+from .rebuild import rebuilt
 
 
 class Session:
     """A session's terminal, played up to the position `at`."""
 
-    def __init__(self, incarnation, at=0, repaint=b"", formats=FORMATS, encoding="dec"):
+    def __init__(self, incarnation, at=0, repaint=b"", formats=FORMATS, language=DEC):
         self.incarnation, self.at, self.formats = incarnation, at, formats
         self.newest = 0  # the newest format of what was read
-        self.terminal = vt220.Terminal(encoding)
+        self.terminal = vt220.Terminal(*language)
         self.terminal.feed(repaint)
         self.status = None
+
+    @property
+    def language(self):
+        return Language(self.terminal.encoding, self.terminal.terminal)
+
+    def rebuilt(self):
+        """Returns bytes that rebuild the terminal, as it is at the position that settled() returns."""
+        return rebuilt(self.terminal)
 
     def data_of(self, entry_id, fields):
         """Returns what of an entry wasn't played yet. Raises a fault if it isn't a host's, or if bytes before it are missing."""
@@ -60,28 +69,28 @@ def is_formed(at, number, fields):
     return (at, number) == (0, 1) and b"begin" in fields and b"bytes" not in fields
 
 
-def restored(incarnation, fields, formats=FORMATS, encoding="dec"):
+def restored(incarnation, fields, formats=FORMATS, language=DEC):
     """Returns a session as its checkpoint has it, and whether that was damaged: then the session is at its start."""
     if not fields:
-        return Session(incarnation, formats=formats, encoding=encoding), False
+        return Session(incarnation, formats=formats, language=language), False
     try:
-        made = Session(incarnation, *read_checkpoint(fields, formats), formats, encoding)
+        made = Session(incarnation, *read_checkpoint(fields, formats), formats, language)
         made.newest = format_of(fields[b"v"])
         return made, False
     except Damaged:
-        return Session(incarnation, formats=formats, encoding=encoding), True
+        return Session(incarnation, formats=formats, language=language), True
 
 
 def look_up(store, incarnation):
     """Returns a session as its checkpoint has it, and the position where its bytes end. Raises Lost if the store has lost it."""
     with store.pipeline(transaction=True) as together:
         together.hgetall(key(incarnation, "checkpoint"))
-        together.hmget(key(incarnation, "about"), "end", "encoding")
+        together.hmget(key(incarnation, "about"), "end", "encoding", "terminal")
         together.exists(key(incarnation, "bytes"))
-        fields, (end, encoding), is_there = store.all_of(together)
+        fields, (end, *said), is_there = store.all_of(together)
     if end is None or not is_there:
         raise Lost("the store no longer has this session")
-    return restored(incarnation, fields, encoding=encoding_of(encoding))[0], int(end)
+    return restored(incarnation, fields, language=language_of(*said))[0], int(end)
 
 
 def play_on(store, session, end):

@@ -68,7 +68,7 @@ class Viewer:
         self.terminal, self.last = vt220.Terminal(), "0-0"
         self.by, self.step = None, 0
         self.worker, self.fault, self.is_over, self.takes_input = "", "", False, False
-        self.encoding = "dec"
+        self.language = keys.DEC
 
     def ask(self):
         """Tells the worker that somebody looks, and learns how the session is. Call it each second."""
@@ -80,7 +80,7 @@ class Viewer:
             self.is_over, self.fault = True, self.fault or "Lost: the store no longer has this session"
             return
         self.worker, self.fault, self.is_over = answer[1].decode(), keys.shown(answer[2]), bool(answer[3])
-        self.takes_input, self.encoding = answer[5] == b"1", keys.encoding_of(answer[6])
+        self.takes_input, self.language = answer[5] == b"1", keys.language_of(answer[6], answer[7])
         if order(answer[4]) < order(self.last):  # the stream began anew
             self.last = "0-0"
 
@@ -121,8 +121,8 @@ class Keyboard:
         self.held = b""  # the beginning of a key whose end hasn't come
         tty.setraw(0)
 
-    def pass_on(self, modes, encoding):
-        """Sends what was typed, as a VT220 sends it under these modes, or in UTF-8. Returns whether to go on."""
+    def pass_on(self, modes, language):
+        """Sends what was typed, as the session's terminal sends it under these modes. Returns whether to go on."""
         if not select.select([0], [], [], 0.02)[0]:
             self.sender.type(self.held)
             self.held = b""
@@ -130,7 +130,7 @@ class Keyboard:
         data = os.read(0, 1024)
         if not data or LEAVE in data:
             return False
-        read = typed(self.held + data, modes, encoding)
+        read = typed(self.held + data, modes, *language)
         self.held = read.held
         self.sender.type(read.sent)
         if read.refused:
@@ -181,5 +181,5 @@ def look(viewer, drawing, keyboard):
                 drawing.note(noted)
         if viewer.follow(0 if keyboard else FRAME):  # a store's shortest wait is longer than a key should take
             drawing.draw(viewer.terminal)
-        if keyboard and not keyboard.pass_on(viewer.terminal.modes(), viewer.encoding):
+        if keyboard and not keyboard.pass_on(viewer.terminal.modes(), viewer.language):
             return

@@ -54,7 +54,7 @@ class Kept(Session):
         self.is_dirty = True  # something was played since viewers were sent a frame
         self.taken = time.monotonic()
         self.is_on_trial = False  # workers died in its company; this one takes no other until it caught up
-        self.needed = keys.NEEDED[self.terminal.encoding]
+        self.needed = keys.NEEDED[self.language]
 
     def play_some(self, every, budget, number=keys.FORMAT):
         """Plays what was read, up to so many bytes, and makes a checkpoint if one is due. Returns what is left of the bytes."""
@@ -76,7 +76,7 @@ class Kept(Session):
     def check(self, number):
         """Makes a checkpoint in a format, if the terminal is between sequences."""
         if self.terminal.is_between():
-            self.checked, self.checkpoint = self.at, keys.checkpoint(self.settled(), self.terminal.repaint(), number)
+            self.checked, self.checkpoint = self.at, keys.checkpoint(self.settled(), self.rebuilt(), number)
             self.newest = number
 
     def check_again(self, number):
@@ -209,7 +209,7 @@ class Worker:
         with self.store.pipeline(transaction=True) as together:
             for each in incarnations:
                 together.hgetall(key(each, "checkpoint"))
-                together.hmget(key(each, "about"), "end", "name", "encoding")
+                together.hmget(key(each, "about"), "end", "name", "encoding", "terminal")
                 together.exists(key(each, "bytes"))
             together.hget(keys.TRYING, self.claims.me)
             *answers, suspect = self.store.all_of(together)
@@ -225,7 +225,7 @@ class Worker:
                 raise answer
         if about[0] is None or not is_there:
             raise keys.Lost("the store no longer has this session's bytes")
-        session, was_damaged = restored(incarnation, checkpoint, self.formats, keys.encoding_of(about[2]))
+        session, was_damaged = restored(incarnation, checkpoint, self.formats, keys.language_of(*about[2:]))
         kept = self.kept[incarnation] = Kept(session, int(about[0]), was_damaged)
         kept.seen = checkpoint.get(b"at", b"").decode("ascii", "replace")
         kept.name = keys.shown(about[1] or b"?")

@@ -15,7 +15,7 @@ from fleet.worker import Worker
 import vt220
 
 seed = 1
-UTF8 = keys.NEEDED["utf-8"]
+UTF8 = keys.NEEDED[keys.UTF8]
 # Characters that a VT220 has, of one to three bytes, and a question.
 TEXT = "Gr\u00fc\u00dfe \u250c\u2500\u2510\r\n\u00bfqu\u00e9?"
 SHOWN = ["Gr\u00fc\u00dfe \u250c\u2500\u2510", "\u00bfqu\u00e9?"]

@@ -1,8 +1,9 @@
 -- Flags: allow-oom
 -- Somebody looks at a session: INCARNATION. Its worker is told.
--- Returns its worker, its fault, whether it has ended, the last id for viewers, whether it takes input, and its encoding; or lost.
+-- Returns its worker, its fault, whether it has ended, the last id for viewers, whether it takes input, its encoding, and its terminal; or
+-- lost.
 local inc = ARGV[1]
-local about = redis.call('HMGET', key(inc, 'about'), 'owner', 'end', 'input', 'encoding')
+local about = redis.call('HMGET', key(inc, 'about'), 'owner', 'end', 'input', 'encoding', 'terminal')
 if not about[2] then return {'lost'} end
 if about[1] then redis.call('PUBLISH', 'fleet:wake:' .. about[1], 'watch ' .. inc) end
 local last = '0-0'
@@ -10,4 +11,4 @@ if redis.call('EXISTS', key(inc, 'view')) == 1 then
   local entry = redis.call('XREVRANGE', key(inc, 'view'), '+', '-', 'COUNT', 1)[1]
   if entry then last = entry[1] end
 end
-return {'ok', about[1] or '', redis.call('GET', key(inc, 'fault')) or '', redis.call('EXISTS', key(inc, 'ended')), last, about[3] or '0', about[4] or 'dec'}
+return {'ok', about[1] or '', redis.call('GET', key(inc, 'fault')) or '', redis.call('EXISTS', key(inc, 'ended')), last, about[3] or '0', about[4] or 'dec', about[5] or 'vt220'}

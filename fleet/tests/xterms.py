@@ -1,0 +1,209 @@
+"""Sessions whose programs have TERM=xterm-256color: what rebuilds their terminals, who plays them, and what programs and viewers get."""
+import json
+import os
+import random
+
+from harness import PATIENCE, Processes, Source, check, keys, raises, session, settings, stores, until, wait_for, with_machine, worker
+from operators import OnTerminal, written
+from safety import fleet
+from stores_faults import program
+from fleet import rebuild
+from fleet.worker import Worker
+import vt220
+
+seed = 1
+XTERM = {"encoding": "utf-8", "terminal": "xterm"}
+NEEDED = keys.NEEDED[keys.XTERM]
+MAIN, ALTERNATE = b"\033[?47l", b"\033[?47h"
+# The main page, the alternate one, and the main one again, with a question on each.
+DATA = "main \u00fc\033[?1049h\033[5;5Halt\033[6n\033[1m\u250c\033[?1049l\033[3`x\033[6n".encode()
+SHOWN = "maxn \u00fc"
+PIECES = [
+    MAIN, ALTERNATE, b"\033[?1049h", b"\033[?1049l", b"\033[?1047h", b"\033[?1047l", b"\033[?1048h", b"\033[?1048l", b"\033[?40h", b"\033[?40l", b"\033[?3h", b"\033[?3l",
+    b"\0337", b"\0338", b"\033c", b"\033[!p", b"\033[?7l", b"\033[1;132H\xc3\xa4", b"\033[5;9H\033H", b"\033[3g", b"\033[1;7m", b"\033[1\"q", b"\033(0", b"\016", b"\033[4;9r",
+    b"\033[?6h", b"text \xe2\x80\x9c\xe4\xb8\x96", b"\xe2\x94", b"\xff", b"\033[2;79Hab", b"\r\n\n", b"\033[9;9Hxyz", b"\033[?5h", b"\033N", b"\033[?25l", b"\033=", b"\033[J", b"\033[3S",
+    b"\033[4b", b"\033]0;\xc2\x9c\xe2\033\\", b"\033[6n", b"\033[c",
+]  # fmt: skip
+
+
+def terminal(data=b""):
+    made = vt220.Terminal(terminal="xterm")
+    made.feed(data)
+    return made
+
+
+def some(chance, most=60):
+    return b"".join(chance.choice(PIECES) for _ in range(chance.randint(0, most)))
+
+
+def bytes_rebuild_a_terminal(url, _):
+    """On any terminal they leave the same state: both pages, in each width."""
+    name, chance = "rebuilt", random.Random(seed)
+    for number in range(400):
+        one = terminal(some(chance) + b"\030" * chance.randint(0, 1))
+        if not one.is_between():
+            check(raises(vt220.Partial, rebuild.rebuilt, one), name, f"{number}: none inside a sequence")
+            continue
+        before, two = (one.repaint(), one.alternate(), one.pending()), terminal(some(chance))
+        two.feed(rebuild.rebuilt(one))
+        two.feed(one.pending())
+        check((one.repaint(), one.alternate(), one.pending()) == before, name, f"{number}: the terminal stays")
+        check(two.pending() == one.pending() and rebuild.is_same(without_pending(one), without_pending(two)), name, f"{number}: it is rebuilt")
+        more = some(chance) + b"\030"
+        for way in (more, MAIN, ALTERNATE, b"\033[?40h\033[?3h" + MAIN, ALTERNATE, b"\033[?3l" + MAIN, ALTERNATE):
+            check(one.feed(way) == two.feed(way) and one.same_state(two) and one.alternate() == two.alternate(), name, f"{number}: and goes on alike: {way[:20]}")
+    check(rebuild.rebuilt(vt220.Terminal("utf-8")) == vt220.Terminal().repaint(), name, "that of a VT220 is its repaint")
+
+
+def without_pending(one):
+    made = one.copy()
+    made.feed(b"\030")
+    return made
+
+
+def a_terminal_that_is_rebuilt_wrongly_is_found(url, _):
+    """The comparison finds each part of the state that differs."""
+    name, one = "compared", terminal(b"main\033[?47halt\0337\033[?47l")
+    others = [b"main\033[?47hal\0337\033[?47l", b"main\033[?47halt\033[?47l", b"main\033[?47halt\0337", b"main\033[?47halt\0337\033[?47l\033[?40h", b"\033[?40h\033[?3h\033[?47hx\033[?47l\033[?3l\033[?40l"]
+    check(rebuild.is_same(one, one.copy()), name, "a copy is the same")
+    for other in others:
+        check(not rebuild.is_same(one, terminal(other)), name, f"{other} isn't")
+    check(not rebuild.is_same(terminal(others[-1]), terminal()), name, "nor is a page of another width")
+
+
+def played(source):
+    return int(source.store.hget(source.part("about"), "played"))
+
+
+def bury(one):
+    one.store.run("bury", one.claims.me, one.store.hget(keys.WORKERS, one.claims.me), 500)
+
+
+def each_byte_is_another_workers(url, _):
+    """Each begins at the checkpoint of the one before."""
+    name, source = "pages", Source(url, "pages", **XTERM)
+    for number, byte in enumerate(DATA):
+        one = worker(url, every=1, keep=0)
+        source.send(bytes([byte]))
+        check(until(lambda: played(source) == number + 1 and not one.due, one), name, f"byte {number} is played")
+        source.receive()
+        now = session.as_it_is(source.store, source.incarnation).terminal
+        check(now.text() == terminal(DATA[: number + 1]).text() and now.terminal == "xterm", name, f"a reader sees the screen after {number + 1} bytes")
+        one.leave()
+    one = worker(url, every=1, keep=0)
+    source.end(0)
+    check(until(source.is_ended, one), name, f"it ends: {source.fault()}")
+    check(source.store.hget(source.part("ended"), "text").decode().splitlines()[:2] == [SHOWN, ""], name, "the text")
+    check(source.receive().reports() == terminal().feed(DATA), name, f"and the reports: {source.reports()}")
+
+
+def pieces_are_cut_anywhere(url, _):
+    """Parts of characters, sequences and pages, cut at random, while workers die. The library plays them at once."""
+    name, chance, at = "at random", random.Random(seed), 0
+    data = b"".join(chance.choice(PIECES)[: chance.randint(1, 12)] for _ in range(500)) + b"\030"
+    whole, source, one = terminal(), Source(url, "at random", **XTERM), worker(url, every=1, keep=0)
+    reports = whole.feed(data)
+    while at < len(data):
+        size = chance.randint(1, 40)
+        source.send(data[at : at + size])
+        at += len(data[at : at + size])
+        until(lambda: played(source) == at and not one.due, one)
+        source.receive()
+        if chance.random() < 0.3:
+            bury(one)
+            one = worker(url, every=1, keep=0)
+    source.end(0)
+    check(until(source.is_ended, one), name, f"it ends: {source.fault()}")
+    now = session.as_it_is(source.store, source.incarnation).terminal
+    check(source.store.hget(source.part("ended"), "text").decode() == whole.text(), name, "the text")
+    check(rebuild.is_same(now, whole), name, "both pages")
+    check(source.receive().reports() == reports and len(reports) > 100, name, f"the reports: {len(reports)} bytes")
+
+
+def an_older_worker_takes_no_such_session(url, _):
+    name, old = "older worker", Worker(stores.connect(url), settings(every=1), formats=(keys.OLDEST, keys.NEEDED[keys.UTF8]))
+    source, other = Source(url, "xterm", **XTERM).send(DATA), Source(url, "utf-8", encoding="utf-8").send(b"x")
+    store = source.store
+
+    def is_apart():
+        return store.hget(keys.FOREIGN, source.incarnation) == b"%d" % NEEDED and not store.hget(source.part("about"), "owner")
+
+    check(is_apart(), name, "it waits apart from the others")
+    check(until(lambda: other.incarnation in old.kept and not old.due, old) and is_apart(), name, "an older worker takes others alone")
+    new = worker(url, every=1)
+    check(until(lambda: source.incarnation in new.kept and not new.due and played(source) == len(DATA), old, new), name, "a newer one takes it")
+    formats = [store.hget(each.part("checkpoint"), "v").split(b".")[0] for each in (source, other)]
+    check(formats == [b"%d" % NEEDED, b"%d" % keys.NEEDED[keys.UTF8]], name, f"each has its format: {formats}")
+    source.end(0)
+    check(until(source.is_ended, old, new), name, "and ends it")
+    check(source.store.hget(source.part("ended"), "text").decode().splitlines()[0] == SHOWN, name, "the text")
+
+
+def a_wrong_terminal_is_a_fault(url, _):
+    for terminal_name, encoding in (("xterm-256color", "utf-8"), ("xterm", "dec")):
+        name, one = f"wrong terminal {terminal_name} {encoding}", worker(url)
+        source = Source(url, name).send(b"x")
+        source.store.hset(source.part("about"), mapping={"terminal": terminal_name, "encoding": encoding})
+        check(until(source.fault, one) and source.fault().startswith("Wrong"), name, source.fault())
+        check(raises(keys.Wrong, session.as_it_is, source.store, source.incarnation), name, "for readers, too")
+
+
+@with_machine
+def a_program_has_its_terminal(machine, _):
+    name, url, workers = "program", machine.url, Processes(machine, 1)
+    command = ["sh", "-c", "echo $TERM $LC_ALL; stty -a | grep -o ' iutf8'; stty raw -echo; printf '\\033[?1049hready'; head -c 1 | od -An -tx1; printf '\\033[?1049l\\033[9`back'; cat"]
+    host = program(machine, name, command, "--input", "--terminal", "xterm")
+    store = stores.connect(url)
+    wait_for(lambda: b"ready" in written(store, name))
+    check(written(store, name).split()[:3] == [b"xterm-256color", b"C.UTF-8", b"iutf8"], name, f"its environment and its line: {written(store, name)}")
+    check(fleet(url, "text", name)[1].split() == ["ready"], name, "the alternate page is shown")
+    host.kill()
+    host.wait()
+    host = program(machine, name, command, "--input")
+    check(fleet(url, "type", name, "x")[0] == 0, name, "another host goes on with it")
+    check(wait_for(lambda: b"back" in written(store, name)), name, "the program goes on")
+    check(fleet(url, "text", name)[1].splitlines()[0] == "xterm-256color C.UTF-8" and "        back" in fleet(url, "text", name)[1], name, "the main page is back")
+    recording = [json.loads(line) for line in fleet(url, "export", name)[1].splitlines()]
+    check(recording[0]["env"] == {"TERM": "xterm-256color"}, name, "the recording names its terminal")
+    listed = json.loads(fleet(url, "list", "--json")[1])
+    check((listed["encoding"], listed["terminal"]) == ("utf-8", "xterm"), name, "the list names it")
+    status, page, said = fleet(url, "export", "--page", name)
+    check(status == 0 and '"terminal": "xterm"' in page, name, f"and the page plays it: {said}")
+    check(fleet(url, "kill", "--signal", "KILL", "--patience", str(PATIENCE), name)[0] == 0 and host.wait(PATIENCE) == 137, name, "it ends")
+    status, _, said = fleet(url, "host", "--terminal", "xterm", "--encoding", "dec", "other", "true")
+    check(status == 78 and "doesn't go with --encoding dec" in said, name, f"dec is refused: {status} {said}")
+    workers.stop()
+
+
+@with_machine
+def keys_are_those_of_an_xterm(machine, _):
+    name, workers = "typed", Processes(machine, 1)
+    source = Source(machine.url, name, takes_input=True, lease=600, **XTERM).send(b"here").listen()
+    view = OnTerminal(machine.url, "view", "--type", name)
+    check(wait_for(lambda: view.has(b"here")), name, "it is shown")
+
+    def got():
+        return b"".join(what for kind, what in source.got if kind == "keys")
+
+    os.write(view.master, b"\033[1~\033[25~\033[A")
+    wanted = b"\033[H\033[1;2P\033[A"
+    check(wait_for(lambda: got() == wanted), name, f"in a viewer: {got()}")
+    source.send(b"\033[?1h")
+    check(fleet(machine.url, "type", name, "\033[1~")[0] == 0, name, "type")
+    check(wait_for(lambda: got() == wanted + b"\033OH"), name, f"by type: {got()}")
+    os.write(view.master, b"\x1d")
+    check(view.status() == 0, name, "the viewer leaves")
+    source.stop()
+    workers.stop()
+
+
+CASES = [
+    bytes_rebuild_a_terminal,
+    a_terminal_that_is_rebuilt_wrongly_is_found,
+    each_byte_is_another_workers,
+    pieces_are_cut_anywhere,
+    an_older_worker_takes_no_such_session,
+    a_wrong_terminal_is_a_fault,
+    a_program_has_its_terminal,
+    keys_are_those_of_an_xterm,
+]

@@ -47,6 +47,10 @@ first_short bytes low =
     sym (ap (λ (v : Bool). shown (take 32 bytes) ++ (if v then codes ".." else [])) over
     ∙ append-nil (shown (take 32 bytes)) ∙ ap shown (take_all 32 bytes low))
 
+pub no_items : (xs : List ℕ) → length xs ≡ 0 → xs ≡ []
+no_items [] none = refl
+no_items (x ∷ xs) none = absurd cc
+
 -- what was appended
 pub appended : (old more : List ℕ) → drop (length old) (old ++ more) ≡ more
 appended [] more = refl
@@ -57,7 +61,7 @@ pub report_of : (s : State) (b : ℕ) (events : List Event) → events ≡ event
 unfolding play
 report_of s b events are = ap (λ (es : List Event). reports_of es s.display) (sym are)
 
-abbrev made_of : ℕ → ℕ → Bool → ℕ → List ℕ → Tracer
+abbrev pub made_of : ℕ → ℕ → Bool → ℕ → List ℕ → Tracer
 made_of n m v c l = record { place = n; begin = m; in_text = v; code = c; first = record { items = l } }
 
 -- what was found of a byte after what is held

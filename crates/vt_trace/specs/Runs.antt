@@ -37,6 +37,10 @@ pub record IsOne (front : List ℕ) (last : ℕ) (event : Event) : Type 0 where
   pub events : events_from Nothing (front ++ last ∷ []) ≡ event ∷ []
   pub silent : events_from Nothing front ≡ []
 
+-- the tracer keeps nothing of an item
+abbrev pub IsIdle : Tracer → Type 0
+IsIdle t = (t.code ≡ 0) × (length t.first.items ≡ 0)
+
 -- between sequences the bytes lead from a tracer to another, with what is appended, whatever the display is
 pub record Traces (before after : Tracer) (bytes old new : List ℕ) : Type 0 where
   pub lines : (s : State) → IsSound s → s.held ≡ Nothing → new ≡ old ++ trace s before bytes

@@ -9,7 +9,7 @@ ghost use Rattle.vt_syntax.specs.Event.{event_of, event_in};
 ghost use Rattle.vt_syntax.specs.Held.{events_from, held_from};
 ghost use Rattle.vt_term.specs.Play.{play};
 ghost use Rattle.vt_trace.specs.Trace.{text_begin, text_end, written, trace, tracer_all};
-ghost use Rattle.vt_trace.specs.Runs.{IsShown, Traces, is_graphic, is_request};
+ghost use Rattle.vt_trace.specs.Runs.{IsIdle, IsShown, Traces, is_graphic, is_request};
 
 use crate::buffer::{BUFFER, put, put_bytes, put_number, put_shown};
 use crate::bytes::push_bytes;
@@ -76,6 +76,9 @@ fn push_between(
     if !terminal.is_between() {
         return 0;
     }
+    if !tracer.is_idle() {
+        return 0;
+    }
     push_fronts(tracer, piece, values, buffer, out)
 }
 
@@ -88,7 +91,8 @@ fn push_fronts(
     buffer: &mut [u8; BUFFER],
     out: &mut Vec<u8>,
 ) -> usize
-    requires { tracer.old.place + length piece.now < 2 ^ 64 }
+    requires place { tracer.old.place + length piece.now < 2 ^ 64 }
+    requires idle { IsIdle tracer.old }
     ensures within { result ≤ length piece.now }
     ensures traces { Traces tracer.old tracer.new (take result piece.now) out.old.items out.new.items }
     ensures bounded { vec_len out.new ≤ vec_len out.old + EVENT_LIMIT * result }
@@ -111,6 +115,7 @@ fn put_fronts(
 ) -> (usize, usize)
     requires place { tracer.old.place + length piece.now < 2 ^ 64 }
     requires room { room ≤ BUFFER }
+    requires idle { IsIdle tracer.old }
     ensures within { result.0 ≤ length piece.now }
     ensures traces { Traces tracer.old tracer.new (take result.0 piece.now) [] (take result.1 buffer.new) }
     ensures bounded { result.1 ≤ EVENT_LIMIT * result.0 }
@@ -148,12 +153,14 @@ fn put_one(
     requires place { tracer.old.place + length piece.now < 2 ^ 64 }
     requires at { at + EVENT_LIMIT ≤ room }
     requires room { room ≤ BUFFER }
+    requires idle { IsIdle tracer.old }
     ensures within { result.0 ≤ length piece.now }
     ensures traces { Traces tracer.old tracer.new (take result.0 piece.now) (take at buffer.old) (take result.1 buffer.new) }
     ensures place { tracer.new.place ≡ tracer.old.place + result.0 }
     ensures bounded { result.1 ≤ at + EVENT_LIMIT * result.0 }
     ensures room { result.1 ≤ room }
     ensures none { result.0 ≡ 0 → (tracer.new ≡ tracer.old) × (take at buffer.new ≡ take at buffer.old) }
+    ensures idle { IsIdle tracer.new }
 {
     one_split();
     let run = shown_run(piece).min(room - at - 30);
@@ -262,9 +269,11 @@ fn put_run(tracer: &mut Tracer, run: &[u8], at: usize, buffer: &mut [u8; BUFFER]
     requires shown { All IsShown run.now }
     requires place { tracer.old.place + length run.now < 2 ^ 64 }
     requires room { at + 30 + length run.now ≤ BUFFER }
+    requires idle { IsIdle tracer.old }
     ensures traces { Traces tracer.old tracer.new run.now (take at buffer.old) (take result buffer.new) }
     ensures place { tracer.new.place ≡ tracer.old.place + length run.now }
     ensures bounded { result ≤ at + 30 + length run.now }
+    ensures idle { IsIdle tracer.new }
 {
     spelled();
     let at = put_text_begin(tracer, at, buffer);
@@ -280,9 +289,11 @@ fn put_character(tracer: &mut Tracer, b: u8, at: usize, buffer: &mut [u8; BUFFER
     requires character { HasGlyph b }
     requires place { tracer.old.place + 1 < 2 ^ 64 }
     requires room { at + 34 ≤ BUFFER }
+    requires idle { IsIdle tracer.old }
     ensures traces { Traces tracer.old tracer.new (b ∷ []) (take at buffer.old) (take result buffer.new) }
     ensures place { tracer.new.place ≡ tracer.old.place + 1 }
     ensures bounded { result ≤ at + 34 }
+    ensures idle { IsIdle tracer.new }
 {
     spelled();
     let at = put_text_begin(tracer, at, buffer);
@@ -326,9 +337,11 @@ fn put_alone(
     requires plain { All IsPlain (drop 1 item.now) }
     requires place { tracer.old.place + length item.now < 2 ^ 64 }
     requires room { at + EVENT_LIMIT ≤ BUFFER }
+    requires idle { IsIdle tracer.old }
     ensures traces { Traces tracer.old tracer.new item.now (take at buffer.old) (take result buffer.new) }
     ensures place { tracer.new.place ≡ tracer.old.place + length item.now }
     ensures bounded { result ≤ at + EVENT_LIMIT }
+    ensures idle { IsIdle tracer.new }
 {
     one_split();
     spelled();

@@ -7,6 +7,8 @@ ghost use Rattle.vt_trace.specs.Lines.{shown};
 ghost use Rattle.vt_trace.specs.Trace.{begins, item_place, place_of, is_text, text_end, text_of, report_line, written, written_all};
 ghost use Rattle.vt_trace.specs.Trace.{text_after, tracer_at_start, between, traced, tracer_after, trace, tracer_all, end_lines};
 ghost use Rattle.vt_trace.specs.Lines.{event_line};
+ghost use Rattle.std.specs.Bool.{OnTrue};
+ghost use Rattle.vt_trace.specs.Runs.{IsIdle};
 ghost use Rattle.vt_syntax.specs.Event.{event_in};
 ghost use Rattle.vt_syntax.specs.declared.event.Event.TheVariants.{Print};
 ghost use Rattle.vt_term.specs.State.{Display};
@@ -52,16 +54,23 @@ impl Tracer {
         }
     }
 
+    /// Returns whether it keeps nothing of an item.
+    pub(crate) fn is_idle(&self) -> bool
+        ensures { OnTrue result (IsIdle self.now) }
+    {
+        self.code == 0 && self.first.is_empty()
+    }
+
     /// Goes on to a place after an item that has an event.
     #[inline(always)]
     pub(crate) fn pass(&mut self, place: u64, begin: u64, in_text: bool)
-        ensures { self.new ≡ between place begin in_text }
+        requires { IsIdle self.old }
+        ensures made { self.new ≡ between place begin in_text }
+        ensures idle { IsIdle self.new }
     {
         self.place = place;
         self.begin = begin;
         self.in_text = in_text;
-        self.code = 0;
-        self.first.clear();
     }
 }
 

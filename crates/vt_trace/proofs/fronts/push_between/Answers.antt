@@ -9,3 +9,11 @@ returns-then-not-is_between-clause-lines c = sym (append-nil c.args.out.now.item
 pub returns-then-not-is_between-clause-tracer : goal.returns-then-not-is_between-clause-tracer
 unfolding tracer_all
 returns-then-not-is_between-clause-tracer c = refl
+
+pub returns-then-not-is_idle-clause-lines : goal.returns-then-not-is_idle-clause-lines
+unfolding trace
+returns-then-not-is_idle-clause-lines c = sym (append-nil c.args.out.now.items)
+
+pub returns-then-not-is_idle-clause-tracer : goal.returns-then-not-is_idle-clause-tracer
+unfolding tracer_all
+returns-then-not-is_idle-clause-tracer c = refl

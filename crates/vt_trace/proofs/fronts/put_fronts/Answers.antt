@@ -10,6 +10,7 @@ loop-at-init c = record {
   place = omega arith;
   bounded = omega arith;
   room = omega arith;
+  idle = c.requires.idle;
 }
 
 -- one more front
@@ -30,4 +31,5 @@ loop-at-preserved c =
       place = omega (arith, was.place, made.place);
       bounded = omega (arith, was.bounded, made.bounded);
       room = made.room;
+      idle = made.idle;
     }

@@ -88,6 +88,16 @@ def described(terminal, last):
     return "\n".join([terminal.text(), terminal.show(), terminal.picture(), flat, terminal.held(), ",".join(map(str, changed)), *marks, cells])
 
 
+def under_xterm(data):
+    """Returns what a terminal of TERM=xterm makes of an input, the second half on a copy: replies, lines, and both pages."""
+    terminal, half = vt220.Terminal(terminal="xterm"), len(data) >> 1
+    replies, copied = terminal.feed(data[:half]), terminal.copy()
+    more, lines = copied.feed_log(data[half:])
+    shown, pending = copied.text(), copied.pending()
+    copied.feed(b"\x18\x1b[?47l" if copied.alternate() else b"\x18\x1b[?47h")
+    return [replies, more, lines[:-1].encode(), shown.encode(), pending, copied.repaint()]
+
+
 def hashes(data):
     last, made = vt220.Terminal(), []
     for each in data:
@@ -100,6 +110,6 @@ def hashes(data):
         terminal.feed(b"\x18")
         shown = vt220.Terminal()
         shown.copy_from(last)
-        made.append(hash_of([replies, more, lines[:-1].encode(), text.encode(), terminal.repaint(), shown.update(terminal), halfway.update(terminal)]))
+        made.append(hash_of([replies, more, lines[:-1].encode(), text.encode(), terminal.repaint(), shown.update(terminal), halfway.update(terminal), *under_xterm(each)]))
         last = terminal
     return made

@@ -23,6 +23,18 @@ function described(terminal, last) {
   return [terminal.text(), terminal.show(), terminal.picture(), parts.join(" "), held, last.changedRows(terminal).join(), ...marks, cells].join("\n");
 }
 
+/** Returns what a terminal of TERM=xterm makes of an input, the second half on a copy: replies, lines, and both pages. */
+function underXterm(Terminal, core, input) {
+  const terminal = new Terminal(core, { terminal: "xterm" }), copied = new Terminal(core, { terminal: "xterm" }), half = input.length >> 1;
+  const replies = terminal.feed(input.subarray(0, half));
+  copied.copyFrom(terminal);
+  const logged = copied.feedLog(input.subarray(half)), shown = copied.text(), pending = copied.pending;
+  copied.feed(encoder.encode(copied.alternate ? "\x18\x1b[?47l" : "\x18\x1b[?47h"));
+  const repaint = copied.repaint();
+  for (const each of [terminal, copied]) each.close();
+  return [replies, logged.replies, encoder.encode(logged.lines.join("\n")), encoder.encode(shown), pending, repaint];
+}
+
 export function hashes({ Terminal }, core, inputs) {
   let last = new Terminal(core);
   return inputs.map((input) => {
@@ -39,6 +51,6 @@ export function hashes({ Terminal }, core, inputs) {
     for (const each of [shown, halfway]) each.close();
     last.close();
     last = terminal;
-    return hash([replies, logged.replies, encoder.encode(logged.lines.join("\n")), encoder.encode(text), repaint, update, near]);
+    return hash([replies, logged.replies, encoder.encode(logged.lines.join("\n")), encoder.encode(text), repaint, update, near, ...underXterm(Terminal, core, input)]);
   });
 }

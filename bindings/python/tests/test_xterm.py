@@ -7,7 +7,7 @@ import pytest
 
 import vt220
 from vt220 import rig as rig_module
-from vt220.keyboard import Key, spelled
+from vt220.keyboard import Key, spelled, typed
 from vt220.page import template
 from vt220.rig import END, HOME, Failure, Reports
 
@@ -96,3 +96,10 @@ def test_home_and_end_follow_decckm():
     assert spelled(HOME, POWER_UP, "utf-8", "xterm") == b"\033[H" and spelled(END, POWER_UP, "utf-8", "xterm") == b"\033[F"
     assert spelled(HOME, POWER_UP) == b"\033[1~" and spelled(END, POWER_UP) == b"\033[4~"
     assert spelled("é", POWER_UP, "utf-8", "xterm") == "é".encode()
+
+
+def test_keys_that_were_typed_on_another_terminal():
+    """A sequence of a VT220 is the key, and that of xterm passes as it came."""
+    wanted = b"\033OH\033OF\033[1;2P\033[19;2~\033[1;2P\033[15~\033OA\303\251"
+    assert typed(b"\033[1~\033[F\033[25~\033[34~\033[1;2P\033[15~\033[A\303\251", POWER_UP._replace(decckm=True), "utf-8", "xterm").sent == wanted
+    assert typed(b"\033[1~\033[25~", POWER_UP, "utf-8").sent == b"\033[1~\033[25~"

@@ -83,22 +83,23 @@ def _sent(character: str, modes: Modes, encoding: str) -> bytes:
     return key(character, modes)
 
 
-# What xterm sends instead of a VT220's sequence, as terminfo has it for xterm-256color: Home and End as cursor keys, and F13 to F20 as
-# Shift with F1 to F8.
-_XTERM_CURSOR_KEYS = {Key.HOME: b"H", Key.END: b"F"}
+# What xterm sends after CSI where a VT220 sends something else, as terminfo has it for xterm-256color: Home and End as cursor keys, which
+# have SS3 instead of CSI under DECCKM, and F13 to F20 as Shift with F1 to F8.
+_XTERM_CURSOR_KEYS = {b"1~": b"H", b"4~": b"F"}
 _XTERM_KEYS = {
-    Key.F13: b"\033[1;2P", Key.F14: b"\033[1;2Q", Key.F15: b"\033[1;2R", Key.F16: b"\033[1;2S",
-    Key.F17: b"\033[15;2~", Key.F18: b"\033[17;2~", Key.F19: b"\033[18;2~", Key.F20: b"\033[19;2~",
+    b"25~": b"1;2P", b"26~": b"1;2Q", b"28~": b"1;2R", b"29~": b"1;2S",
+    b"31~": b"15;2~", b"32~": b"17;2~", b"33~": b"18;2~", b"34~": b"19;2~",
 }
 
 
-def _pressed(name: Key, modes: Modes, terminal: str) -> bytes:
-    """Returns the bytes that a key sends on a VT220 or on an xterm."""
-    if terminal == "xterm" and name in _XTERM_CURSOR_KEYS:
-        return key(Key.UP.value, modes)[:-1] + _XTERM_CURSOR_KEYS[name]
-    if terminal == "xterm" and name in _XTERM_KEYS:
-        return _XTERM_KEYS[name]
-    return key(name.value, modes)
+def pressed(name: Union[str, bytes], modes: Modes, terminal: str = "vt220") -> bytes:
+    """Returns the bytes that a key sends on a VT220, as key() does, or with terminal="xterm" those that it sends on an xterm."""
+    sent = key(name, modes)
+    head = next((each for each in (b"\x9b", b"\033[") if sent.startswith(each)), b"")
+    code = sent[len(head):] if head and terminal == "xterm" else b""
+    if code in _XTERM_CURSOR_KEYS:
+        return key(Key.UP.value, modes)[:-1] + _XTERM_CURSOR_KEYS[code]
+    return head + _XTERM_KEYS[code] if code in _XTERM_KEYS else sent
 
 
 def spelled(keys: Union[str, Key], modes: Modes, encoding: str = "dec", terminal: str = "vt220") -> bytes:
@@ -108,7 +109,7 @@ def spelled(keys: Union[str, Key], modes: Modes, encoding: str = "dec", terminal
     and F13 to F20 send what they do on xterm.
     """
     if isinstance(keys, Key):
-        return _pressed(keys, modes, terminal)
+        return pressed(keys.value, modes, terminal)
     if not isinstance(keys, str):
         raise TypeError(f"a key is a text or a Key, not {keys!r}")
     sent = []
@@ -120,17 +121,18 @@ def spelled(keys: Union[str, Key], modes: Modes, encoding: str = "dec", terminal
     return b"".join(sent)
 
 
-def typed(data: bytes, modes: Modes, encoding: str = "dec") -> Typed:
+def typed(data: bytes, modes: Modes, encoding: str = "dec", terminal: str = "vt220") -> Typed:
     """Returns what the keys send that were typed on a modern terminal. A key that a VT220 doesn't have is sent as it came.
 
-    The encoding is that of the terminal that they are sent to. In UTF-8 each character beyond ASCII is sent as it came.
+    The encoding is that of the terminal that they are sent to. In UTF-8 each character beyond ASCII is sent as it came. With
+    terminal="xterm" Home, End and F13 to F20 send what they do on xterm.
     """
     sent: List[bytes] = []
     refused: List[str] = []
     while length := key_length(data):
         one, data = data[:length], data[length:]
         try:
-            sent.append(one if encoding == "utf-8" and one[0] >= 0x80 else key(one, modes))
+            sent.append(one if encoding == "utf-8" and one[0] >= 0x80 else pressed(one, modes, terminal))
         except NoKey:
             sent.append(one)
         except NoCharacter:

@@ -14,7 +14,7 @@ use crate::finder::Finder;
 use crate::front::{Front, Pages};
 use crate::functions::carry_out;
 use crate::laws::cuts;
-use crate::log::{LINES_LIMIT, Log};
+use crate::log::{LINES_LIMIT, Log, feed_terminals};
 use std::alloc::AllocError;
 use vt_syntax::laws::one_split;
 use vt_syntax::{EventKind, Taken, Values};
@@ -414,7 +414,7 @@ fn feed_some<L: Log>(
     ensures capacity { vec_capacity out.old ≤ vec_capacity out.new }
 {
     one_split();
-    let played = feed_terminals(terminal, pages, piece, log, out);
+    let played = feed_page(terminal, pages, piece, log, out);
     if played == piece.len() || log.is_full() {
         return played;
     }
@@ -424,7 +424,7 @@ fn feed_some<L: Log>(
 /// Plays the front of a chunk, up to the first event that isn't a VT220's, or up to a line for which there is no capacity.
 /// Returns how many bytes it played.
 #[inline(always)]
-fn feed_terminals<L: Log>(
+fn feed_page<L: Log>(
     terminal: &mut Terminal,
     pages: &Pages,
     piece: &[u8],
@@ -440,7 +440,7 @@ fn feed_terminals<L: Log>(
     ensures capacity { vec_capacity out.old ≤ vec_capacity out.new }
 {
     if pages.is_alternate() {
-        terminal.feed_observed(piece, &mut Finder, out)
+        feed_terminals(terminal, piece, out)
     } else {
         log.feed(terminal, piece, out)
     }

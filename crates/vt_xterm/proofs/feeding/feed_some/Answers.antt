@@ -6,7 +6,7 @@ use Rattle.vt_xterm.proofs.feeding.feed_some.Goals as goal
 
 pub returns-clause-fed : goal.returns-clause-fed
 returns-clause-fed g c =
-    let played = c.feed_terminals-played in
+    let played = c.feed_page-played in
     feeds-more c.one_split.ensures (whole_of c.args.terminal.now c.args.pages.now)
     (whole_of played.new.terminal c.args.pages.now) (whole_of c.feed_event.new.terminal c.feed_event.new.pages)
     c.args.piece.now played.result c.feed_event.result c.args.out.now.items played.new.out.items
@@ -14,7 +14,7 @@ returns-clause-fed g c =
 
 pub returns-clause-keeps : goal.returns-clause-keeps
 returns-clause-keeps g c =
-    let played = c.feed_terminals-played in
+    let played = c.feed_page-played in
     keeps-bytes g.L.Log.Keeps g.L.Log.HasRoom g.met.L.Log.kept c.one_split.ensures (whole_of c.args.terminal.now c.args.pages.now)
     (whole_of played.new.terminal c.args.pages.now) c.args.piece.now played.result c.feed_event.result c.args.log.now
     played.new.log c.feed_event.new.log played.ensures.fed.whole played.ensures.keeps

@@ -1,18 +1,18 @@
 use Rattle.std.proofs.Common.{take, sym, ◌∙◌}
 use Rattle.vt_xterm.proofs.Fed.{feeds-terminals}
 use Rattle.vt_xterm.proofs.Logged.{terminals-alternate, terminals-main}
-use Rattle.vt_xterm.proofs.feeding.feed_terminals.Goals as goal
+use Rattle.vt_xterm.proofs.feeding.feed_page.Goals as goal
 
 pub returns-then-is_alternate-clause-fed : goal.returns-then-is_alternate-clause-fed
 returns-then-is_alternate-clause-fed g c =
-    let fed = c.feed_observed in
-    feeds-terminals c.args.terminal.now fed.new.self c.args.pages.now (take fed.result c.args.piece.now)
-    c.args.out.now.items fed.new.out.items fed.ensures.saw fed.ensures.state fed.ensures.reports
+    let fed = c.feed_terminals in
+    feeds-terminals c.args.terminal.now fed.new.terminal c.args.pages.now (take fed.result c.args.piece.now)
+    c.args.out.now.items fed.new.out.items fed.ensures.terminals fed.ensures.state fed.ensures.reports
 
 pub returns-then-is_alternate-clause-keeps : goal.returns-then-is_alternate-clause-keeps
 returns-then-is_alternate-clause-keeps g c =
     terminals-alternate g.L.Log.Keeps g.L.Log.HasRoom g.met.L.Log.kept c.args.terminal.now c.args.pages.now
-    (take c.feed_observed.result c.args.piece.now) c.args.log.now c.feed_observed.ensures.saw (sym c.is_alternate.ensures ∙ c.if-is_alternate.true)
+    (take c.feed_terminals.result c.args.piece.now) c.args.log.now c.feed_terminals.ensures.terminals (sym c.is_alternate.ensures ∙ c.if-is_alternate.true)
 
 pub returns-else-is_alternate-clause-fed : goal.returns-else-is_alternate-clause-fed
 returns-else-is_alternate-clause-fed g c =

@@ -20,7 +20,7 @@ pub const DECCOLM: usize = 12;
 /// The index of DECOM, which moves the cursor.
 pub const DECOM: usize = 13;
 
-/// What each mode is set and reset by, without its last byte.
+/// Lists the bytes that set and reset each mode, without the last one.
 pub(crate) const FRONTS: [[u8; 5]; 14] = [
     // KAM, IRM, SRM and LNM
     *b"\x1B[2  ",

@@ -169,8 +169,8 @@ impl Terminal {
     }
 }
 
-/// The observer that keeps the texts of the lines that scroll off, with another observer beside it. It stops the feed before a
-/// line that might not fit.
+/// Keeps the texts of the lines that scroll off, and passes everything on to another observer. Stops the feed before a line that
+/// might not fit.
 #[derive(Drop)]
 pub struct Lines<'a, A: Drop> {
     /// The texts, behind what was there before.

@@ -6,7 +6,7 @@ fn bytes_of(hex: &str) -> Vec<u8> {
     hex.split_whitespace().map(|byte| u8::from_str_radix(byte, 16).unwrap()).collect()
 }
 
-/// What a row has: the screen, the lines that scroll off, the cursor, the page, the attributes, the bells, the pending bytes and the reports.
+/// A row's values: the screen, the lines that scroll off, the cursor, the page, the attributes, the bells, the pending bytes and the reports.
 #[derive(Debug, PartialEq)]
 struct Row {
     text: String,

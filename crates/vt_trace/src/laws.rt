@@ -17,8 +17,8 @@ ghost use Rattle.vt_trace.specs.Trace.{trace, tracer_all, tracer_at_start, IsAft
 use vt_syntax::laws::one_split;
 use vt_term::laws::{cuts as play_cuts, soundness};
 
-/// States which events do something: one without a name leaves every sound display as it is and reports nothing. For each
-/// event with a name there is a sound display that it changes, or on which it reports something.
+/// States which events do something: one without a name leaves every sound display as it is and reports nothing. Each
+/// event with a name changes some sound display, or reports something on it.
 pub fn ignored()
     ensures has_no_effect { (event : Event) → is_ignored event ≡ true → HasNoEffect event }
     ensures named { (event : Event) → is_ignored event ≡ false → DoesSomething event }

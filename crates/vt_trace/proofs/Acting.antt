@@ -31,23 +31,24 @@ use Rattle.vt_trace.specs.Names.{space_escape_names, number_sign_escape_names, d
 use Rattle.vt_trace.specs.Names.{escape_with_name, print_name, Function, FunctionTable, name_with, name_in, names_of}
 use Rattle.vt_trace.specs.Names.{plain_names, marker_names, intermediate_names, private_names, greater_names}
 use Rattle.vt_trace.specs.Names.{quote_names, exclamation_names, is_level, are_margins, name_of}
+use Rattle.vt_trace.specs.Ignored.{DoesSomething}
 use Rattle.vt_trace.proofs.Tables.{AllRows, row_found, no_some, has_key, key_absent, looked_true, one_true, one_comes}
-use Rattle.vt_trace.proofs.Witnesses.{at_end, all_off, all_on, Acts, acts_at_end, acts_all_on, acts_all_off, resets_wrap}
-use Rattle.vt_trace.proofs.Witnesses.{reports, at_end-sound, all_on-sound}
+use Rattle.vt_trace.proofs.Witnesses.{at_end, all_off, all_on, acts_at_end, acts_all_on, acts_all_off, resets_wrap}
+use Rattle.vt_trace.proofs.Witnesses.{reports}
 
 module _ (base : IsSoundDisplay display_at_power_up) where
   -- ---- graphic bytes, controls and escape sequences
 
-  print_acts : (b : ℕ) → has_no_glyph b ≡ false → Acts (Print b)
+  print_acts : (b : ℕ) → has_no_glyph b ≡ false → DoesSomething (Print b)
   unfolding glyph_read after_read
   print_acts b h = go (b == 0x20) refl
     where
-      go : (t : Bool) → (b == 0x20) ≡ t → Acts (Print b)
+      go : (t : Bool) → (b == 0x20) ≡ t → DoesSomething (Print b)
       go true is = resets_wrap base (Print b) (rw (h, is) refl)
       go false is = resets_wrap base (Print b) (rw (h, is) refl)
 
   ControlActs : ℕ → List ℕ → Type 0
-  ControlActs b name = Acts (Control b)
+  ControlActs b name = DoesSomething (Control b)
 
   control_rows : AllRows ControlActs control_names
   unfolding AllRows ControlActs control control_report no_stops
@@ -55,7 +56,7 @@ module _ (base : IsSoundDisplay display_at_power_up) where
       (resets_wrap base _ refl, (resets_wrap base _ refl, (resets_wrap base _ refl, (resets_wrap base _ refl, (resets_wrap base _ refl, (resets_wrap base _ refl, (acts_at_end base (λ s. eqb s.sets.left 0) _ refl refl, (acts_all_on base (λ s. eqb s.sets.left 1) _ refl refl, (resets_wrap base _ refl, (resets_wrap base _ refl, (resets_wrap base _ refl, (acts_all_off base (λ s. not (has_stop_at s.stops 1)) _ refl refl, (resets_wrap base _ refl, (acts_at_end base (λ s. eqb (pending_number s.sets.pending) 0) _ refl refl, (acts_at_end base (λ s. eqb (pending_number s.sets.pending) 0) _ refl refl, (reports base _ refl, tt))))))))))))))))
 
   PlainActs : ℕ → List ℕ → Type 0
-  PlainActs last name = Acts (Escape None last)
+  PlainActs last name = DoesSomething (Escape None last)
 
   plain_rows : AllRows PlainActs plain_escape_names
   unfolding AllRows PlainActs plain_escape
@@ -63,7 +64,7 @@ module _ (base : IsSoundDisplay display_at_power_up) where
       (acts_at_end base (λ s. eqb s.saved.col 1) _ refl refl, (resets_wrap base _ refl, (acts_all_off base (λ s. not s.modes.keypad_application) _ refl refl, (acts_all_on base (λ s. s.modes.keypad_application) _ refl refl, (resets_wrap base _ refl, (acts_at_end base (λ s. eqb s.sets.left 0) _ refl refl, (acts_at_end base (λ s. eqb s.sets.left 0) _ refl refl, (acts_at_end base (λ s. eqb s.sets.right 2) _ refl refl, (acts_all_on base (λ s. eqb s.sets.right 1) _ refl refl, (acts_at_end base (λ s. eqb s.sets.right 2) _ refl refl, tt))))))))))
 
   SpaceActs : ℕ → List ℕ → Type 0
-  SpaceActs last name = Acts (Escape (Some 0x20) last)
+  SpaceActs last name = DoesSomething (Escape (Some 0x20) last)
 
   space_rows : AllRows SpaceActs space_escape_names
   unfolding AllRows SpaceActs escape_with
@@ -71,7 +72,7 @@ module _ (base : IsSoundDisplay display_at_power_up) where
       (acts_all_on base (λ s. s.modes.reports_8bit) _ refl refl, (acts_all_off base (λ s. not s.modes.reports_8bit) _ refl refl, tt))
 
   NumberSignActs : ℕ → List ℕ → Type 0
-  NumberSignActs last name = Acts (Escape (Some 0x23) last)
+  NumberSignActs last name = DoesSomething (Escape (Some 0x23) last)
 
   number_sign_rows : AllRows NumberSignActs number_sign_escape_names
   unfolding AllRows NumberSignActs escape_with
@@ -92,7 +93,7 @@ module _ (base : IsSoundDisplay display_at_power_up) where
       → ((s : Display) → effect event s ≡ designate_to slot (Some set) s)
       → ((set : Set) → set_at (designated slot set at_end.sets) slot ≡ set)
       → ((set : Set) → set_at (designated slot set all_on.sets) slot ≡ set)
-      → is_german slot at_end ≡ false → is_german slot all_on ≡ true → Acts event
+      → is_german slot at_end ≡ false → is_german slot all_on ≡ true → DoesSomething event
   unfolding is_german
   designation_acts event slot German does narrow wide a b =
       acts_at_end base (λ s. not (is_german slot s)) event (ap not a)
@@ -111,7 +112,7 @@ module _ (base : IsSoundDisplay display_at_power_up) where
       (ap (is_german slot) (does all_on) ∙ ap (λ set. eqb (final_of set) 0x4B) (wide Supplemental))
 
   EscapeActs : ℕ → ℕ → (ℕ → Option (List ℕ)) → Type 0
-  EscapeActs last inter name = (is : List ℕ) → name last ≡ Some is → Acts (Escape (Some inter) last)
+  EscapeActs last inter name = (is : List ℕ) → name last ≡ Some is → DoesSomething (Escape (Some inter) last)
 
   escape_rows : (last : ℕ) → AllRows (EscapeActs last) escape_names
   unfolding AllRows EscapeActs escape_with SpaceActs NumberSignActs is_german
@@ -137,15 +138,16 @@ module _ (base : IsSoundDisplay display_at_power_up) where
       )
 
   escape_acts : (inter last : ℕ) (name : List ℕ) → escape_with_name inter last ≡ Some name
-      → Acts (Escape (Some inter) last)
+      → DoesSomething (Escape (Some inter) last)
   unfolding escape_with_name EscapeActs
   escape_acts inter last name h = go (look_up escape_names inter) refl h
     where
       go : (o : Option (ℕ → Option (List ℕ))) → look_up escape_names inter ≡ o
-          → unwrap_or o (λ last. None) last ≡ Some name → Acts (Escape (Some inter) last)
+          → unwrap_or o (λ last. None) last ≡ Some name → DoesSomething (Escape (Some inter) last)
       go None is k = absurd (no_some name k)
       go (Some row) is k = row_found (EscapeActs last) escape_names (escape_rows last) inter row is name k
-      -- ---- control sequences
+
+-- ---- control sequences
 
 module _ (base : IsSoundDisplay display_at_power_up) (values : List ℕ) where
   sequence : Option ℕ → Option ℕ → ℕ → Event
@@ -236,25 +238,25 @@ module _ (base : IsSoundDisplay display_at_power_up) (values : List ℕ) where
       modes_changed h s =
           one_comes (λ s p. with_mode modes on p s) (one_has flags on) (has_key modes) mode_stays mode_comes values s s h
 
-  sm : list_any (has_key ansi_modes) values ≡ true → Acts (sequence None None 0x68)
+  sm : list_any (has_key ansi_modes) values ≡ true → DoesSomething (sequence None None 0x68)
   unfolding sequence sequences_of sequence_in
   sm h =
       acts_all_off base (λ s. not (one_has (flags_in ansi_values) true s s)) (sequence None None 0x68) refl
       (ap not (modes_changed (flags_in ansi_values) ansi_modes ansi_mode_rows true h all_off))
 
-  rm : list_any (has_key ansi_modes) values ≡ true → Acts (sequence None None 0x6C)
+  rm : list_any (has_key ansi_modes) values ≡ true → DoesSomething (sequence None None 0x6C)
   unfolding sequence sequences_of sequence_in
   rm h =
       acts_all_on base (λ s. not (one_has (flags_in ansi_values) false s s)) (sequence None None 0x6C) refl
       (ap not (modes_changed (flags_in ansi_values) ansi_modes ansi_mode_rows false h all_on))
 
-  private_sm : list_any (has_key private_modes) values ≡ true → Acts (sequence (Some 0x3F) None 0x68)
+  private_sm : list_any (has_key private_modes) values ≡ true → DoesSomething (sequence (Some 0x3F) None 0x68)
   unfolding sequence sequences_of sequence_in
   private_sm h =
       acts_all_off base (λ s. not (one_has private_flags true s s)) (sequence (Some 0x3F) None 0x68) refl
       (ap not (modes_changed private_flags private_modes private_mode_rows true h all_off))
 
-  private_rm : list_any (has_key private_modes) values ≡ true → Acts (sequence (Some 0x3F) None 0x6C)
+  private_rm : list_any (has_key private_modes) values ≡ true → DoesSomething (sequence (Some 0x3F) None 0x6C)
   unfolding sequence sequences_of sequence_in
   private_rm h =
       acts_all_on base (λ s. not (one_has private_flags false s s)) (sequence (Some 0x3F) None 0x6C) refl
@@ -309,82 +311,82 @@ module _ (base : IsSoundDisplay display_at_power_up) (values : List ℕ) where
       one_comes (λ r p. with_attribute p r) agree (contains (0 ∷ 1 ∷ 4 ∷ 5 ∷ 7 ∷ 22 ∷ 24 ∷ 25 ∷ 27 ∷ []))
       attribute_stays attribute_comes values a b h
 
+  -- the values leave one attribute the same on both displays, which differ in each: so they change one of the two
   sgr : list_any (contains (0 ∷ 1 ∷ 4 ∷ 5 ∷ 7 ∷ 22 ∷ 24 ∷ 25 ∷ 27 ∷ [])) values ≡ true
-      → Acts (sequence None None 0x6D)
+      → DoesSomething (sequence None None 0x6D)
   unfolding sequence sequences_of sequence_in agree same_flags
-  sgr h none =
-      let plain_stays : with_attributes values at_end.brush.rendition ≡ at_end.brush.rendition =
-      ap (λ (s : Display). s.brush.rendition) (none at_end (at_end-sound base)).same in
-      let full_stays : with_attributes values all_on.brush.rendition ≡ all_on.brush.rendition =
-      ap (λ (s : Display). s.brush.rendition) (none all_on (all_on-sound base)).same in
-      let differ : agree (with_attributes values at_end.brush.rendition) (with_attributes values all_on.brush.rendition)
-      ≡ false =
-      ap (λ (r : Rendition). agree r (with_attributes values all_on.brush.rendition)) plain_stays
-      ∙ ap (agree at_end.brush.rendition) full_stays in
-      let same = attributes_agree h at_end.brush.rendition all_on.brush.rendition in absurd cc
+  sgr h = go (agree (with_attributes values at_end.brush.rendition) all_on.brush.rendition) refl
+    where
+      go : (t : Bool) → agree (with_attributes values at_end.brush.rendition) all_on.brush.rendition ≡ t
+          → DoesSomething (sequence None None 0x6D)
+      go true is = acts_at_end base (λ s. not (agree s.brush.rendition all_on.brush.rendition)) _ refl (ap not is)
+      go false is =
+          acts_all_on base (λ s. not (agree (with_attributes values at_end.brush.rendition) s.brush.rendition)) _
+          (ap not is) (ap not (attributes_agree h at_end.brush.rendition all_on.brush.rendition))
 
   -- ---- other functions that depend on values
 
-  ed : contains (0 ∷ 1 ∷ 2 ∷ []) (first values) ≡ true → Acts (sequence None None 0x4A)
+  ed : contains (0 ∷ 1 ∷ 2 ∷ []) (first values) ≡ true → DoesSomething (sequence None None 0x4A)
   unfolding sequence sequences_of sequence_in
   ed h = resets_wrap base _ (rw (area (first values) h) refl)
 
-  el : contains (0 ∷ 1 ∷ 2 ∷ []) (first values) ≡ true → Acts (sequence None None 0x4B)
+  el : contains (0 ∷ 1 ∷ 2 ∷ []) (first values) ≡ true → DoesSomething (sequence None None 0x4B)
   unfolding sequence sequences_of sequence_in
   el h = resets_wrap base _ (rw (area (first values) h) refl)
 
-  decsed : contains (0 ∷ 1 ∷ 2 ∷ []) (first values) ≡ true → Acts (sequence (Some 0x3F) None 0x4A)
+  decsed : contains (0 ∷ 1 ∷ 2 ∷ []) (first values) ≡ true → DoesSomething (sequence (Some 0x3F) None 0x4A)
   unfolding sequence sequences_of sequence_in
   decsed h = resets_wrap base _ (rw (area (first values) h) refl)
 
-  decsel : contains (0 ∷ 1 ∷ 2 ∷ []) (first values) ≡ true → Acts (sequence (Some 0x3F) None 0x4B)
+  decsel : contains (0 ∷ 1 ∷ 2 ∷ []) (first values) ≡ true → DoesSomething (sequence (Some 0x3F) None 0x4B)
   unfolding sequence sequences_of sequence_in
   decsel h = resets_wrap base _ (rw (area (first values) h) refl)
 
-  tbc : contains (0 ∷ 3 ∷ []) (first values) ≡ true → Acts (sequence None None 0x67)
+  tbc : contains (0 ∷ 3 ∷ []) (first values) ≡ true → DoesSomething (sequence None None 0x67)
   unfolding sequence sequences_of sequence_in no_stops
   tbc h = go (either 0 3 (first values) h)
     where
-      go : (first values ≡ 0) ⊎ (first values ≡ 3) → Acts (sequence None None 0x67)
+      go : (first values ≡ 0) ⊎ (first values ≡ 3) → DoesSomething (sequence None None 0x67)
       go (inl is) =
           acts_all_on base (λ s. has_stop_at s.stops 9) _ refl (ap (λ p. has_stop_at (clear_tabs p all_on).stops 9) is)
       go (inr is) =
           acts_all_on base (λ s. has_stop_at s.stops 9) _ refl (ap (λ p. has_stop_at (clear_tabs p all_on).stops 9) is)
 
-  margins : are_margins values ≡ true → Acts (sequence None None 0x72)
+  margins : are_margins values ≡ true → DoesSomething (sequence None None 0x72)
   unfolding sequence sequences_of sequence_in
   margins h = resets_wrap base _ (rw h refl)
 
-  decsca : contains (0 ∷ 1 ∷ 2 ∷ []) (first values) ≡ true → Acts (sequence None (Some 0x22) 0x71)
+  decsca : contains (0 ∷ 1 ∷ 2 ∷ []) (first values) ≡ true → DoesSomething (sequence None (Some 0x22) 0x71)
   unfolding sequence sequences_of sequence_in
   decsca h = go (eqb_tells (first values) 1) (λ k. either 0 2 (first values) (grind (arith, nat_tests, h, k)))
     where
       off : (n : ℕ) → first values ≡ n → (select_character_attribute n all_on).brush.protected ≡ false
-          → Acts (sequence None (Some 0x22) 0x71)
+          → DoesSomething (sequence None (Some 0x22) 0x71)
       off n is after =
           acts_all_on base (λ s. s.brush.protected) _ refl
           (ap (λ p. (select_character_attribute p all_on).brush.protected) is ∙ after)
 
       go : ((eqb (first values) 1 ≡ true) × (first values ≡ 1)) ⊎ ((eqb (first values) 1 ≡ false) × (first values ≢ 1))
-          → (first values ≢ 1 → (first values ≡ 0) ⊎ (first values ≡ 2)) → Acts (sequence None (Some 0x22) 0x71)
+          → (first values ≢ 1 → (first values ≡ 0) ⊎ (first values ≡ 2))
+          → DoesSomething (sequence None (Some 0x22) 0x71)
       go (inl t) rest =
           acts_at_end base (λ s. not s.brush.protected) _ refl
           (ap (λ p. not (select_character_attribute p at_end).brush.protected) t.1)
       go (inr f) rest = zero_or_two (rest f.1)
         where
-          zero_or_two : (first values ≡ 0) ⊎ (first values ≡ 2) → Acts (sequence None (Some 0x22) 0x71)
+          zero_or_two : (first values ≡ 0) ⊎ (first values ≡ 2) → DoesSomething (sequence None (Some 0x22) 0x71)
           zero_or_two (inl is) = off 0 is refl
           zero_or_two (inr is) = off 2 is refl
 
   level : (p q : ℕ) → (p == 61 || (p == 62 && contains (0 ∷ 1 ∷ 2 ∷ []) q)) ≡ true → is_some (asked_form p q) ≡ true
   level p q h = grind (arith, nat_tests, h)
 
-  decscl : is_level values ≡ true → Acts (sequence None (Some 0x22) 0x70)
+  decscl : is_level values ≡ true → DoesSomething (sequence None (Some 0x22) 0x70)
   unfolding sequence sequences_of sequence_in
   decscl h = go (asked_form (first values) (second values)) refl (level (first values) (second values) h)
     where
       go : (o : Option Bool) → asked_form (first values) (second values) ≡ o → is_some o ≡ true
-          → Acts (sequence None (Some 0x22) 0x70)
+          → DoesSomething (sequence None (Some 0x22) 0x70)
       go None is k = absurd cc
       go (Some eight) is k =
           resets_wrap base _ (ap (λ (o : Option Bool). (soft_reset_to o at_end).cursor.wrap) is)
@@ -393,43 +395,43 @@ module _ (base : IsSoundDisplay display_at_power_up) (values : List ℕ) where
 
   -- the report begins with ESC if the first value is this number
   answers : (marker : Option ℕ) (last n : ℕ) → first values ≡ n
-      → slice_index (sequence_report marker None last n at_end) 0 ≡ 0x1B → Acts (sequence marker None last)
+      → slice_index (sequence_report marker None last n at_end) 0 ≡ 0x1B → DoesSomething (sequence marker None last)
   unfolding sequence
   answers marker last n is says =
       reports base _ (ap (λ p. slice_index (sequence_report marker None last p at_end) 0) is ∙ says)
 
-  da : contains (0 ∷ []) (first values) ≡ true → Acts (sequence None None 0x63)
+  da : contains (0 ∷ []) (first values) ≡ true → DoesSomething (sequence None None 0x63)
   unfolding sequence_report
   da h = answers None 0x63 0 (only 0 (first values) h) refl
 
-  secondary_da : contains (0 ∷ []) (first values) ≡ true → Acts (sequence (Some 0x3E) None 0x63)
+  secondary_da : contains (0 ∷ []) (first values) ≡ true → DoesSomething (sequence (Some 0x3E) None 0x63)
   unfolding sequence_report
   secondary_da h = answers (Some 0x3E) 0x63 0 (only 0 (first values) h) refl
 
-  dsr : contains (5 ∷ 6 ∷ []) (first values) ≡ true → Acts (sequence None None 0x6E)
+  dsr : contains (5 ∷ 6 ∷ []) (first values) ≡ true → DoesSomething (sequence None None 0x6E)
   unfolding sequence_report
   dsr h = go (either 5 6 (first values) h)
     where
-      go : (first values ≡ 5) ⊎ (first values ≡ 6) → Acts (sequence None None 0x6E)
+      go : (first values ≡ 5) ⊎ (first values ≡ 6) → DoesSomething (sequence None None 0x6E)
       go (inl is) = answers None 0x6E 5 is refl
       go (inr is) = answers None 0x6E 6 is refl
 
-  private_dsr : contains (15 ∷ 26 ∷ []) (first values) ≡ true → Acts (sequence (Some 0x3F) None 0x6E)
+  private_dsr : contains (15 ∷ 26 ∷ []) (first values) ≡ true → DoesSomething (sequence (Some 0x3F) None 0x6E)
   unfolding sequence_report
   private_dsr h = go (either 15 26 (first values) h)
     where
-      go : (first values ≡ 15) ⊎ (first values ≡ 26) → Acts (sequence (Some 0x3F) None 0x6E)
+      go : (first values ≡ 15) ⊎ (first values ≡ 26) → DoesSomething (sequence (Some 0x3F) None 0x6E)
       go (inl is) = answers (Some 0x3F) 0x6E 15 is refl
       go (inr is) = answers (Some 0x3F) 0x6E 26 is refl
 
   -- ---- the tables
 
   SequenceActs : Option ℕ → Option ℕ → ℕ → Function → Type 0
-  SequenceActs marker inter last function = function.takes values ≡ true → Acts (sequence marker inter last)
+  SequenceActs marker inter last function = function.takes values ≡ true → DoesSomething (sequence marker inter last)
 
   -- a function that resets the wrap flag whatever its values
   wraps : (marker inter : Option ℕ) (last : ℕ) → (effect (sequence marker inter last) at_end).cursor.wrap ≡ false
-      → true ≡ true → Acts (sequence marker inter last)
+      → true ≡ true → DoesSomething (sequence marker inter last)
   wraps marker inter last after h = resets_wrap base _ after
 
   sequence_rows : AllRows (SequenceActs None None) plain_names
@@ -500,31 +502,33 @@ module _ (base : IsSoundDisplay display_at_power_up) (values : List ℕ) where
       go false k = absurd (no_some name k)
 
   table_acts : (marker inter : Option ℕ) (names : FunctionTable) → AllRows (SequenceActs marker inter) names
-      → (last : ℕ) (name : List ℕ) → name_in names last values ≡ Some name → Acts (sequence marker inter last)
+      → (last : ℕ) (name : List ℕ) → name_in names last values ≡ Some name → DoesSomething (sequence marker inter last)
   unfolding name_in SequenceActs
   table_acts marker inter names rows last name h = go (look_up names last) refl h
     where
       go : (o : Option Function) → look_up names last ≡ o
-          → option_and_then (λ function. name_with values function) o ≡ Some name → Acts (sequence marker inter last)
+          → option_and_then (λ function. name_with values function) o ≡ Some name
+          → DoesSomething (sequence marker inter last)
       go None is k = absurd (no_some name k)
       go (Some function) is k =
           row_found (SequenceActs marker inter) names rows last function is (taken function name k)
 
   MarkedActs : ℕ → List ℕ → ℕ → FunctionTable → Type 0
-  MarkedActs last name marker names = name_in names last values ≡ Some name → Acts (sequence (Some marker) None last)
+  MarkedActs last name marker names =
+      name_in names last values ≡ Some name → DoesSomething (sequence (Some marker) None last)
 
   IntermediateActs : ℕ → List ℕ → ℕ → FunctionTable → Type 0
   IntermediateActs last name inter names =
-      name_in names last values ≡ Some name → Acts (sequence None (Some inter) last)
+      name_in names last values ≡ Some name → DoesSomething (sequence None (Some inter) last)
 
   sequence_acts : (marker inter : Option ℕ) (last : ℕ) (name : List ℕ)
-      → name_in (names_of marker inter) last values ≡ Some name → Acts (sequence marker inter last)
+      → name_in (names_of marker inter) last values ≡ Some name → DoesSomething (sequence marker inter last)
   unfolding names_of name_in AllRows MarkedActs IntermediateActs
   sequence_acts None None last name h = table_acts None None plain_names sequence_rows last name h
   sequence_acts (Some marker) None last name h = go (look_up marker_names marker) refl h
     where
       go : (o : Option FunctionTable) → look_up marker_names marker ≡ o
-          → name_in (unwrap_or o []) last values ≡ Some name → Acts (sequence (Some marker) None last)
+          → name_in (unwrap_or o []) last values ≡ Some name → DoesSomething (sequence (Some marker) None last)
       go None is k = absurd (no_some name k)
       go (Some names) is k = row_found (MarkedActs last name) marker_names (
         table_acts (Some 0x3F) None private_names private_rows last name,
@@ -533,7 +537,7 @@ module _ (base : IsSoundDisplay display_at_power_up) (values : List ℕ) where
   sequence_acts None (Some inter) last name h = go (look_up intermediate_names inter) refl h
     where
       go : (o : Option FunctionTable) → look_up intermediate_names inter ≡ o
-          → name_in (unwrap_or o []) last values ≡ Some name → Acts (sequence None (Some inter) last)
+          → name_in (unwrap_or o []) last values ≡ Some name → DoesSomething (sequence None (Some inter) last)
       go None is k = absurd (no_some name k)
       go (Some names) is k = row_found (IntermediateActs last name) intermediate_names (
         table_acts None (Some 0x22) quote_names quote_rows last name,
@@ -551,7 +555,7 @@ printed b name h = go (has_no_glyph b) h
     go false k = refl
 
 pub named_acts : IsSoundDisplay display_at_power_up → (event : Event) (name : List ℕ) → name_of event ≡ Some name
-    → Acts event
+    → DoesSomething event
 unfolding control_name plain_escape_name ControlActs PlainActs sequence
 named_acts base (Print b) name h = print_acts base b (printed b name h)
 named_acts base (Control b) name h =

@@ -1,5 +1,5 @@
 -- Three sound displays: each function changes one of them.
-use Rattle.std.proofs.Common.{◌≡◌, ℕ, Bool, true, false, List, [], ◌∷◌, length, None, refl, ap, arith}
+use Rattle.std.proofs.Common.{◌≡◌, ℕ, Bool, true, false, List, [], ◌∷◌, length, None, refl, ap, arith, inl, inr}
 use Rattle.std.specs.Prelude.{slice_index, fold}
 use Rattle.vt_syntax.specs.declared.event.Event.{Event}
 use Rattle.vt_glyph.specs.declared.set.Set.TheVariants.{German}
@@ -12,7 +12,7 @@ use Rattle.vt_term.specs.Modes.{ansi_modes, private_modes, keypad_mode, report_f
 use Rattle.vt_term.specs.Sound.{IsSoundDisplay}
 use Rattle.vt_term.specs.Functions.{effect}
 use Rattle.vt_term.specs.Reports.{report}
-use Rattle.vt_trace.specs.Ignored.{HasNoEffect}
+use Rattle.vt_trace.specs.Ignored.{DoesSomething}
 
 -- power-up, with the wrap flag set at the end of line 1
 abbrev pub at_end : Display
@@ -50,12 +50,8 @@ length-no_stops : length no_stops ≡ 132
 unfolding no_stops
 length-no_stops = refl
 
--- the event changes a display, or makes it report: it isn't so that it has no effect
-abbrev pub Acts : Event → Type 0
-Acts event = HasNoEffect event → ⊥
-
 module _ (base : IsSoundDisplay display_at_power_up) where
-  pub at_end-sound : IsSoundDisplay at_end
+  at_end-sound : IsSoundDisplay at_end
   at_end-sound = record {
     grid = base.grid;
     cursor = record {
@@ -87,7 +83,7 @@ module _ (base : IsSoundDisplay display_at_power_up) where
     saved_sets = base.saved_sets;
   }
 
-  pub all_on-sound : IsSoundDisplay all_on
+  all_on-sound : IsSoundDisplay all_on
   all_on-sound = record {
     grid = blank_grid-sound true;
     cursor = record {
@@ -119,28 +115,36 @@ module _ (base : IsSoundDisplay display_at_power_up) where
 
   -- a test that a sound display passes, and that it doesn't pass after the event
   differs : (test : Display → Bool) (s : Display) → IsSoundDisplay s → (event : Event) → test s ≡ true
-      → test (effect event s) ≡ false → Acts event
-  differs test s sound event before after none =
-      let same : test (effect event s) ≡ test s = ap test (none s sound).same in absurd cc
+      → test (effect event s) ≡ false → DoesSomething event
+  differs test s sound event before after = record {
+    display = s;
+    sound = sound;
+    acts = inl (λ (same : effect event s ≡ s). let tested : test (effect event s) ≡ test s = ap test same in absurd cc);
+  }
 
   pub acts_at_end : (test : Display → Bool) (event : Event) → test at_end ≡ true → test (effect event at_end) ≡ false
-      → Acts event
+      → DoesSomething event
   acts_at_end test event = differs test at_end at_end-sound event
 
   pub acts_all_on : (test : Display → Bool) (event : Event) → test all_on ≡ true → test (effect event all_on) ≡ false
-      → Acts event
+      → DoesSomething event
   acts_all_on test event = differs test all_on all_on-sound event
 
   pub acts_all_off : (test : Display → Bool) (event : Event) → test all_off ≡ true
-      → test (effect event all_off) ≡ false → Acts event
+      → test (effect event all_off) ≡ false → DoesSomething event
   acts_all_off test event = differs test all_off all_off-sound event
 
   -- the wrap flag is reset
-  pub resets_wrap : (event : Event) → (effect event at_end).cursor.wrap ≡ false → Acts event
+  pub resets_wrap : (event : Event) → (effect event at_end).cursor.wrap ≡ false → DoesSomething event
   resets_wrap event after = acts_at_end (λ s. s.cursor.wrap) event refl after
 
   -- something is reported, which begins with ESC
-  pub reports : (event : Event) → slice_index (report event at_end) 0 ≡ 0x1B → Acts event
-  reports event says none =
-      let silent : slice_index (report event at_end) 0 ≡ 0 =
-      ap (λ (bytes : List ℕ). slice_index bytes 0) (none at_end at_end-sound).silent in absurd (omega (arith, silent, says))
+  pub reports : (event : Event) → slice_index (report event at_end) 0 ≡ 0x1B → DoesSomething event
+  reports event says = record {
+    display = at_end;
+    sound = at_end-sound;
+    acts = inr
+        (λ (none : report event at_end ≡ []).
+        let silent : slice_index (report event at_end) 0 ≡ 0 = ap (λ (bytes : List ℕ). slice_index bytes 0) none in
+        absurd (omega (arith, silent, says)));
+  }

@@ -1,5 +1,5 @@
--- The events that are ignored.
-use Rattle.std.specs.Prelude.{◌≡◌, [], Bool, true, false, Some, None}
+-- The events that are ignored, and those that do something.
+use Rattle.std.specs.Prelude.{◌≡◌, ◌≢◌, ◌⊎◌, [], Bool, true, false, Some, None}
 use Rattle.vt_syntax.specs.declared.event.Event.{Event}
 use Rattle.vt_term.specs.State.{Display}
 use Rattle.vt_term.specs.Sound.{IsSoundDisplay}
@@ -19,3 +19,9 @@ pub record LeavesAlone (event : Event) (s : Display) : Type 0 where
 -- so it is on every sound display
 abbrev pub HasNoEffect : Event → Type 0
 HasNoEffect event = (s : Display) → IsSoundDisplay s → LeavesAlone event s
+
+-- a sound display that the event changes, or on which it reports something
+pub record DoesSomething (event : Event) : Type 0 where
+  pub display : Display
+  pub sound : IsSoundDisplay display
+  pub acts : (effect event display ≢ display) ⊎ (report event display ≢ [])

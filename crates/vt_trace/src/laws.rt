@@ -7,7 +7,7 @@ ghost use Rattle.vt_term.specs.State.{State};
 ghost use Rattle.vt_term.specs.Sound.{IsSound};
 ghost use Rattle.vt_term.specs.Play.{play};
 ghost use Rattle.vt_syntax.specs.declared.event.Event.{Event};
-ghost use Rattle.vt_trace.specs.Ignored.{is_ignored, HasNoEffect};
+ghost use Rattle.vt_trace.specs.Ignored.{is_ignored, HasNoEffect, DoesSomething};
 ghost use Rattle.vt_trace.specs.Summary.{kind_number, without_values, IsByteAtMost};
 ghost use Rattle.vt_trace.specs.Skipped.{all_kinds, kinds_of};
 ghost use Rattle.vt_trace.specs.declared.tracing.Tracer.{Tracer};
@@ -17,10 +17,11 @@ ghost use Rattle.vt_trace.specs.Trace.{trace, tracer_all, tracer_at_start, IsAft
 use vt_syntax::laws::one_split;
 use vt_term::laws::{cuts as play_cuts, soundness};
 
-/// An event is ignored exactly if it leaves every sound display as it is and reports nothing.
+/// States which events do something: one without a name leaves every sound display as it is and reports nothing. Each
+/// event with a name changes some sound display, or reports something on it.
 pub fn ignored()
     ensures has_no_effect { (event : Event) → is_ignored event ≡ true → HasNoEffect event }
-    ensures no_other { (event : Event) → HasNoEffect event → is_ignored event ≡ true }
+    ensures named { (event : Event) → is_ignored event ≡ false → DoesSomething event }
 {
     soundness();
 }

@@ -1,7 +1,7 @@
 use Rattle.std.proofs.Common.{◌≡◌, true, false, List, ℕ, Option, Some, None, refl}
 use Rattle.vt_syntax.specs.declared.event.Event.{Event}
 use Rattle.vt_trace.specs.Names.{name_of}
-use Rattle.vt_trace.specs.Ignored.{HasNoEffect}
+use Rattle.vt_trace.specs.Ignored.{DoesSomething}
 use Rattle.vt_trace.proofs.Alone.{nameless_alone}
 use Rattle.vt_trace.proofs.Acting.{named_acts}
 use Rattle.vt_trace.proofs.laws.ignored.Goals as goal
@@ -13,11 +13,10 @@ nameless (Some name) h = absurd cc
 pub returns-clause-has_no_effect : goal.returns-clause-has_no_effect
 returns-clause-has_no_effect c = λ event h s sound. nameless_alone event (nameless (name_of event) h) s
 
-pub returns-clause-no_other : goal.returns-clause-no_other
-returns-clause-no_other c = λ event none. go event none (name_of event) refl
+pub returns-clause-named : goal.returns-clause-named
+returns-clause-named c = λ event h. go event (name_of event) refl h
   where
-    go : (event : Event) → HasNoEffect event → (name : Option (List ℕ)) → name_of event ≡ name
-        → (elim name [ None ↦ true | Some name ↦ false ]) ≡ true
-    go event none None is = refl
-    go event none (Some name) is =
-        absurd (named_acts c.soundness.ensures.power_up.display event name is none)
+    go : (event : Event) (name : Option (List ℕ)) → name_of event ≡ name
+        → (elim name [ None ↦ true | Some name ↦ false ]) ≡ false → DoesSomething event
+    go event None is h = absurd cc
+    go event (Some name) is h = named_acts c.soundness.ensures.power_up.display event name is

@@ -411,6 +411,8 @@ static int show_last(const char *name) {
 
 static int follow(const char *name) {
     sigset_t open_mask;
+    while (it.why == 0 && !it.is_behind) read_frames(0); /* a keeper that takes no more clients sends no screen */
+    if (it.why != 0 && it.why != FRAME_ENDED) return say(name);
     hold_signals(&open_mask);
     set_raw();
     if (!draw_enter()) it.why = 'm';

@@ -77,6 +77,7 @@ static void put_screen(struct client *c) {
     put_frame(c, FRAME_SCREEN, len);
     c->log_at = log_begin();
     c->log_end = log_end();
+    c->log_lost = 0;
     c->wants_log = false;
     c->is_reading = true;
 }
@@ -84,9 +85,10 @@ static void put_screen(struct client *c) {
 /* Adds the next lines of the log, or its end. */
 static void put_lines(struct client *c) {
     uint8_t *room = frame_room(c);
-    size_t len = log_read(&c->log_at, c->log_end, room, FRAME_LIMIT);
-    put_frame(c, len > 0 ? FRAME_LINES : FRAME_LOGGED, len);
+    size_t len = log_read(&c->log_at, c->log_end, room, FRAME_LIMIT, &c->log_lost);
     c->is_reading = len > 0;
+    if (c->is_reading) put_frame(c, FRAME_LINES, len);
+    else put(c, FRAME_LOGGED, &c->log_lost, c->log_lost > 0 ? sizeof c->log_lost : 0);
     if (!c->is_reading && c->state == READING) leave(c);
 }
 
@@ -258,17 +260,30 @@ static void begin_old(struct client *c) {
     leave(c);
 }
 
-static void take_name(struct client *c, const uint8_t *bytes, size_t len) {
+/* Somebody else holds the lock of the directory. Returns whether a client's frame is to be tried again later. */
+static bool waits_for_lock(struct client *c) {
+    long long time = now();
+    if (c->again == 0) c->gives_up = time + patience / 2; /* the client waits for `patience` */
+    c->again = time + LOCK_PAUSE;
+    return time < c->gives_up;
+}
+
+/* Returns false if the frame is to be tried again. */
+static bool take_name(struct client *c, const uint8_t *bytes, size_t len) {
     char name[NAME_LIMIT + 1] = {0}, why[WHY_LIMIT];
     if (len <= NAME_LIMIT) memcpy(name, bytes, len);
     if (strlen(name) != len || !is_name(name)) {
         refuse(c, "the new name isn't valid");
+    } else if (is_locked(the.folder.file) && waits_for_lock(c)) {
+        return false;
     } else if (!rename_session(name, why)) {
         refuse(c, why);
     } else {
         put(c, FRAME_ANSWER, NULL, 0);
         leave(c);
     }
+    c->again = 0;
+    return true;
 }
 
 /* Becomes the program that a client passed. The reply is part of the state, so it comes from the new program. */
@@ -283,7 +298,7 @@ static void upgrade_for(struct client *c) {
     refuse(c, why);
 }
 
-/* Handles a frame. Returns false if its keys don't fit into the queue now. */
+/* Handles a frame. Returns false if it is to be tried again: its keys don't fit into the queue now, or the directory is locked. */
 static bool take_frame(struct client *c, char letter, const uint8_t *bytes, size_t len) {
     bool is_typing = c->state == SENDING || (c->state == ATTACHED && !c->is_read_only);
     if (letter == FRAME_KEYS && is_typing && !the.is_over) return add_input(bytes, len, false);
@@ -291,7 +306,7 @@ static bool take_frame(struct client *c, char letter, const uint8_t *bytes, size
         put(c, FRAME_ANSWER, NULL, 0);
         leave(c);
     } else if (letter == FRAME_NAME && c->state == ASKING && c->ask == ASK_RENAME) {
-        take_name(c, bytes, len);
+        return take_name(c, bytes, len);
     } else if (letter == FRAME_PROGRAM && c->state == ASKING && c->ask == ASK_UPGRADE) {
         upgrade_for(c);
     } else if (letter == FRAME_LOG && c->state == ATTACHED) {
@@ -414,5 +429,6 @@ void let_go(size_t i) {
 /* Returns the time at which something is due for a client, or LLONG_MAX. */
 long long next_time(const struct client *c) {
     bool is_behind = c->state == ATTACHED && is_sent(c) && has_news(c);
-    return is_behind && c->due < c->deadline ? c->due : c->deadline;
+    long long due = is_behind ? c->due : c->again != 0 ? c->again : LLONG_MAX;
+    return due < c->deadline ? due : c->deadline;
 }

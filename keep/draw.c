@@ -1,6 +1,7 @@
-/* Draws a terminal on standard output, which is another terminal of any kind: characters in UTF-8, CUP, SGR 0 1 4 5 7, BEL, and the
+/* Draws a terminal on standard output, which is another terminal of any kind: characters in UTF-8, CUP, ED, SGR 0 1 4 5 7, BEL, and the
  * cursor shown or hidden. What is drawn there is remembered, and only differences are drawn. The two screens may have any size.
- * A smaller outer screen shows the part that has the cursor, and names that part in a corner. On a larger one the remainder is blank.
+ * A smaller outer screen shows the part that has the cursor, and names that part in a corner. On a larger one the remainder is blank;
+ * nothing is drawn beyond the columns of a VT220.
  * A drawing is gathered and written as the outer terminal takes it. The next one is made when that is done. */
 #include "keep.h"
 #include <errno.h>
@@ -16,13 +17,13 @@ enum { BOLD = 1, UNDERLINE = 2, BLINK = 4, REVERSE = 8 };
 enum { PIECE = 64, PLACE_LIMIT = 48 /* the most bytes that a place takes, with its CUP and SGR */ };
 
 struct place {
-    uint32_t glyph; /* its Unicode number; 0 if it isn't known what is there */
+    uint32_t glyph; /* its Unicode number; 0 if nothing was drawn there since the screen was cleared */
     uint32_t brush; /* of the four attributes above */
 };
 
 static struct {
     int line;            /* the file that is written, without waiting */
-    size_t rows, cols;   /* of the screen that is drawn on */
+    size_t rows, cols;   /* of the screen that is drawn on; no more columns than a VT220 has */
     struct place *drawn; /* what is on it, row by row */
     size_t row, col;     /* where its cursor is; row 0 if that isn't known */
     uint32_t brush;      /* what its SGR is */
@@ -99,7 +100,8 @@ static void set_brush(uint32_t brush) {
 /* After the last column the position of the outer cursor isn't known: some terminals wrap at once. */
 static void draw_place(size_t row, size_t col, struct place it) {
     struct place *drawn = &outer.drawn[(row - 1) * outer.cols + col - 1];
-    if (drawn->glyph == it.glyph && drawn->brush == it.brush) return;
+    uint32_t there = drawn->glyph != 0 ? drawn->glyph : ' ';
+    if (there == it.glyph && drawn->brush == it.brush) return;
     show_cursor(false);
     go(row, col);
     set_brush(it.brush);
@@ -213,18 +215,31 @@ void draw_bell(void) {
     outer.rings = true;
 }
 
-/* Asks for the size of the outer screen. All of it is then drawn again. Returns false if allocation fails. */
-bool draw_resize(void) {
+/* Asks for the size of the outer screen. Returns false if allocation fails. */
+static bool set_size(void) {
     struct winsize size = {0};
     ioctl(outer.line, TIOCGWINSZ, &size);
     outer.rows = size.ws_row > 0 ? size.ws_row : VT220_ROWS;
     outer.cols = size.ws_col > 0 ? size.ws_col : 80;
-    outer.row = 0;
+    if (outer.cols > VT220_COLUMNS) outer.cols = VT220_COLUMNS;
     free(outer.drawn);
     outer.drawn = calloc(outer.rows * outer.cols, sizeof *outer.drawn);
     char *more = realloc(out, length + outer.rows * outer.cols * PLACE_LIMIT + 4 * PIECE);
     if (more != NULL) out = more;
     return outer.drawn != NULL && more != NULL;
+}
+
+static void clear(void) {
+    set_brush(0);
+    put("\033[2J");
+    outer.row = 0;
+}
+
+/* Takes in a new size of the outer screen, and clears it. All of it is then drawn again. Returns false if allocation fails. */
+bool draw_resize(void) {
+    if (!set_size()) return false;
+    clear();
+    return true;
 }
 
 /* Enters the alternate screen of the outer terminal. The terminal is opened again, so that only this program's writes don't wait. */
@@ -233,10 +248,11 @@ bool draw_enter(void) {
     if (outer.line == 0) outer.line = name != NULL ? open(name, O_WRONLY | O_NONBLOCK | O_NOCTTY | O_CLOEXEC) : -1;
     if (outer.line < 0) outer.line = STDOUT_FILENO;
     at = length = 0;
-    if (!draw_resize()) return false;
+    if (!set_size()) return false;
     put("\033[?1049h\033[0m\033[?25h");
     outer.has_cursor = true;
     outer.brush = 0;
+    clear();
     return true;
 }
 

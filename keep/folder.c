@@ -88,16 +88,21 @@ struct folder open_folder(void) {
     bool is_named = named != NULL && *named != 0;
     int len = is_named ? snprintf(path, sizeof path, "%s", named) : snprintf(path, sizeof path, "/tmp/keep-%u", geteuid());
     if (len < 0 || (size_t)len >= sizeof path) fail(1, "the path of the directory is too long");
-    while (len > 1 && path[len - 1] == '/') path[--len] = 0; /* with it, O_NOFOLLOW would follow a link */
+    /* With a slash at the end, or a slash and a dot, O_NOFOLLOW would follow a link. */
+    for (int n; len > (n = path[len - 1] == '.' ? 2 : 1) && path[len - n] == '/';) path[len -= n] = 0;
     if (!try_folder(path, &folder, why)) fail(1, "%s", why);
     return folder;
 }
 
 /* --- the lock --- */
 
+bool try_lock(int folder) {
+    return flock(folder, LOCK_EX | LOCK_NB) == 0;
+}
+
 bool lock_folder(int folder) {
     struct timespec pause = {0, 10000000};
-    for (long long end = now() + patience; flock(folder, LOCK_EX | LOCK_NB) != 0;) {
+    for (long long end = now() + patience; !try_lock(folder);) {
         if (now() > end) return false;
         nanosleep(&pause, NULL);
     }
@@ -106,6 +111,12 @@ bool lock_folder(int folder) {
 
 void unlock_folder(int folder) {
     flock(folder, LOCK_UN);
+}
+
+bool is_locked(int folder) {
+    if (!try_lock(folder)) return true;
+    unlock_folder(folder);
+    return false;
 }
 
 /* --- names and sockets --- */

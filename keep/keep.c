@@ -187,9 +187,11 @@ static int do_log(char **words, const struct options *options) {
     (void)options;
     struct folder folder = open_folder();
     size_t len;
-    uint8_t *log = wire_ask_log(existing(&folder, words[0]), words[0], &len);
+    uint64_t lost;
+    uint8_t *log = wire_ask_log(existing(&folder, words[0]), words[0], &len, &lost);
     fwrite(log, 1, len, stdout);
     free(log);
+    if (fflush(stdout) == 0 && lost > 0) fail(1, "%s wrote faster than its log could be read: %llu bytes of it are missing", words[0], (unsigned long long)lost);
     return 0;
 }
 

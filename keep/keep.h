@@ -12,7 +12,7 @@
 #include <stdnoreturn.h>
 #include <sys/types.h>
 
-enum { NAME_LIMIT = 64, WHY_LIMIT = 512 };
+enum { NAME_LIMIT = 64, WHY_LIMIT = PATH_MAX + 512 /* a reason may begin with a path */ };
 
 /* --- keep.c --- */
 
@@ -40,6 +40,8 @@ struct folder open_folder(void); /* ends the program if it can't be opened */
 bool try_folder(const char *path, struct folder *folder, char *why);
 bool lock_folder(int folder); /* false if somebody else holds it for longer than `patience` */
 void unlock_folder(int folder);
+bool try_lock(int folder);  /* false if somebody else holds it */
+bool is_locked(int folder); /* by somebody else */
 int open_listener(int folder, const char *name, struct identity *made, char *why); /* -1, and why */
 int connect_to(int folder, const char *name);                                       /* -1, and errno */
 int existing(const struct folder *folder, const char *name);                         /* ends the program if there is none */
@@ -72,7 +74,7 @@ size_t wire_ask(int socket, const char *name, char ask, const char *argument, ui
 /* Asks the keeper to become the program that runs here. Ends the program if it doesn't. */
 void wire_ask_upgrade(int socket, const char *name);
 /* Asks for the log, and returns it whole: the lines, and then the screen. The caller frees it. Ends the program if there is none. */
-uint8_t *wire_ask_log(int socket, const char *name, size_t *len);
+uint8_t *wire_ask_log(int socket, const char *name, size_t *len, uint64_t *lost);
 
 /* --- list.c --- */
 

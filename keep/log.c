@@ -99,9 +99,12 @@ uint64_t log_end(void) {
 }
 
 /* Copies whole lines from a place on, at most up to `end` and as many as `to` has capacity for. Moves the place after them. Lines that
- * aren't kept any more are left out. Returns how many bytes were copied. */
-size_t log_read(uint64_t *place, uint64_t end, uint8_t *to, size_t size) {
-    if (*place < logged.begin) *place = logged.begin;
+ * aren't kept any more are left out, and their bytes are added to `lost`. Returns how many bytes were copied. */
+size_t log_read(uint64_t *place, uint64_t end, uint8_t *to, size_t size, uint64_t *lost) {
+    if (*place < logged.begin) {
+        *lost += (logged.begin < end ? logged.begin : end) - *place;
+        *place = logged.begin;
+    }
     if (*place >= end) return 0;
     size_t len = end - *place < size ? (size_t)(end - *place) : size;
     copy_out(*place, to, len);

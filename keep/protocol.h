@@ -56,7 +56,7 @@ enum {
     FRAME_BELL = 'B',     /* the program rang the bell */
     FRAME_SCREEN = 'T',   /* the log begins: the text of the screen, which follows the last line of the log */
     FRAME_LINES = 'L',    /* whole lines of the log, the oldest first */
-    FRAME_LOGGED = 'Z',   /* the log is complete */
+    FRAME_LOGGED = 'Z',   /* the end of the log: empty, or how many bytes of it were left out, as a uint64_t. Older keepers don't tell */
     FRAME_ANSWER = 'A',   /* the reply to a request: a line, the text, the repaint */
     FRAME_REFUSED = 'R',  /* the reason for which a request was refused */
     FRAME_DETACHED = 'D', /* a client asked to detach all */

@@ -42,7 +42,9 @@ static void mend_socket(void) {
     struct identity made;
     if (the.listener < 0 || !try_folder(the.folder.path, &folder, why)) return;
     int listener = -1;
-    if (is_own(folder.file, the.name, &the.socket)) {
+    bool is_fine = is_own(folder.file, the.name, &the.socket);
+    the.binds_at = !is_fine && is_locked(folder.file) ? now() + LOCK_PAUSE : 0;
+    if (is_fine || the.binds_at != 0) {
         close(folder.file);
         return;
     }
@@ -61,14 +63,14 @@ static void mend_socket(void) {
 }
 
 bool rename_session(const char *name, char *why) {
-    if (!lock_folder(the.folder.file)) {
+    if (!try_lock(the.folder.file)) {
         snprintf(why, WHY_LIMIT, "another vt220-keep holds the lock of the directory");
         return false;
     }
     bool is_mine = is_own(the.folder.file, the.name, &the.socket);
     bool is_done = is_mine && is_free(the.folder.file, name, why) && renameat(the.folder.file, the.name, the.folder.file, name) == 0;
     unlock_folder(the.folder.file);
-    if (!is_mine) snprintf(why, WHY_LIMIT, "its socket was taken away; vt220-keep list has it made again");
+    if (!is_mine) snprintf(why, WHY_LIMIT, the.is_given_up ? "the session has ended" : "its socket was taken away; vt220-keep list has it made again");
     if (is_done) set_name(name);
     return is_done;
 }
@@ -109,6 +111,7 @@ static void wait_for_event(struct pollfd *polled, const size_t *place, const sig
     polled[0] = (struct pollfd){is_resting ? -1 : the.listener, POLLIN, 0};
     polled[1] = (struct pollfd){the.master, (short)(POLLIN | (the.waiting > 0 ? POLLOUT : 0)), 0};
     if (is_resting) earlier(&until, the.listens_at);
+    if (the.binds_at != 0) earlier(&until, the.binds_at);
     if (the.kill_at != 0 && !the.is_over) earlier(&until, the.kill_at);
     if (the.is_over && !the.is_given_up) earlier(&until, the.leave_at);
     for (size_t i = 0; i < CLIENT_LIMIT; i++) {
@@ -127,7 +130,7 @@ static void wait_for_event(struct pollfd *polled, const size_t *place, const sig
 
 static void obey_signals(long long time) {
     if (has_child_ended) look_for_end();
-    if (is_told_to_bind) mend_socket();
+    if (is_told_to_bind || (the.binds_at != 0 && time >= the.binds_at)) mend_socket();
     if (is_told_to_end == 2 && !the.is_over) kill(-the.command, SIGKILL);
     if (is_told_to_end && the.is_over) give_up();
     else if (is_told_to_end) hang_up();

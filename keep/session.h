@@ -15,6 +15,7 @@ enum {
     CLIENT_LIMIT = ATTACHED_LIMIT + ASKING_LIMIT,
     INTERVAL = 20,      /* milliseconds from one update of a client to its next */
     KILL_AFTER = 2000,  /* milliseconds that a command has to end after SIGHUP */
+    LOCK_PAUSE = 10,    /* milliseconds between two looks at the lock of the directory, if somebody else holds it */
     PIECE = 4096,       /* the most bytes of one read of the program */
     INPUT_LIMIT = 8192, /* the most bytes of keys that wait for the program, and as many of reports */
     SMALL_FRAMES = 1024, /* capacity for the frames after an update */
@@ -34,9 +35,12 @@ struct client {
     bool wants_log;        /* it asked for the log, and isn't sent it yet */
     bool is_reading;       /* it is sent the log */
     uint64_t log_at, log_end; /* which part of the log it still has to be sent */
+    uint64_t log_lost;     /* how many bytes of it were left out, since they were no longer kept when they were due */
     long long due;         /* when the next update may go */
     long long deadline;    /* when it is let go, done or not: it has `patience` to ask, and to take the last frames */
     long long came;
+    long long again;       /* when the frame is tried again that waits for the lock of the directory; 0 if none does */
+    long long gives_up;    /* when that frame is refused */
     size_t in_len;
     uint8_t in[FRAME_HEAD + KEYS_LIMIT];
     size_t at, len; /* `out` is written up to `at` */
@@ -61,6 +65,7 @@ struct session {
     int master, slave, listener; /* the program's terminal line, and where clients come in; -1 once closed */
     pid_t command;
     long long listens_at; /* the listener isn't looked at before this time */
+    long long binds_at;   /* when the socket is looked at again, since somebody else held the lock; 0 if it needn't be */
     long long kill_at;    /* when the command is killed that was told to end */
     long long leave_at;   /* when the last screen is given up */
     long long linger;     /* for how long it is kept */
@@ -105,7 +110,7 @@ void log_append(const uint8_t *lines, size_t len);
 void log_start(uint64_t place);
 uint64_t log_begin(void);
 uint64_t log_end(void);
-size_t log_read(uint64_t *place, uint64_t end, uint8_t *to, size_t size);
+size_t log_read(uint64_t *place, uint64_t end, uint8_t *to, size_t size, uint64_t *lost);
 
 /* session.c */
 bool open_terminals(void);

@@ -136,8 +136,8 @@ static void put_input(FILE *to) {
 
 static void put_log(FILE *to) {
     static uint8_t lines[FRAME_LIMIT];
-    uint64_t place = log_begin();
-    for (size_t len; (len = log_read(&place, log_end(), lines, sizeof lines)) > 0;) put_item(to, ITEM_LINES, lines, len);
+    uint64_t place = log_begin(), lost = 0;
+    for (size_t len; (len = log_read(&place, log_end(), lines, sizeof lines, &lost)) > 0;) put_item(to, ITEM_LINES, lines, len);
 }
 
 static void put_client(FILE *to, const struct client *c) {

@@ -32,10 +32,13 @@ bool types_keys(char ask) {
     return ask == ASK_ATTACH || ask == ASK_SEND;
 }
 
+static bool has_closed; /* whether the keeper has closed the connection, instead of saying nothing */
+
 static bool receive(int socket, void *to, size_t len) {
     for (size_t at = 0; at < len;) {
         ssize_t n = recv(socket, (char *)to + at, len - at, 0);
         if (n < 0 && errno == EINTR) continue;
+        if (n == 0 || (n < 0 && errno == ECONNRESET)) has_closed = true;
         if (n <= 0) return false;
         at += (size_t)n;
     }
@@ -114,6 +117,15 @@ int wire_begin(int socket, char ask, uint8_t flags, struct hello *hello, char *w
     return WIRE_OTHER_VERSION;
 }
 
+/* Ends the program, since a keeper doesn't answer. If the keeper has ended, so has the session, which is what was asked of a kill. */
+static noreturn void fail_silent(const char *name, char ask) {
+    struct folder folder = open_folder();
+    bool is_gone = has_closed && connect_to(folder.file, name) < 0 && (errno == ENOENT || errno == ECONNREFUSED);
+    if (is_gone && ask == ASK_KILL) exit(0);
+    if (is_gone) fail(1, "no such session: %s", name);
+    fail(1, "%s doesn't answer", name);
+}
+
 /* Ends the program unless the keeper will do what it is asked. Returns the version of the protocol. */
 static uint8_t begin(int socket, const char *name, char ask) {
     struct hello hello;
@@ -121,15 +133,15 @@ static uint8_t begin(int socket, const char *name, char ask) {
     int result = wire_begin(socket, ask, 0, &hello, why);
     if (result == WIRE_FULL) fail(1, "%s takes no more clients", name);
     if (result == WIRE_OTHER_VERSION) fail(1, "%s %s", name, why);
-    if (result != WIRE_OK) fail(1, "%s doesn't answer", name);
+    if (result != WIRE_OK) fail_silent(name, ask);
     return hello.version;
 }
 
 /* Reads the reply to a request. Ends the program if there is none. */
-static size_t read_answer(int socket, const char *name, uint8_t *bytes) {
+static size_t read_answer(int socket, const char *name, char ask, uint8_t *bytes) {
     char letter;
     size_t len;
-    if (!wire_receive(socket, &letter, bytes, FRAME_LIMIT, &len)) fail(1, "%s doesn't answer", name);
+    if (!wire_receive(socket, &letter, bytes, FRAME_LIMIT, &len)) fail_silent(name, ask);
     if (letter == FRAME_REFUSED) fail(1, "%s: %.*s", name, (int)(len < WHY_LIMIT ? len : WHY_LIMIT), (char *)bytes);
     if (letter != FRAME_ANSWER) fail(1, "%s doesn't answer", name);
     close(socket);
@@ -139,12 +151,12 @@ static size_t read_answer(int socket, const char *name, uint8_t *bytes) {
 size_t wire_ask(int socket, const char *name, char ask, const char *argument, uint8_t *bytes) {
     begin(socket, name, ask);
     if (ask == ASK_KILL) wire_patience(socket, patience + KILL_MORE);
-    if (argument != NULL && !wire_send(socket, FRAME_NAME, argument, strlen(argument))) fail(1, "%s doesn't answer", name);
-    return read_answer(socket, name, bytes);
+    if (argument != NULL) wire_send(socket, FRAME_NAME, argument, strlen(argument)); /* if it can't be sent, nothing is answered */
+    return read_answer(socket, name, ask, bytes);
 }
 
 /* Sends an empty frame, and passes a file with it. */
-static bool send_file(int socket, char letter, int file) {
+static void send_file(int socket, char letter, int file) {
     union {
         struct cmsghdr head;
         char room[CMSG_SPACE(sizeof(int))];
@@ -155,7 +167,7 @@ static bool send_file(int socket, char letter, int file) {
     memset(&passed, 0, sizeof passed);
     passed.head = (struct cmsghdr){.cmsg_level = SOL_SOCKET, .cmsg_type = SCM_RIGHTS, .cmsg_len = CMSG_LEN(sizeof(int))};
     memcpy(CMSG_DATA(&passed.head), &file, sizeof file);
-    return sendmsg(socket, &message, MSG_NOSIGNAL) == (ssize_t)sizeof frame;
+    sendmsg(socket, &message, MSG_NOSIGNAL);
 }
 
 void wire_ask_upgrade(int socket, const char *name) {
@@ -164,8 +176,8 @@ void wire_ask_upgrade(int socket, const char *name) {
     if (program < 0) fail(1, "/proc/self/exe: %s", strerror(errno));
     if (begin(socket, name, ASK_UPGRADE) < PROTOCOL_UPGRADE) fail(1, "%s is kept by an older vt220-keep, which can't be replaced", name);
     wire_patience(socket, patience + UPGRADE_MORE);
-    if (!send_file(socket, FRAME_PROGRAM, program)) fail(1, "%s doesn't answer", name);
-    read_answer(socket, name, bytes);
+    send_file(socket, FRAME_PROGRAM, program); /* likewise */
+    read_answer(socket, name, ASK_UPGRADE, bytes);
     close(program);
 }
 
@@ -186,8 +198,8 @@ static void gather(struct gathered *all, const uint8_t *bytes, size_t len) {
 }
 
 /* The log is read whole before any of it is printed: a keeper drops a client that reads nothing for some time, as one does whose output
- * goes to a pager. */
-uint8_t *wire_ask_log(int socket, const char *name, size_t *len) {
+ * goes to a pager. The keeper says how many bytes are lost, since the program wrote faster than this client read. */
+uint8_t *wire_ask_log(int socket, const char *name, size_t *len, uint64_t *lost) {
     static uint8_t bytes[FRAME_LIMIT], screen[FRAME_LIMIT];
     struct gathered log = {0};
     size_t frame_len, screen_len = 0;
@@ -197,7 +209,9 @@ uint8_t *wire_ask_log(int socket, const char *name, size_t *len) {
         if (letter == FRAME_LINES) gather(&log, bytes, frame_len);
         if (letter == FRAME_SCREEN) memcpy(screen, bytes, screen_len = frame_len);
     }
-    if (letter != FRAME_LOGGED) fail(1, "%s doesn't answer", name);
+    if (letter != FRAME_LOGGED) fail_silent(name, ASK_LOG);
+    *lost = 0;
+    if (frame_len == sizeof *lost) memcpy(lost, bytes, sizeof *lost);
     gather(&log, screen, screen_len);
     close(socket);
     *len = log.len;

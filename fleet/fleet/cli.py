@@ -15,7 +15,8 @@ import time
 
 from .config import CHOICES, Beyond, Settings, Unclear, seconds, within
 
-LEAVING = 10.0  # seconds to wait for a store after a signal to end
+LEAVING = 10.0  # seconds to wait for a store after a signal to end, at most
+HEALTH = 2.0  # seconds to wait for a store that the page's /healthz asks
 TAKEN, FAULT, NONE, REFUSED, UNFIT, DENIED, CONFIGURATION = 5, 4, 3, 6, 69, 77, 78
 
 
@@ -51,7 +52,7 @@ def do_worker(words, settings):
         from .metrics import serve
 
         serve(worker, chosen.metrics)
-    on_end(lambda: (setattr(worker, "is_leaving", True), setattr(store, "patience", LEAVING)))
+    on_end(lambda: (setattr(worker, "is_leaving", True), setattr(store, "patience", min(LEAVING, settings.store.give_up))))
     while not worker.is_gone:
         worker.turn()
     return 0
@@ -119,7 +120,7 @@ def keep_running(made, language, words, settings):
         program = Program(host, link, state)
     else:
         program = started(host, words.command, path, words.user or settings.host.user, settings.host.orphan)
-    on_end(lambda: (program.stop(), setattr(made[0], "patience", LEAVING)))
+    on_end(lambda: (program.stop(), setattr(made[0], "patience", min(LEAVING, settings.store.give_up))))
     signal.signal(signal.SIGUSR1, lambda *_: program.leave())
     status = program.run()
     if program.is_leaving and status is None and not host.fault:
@@ -281,7 +282,9 @@ def do_web(words, settings):
     for name in ("address", "port", "typing"):
         if getattr(words, name) is not None:
             setattr(settings.web, name, getattr(words, name))
-    return serve(settings.connect(waits=True), settings.web)
+    asked = settings.connect()
+    asked.patience = min(asked.patience, HEALTH)
+    return serve(settings.connect(waits=True), asked, settings.web)
 
 
 def add_hosts(add):

@@ -12,12 +12,11 @@ import threading
 import time
 
 from . import keys
-from .keys import key
+from .keys import PIECE, key
 from .store import RedisError, is_for_now
 
 log = logging.getLogger("fleet.host")
 
-PIECE = 16384  # bytes of an entry at most
 REPORT = re.compile(rb"(?:\x1b\[|\x9b)(?:\?62;1;6c|>1;10;0c|0n|[0-9]{1,2};[0-9]{1,3}R|\?13n|\?27;1n)", re.DOTALL)
 REPORT_LIMIT = 10
 WAITING = 1 << 20  # bytes that may wait for a worker; then the program is made to wait

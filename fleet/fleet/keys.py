@@ -67,6 +67,7 @@ ALL, LIVE, NAMES, WAITING, SUSPECTS, TRYING, FOREIGN, WORKERS, DRAINING = (
 )
 NEW = "fleet:new"
 NAME_LIMIT = 200
+PIECE = 16384  # bytes of an entry at most
 SHOWN = 1000  # characters of what the store says that are shown at most
 
 

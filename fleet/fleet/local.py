@@ -1,5 +1,6 @@
 """A store and workers on this machine, for `fleet run`, the tests and the measurements: a Redis that is reached through a Unix
 socket in a directory of mode 0700, so by this user alone, and that writes each change to disk before it answers."""
+import ctypes
 import os
 import shutil
 import signal
@@ -14,9 +15,24 @@ from .store import connect
 HERE = os.path.dirname(os.path.abspath(__file__))
 COMMAND = os.path.join(HERE, "..", "fleet-cli")
 PYTHON = "/usr/bin/python3"  # the one that Debian's python3-redis is for
+PR_SET_PDEATHSIG = 1
+
+
+def tied():
+    """Returns what a child calls before its program starts, to be killed when the thread that started it ends, by whatever."""
+    parent, prctl = os.getpid(), ctypes.CDLL(None).prctl
+
+    def tie():
+        prctl(PR_SET_PDEATHSIG, signal.SIGKILL, 0, 0, 0)
+        if os.getppid() != parent:  # it has ended meanwhile
+            os._exit(1)
+
+    return tie
 
 
 class LocalStore:
+    before = None  # what each child calls before its program starts
+
     def __init__(self, *options):
         self.folder = tempfile.mkdtemp(prefix="fleet-")  # of mode 0700
         self.socket = os.path.join(self.folder, "redis.sock")
@@ -28,7 +44,7 @@ class LocalStore:
         words = ["--port", "0", "--unixsocket", self.socket, "--unixsocketperm", "700", "--dir", self.folder, "--save", ""]
         words += ["--appendonly", "yes", "--appendfsync", "always", *self.options, *more]
         with open(os.path.join(self.folder, "log"), "ab") as log:
-            self.server = subprocess.Popen(["redis-server", *words], stdout=log, stderr=log)
+            self.server = subprocess.Popen(["redis-server", *words], stdout=log, stderr=log, preexec_fn=self.before)
         connect(self.url).ping()
 
     def kill(self):
@@ -48,6 +64,8 @@ class LocalStore:
 class Workers:
     """Workers side by side; what they log goes to a file."""
 
+    before = None  # what each child calls before its program starts
+
     def __init__(self, count, folder, url, *words):
         self.words, self.folder, self.url = words, folder, url
         self.all = [self.another() for _ in range(count)]
@@ -55,9 +73,8 @@ class Workers:
     def another(self, url=None):
         with open(os.path.join(self.folder, "workers"), "ab") as said:
             words = [PYTHON, COMMAND, "worker", *self.words]
-            return subprocess.Popen(
-                words, stdout=subprocess.DEVNULL, stderr=said, env=os.environ | {"FLEET_REDIS": url or self.url}
-            )
+            where = os.environ | {"FLEET_REDIS": url or self.url}
+            return subprocess.Popen(words, stdout=subprocess.DEVNULL, stderr=said, env=where, preexec_fn=self.before)
 
     def kill(self, number):
         """Kills one with no warning, and starts another."""
@@ -76,7 +93,9 @@ class Workers:
 
 
 def run(count, command):
-    """Starts a store and workers, until Ctrl-C or as long as a command runs. A worker that ends is started again."""
+    """Starts a store and workers, until Ctrl-C or as long as a command runs. A worker that ends is started again. If this process is
+    killed, they are, too."""
+    LocalStore.before = Workers.before = staticmethod(tied())
     for ends in (signal.SIGHUP, signal.SIGTERM):
         signal.signal(ends, lambda *_: sys.exit(1))
     store = LocalStore()

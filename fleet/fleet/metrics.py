@@ -1,4 +1,5 @@
 """Metrics in Prometheus's text form, of a worker and of the whole fleet; and /healthz, which is 200 or 503."""
+import collections
 import threading
 import time
 from http.server import BaseHTTPRequestHandler, ThreadingHTTPServer
@@ -8,7 +9,7 @@ from prometheus_client.core import CounterMetricFamily, GaugeMetricFamily, Histo
 from prometheus_client.exposition import CONTENT_TYPE_LATEST
 
 from . import keys
-from .operate import everything
+from .operate import living
 
 WORDS = {
     "entries": "Entries of sessions' bytes that were played",
@@ -84,11 +85,11 @@ class WholeFleet:
     def facts_of_store(self):
         begin = time.monotonic()
         self.store.ping()
-        trip, listed = time.monotonic() - begin, everything(self.store)
+        trip, (listed, ended) = time.monotonic() - begin, living(self.store)
         oldest = min((score for key in (keys.WAITING, keys.SUSPECTS) for _, score in self.store.zrange(key, 0, 0, withscores=True)), default=None)
         seconds, micros = self.store.time()
         waited = max(0.0, seconds + micros / 1e6 - oldest / 1000) if oldest else 0.0
-        return {"trip": trip, "listed": listed, "waited": waited, "workers": self.store.hlen(keys.WORKERS)}
+        return {"trip": trip, "listed": listed, "ended": ended, "waited": waited, "workers": self.store.hlen(keys.WORKERS)}
 
     def problem(self):
         facts = self.look()
@@ -105,14 +106,14 @@ class WholeFleet:
         lags = [each["lag"] for each in facts["listed"]]
         yield GaugeMetricFamily("fleet_lag_bytes", "Bytes of all sessions that no worker has played", value=sum(lags))
         yield GaugeMetricFamily("fleet_lag_most_bytes", "The most of them in one session", value=max(lags, default=0))
-        yield self.counted("fleet_states", "Sessions by their state", "state", STATES, lambda each: each["state"].split(" ")[0] if each["status"] else each["state"])
-        named = [each for each in facts["listed"] if each["fault"]]
-        yield self.counted("fleet_session_faults", "Sessions with a fault, by its name", "fault", (), lambda each: each["fault"].split(":")[0], named)
+        states = collections.Counter(each["state"].split(" ")[0] if each["status"] else each["state"] for each in facts["listed"])
+        states["ended"] += facts["ended"]
+        yield self.counted("fleet_states", "Sessions by their state", "state", dict.fromkeys(STATES, 0) | states)
+        faults = collections.Counter(each["fault"].split(":")[0] for each in facts["listed"] if each["fault"])
+        yield self.counted("fleet_session_faults", "Sessions with a fault, by its name", "fault", faults)
 
-    def counted(self, name, words, label, known, kind, listed=None):
-        family, counts = GaugeMetricFamily(name, words, labels=[label]), dict.fromkeys(known, 0)
-        for each in self.facts["listed"] if listed is None else listed:
-            counts[kind(each)] = counts.get(kind(each), 0) + 1
+    def counted(self, name, words, label, counts):
+        family = GaugeMetricFamily(name, words, labels=[label])
         for what, count in counts.items():
             family.add_metric([what], count)
         return family

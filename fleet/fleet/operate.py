@@ -96,7 +96,17 @@ def state_of(each, has_host):
 
 
 def everything(store):
+    """Returns a dictionary for each session that the store has."""
     return about(store, [each.decode() for each in store.zrange(keys.ALL, 0, -1)])
+
+
+def living(store):
+    """Returns a dictionary for each session that hasn't ended, and how many have. Those may be many, so the store is asked about many at
+    once."""
+    known, found = store.zrange(keys.ALL, 0, -1), []
+    for at in range(0, len(known), 500):
+        found += [each.decode() for each in store.run("living", *known[at : at + 500])[1:]]
+    return about(store, found), len(known) - len(found)
 
 
 def ago(moment):
@@ -111,7 +121,7 @@ def ago(moment):
 
 def show_list(store, is_json, is_all):
     """Prints a line for each session, or a line of JSON."""
-    listed = [each for each in everything(store) if is_all or not each["state"].startswith("ended")]
+    listed = everything(store) if is_all else living(store)[0]
     if is_json:
         for each in listed:
             print(json.dumps(each))

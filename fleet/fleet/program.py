@@ -14,8 +14,9 @@ import time
 from vt220.process import LOCALES, TERMS
 
 from . import wire
-from .host import PIECE, Taken
-from .keys import DEC, Fault
+from .host import Taken
+from .keys import DEC, PIECE, Fault
+from .store import is_for_now
 
 log = logging.getLogger("fleet.host")
 
@@ -181,8 +182,9 @@ class Program:
                 self.host.fault = self.host.fault or fault
                 self.came.put(None)
                 return
-            except Exception:
-                log.exception("%s: what came for the program", self.host.name)
+            except Exception as error:
+                if not is_for_now(error):  # a host that ends gives up a store that is away, and says so once
+                    log.exception("%s: what came for the program", self.host.name)
                 time.sleep(0.5)
 
     def give(self, entries):

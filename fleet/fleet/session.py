@@ -6,7 +6,8 @@ a checkpoint's position is before the bytes that begin a character and wait for 
 """
 import vt220
 
-from .keys import DEC, FORMATS, Damaged, Language, Long, Lost, Trimmed, Version, Wrong, format_of, key, language_of, position, read_checkpoint
+from .keys import DEC, FORMATS, PIECE, Damaged, Language, Long, Lost, Trimmed, Version, Wrong
+from .keys import format_of, key, language_of, position, read_checkpoint
 from .rebuild import rebuilt
 
 
@@ -37,7 +38,7 @@ class Session:
         at, number = map(int, entry_id.split(b"-"))
         data = fields.get(b"bytes", b"")
         if not is_formed(at, number, fields):
-            raise Wrong(f"entry {entry_id.decode()} is no host's: it has {', '.join(map(repr, sorted(fields)))}")
+            raise Wrong(f"entry {entry_id.decode()} is no host's: it has {', '.join(map(repr, sorted(fields)))}, {len(data)} bytes")
         if at - len(data) > self.at:
             raise Trimmed(f"the bytes from {self.at} to {at - len(data)} are gone")
         if number == 2:
@@ -62,7 +63,7 @@ class Session:
 def is_formed(at, number, fields):
     """Returns whether an entry is of one of the three forms that hosts write."""
     if number == 0:
-        return 0 < len(fields.get(b"bytes", b"")) <= at and b"status" not in fields
+        return 0 < len(fields.get(b"bytes", b"")) <= min(at, PIECE) and b"status" not in fields
     if number == 2:
         status = fields.get(b"status", b"")
         return (status.isdigit() and len(status) <= 3 or status in (b"lost", b"ended")) and b"bytes" not in fields

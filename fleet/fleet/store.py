@@ -149,6 +149,7 @@ class Store(redis.Redis):
         self.password_file = None
         self.was_let_in = False  # a password was accepted once: if it isn't any more, it is being changed
         self.patience = None  # seconds that the store is waited for; None for ever
+        self.is_to_keep = False  # each run of the store has to have an append-only file
         self.connection_pool.connection_kwargs["redis_connect_func"] = self.greet
 
     def greet(self, connection):
@@ -160,9 +161,13 @@ class Store(redis.Redis):
             connection.on_connect()
         except ResponseError as error:
             raise AuthenticationError(str(error)) if "WRONGPASS" in str(error) else error
-        connection.send_command("INFO", "server")
-        said = connection.read_response()
-        run_id = next((line[7:].strip() for line in said.split(b"\n") if line.startswith(b"run_id:")), None)
+        connection.send_command("INFO", "server", "persistence")
+        facts = dict(line.split(b":", 1) for line in connection.read_response().splitlines() if b":" in line)
+        if self.is_to_keep and facts.get(b"loading") == b"1":  # it says then that it has no file
+            raise BusyLoadingError("the store reads its file")
+        if self.is_to_keep and facts.get(b"aof_enabled") != b"1":
+            raise ConnectionError(UNSAFE)
+        run_id = facts.get(b"run_id")
         if self.run_id not in (None, run_id):
             log.warning("the store was started again, or is another one")
             if self.minds_runs:
@@ -327,7 +332,8 @@ class Store(redis.Redis):
         return facts.get("run_id"), facts.get("evicted_keys")
 
     def examine(self, is_any_allowed=False):
-        """Raises Unfit if the store forgets by design: a cluster, eviction, no append-only file."""
+        """Raises Unfit if the store forgets by design: a cluster, eviction, no append-only file. If it comes back later without such a
+        file, it counts as away."""
         facts = self.patiently(self.facts_when_loaded)
         if facts.get("redis_mode") == "cluster":
             raise Unfit("this store is a Redis Cluster, which the fleet doesn't support: give each fleet a store of its own")
@@ -340,6 +346,7 @@ class Store(redis.Redis):
             raise Unfit("; ".join(found) + ". Mend that, or set unsafe = yes in the configuration's [store]")
         for each in found:
             log.warning("unsafe store: %s", each)
+        self.is_to_keep = not is_any_allowed
 
 
 def of_sentinels(url, words):

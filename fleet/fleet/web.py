@@ -22,6 +22,7 @@ from aiohttp import WSMsgType, web
 from vt220.keyboard import pressed, spelled
 from vt220.page import hashed
 
+from . import keys
 from .gallery import Gallery
 from .operate import PAUSE as PAUSE_OF_KEYS, Typist, parts
 
@@ -108,8 +109,9 @@ def problem(error):
 
 
 class Page:
-    def __init__(self, store, settings):
-        self.store, self.settings, self.token = store, settings, token_of(settings.token_file)
+    def __init__(self, store, asked, settings):
+        """Makes the page over a store, whose calls wait for ever. Those of `asked`, for the page's health, give up."""
+        self.store, self.asked, self.settings, self.token = store, asked, settings, token_of(settings.token_file)
         self.text, self.policy = document()
         self.gallery = Gallery(store, self.changed)
         self.loop, self.events = None, set()
@@ -135,6 +137,18 @@ class Page:
             "X-Frame-Options": "DENY",
         }
         return web.Response(text=self.text, content_type="text/html", headers=headers)
+
+    async def health(self, _):
+        """Returns 200 if the store answers and a worker lives, otherwise 503 and which of both is not so."""
+        problem = await asyncio.get_running_loop().run_in_executor(None, self.problem)
+        return web.Response(status=503 if problem else 200, text=f"{problem or 'ok'}\n")
+
+    def problem(self):
+        try:
+            return "" if self.asked.hlen(keys.WORKERS) else "no worker lives"
+        except Exception as error:
+            log.warning("the store can't be read: %s: %s", type(error).__name__, error)
+            return "the store can't be read"
 
     async def live(self, request):
         """A client's connection: what changed goes there, keys come from there."""
@@ -204,16 +218,18 @@ class Page:
 
     def application(self):
         app = web.Application()
-        app.add_routes([web.get("/", self.index), web.get("/live", self.live)])
+        app.add_routes([web.get("/", self.index), web.get("/live", self.live), web.get("/healthz", self.health)])
         app.on_startup.append(self.start)
         return app
 
 
-def serve(store, settings):
+def serve(store, asked, settings):
     """Serves the page until Ctrl-C."""
-    page = Page(store, settings)
+    page = Page(store, asked, settings)
     where = f"[{settings.address}]" if ":" in settings.address else settings.address
-    address = f"http://{where}:{settings.port}/?token={page.token}"
+    # What a service prints is in the journal, which others may read. So a token of a file is never printed.
+    token = f"TOKEN, with the one in {settings.token_file}" if settings.token_file else page.token
+    address = f"http://{where}:{settings.port}/?token={token}"
 
     def announce(_):
         """Prints the address, once the page is served there."""

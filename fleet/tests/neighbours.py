@@ -7,6 +7,7 @@ import time
 
 import aiohttp
 
+import load
 from harness import (
     Processes,
     Source,
@@ -299,6 +300,34 @@ def a_wrong_field_is_one_session_s_fault(url, _):
     check(fleet(url, "workers")[0] == 0, name, "nor does the list of workers")
 
 
+def an_entry_that_is_too_long_is_a_fault(url, _):
+    """No host writes such a one, which would take memory and time from others."""
+    name, one, bad, good = "long entry", worker(url), Source(url, "bad"), Source(url, "good").send(b"x" * keys.PIECE, piece=keys.PIECE)
+    size = keys.PIECE + 1
+    bad.store.run("append", bad.incarnation, 0, size, keys.version(), keys.now(), b"x" * size)
+    check(until(lambda: bad.fault() and good.end(0).is_ended(), one), name, "it ends the session, and no other")
+    check(bad.fault().startswith("Wrong: ") and str(size) in bad.fault(), name, bad.fault())
+    check(bad.store.hget(bad.part("about"), "played") == b"0", name, "nothing of it is played")
+
+
+def a_backlog_of_many_sessions_takes_little_memory(url, _):
+    """Each of them has much to play, as after an outage. A turn plays a share of each, and little more is read."""
+    name, one, count, times = "backlog", worker(url), 200, 16
+    sessions = load.Sessions(url, count)
+    until(lambda: len(one.kept) == count and not one.due, one)
+    for _ in range(times):
+        sessions.send(sessions.incarnations, b"x" * keys.PIECE)
+    most = 0
+
+    def waits():
+        nonlocal most
+        most = max(most, sum(len(fields[b"bytes"]) for each in one.kept.values() for _, fields in each.queue))
+        return sum(each.at for each in one.kept.values()) == count * times * keys.PIECE
+
+    check(until(waits, one), name, "all is played")
+    check(most <= 2 * count * keys.PIECE, name, f"at most two entries of each wait in the worker: {most}")
+
+
 def what_the_store_says_is_printed_without_its_escapes(url, _):
     name, store = "escapes", stores.connect(url)
     evil = "\033]0;title\007\033[2J\u009b1m"
@@ -358,6 +387,8 @@ CASES = [
     a_browser_types_into_others_beside_a_session_that_reads_nothing,
     a_long_session_without_a_checkpoint_doesn_t_stop_the_page,
     a_wrong_field_is_one_session_s_fault,
+    an_entry_that_is_too_long_is_a_fault,
+    a_backlog_of_many_sessions_takes_little_memory,
     what_the_store_says_is_printed_without_its_escapes,
     a_password_is_changed_while_the_fleet_runs,
 ]

@@ -44,6 +44,56 @@ from stores_faults import program
 SHELL = ["sh", "-c", "while read x; do echo got $x; done; exit 9"]
 
 
+def children_of(pid):
+    with open(f"/proc/{pid}/task/{pid}/children") as children:
+        return [int(each) for each in children.read().split()]
+
+
+def is_there(pid):
+    """Returns whether a process runs."""
+    try:
+        with open(f"/proc/{pid}/stat") as stat:
+            return stat.read().rpartition(")")[2].split()[0] not in "ZX"
+    except FileNotFoundError:
+        return False
+
+
+@with_machine
+def run_leaves_nothing_when_it_is_killed(machine, _):
+    """By a signal that it can't handle."""
+    name, words = "run", [local.PYTHON, local.COMMAND, "run", "--workers", "2"]
+    runs = subprocess.Popen(words, env=os.environ | {"TMPDIR": machine.folder}, stderr=subprocess.PIPE, text=True)
+    url = next(found[1] for found in map(re.compile(r"export FLEET_REDIS=(\S+)").match, runs.stderr) if found)
+    check(wait_for(lambda: stores.connect(url).hlen(keys.WORKERS) == 2), name, "its workers live")
+    started = children_of(runs.pid)
+    check(len(started) == 3 and all(map(is_there, started)), name, f"a store and two workers: {started}")
+    runs.kill()
+    runs.wait()
+    check(wait_for(lambda: not any(map(is_there, started))), name, "they end with it")
+
+
+@with_machine
+def a_list_asks_little_of_sessions_that_ended(machine, _):
+    """A store may have thousands of them."""
+    name, store, one = "ended", stores.connect(machine.url), worker(machine.url)
+    ended = [Source(machine.url, f"job-{number}").end(0) for number in range(60)]
+    until(lambda: all(source.is_ended() for source in ended), one)
+    lives, bad = Source(machine.url, "lives"), Source(machine.url, "bad")
+    store.set(bad.part("fault"), "Wrong: so")
+    store.srem(keys.LIVE, bad.incarnation)
+
+    def asked():
+        return store.info("commandstats")["cmdstat_hmget"]["calls"]
+
+    before = asked()
+    status, out, _ = fleet(machine.url, "list")
+    check(status == 0 and [line.split()[0] for line in out.splitlines()] == ["NAME", "lives", "bad"], name, f"they aren't listed: {out}")
+    check(asked() - before == 2, name, f"nor read: {asked() - before}")
+    check(len(fleet(machine.url, "list", "--all")[1].splitlines()) == 63, name, "but with --all")
+    facts = WholeFleet(stores.connect(machine.url)).look()
+    check((facts["ended"], len(facts["listed"])) == (60, 2), name, "the metrics count them")
+
+
 def state(store, name):
     from fleet.operate import everything
 
@@ -129,6 +179,21 @@ def kill_end_and_their_statuses(machine, data):
     store.xtrim(Source(url, "cut").send(b"a").send(b"b").part("bytes"), maxlen=0)
     check(fleet(url, "text", "cut")[0] == 4, name, "text of one that has lost its bytes: 4")
     workers.stop()
+
+
+@with_machine
+def a_host_ends_also_without_a_store(machine, _):
+    name, words = "no store", ["sh", "-c", "echo on; exec sleep infinity"]
+    with configured(machine, "[store]", "timeout = 60", "give-up = 1"):
+        host = subprocess.Popen([local.PYTHON, local.COMMAND, "host", name, *words], env=os.environ | {"FLEET_REDIS": machine.url}, stderr=subprocess.PIPE, text=True)
+        store = stores.connect(machine.url)
+        wait_for(lambda: b"on" in written(store, name))
+    machine.kill()
+    host.terminate()
+    said = host.communicate(timeout=PATIENCE)[1]
+    check(host.returncode == 69, name, f"it gives up: {host.returncode}")
+    check("Traceback" not in said and said.splitlines()[-1].startswith("fleet: "), name, f"and says why in a line: {said}")
+    machine.start()
 
 
 @with_machine
@@ -449,11 +514,15 @@ def the_configuration_is_read_and_checked(machine, _):
         check("ExecStart=" in text and "[Service]" in text, name, unit)
         check("StartLimitIntervalSec=0" in text and "Restart=" in text, name, f"{unit} is started again for ever")
         check(all(f"{word}=" in text for word in ("SystemCallFilter", "UMask", "NoNewPrivileges", "ProtectSystem")), name, f"{unit} is hardened")
+        check("MemoryMax=" in text or "-host@" in unit, name, f"{unit} has a bound of memory, unless a user's program runs in it")
 
 
 CASES = [
+    run_leaves_nothing_when_it_is_killed,
+    a_list_asks_little_of_sessions_that_ended,
     list_tells_how_sessions_are,
     kill_end_and_their_statuses,
+    a_host_ends_also_without_a_store,
     drain_hands_over,
     viewers_type_in_order_and_once,
     keys_have_the_form_that_the_program_asked_for,

@@ -205,6 +205,27 @@ def a_store_without_persistence_is_refused_and_rebuilt(machine, data):
     compare(source, name)
 
 
+@with_machine
+def a_store_that_comes_back_without_its_file_is_waited_for(machine, data):
+    """It was fit when host and worker began, and is started again by another configuration."""
+    name, one = "without its file", worker(machine.url)
+    source = Source(machine.url, name).send(data)
+    for each in (one.store, source.store):
+        each.examine()
+    until(lambda: one.kept and not one.due, one)
+    machine.kill()
+    machine.start("--appendonly", "no")
+    source.store.patience = 0.5
+    check(raises(stores.ConnectionError, source.store.ping), name, "it counts as away")
+    source.store.patience = None
+    machine.kill()
+    machine.start()
+    source.send(b"abc\033[6n").end(0)
+    check(until(source.is_ended, one), name, "with its file it goes on")
+    source.receive()
+    compare(source, name)
+
+
 def refusals(store):
     """Returns how many calls the store has refused since it was full."""
     return int(store.info("errorstats").get("errorstat_OOM", "count=0").removeprefix("count="))
@@ -421,6 +442,7 @@ CASES = [
     reports_that_the_store_lost_are_made_again,
     what_cannot_be_rebuilt_is_a_named_fault,
     a_store_without_persistence_is_refused_and_rebuilt,
+    a_store_that_comes_back_without_its_file_is_waited_for,
     a_full_store_is_waited_for,
     evicted_keys_are_named_or_sent_again,
     without_a_worker_bytes_wait_within_a_bound,

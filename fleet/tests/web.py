@@ -10,8 +10,9 @@ import aiohttp
 
 from browser import Browser
 from harness import PATIENCE, Processes, Source, check, key, keys, local, stores, wait_for, wanted, with_machine
-from safety import free_port
+from safety import conf, free_port
 from stores_faults import program
+from fleet import claims
 from fleet.gallery import Picture
 import vt220
 
@@ -22,9 +23,9 @@ PICTURES = os.environ.get("FLEET_PICTURES")  # a directory for screenshots, to b
 class Served:
     """fleet web, on a port of its own."""
 
-    def __init__(self, machine, *words):
+    def __init__(self, machine, *words, config=None):
         self.port = free_port()
-        words = [local.PYTHON, local.COMMAND, "web", "--port", str(self.port), *words]
+        words = [local.PYTHON, local.COMMAND, *(["--config", config] if config else []), "web", "--port", str(self.port), *words]
         self.process = subprocess.Popen(
             words, env=os.environ | {"FLEET_REDIS": machine.url}, stdout=subprocess.DEVNULL, stderr=subprocess.PIPE, text=True
         )
@@ -418,10 +419,41 @@ def only_the_token_opens_the_page(machine, _):
     check(not store.exists(key(store.hget(keys.NAMES, "session").decode(), "keys")), name, "nothing was typed")
 
 
+@with_machine
+def a_token_of_a_file_is_not_printed(machine, _):
+    """What a service prints is in the journal."""
+    name, token = "token file", "0123456789abcdef-of-a-file"
+    file = conf(machine, "token", token)
+    served = Served(machine, config=conf(machine, "web.conf", "[web]", f"token-file = {file}"))
+    check(token not in served.url and file in served.url, name, f"the file is named: {served.url}")
+    base = f"http://127.0.0.1:{served.port}"
+
+    async def ask():
+        async with aiohttp.ClientSession() as client:
+
+            async def status(path):
+                async with client.get(base + path) as answer:
+                    return answer.status
+
+            check(await status(f"/?token={token}") == 200, name, "its token opens the page")
+            check(await status("/healthz") == 503, name, "without a worker the page isn't well")
+            claims.Claims(stores.connect(machine.url), 60)
+            check(await status("/healthz") == 200, name, "with one it is, and tells that without the token")
+            machine.kill()
+            check(await status("/healthz") == 503, name, "without a store it isn't")
+            machine.start()
+
+    try:
+        asyncio.run(ask())
+    finally:
+        served.stop()
+
+
 CASES = [
     real_sessions_in_the_browser,
     ended_and_faulty_sessions_are_shown,
     clients_are_led_where_a_session_is,
     the_page_sends_the_keys_of_a_vt220,
     only_the_token_opens_the_page,
+    a_token_of_a_file_is_not_printed,
 ]

@@ -1,5 +1,5 @@
 -- Which functions leave the pages and the width.
-use Rattle.std.proofs.Common.{arith, ◌≡◌, ℕ, Bool, true, false, zero, suc, List, [], ◌∷◌, ◌++◌, Option, Some, None, refl, sym, ap, ◌∙◌}
+use Rattle.std.proofs.Common.{rules, arith, ◌≡◌, ℕ, Bool, true, false, zero, suc, List, [], ◌∷◌, ◌++◌, Option, Some, None, refl, sym, ap, ◌∙◌}
 use Rattle.std.specs.Prelude.{◌==◌, ◌&&◌, ◌||◌, nat_lt, min, length, fold, unwrap_or, if◌then◌else◌, codes}
 use Rattle.std.specs.List.{list_any}
 use Rattle.vt_syntax.specs.declared.event.Event.{Event}
@@ -128,11 +128,28 @@ designate-fits slot last s = go (set_of_final last)
     go None = refl
     go (Some set) = refl
 
+-- what each function by itself needs
+ruleset fitting = (
+  index-fits,
+  reverse_index-fits,
+  next_line-fits,
+  line_feed-fits,
+  write_glyph-fits,
+  insert_line-fits,
+  delete_line-fits,
+  erase_in_display-fits,
+  erase_in_line-fits,
+  clear_tabs-fits,
+  set_margins-fits,
+  set_conformance_level-fits,
+  select_character_attribute-fits,
+  designate-fits,
+)
+
 ansi_mode-fits : (on : Bool) (p : ℕ) → Fits (with_mode ansi_modes on p)
 unfolding with_mode AllRows
 ansi_mode-fits on p =
-    looked_up-holds (λ key f. Fits (f on)) ansi_modes p (λ on s. s) (λ s. refl)
-    (λ s. refl, (λ s. refl, (λ s. refl, (λ s. refl, tt))))
+    looked_up-holds (λ key f. Fits (f on)) ansi_modes p (λ on s. s) (λ s. refl) (search (rules, fitting))
 
 ansi_modes-fit : (on : Bool) (params : List ℕ) → Fits (change_modes ansi_modes on params)
 ansi_modes-fit on [] s = refl
@@ -141,7 +158,7 @@ ansi_modes-fit on (p ∷ params) s = ansi_modes-fit on params (with_mode ansi_mo
 private_mode-fits : (on : Bool) (p : ℕ) → is_page_mode p ≡ false → Fits (with_mode private_modes on p)
 unfolding with_mode AllRows
 private_mode-fits on p =
-    looked_up-holds (λ key f. is_page_mode key ≡ false → Fits (f on)) private_modes p (λ on s. s) (λ h s. refl) (λ h s. refl, (λ h. absurd cc, (λ h s. refl, (λ h s. refl, (λ h s. refl, (λ h s. refl, (λ h s. refl, (λ h s. refl, tt))))))))
+    looked_up-holds (λ key f. is_page_mode key ≡ false → Fits (f on)) private_modes p (λ on s. s) (λ h s. refl) (search (rules, fitting))
 
 pub neither : (a b : Bool) → (a || b) ≡ false → (a ≡ false) × (b ≡ false)
 neither true b h = absurd cc
@@ -157,41 +174,43 @@ private_modes-fit on (p ∷ params) none s =
 control-fits : (b : ℕ) → Fits (control b)
 unfolding control AllRows
 control-fits b =
-    looked_up-holds (λ key f. Fits f) control_functions b unchanged (λ s. refl) (λ s. refl, (λ s. refl, (line_feed-fits, (line_feed-fits, (line_feed-fits, (λ s. refl, (λ s. refl, (λ s. refl, (write_glyph-fits substitute_glyph, (index-fits, (next_line-fits, (λ s. refl, (reverse_index-fits, (λ s. refl, (λ s. refl, tt)))))))))))))))
+    looked_up-holds (λ key f. Fits f) control_functions b unchanged (λ s. refl) (search (rules, fitting))
 
 plain_escape-fits : (last : ℕ) → (last == 0x63) ≡ false → Fits (plain_escape last)
 unfolding plain_escape AllRows
 plain_escape-fits last =
-    looked_up-holds (λ key f. (key == 0x63) ≡ false → Fits f) terminal.plain_escapes last unchanged (λ h s. refl) (λ h s. refl, (λ h s. refl, (λ h s. refl, (λ h s. refl, (λ h. absurd cc, (λ h s. refl, (λ h s. refl, (λ h s. refl, (λ h s. refl, (λ h s. refl, tt))))))))))
+    looked_up-holds (λ key f. (key == 0x63) ≡ false → Fits f) terminal.plain_escapes last unchanged (λ h s. refl) (search (rules, fitting))
 
 escape_with-fits : (inter last : ℕ) → Fits (escape_with inter last)
 unfolding escape_with AllRows
 escape_with-fits inter last =
-    looked_up-holds (λ key f. Fits (f last)) escape_tables inter (λ last. unchanged) (λ s. refl) (looked_up-holds (λ key f. Fits f) space_escapes last unchanged (λ s. refl) (λ s. refl, (λ s. refl, tt)), (looked_up-holds (λ key f. Fits f) ((byte (codes "8"), screen_alignment) ∷ []) last unchanged (λ s. refl)
-      (λ s. refl, tt), (designate-fits 0 last, (designate-fits 1 last, (designate-fits 2 last, (designate-fits 3 last, tt))))))
+    looked_up-holds (λ key f. Fits (f last)) escape_tables inter (λ last. unchanged) (λ s. refl) (
+      looked_up-holds (λ key f. Fits f) space_escapes last unchanged (λ s. refl) (search rules),
+      (looked_up-holds (λ key f. Fits f) ((byte (codes "8"), screen_alignment) ∷ []) last unchanged (λ s. refl)
+      (search rules), search (rules, fitting)),
+    )
 
 plain_sequence-fits : (last : ℕ) (params : List ℕ) → Fits (sequence_in plain_sequences last params)
 unfolding sequence_in AllRows
 plain_sequence-fits last params =
-    looked_up-holds (λ key f. Fits (f params)) plain_sequences last (λ params. unchanged) (λ s. refl) (λ s. refl, (λ s. refl, (λ s. refl, (λ s. refl, (λ s. refl, (λ s. refl, (erase_in_display-fits false (first params), (erase_in_line-fits false (first params), (insert_line-fits (count params), (delete_line-fits (count params), (λ s. refl, (λ s. refl, (λ s. refl, (clear_tabs-fits (first params), (ansi_modes-fit true params, (ansi_modes-fit false params, (λ s. refl, (set_margins-fits (first params) (second params), tt))))))))))))))))))
+    looked_up-holds (λ key f. Fits (f params)) plain_sequences last (λ params. unchanged) (λ s. refl) (search (rules, fitting, ansi_modes-fit))
 
 private_sequence-fits : (last : ℕ) (params : List ℕ) → sets_page_mode 0x3F last params ≡ false
     → Fits (sequence_in private_sequences last params)
 unfolding sequence_in AllRows
 private_sequence-fits last params =
     looked_up-holds (λ key f. sets_page_mode 0x3F key params ≡ false → Fits (f params)) private_sequences last
-    (λ params. unchanged) (λ h s. refl) (λ h. erase_in_display-fits true (first params), (λ h. erase_in_line-fits true (first params), (λ h. private_modes-fit true params h, (λ h. private_modes-fit false params h, tt))))
+    (λ params. unchanged) (λ h s. refl) (search (rules, fitting, private_modes-fit))
 
 quote_sequence-fits : (last : ℕ) (params : List ℕ) → Fits (sequence_in quote_sequences last params)
 unfolding sequence_in AllRows
 quote_sequence-fits last params =
-    looked_up-holds (λ key f. Fits (f params)) quote_sequences last (λ params. unchanged) (λ s. refl) (set_conformance_level-fits (first params) (second params), (select_character_attribute-fits (first params), tt))
+    looked_up-holds (λ key f. Fits (f params)) quote_sequences last (λ params. unchanged) (λ s. refl) (search (rules, fitting))
 
 exclamation_sequence-fits : (last : ℕ) (params : List ℕ) → Fits (sequence_in exclamation_sequences last params)
 unfolding sequence_in AllRows
 exclamation_sequence-fits last params =
-    looked_up-holds (λ key f. Fits (f params)) exclamation_sequences last (λ params. unchanged) (λ s. refl)
-    (λ s. refl, tt)
+    looked_up-holds (λ key f. Fits (f params)) exclamation_sequences last (λ params. unchanged) (λ s. refl) (search (rules, fitting))
 
 none-fits : (last : ℕ) (params : List ℕ) → Fits (sequence_in [] last params)
 unfolding sequence_in

@@ -180,7 +180,15 @@ private_mode-keeps glyphs sets false p s i =
 
 page_modes-keep : AllRows (λ key f. (on : Bool) → Keeps (f on)) page_modes
 unfolding AllRows
-page_modes-keep = (allowed_column_mode-keeps, (allow_column_mode-keeps, (show_page-keeps, (show_or_clear-keeps, (save_or_restore-keeps, (show_and_save-keeps, tt))))))
+page_modes-keep =
+    search (
+      allowed_column_mode-keeps,
+      allow_column_mode-keeps,
+      show_page-keeps,
+      show_or_clear-keeps,
+      save_or_restore-keeps,
+      show_and_save-keeps,
+    )
 
 module _ (glyphs : GlyphLaws) (sets : SetsLaws) where
   page_mode-keeps : (on : Bool) (p : ℕ) → Keeps (with_page_mode on p)
@@ -283,6 +291,40 @@ module _ (rows : RowLaws) (tests : TestLaws) where
           times-keeps (min n (room s)) (write_glyph (glyph_before s))
           (terminals.write_glyph-keeps (glyph_before s) (glyph_before-shown s i is)) s i
 
+cursor_forward_tabulation-keeps : (n : ℕ) → terminals.Keeps (cursor_forward_tabulation n)
+cursor_forward_tabulation-keeps n s i =
+    times-keeps (min n (last_column s)) horizontal_tab terminals.horizontal_tab-keeps s i
+
+cursor_backward_tabulation-keeps : (n : ℕ) → terminals.Keeps (cursor_backward_tabulation n)
+cursor_backward_tabulation-keeps n s i = times-keeps (min n (last_column s)) back_tab back_tab-keeps s i
+
+rows_down_by-keeps : (params : List ℕ) → terminals.Keeps (rows_down_by params)
+rows_down_by-keeps params s i =
+    one-of (length params == 1) (rows_down (count params)) (rows_down-keeps (count params)) s i
+
+save_if_bare-keeps : (params : List ℕ) → terminals.Keeps (save_if_bare params)
+save_if_bare-keeps params s i = one-of (is_bare params) save_cursor terminals.save_cursor-keeps s i
+
+restore_if_bare-keeps : (params : List ℕ) → terminals.Keeps (restore_if_bare params)
+restore_if_bare-keeps params s i = one-of (is_bare params) restore_cursor terminals.restore_cursor-keeps s i
+
+-- what each function by itself needs
+ruleset own-keeping = (
+  cursor_next_line-keeps,
+  cursor_preceding_line-keeps,
+  cursor_character_absolute-keeps,
+  cursor_forward_tabulation-keeps,
+  cursor_backward_tabulation-keeps,
+  rows_up-keeps,
+  rows_down-keeps,
+  rows_down_by-keeps,
+  line_position_absolute-keeps,
+  line_position_forward-keeps,
+  select_attributes-keeps,
+  save_if_bare-keeps,
+  restore_if_bare-keeps,
+)
+
 -- ---- events
 
 module _ (glyphs : GlyphLaws) (sets : SetsLaws) (rows : RowLaws) (tests : TestLaws) where
@@ -290,8 +332,9 @@ module _ (glyphs : GlyphLaws) (sets : SetsLaws) (rows : RowLaws) (tests : TestLa
   unfolding AllRows
   plain_functions-keep params =
       let n : ℕ = count params in
-      let some : 1 ≤ n = omega arith in (display-keeps (cursor_next_line n) (cursor_next_line-keeps n), (display-keeps (cursor_preceding_line n) (cursor_preceding_line-keeps n), (display-keeps (cursor_character_absolute n) (cursor_character_absolute-keeps n some), (display-keeps (cursor_forward_tabulation n) (λ s. times-keeps (min n (last_column s)) horizontal_tab
-        terminals.horizontal_tab-keeps s), (display-keeps (rows_up n) (rows_up-keeps n), (display-keeps (rows_down_by params) (λ s. one-of (length params == 1) (rows_down n) (rows_down-keeps n) s), (display-keeps (cursor_backward_tabulation n) (λ s. times-keeps (min n (last_column s)) back_tab back_tab-keeps s), (display-keeps (rows_down n) (rows_down-keeps n), (display-keeps (cursor_character_absolute n) (cursor_character_absolute-keeps n some), (display-keeps (cursor_forward n) (terminals.cursor_forward-keeps n), (display-keeps (repeat n) (repeat-keeps rows tests n), (display-keeps (line_position_absolute n) (line_position_absolute-keeps n some), (display-keeps (line_position_forward n) (line_position_forward-keeps n), (display-keeps (select_attributes params) (select_attributes-keeps params), (display-keeps (save_if_bare params) (λ s. one-of (is_bare params) save_cursor terminals.save_cursor-keeps s), (display-keeps (restore_if_bare params) (λ s. one-of (is_bare params) restore_cursor terminals.restore_cursor-keeps s), tt))))))))))))))))
+      let some : 1 ≤ n = omega arith in
+      let again : terminals.Keeps (repeat n) = repeat-keeps rows tests n in
+      search (display-keeps, own-keeping, terminals.cursor_forward-keeps, again, some)
 
   AllFunctionsKeep : List ℕ → FunctionTable → Type 0
   AllFunctionsKeep params = AllRows (λ key f. Keeps (f params))

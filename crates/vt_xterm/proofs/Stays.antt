@@ -27,10 +27,10 @@ use Rattle.vt_term.specs.Functions.{escape_tables, designate, designate_to, byte
 use Rattle.vt_term.specs.Functions.{plain_sequences, private_sequences, quote_sequences, exclamation_sequences}
 use Rattle.vt_xterm.specs.Columns.{cursor_character_absolute, line_position_absolute, line_position_forward}
 use Rattle.vt_xterm.specs.Repeating.{times, column_before, glyph_before, room, repeat}
-use Rattle.vt_xterm.specs.Tabs.{back_tab}
-use Rattle.vt_xterm.specs.Scroll.{rows_down}
+use Rattle.vt_xterm.specs.Tabs.{back_tab, cursor_forward_tabulation, cursor_backward_tabulation}
+use Rattle.vt_xterm.specs.Scroll.{rows_down, rows_down_by}
 use Rattle.vt_xterm.specs.Pages.{Screens, on_display, save_or_restore, page_modes, with_page_mode, change_page_modes}
-use Rattle.vt_xterm.specs.Front.{FunctionTable, is_bare, plain_functions, private_functions, exclamation_functions}
+use Rattle.vt_xterm.specs.Front.{is_bare, save_if_bare, restore_if_bare, plain_functions, private_functions, exclamation_functions}
 use Rattle.vt_xterm.specs.Front.{functions_of, function_in, plain_escapes, xterm_effect}
 use Rattle.vt_xterm.specs.Front.{is_page_mode, sets_page_mode, is_page_function}
 use Rattle.vt_xterm.proofs.Tables.{AllRows, looked_up-holds}
@@ -249,12 +249,36 @@ repeat-fits n s =
     chosen-fits (column_before s == 0) s s (times (min n (room s)) (write_glyph (glyph_before s)) s) refl
     (times-fits (min n (room s)) (write_glyph (glyph_before s)) (write_glyph-fits (glyph_before s)) s)
 
+cursor_forward_tabulation-fits : (n : ℕ) → Fits (cursor_forward_tabulation n)
+cursor_forward_tabulation-fits n s = times-fits (min n (last_column s)) horizontal_tab (λ t. refl) s
+
+cursor_backward_tabulation-fits : (n : ℕ) → Fits (cursor_backward_tabulation n)
+cursor_backward_tabulation-fits n s = times-fits (min n (last_column s)) back_tab (λ t. refl) s
+
+rows_down_by-fits : (params : List ℕ) → Fits (rows_down_by params)
+rows_down_by-fits params s = chosen-fits (length params == 1) s (rows_down (count params) s) s refl refl
+
+save_if_bare-fits : (params : List ℕ) → Fits (save_if_bare params)
+save_if_bare-fits params s = chosen-fits (is_bare params) s (save_cursor s) s refl refl
+
+restore_if_bare-fits : (params : List ℕ) → Fits (restore_if_bare params)
+restore_if_bare-fits params s = chosen-fits (is_bare params) s (restore_cursor s) s refl refl
+
+ruleset own-fitting = (
+  cursor_forward_tabulation-fits,
+  cursor_backward_tabulation-fits,
+  rows_down_by-fits,
+  repeat-fits,
+  save_if_bare-fits,
+  restore_if_bare-fits,
+)
+
 own-stays : (event : Event) (last : ℕ) (params : List ℕ) → Fits (effect event)
     → Stays (function_in plain_functions event last params)
 unfolding function_in AllRows
 own-stays event last params fits =
     looked_up-holds (λ key f. Stays (f params)) plain_functions last (λ params. on_display (effect event))
-    (display-stays (effect event) fits) (λ s. (refl, refl), (λ s. (refl, refl), (λ s. (refl, refl), (λ s. (refl, times-fits (min (count params) (last_column s.display)) horizontal_tab (λ s. refl) s.display), (λ s. (refl, refl), (λ s. (refl, chosen-fits (length params == 1) s.display (rows_down (count params) s.display) s.display refl refl), (λ s. (refl, times-fits (min (count params) (last_column s.display)) back_tab (λ s. refl) s.display), (λ s. (refl, refl), (λ s. (refl, refl), (λ s. (refl, refl), (λ s. (refl, repeat-fits (count params) s.display), (λ s. (refl, refl), (λ s. (refl, refl), (λ s. (refl, refl), (λ s. (refl, chosen-fits (is_bare params) s.display (save_cursor s.display) s.display refl refl), (λ s. (refl, chosen-fits (is_bare params) s.display (restore_cursor s.display) s.display refl refl), tt))))))))))))))))
+    (display-stays (effect event) fits) (search (rules, own-fitting))
 
 save_or_restore-stays : (save : Bool) → Stays (save_or_restore save)
 save_or_restore-stays true s = (refl, refl)
@@ -265,7 +289,7 @@ unfolding with_page_mode AllRows
 page_mode-stays on p h =
     looked_up-holds (λ key f. is_page_mode key ≡ false → Stays (f on)) page_modes p
     (λ on. on_display (with_mode private_modes on p))
-    (λ not. display-stays (with_mode private_modes on p) (private_mode-fits on p not)) (λ h. absurd cc, (λ h. absurd cc, (λ h. absurd cc, (λ h. absurd cc, (λ h. save_or_restore-stays on, (λ h. absurd cc, tt)))))) h
+    (λ not. display-stays (with_mode private_modes on p) (private_mode-fits on p not)) (search (rules, save_or_restore-stays)) h
 
 page_modes-stay : (on : Bool) (params : List ℕ) → list_any is_page_mode params ≡ false
     → Stays (change_page_modes on params)

@@ -121,7 +121,7 @@ module _ (split : SplitLaw) (spelling : SpellingLaw) where
       let first = show_and_save true s in
       let t = after_events events first in
       let all : events_from held (there_and_back bytes)
-          ≡ alternate_page true ∷ (events ++ alternate_page false ∷ []) =
+      ≡ alternate_page true ∷ (events ++ alternate_page false ∷ []) =
       begun held (bytes ++ spell_event (alternate_page false)) i.state.held
       ∙ ap (λ (es : List Event). alternate_page true ∷ es) (ended bytes) in
       let start : after_events (alternate_page true ∷ events) s ≡ t =

@@ -112,8 +112,7 @@ with_page-sound page s width p i = record {
 exchanged-keeps : (alternate : Bool) → Keeps (exchanged alternate)
 exchanged-keeps alternate s i =
     let shape = i.0.grid.shape.width in
-    let fit = fitted-sound s.display.grid.width shape.0 s.pages.other shape.1 i.1 in
-    (
+    let fit = fitted-sound s.display.grid.width shape.0 s.pages.other shape.1 i.1 in (
       with_page-sound (fitted s.display.grid.width s.pages.other) s.display fit.1 fit.0 i.0,
       page_of-sound s.display i.0,
     )

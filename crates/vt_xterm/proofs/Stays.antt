@@ -186,8 +186,11 @@ unfolding escape_with AllRows
 escape_with-fits inter last =
     looked_up-holds (λ key f. Fits (f last)) escape_tables inter (λ last. unchanged) (λ s. refl) (
       looked_up-holds (λ key f. Fits f) space_escapes last unchanged (λ s. refl) (search rules),
-      (looked_up-holds (λ key f. Fits f) ((byte (codes "8"), screen_alignment) ∷ []) last unchanged (λ s. refl)
-      (search rules), search (rules, fitting)),
+      (
+        looked_up-holds (λ key f. Fits f) ((byte (codes "8"), screen_alignment) ∷ []) last unchanged (λ s. refl)
+            (search rules),
+        search (rules, fitting),
+      ),
     )
 
 plain_sequence-fits : (last : ℕ) (params : List ℕ) → Fits (sequence_in plain_sequences last params)

@@ -9,3 +9,4 @@ mod Written
 mod Lanes
 mod Narrow
 mod Whole
+mod Moves

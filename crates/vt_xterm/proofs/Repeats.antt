@@ -1,15 +1,15 @@
 -- REP after a glyph.
-use Rattle.std.proofs.Common.{rules, arith, ◌≡◌, ℕ, ◌≤◌, ◌<◌, ◌+◌, ◌-◌, Bool, true, false, zero, suc, refl, sym, ap, ◌∙◌}
+use Rattle.std.proofs.Common.{arith, ◌≡◌, ℕ, ◌≤◌, ◌+◌, ◌-◌, Bool, true, false, zero, suc, refl, ap, ◌∙◌}
 use Rattle.std.specs.Prelude.{◌==◌, min, nat_lt, slice_index_or, if◌then◌else◌}
 use Rattle.std.proofs.lemmas.Bool.Decides.{nat_tests}
 use Rattle.vt_screen.specs.declared.cell.Cell.{Cell}
 use Rattle.vt_screen.specs.Cells.{blank, cell_of}
-use Rattle.vt_screen.specs.Grid.{Grid, row_of, cell_at, put, put_inserting, last_row}
+use Rattle.vt_screen.specs.Grid.{row_of, cell_at, put, put_inserting}
 use Rattle.vt_screen.specs.Laws.{PlaceLaws, RowLaws}
 use Rattle.vt_term.specs.State.{Display, last_column, at_place}
 use Rattle.vt_term.specs.Sound.{IsSoundDisplay}
 use Rattle.vt_term.specs.Moving.{next_line}
-use Rattle.vt_term.specs.Writing.{after_wrap, with_glyph, next_place, put_glyph, write_glyph}
+use Rattle.vt_term.specs.Writing.{after_wrap, with_glyph, put_glyph, write_glyph}
 use Rattle.vt_term.proofs.SoundEffects.{next_line-keeps}
 use Rattle.vt_xterm.specs.Repeating.{times, column_before, glyph_before, room, repeat}
 

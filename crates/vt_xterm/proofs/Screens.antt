@@ -20,7 +20,7 @@ use Rattle.vt_term.specs.Sound.{IsSoundDisplay}
 use Rattle.vt_term.specs.Pages.{IsSoundPage}
 use Rattle.vt_term.proofs.Bytes.{nothing-held}
 use Rattle.vt_xterm.specs.Pages.{Screens, PagesState, show_and_save, with_page_mode}
-use Rattle.vt_xterm.specs.Front.{functions_of, function_in, xterm_effect, is_page_function, alternate_page, there, there_and_back}
+use Rattle.vt_xterm.specs.Front.{functions_of, function_in, xterm_effect, is_page_function, alternate_page, into_alternate, through_alternate}
 use Rattle.vt_xterm.specs.Play.{Whole, IsSoundWhole, screens_of, after_events, play_bytes}
 use Rattle.vt_xterm.proofs.SoundScreens.{fitted-sound}
 use Rattle.vt_xterm.proofs.Stays.{neither, event-stays}
@@ -110,9 +110,9 @@ module _ (split : SplitLaw) (spelling : SpellingLaw) where
 
   pub between : (w : Whole) (bytes : List ℕ) → IsSoundWhole w → w.pages.alternate ≡ false
       → list_any is_page_function (events_of bytes) ≡ false
-      → (play_bytes w (there_and_back bytes)).whole.state.display
+      → (play_bytes w (through_alternate bytes)).whole.state.display
       ≡ restore_cursor (with_page (page_of (save_cursor w.state.display))
-      (play_bytes w (there bytes)).whole.state.display)
+      (play_bytes w (into_alternate bytes)).whole.state.display)
   unfolding play_bytes
   between w bytes i main none =
       let held = w.state.held in
@@ -120,7 +120,7 @@ module _ (split : SplitLaw) (spelling : SpellingLaw) where
       let events = events_of bytes in
       let first = show_and_save true s in
       let t = after_events events first in
-      let all : events_from held (there_and_back bytes)
+      let all : events_from held (through_alternate bytes)
       ≡ alternate_page true ∷ (events ++ alternate_page false ∷ []) =
       begun held (bytes ++ spell_event (alternate_page false)) i.state.held
       ∙ ap (λ (es : List Event). alternate_page true ∷ es) (ended bytes) in

@@ -1,13 +1,12 @@
 -- Every function keeps the display and the page that isn't shown sound.
 use Rattle.std.proofs.Common.{rules, arith, ◌≡◌, ℕ, ◌≤◌, Bool, true, false, zero, suc, List, [], ◌∷◌, Option, Some, None}
-use Rattle.std.proofs.Common.{refl, ap, ◌∙◌, subst, sym}
-use Rattle.std.specs.Prelude.{◌++◌, length, ◌==◌, ◌-◌, ◌&&◌, nat_lt, min, fold, unwrap_or, if◌then◌else◌, codes}
+use Rattle.std.proofs.Common.{refl, subst, sym}
+use Rattle.std.specs.Prelude.{◌++◌, length, ◌==◌, ◌-◌, ◌&&◌, nat_lt, min, if◌then◌else◌, codes}
 use Rattle.std.proofs.lemmas.Bool.Decides.{nat_tests}
 use Rattle.vt_syntax.specs.declared.event.Event.{Event}
 use Rattle.vt_syntax.specs.declared.event.Event.TheVariants.{Print, Control, Escape, Sequence}
-use Rattle.vt_syntax.specs.Held.{events_from, held_from, spell}
+use Rattle.vt_syntax.specs.Held.{events_from, spell}
 use Rattle.vt_syntax.specs.Laws.{SplitLaw}
-use Rattle.vt_glyph.specs.LookUp.{look_up}
 use Rattle.vt_glyph.specs.Tables.{IsGlyph, is_glyph}
 use Rattle.vt_glyph.specs.Laws.{GlyphLaws, SetsLaws}
 use Rattle.vt_screen.specs.Grid.{columns}
@@ -20,10 +19,10 @@ use Rattle.vt_term.specs.Functions.{byte, effect, sequence_in, sequences_of}
 use Rattle.vt_term.specs.Play.{play}
 use Rattle.vt_term.proofs.SoundEffects as terminals
 use Rattle.vt_term.proofs.SoundPlay.{effect-keeps}
-use Rattle.vt_xterm.specs.Pages.{Screens, PagesState, on_display, exchanged, show_page, with_blank, show_or_clear}
+use Rattle.vt_xterm.specs.Pages.{Screens, on_display, exchanged, show_page, with_blank, show_or_clear}
 use Rattle.vt_xterm.specs.Pages.{save_or_restore, show_and_save, allow_column_mode, allowed_column_mode, page_modes}
-use Rattle.vt_xterm.specs.Pages.{with_page_mode, change_page_modes, reset_to_initial_state}
-use Rattle.vt_term.specs.Moving.{cursor_up, cursor_down, cursor_forward}
+use Rattle.vt_xterm.specs.Pages.{with_page_mode, change_page_modes}
+use Rattle.vt_term.specs.Moving.{cursor_up, cursor_down}
 use Rattle.vt_term.specs.Tabs.{horizontal_tab}
 use Rattle.vt_term.specs.Writing.{write_glyph}
 use Rattle.vt_term.specs.Saving.{save_cursor, restore_cursor}
@@ -46,7 +45,7 @@ use Rattle.vt_xterm.specs.Attributes.{without_colours, select_attributes}
 use Rattle.vt_xterm.specs.Front.{FunctionTable, is_bare, save_if_bare, restore_if_bare, plain_functions, private_functions}
 use Rattle.vt_xterm.specs.Front.{soft_reset_wrapping, exclamation_functions, functions_of, function_in, plain_escapes, xterm_effect}
 use Rattle.vt_xterm.specs.Play.{behind, front_at_power_up}
-use Rattle.vt_xterm.specs.Play.{Whole, WholePlayed, IsSoundWhole, screens_of, after_events, play_bytes, play_character}
+use Rattle.vt_xterm.specs.Play.{Whole, IsSoundWhole, screens_of, after_events, play_bytes, play_character}
 use Rattle.vt_xterm.specs.Play.{play_characters, play_xterm}
 
 -- what playing bytes keeps
@@ -358,7 +357,12 @@ module _ (glyphs : GlyphLaws) (sets : SetsLaws) (rows : RowLaws) (tests : TestLa
 
   plain_escapes-keep : AllRows (λ key f. Keeps (f [])) plain_escapes
   unfolding AllRows
-  plain_escapes-keep = (λ s i. (terminals.reset_to_initial_state-keeps s.display i.0, page_of-sound display_at_power_up (terminals.reset_to_initial_state-keeps s.display i.0)), tt)
+  plain_escapes-keep = (
+    λ s i.
+        let sound : IsSoundDisplay display_at_power_up = terminals.reset_to_initial_state-keeps s.display i.0 in
+        (sound, page_of-sound display_at_power_up sound),
+    tt,
+  )
 
   pub event-keeps : (event : Event) → Keeps (xterm_effect event)
   unfolding AllFunctionsKeep

@@ -1,23 +1,21 @@
 -- Which functions leave the pages and the width.
-use Rattle.std.proofs.Common.{rules, arith, ◌≡◌, ℕ, Bool, true, false, zero, suc, List, [], ◌∷◌, ◌++◌, Option, Some, None, refl, sym, ap, ◌∙◌}
-use Rattle.std.specs.Prelude.{◌==◌, ◌&&◌, ◌||◌, nat_lt, min, length, fold, unwrap_or, if◌then◌else◌, codes}
+use Rattle.std.proofs.Common.{rules, ◌≡◌, ℕ, Bool, true, false, zero, suc, List, [], ◌∷◌, Option, Some, None, refl, ◌∙◌}
+use Rattle.std.specs.Prelude.{◌==◌, ◌||◌, nat_lt, min, length, if◌then◌else◌, codes}
 use Rattle.std.specs.List.{list_any}
 use Rattle.vt_syntax.specs.declared.event.Event.{Event}
 use Rattle.vt_syntax.specs.declared.event.Event.TheVariants.{Print, Control, Escape, Sequence}
-use Rattle.vt_glyph.specs.LookUp.{look_up}
-use Rattle.vt_glyph.specs.Tables.{substitute_glyph}
 use Rattle.vt_glyph.specs.Invocation.{glyph_read, after_read}
 use Rattle.vt_glyph.specs.Designation.{set_of_final}
 use Rattle.vt_glyph.specs.declared.set.Set.{Set}
-use Rattle.vt_screen.specs.Grid.{Grid, scroll_up, scroll_down, put, put_inserting, erase_area}
+use Rattle.vt_screen.specs.Grid.{Grid, scroll_up, scroll_down, put, put_inserting}
 use Rattle.vt_screen.specs.Cells.{cell_of}
 use Rattle.vt_term.specs.State.{Display, last_column}
 use Rattle.vt_term.specs.Parameters.{first, second, count, from_one}
-use Rattle.vt_term.specs.Moving.{carriage_return, index, reverse_index, next_line, line_feed, set_margins, home}
+use Rattle.vt_term.specs.Moving.{carriage_return, index, reverse_index, next_line, line_feed, set_margins}
 use Rattle.vt_term.specs.Tabs.{horizontal_tab, clear_tabs}
 use Rattle.vt_term.specs.Writing.{after_wrap, with_glyph, write_glyph, write_if_read, print}
 use Rattle.vt_term.specs.Editing.{is_inside, insert_line, delete_line, erase_in_display, erase_in_line, names_area}
-use Rattle.vt_term.specs.Rendition.{select_character_attribute, with_protection}
+use Rattle.vt_term.specs.Rendition.{select_character_attribute}
 use Rattle.vt_term.specs.Modes.{ansi_modes, private_modes, with_mode, change_modes}
 use Rattle.vt_term.specs.Saving.{save_cursor, restore_cursor}
 use Rattle.vt_term.specs.Resets.{screen_alignment, set_conformance_level, soft_reset_to, asked_form}
@@ -25,7 +23,6 @@ use Rattle.vt_term.specs.Functions.{unchanged, control, control_functions, plain
 use Rattle.vt_term.specs.Functions as terminal
 use Rattle.vt_term.specs.Functions.{escape_tables, designate, designate_to, byte, effect, sequence_in, sequences_of}
 use Rattle.vt_term.specs.Functions.{plain_sequences, private_sequences, quote_sequences, exclamation_sequences}
-use Rattle.vt_xterm.specs.Columns.{cursor_character_absolute, line_position_absolute, line_position_forward}
 use Rattle.vt_xterm.specs.Repeating.{times, column_before, glyph_before, room, repeat}
 use Rattle.vt_xterm.specs.Tabs.{back_tab, cursor_forward_tabulation, cursor_backward_tabulation}
 use Rattle.vt_xterm.specs.Scroll.{rows_down, rows_down_by}

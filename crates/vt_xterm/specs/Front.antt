@@ -102,12 +102,12 @@ xterm_effect (Sequence marker params inter last) =
 abbrev pub is_page_mode : ℕ → Bool
 is_page_mode p = p == 3 || (p == 40 || (p == 47 || (p == 1047 || p == 1049)))
 
--- SM and RM of these modes
+-- a control sequence that is SM or RM of one of these modes
 abbrev pub sets_page_mode : ℕ → ℕ → List ℕ → Bool
 sets_page_mode marker last params =
     marker == byte (codes "?") && ((last == byte (codes "h") || last == byte (codes "l")) && list_any is_page_mode params)
 
--- RIS too
+-- RIS, and SM and RM of these modes
 abbrev pub is_page_function : Event → Bool
 is_page_function (Print b) = false
 is_page_function (Control b) = false
@@ -122,9 +122,10 @@ abbrev pub alternate_page : Bool → Event
 alternate_page shown =
     Sequence (Some (byte (codes "?"))) (record { items = 1049 ∷ [] }) None (byte (codes (if shown then "h" else "l")))
 
--- the bytes, after ?1049h, and with ?1049l behind them
-abbrev pub there : List ℕ → List ℕ
-there bytes = spell_event (alternate_page true) ++ bytes
+-- ?1049h and then the bytes
+abbrev pub into_alternate : List ℕ → List ℕ
+into_alternate bytes = spell_event (alternate_page true) ++ bytes
 
-abbrev pub there_and_back : List ℕ → List ℕ
-there_and_back bytes = spell_event (alternate_page true) ++ (bytes ++ spell_event (alternate_page false))
+-- and then ?1049l
+abbrev pub through_alternate : List ℕ → List ℕ
+through_alternate bytes = spell_event (alternate_page true) ++ (bytes ++ spell_event (alternate_page false))

@@ -1,8 +1,8 @@
-use Rattle.std.proofs.Common.{ℕ, List, ap, ◌∙◌}
+use Rattle.std.proofs.Common.{ap, ◌∙◌}
 use Rattle.vt_term.specs.declared.state.Cursor.{Cursor}
 use Rattle.vt_term.specs.State.{Display}
-use Rattle.vt_xterm.specs.Play.{Whole, play_bytes}
-use Rattle.vt_xterm.specs.Front.{there}
+use Rattle.vt_xterm.specs.Play.{play_bytes}
+use Rattle.vt_xterm.specs.Front.{into_alternate}
 use Rattle.vt_xterm.proofs.Screens.{between, row-restored}
 use Rattle.vt_xterm.proofs.laws.comes_back.Goals as goal
 
@@ -15,7 +15,7 @@ returns c =
       cells = λ w bytes i main none. ap (λ (s : Display). s.grid) (between split spelling w bytes i main none);
       cursor = λ w bytes i main none origin.
           let back = between split spelling w bytes i main none in
-          let place = row-restored w.state.display (play_bytes w (there bytes)).whole.state.display origin in (
+          let place = row-restored w.state.display (play_bytes w (into_alternate bytes)).whole.state.display origin in (
             ap (λ (s : Display). s.cursor.row) back ∙ ap (λ (x : Cursor). x.row) place,
             ap (λ (s : Display). s.cursor.col) back ∙ ap (λ (x : Cursor). x.col) place,
           );

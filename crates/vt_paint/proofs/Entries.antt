@@ -1,6 +1,6 @@
 -- The tables of parts of headers, by computing.
 use Rattle.std.proofs.Common.{◌≡◌, cond, append_assoc, append-nil, ap, ◌∙◌, ℕ, List, [], ◌∷◌, ◌++◌, refl, ◌+◌, ◌-◌}
-use Rattle.std.proofs.Common.{◌*◌, ◌≤◌, ◌==◌, Bool, true, take, slice_index_or, nat_le, arith}
+use Rattle.std.proofs.Common.{◌*◌, ◌≤◌, ◌<◌, ◌==◌, Bool, true, take, slice_index_or, nat_le, arith}
 use Rattle.std.specs.Prelude.{decimal, ◌==◌}
 use Rattle.std.specs.Fmt.{digits}
 use Rattle.std.specs.Cmp.Lexicographic.{pointwise, pointwise_decides}
@@ -35,6 +35,14 @@ unfolding brush_events brush_part all_brushes both_pass digits
 brush_spelled brush =
     (pointwise_decides Decides-eqb _ (0x1B ∷ 0x5B ∷ 0x30 ∷ brush_part brush)).0
     (at_brush (λ brush. same_bytes (spell_events (brush_events brush)) (0x1B ∷ 0x5B ∷ 0x30 ∷ brush_part brush)) refl brush)
+
+brush_lengths_are : list_all (λ n. nat_le (slice_index_or BRUSH_LENGTHS n 0) 14) (range_with_len 0 32) ≡ true
+brush_lengths_are = refl
+
+pub brush_length_at : (n : ℕ) → n < 32 → slice_index_or BRUSH_LENGTHS n 0 ≤ 14
+brush_length_at n below =
+    leb-true _ 14 (all_in_range (λ n. nat_le (slice_index_or BRUSH_LENGTHS n 0) 14) 0 32 n brush_lengths_are (omega arith)
+    (omega arith))
 
 -- ---- rows and columns
 

@@ -19,6 +19,7 @@ ghost use Rattle.vt_paint.specs.Private.HeaderParts.{brush_number, lowest_word};
 use crate::line::{LINE, MANY, ROW_LIMIT, put, put_glyph, put_header};
 use crate::tables::cell_brush_number;
 use vt_controls::{push_bytes, push_when};
+use vt_glyph::Glyph;
 use vt_screen::laws::rows;
 use vt_screen::{COLUMNS, Cell};
 use vt_term::{ROWS, Terminal};
@@ -46,6 +47,16 @@ fn is_blank(cell: &Cell) -> bool
     ensures { result ≡ is_blank_cell cell.now }
 {
     cell.word() == BLANK
+}
+
+/// Speed: does the same as `put_glyph`, out of line, so that the loop over plain cells of a run copies no register.
+#[inline(never)]
+fn put_rare(glyph: Glyph, at: usize, line: &mut [u8; LINE]) -> usize
+    requires { at + 3 ≤ LINE }
+    ensures items { take result line.new ≡ take at line.old ++ spell_events (spelling_events (spelling_of glyph)) }
+    ensures bounded { result ≤ at + 3 }
+{
+    put_glyph(glyph, at, line)
 }
 
 /// The brush of a run, in the words of its cells.
@@ -105,7 +116,7 @@ impl Run {
         if self.is_plain(cell) {
             put(cell.glyph.code() as u8, at, line)
         } else {
-            put_glyph(cell.glyph, at, line)
+            put_rare(cell.glyph, at, line)
         }
     }
 }
@@ -131,7 +142,7 @@ fn put_row(row: usize, cells: &[Cell], line: &mut [u8; LINE], out: &mut Vec<u8>)
         if !is_blank(first) {
             at = push_many(at, line, out);
             let run = Run::of(first);
-            at = put_header(row, i, first.brush(), at, line);
+            at = put_header(row, i, run.number, at, line);
             at = put_glyph(first.glyph, at, line);
             while i < cells.len() && run.goes_on(&cells[i]) {
                 at = run.put_next(&cells[i], at, line);

@@ -18,7 +18,7 @@ pub(crate) fn push_brush(brush: Brush, out: &mut Vec<u8>)
     ensures bounded { vec_len out.new ≤ vec_len out.old + 17 }
     ensures capacity { vec_capacity out.old ≤ vec_capacity out.new }
 {
-    let (rest, len) = brush_part(brush);
+    let (rest, len) = brush_part(brush.number());
     push_bytes(b"\x1B[0", out);
     push_bytes(&rest[..len], out);
 }

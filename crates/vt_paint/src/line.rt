@@ -3,12 +3,14 @@
 ghost use Rattle.std.specs.Prelude.{◌≡◌, ◌+◌, ◌≤◌, ◌<◌, ◌++◌, ◌∷◌, [], take, length};
 ghost use Rattle.vt_syntax.specs.Spelling.{spell_event, spell_events};
 ghost use Rattle.vt_glyph.specs.Spell.{spelling_of};
+ghost use Rattle.vt_screen.specs.declared.cell.Brush.{Brush};
 ghost use Rattle.vt_controls.specs.Controls.{cursor_position, brush_events, spelling_events};
+ghost use Rattle.vt_paint.specs.Private.HeaderParts.{brush_number};
 
 use crate::tables::{brush_part, column_part, row_part};
 use vt_controls::put_front;
 use vt_glyph::Glyph;
-use vt_screen::{Brush, COLUMNS, ROWS};
+use vt_screen::{COLUMNS, ROWS};
 
 /// The limit of a row in bytes: 29 for each of 132 cells.
 pub(crate) const ROW_LIMIT: usize = 29 * COLUMNS;
@@ -31,26 +33,27 @@ pub(crate) fn put(byte: u8, at: usize, line: &mut [u8; LINE]) -> usize
     at + 1
 }
 
-/// Writes the header of cells: their position and their brush.
+/// Writes the header of cells: their position and the brush of a number.
 #[inline(always)]
 pub(crate) fn put_header(
     row: usize,
     col: usize,
-    brush: Brush,
+    number: u64,
     at: usize,
     line: &mut [u8; LINE],
 ) -> usize
     requires row { (1 ≤ row) × (row ≤ ROWS) }
     requires col { (1 ≤ col) × (col ≤ COLUMNS) }
     requires room { at + 29 ≤ LINE }
-    ensures items { take result line.new ≡ take at line.old ++ spell_events (cursor_position row col ∷ brush_events brush) }
+    ensures items { (brush : Brush) → number ≡ brush_number brush
+        → take result line.new ≡ take at line.old ++ spell_events (cursor_position row col ∷ brush_events brush) }
     ensures bounded { result ≤ at + 26 }
 {
     let (start, len) = row_part(row);
     let at = put_front(start, len, at, line);
     let (middle, len) = column_part(col);
     let at = put_front(middle, len, at, line);
-    let (rest, len) = brush_part(brush);
+    let (rest, len) = brush_part(number);
     put_front(rest, len, at, line)
 }
 

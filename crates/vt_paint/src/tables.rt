@@ -1,10 +1,11 @@
 //! Speed: the parts of a header, spelled: the row of a position, its column, and a brush. Each entry of a table is
 //! padded with spaces, so that it is copied whole.
 ghost use Rattle.std.specs.Prelude.{◌≡◌, ◌≤◌, ◌<◌, ◌^◌, take, length};
+ghost use Rattle.vt_screen.specs.declared.cell.Brush.{Brush};
 ghost use Rattle.vt_screen.specs.Cells.{brush_of};
 ghost use Rattle.vt_paint.specs.Private.HeaderParts.{row_part, column_part, brush_part, brush_number, brush_index};
 
-use vt_screen::{Brush, COLUMNS, Cell, ROWS};
+use vt_screen::{COLUMNS, Cell, ROWS};
 
 /// The number of bytes of an entry of each table.
 const ROW_LEN: usize = 8;
@@ -98,25 +99,25 @@ pub(crate) fn cell_brush_number(cell: &Cell) -> u64
     cell.word() >> 24
 }
 
-/// Returns the index of a brush in its table.
+/// Returns the index in its table of the brush of a number.
 #[inline(always)]
-fn index_of(brush: Brush) -> usize
-    ensures value { result ≡ brush_index brush }
+fn index_of(number: u64) -> usize
+    ensures value { (brush : Brush) → number ≡ brush_number brush → result ≡ brush_index brush }
     ensures below { result < 32 }
 {
     // Each byte of the number becomes a separate bit, starting at bit 32.
-    (brush.number().wrapping_mul(0x01_0204_0810) >> 32 & 0x1F) as usize
+    (number.wrapping_mul(0x01_0204_0810) >> 32 & 0x1F) as usize
 }
 
-/// Returns SGR after its 0, and DECSCA, and their length.
+/// Returns SGR after its 0, and DECSCA, of the brush of a number, and their length.
 #[tactic(auto, using(crate::proofs::Entries::brush_at))]
 #[inline(always)]
-pub(crate) fn brush_part(brush: Brush) -> (&'static [u8], usize)
-    ensures value { take result.1 result.0.now ≡ brush_part brush }
+pub(crate) fn brush_part(number: u64) -> (&'static [u8], usize)
+    ensures value { (brush : Brush) → number ≡ brush_number brush → take result.1 result.0.now ≡ brush_part brush }
     ensures filled { length result.0.now ≡ 16 }
     ensures short { result.1 ≤ 14 }
 {
-    let index = index_of(brush);
+    let index = index_of(number);
     let from = BRUSH_LEN * index;
     (
         &BRUSHES[from..from + BRUSH_LEN],

@@ -10,3 +10,4 @@ mod Written
 mod Lanes
 mod Narrow
 mod Whole
+mod Moves

@@ -437,7 +437,7 @@ module _ (spelled : SpellingLaw) (spelling : SpellingLaws) where
 
 -- ---- without a pending single shift
 
-unshifted-same : (d : Display) → d.sets.pending ≡ None → unshifted d ≡ d
+pub unshifted-same : (d : Display) → d.sets.pending ≡ None → unshifted d ≡ d
 unshifted-same d none =
     ap (λ (p : Option ℕ). record d { sets = record d.sets { pending = p } }) (sym none)
 

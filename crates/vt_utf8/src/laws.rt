@@ -1,6 +1,6 @@
 //! Laws over the definitions alone. A caller cites a law by a call of its function.
-ghost use Rattle.std.specs.Prelude.{◌≡◌, ◌<◌, ◌≤◌, ℕ, List, [], ◌∷◌, ◌++◌, All};
-ghost use Rattle.vt_term.specs.State.{State};
+ghost use Rattle.std.specs.Prelude.{◌≡◌, ◌<◌, ◌≤◌, ◌+◌, ℕ, List, [], ◌∷◌, ◌++◌, All, None, false};
+ghost use Rattle.vt_term.specs.State.{State, last_column, at_place};
 ghost use Rattle.vt_term.specs.Sound.{IsSound};
 ghost use Rattle.vt_term.specs.Play.{play, both, joined};
 ghost use Rattle.vt_glyph.specs.Tables.{IsGlyph};
@@ -99,4 +99,19 @@ pub fn writes()
     all_glyphs();
     spelling();
     spelled();
+}
+
+/// States that between sequences a character beyond ASCII moves the cursor right by as many columns as it has cells, if the row has
+/// so many to the right of the cursor, and no single shift is pending.
+pub fn moves()
+    ensures { (s : State) (c : ℕ) → IsSound s → s.held ≡ Nothing → s.display.sets.pending ≡ None → 0x80 ≤ c
+        → s.display.cursor.wrap ≡ false → s.display.cursor.col + cells c ≤ last_column s.display
+        → (play s (translation s c)).state.display.cursor
+        ≡ at_place s.display.cursor.row (s.display.cursor.col + cells c) }
+{
+    all_glyphs();
+    spelling();
+    spelled();
+    played_cuts();
+    played_soundness();
 }

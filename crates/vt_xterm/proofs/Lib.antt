@@ -1,7 +1,11 @@
+mod Tables
 mod Colours
 mod Cuts
 mod Terminals
 mod Fed
 mod Times
+mod SoundScreens
+mod Stays
 mod Screens
 mod Logged
+mod Repeats

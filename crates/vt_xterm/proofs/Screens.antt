@@ -1,11 +1,29 @@
 -- What the alternate page leaves.
-use Rattle.std.proofs.Common.{◌≡◌, ℕ, true, false, refl, arith}
-use Rattle.std.specs.Prelude.{◌==◌}
+use Rattle.std.proofs.Common.{◌≡◌, ℕ, ◌≤◌, true, false, List, [], ◌∷◌, ◌++◌, Some, None, refl, sym, ap, ◌∙◌, arith, append-nil}
+use Rattle.std.specs.Prelude.{◌==◌, ◌&&◌}
+use Rattle.std.specs.List.{list_any}
+use Rattle.std.proofs.lemmas.List.Sums.{fold-append}
+use Rattle.std.proofs.lemmas.List.Elements.{All-from_recursion}
 use Rattle.std.proofs.lemmas.Bool.Decides.{nat_tests}
+use Rattle.vt_syntax.specs.declared.event.Event.{Event}
+use Rattle.vt_syntax.specs.declared.event.Event.TheVariants.{Sequence}
+use Rattle.vt_syntax.specs.declared.held.Held.{Held}
+use Rattle.vt_syntax.specs.declared.held.Held.TheVariants.{Nothing}
+use Rattle.vt_syntax.specs.Held.{IsHeldPart, events_from, held_from}
+use Rattle.vt_syntax.specs.Reading.{events_of}
+use Rattle.vt_syntax.specs.Spelling.{IsEvent, spell_event}
+use Rattle.vt_syntax.specs.Laws.{SplitLaw, SpellingLaw}
 use Rattle.vt_term.specs.State.{Display}
 use Rattle.vt_term.specs.Pages.{page_of, with_page}
 use Rattle.vt_term.specs.Saving.{save_cursor, restore_cursor}
-use Rattle.vt_xterm.specs.Pages.{Screens, show_and_save}
+use Rattle.vt_term.specs.Sound.{IsSoundDisplay}
+use Rattle.vt_term.specs.Pages.{IsSoundPage}
+use Rattle.vt_term.proofs.Bytes.{nothing-held}
+use Rattle.vt_xterm.specs.Pages.{Screens, PagesState, show_and_save, with_page_mode}
+use Rattle.vt_xterm.specs.Front.{functions_of, function_in, xterm_effect, is_page_function, alternate_page, into_alternate, through_alternate}
+use Rattle.vt_xterm.specs.Play.{Whole, IsSoundWhole, screens_of, after_events, play_bytes}
+use Rattle.vt_xterm.proofs.SoundScreens.{fitted-sound}
+use Rattle.vt_xterm.proofs.Stays.{neither, event-stays}
 
 same-width : (a b : ℕ) → a ≡ b → (a == b) ≡ true
 same-width a b is = grind (arith, nat_tests)
@@ -19,3 +37,109 @@ back-again s t main width =
     let same : (s.display.grid.width == t.grid.width) ≡ true =
     same-width s.display.grid.width t.grid.width (omega (arith, width)) in
     rw (main, same) refl
+
+-- ---- bytes between ?1049h and ?1049l
+
+is_event : (last : ℕ) → 0x40 ≤ last → last ≤ 0x7E
+    → IsEvent (Sequence (Some 0x3F) (record { items = 1049 ∷ [] }) None last)
+is_event last low high = record {
+  is_marker = (omega arith, omega arith);
+  are_values = record {
+    some = omega arith;
+    few = omega arith;
+    small = All-from_recursion (λ v. v ≤ 9999) (1049 ∷ []) (omega arith, tt);
+  };
+  is_intermediate = tt;
+  low = low;
+  high = high;
+}
+
+on-event : IsEvent (alternate_page true)
+on-event = is_event 0x68 (omega arith) (omega arith)
+
+off-event : IsEvent (alternate_page false)
+off-event = is_event 0x6C (omega arith) (omega arith)
+
+stay : (events : List Event) (s : Screens) → list_any is_page_function events ≡ false
+    → ((after_events events s).pages ≡ s.pages) × ((after_events events s).display.grid.width ≡ s.display.grid.width)
+stay [] s none = (refl, refl)
+stay (event ∷ events) s none =
+    let no = neither (is_page_function event) (list_any is_page_function events) none in
+    let first = event-stays event no.0 s in
+    let rest = stay events (xterm_effect event s) no.1 in
+    (rest.0 ∙ first.0, rest.1 ∙ first.1)
+
+shown-width : (s : Screens) → s.pages.alternate ≡ false → IsSoundDisplay s.display → IsSoundPage s.pages.other
+    → (show_and_save true s).display.grid.width ≡ s.display.grid.width
+shown-width s main display other =
+    let shape = display.grid.shape.width in
+    rw main (fitted-sound s.display.grid.width shape.0 s.pages.other shape.1 other).1
+
+on-effect : (s : Screens) → xterm_effect (alternate_page true) s ≡ show_and_save true s
+unfolding functions_of function_in with_page_mode
+on-effect s = refl
+
+off-effect : (s : Screens) → xterm_effect (alternate_page false) s ≡ show_and_save false s
+unfolding functions_of function_in with_page_mode
+off-effect s = refl
+
+came-back : (s : Screens) (t : Screens) → s.pages.alternate ≡ false → t.pages ≡ (show_and_save true s).pages
+    → t.display.grid.width ≡ s.display.grid.width
+    → (show_and_save false t).display ≡ restore_cursor (with_page (page_of (save_cursor s.display)) t.display)
+came-back s t main pages width =
+    ap (λ (p : PagesState). (show_and_save false (record { display = t.display; pages = p })).display) pages
+    ∙ ap (λ (x : Screens). x.display) (back-again s t.display main width)
+
+module _ (split : SplitLaw) (spelling : SpellingLaw) where
+  single : (event : Event) → IsEvent event → events_of (spell_event event) ≡ event ∷ []
+  single event is =
+      ap (λ (bytes : List ℕ). events_of bytes) (sym (append-nil (spell_event event)))
+      ∙ spelling.event event [] is
+      ∙ ap (λ (events : List Event). event ∷ events) (split.events_nil Nothing nothing-held)
+
+  begun : (held : Held) (more : List ℕ) → IsHeldPart held
+      → events_from held (spell_event (alternate_page true) ++ more) ≡ alternate_page true ∷ events_of more
+  begun held more is = spelling.escape held _ is ∙ spelling.event (alternate_page true) more on-event
+
+  ended : (bytes : List ℕ) → events_of (bytes ++ spell_event (alternate_page false))
+      ≡ events_of bytes ++ alternate_page false ∷ []
+  ended bytes =
+      split.events_append Nothing bytes (spell_event (alternate_page false))
+      ∙ ap (λ (events : List Event). events_of bytes ++ events)
+      (spelling.escape (held_from Nothing bytes) _ (split.held_part bytes) ∙ single (alternate_page false) off-event)
+
+  pub between : (w : Whole) (bytes : List ℕ) → IsSoundWhole w → w.pages.alternate ≡ false
+      → list_any is_page_function (events_of bytes) ≡ false
+      → (play_bytes w (through_alternate bytes)).whole.state.display
+      ≡ restore_cursor (with_page (page_of (save_cursor w.state.display))
+      (play_bytes w (into_alternate bytes)).whole.state.display)
+  unfolding play_bytes
+  between w bytes i main none =
+      let held = w.state.held in
+      let s = screens_of w in
+      let events = events_of bytes in
+      let first = show_and_save true s in
+      let t = after_events events first in
+      let all : events_from held (through_alternate bytes)
+      ≡ alternate_page true ∷ (events ++ alternate_page false ∷ []) =
+      begun held (bytes ++ spell_event (alternate_page false)) i.state.held
+      ∙ ap (λ (es : List Event). alternate_page true ∷ es) (ended bytes) in
+      let start : after_events (alternate_page true ∷ events) s ≡ t =
+      ap (λ (x : Screens). after_events events x) (on-effect s) in
+      let stays = stay events first none in
+      let width = stays.1 ∙ shown-width s main i.state.display i.other in
+      let final : after_events (alternate_page true ∷ (events ++ alternate_page false ∷ [])) s ≡ show_and_save false t =
+      ap (λ (x : Screens). after_events (events ++ alternate_page false ∷ []) x) (on-effect s)
+      ∙ fold-append (λ x event. xterm_effect event x) first events (alternate_page false ∷ [])
+      ∙ off-effect t in
+      ap (λ (es : List Event). (after_events es s).display) all
+      ∙ ap (λ (x : Screens). x.display) final
+      ∙ came-back s t main stays.0 width
+      ∙ ap (λ (x : Screens). restore_cursor (with_page (page_of (save_cursor w.state.display)) x.display)) (sym start)
+      ∙ ap (λ (es : List Event). restore_cursor (with_page (page_of (save_cursor w.state.display)) (after_events es s).display))
+      (sym (begun held bytes i.state.held))
+
+pub row-restored : (s t : Display) → s.modes.decom ≡ false
+    → (restore_cursor (with_page (page_of (save_cursor s)) t)).cursor
+    ≡ record s.cursor { wrap = s.cursor.wrap && t.modes.decawm }
+row-restored s t origin = rw origin refl

@@ -1,8 +1,10 @@
 -- Which function an event asks for under TERM=xterm: one of these tables, or else a VT220's. (ECMA-48 8.3; xterm's control
 -- sequences)
-use Rattle.std.specs.Prelude.{ℕ, List, [], ◌∷◌, Bool, true, false, Option, Some, None, ◌==◌, ◌&&◌, length, unwrap_or, codes, if◌then◌else◌}
+use Rattle.std.specs.Prelude.{ℕ, List, [], ◌∷◌, ◌++◌, Bool, true, false, Option, Some, None, ◌==◌, ◌&&◌, ◌||◌, length, unwrap_or, codes, if◌then◌else◌}
+use Rattle.std.specs.List.{list_any}
 use Rattle.vt_syntax.specs.declared.event.Event.{Event}
 use Rattle.vt_syntax.specs.declared.event.Event.TheVariants.{Print, Control, Escape, Sequence}
+use Rattle.vt_syntax.specs.Spelling.{spell_event}
 use Rattle.vt_glyph.specs.LookUp.{look_up}
 use Rattle.vt_term.specs.State.{Display}
 use Rattle.vt_term.specs.Parameters.{first, count}
@@ -93,3 +95,37 @@ xterm_effect (Escape None last) = function_in plain_escapes (Escape None last) l
 xterm_effect (Escape (Some inter) last) = on_display (effect (Escape (Some inter) last))
 xterm_effect (Sequence marker params inter last) =
     function_in (functions_of marker inter) (Sequence marker params inter last) last params.items
+
+-- ---- what may change the pages or the width, for laws
+
+-- ?3, ?40, ?47, ?1047 and ?1049
+abbrev pub is_page_mode : ℕ → Bool
+is_page_mode p = p == 3 || (p == 40 || (p == 47 || (p == 1047 || p == 1049)))
+
+-- a control sequence that is SM or RM of one of these modes
+abbrev pub sets_page_mode : ℕ → ℕ → List ℕ → Bool
+sets_page_mode marker last params =
+    marker == byte (codes "?") && ((last == byte (codes "h") || last == byte (codes "l")) && list_any is_page_mode params)
+
+-- RIS, and SM and RM of these modes
+abbrev pub is_page_function : Event → Bool
+is_page_function (Print b) = false
+is_page_function (Control b) = false
+is_page_function (Escape None last) = last == byte (codes "c")
+is_page_function (Escape (Some inter) last) = false
+is_page_function (Sequence None params inter last) = false
+is_page_function (Sequence (Some marker) params None last) = sets_page_mode marker last params.items
+is_page_function (Sequence (Some marker) params (Some inter) last) = false
+
+-- CSI ? 1049 h, and CSI ? 1049 l
+abbrev pub alternate_page : Bool → Event
+alternate_page shown =
+    Sequence (Some (byte (codes "?"))) (record { items = 1049 ∷ [] }) None (byte (codes (if shown then "h" else "l")))
+
+-- ?1049h and then the bytes
+abbrev pub into_alternate : List ℕ → List ℕ
+into_alternate bytes = spell_event (alternate_page true) ++ bytes
+
+-- and then ?1049l
+abbrev pub through_alternate : List ℕ → List ℕ
+through_alternate bytes = spell_event (alternate_page true) ++ (bytes ++ spell_event (alternate_page false))

@@ -4,6 +4,8 @@ use Rattle.vt_syntax.specs.declared.event.Event.{Event}
 use Rattle.vt_syntax.specs.Held.{events_from, held_from}
 use Rattle.vt_screen.specs.declared.cell.Cell.{Cell}
 use Rattle.vt_term.specs.State.{State}
+use Rattle.vt_term.specs.Sound.{IsSound}
+use Rattle.vt_term.specs.Pages.{IsSoundPage}
 use Rattle.vt_term.specs.Text.{line_text}
 use Rattle.vt_term.specs.Scrolling.{scrolled_off}
 use Rattle.vt_term.specs.Reports.{report}
@@ -18,6 +20,11 @@ use Rattle.vt_xterm.specs.Log.{xterm_lines_off}
 pub record Whole : Type 0 where
   pub state : State
   pub pages : PagesState
+
+-- what holds of all that bytes leave. (this profile)
+pub record IsSoundWhole (w : Whole) : Type 0 where
+  pub state : IsSound w.state
+  pub other : IsSoundPage w.pages.other
 
 -- what is left, the report bytes, and the lines that scroll off
 pub record WholePlayed : Type 0 where

@@ -1,17 +1,43 @@
 //! Laws over the definitions alone. A caller cites a law by a call of its function.
-ghost use Rattle.std.specs.Prelude.{◌≡◌, ◌<◌, ℕ, List, [], ◌++◌, All, true, false, if◌then◌else◌};
-ghost use Rattle.vt_term.specs.State.{Display};
-ghost use Rattle.vt_term.specs.Sound.{IsSound};
-ghost use Rattle.vt_term.specs.Pages.{page_of, with_page};
+ghost use Rattle.std.specs.Prelude.{◌≡◌, ◌+◌, min, ◌<◌, ℕ, List, [], ◌++◌, All, true, false, if◌then◌else◌};
+ghost use Rattle.std.specs.List.{list_any};
+ghost use Rattle.vt_syntax.specs.declared.event.Event.{Event};
+ghost use Rattle.vt_syntax.specs.Reading.{events_of};
+ghost use Rattle.vt_term.specs.State.{Display, power_up};
+ghost use Rattle.vt_term.specs.Sound.{IsSound, IsSoundDisplay};
+ghost use Rattle.vt_term.specs.Pages.{IsSoundPage, page_of, with_page};
 ghost use Rattle.vt_term.specs.Saving.{save_cursor, restore_cursor};
+ghost use Rattle.vt_term.specs.Writing.{write_glyph};
 ghost use Rattle.vt_term.specs.Play.{play, joined};
 ghost use Rattle.vt_term.specs.Scrolling.{scrolled_off};
 ghost use Rattle.vt_utf8.specs.Decoding.{pending_after};
+ghost use Rattle.vt_xterm.specs.Repeating.{times, room, repeat};
 ghost use Rattle.vt_xterm.specs.Pages.{Screens, show_and_save};
-ghost use Rattle.vt_xterm.specs.Play.{Whole, play_bytes, play_xterm, play_xterm_all, both, nothing_played, xterm_log};
+ghost use Rattle.vt_xterm.specs.Front.{xterm_effect, is_page_function, into_alternate, through_alternate};
+ghost use Rattle.vt_xterm.specs.Play.{Whole, IsSoundWhole, behind, front_at_power_up};
+ghost use Rattle.vt_xterm.specs.Play.{play_bytes, play_xterm, play_xterm_all, both, nothing_played, xterm_log};
 ghost use Rattle.vt_xterm.specs.Private.Finding.{PlaysTerminals};
 
-use vt_syntax::laws::one_split;
+use vt_glyph::laws::{glyphs, soundness as sets_soundness};
+use vt_screen::laws::{places, rows, tests};
+use vt_syntax::laws::{one_split, spelled};
+use vt_term::laws::soundness as played_soundness;
+
+/// States that the state and the page that isn't shown are sound at power-up, and that events and UTF-8 keep them sound.
+pub fn soundness()
+    ensures power_up { IsSoundWhole (behind power_up front_at_power_up) }
+    ensures event { (event : Event) (s : Screens) → IsSoundDisplay s.display → IsSoundPage s.pages.other
+        → IsSoundDisplay (xterm_effect event s).display × IsSoundPage (xterm_effect event s).pages.other }
+    ensures play { (w : Whole) (pending bytes : List ℕ) → IsSoundWhole w
+        → IsSoundWhole (play_xterm w pending bytes).whole }
+{
+    one_split();
+    glyphs();
+    sets_soundness();
+    rows();
+    tests();
+    played_soundness();
+}
 
 /// States that what a host sends may be cut anywhere: chunks in turn leave the state, the pages, the pending part, the reports
 /// and the lines of the chunks joined.
@@ -53,3 +79,38 @@ pub fn alternate()
           pages = record { other = page_of t; alternate = false; resizes = s.pages.resizes };
         } }
 {}
+
+/// States that REP after a glyph that was written under DECAWM writes this glyph again, n times, and not past the end of the row.
+pub fn repeats()
+    ensures { (s : Display) (glyph n : ℕ) → IsSoundDisplay s → s.modes.decawm ≡ true
+        → repeat n (write_glyph glyph s) ≡ times (min n (room (write_glyph glyph s)) + 1) (write_glyph glyph) s }
+{
+    places();
+    rows();
+}
+
+/// States that every event leaves the pages and the width, except RIS, and SM and RM of ?3, ?40, ?47, ?1047 and ?1049.
+pub fn pages()
+    ensures { (event : Event) (s : Screens) → is_page_function event ≡ false
+        → ((xterm_effect event s).pages ≡ s.pages)
+        × ((xterm_effect event s).display.grid.width ≡ s.display.grid.width) }
+{}
+
+/// States what comes back after ?1049h on the main page, bytes without a function of the pages, and ?1049l. The cells are those of
+/// before. The cursor is restored that was saved: if DECOM was reset, it is where it was.
+pub fn comes_back()
+    ensures display { (w : Whole) (bytes : List ℕ) → IsSoundWhole w → w.pages.alternate ≡ false
+        → list_any is_page_function (events_of bytes) ≡ false
+        → (play_bytes w (through_alternate bytes)).whole.state.display
+        ≡ restore_cursor (with_page (page_of (save_cursor w.state.display)) (play_bytes w (into_alternate bytes)).whole.state.display) }
+    ensures cells { (w : Whole) (bytes : List ℕ) → IsSoundWhole w → w.pages.alternate ≡ false
+        → list_any is_page_function (events_of bytes) ≡ false
+        → (play_bytes w (through_alternate bytes)).whole.state.display.grid ≡ w.state.display.grid }
+    ensures cursor { (w : Whole) (bytes : List ℕ) → IsSoundWhole w → w.pages.alternate ≡ false
+        → list_any is_page_function (events_of bytes) ≡ false → w.state.display.modes.decom ≡ false
+        → ((play_bytes w (through_alternate bytes)).whole.state.display.cursor.row ≡ w.state.display.cursor.row)
+        × ((play_bytes w (through_alternate bytes)).whole.state.display.cursor.col ≡ w.state.display.cursor.col) }
+{
+    one_split();
+    spelled();
+}

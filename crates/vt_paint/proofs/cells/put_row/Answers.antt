@@ -51,9 +51,9 @@ loop-i-then-not-is_blank-init c =
     let shown : is_blank cell ≡ false = sym c.is_blank.ensures ∙ c.if-not-is_blank.true in
     record {
       items = λ g e. first_written g r i cell _ _ _ _ _ (cell_is g e) (c.loop-i.invariant.fresh g e (omega arith)) shown
-          c.brush.ensures
+          refl
           (c.push_many-at.ensures.items ∙ c.loop-i.invariant.items g e)
-          (behind_all _ _ _ _ c.put_header-at.ensures.items) (behind_all _ _ _ _ c.put_glyph-at.ensures.items);
+          (behind_all _ _ _ _ (c.put_header-at.ensures.items (brush_of cell) c.of-run.ensures)) (behind_all _ _ _ _ c.put_glyph-at.ensures.items);
       left = λ g e. (
         ap (λ x. is_blank x) (sym (cell_is g e)) ∙ shown,
         c.of-run.ensures ∙ ap (λ x. brush_number (brush_of x)) (cell_is g e),

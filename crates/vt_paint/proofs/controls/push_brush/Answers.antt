@@ -8,5 +8,5 @@ returns-clause-items c =
       brush_spelled c.args.brush,
       c.push_bytes-2.ensures.items,
       c.push_bytes.ensures.items,
-      c.brush_part-len.ensures.value,
+      c.brush_part-len.ensures.value c.args.brush c.number.ensures,
     ) (simp append_assoc)

@@ -12,7 +12,7 @@ use Rattle.vt_cli.specs.declared.what.TerminalType.{TerminalType}
 use Rattle.vt_cli.specs.declared.what.TerminalType.TheVariants.{Vt220, Xterm}
 use Rattle.vt_cli.specs.declared.source.Source.{Source}
 use Rattle.vt_cli.specs.declared.source.Complaint.{Complaint}
-use Rattle.vt_cli.specs.declared.source.Complaint.TheVariants.{NoFormat, NoTimingFile, NoMoment, NoTimes, NoEncoding, OnlyDec}
+use Rattle.vt_cli.specs.declared.source.Complaint.TheVariants.{NoFormat, NoTimingFile, NoMoment, NoTimes, NoEncoding}
 use Rattle.vt_cli.specs.declared.source.Complaint.TheVariants.{NoTerminal, OnlyUtf8, OnlyVt220}
 use Rattle.vt_cli.specs.Moment.{moment}
 
@@ -57,27 +57,25 @@ until_of format timed (Some text) = until_given format timed (moment text)
 
 -- ---- the encoding
 
--- the command of this name reads UTF-8
-abbrev pub reads_utf8 : Text → Bool
-reads_utf8 command = not (bytes_eq command (codes "trace")) && not (bytes_eq command (codes "summary"))
-
--- the encoding of a name, for a command
-abbrev pub encoding_named : (command name : Text) → Result (Option Encoding) Complaint
-encoding_named command name =
+-- the encoding of a name
+abbrev pub encoding_named : (name : Text) → Result (Option Encoding) Complaint
+encoding_named name =
     cond (bytes_eq name (codes "dec")) (Ok (Some Dec))
-    (cond (bytes_eq name (codes "utf-8")) (cond (reads_utf8 command) (Ok (Some Utf8)) (Err OnlyDec)) (Err NoEncoding))
+    (cond (bytes_eq name (codes "utf-8")) (Ok (Some Utf8)) (Err NoEncoding))
 
 -- without a name none is asked for
-abbrev pub encoding_of : (command : Text) → Option Text → Result (Option Encoding) Complaint
-encoding_of command None = Ok None
-encoding_of command (Some name) = encoding_named command name
+abbrev pub encoding_of : Option Text → Result (Option Encoding) Complaint
+encoding_of None = Ok None
+encoding_of (Some name) = encoding_named name
 
 -- ---- the terminal
 
 -- the command of this name plays xterm
 abbrev pub plays_xterm : Text → Bool
 plays_xterm command =
-    not (bytes_eq command (codes "pages")) && (reads_utf8 command && not (bytes_eq command (codes "content")))
+    not (bytes_eq command (codes "pages"))
+    && (not (bytes_eq command (codes "trace"))
+    && (not (bytes_eq command (codes "summary")) && not (bytes_eq command (codes "content"))))
 
 -- xterm, for a command and the encoding that was asked for: it reads UTF-8
 abbrev pub xterm_for : (command : Text) → Option Encoding → Result TerminalType Complaint
@@ -103,43 +101,27 @@ encoding_for Xterm encoding = Some Utf8
 
 -- ---- all of them
 
-abbrev pub with_terminal : Option Format → Option Moment → Option Encoding → Result TerminalType Complaint
-    → Result Source Complaint
-with_terminal format until encoding (Ok terminal) =
-    Ok (record { format = format; until = until; encoding = encoding_for terminal encoding; terminal = terminal })
-with_terminal format until encoding (Err complaint) = Err complaint
-
--- by the encoding, and the name of a terminal, for a command
-abbrev pub with_encoding : (command : Text) → Option Format → Option Moment → Result (Option Encoding) Complaint
-    → (terminal : Option Text) → Result Source Complaint
-with_encoding command format until (Ok encoding) terminal =
-    with_terminal format until encoding (terminal_of command encoding terminal)
-with_encoding command format until (Err complaint) terminal = Err complaint
-
-abbrev pub with_until : (command : Text) → Option Format → Result (Option Moment) Complaint → (encoding terminal : Option Text)
-    → Result Source Complaint
-with_until command format (Ok until) encoding terminal =
-    with_encoding command format until (encoding_of command encoding) terminal
-with_until command format (Err complaint) encoding terminal = Err complaint
-
--- by the format, whether there is a timing file, and the texts of the other options
-abbrev pub source_by : (command : Text) → Result (Option Format) Complaint → (timed : Bool)
-    → (until encoding terminal : Option Text) → Result Source Complaint
-source_by command (Err complaint) timed until encoding terminal = Err complaint
-source_by command (Ok format) timed until encoding terminal =
-    cond (timed && not (takes_timing format)) (Err NoTimingFile)
-    (with_until command format (until_of format timed until) encoding terminal)
+-- what follows if there is no complaint
+abbrev pub and_then : {A B : Type 0} → (A → Result B Complaint) → Result A Complaint → Result B Complaint
+and_then next (Ok value) = next value
+and_then next (Err complaint) = Err complaint
 
 -- without a name it is raw
 abbrev pub named : Option Text → Result (Option Format) Complaint
 named None = Ok (Some Raw)
 named (Some name) = format_named name
 
--- by the name of the command, and the texts of the options
+-- by the name of the command, whether there is a timing file, and the texts of the other options
 abbrev pub source_of : (command : Text) → (format : Option Text) → (timed : Bool) → (until encoding terminal : Option Text)
     → Result Source Complaint
 source_of command format timed until encoding terminal =
-    source_by command (named format) timed until encoding terminal
+    and_then (λ format. cond (timed && not (takes_timing format)) (Err NoTimingFile)
+    (and_then (λ until. and_then (λ encoding. and_then (λ terminal. Ok (record {
+      format = format;
+      until = until;
+      encoding = encoding_for terminal encoding;
+      terminal = terminal;
+    })) (terminal_of command encoding terminal)) (encoding_of encoding)) (until_of format timed until))) (named format)
 
 -- by a subcommand's name and matches
 abbrev pub source_in : (command : Text) → List Row → Result Source Complaint
@@ -156,8 +138,6 @@ line_of NoMoment = codes "vt220: --until is seconds, as 12.5 or 12:31, or bytes,
 line_of NoTimes =
     codes "vt220: the input has no times; give --until in bytes, as 4096b, or script its --timing FILE" ++ 0x0A ∷ codes "vt220: a recording by ttyrec or asciinema has times: add --format ttyrec, asciicast or auto" ++ 0x0A ∷ []
 line_of NoEncoding = codes "vt220: --encoding is dec or utf-8" ++ 0x0A ∷ []
-line_of OnlyDec =
-    codes "vt220: trace and summary read no UTF-8" ++ 0x0A ∷ codes "vt220: they read what vt220 content --encoding utf-8 writes" ++ 0x0A ∷ []
 line_of NoTerminal = codes "vt220: --terminal is vt220 or xterm" ++ 0x0A ∷ []
 line_of OnlyUtf8 = codes "vt220: --terminal xterm reads UTF-8, and not --encoding dec" ++ 0x0A ∷ []
 line_of OnlyVt220 =

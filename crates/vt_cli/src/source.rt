@@ -2,7 +2,7 @@
 ghost use Rattle.std.specs.Prelude.{◌≡◌, option_map};
 ghost use Rattle.clap.specs.Words.{found_of, rows_of};
 ghost use Rattle.vt_cli.specs.Source.{format_named, named, takes_timing, has_times, has_moment, until_of, source_of, source_in, line_of};
-ghost use Rattle.vt_cli.specs.Source.{reads_utf8, encoding_named, encoding_of};
+ghost use Rattle.vt_cli.specs.Source.{encoding_named, encoding_of};
 ghost use Rattle.vt_cli.specs.Source.{plays_xterm, xterm_for, terminal_named, terminal_of, encoding_for};
 
 use crate::moment::moment;
@@ -36,8 +36,6 @@ pub(crate) enum Complaint {
     NoTimes,
     /// `--encoding` names no encoding.
     NoEncoding,
-    /// `--encoding utf-8` is given for a command that reads no UTF-8.
-    OnlyDec,
     /// `--terminal` names no terminal.
     NoTerminal,
     /// `--terminal xterm` is given with `--encoding dec`.
@@ -65,10 +63,6 @@ impl Complaint {
                  vt220: a recording by ttyrec or asciinema has times: add --format ttyrec, asciicast or auto\n"
             }
             Complaint::NoEncoding => "vt220: --encoding is dec or utf-8\n",
-            Complaint::OnlyDec => {
-                "vt220: trace and summary read no UTF-8\n\
-                 vt220: they read what vt220 content --encoding utf-8 writes\n"
-            }
             Complaint::NoTerminal => "vt220: --terminal is vt220 or xterm\n",
             Complaint::OnlyUtf8 => "vt220: --terminal xterm reads UTF-8, and not --encoding dec\n",
             Complaint::OnlyVt220 => {
@@ -152,31 +146,23 @@ fn until_of(
     }
 }
 
-/// Returns whether the command of this name reads UTF-8.
-fn reads_utf8(command: &str) -> bool
-    ensures { result ≡ reads_utf8 command.now }
-{
-    !matches!(command, "trace" | "summary")
-}
-
-/// Returns the encoding of a name, for a command.
-fn encoding_named(command: &str, name: &str) -> Result<Option<Encoding>, Complaint>
-    ensures { result ≡ encoding_named command.now name.now }
+/// Returns the encoding of a name.
+fn encoding_named(name: &str) -> Result<Option<Encoding>, Complaint>
+    ensures { result ≡ encoding_named name.now }
 {
     match name {
         "dec" => Ok(Some(Encoding::Dec)),
-        "utf-8" if reads_utf8(command) => Ok(Some(Encoding::Utf8)),
-        "utf-8" => Err(Complaint::OnlyDec),
+        "utf-8" => Ok(Some(Encoding::Utf8)),
         _ => Err(Complaint::NoEncoding),
     }
 }
 
-/// Returns the encoding of a name, for a command, if there is a name.
-fn encoding_of(command: &str, name: Option<&str>) -> Result<Option<Encoding>, Complaint>
-    ensures { result ≡ encoding_of command.now (option_map (λ n. n.now) name.entry) }
+/// Returns the encoding of a name, if there is a name.
+fn encoding_of(name: Option<&str>) -> Result<Option<Encoding>, Complaint>
+    ensures { result ≡ encoding_of (option_map (λ n. n.now) name.entry) }
 {
     match name {
-        Some(name) => encoding_named(command, name),
+        Some(name) => encoding_named(name),
         None => Ok(None),
     }
 }
@@ -263,7 +249,7 @@ fn source_of(
         Ok(until) => until,
         Err(complaint) => return Err(complaint),
     };
-    let encoding = match encoding_of(command, encoding) {
+    let encoding = match encoding_of(encoding) {
         Ok(encoding) => encoding,
         Err(complaint) => return Err(complaint),
     };

@@ -43,21 +43,13 @@ taken_all chunk at within all =
     rw e (take-length chunk)
 
 -- one more turn of a chunk
-pub next_turn : (written : Writes) (ending : List ℕ → Writes) (there : Holds) (before chunk : List ℕ) (at n : ℕ) (middle : Writes) (middle_ending : List ℕ → Writes) (middle_there : Holds) (last : Writes) (last_ending : List ℕ → Writes) (last_there : Holds)
-    → IsAfter written (ending before) there (take at chunk) middle (middle_ending (before ++ take at chunk)) middle_there
-    → ((taken : List ℕ) → IsAfter middle (middle_ending taken) middle_there (take n (drop at chunk)) last (last_ending (taken ++ take n (drop at chunk))) last_there)
-    → IsAfter written (ending before) there (take (at + n) chunk) last (last_ending (before ++ take (at + n) chunk)) last_there
-next_turn written ending there before chunk at n middle middle_ending middle_there last last_ending last_there first second =
-    rw (take-add at n chunk, ← append_assoc before (take at chunk) (take n (drop at chunk)))
-    (then_more written (ending before) there (take at chunk) _ middle (middle_ending (before ++ take at chunk)) middle_there last
-    (last_ending ((before ++ take at chunk) ++ take n (drop at chunk))) last_there first (second (before ++ take at chunk)))
-
--- one more turn is taken
-pub next_taken : (before chunk : List ℕ) (at n : ℕ) (Middle Last : List ℕ → Type 0) → Middle (before ++ take at chunk)
-    → ((taken : List ℕ) → Middle taken → Last (taken ++ take n (drop at chunk))) → Last (before ++ take (at + n) chunk)
-next_taken before chunk at n Middle Last first second =
-    rw (take-add at n chunk, ← append_assoc before (take at chunk) (take n (drop at chunk)))
-    (second (before ++ take at chunk) first)
+pub next_turn : (written ending : Writes) (there : Holds) (chunk : List ℕ) (at n : ℕ) (middle middle_ending : Writes) (middle_there : Holds) (last last_ending : Writes) (last_there : Holds)
+    → IsAfter written ending there (take at chunk) middle middle_ending middle_there
+    → IsAfter middle middle_ending middle_there (take n (drop at chunk)) last last_ending last_there
+    → IsAfter written ending there (take (at + n) chunk) last last_ending last_there
+next_turn written ending there chunk at n middle middle_ending middle_there last last_ending last_there first second =
+    rw (take-add at n chunk)
+    (then_more written ending there (take at chunk) _ middle middle_ending middle_there last last_ending last_there first second)
 
 pub turn_written : (written ending : Writes) (there : Holds) (chunk : List ℕ) (at n : ℕ) (middle middle_ending : Writes) (middle_there : Holds)
     → IsAfter written ending there (take at chunk) middle middle_ending middle_there
@@ -136,16 +128,10 @@ through decoded decoded_after b written ending there last last_ending last_there
 }
 
 -- an output that is given what one more chunk is decoded to
-pub after_more : (host middle : Writes) (b chunk : List ℕ) (written ending : Writes) (there : Holds) (now : Writes) (now_ending : List ℕ → Writes) (now_there : Holds) (last : Writes) (last_ending : List ℕ → Writes) (last_there : Holds)
-    → IsDecodedAfter host b middle
-    → IsAfter written ending there (host b) now (now_ending (host b)) now_there
-    → ((taken : List ℕ) → IsAfter now (now_ending taken) now_there (middle chunk) last (last_ending (taken ++ middle chunk)) last_there)
-    → IsAfter written ending there (host (b ++ chunk)) last (last_ending (host (b ++ chunk))) last_there
+pub after_more : (host middle : Writes) (b chunk : List ℕ) (written ending : Writes) (there : Holds) (now now_ending : Writes) (now_there : Holds) (last last_ending : Writes) (last_there : Holds)
+    → IsDecodedAfter host b middle → IsAfter written ending there (host b) now now_ending now_there
+    → IsAfter now now_ending now_there (middle chunk) last last_ending last_there
+    → IsAfter written ending there (host (b ++ chunk)) last last_ending last_there
 after_more host middle b chunk written ending there now now_ending now_there last last_ending last_there d first second =
     rw (d.on chunk)
-    (then_more written ending there (host b) (middle chunk) now (now_ending (host b)) now_there last
-    (last_ending (host b ++ middle chunk)) last_there first (second (host b)))
-
-pub took_more : (host middle : Writes) (b chunk : List ℕ) (Now Last : List ℕ → Type 0) → IsDecodedAfter host b middle
-    → Now (host b) → ((taken : List ℕ) → Now taken → Last (taken ++ middle chunk)) → Last (host (b ++ chunk))
-took_more host middle b chunk Now Last d first second = rw (d.on chunk) (second (host b) first)
+    (then_more written ending there (host b) (middle chunk) now now_ending now_there last last_ending last_there first second)

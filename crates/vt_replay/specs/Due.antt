@@ -22,12 +22,8 @@ use Rattle.vt_replay.specs.declared.status.TheConstants.{STATUS_LIMIT}
 
 -- what of reports goes out while the input is read
 abbrev pub sent : What → List ℕ → List ℕ
-sent Text reports = []
 sent Reports reports = reports
-sent Repaint reports = []
-sent Status reports = []
-sent Show reports = []
-sent Picture reports = []
+sent _ reports = []
 
 -- what is due after the whole input
 abbrev pub due_at_end : What → State → ℕ → List ℕ
@@ -59,12 +55,8 @@ end_by played what bytes = due_at_end what (played bytes).state (length (played 
 
 -- reports go out
 abbrev pub is_sent : What → Bool
-is_sent Text = false
 is_sent Reports = true
-is_sent Repaint = false
-is_sent Status = false
-is_sent Show = false
-is_sent Picture = false
+is_sent _ = false
 
 -- nothing is held
 abbrev pub is_nothing : Held → Bool
@@ -73,12 +65,8 @@ is_nothing held = false
 
 -- what is asked for is there: a repaint between sequences only, all else always
 abbrev pub is_there : What → State → Bool
-is_there Text s = true
-is_there Reports s = true
 is_there Repaint s = is_nothing s.held
-is_there Status s = true
-is_there Show s = true
-is_there Picture s = true
+is_there _ s = true
 
 -- what goes out for bytes at their end is there
 abbrev pub there_by : (played : List ℕ → Played) → What → List ℕ → Bool

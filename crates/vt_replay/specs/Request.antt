@@ -1,11 +1,9 @@
 -- What a request takes from its reader and gives to its writer. (this profile)
-use Rattle.std.specs.Prelude.{◌≡◌, ◌⊎◌, ℕ, ◌≤◌, ◌<◌, ◌+◌, ◌++◌, ⊤, List, [], length, Bool, true, false, not, Option, Some, None, unwrap_or, Result, Ok, Err}
+use Rattle.std.specs.Prelude.{◌≡◌, ◌⊎◌, ℕ, ◌≤◌, ◌++◌, List, [], length, Bool, true, false, not, Option, Some, None, unwrap_or, Result, Ok, Err}
 use Rattle.vt_device.specs.Runs.{Flags}
 use Rattle.vt_cli.specs.declared.asked.Request.{Request}
 use Rattle.vt_recording.specs.declared.format.Encoding.{Encoding}
 use Rattle.vt_recording.specs.declared.format.Encoding.TheVariants.{Dec, Utf8}
-use Rattle.vt_cli.specs.declared.what.Word.{Word}
-use Rattle.vt_cli.specs.declared.what.Word.TheVariants as word
 use Rattle.vt_recording.specs.declared.format.Format.{Format}
 use Rattle.vt_recording.specs.declared.format.Format.TheVariants as format
 use Rattle.vt_recording.specs.declared.format.Moment.{Moment}
@@ -26,21 +24,12 @@ abbrev pub encoding_wanted : Option Encoding → Encoding
 encoding_wanted (Some encoding) = encoding
 encoding_wanted None = Dec
 
--- the encoding of a recording by asciinema, if none was asked for. A trace and a summary read no UTF-8
-abbrev pub cast_encoding : Word → Encoding
-cast_encoding (word.Replay what) = Utf8
-cast_encoding word.Log = Utf8
-cast_encoding word.Pages = Utf8
-cast_encoding word.Trace = Dec
-cast_encoding word.Summary = Dec
-cast_encoding word.Content = Utf8
-
--- the encoding of the content of a recording in a format, for a word
-abbrev pub encoding_of : Option Encoding → Word → Format → Encoding
-encoding_of wanted word format.Raw = encoding_wanted wanted
-encoding_of wanted word format.Script = encoding_wanted wanted
-encoding_of wanted word format.Ttyrec = encoding_wanted wanted
-encoding_of wanted word format.Asciicast = unwrap_or wanted (cast_encoding word)
+-- the encoding of the content of a recording in a format: of a recording by asciinema UTF-8, if none was asked for
+abbrev pub encoding_of : Option Encoding → Format → Encoding
+encoding_of wanted format.Raw = encoding_wanted wanted
+encoding_of wanted format.Script = encoding_wanted wanted
+encoding_of wanted format.Ttyrec = encoding_wanted wanted
+encoding_of wanted format.Asciicast = unwrap_or wanted Utf8
 
 -- the input is played as it comes: it is the host's bytes, and all of them are wanted
 abbrev pub is_streamed : Format → Option Moment → Bool
@@ -61,19 +50,8 @@ pub record IsStreamed (o : Outcome) (r : Request) (b w : List ℕ) (f : Flags) :
   pub table : WordTable o.ended r.word r.terminal (encoding_wanted r.encoding) r.piece b w f r.limit
   pub none_replaced : o.replaced ≡ 0
 
--- how much of a recording's content was played: all of it, unless there was no memory, a write failed, or it is longer than
--- the limit. It is in memory, so it can't be that a read failed
-abbrev pub AllPlayed : Result (Unit {0}) Fault → (limit : ℕ) → (c rest : List ℕ) → Type 0
-AllPlayed (Ok u) limit c rest = rest ≡ []
-AllPlayed (Err fault.Memory) limit c rest = ⊤
-AllPlayed (Err fault.Partial) limit c rest = rest ≡ []
-AllPlayed (Err fault.Read) limit c rest = ⊥
-AllPlayed (Err fault.Write) limit c rest = ⊤
-AllPlayed (Err fault.TooLong) limit c rest = limit < length c
-AllPlayed (Err (fault.Broken place)) limit c rest = ⊥
-AllPlayed (Err fault.NoTimes) limit c rest = ⊥
-
--- the word was carried out on the content of a recording, of which c was played, from memory
+-- the word was carried out on the content of a recording, of which c was played, from memory: no read fails. At the end
+-- nothing is left
 pub record IsPlayed (o : Outcome) (r : Request) (encoding : Encoding) (content : List ℕ) (broken : Option Break) (replaced : ℕ) (w : List ℕ)
     (writer_failed : Bool) : Type 0 where
   pub c : List ℕ
@@ -82,7 +60,6 @@ pub record IsPlayed (o : Outcome) (r : Request) (encoding : Encoding) (content :
   pub at_end : Bool
   pub none_left : at_end ≡ true → rest ≡ []
   pub played : Result (Unit {0}) Fault
-  pub whole : AllPlayed played r.limit c rest
   pub table : WordTable played r.word r.terminal encoding r.piece c w (record { reader_failed = false; reader_ended = at_end; writer_failed = writer_failed }) r.limit
   pub ended : o.ended ≡ ended_of broken played
   pub replaces : o.replaced ≡ replaced
@@ -95,8 +72,8 @@ pub record IsTakenApart (o : Outcome) (r : Request) (format : Format) (timing : 
   pub content : List ℕ
   pub broken : Option Break
   pub replaced : ℕ
-  pub taken : IsTaken format (encoding_of r.encoding r.word format) r.until timing b content broken replaced
-  pub played : IsPlayed o r (encoding_of r.encoding r.word format) content broken replaced w f.writer_failed
+  pub taken : IsTaken format (encoding_of r.encoding format) r.until timing b content broken replaced
+  pub played : IsPlayed o r (encoding_of r.encoding format) content broken replaced w f.writer_failed
 
 -- the input wasn't read whole or taken apart, and nothing was written
 pub record IsUnread (o : Outcome) (r : Request) (b w : List ℕ) (f : Flags) : Type 0 where

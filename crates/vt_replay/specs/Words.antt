@@ -10,7 +10,6 @@ use Rattle.vt_cli.specs.declared.what.Word.{Word}
 use Rattle.vt_cli.specs.declared.what.Word.TheVariants.{Replay, Log, Pages, Trace, Summary, Content}
 use Rattle.vt_recording.specs.declared.fault.Fault.{Fault}
 use Rattle.vt_recording.specs.declared.format.Encoding.{Encoding}
-use Rattle.vt_recording.specs.declared.format.Encoding.TheVariants.{Dec}
 use Rattle.vt_replay.specs.Due.{sent_by, end_by, there_by}
 use Rattle.vt_replay.specs.Encoding.{decoded}
 use Rattle.vt_replay.specs.Log.{screen, lines_in, screen_in}
@@ -55,7 +54,7 @@ of_decoded encoding written ending = record {
   there = always;
 }
 
--- a row a word, for a terminal and in an encoding. A replay and a log play xterm. A trace and a summary are of the bytes as they are
+-- a row a word, for a terminal and in an encoding. A replay and a log alone play xterm
 abbrev pub due_of : Word → TerminalType → Encoding → Due
 due_of (Replay what) terminal encoding =
     let played = played_as (language_of terminal encoding) in
@@ -64,8 +63,8 @@ due_of Log terminal encoding =
     let language = language_of terminal encoding in
     record { written = lines_in language; ending = screen_in language; there = always }
 due_of Pages terminal encoding = of_decoded encoding pages_written screen
-due_of Trace terminal encoding = of_decoded Dec trace_written trace_ending
-due_of Summary terminal encoding = of_decoded Dec nothing summary
+due_of Trace terminal encoding = of_decoded encoding trace_written trace_ending
+due_of Summary terminal encoding = of_decoded encoding nothing summary
 due_of Content terminal encoding = of_decoded encoding all nothing
 
 -- what each answer says, by the word

@@ -182,9 +182,7 @@ impl<P: Player> DueOutput<P> {
 impl<P: Player> Output for DueOutput<P> {
     ghost written = { λ o bytes. sent_by (P.played o.player) o.what bytes };
 
-    ghost Took = { λ o before. ⊤ };
-
-    ghost ending = { λ o before bytes. due_at_end o.what (P.played o.player bytes).state
+    ghost ending = { λ o bytes. due_at_end o.what (P.played o.player bytes).state
         (o.reported + length (P.played o.player bytes).reports) };
 
     ghost there = { λ o bytes. there_by (P.played o.player) o.what bytes };

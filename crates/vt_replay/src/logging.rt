@@ -162,9 +162,7 @@ impl LogOutput {
 impl Output for LogOutput {
     ghost written = { λ o bytes. log o.terminal bytes };
 
-    ghost Took = { λ o before. ⊤ };
-
-    ghost ending = { λ o before bytes. text (play o.terminal bytes).state };
+    ghost ending = { λ o bytes. text (play o.terminal bytes).state };
 
     ghost there = { λ o bytes. true };
 
@@ -229,9 +227,7 @@ impl XtermLogOutput {
 impl Output for XtermLogOutput {
     ghost written = { λ o bytes. xterm_log (behind o.terminal o.front) o.front.pending bytes };
 
-    ghost Took = { λ o before. ⊤ };
-
-    ghost ending = { λ o before bytes. text (play_xterm (behind o.terminal o.front) o.front.pending bytes).whole.state };
+    ghost ending = { λ o bytes. text (play_xterm (behind o.terminal o.front) o.front.pending bytes).whole.state };
 
     ghost there = { λ o bytes. true };
 

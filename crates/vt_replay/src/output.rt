@@ -19,11 +19,8 @@ pub trait Output: Drop {
     /// What is written of bytes that come.
     ghost written: { Self → List ℕ → List ℕ };
 
-    /// Whether these are the bytes that it took before. An output that needs no bytes of the past says so of all.
-    ghost Took: { Self → List ℕ → Type 0 };
-
-    /// What is written at the end of bytes that come, after those that it took before.
-    ghost ending: { Self → List ℕ → List ℕ → List ℕ };
+    /// What is written at the end of bytes that come.
+    ghost ending: { Self → List ℕ → List ℕ };
 
     /// Whether what is written at the end of bytes that come is there.
     ghost there: { Self → List ℕ → Bool };
@@ -52,9 +49,8 @@ pub trait Output: Drop {
         ensures some { 1 ≤ result }
         ensures within { result ≤ length chunk.now }
         ensures written { out.new.items ≡ written self.old (take result chunk.now) }
-        ensures after { (before : List ℕ) → IsAfter (written self.old) (ending self.old before) (there self.old) (take result chunk.now)
-            (written self.new) (ending self.new (before ++ take result chunk.now)) (there self.new) }
-        ensures took { (before : List ℕ) → Took self.old before → Took self.new (before ++ take result chunk.now) }
+        ensures after { IsAfter (written self.old) (ending self.old) (there self.old) (take result chunk.now)
+            (written self.new) (ending self.new) (there self.new) }
         ensures most { most self.old ≤ most self.new }
         ensures counted { counted self.new ≤ counted self.old + 10 * result }
         ensures reserve { reserve self.new ≡ reserve self.old }
@@ -70,7 +66,7 @@ pub trait Output: Drop {
         requires there { there self.now [] ≡ true }
         requires empty { out.old.items ≡ [] }
         requires room { reserve self.now ≤ vec_capacity out.old }
-        ensures { (before : List ℕ) → Took self.now before → out.new.items ≡ ending self.now before [] };
+        ensures { out.new.items ≡ ending self.now [] };
 }
 
 /// Returns how many bytes at the front of a chunk have so few reports that these have capacity.
@@ -86,7 +82,7 @@ pub fn front_for(chunk: &[u8], reports: &Vec<u8>) -> usize
 /// reader hasn't ended.
 ///
 /// It reads and counts bytes as `run` does. It allocates all memory before the first read: its memory doesn't grow with
-/// the input. It writes what is written of a chunk before the next read. The output is new: it took no byte before.
+/// the input. It writes what is written of a chunk before the next read.
 ///
 /// `Err` is `Memory` if allocation fails, `Read` or `Write` if that device failed, and `TooLong` if the input has more than
 /// `limit` bytes. It is `Partial` if the output has nothing to write at the end of such an input.
@@ -101,7 +97,6 @@ pub fn write_output<O: Output, R: Read, W: Write>(
     requires takes { 1 ≤ O.most output.old }
     requires counts { O.counted output.old ≡ 0 }
     requires none { O.written output.old [] ≡ [] }
-    requires took { O.Took output.old [] }
     requires reader_works { reader.old.failed ≡ false }
     requires reader_goes_on { reader.old.ended ≡ false }
     requires writer_works { writer.old.failed ≡ false }
@@ -109,7 +104,7 @@ pub fn write_output<O: Output, R: Read, W: Write>(
     requires limit_in_range { limit ≤ 1099511627776 }
     ensures answer { Moves (R.remaining reader.old.device) (R.remaining reader.new.device) (W.contents writer.old.device)
         (W.contents writer.new.device)
-        (λ b w. OutputTable (O.written output.old) (O.ending output.old []) (O.there output.old) result piece b w (record { reader_failed = reader.new.failed; reader_ended = reader.new.ended; writer_failed = writer.new.failed }) limit) }
+        (λ b w. OutputTable (O.written output.old) (O.ending output.old) (O.there output.old) result piece b w (record { reader_failed = reader.new.failed; reader_ended = reader.new.ended; writer_failed = writer.new.failed }) limit) }
     ensures whole { reader.new.ended ≡ true → IsAtEnd (R.remaining reader.new.device) }
 {
     write_by(alloc, output, &mut Plain, reader, writer, piece, limit)
@@ -132,7 +127,6 @@ pub fn write_output_from<O: Output, S: Source, W: Write>(
     requires takes { 1 ≤ O.most output.old }
     requires counts { O.counted output.old ≡ 0 }
     requires none { O.written output.old [] ≡ [] }
-    requires took { O.Took output.old [] }
     requires reader_works { S.failed reader.old ≡ false }
     requires reader_goes_on { S.ended reader.old ≡ false }
     requires writer_works { writer.old.failed ≡ false }
@@ -140,7 +134,7 @@ pub fn write_output_from<O: Output, S: Source, W: Write>(
     requires limit_in_range { limit ≤ 1099511627776 }
     ensures answer { Moves (S.remaining reader.old) (S.remaining reader.new) (W.contents writer.old.device)
         (W.contents writer.new.device)
-        (λ b w. EncodedTable encoding (O.written output.old) (O.ending output.old []) (O.there output.old) result piece b w (record { reader_failed = S.failed reader.new; reader_ended = S.ended reader.new; writer_failed = writer.new.failed }) limit) }
+        (λ b w. EncodedTable encoding (O.written output.old) (O.ending output.old) (O.there output.old) result piece b w (record { reader_failed = S.failed reader.new; reader_ended = S.ended reader.new; writer_failed = writer.new.failed }) limit) }
     ensures whole { S.ended reader.new ≡ true → IsAtEnd (S.remaining reader.new) }
 {
     match encoding {
@@ -165,7 +159,6 @@ fn write_by<O: Output, D: Decoding, S: Source, W: Write>(
     requires takes { 1 ≤ O.most output.old }
     requires counts { O.counted output.old ≡ 0 }
     requires none { O.written output.old [] ≡ [] }
-    requires took { O.Took output.old [] }
     requires decodes { piece ≤ D.most decoding.old }
     requires none_decoded { D.decoded decoding.old [] ≡ [] }
     requires reader_works { S.failed reader.old ≡ false }
@@ -175,7 +168,7 @@ fn write_by<O: Output, D: Decoding, S: Source, W: Write>(
     requires limit_in_range { limit ≤ 1099511627776 }
     ensures answer { Moves (S.remaining reader.old) (S.remaining reader.new) (W.contents writer.old.device)
         (W.contents writer.new.device)
-        (λ b w. OutputTable (λ bytes. O.written output.old (D.decoded decoding.old bytes)) (λ bytes. O.ending output.old [] (D.decoded decoding.old bytes)) (λ bytes. O.there output.old (D.decoded decoding.old bytes)) result piece b w (record { reader_failed = S.failed reader.new; reader_ended = S.ended reader.new; writer_failed = writer.new.failed }) limit) }
+        (λ b w. OutputTable (λ bytes. O.written output.old (D.decoded decoding.old bytes)) (λ bytes. O.ending output.old (D.decoded decoding.old bytes)) (λ bytes. O.there output.old (D.decoded decoding.old bytes)) result piece b w (record { reader_failed = S.failed reader.new; reader_ended = S.ended reader.new; writer_failed = writer.new.failed }) limit) }
     ensures whole { S.ended reader.new ≡ true → IsAtEnd (S.remaining reader.new) }
 {
     let mut room = Room::new(alloc, piece, output.capacity())?;
@@ -225,7 +218,6 @@ fn write_in_room<O: Output, D: Decoding, S: Source, W: Write>(
     requires takes { 1 ≤ O.most output.old }
     requires counts { O.counted output.old ≡ 0 }
     requires none { O.written output.old [] ≡ [] }
-    requires took { O.Took output.old [] }
     requires decodes { length buffer.old ≤ D.most decoding.old }
     requires none_decoded { D.decoded decoding.old [] ≡ [] }
     requires reader_works { S.failed reader.old ≡ false }
@@ -236,7 +228,7 @@ fn write_in_room<O: Output, D: Decoding, S: Source, W: Write>(
     requires room { O.reserve output.old ≤ vec_capacity out.old }
     ensures answer { Moves (S.remaining reader.old) (S.remaining reader.new) (W.contents writer.old.device)
         (W.contents writer.new.device)
-        (λ b w. OutputTable (λ bytes. O.written output.old (D.decoded decoding.old bytes)) (λ bytes. O.ending output.old [] (D.decoded decoding.old bytes)) (λ bytes. O.there output.old (D.decoded decoding.old bytes)) result (length buffer.old) b w (record { reader_failed = S.failed reader.new; reader_ended = S.ended reader.new; writer_failed = writer.new.failed }) limit) }
+        (λ b w. OutputTable (λ bytes. O.written output.old (D.decoded decoding.old bytes)) (λ bytes. O.ending output.old (D.decoded decoding.old bytes)) (λ bytes. O.there output.old (D.decoded decoding.old bytes)) result (length buffer.old) b w (record { reader_failed = S.failed reader.new; reader_ended = S.ended reader.new; writer_failed = writer.new.failed }) limit) }
     ensures whole { S.ended reader.new ≡ true → IsAtEnd (S.remaining reader.new) }
 {
     write_coming(output, decoding, reader, writer, limit, buffer, out)?;
@@ -266,7 +258,6 @@ fn write_coming<O: Output, D: Decoding, S: Source, W: Write>(
     requires takes { 1 ≤ O.most output.old }
     requires counts { O.counted output.old ≡ 0 }
     requires none { O.written output.old [] ≡ [] }
-    requires took { O.Took output.old [] }
     requires decodes { length buffer.old ≤ D.most decoding.old }
     requires none_decoded { D.decoded decoding.old [] ≡ [] }
     requires reader_works { S.failed reader.old ≡ false }
@@ -277,7 +268,7 @@ fn write_coming<O: Output, D: Decoding, S: Source, W: Write>(
     requires room { O.reserve output.old ≤ vec_capacity out.old }
     ensures moves { Moves (S.remaining reader.old) (S.remaining reader.new) (W.contents writer.old.device)
         (W.contents writer.new.device)
-        (λ b w. ComingTable (λ bytes. O.written output.old (D.decoded decoding.old bytes)) result (IsAfter (O.written output.old) (O.ending output.old []) (O.there output.old) (D.decoded decoding.old b) (O.written output.new) (O.ending output.new (D.decoded decoding.old b)) (O.there output.new) × O.Took output.new (D.decoded decoding.old b)) (length buffer.old) b w (record { reader_failed = S.failed reader.new; reader_ended = S.ended reader.new; writer_failed = writer.new.failed }) limit) }
+        (λ b w. ComingTable (λ bytes. O.written output.old (D.decoded decoding.old bytes)) result (IsAfter (O.written output.old) (O.ending output.old) (O.there output.old) (D.decoded decoding.old b) (O.written output.new) (O.ending output.new) (O.there output.new)) (length buffer.old) b w (record { reader_failed = S.failed reader.new; reader_ended = S.ended reader.new; writer_failed = writer.new.failed }) limit) }
     ensures whole { S.ended reader.new ≡ true → IsAtEnd (S.remaining reader.new) }
     ensures capacity { vec_capacity out.old ≤ vec_capacity out.new }
     ensures reserve { O.reserve output.new ≡ O.reserve output.old }
@@ -316,9 +307,8 @@ fn write_chunk<O: Output, W: Write>(
     requires writer_works { writer.old.failed ≡ false }
     requires none { O.written output.old [] ≡ [] }
     requires room { O.reserve output.old ≤ vec_capacity out.old }
-    ensures after { OnTrue result ((before : List ℕ) → IsAfter (O.written output.old) (O.ending output.old before) (O.there output.old) chunk.now
-        (O.written output.new) (O.ending output.new (before ++ chunk.now)) (O.there output.new)) }
-    ensures took { OnTrue result ((before : List ℕ) → O.Took output.old before → O.Took output.new (before ++ chunk.now)) }
+    ensures after { OnTrue result (IsAfter (O.written output.old) (O.ending output.old) (O.there output.old) chunk.now
+        (O.written output.new) (O.ending output.new) (O.there output.new)) }
     ensures gives { Gives (W.contents writer.old.device) (W.contents writer.new.device)
         (WriteTable result writer.new.failed (O.written output.old chunk.now)) }
     ensures ended { writer.new.ended ≡ writer.old.ended }

@@ -5,13 +5,13 @@ ghost use Rattle.vt_term.specs.Play.{play};
 ghost use Rattle.vt_term.specs.Text.{text};
 ghost use Rattle.vt_replay.specs.Pages.{pages};
 ghost use Rattle.vt_trace.specs.Trace.{trace, tracer_all, tracer_at_start, end_lines};
-ghost use Rattle.vt_trace.specs.Counted.{HasCounted};
-ghost use Rattle.vt_trace.specs.Summary.{summary};
+ghost use Rattle.vt_trace.specs.Counted.{HasCounted, HasCountedSome, summary_after};
 
 use crate::laws::pages_cut;
 use crate::output::{Output, front_for};
 use crate::pages::{PAGE_LIMIT, feed_pages_reserved};
 use std::alloc::{AllocError, Global};
+use vt_syntax::laws::one_split;
 use vt_term::laws::{cuts, soundness};
 use vt_term::{REPORT_LIMIT, Terminal};
 use vt_trace::laws::cuts as trace_cuts;
@@ -42,9 +42,7 @@ impl PageOutput {
 impl Output for PageOutput {
     ghost written = { λ o bytes. pages o.terminal bytes };
 
-    ghost Took = { λ o before. ⊤ };
-
-    ghost ending = { λ o before bytes. text (play o.terminal bytes).state };
+    ghost ending = { λ o bytes. text (play o.terminal bytes).state };
 
     ghost there = { λ o bytes. true };
 
@@ -107,9 +105,7 @@ impl TraceOutput {
 impl Output for TraceOutput {
     ghost written = { λ o bytes. trace o.terminal o.tracer bytes };
 
-    ghost Took = { λ o before. ⊤ };
-
-    ghost ending = { λ o before bytes. end_lines (tracer_all o.terminal o.tracer bytes) };
+    ghost ending = { λ o bytes. end_lines (tracer_all o.terminal o.tracer bytes) };
 
     ghost there = { λ o bytes. true };
 
@@ -150,6 +146,7 @@ impl Output for TraceOutput {
 #[derive(Drop)]
 pub(crate) struct SummaryOutput {
     counts: Summary,
+    ghost some: { HasCountedSome counts },
 }
 
 impl SummaryOutput {
@@ -166,9 +163,7 @@ impl SummaryOutput {
 impl Output for SummaryOutput {
     ghost written = { λ o bytes. [] };
 
-    ghost Took = { λ o before. HasCounted before o.counts };
-
-    ghost ending = { λ o before bytes. summary (before ++ bytes) };
+    ghost ending = { λ o bytes. summary_after o.counts bytes };
 
     ghost there = { λ o bytes. true };
 
@@ -184,6 +179,7 @@ impl Output for SummaryOutput {
 
     fn feed(&mut self, chunk: &[u8], out: &mut Vec<u8>) -> usize {
         let _ = out;
+        one_split();
         self.counts.count(chunk);
         chunk.len()
     }
@@ -193,6 +189,7 @@ impl Output for SummaryOutput {
     }
 
     fn end(&self, out: &mut Vec<u8>) {
+        one_split();
         self.counts.push_summary(out)
     }
 }
@@ -207,9 +204,7 @@ pub(crate) struct ContentOutput;
 impl Output for ContentOutput {
     ghost written = { λ o bytes. bytes };
 
-    ghost Took = { λ o before. ⊤ };
-
-    ghost ending = { λ o before bytes. [] };
+    ghost ending = { λ o bytes. [] };
 
     ghost there = { λ o bytes. true };
 

@@ -3,11 +3,11 @@ ghost use Rattle.std.specs.Prelude.{◌≡◌, ◌≤◌, true, false, Err, opti
 ghost use Rattle.std.specs.Io.KnownBytes.{IsAtEnd};
 ghost use Rattle.vt_device.specs.Runs.{Moves};
 ghost use Rattle.vt_device.specs.Writing.{Gives};
-ghost use Rattle.vt_replay.specs.Output.{OutputTable, EncodedTable, always};
+ghost use Rattle.vt_replay.specs.Output.{EncodedTable, always};
 ghost use Rattle.vt_trace.specs.Summary.{summary};
 ghost use Rattle.vt_replay.specs.Words.{WordTable, pages_written, trace_written, trace_ending, all, nothing};
 ghost use Rattle.vt_replay.specs.Log.{screen};
-ghost use Rattle.vt_replay.specs.Request.{encoding_wanted, cast_encoding, encoding_of, is_streamed, format_of, lacks_times, ended_of, IsStreamed, IsPlayed, OutcomeTable};
+ghost use Rattle.vt_replay.specs.Request.{encoding_wanted, encoding_of, is_streamed, format_of, lacks_times, ended_of, IsStreamed, IsPlayed, OutcomeTable};
 
 use crate::engine::run_from;
 use crate::language::Language;
@@ -20,6 +20,7 @@ use std::io::{Read, Write};
 use vt_cli::{Encoding, Format, Moment, Request, Word};
 use vt_device::{Source, Watched};
 use vt_recording::{Break, Content, Detected, Fault, Taken, detect, read_recording, take_apart};
+use vt_syntax::laws::one_split;
 use vt_term::laws::soundness;
 
 /// Plays the reader's bytes on a new terminal, and writes its log with pages.
@@ -52,6 +53,7 @@ fn write_trace<S: Source, W: Write>(
     alloc: Global,
     reader: &mut S,
     writer: &mut Watched<W>,
+    encoding: Encoding,
     piece: usize,
     limit: u64,
 ) -> Result<(), Fault>
@@ -62,19 +64,11 @@ fn write_trace<S: Source, W: Write>(
     requires limit_in_range { limit ≤ 1099511627776 }
     ensures answer { Moves (S.remaining reader.old) (S.remaining reader.new) (W.contents writer.old.device)
         (W.contents writer.new.device)
-        (λ b w. OutputTable trace_written trace_ending always result piece b w (record { reader_failed = S.failed reader.new; reader_ended = S.ended reader.new; writer_failed = writer.new.failed }) limit) }
+        (λ b w. EncodedTable encoding trace_written trace_ending always result piece b w (record { reader_failed = S.failed reader.new; reader_ended = S.ended reader.new; writer_failed = writer.new.failed }) limit) }
     ensures whole { S.ended reader.new ≡ true → IsAtEnd (S.remaining reader.new) }
 {
     let mut output = TraceOutput::new(alloc, piece)?;
-    write_output_from(
-        alloc,
-        &mut output,
-        Encoding::Dec,
-        reader,
-        writer,
-        piece,
-        limit,
-    )
+    write_output_from(alloc, &mut output, encoding, reader, writer, piece, limit)
 }
 
 /// Counts the events of the reader's bytes, and writes their summary at the end.
@@ -82,6 +76,7 @@ fn write_summary<S: Source, W: Write>(
     alloc: Global,
     reader: &mut S,
     writer: &mut Watched<W>,
+    encoding: Encoding,
     piece: usize,
     limit: u64,
 ) -> Result<(), Fault>
@@ -92,19 +87,12 @@ fn write_summary<S: Source, W: Write>(
     requires limit_in_range { limit ≤ 1099511627776 }
     ensures answer { Moves (S.remaining reader.old) (S.remaining reader.new) (W.contents writer.old.device)
         (W.contents writer.new.device)
-        (λ b w. OutputTable nothing summary always result piece b w (record { reader_failed = S.failed reader.new; reader_ended = S.ended reader.new; writer_failed = writer.new.failed }) limit) }
+        (λ b w. EncodedTable encoding nothing summary always result piece b w (record { reader_failed = S.failed reader.new; reader_ended = S.ended reader.new; writer_failed = writer.new.failed }) limit) }
     ensures whole { S.ended reader.new ≡ true → IsAtEnd (S.remaining reader.new) }
 {
+    one_split();
     let mut output = SummaryOutput::new(alloc)?;
-    write_output_from(
-        alloc,
-        &mut output,
-        Encoding::Dec,
-        reader,
-        writer,
-        piece,
-        limit,
-    )
+    write_output_from(alloc, &mut output, encoding, reader, writer, piece, limit)
 }
 
 /// Writes the reader's bytes.
@@ -153,8 +141,8 @@ fn carry_out_word<S: Source, W: Write>(
         Word::Replay(what) => run_from(alloc, reader, writer, what, language, piece, limit),
         Word::Log => write_log_from(alloc, reader, writer, language, piece, limit),
         Word::Pages => write_pages(alloc, reader, writer, encoding, piece, limit),
-        Word::Trace => write_trace(alloc, reader, writer, piece, limit),
-        Word::Summary => write_summary(alloc, reader, writer, piece, limit),
+        Word::Trace => write_trace(alloc, reader, writer, encoding, piece, limit),
+        Word::Summary => write_summary(alloc, reader, writer, encoding, piece, limit),
         Word::Content => write_content(alloc, reader, writer, encoding, piece, limit),
     }
 }
@@ -178,23 +166,13 @@ fn encoding_wanted(wanted: Option<Encoding>) -> Encoding
     }
 }
 
-/// Returns the encoding of a recording by asciinema, if none was asked for. A trace and a summary read no UTF-8.
-fn cast_encoding(word: Word) -> Encoding
-    ensures { result ≡ cast_encoding word }
-{
-    match word {
-        Word::Replay(_) | Word::Log | Word::Pages | Word::Content => Encoding::Utf8,
-        Word::Trace | Word::Summary => Encoding::Dec,
-    }
-}
-
-/// Returns the encoding of the content of a recording in a format, for a word.
-fn encoding_of(wanted: Option<Encoding>, word: Word, format: Format) -> Encoding
-    ensures { result ≡ encoding_of wanted word format }
+/// Returns the encoding of the content of a recording in a format. Recordings by asciinema are in UTF-8 if none was asked for.
+fn encoding_of(wanted: Option<Encoding>, format: Format) -> Encoding
+    ensures { result ≡ encoding_of wanted format }
 {
     match format {
         Format::Raw | Format::Script | Format::Ttyrec => encoding_wanted(wanted),
-        Format::Asciicast => wanted.unwrap_or(cast_encoding(word)),
+        Format::Asciicast => wanted.unwrap_or(Encoding::Utf8),
     }
 }
 
@@ -268,9 +246,9 @@ pub fn lacks_times(format: Format, timed: bool, until: Option<Moment>) -> bool
 /// Neither device has failed before, and the reader hasn't ended.
 ///
 /// The word is carried out on the host's bytes in the request's encoding, otherwise in dec. A recording by asciinema keeps
-/// characters. Its content has their bytes in the request's encoding, otherwise in UTF-8. A trace and a summary are of the
-/// bytes as they are, and for them a recording by asciinema is otherwise in dec. A replay for xterm is of UTF-8 in any case.
-/// Everything else plays a VT220, whatever the request's terminal.
+/// characters. Its content has their bytes in the request's encoding, otherwise in UTF-8. Pages, trace, summary and content
+/// are of the bytes that the encoding gives. They play a VT220, whatever the request's terminal. A replay and a log for xterm
+/// are of UTF-8 in any case.
 ///
 /// If the format is raw and all of the input is wanted, the word is carried out on the bytes as they come. Otherwise the
 /// input is read whole, and the word is carried out on its content up to the moment. If the recording is broken, that is
@@ -296,7 +274,7 @@ pub fn carry_out<R: Read, W: Write>(
     }
     match read_recording(alloc, reader, request.limit as usize) {
         Ok(bytes) => {
-            let encoding = encoding_of(request.encoding, request.word, format);
+            let encoding = encoding_of(request.encoding, format);
             match take_apart(alloc, &bytes, timing, format, encoding, request.until) {
                 Ok(taken) => play_taken(alloc, taken, encoding, writer, request),
                 Err(AllocError) => unread(Fault::Memory),

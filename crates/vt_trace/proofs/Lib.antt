@@ -5,6 +5,9 @@ mod Acting
 mod TracedBytes
 mod Traces
 mod Counts
+pub mod Coming
+mod Sums
+mod KindLines
 mod Runs
 mod Digits
 mod ItemKinds

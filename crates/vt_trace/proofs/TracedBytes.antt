@@ -1,6 +1,6 @@
 -- The trace of one byte.
 use Rattle.std.proofs.Common.{◌≡◌, ℕ, ◌+◌, ◌≤◌, List, [], ◌∷◌, ◌++◌, take, drop, length, refl, sym, ap, arith, ◌-◌, length-drop}
-use Rattle.std.proofs.Common.{◌∙◌, append_assoc, append-nil, Bool, false, not, ◌||◌, ◌<◌, length-append, length-take, suc}
+use Rattle.std.proofs.Common.{◌∙◌, append_assoc, append-nil, Bool, false, not, ◌||◌, ◌<◌, length-append, length-take}
 use Rattle.std.proofs.lemmas.List.{take_all}
 use Rattle.std.proofs.lemmas.Bool.Decides.{nat_tests}
 use Rattle.std.specs.Prelude.{codes, nat_lt}
@@ -15,7 +15,6 @@ use Rattle.vt_syntax.specs.Held.{events_from, held_from}
 use Rattle.vt_term.specs.State.{State}
 use Rattle.vt_term.specs.Play.{play, reports_of}
 use Rattle.vt_trace.specs.declared.tracing.Tracer.{Tracer}
-use Rattle.vt_trace.specs.Skipped.{is_empty}
 use Rattle.vt_trace.specs.Trace.{item_place, place_of, written_all, text_after, is_nothing, is_string, cuts_off, ends_silent, item_first}
 use Rattle.vt_trace.specs.Trace.{code_after, ended_kind, skipped_lines, skipped, goes_on, traced, tracer_after}
 

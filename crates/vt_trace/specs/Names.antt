@@ -1,6 +1,6 @@
 -- The names of events, as docs/SPECIFICATION.md has them. (EK-VT220-RM)
 use Rattle.std.specs.Prelude.{ℕ, List, [], ◌∷◌, ◌++◌, Bool, true, Option, Some, None, option_map, option_and_then}
-use Rattle.std.specs.Prelude.{unwrap_or, codes, min, nat_lt, get_or, ◌==◌, ◌&&◌, ◌||◌, if◌then◌else◌}
+use Rattle.std.specs.Prelude.{unwrap_or, codes, min, nat_lt, get_or, map, take, ◌==◌, ◌&&◌, ◌||◌, if◌then◌else◌}
 use Rattle.std.specs.List.{list_any}
 use Rattle.vt_syntax.specs.declared.event.Event.{Event}
 use Rattle.vt_syntax.specs.declared.event.Event.TheVariants.{Print, Control, Escape, Sequence}
@@ -213,85 +213,33 @@ name_of (Sequence marker params inter last) = sequence_name marker inter last pa
 
 -- ---- all names
 
--- in the order of the summary
+abbrev pub names_in : List (ℕ × List ℕ) → List (List ℕ)
+names_in rows = map (λ row. row.1) rows
+
+abbrev pub function_names : FunctionTable → List (List ℕ)
+function_names table = map (λ row. row.1.name) table
+
+-- of SCS, for each set
+abbrev pub designation_names : List ℕ → List (List ℕ)
+designation_names begins =
+    map (λ set. begins ++ set_name set) (Ascii ∷ British ∷ German ∷ Special ∷ Supplemental ∷ [])
+
+-- in the order of the summary, which is that of the tables. Of the names after `?` the first two alone aren't in another
 abbrev pub names : List (List ℕ)
 names =
     codes "text"
-    ∷ codes "BS"
-    ∷ codes "HT"
-    ∷ codes "LF"
-    ∷ codes "VT"
-    ∷ codes "FF"
-    ∷ codes "CR"
-    ∷ codes "SO"
-    ∷ codes "SI"
-    ∷ codes "SUB"
-    ∷ codes "IND"
-    ∷ codes "NEL"
-    ∷ codes "HTS"
-    ∷ codes "RI"
-    ∷ codes "SS2"
-    ∷ codes "SS3"
-    ∷ codes "DECID"
-    ∷ codes "DECSC"
-    ∷ codes "DECRC"
-    ∷ codes "DECKPAM"
-    ∷ codes "DECKPNM"
-    ∷ codes "RIS"
-    ∷ codes "LS2"
-    ∷ codes "LS3"
-    ∷ codes "LS1R"
-    ∷ codes "LS2R"
-    ∷ codes "LS3R"
-    ∷ codes "S7C1T"
-    ∷ codes "S8C1T"
-    ∷ codes "DECALN"
-    ∷ codes "SCS G0 ASCII"
-    ∷ codes "SCS G0 British"
-    ∷ codes "SCS G0 German"
-    ∷ codes "SCS G0 Special Graphics"
-    ∷ codes "SCS G0 Supplemental"
-    ∷ codes "SCS G1 ASCII"
-    ∷ codes "SCS G1 British"
-    ∷ codes "SCS G1 German"
-    ∷ codes "SCS G1 Special Graphics"
-    ∷ codes "SCS G1 Supplemental"
-    ∷ codes "SCS G2 ASCII"
-    ∷ codes "SCS G2 British"
-    ∷ codes "SCS G2 German"
-    ∷ codes "SCS G2 Special Graphics"
-    ∷ codes "SCS G2 Supplemental"
-    ∷ codes "SCS G3 ASCII"
-    ∷ codes "SCS G3 British"
-    ∷ codes "SCS G3 German"
-    ∷ codes "SCS G3 Special Graphics"
-    ∷ codes "SCS G3 Supplemental"
-    ∷ codes "ICH"
-    ∷ codes "CUU"
-    ∷ codes "CUD"
-    ∷ codes "CUF"
-    ∷ codes "CUB"
-    ∷ codes "CUP"
-    ∷ codes "ED"
-    ∷ codes "EL"
-    ∷ codes "IL"
-    ∷ codes "DL"
-    ∷ codes "DCH"
-    ∷ codes "ECH"
-    ∷ codes "DA"
-    ∷ codes "HVP"
-    ∷ codes "TBC"
-    ∷ codes "SM"
-    ∷ codes "RM"
-    ∷ codes "SGR"
-    ∷ codes "DSR"
-    ∷ codes "DECSTBM"
-    ∷ codes "DECSED"
-    ∷ codes "DECSEL"
-    ∷ codes "DECSCL"
-    ∷ codes "DECSCA"
-    ∷ codes "DECSTR"
-    ∷ []
+    ∷ (names_in control_names
+    ++ (names_in plain_escape_names
+    ++ (names_in space_escape_names
+    ++ (names_in number_sign_escape_names
+    ++ (designation_names (codes "SCS G0 ")
+    ++ (designation_names (codes "SCS G1 ")
+    ++ (designation_names (codes "SCS G2 ")
+    ++ (designation_names (codes "SCS G3 ")
+    ++ (function_names plain_names
+    ++ (function_names (take 2 private_names)
+    ++ (function_names quote_names
+    ++ function_names exclamation_names)))))))))))
 
 abbrev pub numbered : ℕ → List ℕ
 numbered number = get_or names number []

@@ -1,5 +1,5 @@
 -- What is no event: the items of the split that have no function, and what is left at the end. (this profile)
-use Rattle.std.specs.Prelude.{ℕ, List, [], ◌∷◌, ◌++◌, Bool, true, false, Option, Some, None, ◌==◌, ◌||◌, ◌&&◌, not, ◌+◌}
+use Rattle.std.specs.Prelude.{ℕ, List, [], ◌∷◌, ◌++◌, Bool, true, false, Option, Some, None}
 use Rattle.std.specs.Prelude.{codes, length, map, nat_lt, take, if◌then◌else◌}
 use Rattle.std.specs.List.{flat_map}
 use Rattle.vt_syntax.specs.declared.event.Event.{Event}

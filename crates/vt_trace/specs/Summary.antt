@@ -1,5 +1,5 @@
 -- The summary of bytes: how often each name occurs among their events, and each kind of what is ignored. (this profile)
-use Rattle.std.specs.Prelude.{ℕ, ◌≤◌, ◌+◌, ◌-◌, ◌*◌, ◌^◌, List, [], ◌∷◌, ◌++◌, Bool, false, Option, Some, None, min, codes, decimal}
+use Rattle.std.specs.Prelude.{◌≡◌, ℕ, ◌≤◌, ◌+◌, ◌-◌, ◌*◌, ◌^◌, List, [], ◌∷◌, ◌++◌, Bool, false, Option, Some, None, min, codes, decimal}
 use Rattle.std.specs.Prelude.{◌==◌, ◌&&◌, if◌then◌else◌, nat_eq, count_by}
 use Rattle.std.specs.List.{flat_map, range_with_len}
 use Rattle.std.specs.Cmp.Lexicographic.{pointwise}
@@ -138,3 +138,18 @@ event_summary events kinds =
 -- the summary of a terminal's input
 unfoldable pub summary : List ℕ → List ℕ
 summary bytes = event_summary (events_of bytes) (kinds_of bytes)
+
+-- ---- the line of a kind
+
+-- some bytes have this part
+pub record HasPart (part bytes : List ℕ) : Type 0 where
+  pub before : List ℕ
+  pub after : List ℕ
+  pub joined : bytes ≡ before ++ (part ++ after)
+
+-- the line of the ignored events of an event's kind
+abbrev pub kind_line : (ℕ → ℕ) → Event → List ℕ
+kind_line times (Print b) = single_line times b
+kind_line times (Control b) = single_line times b
+kind_line times (Escape inter last) = ignored_line times (Escape inter last)
+kind_line times (Sequence marker params inter last) = ignored_line times (Sequence marker (record { items = [] }) inter last)

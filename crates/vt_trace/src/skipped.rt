@@ -48,7 +48,7 @@ pub(crate) fn kind_name(kind: u8) -> Option<&'static str>
     }
 }
 
-/// What a byte is: its event, and the end of an item without a function.
+/// The step of a byte: its event, and the end of an item without a function.
 #[derive(Drop)]
 pub(crate) struct Step {
     /// The event that the byte completes.
@@ -108,10 +108,10 @@ pub(crate) fn read(code: u8, parser: &mut Parser, b: u8, values: &mut Values) ->
     }
 }
 
-/// What was found of a byte in a trace: the step, and the item that the byte belongs to.
+/// The step of a byte in a trace, and the item that the byte belongs to.
 #[derive(Drop)]
 pub(crate) struct Found {
-    /// What the byte is.
+    /// The step of the byte.
     pub(crate) step: Step,
     /// Where the item began.
     pub(crate) begin: u64,

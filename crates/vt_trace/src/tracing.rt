@@ -110,11 +110,11 @@ const _: () = prove!(TRACE_LIMIT == 420);
 
 /// Plays a byte of the host, and appends its report to `reports` and its trace to `out`, in existing capacity.
 ///
-/// The trace is the line of the event that the byte completes, with the place where the event began, and behind it a line
-/// with the report, if there is one. Characters one after another are one line with their text, which stays open until
-/// another event comes. If the byte ends a sequence or string that has no function, or cuts it off, the line of that comes
-/// first. `reports` has capacity for ten more bytes, and `out` for `TRACE_LIMIT`. Fewer than 2^64 - 1 bytes came before.
-/// It never fails, and it allocates nothing.
+/// The trace is the line of the event that the byte completes, with the place at which the event began. A report has a line
+/// after it. Characters one after another are one line with their text, which stays open until another event comes. If the
+/// byte ends a sequence or string that has no function, or cuts it off, the line of that comes first. `reports` has
+/// capacity for ten more bytes, and `out` for `TRACE_LIMIT`. Fewer than 2^64 - 1 bytes came before. It never fails, and it
+/// allocates nothing.
 pub fn trace_byte(
     terminal: &mut Terminal,
     tracer: &mut Tracer,

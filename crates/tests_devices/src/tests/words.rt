@@ -193,7 +193,7 @@ fn rows() -> [Row; 9] {
 }
 
 /// Rows by hand in UTF-8, from Unicode and docs/SPECIFICATION.md.
-fn utf8_rows() -> [Row; 9] {
+fn utf8_rows() -> [Row; 11] {
     [
         (
             "a letter of the supplemental set, in G2 at power-up",
@@ -257,6 +257,20 @@ fn utf8_rows() -> [Row; 9] {
             of_utf8(Word::Pages),
             DONE,
             b"\xc3\xa9\n\n\n\n\n\n\n\n\n\n\n\n\n\n\n\n\n\n\n\n\n\n\n\nB\n\n\n\n\n\n\n\n\n\n\n\n\n\n\n\n\n\n\n\n\n\n\n\n",
+        ),
+        (
+            "a trace of SS2 and a code for a letter, and of a report",
+            b"A\xc3\xa9B\x1b[6n",
+            of_utf8(Word::Trace),
+            DONE,
+            b"0\ttext\tA\n1\tSS2\t\n3\ttext\tiB\n5\tDSR\t6\n5\treport\t\\x1B[1;4R\n",
+        ),
+        (
+            "a summary counts SS2, and not what is pending at the end",
+            b"A\xc3\xa9B\xc3",
+            of_utf8(Word::Summary),
+            DONE,
+            b"3\ttext\n1\tSS2\n",
         ),
     ]
 }

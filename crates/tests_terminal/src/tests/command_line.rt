@@ -300,7 +300,7 @@ fn words_leave_out_the_notes(rt: HostRuntime) -> Result<(), Fail> {
 }
 
 /// Lines, and the encoding that each asks for.
-const ENCODED: [(&str, Option<Encoding>); 5] = [
+const ENCODED: [(&str, Option<Encoding>); 7] = [
     ("vt220 text a", None),
     ("vt220 text --encoding utf-8 a", Some(Encoding::Utf8)),
     ("vt220 content --encoding=dec", Some(Encoding::Dec)),
@@ -309,6 +309,8 @@ const ENCODED: [(&str, Option<Encoding>); 5] = [
         Some(Encoding::Utf8),
     ),
     ("vt220 trace --encoding dec a", Some(Encoding::Dec)),
+    ("vt220 trace --encoding utf-8", Some(Encoding::Utf8)),
+    ("vt220 summary --encoding=utf-8 a", Some(Encoding::Utf8)),
 ];
 
 /// Returns whether the line of a row asks for its encoding.
@@ -374,7 +376,7 @@ fn words_ask_for_a_terminal(rt: HostRuntime) -> Result<(), Fail> {
 }
 
 /// A line that is refused, and the sentences that say why.
-const MISFITS: [(&str, &str); 25] = [
+const MISFITS: [(&str, &str); 24] = [
     (
         "vt220 text --format cast",
         "vt220: --format is raw, script, ttyrec or asciicast\n\
@@ -405,8 +407,6 @@ const MISFITS: [(&str, &str); 25] = [
     ("vt220 text --format ttyrec --until 1000000000", NO_MOMENT),
     ("vt220 text --encoding latin-1", NO_ENCODING),
     ("vt220 trace --encoding UTF-8", NO_ENCODING),
-    ("vt220 trace --encoding utf-8", NO_UTF8),
-    ("vt220 summary --encoding=utf-8 a", NO_UTF8),
     ("vt220 text --terminal vt100", NO_TERMINAL),
     (
         "vt220 text --terminal xterm --encoding dec",
@@ -415,6 +415,7 @@ const MISFITS: [(&str, &str); 25] = [
     ("vt220 pages --terminal xterm", NO_XTERM),
     ("vt220 pages --terminal=xterm --encoding utf-8", NO_XTERM),
     ("vt220 trace --terminal xterm", NO_XTERM),
+    ("vt220 summary --terminal xterm --encoding utf-8", NO_XTERM),
     ("vt220 content --terminal xterm a", NO_XTERM),
 ];
 
@@ -424,9 +425,6 @@ const NO_XTERM: &str = "vt220: pages, trace, summary and content play no xterm\n
      vt220: text, show, picture, status, reports, repaint and log do\n";
 
 const NO_ENCODING: &str = "vt220: --encoding is dec or utf-8\n";
-
-const NO_UTF8: &str = "vt220: trace and summary read no UTF-8\n\
-     vt220: they read what vt220 content --encoding utf-8 writes\n";
 
 const NO_MOMENT: &str = "vt220: --until is seconds, as 12.5 or 12:31, or bytes, as 4096b\n";
 

@@ -1,6 +1,6 @@
-use Rattle.std.proofs.Common.{◌∙◌, [], arith, length-drop}
+use Rattle.std.proofs.Common.{◌∙◌, arith, length-drop}
 use Rattle.std.proofs.KnownBytes.{Appends-trans}
-use Rattle.vt_replay.proofs.OutputSteps.{rest-of, next_turn, next_taken, taken_all, turn_written, turn_cut}
+use Rattle.vt_replay.proofs.OutputSteps.{rest-of, next_turn, taken_all, turn_written, turn_cut}
 use Rattle.vt_replay.proofs.output.write_chunk.Goals as goal
 
 pub loop-at-preserved : goal.loop-at-preserved
@@ -12,11 +12,8 @@ loop-at-preserved g c =
     let before = c.loop-at.invariant in
     record {
       within = omega (arith, inside);
-      after = λ taken. next_turn _ (g.O.Output.ending c.args.output.now) _ taken _ _ _ _ (g.O.Output.ending c.loop-at.output) _ _
-          (g.O.Output.ending c.feed-at.new.self) _ (before.after taken) feed.after;
-      took = λ taken is. next_taken taken _ _ c.feed-at.result (g.O.Output.Took c.loop-at.output)
-          (g.O.Output.Took c.feed-at.new.self) (before.took taken is) feed.took;
-      given = rw (← turn_written _ _ _ _ _ c.feed-at.result _ _ _ (before.after []))
+      after = next_turn _ _ _ _ _ _ _ _ _ _ _ _ before.after feed.after;
+      given = rw (← turn_written _ _ _ _ _ c.feed-at.result _ _ _ before.after)
           (rw writes at (Appends-trans _ _ _ _ _ before.given gives.given));
       works = gives.holds.0;
       ended = c.if-not-write_whole.ensures.ended ∙ before.ended;
@@ -35,10 +32,10 @@ returns-then-not-write_whole-clause-gives g c =
     record {
       w = _;
       given = Appends-trans _ _ _ _ _ before.given gives.given;
-      holds = (gives.holds.0, turn_cut _ _ _ _ gives.w _ _ _ _ _ _ _ _ (before.after []) (feed.after _) part);
+      holds = (gives.holds.0, turn_cut _ _ _ _ gives.w _ _ _ _ _ _ _ _ before.after feed.after part);
     }
 
 pub returns-clause-after : goal.returns-clause-after
-returns-clause-after g c = λ taken.
+returns-clause-after g c =
     rw (taken_all c.args.chunk.now c.loop-at.at c.loop-at.invariant.within (omega (arith, c.loop-at-test.false)))
-    at (c.loop-at.invariant.after taken)
+    at c.loop-at.invariant.after

@@ -1,5 +1,5 @@
 -- The bytes before the place are taken, and what is written of them is written.
-use Rattle.std.proofs.Common.{◌≡◌, ℕ, List, ◌+◌, ◌-◌, ◌*◌, ◌≤◌, ◌++◌, length, take, false, vec_capacity}
+use Rattle.std.proofs.Common.{◌≡◌, ◌+◌, ◌-◌, ◌*◌, ◌≤◌, length, take, false, vec_capacity}
 use Rattle.std.specs.Io.KnownBytes.{Appends}
 use Rattle.vt_replay.specs.Output.{IsAfter}
 use Rattle.vt_replay.proofs.output.write_chunk.Given as goal
@@ -7,11 +7,9 @@ use Rattle.vt_replay.proofs.output.write_chunk.Given as goal
 abbrev pub invariant-loop-at : goal.invariant-loop-at
 invariant-loop-at g l = record {
   within : l.at ≤ length l.chunk;
-  after : (before : List ℕ) → IsAfter (g.O.Output.written l.initial.output) (g.O.Output.ending l.initial.output before)
-      (g.O.Output.there l.initial.output) (take l.at l.chunk) (g.O.Output.written l.output)
-      (g.O.Output.ending l.output (before ++ take l.at l.chunk)) (g.O.Output.there l.output);
-  took : (before : List ℕ) → g.O.Output.Took l.initial.output before
-      → g.O.Output.Took l.output (before ++ take l.at l.chunk);
+  after : IsAfter (g.O.Output.written l.initial.output) (g.O.Output.ending l.initial.output)
+      (g.O.Output.there l.initial.output) (take l.at l.chunk) (g.O.Output.written l.output) (g.O.Output.ending l.output)
+      (g.O.Output.there l.output);
   given : Appends (g.W.Write.contents l.initial.writer.device) (g.W.Write.contents l.writer.device)
       (g.O.Output.written l.initial.output (take l.at l.chunk));
   works : l.writer.failed ≡ false;

@@ -1,11 +1,11 @@
-use Rattle.std.proofs.Common.{◌≡◌, ℕ, ◌*◌, ◌≤◌, ◌<◌, List, [], length, take, nat_lt, true, false, ap, refl, ◌∙◌}
+use Rattle.std.proofs.Common.{◌≡◌, ℕ, ◌*◌, ◌≤◌, ◌<◌, List, length, take, nat_lt, true, false, ap, refl, ◌∙◌}
 use Rattle.std.proofs.Common.{arith, length-append, length-drop}
 use Rattle.std.proofs.lemmas.List.{length-take, take-append-le}
 use Rattle.std.proofs.lemmas.Grind.{common_steps}
 use Rattle.std.proofs.KnownBytes.{Consumes-trans}
 use Rattle.std.proofs.lemmas.Bool.Decides.{nat_tests}
 use Rattle.vt_replay.proofs.Steps.{Moves-step, Moves-end, counted, passed, within-limit}
-use Rattle.vt_replay.proofs.OutputSteps.{chunk_written, chunk_cut, through, decoded_more, after_more, took_more}
+use Rattle.vt_replay.proofs.OutputSteps.{chunk_written, chunk_cut, through, decoded_more, after_more}
 use Rattle.vt_replay.proofs.output.write_coming.Goals as goal
 
 pub loop-left-preserved : goal.loop-left-preserved
@@ -18,7 +18,6 @@ loop-left-preserved g c =
     let given = c.bytes.ensures in
     let all = rw take-append-le at given ∙ decodes.held in
     let after = rw all at c.if-not-write_chunk.ensures.after in
-    let took = rw all at c.if-not-write_chunk.ensures.took in
     let writes = rw all at gives.holds.1 in
     let few = simp length-take at decodes.few in
     let size : length c.bytes.result.now ≤ 44 * c.in-Ok.count =
@@ -29,10 +28,7 @@ loop-left-preserved g c =
             counted b _ _ _ _ h.0 bound within,
             chunk_written _ _ _ b _ w _ _ _ _ (through _ _ b _ _ _ _ _ _ h.2 h.3) h.1 writes,
             decoded_more _ _ _ b _ h.2 (record { on = decodes.on; none = decodes.none }),
-            after_more _ _ b (take c.in-Ok.count c.read_chunk.new.buf) _ _ _ _ (g.O.Output.ending c.loop-left.output) _ _
-                (g.O.Output.ending c.write_chunk.new.output) _ h.2 h.3 after,
-            took_more _ _ b (take c.in-Ok.count c.read_chunk.new.buf) (g.O.Output.Took c.loop-left.output)
-                (g.O.Output.Took c.write_chunk.new.output) h.2 h.4 took,
+            after_more _ _ b (take c.in-Ok.count c.read_chunk.new.buf) _ _ _ _ _ _ _ _ _ h.2 h.3 after,
           ));
       within = omega (arith, c.loop-left.invariant.within);
       reader_works = grind (arith, common_steps, c.in-Ok.ensures);
@@ -41,7 +37,7 @@ loop-left-preserved g c =
       takes = omega (arith, c.if-not-write_chunk.ensures.most, c.loop-left.invariant.takes);
       decodes = simp (length-append, length-drop)
           (omega (arith, long, c.min-want.ensures, decodes.most, c.loop-left.invariant.decodes));
-      nothing = (after []).none;
+      nothing = after.none;
       reserve = c.if-not-write_chunk.ensures.reserve ∙ c.loop-left.invariant.reserve;
       counted = omega (
         arith,
@@ -88,7 +84,7 @@ returns-in-Ok-eq0-clause-moves g c =
       record { reader_failed = works; reader_ended = ended; writer_failed = c.loop-left.invariant.writer_works },
       omega (arith, h.0),
       h.1,
-      (h.3, h.4),
+      h.3,
     ))
 
 pub returns-in-Ok-read_chunk-clause-moves : goal.returns-in-Ok-read_chunk-clause-moves

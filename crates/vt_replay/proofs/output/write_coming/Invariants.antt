@@ -12,11 +12,9 @@ invariant-loop-left g l = record {
       (length b + l.left ≡ l.limit)
       × (w ≡ g.O.Output.written l.initial.output (g.D.Decoding.decoded l.initial.decoding b))
       × IsDecodedAfter (g.D.Decoding.decoded l.initial.decoding) b (g.D.Decoding.decoded l.decoding)
-      × IsAfter (g.O.Output.written l.initial.output) (g.O.Output.ending l.initial.output [])
+      × IsAfter (g.O.Output.written l.initial.output) (g.O.Output.ending l.initial.output)
       (g.O.Output.there l.initial.output) (g.D.Decoding.decoded l.initial.decoding b)
-      (g.O.Output.written l.output) (g.O.Output.ending l.output (g.D.Decoding.decoded l.initial.decoding b))
-      (g.O.Output.there l.output)
-      × g.O.Output.Took l.output (g.D.Decoding.decoded l.initial.decoding b));
+      (g.O.Output.written l.output) (g.O.Output.ending l.output) (g.O.Output.there l.output));
   within : l.left ≤ l.limit;
   reader_works : g.S.Source.failed l.reader ≡ false;
   reader_goes_on : g.S.Source.ended l.reader ≡ false;

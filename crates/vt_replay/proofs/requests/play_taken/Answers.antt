@@ -1,5 +1,4 @@
 use Rattle.std.proofs.Common.{refl, sym, ◌∙◌}
-use Rattle.vt_replay.proofs.Outcomes.{word_whole}
 use Rattle.vt_replay.proofs.requests.play_taken.Goals as goal
 
 pub returns : goal.returns
@@ -15,7 +14,6 @@ returns g c =
         at_end = c.carry_out_word-played.new.reader.ended;
         none_left = c.carry_out_word-played.ensures.whole;
         played = c.carry_out_word-played.result;
-        whole = word_whole _ _ _ _ _ _ _ c.carry_out_word-played.ensures.whole _ _ _ _ moves.holds;
         table = moves.holds;
         ended = c.ended_of.ensures;
         replaces = refl;

@@ -1,4 +1,4 @@
-use Rattle.std.proofs.Common.{◌≡◌, ℕ, List, ◌++◌, [], ◌∷◌, take, slice_index, sym, ap, ◌∙◌, append-nil, arith}
+use Rattle.std.proofs.Common.{◌≡◌, ℕ, List, ◌++◌, take, slice_index, sym, ap, ◌∙◌, append-nil, arith}
 use Rattle.vt_trace.specs.declared.tracing.Tracer.{Tracer}
 use Rattle.vt_trace.specs.Trace.{trace, tracer_all, traced, tracer_after}
 use Rattle.vt_trace.proofs.Traces.{byte_lines, byte_tracer, first_of, untouched}

@@ -1,4 +1,4 @@
-use Rattle.std.proofs.Common.{rules, sym, arith}
+use Rattle.std.proofs.Common.{rules, arith}
 use Rattle.vt_trace.proofs.TracedBytes.{fits, is_full}
 use Rattle.vt_trace.proofs.skipped.with_one.Goals as goal
 

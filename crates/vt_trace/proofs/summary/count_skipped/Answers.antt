@@ -1,4 +1,3 @@
-use Rattle.std.proofs.Common.{ap, ◌∙◌}
 use Rattle.vt_trace.proofs.Counts.{counts-skipped}
 use Rattle.vt_trace.proofs.summary.count_skipped.Goals as goal
 

@@ -1,4 +1,4 @@
-use Rattle.std.proofs.Common.{rules, length, ◌-◌, ◌+◌, ◌≡◌, ℕ, List, [], ◌∷◌, arith, ap, sym, ◌∙◌, take, drop, subst, Bool, not, ◌||◌}
+use Rattle.std.proofs.Common.{rules, length, ◌-◌, ◌≡◌, ℕ, List, [], ◌∷◌, ap, sym, ◌∙◌, take, drop, subst, Bool, not, ◌||◌}
 use Rattle.std.specs.Prelude.{◌&&◌}
 use Rattle.vt_syntax.specs.declared.held.Held.{Held}
 use Rattle.vt_syntax.specs.Event.{event_in}

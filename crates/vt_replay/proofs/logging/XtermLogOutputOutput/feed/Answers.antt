@@ -4,7 +4,7 @@ use Rattle.vt_replay.proofs.Players.{xterm_log_after}
 use Rattle.vt_replay.proofs.logging.XtermLogOutputOutput.feed.Goals as goal
 
 pub returns-clause-after : goal.returns-clause-after
-returns-clause-after c = λ before.
+returns-clause-after c =
     let fed = c.feed_xterm_log_reserved.ensures in
     let long = simp length-take at fed.within in
     let short : c.feed_xterm_log_reserved.result ≤ c.front_for-count.result = omega (arith, long) in

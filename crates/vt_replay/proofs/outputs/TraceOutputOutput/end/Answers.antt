@@ -5,6 +5,6 @@ use Rattle.vt_replay.proofs.Tracers.{no_tracer}
 use Rattle.vt_replay.proofs.outputs.TraceOutputOutput.end.Goals as goal
 
 pub returns : goal.returns
-returns c = λ before took.
+returns c =
     let items = rw c.requires.empty at c.trace_end.ensures.items in
     items ∙ ap (λ (t : Tracer). end_lines t) (sym (no_tracer c.args.self.now.terminal c.args.self.now.tracer))

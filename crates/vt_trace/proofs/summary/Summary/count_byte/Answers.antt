@@ -7,7 +7,7 @@ use Rattle.vt_syntax.specs.Reading.{events_of}
 use Rattle.vt_syntax.specs.Held.{held_after, held_from}
 use Rattle.std.specs.Option.{option_to_list}
 use Rattle.vt_trace.specs.Skipped.{code_of, item_kinds}
-use Rattle.vt_trace.specs.Trace.{is_string, cuts_off, ends_silent, ended_kind, code_after}
+use Rattle.vt_trace.specs.Trace.{is_string, cuts_off, ends_silent, code_after}
 use Rattle.vt_trace.specs.Runs.{step_kind, byte_kind}
 use Rattle.vt_trace.proofs.Counts.{events_more, held_more}
 use Rattle.vt_trace.proofs.ItemKinds.{kinds_of_byte, code_of_byte}

@@ -1,6 +1,4 @@
-use Rattle.std.proofs.Common.{List, ◌++◌, ℕ, ◌≡◌, ap, sym, arith}
-use Rattle.vt_trace.specs.Counted.{HasCounted}
-use Rattle.vt_trace.specs.declared.summary.Summary.{Summary}
+use Rattle.std.proofs.Common.{◌≡◌, arith}
 use Rattle.vt_trace.proofs.Traces.{first_of}
 use Rattle.vt_trace.proofs.summary.Summary.count_front.Goals as goal
 

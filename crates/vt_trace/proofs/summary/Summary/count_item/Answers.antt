@@ -1,4 +1,4 @@
-use Rattle.std.proofs.Common.{List, ◌++◌, ◌-◌, ◌≤◌, ℕ, [], ◌∷◌, ◌≡◌, take, length, sym, ap, ◌∙◌, arith, length-take, refl}
+use Rattle.std.proofs.Common.{List, ◌++◌, ◌-◌, ℕ, [], ◌∷◌, ◌≡◌, take, length, sym, ap, ◌∙◌, arith, length-take, refl}
 use Rattle.vt_syntax.specs.declared.event.Event.{Event}
 use Rattle.vt_syntax.specs.declared.held.Held.{Held}
 use Rattle.vt_syntax.specs.declared.held.Held.TheVariants.{Nothing}

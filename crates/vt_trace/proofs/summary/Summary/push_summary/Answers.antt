@@ -1,4 +1,4 @@
-use Rattle.std.proofs.Common.{List, ℕ, ◌++◌, Bool, [], ◌∷◌, cond, ap, ◌∙◌}
+use Rattle.std.proofs.Common.{List, ℕ, ◌++◌, [], ◌∷◌, cond, ap, ◌∙◌}
 use Rattle.vt_syntax.specs.declared.held.Held.{Held}
 use Rattle.vt_syntax.specs.Split.{split_of}
 use Rattle.vt_syntax.specs.Held.{held_of}

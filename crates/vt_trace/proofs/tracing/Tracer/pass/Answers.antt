@@ -1,5 +1,4 @@
 use Rattle.std.proofs.Common.{List, ℕ, ap, ◌∙◌}
-use Rattle.vt_trace.specs.declared.tracing.Tracer.{Tracer}
 use Rattle.vt_trace.proofs.TracedBytes.{made_of, no_items}
 use Rattle.vt_trace.proofs.tracing.Tracer.pass.Goals as goal
 

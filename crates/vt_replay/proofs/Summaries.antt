@@ -1,0 +1,51 @@
+-- The summary as an output: what is written at the end of bytes that come.
+use Rattle.std.proofs.Common.{◌≡◌, ℕ, List, [], ◌++◌, Option, Result, sym, ap, subst, ◌∙◌, append_assoc, append-nil}
+use Rattle.std.proofs.Math.Logic.{∥∥₁_elim, ∥∥₁_map}
+use Rattle.std.proofs.Props.{props}
+use Rattle.vt_syntax.specs.Laws.{SplitLaw}
+use Rattle.vt_device.specs.Runs.{Flags, Moves}
+use Rattle.vt_recording.specs.declared.format.Encoding.{Encoding}
+use Rattle.vt_recording.specs.declared.fault.Fault.{Fault}
+use Rattle.vt_replay.specs.Output.{EncodedTable, always}
+use Rattle.vt_replay.specs.Words.{nothing}
+use Rattle.vt_trace.specs.declared.summary.Summary.{Summary}
+use Rattle.vt_trace.specs.Counted.{HasCounted, HasCountedSome, AreSome, summary_after}
+use Rattle.vt_trace.specs.Summary.{summary}
+use Rattle.vt_trace.proofs.Coming.{goes_on}
+
+-- of a summary that has counted nothing
+pub begins_so : (s : Summary) → SplitLaw → HasCounted [] s → (λ (bytes : List ℕ). summary_after s bytes) ≡ summary
+begins_so s law was i bytes = goes_on s [] bytes law was i
+
+-- what is written at the end by another name
+pub ended_by : (encoding : Encoding) (ending other : List ℕ → List ℕ) (left left_after held held_after : Option (List ℕ))
+    (result : Result (Unit {0}) Fault) (piece : ℕ) (f : Flags) (limit : ℕ) → ending ≡ other
+    → Moves left left_after held held_after (λ b w. EncodedTable encoding nothing ending always result piece b w f limit)
+    → Moves left left_after held held_after (λ b w. EncodedTable encoding nothing other always result piece b w f limit)
+ended_by encoding ending other left left_after held held_after result piece f limit is moves =
+    subst (λ (g : List ℕ → List ℕ). Moves left left_after held held_after (λ b w. EncodedTable encoding nothing g always result piece b w f limit))
+    is moves
+
+-- a chunk more is counted
+pub counts_on : (s t : Summary) (chunk : List ℕ) → ((bytes : List ℕ) → HasCounted bytes s → HasCounted (bytes ++ chunk) t)
+    → HasCountedSome s → HasCountedSome t
+counts_on s t chunk counts some =
+    ∥∥₁_map some (λ a. record { bytes = a.bytes ++ chunk; are_counted = counts a.bytes a.are_counted })
+
+module _ (s : Summary) (law : SplitLaw) (some : HasCountedSome s) where
+  -- the bytes after a chunk, which is this front
+  pub comes_after : (t : Summary) (chunk front more : List ℕ) → ((bytes : List ℕ) → HasCounted bytes s → HasCounted (bytes ++ chunk) t)
+      → front ≡ chunk → summary_after s (front ++ more) ≡ summary_after t more
+  comes_after t chunk front more counts is =
+      ∥∥₁_elim some (hlevel props) (λ (a : AreSome s).
+      goes_on s a.bytes (front ++ more) law a.are_counted
+      ∙ ap (λ (l : List ℕ). summary (a.bytes ++ (l ++ more))) is
+      ∙ ap (λ (l : List ℕ). summary l) (sym (append_assoc a.bytes chunk more))
+      ∙ sym (goes_on t (a.bytes ++ chunk) more law (counts a.bytes a.are_counted)))
+
+  -- the end
+  pub ends_with : (out : List ℕ) → ((bytes : List ℕ) → HasCounted bytes s → out ≡ summary bytes) → out ≡ summary_after s []
+  ends_with out is =
+      ∥∥₁_elim some (hlevel props) (λ (a : AreSome s).
+      is a.bytes a.are_counted ∙ ap (λ (l : List ℕ). summary l) (sym (append-nil a.bytes))
+      ∙ sym (goes_on s a.bytes [] law a.are_counted))

@@ -1,6 +1,7 @@
 //! Pages: what a terminal shows, and a caller may exchange.
 ghost use Rattle.std.specs.Prelude.{◌≡◌, Bool, IfOk};
 ghost use Rattle.vt_screen.specs.Grid.{columns};
+ghost use Rattle.vt_term.specs.State.{display_at_power_up, power_up};
 ghost use Rattle.vt_term.specs.Pages.{PageState, page_at_power_up, blanked, fitted, page_of, with_page};
 
 use crate::display::Display;
@@ -9,6 +10,7 @@ use crate::terminal::Terminal;
 use std::alloc::{AllocError, Global};
 use std::marker::Model;
 use vt_screen::{COLUMNS, Screen};
+use vt_syntax::Parser;
 
 /// A page: the cells of a screen, and the state that DECSC saved on it. `new` allocates its memory, and nothing else does.
 #[derive(Debug, Drop)]
@@ -87,6 +89,15 @@ impl Display {
         std::mem::swap(&mut self.screen, &mut page.screen);
         std::mem::swap(&mut self.saved, &mut page.saved);
     }
+
+    /// Makes the display as at power-up, with the cells and the saved state of a page.
+    fn show_copy(&mut self, page: &Page)
+        ensures { self.new ≡ with_page page.now display_at_power_up }
+    {
+        self.reset_to_initial_state();
+        self.screen.copy_from(&page.screen);
+        self.saved = page.saved;
+    }
 }
 
 impl Terminal {
@@ -99,5 +110,14 @@ impl Terminal {
         ensures page { page.new ≡ page_of self.old.display }
     {
         self.display.exchange_page(page);
+    }
+
+    /// Makes the terminal as at power-up, with a copy of the cells of a page and of what DECSC saved on it. It never fails and
+    /// allocates nothing.
+    pub fn show_copy(&mut self, page: &Page)
+        ensures { self.new ≡ record power_up { display = with_page page.now display_at_power_up } }
+    {
+        self.display.show_copy(page);
+        self.parser = Parser::new();
     }
 }

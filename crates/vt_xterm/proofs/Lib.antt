@@ -1,5 +1,5 @@
-mod Colours
-mod Cuts
+pub mod Colours
+pub mod Cuts
 mod Terminals
 mod Fed
 mod Times

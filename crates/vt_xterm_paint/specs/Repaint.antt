@@ -1,0 +1,50 @@
+-- The repaint under TERM=xterm: one byte string for each state of a terminal and the pages behind it, which rebuilds both on any
+-- terminal. (this profile)
+use Rattle.std.specs.Prelude.{◌≡◌, ℕ, List, [], ◌∷◌, ◌++◌, true, false, not}
+use Rattle.vt_syntax.specs.declared.event.Event.{Event}
+use Rattle.vt_syntax.specs.Spelling.{spell_events}
+use Rattle.vt_term.specs.State.{Display, display_at_power_up}
+use Rattle.vt_term.specs.Sound.{IsSound}
+use Rattle.vt_term.specs.Pages.{IsSoundPage, with_page}
+use Rattle.vt_controls.specs.Controls.{reset_to_initial_state, private_mode}
+use Rattle.vt_paint.specs.Repaint.{made_events}
+use Rattle.vt_utf8.specs.Decoding.{pending_of, pending_after}
+use Rattle.vt_xterm.specs.Pages.{PagesState}
+use Rattle.vt_xterm.specs.Play.{Whole, play_xterm}
+
+-- as at power-up, but with the page that isn't shown
+abbrev pub other_shown : PagesState → Display
+other_shown pages = with_page pages.other display_at_power_up
+
+-- After RIS the main page is shown. The items of the page that isn't shown come first, on that page: ?47 chooses it. ?40 is set, so
+-- that DECCOLM has an effect. Then ?47 exchanges the pages, and ?3 makes the display as at power-up. The items of the display that
+-- is shown follow.
+unfoldable pub xterm_repaint_events : Whole → List Event
+xterm_repaint_events w =
+    reset_to_initial_state
+    ∷ private_mode 40 true
+    ∷ private_mode 47 (not w.pages.alternate)
+    ∷ (made_events (other_shown w.pages)
+    ++ private_mode 47 w.pages.alternate
+    ∷ private_mode 3 false
+    ∷ (made_events w.state.display
+    ++ private_mode 40 w.pages.resizes ∷ []))
+
+-- in 7-bit form
+unfoldable pub xterm_repaint : Whole → List ℕ
+xterm_repaint w = spell_events (xterm_repaint_events w)
+
+-- the terminal and the page that isn't shown are sound
+pub record IsSoundWhole (w : Whole) : Type 0 where
+  pub state : IsSound w.state
+  pub other : IsSoundPage w.pages.other
+
+-- bytes after a pending part rebuild one whole where another one was: they leave exactly that, nothing pending, and no report
+pub record Rebuilds (bytes : List ℕ) (w u : Whole) (part : List ℕ) : Type 0 where
+  pub whole : (play_xterm u part bytes).whole ≡ w
+  pub reports : (play_xterm u part bytes).reports ≡ []
+  pub pending : pending_after part bytes ≡ []
+
+-- the repaint does so on any terminal, whatever it shows and holds, whatever the pages behind it are, and after any pending part
+abbrev pub IsRebuilt : Whole → Type 0
+IsRebuilt w = (u : Whole) (part : List ℕ) → IsSound u.state → pending_of part ≡ part → Rebuilds (xterm_repaint w) w u part

@@ -1,0 +1,38 @@
+//! Laws over the definitions alone. A caller cites a law by a call of its function.
+ghost use Rattle.std.specs.Prelude.{◌≡◌, ◌↔◌, ◌≤◌, length};
+ghost use Rattle.std.specs.Str.{IsAscii};
+ghost use Rattle.vt_syntax.specs.declared.held.Held.TheVariants.{Nothing};
+ghost use Rattle.vt_xterm.specs.Play.{Whole};
+ghost use Rattle.vt_xterm_paint.specs.Repaint.{xterm_repaint, IsSoundWhole, IsRebuilt};
+
+use crate::XTERM_PAINT_LIMIT;
+use vt_syntax::laws::one_split;
+use vt_term::laws::soundness;
+use vt_utf8::laws::silence;
+
+/// States that the repaint of a terminal between sequences and of the pages behind it rebuilds them on every terminal and front, and
+/// gives no report. What is left is exactly what they are, and nothing is pending.
+pub fn rebuilds()
+    ensures { (w : Whole) → IsSoundWhole w → w.state.held ≡ Nothing → IsRebuilt w }
+{
+    one_split();
+    soundness();
+    silence();
+}
+
+/// States that terminals between sequences are equal, with all that is behind them, if and only if their repaints are.
+pub fn canonical()
+    ensures { (w v : Whole) → IsSoundWhole w → IsSoundWhole v → w.state.held ≡ Nothing → v.state.held ≡ Nothing
+        → (w ≡ v) ↔ (xterm_repaint w ≡ xterm_repaint v) }
+{
+    rebuilds();
+    soundness();
+}
+
+/// States that no repaint is longer than `XTERM_PAINT_LIMIT`, and that its bytes are ASCII.
+pub fn bounded()
+    ensures len { (w : Whole) → IsSoundWhole w → length (xterm_repaint w) ≤ XTERM_PAINT_LIMIT }
+    ensures ascii { (w : Whole) → IsSoundWhole w → IsAscii (xterm_repaint w) }
+{
+    soundness();
+}

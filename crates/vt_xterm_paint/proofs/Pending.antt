@@ -65,3 +65,40 @@ module _ (part more : List ℕ) (is : pending_of part ≡ part) (ascii : All (λ
 
   pub escape-pending : pending_after part (0x1B ∷ more) ≡ []
   escape-pending = ap (λ (r : Read). pending_after r.pending more) (read-escape part is) ∙ ascii-pending more ascii
+
+-- ---- a pending part is read as such
+
+read-begun : (part : List ℕ) (b : ℕ) → is_begun (part ++ b ∷ []) ≡ true
+    → read part b ≡ record { characters = []; pending = part ++ b ∷ [] }
+unfolding read
+read-begun part b h = rw h refl
+
+begun-two : (b c : ℕ) → is_begun (b ∷ c ∷ []) ≡ true → is_begun (b ∷ []) ≡ true
+unfolding is_begun
+begun-two b c h = grind (arith, nat_tests)
+
+begun-three : (b c d : ℕ) → is_begun (b ∷ c ∷ d ∷ []) ≡ true → is_begun (b ∷ c ∷ []) ≡ true
+unfolding is_begun
+begun-three b c d h = grind (arith, nat_tests)
+
+pub part-read : (part : List ℕ) → pending_of part ≡ part → (characters [] part ≡ []) × (pending_after [] part ≡ part)
+part-read [] is = (refl, refl)
+part-read (b ∷ []) is =
+    let first = read-begun [] b (begun b [] is) in (rw first refl, ap (λ (r : Read). r.pending) first)
+part-read (b ∷ c ∷ []) is =
+    let h = begun b (c ∷ []) is in
+    let first = read-begun [] b (begun-two b c h) in
+    let second = read-begun (b ∷ []) c h in
+    (rw (first, second) refl, ap (λ (r : Read). pending_after r.pending (c ∷ [])) first ∙ ap (λ (r : Read). r.pending) second)
+part-read (b ∷ c ∷ d ∷ []) is =
+    let h = begun b (c ∷ d ∷ []) is in
+    let two = begun-three b c d h in
+    let first = read-begun [] b (begun-two b c two) in
+    let second = read-begun (b ∷ []) c two in
+    let third = read-begun (b ∷ c ∷ []) d h in (
+      rw (first, second, third) refl,
+      ap (λ (r : Read). pending_after r.pending (c ∷ d ∷ [])) first
+          ∙ ap (λ (r : Read). pending_after r.pending (d ∷ [])) second ∙ ap (λ (r : Read). r.pending) third,
+    )
+part-read (b ∷ c ∷ d ∷ e ∷ bytes) is =
+    let short = few (b ∷ c ∷ d ∷ e ∷ bytes) (begun b (c ∷ d ∷ e ∷ bytes) is) in absurd (omega (arith, short))

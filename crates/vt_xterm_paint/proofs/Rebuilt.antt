@@ -33,11 +33,12 @@ use Rattle.vt_utf8.specs.Translation.{translation}
 use Rattle.vt_xterm.specs.Pages.{PagesState, Screens, on_display, with_page_mode, pages_at_power_up}
 use Rattle.vt_xterm.specs.Front.{functions_of, function_in}
 use Rattle.vt_xterm.specs.Play.{Whole, WholePlayed, screens_of, after_events, reports_of, play_bytes, play_character, play_characters}
-use Rattle.vt_xterm.specs.Play.{play_xterm, both}
-use Rattle.vt_xterm.proofs.Cuts.{after_events-append, reports_of-append, characters-two, characters-ascii}
-use Rattle.vt_xterm_paint.specs.Repaint.{xterm_repaint_events, xterm_repaint, IsSoundWhole, Rebuilds, IsRebuilt}
+use Rattle.vt_xterm.specs.Play.{play_xterm, both, nothing_played}
+use Rattle.vt_xterm.proofs.Cuts.{after_events-append, reports_of-append, characters-two, characters-ascii, xterm-two}
+use Rattle.vt_utf8.proofs.Cuts.{pending-append}
+use Rattle.vt_xterm_paint.specs.Repaint.{xterm_repaint_events, xterm_repaint, IsSoundWhole, Rebuilds, IsRebuilt, IsPart}
 use Rattle.vt_xterm_paint.proofs.Painted.{ArePainted, made-painted}
-use Rattle.vt_xterm_paint.proofs.Pending.{escape-characters, escape-pending}
+use Rattle.vt_xterm_paint.proofs.Pending.{escape-characters, escape-pending, part-read}
 use Rattle.vt_xterm_paint.proofs.Spelled.{repaint-within}
 
 -- ---- events that lead from some screens to others, and report nothing
@@ -194,7 +195,7 @@ module _ (split : SplitLaw) (start : IsSound power_up)
   events-rebuild : (es : List Event) (more : List ℕ) (w u : Whole) (part : List ℕ) → All IsEvent es
       → spell_events es ≡ 0x1B ∷ more → All (λ b. b < 0x80) (spell_events es) → w.state.held ≡ Nothing
       → ((s : Screens) → Leads es s (screens_of w)) → IsSound u.state → pending_of part ≡ part
-      → Rebuilds (spell_events es) w u part
+      → Rebuilds (spell_events es) w [] u part
   unfolding play_xterm
   events-rebuild es more w u part are begins ascii between leads sound is =
       let bytes = spell_events es in
@@ -248,3 +249,23 @@ module _ (start : IsSound power_up) (rebuilds : (w : Whole) → IsSoundWhole w �
   pub same : (w v : Whole) → IsSoundWhole w → IsSoundWhole v → w.state.held ≡ Nothing → v.state.held ≡ Nothing
       → (w ≡ v) ↔ (xterm_repaint w ≡ xterm_repaint v)
   same w v i j h k = (λ e. ap (λ (x : Whole). xterm_repaint x) e, same-repaint w v i j h k)
+
+-- what is pending, after the repaint
+pub rebuilds-pending : ((w : Whole) → IsSoundWhole w → w.state.held ≡ Nothing → IsRebuilt w) → (w u : Whole)
+    → (part left : List ℕ) → IsSoundWhole w → w.state.held ≡ Nothing → IsSound u.state → IsPart part → IsPart left
+    → Rebuilds (xterm_repaint w ++ left) w left u part
+unfolding play_xterm
+rebuilds-pending rebuilds w u part left i between sound is rest =
+    let bytes = xterm_repaint w in
+    let made = rebuilds w i between u part sound is in
+    let two = xterm-two u part bytes left in
+    let reads = part-read left rest in
+    let then : play_xterm (play_xterm u part bytes).whole (pending_after part bytes) left ≡ nothing_played w =
+    rw (made.whole, made.pending) (ap (λ (cs : List ℕ). play_characters w cs) reads.0) in
+    record {
+      whole = ap (λ (p : WholePlayed). p.whole) two ∙ ap (λ (p : WholePlayed). p.whole) then;
+      reports = ap (λ (p : WholePlayed). p.reports) two
+          ∙ ap (λ (r : List ℕ). r ++ (play_xterm (play_xterm u part bytes).whole (pending_after part bytes) left).reports) made.reports
+          ∙ ap (λ (p : WholePlayed). p.reports) then;
+      pending = pending-append part bytes left ∙ ap (λ (p : List ℕ). pending_after p left) made.pending ∙ reads.1;
+    }

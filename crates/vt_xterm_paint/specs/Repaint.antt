@@ -1,5 +1,4 @@
--- The repaint under TERM=xterm: one byte string for each state of a terminal and the pages behind it, which rebuilds both on any
--- terminal. (this profile)
+-- The repaint under TERM=xterm: one byte string for each session, which rebuilds it on any terminal and front. (this profile)
 use Rattle.std.specs.Prelude.{◌≡◌, ℕ, List, [], ◌∷◌, ◌++◌, true, false, not}
 use Rattle.vt_syntax.specs.declared.event.Event.{Event}
 use Rattle.vt_syntax.specs.Spelling.{spell_events}
@@ -39,12 +38,16 @@ pub record IsSoundWhole (w : Whole) : Type 0 where
   pub state : IsSound w.state
   pub other : IsSoundPage w.pages.other
 
--- bytes after a pending part rebuild one whole where another one was: they leave exactly that, nothing pending, and no report
-pub record Rebuilds (bytes : List ℕ) (w u : Whole) (part : List ℕ) : Type 0 where
+-- bytes rebuild one whole and what is pending where another whole and a pending part were: they leave exactly these, and no report
+pub record Rebuilds (bytes : List ℕ) (w : Whole) (left : List ℕ) (u : Whole) (part : List ℕ) : Type 0 where
   pub whole : (play_xterm u part bytes).whole ≡ w
   pub reports : (play_xterm u part bytes).reports ≡ []
-  pub pending : pending_after part bytes ≡ []
+  pub pending : pending_after part bytes ≡ left
 
--- the repaint does so on any terminal, whatever it shows and holds, whatever the pages behind it are, and after any pending part
+-- bytes are pending, or nothing is
+abbrev pub IsPart : List ℕ → Type 0
+IsPart bytes = pending_of bytes ≡ bytes
+
+-- the repaint does so with nothing pending, on any terminal, whatever it shows and holds, with any pages, and after any pending part
 abbrev pub IsRebuilt : Whole → Type 0
-IsRebuilt w = (u : Whole) (part : List ℕ) → IsSound u.state → pending_of part ≡ part → Rebuilds (xterm_repaint w) w u part
+IsRebuilt w = (u : Whole) (part : List ℕ) → IsSound u.state → IsPart part → Rebuilds (xterm_repaint w) w [] u part

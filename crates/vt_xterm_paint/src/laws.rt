@@ -1,17 +1,20 @@
 //! Laws over the definitions alone. A caller cites a law by a call of its function.
-ghost use Rattle.std.specs.Prelude.{◌≡◌, ◌↔◌, ◌≤◌, length};
+ghost use Rattle.std.specs.Prelude.{◌≡◌, ◌↔◌, ◌≤◌, ◌++◌, ℕ, List, length};
 ghost use Rattle.std.specs.Str.{IsAscii};
 ghost use Rattle.vt_syntax.specs.declared.held.Held.TheVariants.{Nothing};
+ghost use Rattle.vt_term.specs.Sound.{IsSound};
 ghost use Rattle.vt_xterm.specs.Play.{Whole};
-ghost use Rattle.vt_xterm_paint.specs.Repaint.{xterm_repaint, IsSoundWhole, IsRebuilt};
+ghost use Rattle.vt_xterm_paint.specs.Repaint.{xterm_repaint, IsSoundWhole, IsPart, Rebuilds, IsRebuilt};
 
 use crate::XTERM_PAINT_LIMIT;
 use vt_syntax::laws::one_split;
 use vt_term::laws::soundness;
 use vt_utf8::laws::silence;
 
-/// States that the repaint of a terminal between sequences and of the pages behind it rebuilds them on every terminal and front, and
-/// gives no report. What is left is exactly what they are, and nothing is pending.
+/// States that the repaint of a session between sequences rebuilds it on every terminal and front, and gives no report.
+///
+/// A session is a terminal, the page that isn't shown, which page is shown, and whether DECCOLM has an effect. The repaint leaves
+/// exactly these, and nothing is pending.
 pub fn rebuilds()
     ensures { (w : Whole) → IsSoundWhole w → w.state.held ≡ Nothing → IsRebuilt w }
 {
@@ -20,7 +23,15 @@ pub fn rebuilds()
     silence();
 }
 
-/// States that terminals between sequences are equal, with all that is behind them, if and only if their repaints are.
+/// States that the pending bytes of UTF-8, sent after the repaint, are pending again and change nothing else.
+pub fn pending()
+    ensures { (w u : Whole) (part left : List ℕ) → IsSoundWhole w → w.state.held ≡ Nothing → IsSound u.state → IsPart part
+        → IsPart left → Rebuilds (xterm_repaint w ++ left) w left u part }
+{
+    rebuilds();
+}
+
+/// States that sessions between sequences are equal if and only if their repaints are.
 pub fn canonical()
     ensures { (w v : Whole) → IsSoundWhole w → IsSoundWhole v → w.state.held ≡ Nothing → v.state.held ≡ Nothing
         → (w ≡ v) ↔ (xterm_repaint w ≡ xterm_repaint v) }

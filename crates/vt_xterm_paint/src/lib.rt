@@ -1,5 +1,5 @@
-//! The repaint under TERM=xterm: one byte string for each state of a terminal and the pages behind it. It rebuilds both on any
-//! terminal and front.
+//! The repaint under TERM=xterm: one byte string for each session, that is, for a terminal and what its front keeps. It rebuilds the
+//! session on any terminal and front.
 #![tactic(auto)]
 
 pub mod laws;

@@ -56,8 +56,8 @@ fn soundness(t: &Terminal, front: &Front, scratch: &Terminal)
     let _ = scratch.width();
 }
 
-/// Appends the repaint of a terminal and its front to `out`: the bytes that rebuild the terminal and the pages behind it on any
-/// terminal and front. `scratch` then shows a copy of the page that isn't shown.
+/// Appends the repaint of a session to `out`: the bytes that rebuild a terminal and its pages on any terminal and front. `scratch`
+/// then shows a copy of the page that isn't shown.
 ///
 /// It first reserves `XTERM_PAINT_LIMIT` bytes of capacity.
 ///
@@ -91,8 +91,8 @@ pub fn repaint_xterm(
     Ok(())
 }
 
-/// Appends the repaint of a terminal between sequences and its front to `out`, which has capacity for `XTERM_PAINT_LIMIT` more bytes.
-/// `scratch` then shows a copy of the page that isn't shown. It never fails and allocates nothing.
+/// Appends the repaint of a session between sequences to `out`, which has capacity for `XTERM_PAINT_LIMIT` more bytes. `scratch` then
+/// shows a copy of the page that isn't shown. The pending bytes of UTF-8 are left out. It never fails and allocates nothing.
 pub fn repaint_xterm_reserved(
     t: &Terminal,
     front: &Front,

@@ -31,7 +31,7 @@ use Rattle.vt_syntax.proofs.Spelled.{events_steps}
 use Rattle.vt_syntax.proofs.Cutting.{read, escape}
 use Rattle.vt_term.specs.Play.{after_events, play}
 use Rattle.vt_paint.specs.Items.{stops_item, cells_item}
-use Rattle.vt_paint.specs.Repaint.{repaint_events, paint}
+use Rattle.vt_paint.specs.Repaint.{made_events, repaint_events, paint}
 use Rattle.vt_controls.specs.Spoken.{Speaks}
 use Rattle.vt_controls.proofs.Speech.{speaks-ascii}
 use Rattle.vt_paint.proofs.Within.{AreSpelledWithin, sound_glyphs, repaint_within, changes_within}
@@ -93,9 +93,10 @@ played n es more s t fine begins held between leaves =
     let shown : after_events es t.display ≡ s.display = sym (display_after-after_events t.display es) ∙ leaves.is in
     rw (events, rest, shown, fine.silent t.display) refl
 
-repaint_leaves : (s t : Display) → IsSoundDisplay s → Makes (repaint_events s) t s
-unfolding repaint_events
-repaint_leaves s t i =
+-- the items lead there from power-up
+pub made_leaves : (s : Display) → IsSoundDisplay s → Makes (made_events s) display_at_power_up s
+unfolding made_events
+made_leaves s i =
     let wide = i.grid.shape.width.0 in
     let is_width = i.grid.shape.width.1 in
     let are = sound_glyphs s i in
@@ -107,9 +108,13 @@ repaint_leaves s t i =
     (part s modes_at_power_up w3.cursor w3.brush w3.sets full_margins false) = record { is = w3.is } in
     let stops = subst (λ (n : ℕ). Makes (stops_item n s.stops) display_at_power_up (with_stops wide s.stops w1.some))
     (sym is_width) w1.makes in
-    then_makes (reset_leaves t) (then_makes stops (then_makes w2.makes (then_makes cells
+    then_makes stops (then_makes w2.makes (then_makes cells
     (last_leaves true s modes_at_power_up w3.cursor w3.brush w3.sets false (λ e. refl) (λ e. refl) refl refl i are
-    w3.four w3.none w3.spells))))
+    w3.four w3.none w3.spells)))
+
+repaint_leaves : (s t : Display) → IsSoundDisplay s → Makes (repaint_events s) t s
+unfolding repaint_events
+repaint_leaves s t i = then_makes (reset_leaves t) (made_leaves s i)
 
 pub short : (s : State) → IsSound s → length (paint s) ≤ 93512
 unfolding paint

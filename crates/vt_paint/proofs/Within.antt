@@ -60,7 +60,7 @@ use Rattle.vt_term.specs.Functions.{effect}
 use Rattle.vt_term.specs.Sound.{IsSoundDisplay}
 use Rattle.vt_term.specs.Reports.{line_of_cursor, report}
 use Rattle.vt_term.specs.Play.{reports_of, after_events}
-use Rattle.vt_paint.specs.Repaint.{repaint_events}
+use Rattle.vt_paint.specs.Repaint.{made_events, repaint_events}
 use Rattle.vt_paint.specs.Changes.{differs_at, differing_from, differing, is_marked, AreMarked, AreChanges}
 use Rattle.vt_paint.proofs.Painting.{AreGlyphs}
 
@@ -374,14 +374,18 @@ last_within known s i =
     (then_within (brush_within s.brush) (then_within (sets_within s.sets)
     (then_within (modes_within known s.modes) (shift_within s.sets.pending))))))))
 
-pub repaint_within : (s : Display) → IsSoundDisplay s → AreSpelledWithin 93512 (repaint_events s)
-unfolding repaint_events
-repaint_within s i =
+pub made_within : (s : Display) → IsSoundDisplay s → AreSpelledWithin 93510 (made_events s)
+unfolding made_events
+made_within s i =
     let w = width_small s i in
     let saved_col : s.saved.col ≤ 132 = omega (arith, i.saved.col_last, w) in
-    upto (omega arith) (then_within (computed 2 (reset_to_initial_state ∷ []) refl)
-    (then_within (stops_within (last_column s) s.stops) (then_within (saved_within s.saved i.saved.row_24 saved_col)
-    (then_within (cells_within s.grid s.cursor.wrap (sound_glyphs s i) w) (last_within true s i)))))
+    upto (omega arith) (then_within (stops_within (last_column s) s.stops)
+    (then_within (saved_within s.saved i.saved.row_24 saved_col)
+    (then_within (cells_within s.grid s.cursor.wrap (sound_glyphs s i) w) (last_within true s i))))
+
+pub repaint_within : (s : Display) → IsSoundDisplay s → AreSpelledWithin 93512 (repaint_events s)
+unfolding repaint_events
+repaint_within s i = then_within (computed 2 (reset_to_initial_state ∷ []) refl) (made_within s i)
 
 pub changes_within : (marks : List (List Bool)) (s t : Display) → IsSoundDisplay s → AreChanges marks t s
     → AreSpelledWithin (28 * differing t.grid s.grid + 230) (change_events marks s)

@@ -8,14 +8,17 @@ use Rattle.vt_term.specs.Play.{play}
 use Rattle.vt_controls.specs.Controls.{reset_to_initial_state}
 use Rattle.vt_paint.specs.Items.{stops_item, saved_item, cells_item, last_items}
 
--- the events of a repaint: its items in order, after RIS
-unfoldable pub repaint_events : Display → List Event
-repaint_events s =
-    reset_to_initial_state
-    ∷ (stops_item (last_column s) s.stops
+-- the items in order: from power-up they lead to a display
+unfoldable pub made_events : Display → List Event
+made_events s =
+    stops_item (last_column s) s.stops
     ++ (saved_item s.saved
     ++ (cells_item s.grid s.cursor.wrap
-    ++ last_items true s)))
+    ++ last_items true s))
+
+-- the events of a repaint: RIS, and the items
+unfoldable pub repaint_events : Display → List Event
+repaint_events s = reset_to_initial_state ∷ made_events s
 
 -- in 7-bit form
 unfoldable pub paint : State → List ℕ

@@ -13,4 +13,4 @@ mod tables;
 
 pub use changes::repaint_changes_reserved;
 pub use compare::changed_places;
-pub use paint::{PAINT_LIMIT, PaintError, repaint, repaint_reserved};
+pub use paint::{PAINT_LIMIT, PaintError, repaint, repaint_items_reserved, repaint_reserved};

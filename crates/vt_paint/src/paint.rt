@@ -1,10 +1,10 @@
 //! The repaint.
-ghost use Rattle.std.specs.Prelude.{◌≡◌, ◌↔◌, ◌+◌, ◌≤◌, ◌<◌, ◌++◌, ◌≢◌, IsErrOf, OnOk, OnErr, vec_len, vec_capacity};
+ghost use Rattle.std.specs.Prelude.{◌≡◌, ◌↔◌, ◌+◌, ◌-◌, ◌≤◌, ◌<◌, ◌++◌, ◌≢◌, IsErrOf, OnOk, OnErr, vec_len, vec_capacity};
 ghost use Rattle.vt_syntax.specs.declared.held.Held.TheVariants.{Nothing};
 ghost use Rattle.vt_syntax.specs.Spelling.{spell_events};
 ghost use Rattle.vt_screen.specs.Grid.{last_row};
 ghost use Rattle.vt_paint.specs.Items.{position_item, wrap_item, last_items};
-ghost use Rattle.vt_paint.specs.Repaint.{paint, IsRebuilt};
+ghost use Rattle.vt_paint.specs.Repaint.{made_events, paint, IsRebuilt};
 
 use crate::cells::{push_cells, row_cell};
 use crate::controls::{push_brush, push_sets};
@@ -124,7 +124,20 @@ pub fn repaint_reserved(t: &Terminal, out: &mut Vec<u8>)
     ensures capacity { vec_capacity out.old ≤ vec_capacity out.new }
 {
     rebuilds();
+    // The width's contract gives the soundness of the state.
+    let _ = t.width();
     Function::reset().push(out);
+    repaint_items_reserved(t, out);
+}
+
+/// Appends a repaint without its first function, RIS: from power-up these bytes lead to the terminal's state. `out` has
+/// capacity for `PAINT_LIMIT` - 2 more bytes. It never fails and allocates nothing.
+pub fn repaint_items_reserved(t: &Terminal, out: &mut Vec<u8>)
+    requires { vec_len out.old + (PAINT_LIMIT - 2) ≤ vec_capacity out.old }
+    ensures items { out.new.items ≡ out.old.items ++ spell_events (made_events t.now.display) }
+    ensures bounded { vec_len out.new ≤ vec_len out.old + (PAINT_LIMIT - 2) }
+    ensures capacity { vec_capacity out.old ≤ vec_capacity out.new }
+{
     push_stops(t.width(), t.stops(), out);
     push_saved(&t.saved(), out);
     push_cells(t, t.cursor().wrap, out);

@@ -23,11 +23,11 @@ both-assoc a b c =
 
 -- ---- events and bytes
 
-after_events-append : (xs ys : List Event) (s : Screens)
+pub after_events-append : (xs ys : List Event) (s : Screens)
     → after_events (xs ++ ys) s ≡ after_events ys (after_events xs s)
 after_events-append xs ys s = fold-append (λ t event. xterm_effect event t) s xs ys
 
-reports_of-append : (xs ys : List Event) (s : Screens)
+pub reports_of-append : (xs ys : List Event) (s : Screens)
     → reports_of (xs ++ ys) s ≡ reports_of xs s ++ reports_of ys (after_events xs s)
 reports_of-append [] ys s = refl
 reports_of-append (x ∷ xs) ys s =

@@ -1,6 +1,6 @@
 mod Tables
-mod Colours
-mod Cuts
+pub mod Colours
+pub mod Cuts
 mod Terminals
 mod Fed
 mod Times

@@ -1,11 +1,13 @@
 //! What a front keeps.
 ghost use Rattle.std.specs.Prelude.{◌≡◌, ◌≤◌, IfOk, length};
+ghost use Rattle.vt_term.specs.State.{display_at_power_up, power_up};
+ghost use Rattle.vt_term.specs.Pages.{with_page};
 ghost use Rattle.vt_xterm.specs.Pages.{pages_at_power_up};
 ghost use Rattle.vt_xterm.specs.Play.{front_at_power_up};
 
 use std::alloc::{AllocError, Global};
 use std::marker::Model;
-use vt_term::Page;
+use vt_term::{Page, Terminal};
 use vt_utf8::Decoder;
 
 /// The page that isn't shown, and which page is.
@@ -94,6 +96,14 @@ impl Front {
     {
         self.decoder = other.decoder.copied();
         self.pages.copy_from(&other.pages);
+    }
+
+    /// Makes a terminal as at power-up, with a copy of the cells of the page that isn't shown and of what DECSC saved on it. It
+    /// never fails and allocates nothing.
+    pub fn show_other(&self, terminal: &mut Terminal)
+        ensures { terminal.new ≡ record power_up { display = with_page self.now.pages.other display_at_power_up } }
+    {
+        terminal.show_copy(&self.pages.other);
     }
 
     /// Returns the pending bytes of UTF-8: at most three.

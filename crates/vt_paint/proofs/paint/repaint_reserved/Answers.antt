@@ -1,21 +1,8 @@
 use Rattle.std.proofs.Common.{append_assoc}
-use Rattle.std.proofs.lemmas.Grind.{flat_map-append}
 use Rattle.vt_paint.specs.Repaint.{repaint_events, paint}
 use Rattle.vt_paint.proofs.paint.repaint_reserved.Goals as goal
 
 pub returns-clause-items : goal.returns-clause-items
 unfolding paint repaint_events
 returns-clause-items c =
-    rw (
-      c.push_last.ensures.items,
-      c.push_cells.ensures.items,
-      c.cursor.ensures.cursor,
-      c.push_saved.ensures.items,
-      c.saved.ensures,
-      c.push_stops.ensures.items,
-      c.stops.ensures,
-      c.width.ensures.width,
-      c.push.ensures.items,
-      c.reset.ensures.value,
-    )
-    (simp (flat_map-append, append_assoc))
+    rw (c.repaint_items_reserved.ensures.items, c.push.ensures.items, c.reset.ensures.value) (simp append_assoc)

@@ -1,0 +1,4 @@
+mod Painted
+mod Pending
+mod Spelled
+mod Rebuilt

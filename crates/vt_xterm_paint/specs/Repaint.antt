@@ -1,0 +1,48 @@
+-- The repaint under TERM=xterm: one byte string for each session, which rebuilds it on any terminal and front. (this profile)
+use Rattle.std.specs.Prelude.{◌≡◌, ℕ, List, [], ◌∷◌, ◌++◌, true, false, not}
+use Rattle.vt_syntax.specs.declared.event.Event.{Event}
+use Rattle.vt_syntax.specs.Spelling.{spell_events}
+use Rattle.vt_term.specs.State.{Display, display_at_power_up}
+use Rattle.vt_term.specs.Sound.{IsSound}
+use Rattle.vt_term.specs.Pages.{with_page}
+use Rattle.vt_controls.specs.Controls.{reset_to_initial_state, private_mode}
+use Rattle.vt_paint.specs.Repaint.{made_events}
+use Rattle.vt_utf8.specs.Decoding.{pending_of, pending_after}
+use Rattle.vt_xterm.specs.Pages.{PagesState}
+use Rattle.vt_xterm.specs.Play.{Whole, play_xterm}
+
+-- as at power-up, but with the page that isn't shown
+abbrev pub other_shown : PagesState → Display
+other_shown pages = with_page pages.other display_at_power_up
+
+-- After RIS the main page is shown. The items of the page that isn't shown come first, on that page: ?47 chooses it. ?40 is set, so
+-- that DECCOLM has an effect. Then ?47 exchanges the pages, and ?3 makes the display as at power-up. The items of the display that
+-- is shown follow.
+unfoldable pub xterm_repaint_events : Whole → List Event
+xterm_repaint_events w =
+    reset_to_initial_state
+    ∷ private_mode 40 true
+    ∷ private_mode 47 (not w.pages.alternate)
+    ∷ (made_events (other_shown w.pages)
+    ++ private_mode 47 w.pages.alternate
+    ∷ private_mode 3 false
+    ∷ (made_events w.state.display
+    ++ private_mode 40 w.pages.resizes ∷ []))
+
+-- in 7-bit form
+unfoldable pub xterm_repaint : Whole → List ℕ
+xterm_repaint w = spell_events (xterm_repaint_events w)
+
+-- bytes rebuild one whole and what is pending where another whole and a pending part were: they leave exactly these, and no report
+pub record Rebuilds (bytes : List ℕ) (w : Whole) (left : List ℕ) (u : Whole) (part : List ℕ) : Type 0 where
+  pub whole : (play_xterm u part bytes).whole ≡ w
+  pub reports : (play_xterm u part bytes).reports ≡ []
+  pub pending : pending_after part bytes ≡ left
+
+-- bytes are pending, or nothing is
+abbrev pub IsPart : List ℕ → Type 0
+IsPart bytes = pending_of bytes ≡ bytes
+
+-- the repaint does so with nothing pending, on any terminal, whatever it shows and holds, with any pages, and after any pending part
+abbrev pub IsRebuilt : Whole → Type 0
+IsRebuilt w = (u : Whole) (part : List ℕ) → IsSound u.state → IsPart part → Rebuilds (xterm_repaint w) w [] u part

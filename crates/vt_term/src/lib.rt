@@ -30,7 +30,7 @@ mod writing;
 
 pub use display::{ROWS, STOPS, stops_at_power_up};
 pub use functions::count;
-pub use observing::{Both, Observer};
+pub use observing::{Both, Nobody, Observer};
 pub use page::Page;
 pub use scrolling::Lines;
 pub use state::{Cursor, Margins, Modes, Saved};

@@ -80,7 +80,7 @@ pub trait Observer {
 
 /// The observer of a feed that nobody observes.
 #[derive(Drop)]
-pub(crate) struct Nobody;
+pub struct Nobody;
 
 impl Observer for Nobody {
     ghost use Rattle.vt_term.specs.Observers.{nobody_cut};

@@ -106,3 +106,25 @@ module _ (none : (s : State) (pending : List ℕ) → IsSound s
             ∙ append_assoc before (play_utf8 s pending a).reports (play_utf8 t after b).reports
             ∙ ap (λ (r : List ℕ). before ++ r) (sym (ap (λ (p : Played). p.reports) played));
       })
+
+  -- the front that was tried first is empty
+  pub same-state : (s t : State) (piece before out : List ℕ) (w : ℕ) → IsSound s → w ≡ 0
+      → FeedsUtf8 s [] (take w piece) t [] before out → t ≡ s
+  same-state s t piece before out w sound zero first =
+      first.state ∙ rw zero (ap (λ (p : Played). p.state) (none s [] sound))
+
+  pub feeds-next : (s t u : State) (pending left piece before out last : List ℕ) (w n : ℕ) → IsSound s → w ≡ 0
+      → FeedsUtf8 s [] (take w piece) t [] before out → out ≡ before → FeedsUtf8 t pending (take n piece) u left out last
+      → FeedsUtf8 s pending (take n piece) u left before last
+  feeds-next s t u pending left piece before out last w n sound zero first same second =
+      rw (← same-state s t piece before out w sound zero first, ← same) second
+
+-- ASCII with nothing pending
+pub feeds-ascii : (s t : State) (pending bytes before out : List ℕ) → pending ≡ [] → play_utf8 s [] bytes ≡ play s bytes
+    → pending_after [] bytes ≡ [] → t ≡ (play s bytes).state → out ≡ before ++ (play s bytes).reports
+    → FeedsUtf8 s pending bytes t pending before out
+feeds-ascii s t pending bytes before out none same left state told = rw none (record {
+  state = state ∙ sym (ap (λ (p : Played). p.state) same);
+  left = sym left;
+  reports = told ∙ ap (λ (p : Played). before ++ p.reports) (sym same);
+})

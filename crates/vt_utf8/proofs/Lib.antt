@@ -4,6 +4,7 @@ pub mod Cuts
 mod Silence
 mod Plain
 mod Fed
+pub mod Logged
 mod Themselves
 mod Written
 mod Lanes

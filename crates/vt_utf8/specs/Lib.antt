@@ -4,4 +4,5 @@ pub mod Cells
 pub mod Showing
 pub mod Translation
 pub mod Play
+pub mod Logs
 pub mod Private

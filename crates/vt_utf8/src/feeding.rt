@@ -1,5 +1,5 @@
 //! Feeding: UTF-8 changes a terminal's state, and gives report bytes.
-ghost use Rattle.std.specs.Prelude.{◌≡◌, ◌<◌, ◌+◌, ◌*◌, ◌≤◌, ◌++◌, [], ◌∷◌, ℕ, List, All, length, take, drop, flat_map};
+ghost use Rattle.std.specs.Prelude.{◌≡◌, ◌<◌, ◌+◌, ◌*◌, ◌≤◌, ◌++◌, ◌⊎◌, [], ◌∷◌, ℕ, List, All, length, take, drop, flat_map};
 ghost use Rattle.std.specs.Prelude.{vec_len, vec_capacity, OnOk, OnErr, IsOk, IfSome};
 ghost use Rattle.std.specs.Bool.{OnTrue};
 ghost use Rattle.std.specs.Option.{option_to_list};
@@ -7,25 +7,27 @@ ghost use Rattle.std.specs.declared.option.Option.TheVariants.{None};
 ghost use Rattle.bstr.specs.Utf8.{replacement};
 ghost use Rattle.vt_syntax.specs.declared.held.Held.TheVariants.{Nothing};
 ghost use Rattle.vt_term.specs.Play.{play};
-ghost use Rattle.vt_term.specs.Scrolling.{log};
+ghost use Rattle.vt_term.specs.Scrolling.{log, scrolled_off};
 ghost use Rattle.vt_term.specs.Text.{line_text};
 ghost use Rattle.vt_term.specs.Writing.{write_glyph};
 ghost use Rattle.vt_utf8.specs.Cells.{cells};
 ghost use Rattle.vt_utf8.specs.Similar.{shown};
 ghost use Rattle.vt_utf8.specs.Decoding.{pending_after};
 ghost use Rattle.vt_utf8.specs.Translation.{glyph_off, translation};
-ghost use Rattle.vt_utf8.specs.Play.{translated_all, play_utf8};
-ghost use Rattle.vt_utf8.specs.Private.Feeds.{FeedsUtf8};
+ghost use Rattle.vt_utf8.specs.Play.{translated_all, translated, play_utf8};
+ghost use Rattle.vt_utf8.specs.Private.Feeds.{FeedsUtf8, utf8_off};
 
 use crate::ascii::ascii_run;
 use crate::decoder::{Decoder, whole_character};
-use crate::laws::{ascii, cuts, silence, writes};
+use crate::laws::{ascii, cuts, one_byte, silence, writes};
+use crate::log::BytesLog;
 use crate::similar::{code_of, glyph_of_code};
-use crate::translation::{TRANSLATION_LIMIT, has_one_cell, translation};
+use crate::translation::{BYTE_LIMIT, TRANSLATION_LIMIT, has_one_cell, translation};
 use std::alloc::AllocError;
 use vt_syntax::Held;
+use vt_syntax::laws::one_split;
 use vt_term::laws::{cuts as played_cuts, log_cuts, soundness as played_soundness};
-use vt_term::{Glyph, REPORT_LIMIT, ROW_TEXT_LIMIT, Terminal};
+use vt_term::{Glyph, Lines, Nobody, REPORT_LIMIT, ROW_TEXT_LIMIT, Terminal};
 
 /// Plays a chunk of a host's UTF-8, and appends the reports to `out`. `decoder` keeps what is pending between chunks.
 ///
@@ -71,169 +73,325 @@ pub fn feed_utf8_reserved(
     ensures bounded { vec_len out.new ≤ vec_len out.old + 10 * length piece.now }
     ensures capacity { vec_capacity out.old ≤ vec_capacity out.new }
 {
-    let _ = terminal.width();
-    cuts();
-    let mut at = 0;
-    while at < piece.len() {
-        at += feed_next(terminal, decoder, &piece[at..], out);
-    }
+    feed_front(terminal, decoder, piece, &mut Nobody, out);
 }
 
-/// Plays the front of a chunk that isn't empty: the ASCII bytes or the whole characters there if nothing is pending,
-/// otherwise a byte. Returns how many bytes it played.
-#[inline(always)]
-fn feed_next(
+/// The capacity for lines without which a feed with a log stops: the most bytes of lines for one byte of UTF-8.
+pub const UTF8_LINES_LIMIT: usize = BYTE_LIMIT * ROW_TEXT_LIMIT;
+
+const _: () = prove!(UTF8_LINES_LIMIT == 17468);
+
+/// Plays the front of a chunk of a host's UTF-8. It appends the reports to `reports` and at most `most` bytes of the lines that
+/// scroll off to `lines`. Returns how many bytes it played. `decoder` keeps what is pending between chunks.
+///
+/// If it stops early, `lines` has fewer than `UTF8_LINES_LIMIT` bytes free, or fewer of `most` are left. `reports` has capacity for
+/// ten more bytes for each byte of the chunk. It never fails and allocates nothing.
+#[tactic(auto, unfolding(vt_term::specs::Scrolling::log))]
+pub fn feed_utf8_log_reserved(
     terminal: &mut Terminal,
     decoder: &mut Decoder,
     piece: &[u8],
+    reports: &mut Vec<u8>,
+    lines: &mut Vec<u8>,
+    most: usize,
+) -> usize
+    requires { vec_len reports.old + 10 * length piece.now ≤ vec_capacity reports.old }
+    ensures within { result ≤ length piece.now }
+    ensures all { result < length piece.now → (vec_capacity lines.new < vec_len lines.new + UTF8_LINES_LIMIT)
+        ⊎ (vec_len lines.old + most < vec_len lines.new + UTF8_LINES_LIMIT) }
+    ensures state { terminal.new ≡ (play_utf8 terminal.old decoder.old (take result piece.now)).state }
+    ensures pending { decoder.new ≡ pending_after decoder.old (take result piece.now) }
+    ensures reports { reports.new.items
+        ≡ reports.old.items ++ (play_utf8 terminal.old decoder.old (take result piece.now)).reports }
+    ensures lines { lines.new.items
+        ≡ lines.old.items ++ log terminal.old (translated terminal.old decoder.old (take result piece.now)) }
+    ensures reports_bounded { vec_len reports.new ≤ vec_len reports.old + 10 * result }
+    ensures lines_bounded { vec_len lines.new ≤ vec_len lines.old + most }
+    ensures reports_capacity { vec_capacity reports.old ≤ vec_capacity reports.new }
+    ensures lines_capacity { vec_capacity lines.old ≤ vec_capacity lines.new }
+{
+    let end = lines.len().saturating_add(most);
+    let mut log = Lines {
+        lines,
+        end,
+        beside: Nobody,
+    };
+    feed_front(terminal, decoder, piece, &mut log, reports)
+}
+
+/// Plays the front of a chunk, until the log is full. Returns how many bytes it played.
+fn feed_front<L: BytesLog>(
+    terminal: &mut Terminal,
+    decoder: &mut Decoder,
+    piece: &[u8],
+    log: &mut L,
+    out: &mut Vec<u8>,
+) -> usize
+    requires { vec_len out.old + 10 * length piece.now ≤ vec_capacity out.old }
+    ensures within { result ≤ length piece.now }
+    ensures all { result < length piece.now → L.IsFull log.new 17468 }
+    ensures fed { FeedsUtf8 terminal.old decoder.old (take result piece.now) terminal.new decoder.new
+        out.old.items out.new.items }
+    ensures keeps { L.Keeps log.old (utf8_off terminal.old decoder.old (take result piece.now)) log.new }
+    ensures bounded { vec_len out.new ≤ vec_len out.old + 10 * result }
+    ensures capacity { vec_capacity out.old ≤ vec_capacity out.new }
+{
+    let _ = terminal.width();
+    cuts();
+    one_split();
+    let mut at = 0;
+    while at < piece.len() {
+        let count = feed_next(terminal, decoder, &piece[at..], log, out);
+        if count == 0 {
+            return at;
+        }
+        at += count;
+    }
+    at
+}
+
+/// Plays the front of a chunk that isn't empty: the ASCII bytes or the whole characters there if nothing is pending,
+/// otherwise a byte. Returns how many bytes it played: none if the log is full.
+#[inline(always)]
+fn feed_next<L: BytesLog>(
+    terminal: &mut Terminal,
+    decoder: &mut Decoder,
+    piece: &[u8],
+    log: &mut L,
     out: &mut Vec<u8>,
 ) -> usize
     requires some { 1 ≤ length piece.now }
     requires room { vec_len out.old + 10 * length piece.now ≤ vec_capacity out.old }
-    ensures some { 1 ≤ result }
+    ensures none { result ≡ 0 → L.IsFull log.new 17468 }
     ensures within { result ≤ length piece.now }
     ensures fed { FeedsUtf8 terminal.old decoder.old (take result piece.now) terminal.new decoder.new
         out.old.items out.new.items }
+    ensures keeps { L.Keeps log.old (utf8_off terminal.old decoder.old (take result piece.now)) log.new }
     ensures bounded { vec_len out.new ≤ vec_len out.old + 10 * result }
     ensures capacity { vec_capacity out.old ≤ vec_capacity out.new }
 {
     if decoder.is_empty() {
         let run = ascii_run(piece);
         if run > 0 {
-            feed_ascii(terminal, decoder, &piece[..run], out);
-            return run;
+            return feed_ascii(terminal, decoder, &piece[..run], log, out);
         }
-        return feed_beyond(terminal, decoder, piece, out);
+        return feed_beyond(terminal, decoder, piece, log, out);
     }
-    feed_byte(terminal, decoder, piece[0], out);
-    1
+    feed_first(terminal, decoder, piece, log, out)
 }
 
-/// Plays ASCII bytes with nothing pending.
+/// Plays ASCII bytes with nothing pending. Returns how many it played: fewer if the log is full.
 #[inline(always)]
-fn feed_ascii(terminal: &mut Terminal, decoder: &Decoder, run: &[u8], out: &mut Vec<u8>)
+fn feed_ascii<L: BytesLog>(
+    terminal: &mut Terminal,
+    decoder: &Decoder,
+    run: &[u8],
+    log: &mut L,
+    out: &mut Vec<u8>,
+) -> usize
     requires nothing { decoder.now ≡ [] }
     requires ascii { All (λ b. b < 0x80) run.now }
     requires room { vec_len out.old + 10 * length run.now ≤ vec_capacity out.old }
-    ensures fed { FeedsUtf8 terminal.old decoder.now run.now terminal.new decoder.now out.old.items out.new.items }
-    ensures bounded { vec_len out.new ≤ vec_len out.old + 10 * length run.now }
+    ensures within { result ≤ length run.now }
+    ensures all { result < length run.now → L.IsFull log.new 17468 }
+    ensures fed { FeedsUtf8 terminal.old decoder.now (take result run.now) terminal.new decoder.now
+        out.old.items out.new.items }
+    ensures keeps { L.Keeps log.old (utf8_off terminal.old decoder.now (take result run.now)) log.new }
+    ensures bounded { vec_len out.new ≤ vec_len out.old + 10 * result }
     ensures capacity { vec_capacity out.old ≤ vec_capacity out.new }
 {
     ascii();
     let _ = decoder;
-    terminal.feed_reserved(run, out);
+    log.feed(terminal, run, out)
 }
 
-/// Plays the whole characters beyond ASCII at the front of a chunk, with nothing pending. Returns how many bytes they take.
-/// Speed: a byte at a time leaves the same.
+/// Plays the whole characters beyond ASCII at the front of a chunk, with nothing pending, until the log is full. Returns how many
+/// bytes they take. Speed: a byte at a time leaves the same.
 #[inline(always)]
-fn feed_whole(terminal: &mut Terminal, piece: &[u8], out: &mut Vec<u8>) -> usize
+fn feed_whole<L: BytesLog>(
+    terminal: &mut Terminal,
+    piece: &[u8],
+    log: &mut L,
+    out: &mut Vec<u8>,
+) -> usize
     requires { vec_len out.old + 10 ≤ vec_capacity out.old }
     ensures within { result ≤ length piece.now }
     ensures fed { FeedsUtf8 terminal.old [] (take result piece.now) terminal.new [] out.old.items out.new.items }
+    ensures keeps { L.Keeps log.old (utf8_off terminal.old [] (take result piece.now)) log.new }
     ensures out { out.new.items ≡ out.old.items }
-    ensures none { result ≡ 0 → terminal.new ≡ terminal.old }
     ensures capacity { vec_capacity out.old ≤ vec_capacity out.new }
 {
     let _ = terminal.width();
     cuts();
+    one_split();
     let mut at = 0;
     while let Some((c, size)) = whole_character(&piece[at..]) {
-        feed_beyond_ascii(terminal, c, out);
+        if log.is_full(UTF8_LINES_LIMIT) {
+            return at;
+        }
+        log.character(terminal, c, out);
         at += size;
     }
     at
 }
 
 /// Plays the whole characters beyond ASCII at the front of a chunk, or a byte if none is there, with nothing pending.
-/// Returns how many bytes it played.
+/// Returns how many bytes it played: none if the log is full.
 #[inline(always)]
-fn feed_beyond(
+fn feed_beyond<L: BytesLog>(
     terminal: &mut Terminal,
     decoder: &mut Decoder,
     piece: &[u8],
+    log: &mut L,
     out: &mut Vec<u8>,
 ) -> usize
     requires nothing { decoder.old ≡ [] }
     requires some { 1 ≤ length piece.now }
     requires room { vec_len out.old + 10 ≤ vec_capacity out.old }
-    ensures some { 1 ≤ result }
+    ensures none { result ≡ 0 → L.IsFull log.new 17468 }
     ensures within { result ≤ length piece.now }
     ensures fed { FeedsUtf8 terminal.old decoder.old (take result piece.now) terminal.new decoder.new
         out.old.items out.new.items }
+    ensures keeps { L.Keeps log.old (utf8_off terminal.old decoder.old (take result piece.now)) log.new }
     ensures bounded { vec_len out.new ≤ vec_len out.old + 10 * result }
     ensures capacity { vec_capacity out.old ≤ vec_capacity out.new }
 {
-    let whole = feed_whole(terminal, piece, out);
+    let _ = terminal.width();
+    cuts();
+    one_split();
+    let whole = feed_whole(terminal, piece, log, out);
     if whole > 0 {
         return whole;
     }
-    feed_byte(terminal, decoder, piece[0], out);
+    feed_first(terminal, decoder, piece, log, out)
+}
+
+/// Plays the first byte of a chunk. Returns how many bytes it played: none if the log is full.
+#[inline(always)]
+fn feed_first<L: BytesLog>(
+    terminal: &mut Terminal,
+    decoder: &mut Decoder,
+    piece: &[u8],
+    log: &mut L,
+    out: &mut Vec<u8>,
+) -> usize
+    requires some { 1 ≤ length piece.now }
+    requires room { vec_len out.old + 10 ≤ vec_capacity out.old }
+    ensures none { result ≡ 0 → L.IsFull log.new 17468 }
+    ensures within { result ≤ 1 }
+    ensures fed { FeedsUtf8 terminal.old decoder.old (take result piece.now) terminal.new decoder.new
+        out.old.items out.new.items }
+    ensures keeps { L.Keeps log.old (utf8_off terminal.old decoder.old (take result piece.now)) log.new }
+    ensures bounded { vec_len out.new ≤ vec_len out.old + 10 * result }
+    ensures capacity { vec_capacity out.old ≤ vec_capacity out.new }
+{
+    let _ = terminal.width();
+    cuts();
+    one_split();
+    if log.is_full(UTF8_LINES_LIMIT) {
+        return 0;
+    }
+    feed_byte(terminal, decoder, piece[0], log, out);
     1
 }
 
 /// Plays a byte.
-fn feed_byte(terminal: &mut Terminal, decoder: &mut Decoder, b: u8, out: &mut Vec<u8>)
-    requires { vec_len out.old + 10 ≤ vec_capacity out.old }
+fn feed_byte<L: BytesLog>(
+    terminal: &mut Terminal,
+    decoder: &mut Decoder,
+    b: u8,
+    log: &mut L,
+    out: &mut Vec<u8>,
+)
+    requires room { vec_len out.old + 10 ≤ vec_capacity out.old }
+    requires lines_room { L.HasRoom log.old 17468 }
     ensures fed { FeedsUtf8 terminal.old decoder.old (b ∷ []) terminal.new decoder.new out.old.items out.new.items }
+    ensures keeps { L.Keeps log.old (utf8_off terminal.old decoder.old (b ∷ [])) log.new }
     ensures bounded { vec_len out.new ≤ vec_len out.old + 10 }
     ensures capacity { vec_capacity out.old ≤ vec_capacity out.new }
 {
     let _ = terminal.width();
     played_cuts();
     played_soundness();
+    one_split();
+    one_byte();
     let (lost, character) = decoder.push(b);
-    feed_lost(terminal, lost, out);
-    feed_completed(terminal, character, out);
+    feed_lost(terminal, lost, log, out);
+    feed_completed(terminal, character, log, out);
 }
 
 /// Plays U+FFFD if what was pending is ill-formed.
 #[inline(always)]
-fn feed_lost(terminal: &mut Terminal, lost: Option<char>, out: &mut Vec<u8>)
+fn feed_lost<L: BytesLog>(
+    terminal: &mut Terminal,
+    lost: Option<char>,
+    log: &mut L,
+    out: &mut Vec<u8>,
+)
     requires lost { IfSome lost (λ c. c ≡ replacement) }
     requires room { vec_len out.old + 10 ≤ vec_capacity out.old }
+    requires lines_room { L.HasRoom log.old 17468 }
     ensures state { terminal.new ≡ (play terminal.old (translated_all terminal.old (option_to_list lost))).state }
     ensures silent { (play terminal.old (translated_all terminal.old (option_to_list lost))).reports ≡ [] }
+    ensures keeps { L.Keeps log.old (scrolled_off terminal.old (translated_all terminal.old (option_to_list lost))) log.new }
+    ensures left { L.HasRoom log.new 8734 }
     ensures out { out.new.items ≡ out.old.items }
     ensures capacity { vec_capacity out.old ≤ vec_capacity out.new }
 {
     let _ = terminal.width();
     played_cuts();
+    one_split();
     if let Some(c) = lost {
-        feed_beyond_ascii(terminal, c, out);
+        log.character(terminal, c, out);
     }
 }
 
 /// Plays the character that a byte completes, if it completes one.
 #[inline(always)]
-fn feed_completed(terminal: &mut Terminal, character: Option<char>, out: &mut Vec<u8>)
-    requires { vec_len out.old + 10 ≤ vec_capacity out.old }
+fn feed_completed<L: BytesLog>(
+    terminal: &mut Terminal,
+    character: Option<char>,
+    log: &mut L,
+    out: &mut Vec<u8>,
+)
+    requires room { vec_len out.old + 10 ≤ vec_capacity out.old }
+    requires lines_room { L.HasRoom log.old 8734 }
     ensures state { terminal.new
         ≡ (play terminal.old (translated_all terminal.old (option_to_list character))).state }
     ensures reports { out.new.items ≡ out.old.items
         ++ (play terminal.old (translated_all terminal.old (option_to_list character))).reports }
+    ensures keeps { L.Keeps log.old
+        (scrolled_off terminal.old (translated_all terminal.old (option_to_list character))) log.new }
     ensures bounded { vec_len out.new ≤ vec_len out.old + 10 }
     ensures capacity { vec_capacity out.old ≤ vec_capacity out.new }
 {
     let _ = terminal.width();
     played_cuts();
+    one_split();
     if let Some(c) = character {
-        feed_character(terminal, c, out);
+        feed_character(terminal, c, log, out);
     }
 }
 
 /// Plays a character.
-fn feed_character(terminal: &mut Terminal, c: char, out: &mut Vec<u8>)
-    requires { vec_len out.old + 10 ≤ vec_capacity out.old }
+fn feed_character<L: BytesLog>(
+    terminal: &mut Terminal,
+    c: char,
+    log: &mut L,
+    out: &mut Vec<u8>,
+)
+    requires room { vec_len out.old + 10 ≤ vec_capacity out.old }
+    requires lines_room { L.HasRoom log.old 8734 }
     ensures state { terminal.new ≡ (play terminal.old (translation terminal.old c)).state }
     ensures reports { out.new.items ≡ out.old.items ++ (play terminal.old (translation terminal.old c)).reports }
+    ensures keeps { L.Keeps log.old (scrolled_off terminal.old (translation terminal.old c)) log.new }
     ensures bounded { vec_len out.new ≤ vec_len out.old + 10 }
     ensures capacity { vec_capacity out.old ≤ vec_capacity out.new }
 {
     if (c as u32) < 0x80 {
-        terminal.feed_reserved(&[c as u8], out);
+        let _ = log.feed(terminal, &[c as u8], out);
     } else {
-        feed_beyond_ascii(terminal, c, out);
+        log.character(terminal, c, out);
     }
 }
 

@@ -5,6 +5,7 @@ mod ascii;
 mod decoder;
 mod feeding;
 pub mod laws;
+mod log;
 mod showing;
 mod similar;
 mod translation;
@@ -12,7 +13,9 @@ mod translation;
 pub use ascii::ascii_run;
 pub use decoder::{Decoder, whole_character};
 pub use feeding::{
-    LINES_LIMIT, feed_beyond_ascii, feed_beyond_ascii_log, feed_utf8, feed_utf8_reserved,
+    LINES_LIMIT, UTF8_LINES_LIMIT, feed_beyond_ascii, feed_beyond_ascii_log, feed_utf8,
+    feed_utf8_log_reserved, feed_utf8_reserved,
 };
+pub use log::Log;
 pub use showing::shown_as;
 pub use translation::{BYTE_LIMIT, Bytes, TRANSLATION_LIMIT, cells, translated};

@@ -18,13 +18,11 @@ use Rattle.vt_xterm.specs.Play.{Whole, WholePlayed, FrontState, behind, screens_
 use Rattle.vt_xterm.specs.Play.{play_bytes, play_character, play_characters, play_xterm}
 use Rattle.vt_xterm.specs.Private.Finding.{PlaysTerminals}
 use Rattle.vt_xterm.specs.Private.Feeds.{whole_of}
-use Rattle.vt_xterm.specs.Private.Logs.{AreKept}
+use Rattle.vt_utf8.specs.Logs.{AreKept}
+use Rattle.vt_utf8.proofs.Logged.{Rows, keeps-nothing, keeps-both}
 use Rattle.vt_xterm.proofs.Cuts.{bytes-two, character-ascii, characters-two, xterm-nothing, xterm-two}
 use Rattle.vt_xterm.proofs.Terminals.{bytes-terminals}
 use Rattle.vt_xterm.proofs.Fed.{ascii-played, whole-played, character-beyond, one-byte}
-
-abbrev pub Rows : Type 0
-Rows = List (List Cell)
 
 -- ---- the law of the log
 
@@ -40,20 +38,14 @@ log-two w pending a b =
 
 -- ---- what is kept
 
-module _ {O : Type 0} (Keeps : O → Rows → O → Type 0) (HasRoom : O → ℕ → Type 0) (kept : AreKept Keeps HasRoom) where
-  pub keeps-nothing : (o : O) (rows : Rows) → rows ≡ [] → Keeps o rows o
-  keeps-nothing o rows is = subst (λ (r : Rows). Keeps o r o) (sym is) (kept.nothing o)
-
-  pub keeps-both : (o p q : O) (a b rows : Rows) → Keeps o a p → Keeps p b q → rows ≡ a ++ b → Keeps o rows q
-  keeps-both o p q a b rows first second is = subst (λ (r : Rows). Keeps o r q) (sym is) (kept.more o p q a b first second)
-
+module _ {O : Type 0} (Keeps : O → Rows → O → Type 0) (HasRoom IsFull : O → ℕ → Type 0) (kept : AreKept Keeps HasRoom IsFull) where
   pub keeps-bytes : SplitLaw → (w v : Whole) (piece : List ℕ) (at n : ℕ) (o p q : O)
       → v ≡ (play_bytes w (take at piece)).whole → Keeps o (play_bytes w (take at piece)).lines p
       → Keeps p (play_bytes v (take n (drop at piece))).lines q → Keeps o (play_bytes w (take (at + n) piece)).lines q
   keeps-bytes split w v piece at n o p q is first second =
       let a = take at piece in
       let b = take n (drop at piece) in
-      keeps-both o p q (play_bytes w a).lines (play_bytes v b).lines (play_bytes w (take (at + n) piece)).lines first second
+      keeps-both Keeps HasRoom IsFull kept o p q (play_bytes w a).lines (play_bytes v b).lines (play_bytes w (take (at + n) piece)).lines first second
       (ap (λ (bytes : List ℕ). (play_bytes w bytes).lines) (take-add at n piece)
       ∙ ap (λ (x : WholePlayed). x.lines) (bytes-two split w a b)
       ∙ ap (λ (x : Whole). (play_bytes w a).lines ++ (play_bytes x b).lines) (sym is))
@@ -62,7 +54,7 @@ module _ {O : Type 0} (Keeps : O → Rows → O → Type 0) (HasRoom : O → ℕ
       → Keeps o (play_characters w xs).lines p → Keeps p (play_characters v ys).lines q
       → Keeps o (play_characters w (xs ++ ys)).lines q
   keeps-characters w v xs ys o p q is first second =
-      keeps-both o p q (play_characters w xs).lines (play_characters v ys).lines (play_characters w (xs ++ ys)).lines first
+      keeps-both Keeps HasRoom IsFull kept o p q (play_characters w xs).lines (play_characters v ys).lines (play_characters w (xs ++ ys)).lines first
       second
       (ap (λ (x : WholePlayed). x.lines) (characters-two w xs ys)
       ∙ ap (λ (x : Whole). (play_characters w xs).lines ++ (play_characters x ys).lines) (sym is))
@@ -75,7 +67,7 @@ module _ {O : Type 0} (Keeps : O → Rows → O → Type 0) (HasRoom : O → ℕ
   keeps-xterm w v pending after piece at n o p q is left first second =
       let a = take at piece in
       let b = take n (drop at piece) in
-      keeps-both o p q (play_xterm w pending a).lines (play_xterm v after b).lines
+      keeps-both Keeps HasRoom IsFull kept o p q (play_xterm w pending a).lines (play_xterm v after b).lines
       (play_xterm w pending (take (at + n) piece)).lines first second
       (ap (λ (bytes : List ℕ). (play_xterm w pending bytes).lines) (take-add at n piece)
       ∙ ap (λ (x : WholePlayed). x.lines) (xterm-two w pending a b)
@@ -118,7 +110,7 @@ module _ {O : Type 0} (Keeps : O → Rows → O → Type 0) (HasRoom : O → ℕ
 
   pub keeps-none : (s : State) (front : FrontState) (o : O) → Keeps o (play_xterm (behind s front) front.pending []).lines o
   keeps-none s front o =
-      keeps-nothing o (play_xterm (behind s front) front.pending []).lines
+      keeps-nothing Keeps HasRoom IsFull kept o (play_xterm (behind s front) front.pending []).lines
       (ap (λ (x : WholePlayed). x.lines) (xterm-nothing (behind s front) front.pending))
 
   -- ---- a character
@@ -141,7 +133,7 @@ module _ {O : Type 0} (Keeps : O → Rows → O → Type 0) (HasRoom : O → ℕ
   pub keeps-alternate : (s : State) (pages : PagesState) (c : ℕ) (o : O) → 0x80 ≤ c → pages.alternate ≡ true
       → Keeps o (play_characters (whole_of s pages) (c ∷ [])).lines o
   keeps-alternate s pages c o high is =
-      keeps-nothing o (play_characters (whole_of s pages) (c ∷ [])).lines
+      keeps-nothing Keeps HasRoom IsFull kept o (play_characters (whole_of s pages) (c ∷ [])).lines
       (beyond-lines s pages c high ∙ ap (λ (b : Bool). if b then [] else scrolled_off s (translation s c)) is)
 
   pub keeps-main : (s : State) (pages : PagesState) (c : ℕ) (o p : O) → 0x80 ≤ c → pages.alternate ≡ false
@@ -160,7 +152,7 @@ module _ {O : Type 0} (Keeps : O → Rows → O → Type 0) (HasRoom : O → ℕ
   pub terminals-alternate : (s : State) (pages : PagesState) (bytes : List ℕ) (o : O) → PlaysTerminals s bytes
       → pages.alternate ≡ true → Keeps o (play_bytes (whole_of s pages) bytes).lines o
   terminals-alternate s pages bytes o all is =
-      keeps-nothing o (play_bytes (whole_of s pages) bytes).lines
+      keeps-nothing Keeps HasRoom IsFull kept o (play_bytes (whole_of s pages) bytes).lines
       (terminals-lines s pages bytes all ∙ ap (λ (b : Bool). if b then [] else scrolled_off s bytes) is)
 
   pub terminals-main : (s : State) (pages : PagesState) (bytes : List ℕ) (o p : O) → PlaysTerminals s bytes
@@ -175,7 +167,7 @@ module _ {O : Type 0} (Keeps : O → Rows → O → Type 0) (HasRoom : O → ℕ
       → Keeps o (play_bytes w bytes).lines o
   unfolding play_bytes
   part-keeps w bytes o none =
-      keeps-nothing o (xterm_lines_off (events_from w.state.held bytes) (screens_of w))
+      keeps-nothing Keeps HasRoom IsFull kept o (xterm_lines_off (events_from w.state.held bytes) (screens_of w))
       (ap (λ (events : List Event). xterm_lines_off events (screens_of w)) none)
 
   pub event-keeps : (s mid : State) (pages : PagesState) (bytes : List ℕ) (event : Event) (o p : O)
@@ -192,7 +184,7 @@ module _ {O : Type 0} (Keeps : O → Rows → O → Type 0) (HasRoom : O → ℕ
   pub alternate-keeps : (s : State) (pages : PagesState) (event : Event) (o : O) → pages.alternate ≡ true
       → Keeps o (xterm_line_off event (screens s pages)) o
   alternate-keeps s pages event o is =
-      keeps-nothing o (xterm_line_off event (screens s pages))
+      keeps-nothing Keeps HasRoom IsFull kept o (xterm_line_off event (screens s pages))
       (ap (λ (b : Bool). if b then [] else page_line_off event s.display) is)
 
   pub main-keeps : (s : State) (pages : PagesState) (event : Event) (o p : O) → pages.alternate ≡ false

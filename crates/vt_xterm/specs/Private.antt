@@ -1,4 +1,3 @@
 -- What private contracts alone cite.
 pub mod Finding
 pub mod Feeds
-pub mod Logs

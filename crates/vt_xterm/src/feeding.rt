@@ -14,11 +14,11 @@ use crate::finder::Finder;
 use crate::front::{Front, Pages};
 use crate::functions::carry_out;
 use crate::laws::cuts;
-use crate::log::{LINES_LIMIT, Log, feed_terminals};
+use crate::log::{LINES_LIMIT, PageLog, feed_terminals};
 use std::alloc::AllocError;
 use vt_syntax::laws::one_split;
 use vt_syntax::{EventKind, Taken, Values};
-use vt_term::{Lines, REPORT_LIMIT, Terminal};
+use vt_term::{Lines, Nobody, REPORT_LIMIT, Terminal};
 use vt_utf8::{ascii_run, feed_beyond_ascii, whole_character};
 
 /// Plays a chunk of a host's bytes, in UTF-8 and with the functions of xterm, and appends the reports to `out`. `front` keeps
@@ -74,7 +74,7 @@ pub fn feed_xterm_reserved(
     ensures bounded { vec_len out.new ≤ vec_len out.old + 10 * length piece.now }
     ensures capacity { vec_capacity out.old ≤ vec_capacity out.new }
 {
-    feed_front(terminal, front, piece, &mut Finder, out);
+    feed_front(terminal, front, piece, &mut Nobody, out);
 }
 
 /// Plays the front of a chunk of a host's bytes, in UTF-8 and with the functions of xterm. It appends the reports to `reports`
@@ -119,7 +119,7 @@ pub fn feed_xterm_log_reserved(
 }
 
 /// Plays the front of a chunk, until the log is full. Returns how many bytes it played.
-fn feed_front<L: Log>(
+fn feed_front<L: PageLog>(
     terminal: &mut Terminal,
     front: &mut Front,
     piece: &[u8],
@@ -128,7 +128,7 @@ fn feed_front<L: Log>(
 ) -> usize
     requires { vec_len out.old + 10 * length piece.now ≤ vec_capacity out.old }
     ensures within { result ≤ length piece.now }
-    ensures all { result < length piece.now → L.IsFull log.new }
+    ensures all { result < length piece.now → L.IsFull log.new 19056 }
     ensures fed { FeedsXterm terminal.old front.old (take result piece.now) terminal.new front.new
         out.old.items out.new.items }
     ensures keeps { L.Keeps log.old (play_xterm (behind terminal.old front.old) front.old.pending
@@ -150,7 +150,7 @@ fn feed_front<L: Log>(
 
 /// Plays the front of a chunk that isn't empty. Returns how many bytes it played: none if the log is full.
 #[inline(always)]
-fn feed_next<L: Log>(
+fn feed_next<L: PageLog>(
     terminal: &mut Terminal,
     front: &mut Front,
     piece: &[u8],
@@ -159,7 +159,7 @@ fn feed_next<L: Log>(
 ) -> usize
     requires some { 1 ≤ length piece.now }
     requires room { vec_len out.old + 10 * length piece.now ≤ vec_capacity out.old }
-    ensures none { result ≡ 0 → L.IsFull log.new }
+    ensures none { result ≡ 0 → L.IsFull log.new 19056 }
     ensures within { result ≤ length piece.now }
     ensures fed { FeedsXterm terminal.old front.old (take result piece.now) terminal.new front.new
         out.old.items out.new.items }
@@ -171,7 +171,7 @@ fn feed_next<L: Log>(
     if front.decoder.is_empty() {
         return feed_first(terminal, front, piece, log, out);
     }
-    if log.is_full() {
+    if log.is_full(LINES_LIMIT) {
         return 0;
     }
     feed_byte(terminal, front, piece[0], log, out);
@@ -181,7 +181,7 @@ fn feed_next<L: Log>(
 /// Plays the front of a chunk that isn't empty, with nothing pending: ASCII bytes, a whole character or a byte. Returns how many
 /// bytes it played: none if the log is full.
 #[inline(always)]
-fn feed_first<L: Log>(
+fn feed_first<L: PageLog>(
     terminal: &mut Terminal,
     front: &mut Front,
     piece: &[u8],
@@ -191,7 +191,7 @@ fn feed_first<L: Log>(
     requires nothing { front.old.pending ≡ [] }
     requires some { 1 ≤ length piece.now }
     requires room { vec_len out.old + 10 * length piece.now ≤ vec_capacity out.old }
-    ensures none { result ≡ 0 → L.IsFull log.new }
+    ensures none { result ≡ 0 → L.IsFull log.new 19056 }
     ensures within { result ≤ length piece.now }
     ensures fed { FeedsXterm terminal.old front.old (take result piece.now) terminal.new front.new
         out.old.items out.new.items }
@@ -204,7 +204,7 @@ fn feed_first<L: Log>(
     if run > 0 {
         return feed_ascii(terminal, front, &piece[..run], log, out);
     }
-    if log.is_full() {
+    if log.is_full(LINES_LIMIT) {
         return 0;
     }
     match whole_character(piece) {
@@ -221,7 +221,7 @@ fn feed_first<L: Log>(
 
 /// Plays ASCII bytes with nothing pending. Returns how many it played: fewer if the log is full.
 #[inline(always)]
-fn feed_ascii<L: Log>(
+fn feed_ascii<L: PageLog>(
     terminal: &mut Terminal,
     front: &mut Front,
     run: &[u8],
@@ -232,7 +232,7 @@ fn feed_ascii<L: Log>(
     requires ascii { All (λ b. b < 0x80) run.now }
     requires room { vec_len out.old + 10 * length run.now ≤ vec_capacity out.old }
     ensures within { result ≤ length run.now }
-    ensures all { result < length run.now → L.IsFull log.new }
+    ensures all { result < length run.now → L.IsFull log.new 19056 }
     ensures fed { FeedsXterm terminal.old front.old (take result run.now) terminal.new front.new out.old.items out.new.items }
     ensures keeps { L.Keeps log.old (play_xterm (behind terminal.old front.old) front.old.pending
         (take result run.now)).lines log.new }
@@ -245,7 +245,7 @@ fn feed_ascii<L: Log>(
 }
 
 /// Plays a byte.
-fn feed_byte<L: Log>(
+fn feed_byte<L: PageLog>(
     terminal: &mut Terminal,
     front: &mut Front,
     b: u8,
@@ -266,7 +266,7 @@ fn feed_byte<L: Log>(
 
 /// Plays U+FFFD if what was pending is ill-formed. It causes no report.
 #[inline(always)]
-fn feed_lost<L: Log>(
+fn feed_lost<L: PageLog>(
     terminal: &mut Terminal,
     pages: &Pages,
     lost: Option<char>,
@@ -292,7 +292,7 @@ fn feed_lost<L: Log>(
 
 /// Plays the character that a byte completes, if it completes one.
 #[inline(always)]
-fn feed_completed<L: Log>(
+fn feed_completed<L: PageLog>(
     terminal: &mut Terminal,
     pages: &mut Pages,
     character: Option<char>,
@@ -315,7 +315,7 @@ fn feed_completed<L: Log>(
 }
 
 /// Plays a character.
-fn feed_character<L: Log>(
+fn feed_character<L: PageLog>(
     terminal: &mut Terminal,
     pages: &mut Pages,
     c: char,
@@ -339,7 +339,7 @@ fn feed_character<L: Log>(
 
 /// Plays a character beyond ASCII, which causes no report.
 #[inline(always)]
-fn feed_beyond<L: Log>(
+fn feed_beyond<L: PageLog>(
     terminal: &mut Terminal,
     pages: &Pages,
     c: char,
@@ -364,7 +364,7 @@ fn feed_beyond<L: Log>(
 }
 
 /// Plays bytes of the terminal, with the functions of xterm. Returns how many it played: fewer if the log is full.
-fn feed_bytes<L: Log>(
+fn feed_bytes<L: PageLog>(
     terminal: &mut Terminal,
     pages: &mut Pages,
     piece: &[u8],
@@ -373,7 +373,7 @@ fn feed_bytes<L: Log>(
 ) -> usize
     requires { vec_len out.old + 10 * length piece.now ≤ vec_capacity out.old }
     ensures within { result ≤ length piece.now }
-    ensures all { result < length piece.now → L.IsFull log.new }
+    ensures all { result < length piece.now → L.IsFull log.new 19056 }
     ensures fed { FeedsBytes (whole_of terminal.old pages.old) (take result piece.now) (whole_of terminal.new pages.new)
         out.old.items out.new.items }
     ensures keeps { L.Keeps log.old (play_bytes (whole_of terminal.old pages.old) (take result piece.now)).lines log.new }
@@ -396,7 +396,7 @@ fn feed_bytes<L: Log>(
 /// Plays the front of a chunk that isn't empty: up to the first event that isn't a VT220's, and this event. Returns how many
 /// bytes it played: none if the log is full.
 #[inline(always)]
-fn feed_some<L: Log>(
+fn feed_some<L: PageLog>(
     terminal: &mut Terminal,
     pages: &mut Pages,
     piece: &[u8],
@@ -405,7 +405,7 @@ fn feed_some<L: Log>(
 ) -> usize
     requires some { 1 ≤ length piece.now }
     requires room { vec_len out.old + 10 * length piece.now ≤ vec_capacity out.old }
-    ensures none { result ≡ 0 → L.IsFull log.new }
+    ensures none { result ≡ 0 → L.IsFull log.new 19056 }
     ensures within { result ≤ length piece.now }
     ensures fed { FeedsBytes (whole_of terminal.old pages.old) (take result piece.now)
         (whole_of terminal.new pages.new) out.old.items out.new.items }
@@ -415,7 +415,7 @@ fn feed_some<L: Log>(
 {
     one_split();
     let played = feed_page(terminal, pages, piece, log, out);
-    if played == piece.len() || log.is_full() {
+    if played == piece.len() || log.is_full(LINES_LIMIT) {
         return played;
     }
     played + feed_event(terminal, pages, &piece[played..], log, out)
@@ -424,7 +424,7 @@ fn feed_some<L: Log>(
 /// Plays the front of a chunk, up to the first event that isn't a VT220's, or up to a line for which there is no capacity.
 /// Returns how many bytes it played.
 #[inline(always)]
-fn feed_page<L: Log>(
+fn feed_page<L: PageLog>(
     terminal: &mut Terminal,
     pages: &Pages,
     piece: &[u8],
@@ -448,7 +448,7 @@ fn feed_page<L: Log>(
 
 /// Plays the front of a chunk that isn't empty, up to the first event. Returns how many bytes it played.
 #[inline(never)]
-fn feed_event<L: Log>(
+fn feed_event<L: PageLog>(
     terminal: &mut Terminal,
     pages: &mut Pages,
     piece: &[u8],
@@ -478,7 +478,7 @@ fn feed_event<L: Log>(
 
 /// Gives the log the lines that an event is about to scroll off.
 #[inline(always)]
-fn log_event<L: Log>(
+fn log_event<L: PageLog>(
     terminal: &Terminal,
     pages: &Pages,
     kind: EventKind,

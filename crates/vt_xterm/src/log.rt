@@ -1,43 +1,26 @@
 //! Where the lines go that scroll off: nowhere, or behind others.
 ghost use Rattle.std.specs.Prelude.{◌≡◌, ◌≤◌, ◌+◌, ◌*◌, ◌++◌, ℕ, List, length, take, flat_map, vec_len, vec_capacity, None, []};
-ghost use Rattle.std.specs.Bool.{OnTrue, OnFalse};
-ghost use Rattle.vt_screen.specs.declared.cell.Cell.{Cell};
 ghost use Rattle.vt_syntax.specs.Event.{event_of};
 ghost use Rattle.vt_term.specs.Play.{play};
 ghost use Rattle.vt_term.specs.Scrolling.{scrolled_off};
 ghost use Rattle.vt_term.specs.Text.{line_text};
-ghost use Rattle.vt_utf8.specs.Translation.{glyph_off, translation};
+ghost use Rattle.vt_utf8.specs.Translation.{glyph_off};
 ghost use Rattle.vt_xterm.specs.Log.{first_rows, rows_off, function_off, page_line_off};
 ghost use Rattle.vt_xterm.specs.Private.Finding.{PlaysTerminals};
-ghost use Rattle.vt_xterm.specs.Private.Logs.{AreKept};
 
 use crate::finder::Finder;
 use vt_syntax::EventKind;
-use vt_term::{Lines, TEXT_LIMIT, Terminal, count};
-use vt_utf8::{LINES_LIMIT as CHARACTER_LIMIT, feed_beyond_ascii, feed_beyond_ascii_log};
+use vt_term::{Lines, Nobody, TEXT_LIMIT, Terminal, count};
+use vt_utf8::{Log, UTF8_LINES_LIMIT};
 
 /// The capacity for lines without which a feed with a log stops: that of two screens.
 pub const LINES_LIMIT: usize = 2 * TEXT_LIMIT;
 
-const _: () = prove!(2 * CHARACTER_LIMIT <= LINES_LIMIT);
+const _: () = prove!(UTF8_LINES_LIMIT <= LINES_LIMIT);
 
-/// Where the lines go that scroll off.
-pub(crate) trait Log: Drop {
-    /// The log after it got lines.
-    ghost Keeps: { Self → List (List Cell) → Self → Type 0 };
-
-    /// There is room for so many bytes of lines.
-    ghost HasRoom: { Self → ℕ → Type 0 };
-
-    /// There is no room for two screens.
-    ghost IsFull: { Self → Type 0 };
-
-    /// Returns whether there is no room for two screens.
-    fn is_full(&self) -> bool
-        ensures full { OnTrue result (IsFull self.now) }
-        ensures room { OnFalse result (HasRoom self.now 19056) };
-
-    /// Plays the front of a chunk, up to the first event that isn't a VT220's, or up to a line for which there is no room.
+/// Where the lines go that scroll off the main page.
+pub(crate) trait PageLog: Log {
+    /// Plays the front of a chunk, up to the first event that isn't a VT220's, or up to a line for which there is no capacity.
     /// Returns how many bytes it played.
     fn feed(&mut self, terminal: &mut Terminal, piece: &[u8], out: &mut Vec<u8>) -> usize
         requires { vec_len out.old + 10 * length piece.now ≤ vec_capacity out.old }
@@ -45,29 +28,14 @@ pub(crate) trait Log: Drop {
         ensures terminals { PlaysTerminals terminal.old (take result piece.now) }
         ensures state { terminal.new ≡ (play terminal.old (take result piece.now)).state }
         ensures reports { out.new.items ≡ out.old.items ++ (play terminal.old (take result piece.now)).reports }
-        ensures keeps { Keeps self.old (scrolled_off terminal.old (take result piece.now)) self.new }
+        ensures keeps { Self.Keeps self.old (scrolled_off terminal.old (take result piece.now)) self.new }
         ensures bounded { vec_len out.new ≤ vec_len out.old + 10 * result }
         ensures capacity { vec_capacity out.old ≤ vec_capacity out.new };
 
     /// Gets the lines that an event is about to scroll off.
     fn event(&mut self, terminal: &Terminal, kind: EventKind, values: &[u16])
-        requires { HasRoom self.old 9528 }
-        ensures { Keeps self.old (page_line_off (event_of kind values.now) terminal.now.display) self.new };
-
-    /// Plays a character beyond ASCII, which causes no report.
-    fn character(&mut self, terminal: &mut Terminal, c: char, out: &mut Vec<u8>)
-        requires beyond { 0x80 ≤ c }
-        requires room { vec_len out.old + 10 ≤ vec_capacity out.old }
-        requires lines_room { HasRoom self.old 8734 }
-        ensures state { terminal.new ≡ (play terminal.old (translation terminal.old c)).state }
-        ensures silent { (play terminal.old (translation terminal.old c)).reports ≡ [] }
-        ensures out { out.new.items ≡ out.old.items }
-        ensures keeps { Keeps self.old (scrolled_off terminal.old (translation terminal.old c)) self.new }
-        ensures left { (n : ℕ) → HasRoom self.old (n + 8734) → HasRoom self.new n }
-        ensures capacity { vec_capacity out.old ≤ vec_capacity out.new };
-
-    /// Lines in turn are the lines joined, and where there is room there is room for less.
-    ghost kept: { AreKept Keeps HasRoom };
+        requires { Self.HasRoom self.old 9528 }
+        ensures { Self.Keeps self.old (page_line_off (event_of kind values.now) terminal.now.display) self.new };
 }
 
 /// Plays the front of a chunk, up to the first event that isn't a VT220's. Returns how many bytes it played. Speed: nothing else
@@ -86,23 +54,7 @@ pub(crate) fn feed_terminals(terminal: &mut Terminal, piece: &[u8], out: &mut Ve
 }
 
 /// The lines go nowhere.
-impl Log for Finder {
-    ghost use Rattle.std.specs.Prelude.{⊤};
-    ghost use Rattle.vt_xterm.specs.Private.Logs.{nowhere_kept};
-
-    ghost Keeps = { λ o rows p. ⊤ };
-
-    ghost HasRoom = { λ o n. ⊤ };
-
-    ghost IsFull = { λ o. ⊥ };
-
-    ghost kept = { nowhere_kept };
-
-    #[inline(always)]
-    fn is_full(&self) -> bool {
-        false
-    }
-
+impl PageLog for Nobody {
     #[inline(always)]
     fn feed(&mut self, terminal: &mut Terminal, piece: &[u8], out: &mut Vec<u8>) -> usize {
         feed_terminals(terminal, piece, out)
@@ -110,36 +62,10 @@ impl Log for Finder {
 
     #[inline(always)]
     fn event(&mut self, _: &Terminal, _: EventKind, _: &[u16]) {}
-
-    #[inline(always)]
-    fn character(&mut self, terminal: &mut Terminal, c: char, out: &mut Vec<u8>) {
-        feed_beyond_ascii(terminal, c, out);
-    }
 }
 
 /// The lines go behind others.
-impl Log for Lines<'_, Finder> {
-    ghost use Rattle.std.specs.Prelude.{◌≡◌, ◌≤◌, ◌<◌, ◌+◌, ◌++◌, ◌⊎◌, flat_map, vec_len, vec_capacity};
-    ghost use Rattle.vt_term.specs.Text.{line_text};
-    ghost use Rattle.vt_xterm.specs.Private.Logs.{lines_kept};
-
-    ghost Keeps = { λ o rows p. (p.lines.ghost_name ≡ o.lines.ghost_name) × (p.end ≡ o.end)
-        × (p.lines.now.items ≡ o.lines.now.items ++ flat_map line_text rows)
-        × (vec_capacity o.lines.now ≤ vec_capacity p.lines.now)
-        × (vec_len o.lines.now ≤ o.end → vec_len p.lines.now ≤ o.end) };
-
-    ghost HasRoom = { λ o n. (vec_len o.lines.now + n ≤ vec_capacity o.lines.now) × (vec_len o.lines.now + n ≤ o.end) };
-
-    ghost IsFull = { λ o. (vec_capacity o.lines.now < vec_len o.lines.now + 19056) ⊎ (o.end < vec_len o.lines.now + 19056) };
-
-    ghost kept = { lines_kept (λ o. o.lines.now.items) (λ o. vec_len o.lines.now) (λ o. o.end)
-        (λ o. vec_capacity o.lines.now) (λ o. o.lines.ghost_name) };
-
-    #[inline(always)]
-    fn is_full(&self) -> bool {
-        self.end.min(self.lines.capacity()) < self.lines.len() + LINES_LIMIT
-    }
-
+impl PageLog for Lines<'_, Finder> {
     #[inline(always)]
     fn feed(&mut self, terminal: &mut Terminal, piece: &[u8], out: &mut Vec<u8>) -> usize {
         terminal.feed_observed(piece, self, out)
@@ -147,11 +73,6 @@ impl Log for Lines<'_, Finder> {
 
     fn event(&mut self, terminal: &Terminal, kind: EventKind, values: &[u16]) {
         push_line_off(terminal, kind, values, self.lines);
-    }
-
-    #[inline(always)]
-    fn character(&mut self, terminal: &mut Terminal, c: char, out: &mut Vec<u8>) {
-        feed_beyond_ascii_log(terminal, c, out, self.lines);
     }
 }
 

@@ -1,10 +1,15 @@
--- What feeding UTF-8 leaves: the state, the pending part, and the reports appended.
+-- What feeding UTF-8 leaves: the state, the pending part, and the reports appended. And the rows that it scrolls off.
 use Rattle.std.specs.Prelude.{◌≡◌, ℕ, List, ◌++◌}
+use Rattle.vt_screen.specs.declared.cell.Cell.{Cell}
 use Rattle.vt_term.specs.State.{State}
 use Rattle.vt_utf8.specs.Decoding.{pending_after}
-use Rattle.vt_utf8.specs.Play.{play_utf8}
+use Rattle.vt_term.specs.Scrolling.{scrolled_off}
+use Rattle.vt_utf8.specs.Play.{translated, play_utf8}
 
 pub record FeedsUtf8 (s : State) (pending bytes : List ℕ) (t : State) (after before out : List ℕ) : Type 0 where
   pub state : t ≡ (play_utf8 s pending bytes).state
   pub left : after ≡ pending_after pending bytes
   pub reports : out ≡ before ++ (play_utf8 s pending bytes).reports
+
+abbrev pub utf8_off : State → List ℕ → List ℕ → List (List Cell)
+utf8_off s pending bytes = scrolled_off s (translated s pending bytes)

@@ -1,7 +1,5 @@
-use Rattle.std.proofs.Common.{◌≡◌, length, vec_len, ◌+◌, ◌-◌, ◌≤◌, ◌*◌, arith, ap, ◌∙◌, ◌++◌, append-nil, ℕ, List, take, drop, length-drop}
-use Rattle.std.proofs.Math.Seq.{take-length}
+use Rattle.std.proofs.Common.{◌≡◌, length, vec_len, ◌+◌, ◌-◌, ◌≤◌, arith, ap, ◌∙◌, ◌++◌, append-nil, ℕ, List, take, drop, length-drop}
 use Rattle.std.proofs.lemmas.List.{length-take-le}
-use Rattle.vt_term.specs.State.{State}
 use Rattle.vt_term.specs.Play.{play}
 use Rattle.vt_term.specs.Scrolling.{log}
 use Rattle.vt_utf8.proofs.Silence.{part-silent, state-more, log-more, all-of}

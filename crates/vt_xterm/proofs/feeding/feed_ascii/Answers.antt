@@ -13,7 +13,7 @@ returns-clause-fed g c =
 
 pub returns-clause-keeps : goal.returns-clause-keeps
 returns-clause-keeps g c =
-    keeps-ascii g.L.Log.Keeps g.L.Log.HasRoom g.met.L.Log.kept c.one_split.ensures c.args.terminal.now _ _
+    keeps-ascii g.L.Log.Keeps g.L.Log.HasRoom g.L.Log.IsFull g.met.L.Log.kept c.one_split.ensures c.args.terminal.now _ _
     (take c.feed_bytes.result c.args.run.now) c.args.log.now c.feed_bytes.new.log c.front.view_is
     c.width.ensures.sound.held c.requires.nothing
     (All-take (λ b. b < 0x80) c.feed_bytes.result c.args.run.now c.requires.ascii) c.feed_bytes.ensures.keeps

@@ -11,7 +11,7 @@ returns-then-is_alternate-clause-leaves g c =
 
 pub returns-then-is_alternate-clause-keeps : goal.returns-then-is_alternate-clause-keeps
 returns-then-is_alternate-clause-keeps g c =
-    keeps-alternate g.L.Log.Keeps g.L.Log.HasRoom g.met.L.Log.kept c.args.terminal.now c.args.pages.now c.args.c c.args.log.now
+    keeps-alternate g.L.Log.Keeps g.L.Log.HasRoom g.L.Log.IsFull g.met.L.Log.kept c.args.terminal.now c.args.pages.now c.args.c c.args.log.now
     c.requires.beyond (sym c.is_alternate.ensures ∙ c.if-is_alternate.true)
 
 pub returns-then-is_alternate-clause-left : goal.returns-then-is_alternate-clause-left
@@ -25,5 +25,5 @@ returns-else-is_alternate-clause-leaves g c =
 
 pub returns-else-is_alternate-clause-keeps : goal.returns-else-is_alternate-clause-keeps
 returns-else-is_alternate-clause-keeps g c =
-    keeps-main g.L.Log.Keeps g.L.Log.HasRoom g.met.L.Log.kept c.args.terminal.now c.args.pages.now c.args.c c.args.log.now
+    keeps-main g.L.Log.Keeps g.L.Log.HasRoom g.L.Log.IsFull g.met.L.Log.kept c.args.terminal.now c.args.pages.now c.args.c c.args.log.now
     c.character.new.self c.requires.beyond (sym c.is_alternate.ensures ∙ c.if-is_alternate.false) c.character.ensures.keeps

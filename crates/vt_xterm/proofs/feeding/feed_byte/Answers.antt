@@ -12,7 +12,7 @@ returns-clause-fed g c =
 
 pub returns-clause-keeps : goal.returns-clause-keeps
 returns-clause-keeps g c =
-    keeps-byte g.L.Log.Keeps g.L.Log.HasRoom g.met.L.Log.kept c.args.terminal.now c.feed_lost.new.terminal _ _ c.args.b
+    keeps-byte g.L.Log.Keeps g.L.Log.HasRoom g.L.Log.IsFull g.met.L.Log.kept c.args.terminal.now c.feed_lost.new.terminal _ _ c.args.b
     (option_to_list c.push-lost.result.0) (option_to_list c.push-lost.result.1) c.args.log.now c.feed_lost.new.log
     c.feed_completed.new.log c.front.view_is c.push-lost.ensures.characters c.feed_lost.ensures.leaves.whole
     c.feed_lost.ensures.keeps c.feed_completed.ensures.keeps

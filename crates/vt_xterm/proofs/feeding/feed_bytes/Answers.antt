@@ -4,7 +4,8 @@ use Rattle.vt_xterm.specs.Play.{WholePlayed, play_bytes}
 use Rattle.vt_xterm.specs.Private.Feeds.{whole_of}
 use Rattle.vt_xterm.proofs.Cuts.{bytes-nothing}
 use Rattle.vt_xterm.proofs.Fed.{feeds-nothing, feeds-more}
-use Rattle.vt_xterm.proofs.Logged.{keeps-nothing, keeps-bytes}
+use Rattle.vt_utf8.proofs.Logged.{keeps-nothing}
+use Rattle.vt_xterm.proofs.Logged.{keeps-bytes}
 use Rattle.vt_xterm.proofs.feeding.feed_bytes.Goals as goal
 
 pub loop-at-init : goal.loop-at-init
@@ -12,7 +13,7 @@ loop-at-init g c =
     let w = whole_of c.args.terminal.now c.args.pages.now in record {
       within = omega arith;
       fed = feeds-nothing c.one_split.ensures w c.args.out.now.items c.width.ensures.sound.held;
-      keeps = keeps-nothing g.L.Log.Keeps g.L.Log.HasRoom g.met.L.Log.kept c.args.log.now (play_bytes w []).lines
+      keeps = keeps-nothing g.L.Log.Keeps g.L.Log.HasRoom g.L.Log.IsFull g.met.L.Log.kept c.args.log.now (play_bytes w []).lines
           (ap (λ (x : WholePlayed). x.lines) (bytes-nothing c.one_split.ensures w c.width.ensures.sound.held));
       bounded = omega arith;
       capacity = omega arith;
@@ -29,7 +30,7 @@ loop-at-preserved g c =
       fed = feeds-more c.one_split.ensures w v (whole_of next.new.terminal next.new.pages) c.args.piece.now c.loop-at.at
           next.result c.args.out.now.items c.loop-at.out.items next.new.out.items c.loop-at.invariant.fed
           (rw rest at next.ensures.fed);
-      keeps = keeps-bytes g.L.Log.Keeps g.L.Log.HasRoom g.met.L.Log.kept c.one_split.ensures w v c.args.piece.now c.loop-at.at
+      keeps = keeps-bytes g.L.Log.Keeps g.L.Log.HasRoom g.L.Log.IsFull g.met.L.Log.kept c.one_split.ensures w v c.args.piece.now c.loop-at.at
           next.result c.args.log.now c.loop-at.log next.new.log c.loop-at.invariant.fed.whole c.loop-at.invariant.keeps
           (rw rest at next.ensures.keeps);
       bounded = omega arith;
@@ -53,6 +54,6 @@ returns-then-count-eq0-clause-keeps g c =
     let w = whole_of c.args.terminal.now c.args.pages.now in
     let v = whole_of c.loop-at.terminal c.loop-at.pages in
     let none : c.loop-at.at + next.result ≡ c.loop-at.at = omega (arith, c.if-count-eq0.true) in
-    rw none at (keeps-bytes g.L.Log.Keeps g.L.Log.HasRoom g.met.L.Log.kept c.one_split.ensures w v c.args.piece.now c.loop-at.at
+    rw none at (keeps-bytes g.L.Log.Keeps g.L.Log.HasRoom g.L.Log.IsFull g.met.L.Log.kept c.one_split.ensures w v c.args.piece.now c.loop-at.at
     next.result c.args.log.now c.loop-at.log next.new.log c.loop-at.invariant.fed.whole c.loop-at.invariant.keeps
     (rw (rest-of c.args.piece.now c.loop-at.at) at next.ensures.keeps))

@@ -14,6 +14,6 @@ returns-then-c-lt128-clause-leaves g c =
 
 pub returns-then-c-lt128-clause-keeps : goal.returns-then-c-lt128-clause-keeps
 returns-then-c-lt128-clause-keeps g c =
-    keeps-ascii-character g.L.Log.Keeps g.L.Log.HasRoom g.met.L.Log.kept (whole_of c.args.terminal.now c.args.pages.now) c.args.c
+    keeps-ascii-character g.L.Log.Keeps g.L.Log.HasRoom g.L.Log.IsFull g.met.L.Log.kept (whole_of c.args.terminal.now c.args.pages.now) c.args.c
     c.feed_event.result c.args.log.now c.feed_event.new.log c.if-c-lt128.true c.feed_event.ensures.some
     c.feed_event.ensures.keeps

@@ -14,7 +14,7 @@ returns-in_default-clause-fed g c =
 pub returns-in_default-clause-keeps : goal.returns-in_default-clause-keeps
 returns-in_default-clause-keeps g c =
     let next = c.next_event-bytes in
-    part-keeps g.L.Log.Keeps g.L.Log.HasRoom g.met.L.Log.kept (whole_of c.args.terminal.now c.args.pages.now)
+    part-keeps g.L.Log.Keeps g.L.Log.HasRoom g.L.Log.IsFull g.met.L.Log.kept (whole_of c.args.terminal.now c.args.pages.now)
     (take next.result.bytes c.args.piece.now) c.args.log.now (sym (rw c.in_default.is at next.ensures.event))
 
 pub returns-clause-fed : goal.returns-clause-fed
@@ -28,7 +28,7 @@ returns-clause-fed g c =
 pub returns-clause-keeps : goal.returns-clause-keeps
 returns-clause-keeps g c =
     let next = c.next_event-bytes in
-    event-keeps g.L.Log.Keeps g.L.Log.HasRoom g.met.L.Log.kept c.args.terminal.now next.new.self c.args.pages.now
+    event-keeps g.L.Log.Keeps g.L.Log.HasRoom g.L.Log.IsFull g.met.L.Log.kept c.args.terminal.now next.new.self c.args.pages.now
     (take next.result.bytes c.args.piece.now) (event_of c.in-Some.kind c.as_slice.result.now) c.args.log.now
     c.log_event.new.log (rw c.as_slice.ensures.value (sym (rw c.in-Some.is at next.ensures.event))) next.ensures.state
     c.log_event.ensures

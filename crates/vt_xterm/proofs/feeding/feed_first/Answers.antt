@@ -7,7 +7,7 @@ returns-then-is_full-clause-fed g c = xterm-none c.args.terminal.now c.args.fron
 
 pub returns-then-is_full-clause-keeps : goal.returns-then-is_full-clause-keeps
 returns-then-is_full-clause-keeps g c =
-    keeps-none g.L.Log.Keeps g.L.Log.HasRoom g.met.L.Log.kept c.args.terminal.now c.args.front.now c.args.log.now
+    keeps-none g.L.Log.Keeps g.L.Log.HasRoom g.L.Log.IsFull g.met.L.Log.kept c.args.terminal.now c.args.front.now c.args.log.now
 
 pub returns-in-Some-clause-fed : goal.returns-in-Some-clause-fed
 returns-in-Some-clause-fed g c =
@@ -17,5 +17,5 @@ returns-in-Some-clause-fed g c =
 
 pub returns-in-Some-clause-keeps : goal.returns-in-Some-clause-keeps
 returns-in-Some-clause-keeps g c =
-    keeps-whole g.L.Log.Keeps g.L.Log.HasRoom g.met.L.Log.kept c.args.terminal.now _ _ c.args.piece.now c.in-Some.c c.in-Some.size
+    keeps-whole g.L.Log.Keeps g.L.Log.HasRoom g.L.Log.IsFull g.met.L.Log.kept c.args.terminal.now _ _ c.args.piece.now c.in-Some.c c.in-Some.size
     c.args.log.now c.feed_beyond.new.log c.front.view_is c.requires.nothing c.in-Some.ensures.1 c.feed_beyond.ensures.keeps

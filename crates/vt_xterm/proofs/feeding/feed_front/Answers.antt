@@ -14,7 +14,7 @@ loop-at-preserved g c =
           c.loop-at.front c.feed_next-count.new.front c.args.piece.now c.loop-at.at c.feed_next-count.result
           c.args.out.now.items c.loop-at.out.items c.feed_next-count.new.out.items c.loop-at.invariant.fed
           (rw rest at c.feed_next-count.ensures.fed);
-      keeps = keeps-xterm g.L.Log.Keeps g.L.Log.HasRoom g.met.L.Log.kept (behind c.args.terminal.now c.args.front.now)
+      keeps = keeps-xterm g.L.Log.Keeps g.L.Log.HasRoom g.L.Log.IsFull g.met.L.Log.kept (behind c.args.terminal.now c.args.front.now)
           (behind c.loop-at.terminal c.loop-at.front) c.args.front.now.pending c.loop-at.front.pending c.args.piece.now
           c.loop-at.at c.feed_next-count.result c.args.log.now c.loop-at.log c.feed_next-count.new.log
           c.loop-at.invariant.fed.leaves.whole c.loop-at.invariant.fed.left c.loop-at.invariant.keeps
@@ -36,7 +36,7 @@ pub returns-then-count-eq0-clause-keeps : goal.returns-then-count-eq0-clause-kee
 returns-then-count-eq0-clause-keeps g c =
     let next = c.feed_next-count in
     let none : c.loop-at.at + next.result ≡ c.loop-at.at = omega (arith, c.if-count-eq0.true) in
-    rw none at (keeps-xterm g.L.Log.Keeps g.L.Log.HasRoom g.met.L.Log.kept (behind c.args.terminal.now c.args.front.now)
+    rw none at (keeps-xterm g.L.Log.Keeps g.L.Log.HasRoom g.L.Log.IsFull g.met.L.Log.kept (behind c.args.terminal.now c.args.front.now)
     (behind c.loop-at.terminal c.loop-at.front) c.args.front.now.pending c.loop-at.front.pending c.args.piece.now
     c.loop-at.at next.result c.args.log.now c.loop-at.log next.new.log c.loop-at.invariant.fed.leaves.whole
     c.loop-at.invariant.fed.left c.loop-at.invariant.keeps (rw (rest-of c.args.piece.now c.loop-at.at) at next.ensures.keeps))

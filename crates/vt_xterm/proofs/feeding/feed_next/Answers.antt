@@ -7,4 +7,4 @@ returns-then-is_full-clause-fed g c = xterm-none c.args.terminal.now c.args.fron
 
 pub returns-then-is_full-clause-keeps : goal.returns-then-is_full-clause-keeps
 returns-then-is_full-clause-keeps g c =
-    keeps-none g.L.Log.Keeps g.L.Log.HasRoom g.met.L.Log.kept c.args.terminal.now c.args.front.now c.args.log.now
+    keeps-none g.L.Log.Keeps g.L.Log.HasRoom g.L.Log.IsFull g.met.L.Log.kept c.args.terminal.now c.args.front.now c.args.log.now

@@ -11,7 +11,7 @@ returns-then-is_alternate-clause-fed g c =
 
 pub returns-then-is_alternate-clause-keeps : goal.returns-then-is_alternate-clause-keeps
 returns-then-is_alternate-clause-keeps g c =
-    terminals-alternate g.L.Log.Keeps g.L.Log.HasRoom g.met.L.Log.kept c.args.terminal.now c.args.pages.now
+    terminals-alternate g.L.Log.Keeps g.L.Log.HasRoom g.L.Log.IsFull g.met.L.Log.kept c.args.terminal.now c.args.pages.now
     (take c.feed_terminals.result c.args.piece.now) c.args.log.now c.feed_terminals.ensures.terminals (sym c.is_alternate.ensures ∙ c.if-is_alternate.true)
 
 pub returns-else-is_alternate-clause-fed : goal.returns-else-is_alternate-clause-fed
@@ -22,5 +22,5 @@ returns-else-is_alternate-clause-fed g c =
 
 pub returns-else-is_alternate-clause-keeps : goal.returns-else-is_alternate-clause-keeps
 returns-else-is_alternate-clause-keeps g c =
-    terminals-main g.L.Log.Keeps g.L.Log.HasRoom g.met.L.Log.kept c.args.terminal.now c.args.pages.now (take c.feed.result c.args.piece.now)
+    terminals-main g.L.Log.Keeps g.L.Log.HasRoom g.L.Log.IsFull g.met.L.Log.kept c.args.terminal.now c.args.pages.now (take c.feed.result c.args.piece.now)
     c.args.log.now c.feed.new.self c.feed.ensures.terminals (sym c.is_alternate.ensures ∙ c.if-is_alternate.false) c.feed.ensures.keeps

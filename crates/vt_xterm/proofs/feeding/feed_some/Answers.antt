@@ -15,7 +15,7 @@ returns-clause-fed g c =
 pub returns-clause-keeps : goal.returns-clause-keeps
 returns-clause-keeps g c =
     let played = c.feed_page-played in
-    keeps-bytes g.L.Log.Keeps g.L.Log.HasRoom g.met.L.Log.kept c.one_split.ensures (whole_of c.args.terminal.now c.args.pages.now)
+    keeps-bytes g.L.Log.Keeps g.L.Log.HasRoom g.L.Log.IsFull g.met.L.Log.kept c.one_split.ensures (whole_of c.args.terminal.now c.args.pages.now)
     (whole_of played.new.terminal c.args.pages.now) c.args.piece.now played.result c.feed_event.result c.args.log.now
     played.new.log c.feed_event.new.log played.ensures.fed.whole played.ensures.keeps
     (rw (rest-of c.args.piece.now played.result) at c.feed_event.ensures.keeps)

@@ -5,10 +5,10 @@ use Rattle.vt_xterm.proofs.feeding.log_event.Goals as goal
 
 pub returns-then-is_alternate : goal.returns-then-is_alternate
 returns-then-is_alternate g c =
-    alternate-keeps g.L.Log.Keeps g.L.Log.HasRoom g.met.L.Log.kept c.args.terminal.now c.args.pages.now
+    alternate-keeps g.L.Log.Keeps g.L.Log.HasRoom g.L.Log.IsFull g.met.L.Log.kept c.args.terminal.now c.args.pages.now
     (event_of c.args.kind c.args.values.now) c.args.log.now (sym c.is_alternate.ensures ∙ c.if-is_alternate.true)
 
 pub returns : goal.returns
 returns g c =
-    main-keeps g.L.Log.Keeps g.L.Log.HasRoom g.met.L.Log.kept c.args.terminal.now c.args.pages.now (event_of c.args.kind c.args.values.now)
+    main-keeps g.L.Log.Keeps g.L.Log.HasRoom g.L.Log.IsFull g.met.L.Log.kept c.args.terminal.now c.args.pages.now (event_of c.args.kind c.args.values.now)
     c.args.log.now c.event.new.self (sym c.is_alternate.ensures ∙ c.if-is_alternate.false) c.event.ensures

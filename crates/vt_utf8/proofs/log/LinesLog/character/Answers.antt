@@ -1,10 +1,10 @@
 use Rattle.std.proofs.Common.{refl, arith}
 use Rattle.vt_term.specs.Scrolling.{log}
-use Rattle.vt_xterm.proofs.log.LinesFinderLog.character.Goals as goal
+use Rattle.vt_utf8.proofs.log.LinesLog.character.Goals as goal
 
 pub returns-clause-keeps : goal.returns-clause-keeps
 unfolding log
-returns-clause-keeps c =
+returns-clause-keeps g c =
     let fed = c.feed_beyond_ascii_log.ensures in (
       refl,
       refl,

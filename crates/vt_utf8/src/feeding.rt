@@ -374,12 +374,7 @@ fn feed_completed<L: BytesLog>(
 }
 
 /// Plays a character.
-fn feed_character<L: BytesLog>(
-    terminal: &mut Terminal,
-    c: char,
-    log: &mut L,
-    out: &mut Vec<u8>,
-)
+fn feed_character<L: BytesLog>(terminal: &mut Terminal, c: char, log: &mut L, out: &mut Vec<u8>)
     requires room { vec_len out.old + 10 ≤ vec_capacity out.old }
     requires lines_room { L.HasRoom log.old 8734 }
     ensures state { terminal.new ≡ (play terminal.old (translation terminal.old c)).state }

@@ -113,6 +113,9 @@ static void none_taken(void) {
     static uint8_t xterm_lines[VT220_XTERM_LINES_LIMIT];
     CHECK(vt220_feed_log_xterm(&t, &s, &x, BYTES("\033[?1049l\xC3\xA9\033[99S"), out, 220, &written, xterm_lines, sizeof xterm_lines, &logged) == 15);
     CHECK(logged > 0 && vt220_xterm_copy(&y, &x) == VT220_OK && !vt220_xterm_alternate(&y));
+    vt220_utf8 u = {{0}, 0};
+    CHECK(vt220_feed_utf8(&t, &u, BYTES("\xC3\xA9\a\033[5n"), out, 220, &written) == 7 && written == 4);
+    CHECK(vt220_feed_log_utf8(&t, &s, &u, BYTES("\xC3\xA9\a\033[24;1H\n"), out, 220, &written, xterm_lines, sizeof xterm_lines, &logged) == 11 && logged > 0);
     CHECK(calls == 0);
     vt220_close(&t);
     vt220_close(&to);

@@ -43,6 +43,20 @@ feeds-alone s t pending piece out after lines n at lines_at written state count 
   rings = record { none = λ _. refl; bells = λ on. absurd cc };
 }
 
+-- UTF-8 with its lines, and no bells
+pub feeds-logged : (s t : State) (pending piece out after lines lines' : List ℕ) (n at lines_at written lines_written : ℕ)
+    → t ≡ (play_utf8 s pending (take n piece)).state
+    → WritesAt (play_utf8 s pending (take n piece)).reports out at after written
+    → WritesAt (log s (translated s pending (take n piece))) lines lines_at lines' lines_written
+    → Feeds true false s (translated s pending (take n piece)) t out at after lines lines_at lines' written lines_written 0
+unfolding play_utf8
+feeds-logged s t pending piece out after lines lines' n at lines_at written lines_written state sent off = record {
+  state = state;
+  sent = sent;
+  off = off;
+  rings = record { none = λ _. refl; bells = λ on. absurd cc };
+}
+
 same-length : (xs before middle : List ℕ) (at m : ℕ) → WritesAt xs before at middle m → length middle ≡ length before
 same-length xs before middle at m w =
     let front = length-take-le at before (omega (arith, w.fits)) in
@@ -224,40 +238,6 @@ played-all logs n len w lw out at lines lines_at (inr none) (inr (inl full)) wit
 played-all logs n len w lw out at lines lines_at (inr none) (inr (inr (on, full))) within short room lines_room few =
     let enough = lines_room on in
     omega (arith, full, enough, few, within, short)
-
--- ---- ASCII with nothing pending
-
-pub nothing-pending : (pending : List ℕ) → (length pending == 0) ≡ true → pending ≡ []
-nothing-pending [] h = refl
-nothing-pending (b ∷ pending) h = absurd (grind (arith, nat_tests))
-
-pub some-played : (logs : Bool) (n run w lw out at lines lines_at : ℕ)
-    → (n ≡ run) ⊎ ((out < at + w + 10) ⊎ ((logs ≡ true) × (lines < lines_at + lw + 397))) → 1 ≤ run → at + 10 ≤ out
-    → (logs ≡ true → lines_at + 17468 ≤ lines) → w ≤ 10 * n → lw ≤ 397 * n → 1 ≤ n
-some-played logs n run w lw out at lines lines_at (inl whole) some room lines_room few few_lines =
-    omega (arith, whole, some)
-some-played logs n run w lw out at lines lines_at (inr (inl full)) some room lines_room few few_lines =
-    omega (arith, full, room, few)
-some-played logs n run w lw out at lines lines_at (inr (inr (on, full))) some room lines_room few few_lines =
-    let enough = lines_room on in omega (arith, full, enough, few_lines)
-
-pub ascii-front : (translates : (s : State) (bytes : List ℕ) → All (λ b. b < 0x80) bytes → translated s [] bytes ≡ bytes)
-    → (s : State) (pending piece : List ℕ) (n run : ℕ) → (length pending == 0) ≡ true → n ≤ run
-    → All (λ b. b < 0x80) (take run piece) → take n (take run piece) ≡ translated s pending (take n piece)
-ascii-front translates s pending piece n run empty within all =
-    let front : All (λ b. b < 0x80) (take n (take run piece)) = All-take (λ b. b < 0x80) n (take run piece) all in
-    let nothing = nothing-pending pending empty in
-    rw nothing (sym (translates s (take n (take run piece)) front)
-    ∙ ap (λ (xs : List ℕ). translated s [] xs) (take-take n run piece within))
-
-pub ascii-left : (leaves : (bytes : List ℕ) → All (λ b. b < 0x80) bytes → pending_after [] bytes ≡ [])
-    → (pending piece : List ℕ) (n run : ℕ) → (length pending == 0) ≡ true → n ≤ run
-    → All (λ b. b < 0x80) (take run piece) → pending ≡ pending_after pending (take n piece)
-ascii-left leaves pending piece n run empty within all =
-    let front : All (λ b. b < 0x80) (take n (take run piece)) = All-take (λ b. b < 0x80) n (take run piece) all in
-    let nothing = nothing-pending pending empty in
-    rw nothing (sym (leaves (take n (take run piece)) front)
-    ∙ ap (λ (xs : List ℕ). pending_after [] xs) (take-take n run piece within))
 
 -- ---- a chunk
 

@@ -182,7 +182,7 @@ fn any_turn(
     }
 }
 
-/// Returns whether there is room for the lines of two screens, or there is no log.
+/// Returns whether there is capacity for the lines of two screens, or there is no log.
 fn has_room(lines: &[u8], lines_written: usize, logs: bool) -> bool
     requires { lines_written ≤ length lines.now }
     ensures room { OnTrue result (logs ≡ true → lines_written + LINES_LIMIT ≤ length lines.now) }

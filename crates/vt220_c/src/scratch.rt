@@ -18,14 +18,14 @@ use crate::behind::feed_xterm;
 use crate::bytes::{Copied, copy_out};
 use crate::form::Form;
 use crate::inner::{CHUNK, Inner, Logged};
-use crate::translating::{UTF8_LINES_LIMIT, feed_utf8};
+use crate::translating::feed_utf8;
 use std::alloc::{AllocError, Global};
 use std::marker::Model;
 use vt_paint::repaint_reserved;
 use vt_picture::{PICTURE_LIMIT, picture_reserved, show_reserved};
 use vt_term::{REPORT_LIMIT, ROW_TEXT_LIMIT, Terminal};
 use vt_update::{UPDATE_LIMIT, update_reserved};
-use vt_utf8::Decoder;
+use vt_utf8::{Decoder, UTF8_LINES_LIMIT};
 use vt_xterm::{Front, LINES_LIMIT};
 
 const _: () = prove!(ROW_TEXT_LIMIT * CHUNK <= PICTURE_LIMIT && LINES_LIMIT <= PICTURE_LIMIT);

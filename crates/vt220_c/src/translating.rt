@@ -12,13 +12,8 @@ use crate::inner::{CHUNK, Inner, Logged};
 use vt_syntax::laws::{controls, one_split};
 use vt_term::laws::{cuts, log_cuts};
 use vt_term::{REPORT_LIMIT, ROW_TEXT_LIMIT};
-use vt_utf8::laws::{ascii, cuts as utf8_cuts, one_byte, silence};
-use vt_utf8::{BYTE_LIMIT, Decoder, TRANSLATION_LIMIT, ascii_run, translated};
-
-/// The most bytes of lines for one byte of UTF-8.
-pub(crate) const UTF8_LINES_LIMIT: usize = BYTE_LIMIT * ROW_TEXT_LIMIT;
-
-const _: () = prove!(UTF8_LINES_LIMIT == 17468);
+use vt_utf8::laws::{cuts as utf8_cuts, one_byte, silence};
+use vt_utf8::{Decoder, TRANSLATION_LIMIT, UTF8_LINES_LIMIT, translated};
 
 /// Plays the front of bytes, and writes behind what is in the buffers. There is a log if `logs` is true.
 fn feed_behind(
@@ -167,38 +162,60 @@ fn feed_byte(
     }
 }
 
-/// Plays the front of a chunk of UTF-8 without a log, and counts no bells. Speed: this needs no search for what may ring
-/// or scroll a line off, so many bytes are played at once.
-fn feed_unobserved(
+/// Plays the front of a chunk of UTF-8, and counts no bells. Speed: this needs no search for what may ring, so many bytes are
+/// played at once.
+fn feed_many(
     inner: &mut Inner,
     decoder: &mut Decoder,
     piece: &[u8],
+    logs: bool,
     out: &mut [u8],
     written: usize,
+    lines: &mut [u8],
+    lines_written: usize,
+    room: &mut Vec<u8>,
 ) -> Logged
     requires some { 1 ≤ length piece.now }
     requires out { written + REPORT_LIMIT ≤ length out.old }
+    requires lines { lines_written ≤ length lines.old }
+    requires lines_room { logs ≡ true → lines_written + UTF8_LINES_LIMIT ≤ length lines.old }
+    requires capacity { logs ≡ true → ROW_TEXT_LIMIT * CHUNK ≤ vec_capacity room.old }
     ensures some { 1 ≤ result.taken }
     ensures within { result.taken ≤ length piece.now }
-    ensures fed { (lines : List ℕ) (at : ℕ) → at ≤ length lines → Feeds false false inner.old
-        (translated inner.old decoder.old (take result.taken piece.now)) inner.new out.old written out.new
-        lines at lines result.written 0 0 }
-    ensures fits { written + result.written ≤ length out.old }
+    ensures fed { Feeds logs false inner.old (translated inner.old decoder.old (take result.taken piece.now)) inner.new
+        out.old written out.new lines.old lines_written lines.new result.written result.lines_written 0 }
     ensures pending { decoder.new ≡ pending_after decoder.old (take result.taken piece.now) }
-    ensures no_lines { result.lines_written ≡ 0 }
     ensures no_bells { result.bells ≡ 0 }
+    ensures capacity { vec_capacity room.old ≤ vec_capacity room.new }
 {
-    let front = inner.feed_utf8_front(decoder, piece, out, written);
-    Logged {
-        taken: front.taken,
-        written: front.written,
-        lines_written: 0,
-        bells: 0,
+    if logs {
+        let front = inner.feed_utf8_log_front(
+            decoder,
+            piece,
+            out,
+            written,
+            lines,
+            lines_written,
+            room,
+        );
+        Logged {
+            taken: front.taken,
+            written: front.written,
+            lines_written: front.lines_written,
+            bells: 0,
+        }
+    } else {
+        let front = inner.feed_utf8_front(decoder, piece, out, written);
+        Logged {
+            taken: front.taken,
+            written: front.written,
+            lines_written: 0,
+            bells: 0,
+        }
     }
 }
 
-/// Plays the front of a chunk of UTF-8. With a log or bells that is as many of the ASCII bytes there as there is capacity
-/// for, if nothing is pending, otherwise a byte.
+/// Plays the front of a chunk of UTF-8: a byte if bells are counted, otherwise as many bytes as there is capacity for.
 fn feed_front(
     inner: &mut Inner,
     decoder: &mut Decoder,
@@ -226,38 +243,32 @@ fn feed_front(
     ensures few_bells { result.bells ≤ result.taken }
     ensures capacity { vec_capacity room.old ≤ vec_capacity room.new }
 {
-    if !counts && !logs {
-        return feed_unobserved(inner, decoder, piece, out, written);
+    if counts {
+        feed_byte(
+            inner,
+            decoder,
+            piece[0],
+            counts,
+            logs,
+            out,
+            written,
+            lines,
+            lines_written,
+            room,
+        )
+    } else {
+        feed_many(
+            inner,
+            decoder,
+            piece,
+            logs,
+            out,
+            written,
+            lines,
+            lines_written,
+            room,
+        )
     }
-    if decoder.is_empty() {
-        let run = ascii_run(piece);
-        if run > 0 {
-            ascii();
-            return feed_behind(
-                inner,
-                &piece[..run],
-                counts,
-                logs,
-                out,
-                written,
-                lines,
-                lines_written,
-                room,
-            );
-        }
-    }
-    feed_byte(
-        inner,
-        decoder,
-        piece[0],
-        counts,
-        logs,
-        out,
-        written,
-        lines,
-        lines_written,
-        room,
-    )
 }
 
 /// Returns whether buffers with so many free bytes have capacity for what a byte causes.

@@ -10,10 +10,10 @@ ghost use Rattle.vt220_c.specs.Written.{written_over};
 
 use crate::handle::Vt220;
 use crate::scratch_handle::Vt220Scratch;
-use crate::translating::{UTF8_LINES_LIMIT, feed_utf8};
+use crate::translating::feed_utf8;
 use std::alloc::Global;
 use vt_term::REPORT_LIMIT;
-use vt_utf8::{Decoder, cells, shown_as};
+use vt_utf8::{Decoder, UTF8_LINES_LIMIT, cells, shown_as};
 
 /// The pending part of UTF-8: the bytes of a character that isn't complete, and how many there are.
 #[repr(C)]

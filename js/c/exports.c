@@ -16,6 +16,8 @@ static uint8_t input[INPUT], reports[REPORTS], lines[LINES], out[VT220_PICTURE_L
 static vt220_cell cells[VT220_COLUMNS];
 static uint32_t part[VT220_COLUMNS]; /* the fields of a struct, in the header's order */
 static size_t written, lines_written;
+/* How many bytes of the buffers the calls use, which only a test changes. */
+static uint32_t reports_size = REPORTS, lines_size = LINES, out_size = VT220_PICTURE_LIMIT;
 
 _Static_assert(sizeof(vt220_cell) == 12, "JavaScript reads three words a cell");
 _Static_assert(LINES >= VT220_ROW_TEXT_LIMIT && REPORTS >= VT220_REPORT_LIMIT, "a call takes at least one byte");
@@ -63,11 +65,11 @@ EXPORT(close) void js_close(uint32_t t) {
 
 /* Feeds bytes of `input`. Returns how many were processed. */
 EXPORT(feed) uint32_t js_feed(uint32_t t, uint32_t from, uint32_t to) {
-    return (uint32_t)vt220_feed(AT(vt220, t), input + from, to - from, reports, REPORTS, &written);
+    return (uint32_t)vt220_feed(AT(vt220, t), input + from, to - from, reports, reports_size, &written);
 }
 
 EXPORT(feed_log) uint32_t js_feed_log(uint32_t t, uint32_t from, uint32_t to) {
-    return (uint32_t)vt220_feed_log(AT(vt220, t), &scratch, input + from, to - from, reports, REPORTS, &written, lines, LINES, &lines_written);
+    return (uint32_t)vt220_feed_log(AT(vt220, t), &scratch, input + from, to - from, reports, reports_size, &written, lines, lines_size, &lines_written);
 }
 
 EXPORT(bells) double js_bells(uint32_t t) { return (double)vt220_bells(AT(vt220, t)); }
@@ -77,7 +79,7 @@ EXPORT(copy) uint32_t js_copy(uint32_t to, uint32_t from) { return vt220_copy(AT
 /* --- what is written to `out` --- */
 
 #define WRITES(name) \
-    EXPORT(name) uint32_t js_##name(uint32_t t) { return vt220_##name(AT(vt220, t), &scratch, out, sizeof out, &written); }
+    EXPORT(name) uint32_t js_##name(uint32_t t) { return vt220_##name(AT(vt220, t), &scratch, out, out_size, &written); }
 
 WRITES(text)
 WRITES(show)
@@ -85,11 +87,11 @@ WRITES(picture)
 WRITES(repaint)
 
 EXPORT(row_text) uint32_t js_row_text(uint32_t t, uint32_t row) {
-    return vt220_row_text(AT(vt220, t), &scratch, row, out, sizeof out, &written);
+    return vt220_row_text(AT(vt220, t), &scratch, row, out, out_size, &written);
 }
 
 EXPORT(update) uint32_t js_update(uint32_t shown, uint32_t to) {
-    return vt220_update(AT(vt220, shown), AT(vt220, to), &scratch, out, sizeof out, &written);
+    return vt220_update(AT(vt220, shown), AT(vt220, to), &scratch, out, out_size, &written);
 }
 
 /* --- cells and parts of the state --- */
@@ -156,7 +158,7 @@ EXPORT(key) uint32_t js_key(uint32_t modes, uint32_t len) {
     const vt220_mode_set set = {
         .lnm = modes >> 3 & 1, .decckm = modes >> 4 & 1, .keypad_application = modes >> 11 & 1, .reports_8bit = modes >> 12 & 1,
     };
-    return vt220_key(&set, (const char *)input, len, out, sizeof out, &written);
+    return vt220_key(&set, (const char *)input, len, out, out_size, &written);
 }
 
 EXPORT(key_length) uint32_t js_key_length(uint32_t len) { return (uint32_t)vt220_key_length((const char *)input, len); }
@@ -171,11 +173,11 @@ _Static_assert(sizeof utf8 == 4 && LINES >= VT220_UTF8_LINES_LIMIT, "JavaScript 
 EXPORT(utf8) uint32_t js_utf8(void) { return address(&utf8); }
 
 EXPORT(feed_utf8) uint32_t js_feed_utf8(uint32_t t, uint32_t from, uint32_t to) {
-    return (uint32_t)vt220_feed_utf8(AT(vt220, t), &utf8, input + from, to - from, reports, REPORTS, &written);
+    return (uint32_t)vt220_feed_utf8(AT(vt220, t), &utf8, input + from, to - from, reports, reports_size, &written);
 }
 
 EXPORT(feed_log_utf8) uint32_t js_feed_log_utf8(uint32_t t, uint32_t from, uint32_t to) {
-    return (uint32_t)vt220_feed_log_utf8(AT(vt220, t), &scratch, &utf8, input + from, to - from, reports, REPORTS, &written, lines, LINES,
+    return (uint32_t)vt220_feed_log_utf8(AT(vt220, t), &scratch, &utf8, input + from, to - from, reports, reports_size, &written, lines, lines_size,
                                          &lines_written);
 }
 
@@ -214,15 +216,20 @@ EXPORT(xterm_alternate) uint32_t js_xterm_alternate(uint32_t x) { return vt220_x
 EXPORT(xterm_pending) void js_xterm_pending(uint32_t x) { vt220_xterm_pending(AT(vt220_xterm, x), &utf8); }
 
 EXPORT(feed_xterm) uint32_t js_feed_xterm(uint32_t t, uint32_t x, uint32_t from, uint32_t to) {
-    return (uint32_t)vt220_feed_xterm(AT(vt220, t), AT(vt220_xterm, x), input + from, to - from, reports, REPORTS, &written);
+    return (uint32_t)vt220_feed_xterm(AT(vt220, t), AT(vt220_xterm, x), input + from, to - from, reports, reports_size, &written);
 }
 
 EXPORT(feed_log_xterm) uint32_t js_feed_log_xterm(uint32_t t, uint32_t x, uint32_t from, uint32_t to) {
-    return (uint32_t)vt220_feed_log_xterm(AT(vt220, t), &scratch, AT(vt220_xterm, x), input + from, to - from, reports, REPORTS, &written,
-                                          lines, LINES, &lines_written);
+    return (uint32_t)vt220_feed_log_xterm(AT(vt220, t), &scratch, AT(vt220_xterm, x), input + from, to - from, reports, reports_size, &written,
+                                          lines, lines_size, &lines_written);
 }
 
 /* --- for tests --- */
+
+/* Sets how many bytes of `reports`, `lines` and `out` the calls use, at most as many as these have. */
+EXPORT(test_sizes) void js_test_sizes(uint32_t of_reports, uint32_t of_lines, uint32_t of_out) {
+    reports_size = of_reports, lines_size = of_lines, out_size = of_out;
+}
 
 /* Allocates, moves and frees a block, which the library does with no size but its own. Returns whether the heap did as it should. */
 EXPORT(test_heap) uint32_t js_test_heap(uint32_t n) {
@@ -237,5 +244,5 @@ EXPORT(test_heap) uint32_t js_test_heap(uint32_t n) {
     bool is_again = c.ok && c.p == a.p;
     rattle_dealloc(b.p);
     rattle_dealloc(c.p);
-    return is_kept && is_again && address(b.p) % 16 == 0 && !rattle_alloc(SIZE_MAX / 2, 8).ok;
+    return is_kept && is_again && address(b.p) % 16 == 0 && !rattle_alloc(SIZE_MAX / 2, 8).ok && !rattle_alloc(0xFFFF0000, 8).ok;
 }

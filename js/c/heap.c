@@ -19,10 +19,12 @@ static uintptr_t end; /* of the last block, or 0 before the first */
 
 static size_t rounded(size_t n) { return (n + 15) & ~(size_t)15; }
 
-/* Returns whether the memory reaches so far, if necessary after it has grown. */
+/* Returns whether the memory reaches so far, if necessary after it has grown. The size tells that: if the memory can't grow, the
+ * instruction returns -1 in 64 bits, but a number of 32 bits after the lowering. */
 static bool reaches(uintptr_t to) {
     size_t wanted = (to + PAGE - 1) / PAGE, now = __builtin_wasm_memory_size(0);
-    return wanted <= now || __builtin_wasm_memory_grow(0, wanted - now) != (size_t)-1;
+    if (wanted > now) __builtin_wasm_memory_grow(0, wanted - now);
+    return wanted <= __builtin_wasm_memory_size(0);
 }
 
 static block *new_block(size_t size) {

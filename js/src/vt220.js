@@ -189,7 +189,12 @@ export class Terminal {
     this.#core = core;
     this.#isUtf8 = encoding === "utf-8" || terminal === "xterm";
     this.#at = core.open(this, "open", "close");
-    if (terminal === "xterm") this.#xterm = core.open(this, "xterm_open", "xterm_close");
+    try {
+      if (terminal === "xterm") this.#xterm = core.open(this, "xterm_open", "xterm_close");
+    } catch (error) {
+      this.close();
+      throw error;
+    }
   }
 
   get encoding() {

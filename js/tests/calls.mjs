@@ -74,6 +74,8 @@ function errors({ Terminal, Vt220Error, ROWS, COLUMNS }, core, other, check) {
   for (const row of [0, -1, 25, 1.5, NaN, "3", undefined, 2 ** 32 + 1])
     for (const call of ["rowText", "cells"]) check(`${call} of row ${row}`, thrown(() => t[call](row)) === "NO_ROW");
   check("a message", (() => { try { t.cells(25); } catch (error) { return error instanceof Vt220Error && error instanceof Error && error.message === "there is no such row"; } })());
+  const texts = Array.from({ length: 11 }, (_, status) => core.statusText(status));
+  check("a text for each status", new Set(texts).size === 11 && texts[0] === "success" && texts[10] === "unknown status");
   for (const data of ["text", [1, 2], null, new Uint16Array(2)]) check(`fed ${data}`, thrown(() => t.feed(data)) === "TypeError");
   check("another core", thrown(() => t.copyFrom(new Terminal(other))) === "TypeError" && thrown(() => t.update({})) === "TypeError");
   check("no core", thrown(() => new Terminal()) === "TypeError" && thrown(() => new Terminal({})) === "TypeError");
@@ -113,6 +115,96 @@ async function modules({ load, Terminal }, wasm, check) {
   let isRefused = false;
   await load(Uint8Array.of(1, 2, 3)).catch(() => (isRefused = true));
   check("a load of other bytes", isRefused);
+}
+
+/** The exports that take closed handles, which the package never passes: their arguments, and what they return. t and x are closed. */
+const CLOSED = [
+  ["text", ["t"], 3], ["show", ["t"], 3], ["picture", ["t"], 3], ["repaint", ["t"], 3], ["row_text", ["t", 1], 3], ["reset", ["t"], 3], ["update", ["t", "open"], 3],
+  ["update", ["open", "t"], 3], ["copy", ["t", "open"], 3], ["copy", ["open", "t"], 3], ["row_changes", ["t", "open", 1], 3], ["row_changes", ["open", "t", 1], 3],
+  ["changed_rows", ["t", "open"], 2 ** 24 - 1], ["changed_rows", ["t", "t"], 0], ["width", ["t"], 0], ["row", ["t", 1], 0], ["bells", ["t"], 0], ["is_between", ["t"], 0],
+  ["held_kind", ["t"], 0], ["same_state", ["t", "open"], 0], ["same_state", ["open", "t"], 0], ["same_state", ["t", "t"], 0], ["feed", ["t", 0, 1], 0], ["feed_log", ["t", 0, 1], 0],
+  ["feed_utf8", ["t", 0, 1], 0], ["feed_log_utf8", ["t", 0, 1], 0], ["feed_xterm", ["t", "pages", 0, 1], 0], ["feed_xterm", ["open", "x", 0, 1], 0],
+  ["feed_log_xterm", ["t", "pages", 0, 1], 0], ["feed_log_xterm", ["open", "x", 0, 1], 0], ["xterm_copy", ["x", "pages"], 3], ["xterm_copy", ["pages", "x"], 3],
+  ["xterm_copy", ["pages", "pages"], 0], ["copy", ["open", "open"], 0], ["xterm_alternate", ["x"], 0], ["row_text", ["open", 0], 7], ["row_text", ["open", 25], 7], ["row", ["open", 0], 0],
+  ["row", ["open", 25], 0], ["row", ["open", 24], 80], ["row_changes", ["open", "open", 0], 7], ["row_changes", ["open", "open", 25], 7], ["changed_rows", ["open", "open"], 0], ["start", [], 2],
+];
+const PARTS = ["cursor", "margins", "modes", "brush", "sets", "saved", "stops"];
+
+/** Tests the exports with closed handles, and before the scratch buffer is opened. */
+async function handles(wasm, check) {
+  const { exports } = await WebAssembly.instantiate(await WebAssembly.compile(wasm));
+  const [t, x, open, pages] = ["open", "xterm_open", "open", "xterm_open"].map((name) => exports[name]()), at = { t, x, open, pages };
+  for (const name of ["text", "show", "picture", "repaint", "row_text", "update", "feed_log", "feed_log_utf8", "feed_log_xterm"])
+    check(`before the start: ${name}`, exports[name](open, name === "update" ? t : name.endsWith("xterm") ? pages : 1, 1, 2) === (name.startsWith("feed") ? 0 : 3) && exports.written() === 0);
+  check("the start", exports.start() === 0);
+  for (const name of PARTS) exports[name](open);
+  exports.close(t);
+  exports.xterm_close(x);
+  for (const [name, words, wanted] of CLOSED) check(`the export ${name} of ${words}`, exports[name](...words.map((word) => at[word] ?? word)) === wanted);
+  const part = () => json(Array.from(new Uint32Array(exports.memory.buffer, exports.part(), 132)));
+  exports.stops(open);
+  const before = part();
+  for (const name of PARTS) exports[name](t);
+  check("the parts of a closed terminal", part() === before);
+}
+
+/** Tests buffers that are too small by some bytes: nothing is changed then, and the size that is needed is known. */
+function sizes({ Terminal }, core, check) {
+  const t = new Terminal(core), shown = new Terminal(core), plain = new Terminal(core);
+  t.feed(bytes("\x1b[?3h\x1b[3;7Htext\x1b(0\x1b[1mlqk\x1b[5;20r\x1b7"));
+  const size = (out) => core.calls.test_sizes(5120, 204800, out);
+  for (const [call, ...words] of [[() => t.text()], [() => t.show()], [() => t.picture()], [() => t.repaint()], [() => t.rowText(3)], [(from) => from.update(t)], [() => core.key("F20", {})]]) {
+    const from = new Terminal(core), whole = json(call(from)), needed = core.calls.written();
+    for (const out of [0, 1, needed - 1]) {
+      size(out);
+      check(`a buffer of ${out} bytes, and not ${needed}`, thrown(() => call(shown)) === "ROOM" && core.calls.written() === needed && shown.sameState(plain));
+    }
+    size(needed);
+    check(`a buffer of ${needed} bytes`, json(call(shown)) === whole);
+    size(659968);
+    shown.copyFrom(plain);
+    from.close();
+  }
+  for (const each of [t, shown, plain]) each.close();
+}
+
+/** Returns a number as an unsigned LEB128. */
+const leb = (value) => (value < 128 ? [value] : [(value & 127) | 128, ...leb(value >> 7)]);
+
+/** Returns the module with a limit for its memory, so many pages after those that it begins with. */
+function limited(wasm, more) {
+  const read = (at) => (wasm[at] < 128 ? [wasm[at], at + 1] : [(wasm[at] & 127) + 128 * read(at + 1)[0], read(at + 1)[1]]);
+  let at = 8;
+  while (wasm[at] !== 5) at = read(at + 1).reduce((size, start) => size + start);
+  const [least, end] = read(at + 4), limits = [1, 1, ...leb(least), ...leb(least + more)];
+  return Uint8Array.from([...wasm.subarray(0, at), 5, limits.length, ...limits, ...wasm.subarray(end)]);
+}
+
+/** Opens terminals until the memory of a core ends. Returns whether the call that fails then changes nothing, and whether a plain terminal can be opened still. */
+function filled({ Terminal }, core, options) {
+  const made = [], open = () => thrown(() => made.push(new Terminal(core, options)));
+  let fault = null;
+  while (fault === null) fault = open();
+  made.forEach((terminal, i) => terminal.feed(bytes(`terminal ${i}`)));
+  const isWhole = fault === "MEMORY" && made.length > 0 && made.every((terminal, i) => terminal.text().trim() === `terminal ${i}`);
+  const isLeft = options.terminal === "xterm" && thrown(() => new Terminal(core).close()) === null;
+  made.shift().close();
+  return { isWhole: isWhole && open() === null && open() === "MEMORY" && made.at(-1).text().trim() === "", isLeft };
+}
+
+/** Tests the end of the memory: a call that allocates throws MEMORY and changes nothing, and a block that is freed is taken again. */
+async function exhausted(vt220, wasm, check) {
+  const code = await vt220.load(limited(wasm, 1)).catch((error) => error.code);
+  check("no memory for a core", code === "MEMORY");
+  let left = 0;
+  for (let more = 13; more < 25; more++) {
+    for (const options of [{}, { terminal: "xterm" }]) {
+      const { isWhole, isLeft } = filled(vt220, await vt220.load(limited(wasm, more)), options);
+      check(`no memory after ${more} pages`, isWhole);
+      left += isLeft;
+    }
+  }
+  check("a terminal of which one part has no memory is closed", left > 0);
 }
 
 /** Tests many terminals and checkpoints, which are closed and made again in the same memory. */
@@ -155,6 +247,9 @@ export async function calls(vt220, wasm, check) {
   errors(vt220, core, other, check);
   keys(core, check);
   memory(vt220, core, check);
+  sizes(vt220, core, check);
+  await handles(wasm, check);
+  await exhausted(vt220, wasm, check);
   await modules(vt220, wasm, check);
   await faults(vt220, wasm, check);
 }

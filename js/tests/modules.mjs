@@ -31,7 +31,8 @@ failed += got.failed;
 
 const all = JSON.parse(await readFile(hashFile, "utf8"));
 const mine = hashes(vt220, core, all.map(([input]) => new Uint8Array(Buffer.from(input, "base64"))));
-all.forEach(([input, theirs], i) => check(`beside the library, ${input.slice(0, 200)}`, mine[i] === theirs));
+for (const [input, theirs] of all) check(`beside the library, ${input.slice(0, 200)}`, mine.next().value === theirs);
+mine.next();
 
 keys(core, await readFile(new URL("../../tests-c/keys.txt", import.meta.url), "utf8"), check);
 await calls(vt220, wasm, check);

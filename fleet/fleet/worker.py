@@ -22,9 +22,8 @@ log = logging.getLogger("fleet.worker")
 
 GATHER = 0.010  # seconds between the starts of two turns: what comes meanwhile is read together
 READ = 16  # entries of a session that are read at once
-FEW = 2  # or so many, if more than MANY sessions are due whose entries are long: what is read and isn't played takes memory
+FEW = 2  # or so many, if more than MANY sessions are due: each entry may have 16 KiB, and what isn't played yet takes memory
 MANY = 64
-SHORT = 2048  # bytes of an entry on average; then READ of them are no more than a session may have waiting
 CHUNK = 400  # sessions that are read with one call
 BYTES = 524288  # that are played in a turn, shared by all sessions that have some
 SHARE = 16384  # of them that a session may always play
@@ -47,7 +46,6 @@ class Kept(Session):
         self.last = b"%d-0" % self.at  # the last entry that was read
         self.queue = []  # what was read and isn't played: (id, fields), the first one perhaps in part
         self.is_read_out = False  # this turn's read brought all that there was
-        self.has_long = True  # its entries are long; so are those of a session that was never read
         self.reports = []  # that the store hasn't
         self.checked = self.at  # the position of the last checkpoint
         self.checkpoint = None  # one that the store hasn't
@@ -364,15 +362,8 @@ class Worker:
         return session.is_on_trial and session.incarnation not in self.due
 
     def read(self, sessions):
-        """Reads what came for sessions, for many with one call."""
-        long = [session for session in sessions if session.has_long]
-        if len(long) > MANY:
-            sessions = [session for session in sessions if not session.has_long]
-            self.read_in_chunks(long, FEW)
-        self.read_in_chunks(sessions, READ)
-
-    def read_in_chunks(self, sessions, count):
-        """Reads so many entries of each session. If a call is refused, each session is read by itself."""
+        """Reads what came for sessions, for many with one call. If that is refused, each is read by itself."""
+        count = FEW if len(sessions) > MANY else READ
         for at in range(0, len(sessions), CHUNK):
             some = sessions[at : at + CHUNK]
             try:
@@ -391,7 +382,6 @@ class Worker:
             session.read_at = time.monotonic()
             session.queue = [(entry_id, dict(zip(fields[::2], fields[1::2]))) for entry_id, fields in entries]
             session.is_read_out, session.last = len(entries) < count, entries[-1][0]
-            session.has_long = sum(len(fields.get(b"bytes", b"")) for _, fields in session.queue) > SHORT * len(entries)
 
     def play(self, session, budget):
         """Plays a session's share of this turn. It stays due while there may be more."""

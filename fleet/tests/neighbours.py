@@ -312,7 +312,7 @@ def an_entry_that_is_too_long_is_a_fault(url, _):
 
 def a_backlog_of_many_sessions_takes_little_memory(url, _):
     """Each of them has much to play, as after an outage. A turn plays a share of each, and little more is read."""
-    name, one, count, times = "backlog", worker(url), 200, 16
+    name, one, count, times = "backlog", worker(url), 100, 8
     sessions = load.Sessions(url, count)
     until(lambda: len(one.kept) == count and not one.due, one)
     for _ in range(times):

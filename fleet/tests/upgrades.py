@@ -301,6 +301,9 @@ def a_storm_with_hosts_among_the_victims(machine, data):
     check(min(kills.values()) > 0, name, f"all kinds were killed: {kills}")
     said = workers.said()
     check(not any("Traceback" in line or "gives up" in line for line in said), name, "no worker has a fault")
+    counted = {"sessions": len(runs), "bytes": sum(map(len, (each.data for each in runs))), "reports": sum(each.data.count(b"\033[5n") for each in runs)}
+    counted |= {f"{victim}s killed": count for victim, count in kills.items()} | {"takings": sum(" took " in line for line in said)}
+    print(", ".join(f"{count} {what}" for what, count in counted.items()), file=sys.stderr)
     workers.stop()
 
 

@@ -66,7 +66,10 @@ static uint8_t nothing;
 #endif
 
 /* The bytes of replies that are written and dropped at once: enough for speed, and few enough for the stack that the header names. */
-enum { REPLIES = 2560, BEL = 0x07 };
+enum { REPLIES = 2560, BEL = 0x07, FIRST = 8 };
+
+/* Each call that feeds has a copy of such a function, without what this call doesn't need. So an input of one byte costs less. */
+#define INLINED __attribute__((always_inline)) static inline
 
 static handle own(const vt220 *t) { return (handle){t->terminal, t->is_open}; }
 
@@ -198,12 +201,13 @@ typedef struct part {
 } part;
 
 /* Returns the bytes before the next BEL, or the BELs at the front. So no byte is searched twice, and the core, which searches what may
- * ring for the next BEL, finds it at once. */
-static part next_part(const uint8_t *bytes, size_t len) {
-    size_t most = len < BLOCK ? len : BLOCK, run = 0;
-    while (run < most && bytes[run] == BEL) run++;
-    if (run > 0) return (part){run, true};
-    const uint8_t *bell = memchr(bytes, BEL, most);
+ * ring for the next BEL, finds it at once. The first bytes are searched here, since a call of memchr costs more. */
+INLINED part next_part(const uint8_t *bytes, size_t len) {
+    size_t most = len < BLOCK ? len : BLOCK, at = 0;
+    bool rings = bytes[0] == BEL;
+    while (at < most && (rings || at < FIRST) && (bytes[at] == BEL) == rings) at++;
+    if (rings || at < FIRST) return (part){at, rings};
+    const uint8_t *bell = memchr(bytes + at, BEL, most - at);
     return (part){bell != NULL ? (size_t)(bell - bytes) : most, false};
 }
 
@@ -217,7 +221,7 @@ typedef struct player {
 } player;
 
 /* Plays a part of an input by the call for it. Adds to what the buffers have. */
-static size_t process_part(player by, const uint8_t *bytes, part next, buffer *replies, buffer *lines) {
+INLINED size_t process_part(player by, const uint8_t *bytes, part next, buffer *replies, buffer *lines) {
     uint8_t *out = replies->at + replies->filled;
     size_t size = replies->size - replies->filled, sent = 0, off = 0, rung = 0, now;
     handle h = own(by.t), pages = by.x != NULL ? own_xterm(by.x) : (handle){NULL, false};
@@ -242,7 +246,7 @@ static size_t process_part(player by, const uint8_t *bytes, part next, buffer *r
 }
 
 /* Processes input as far as the buffers have capacity. With a scratch buffer it writes the lines that scroll off to `lines`. */
-static size_t process(player by, const uint8_t *bytes, size_t len, buffer *replies, buffer *lines) {
+INLINED size_t process(player by, const uint8_t *bytes, size_t len, buffer *replies, buffer *lines) {
     size_t taken = 0;
     while (taken < len) {
         part next = next_part(bytes + taken, len - taken);
@@ -266,7 +270,7 @@ __attribute__((noinline)) static size_t process_unanswered(player by, const uint
 }
 
 /* Processes input and writes the replies, or drops them if nobody wants them. */
-static size_t feed(player by, const uint8_t *bytes, size_t len, uint8_t *reports, size_t size, size_t *written, buffer *lines) {
+INLINED size_t feed(player by, const uint8_t *bytes, size_t len, uint8_t *reports, size_t size, size_t *written, buffer *lines) {
     buffer replies = empty(reports, size);
     size_t taken = 0;
     if (by.t->is_open && (by.s == NULL || by.s->is_open) && (by.x == NULL || by.x->is_open))

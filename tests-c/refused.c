@@ -113,6 +113,7 @@ static void none_taken(void) {
     static uint8_t xterm_lines[VT220_XTERM_LINES_LIMIT];
     CHECK(vt220_feed_log_xterm(&t, &s, &x, BYTES("\033[?1049l\xC3\xA9\033[99S"), out, 220, &written, xterm_lines, sizeof xterm_lines, &logged) == 15);
     CHECK(logged > 0 && vt220_xterm_copy(&y, &x) == VT220_OK && !vt220_xterm_alternate(&y));
+    CHECK(vt220_xterm_repaint(&t, &x, &s, out, sizeof out, &written) == VT220_OK && written > 0);
     CHECK(calls == 0);
     vt220_close(&t);
     vt220_close(&to);

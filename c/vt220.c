@@ -30,6 +30,7 @@ void core_xterm_close(handle *x);
 bool core_xterm_alternate(handle *x);
 bool core_xterm_pending(handle *x, vt220_utf8 *u);
 uint32_t core_xterm_copy(handle *to, handle *from);
+uint32_t core_xterm_repaint(handle *t, handle *x, handle *s, uint8_t *out, size_t size, size_t *written);
 size_t core_feed_log_xterm(handle *t, handle *s, handle *x, const uint8_t *bytes, size_t len, bool counts, uint8_t *reports, size_t size,
                            size_t *written, uint8_t *lines, size_t lines_size, size_t *lines_written, size_t *bells);
 size_t core_feed_xterm(handle *t, handle *x, const uint8_t *bytes, size_t len, bool counts, uint8_t *reports, size_t size, size_t *written,
@@ -368,6 +369,16 @@ uint32_t vt220_picture(const vt220 *t, vt220_scratch *s, uint8_t *out, size_t si
 
 uint32_t vt220_repaint(const vt220 *t, vt220_scratch *s, uint8_t *out, size_t size, size_t *written) {
     return write_by(core_repaint, t, s, out, size, written);
+}
+
+uint32_t vt220_xterm_repaint(const vt220 *t, const vt220_xterm *x, vt220_scratch *s, uint8_t *out, size_t size, size_t *written) {
+    handle h = own(t), pages = own_xterm(x), room = own_scratch(s);
+    *written = 0;
+    if (!h.is_open || !pages.is_open || !room.is_open) return VT220_CLOSED;
+    if (out == NULL) out = &nothing, size = 0;
+    uint32_t status = core_xterm_repaint(&h, &pages, &room, out, size, written);
+    keep_scratch(s, room);
+    return status;
 }
 
 uint32_t vt220_row_text(const vt220 *t, vt220_scratch *s, size_t row, uint8_t *out, size_t size, size_t *written) {

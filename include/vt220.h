@@ -91,6 +91,7 @@ extern "C" {
 #define VT220_SHOW_LIMIT 51000     /* the most bytes of a text with attributes */
 #define VT220_PICTURE_LIMIT 659968 /* the most bytes of a picture */
 #define VT220_PAINT_LIMIT 93512    /* the most bytes of a repaint */
+#define VT220_XTERM_PAINT_LIMIT 187052 /* the most bytes of a repaint under TERM=xterm */
 #define VT220_UPDATE_LIMIT 94152   /* the most bytes of an update */
 
 /* A terminal. The fields are private. */
@@ -108,8 +109,8 @@ typedef struct vt220_scratch {
 
 /* What a terminal needs under TERM=xterm: the page that isn't shown, two modes, and what is pending of UTF-8. Each terminal needs a
  * separate one. It isn't part of the terminal's state: vt220_copy, vt220_reset and bytes of vt220_repaint don't change it, and
- * vt220_xterm_copy copies it. A terminal that is rebuilt with a new one goes on as if the main page were shown. To reset both, feed RIS
- * (ESC c) by vt220_feed_xterm. The fields are private. */
+ * vt220_xterm_copy copies it. Bytes of vt220_xterm_repaint rebuild both. To reset both, feed RIS (ESC c) by vt220_feed_xterm. The fields
+ * are private. */
 typedef struct vt220_xterm {
     void *pages;
     bool is_open;
@@ -357,6 +358,15 @@ uint32_t vt220_picture(const vt220 *t, vt220_scratch *s, uint8_t *out, size_t si
  *   written     receives the length; 0 if a handle is closed or the terminal is inside a sequence
  * Returns VT220_OK, VT220_ROOM, VT220_CLOSED or VT220_PARTIAL. */
 uint32_t vt220_repaint(const vt220 *t, vt220_scratch *s, uint8_t *out, size_t size, size_t *written);
+
+/* Writes the repaint of a session under TERM=xterm: bytes that, fed by vt220_feed_xterm to any open terminal and vt220_xterm, leave them
+ * exactly as `t` and `x` are. What is pending of UTF-8 is left out. Feed the bytes of vt220_xterm_pending after them, and these are
+ * pending again. The bytes are ASCII and cause no replies. Two sessions with nothing pending are equal if and only if their bytes are.
+ *   x           what `t` needs next to its state
+ *   out, size   the output buffer; VT220_XTERM_PAINT_LIMIT bytes are always enough
+ *   written     receives the length; 0 if a handle is closed or the terminal is inside a sequence
+ * Returns VT220_OK, VT220_ROOM, VT220_CLOSED or VT220_PARTIAL. */
+uint32_t vt220_xterm_repaint(const vt220 *t, const vt220_xterm *x, vt220_scratch *s, uint8_t *out, size_t size, size_t *written);
 
 /* Writes an update: bytes that, fed to a terminal in the state of `shown`, leave it in exactly the state of `to`. They cause no
  * replies. Brings `shown` into the state of `to` as well, and doesn't modify `to`.

@@ -171,6 +171,19 @@ static void reset_pages(void) {
     MUST(vt220_same_state(&b, &power_up) && vt220_same_state(&c, &power_up) && !vt220_xterm_alternate(&x) && !vt220_xterm_alternate(&y));
 }
 
+/* Brings `b` into the state of `c` under TERM=xterm: by a repaint if `cut` is odd and `c` is between sequences, otherwise by a copy. */
+static void rebuild_pages(unsigned cut) {
+    static uint8_t out[VT220_XTERM_PAINT_LIMIT];
+    size_t len;
+    vt220_utf8 u;
+    if (cut % 2 == 0 || !vt220_is_between(&c)) {
+        MUST(vt220_copy(&b, &c) == VT220_OK && vt220_xterm_copy(&x, &y) == VT220_OK);
+        return;
+    }
+    MUST(vt220_xterm_repaint(&c, &y, &s, out, sizeof out, &len) == VT220_OK && vt220_xterm_pending(&y, &u));
+    MUST(vt220_feed_xterm(&b, &x, out, len, NULL, 0, NULL) == len && vt220_feed_xterm(&b, &x, u.bytes, u.len, NULL, 0, NULL) == u.len);
+}
+
 /* However input under TERM=xterm is cut, replies, bells, what is pending, both pages and the lines are the same, and a log changes none of
  * the others. `b` and `c` are left in any state. */
 static void look_at_xterm(const uint8_t *bytes, size_t len, unsigned cut) {
@@ -193,11 +206,11 @@ static void look_at_xterm(const uint8_t *bytes, size_t len, unsigned cut) {
     MUST(vt220_bells(&c) - bells_c == bells_b);
     see(51, logged_b > 0);
     same_pages();
-    /* The second half also goes on from a copy. */
+    /* The second half also goes on from a copy or a repaint. */
     reset_pages();
     bells_c = vt220_bells(&c);
     size_t first = feed_characters(&c, NULL, &y, bytes, half, cut, reports_b, lines_c, &logged_c), more;
-    MUST(vt220_copy(&b, &c) == VT220_OK && vt220_xterm_copy(&x, &y) == VT220_OK);
+    rebuild_pages(cut);
     MUST(first + feed_characters(&c, NULL, &y, bytes + half, len - half, cut, reports_b + first, lines_c + logged_c, &more) == all);
     MUST(memcmp(reports_a, reports_b, all) == 0 && logged_c + more == logged_b && memcmp(lines_b, lines_c, logged_b) == 0);
     MUST(vt220_bells(&c) - bells_c == bells_b);

@@ -121,6 +121,10 @@ WRITES(show)
 WRITES(picture)
 WRITES(repaint)
 
+uint32_t core_xterm_repaint(handle *t, handle *x, handle *s, uint8_t *out, size_t size, size_t *written) {
+    return stay(t), stay(x), move(s), VT220_OK;
+}
+
 uint32_t core_row_text(handle *t, handle *s, size_t row, uint8_t *out, size_t size, size_t *written) {
     return stay(t), move(s), VT220_OK;
 }
@@ -175,6 +179,7 @@ static void handles_have_the_new_blocks(void) {
         CHECK(vt220_text(&t, &s, out, sizeof out, &written) == VT220_OK && vt220_row_text(&t, &s, 1, out, sizeof out, &written) == VT220_OK);
         CHECK(vt220_show(&t, &s, out, sizeof out, &written) == VT220_OK && vt220_picture(&t, &s, out, sizeof out, &written) == VT220_OK);
         CHECK(vt220_repaint(&t, &s, out, sizeof out, &written) == VT220_OK && vt220_same_state(&t, &u));
+        CHECK(vt220_xterm_repaint(&t, &x, &s, out, sizeof out, &written) == VT220_OK);
         CHECK(live_blocks() == 5);
     }
 }

@@ -78,6 +78,7 @@ static void *reads(void *unused) {
     for (int i = 0; i < ROUNDS; i++) {
         if (!reads_all(one, twin, &s, out)) bad++;
         if (!vt220_xterm_is_open(other_page) || !vt220_xterm_alternate(other_page) || !vt220_xterm_pending(other_page, &u) || u.len != 2) bad++;
+        if (vt220_xterm_repaint(one, other_page, &s, out, VT220_XTERM_PAINT_LIMIT, &written) != VT220_OK || written == 0) bad++;
         /* It may also be what others are copied from and led to. */
         if (vt220_xterm_copy(&my_page, other_page) != VT220_OK || !vt220_xterm_alternate(&my_page)) bad++;
         if (vt220_copy(&mine, one) != VT220_OK || !vt220_same_state(&mine, one) || vt220_reset(&mine) != VT220_OK) bad++;

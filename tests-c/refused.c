@@ -116,6 +116,7 @@ static void none_taken(void) {
     vt220_utf8 u = {{0}, 0};
     CHECK(vt220_feed_utf8(&t, &u, BYTES("\xC3\xA9\a\033[5n"), out, 220, &written) == 7 && written == 4);
     CHECK(vt220_feed_log_utf8(&t, &s, &u, BYTES("\xC3\xA9\a\033[24;1H\n"), out, 220, &written, xterm_lines, sizeof xterm_lines, &logged) == 11 && logged > 0);
+    CHECK(vt220_xterm_repaint(&t, &x, &s, out, sizeof out, &written) == VT220_OK && written > 0);
     CHECK(calls == 0);
     vt220_close(&t);
     vt220_close(&to);

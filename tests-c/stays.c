@@ -27,6 +27,7 @@ static void writing(size_t size) {
     STAYS(core_show(&t, &s, out, size, &written));
     STAYS(core_picture(&t, &s, out, size, &written));
     STAYS(core_repaint(&t, &s, out, size, &written));
+    STAYS(core_xterm_repaint(&t, &x, &s, out, size, &written));
     STAYS(core_update(&u, &t, &s, out, size, &written));
 }
 

@@ -1,5 +1,5 @@
 /* xterm FILE: what programs send under TERM=xterm. The rows of FILE, which is tests-c/xterm.txt, are played whole, byte by byte and by
- * threes. The rest is by hand from the header. */
+ * threes, and each is rebuilt by its repaint. The rest is by hand from the header. */
 #include "check.h"
 
 enum { LEN = 40000, BLOCK = 16384 };
@@ -148,6 +148,104 @@ static void play_row(const row *r, size_t chunk, const sizes *size) {
     closed(&p);
 }
 
+/* Both show the same, and so do their alternate and their main pages. */
+static void same_pages(pair *p, pair *q) {
+    static const char *const switches[] = {"", "\030\033[?47h", "\033[?47l"};
+    for (size_t i = 0; i < sizeof switches / sizeof switches[0]; i++) {
+        const uint8_t *bytes = (const uint8_t *)switches[i];
+        size_t len = strlen(switches[i]);
+        CHECK(vt220_feed_xterm(&p->t, &p->x, bytes, len, NULL, 0, NULL) == len && vt220_feed_xterm(&q->t, &q->x, bytes, len, NULL, 0, NULL) == len);
+        CHECK(vt220_same_state(&p->t, &q->t) && vt220_xterm_alternate(&p->x) == vt220_xterm_alternate(&q->x));
+    }
+}
+
+/* --- the repaint --- */
+
+/* Returns the repaint of a session, or nothing inside a sequence. */
+static struct bytes repaint(const pair *p) {
+    static uint8_t out[VT220_XTERM_PAINT_LIMIT];
+    struct bytes made = {0};
+    size_t len = 9;
+    uint32_t status = vt220_xterm_repaint(&p->t, &p->x, &s, out, sizeof out, &len);
+    CHECK(status == (vt220_is_between(&p->t) ? VT220_OK : VT220_PARTIAL) && (len > 0) == (status == VT220_OK));
+    append(&made, out, len);
+    return made;
+}
+
+/* Plays a repaint of `p` in chunks after some bytes, and then what is pending. The session is then equal to `p`. */
+static void rebuild(const pair *p, const struct bytes *made, const char *before, size_t chunk, const char *name) {
+    pair q = opened(), like = opened();
+    struct bytes replies = {0}, again;
+    vt220_utf8 u, v;
+    feed(&q, (const uint8_t *)before, strlen(before), LEN, &replies);
+    feed(&q, made->at, made->len, chunk, &replies);
+    CHECK(vt220_xterm_pending(&q.x, &v) && v.len == 0 && vt220_xterm_pending(&p->x, &u));
+    feed(&q, u.bytes, u.len, LEN, &replies);
+    again = repaint(&q);
+    check(same_bytes(&again, made->at, made->len) && replies.len == 0, name, "the repaint");
+    check(vt220_xterm_pending(&q.x, &v) && u.len == v.len && memcmp(u.bytes, v.bytes, sizeof u.bytes) == 0, name, "what is pending after it");
+    CHECK(vt220_copy(&like.t, &p->t) == VT220_OK && vt220_xterm_copy(&like.x, &p->x) == VT220_OK);
+    check(vt220_same_state(&q.t, &like.t) && vt220_xterm_alternate(&q.x) == vt220_xterm_alternate(&like.x), name, "the state after it");
+    same_pages(&q, &like);
+    free(replies.at), free(again.at);
+    closed(&q), closed(&like);
+}
+
+/* The repaint of a session rebuilds it over other ones, whatever these show, keep and hold. */
+static void rebuild_over_others(const pair *p, const char *name) {
+    static const char *const others[] = {"", "main\033[?47h\033[?1048halt\xE2", "\033[?40h\033[?3hwide\0337\033[?47h\033[2", "\033[?47h\033[?40h\033[?3h\033]0;x"};
+    struct bytes made = repaint(p);
+    for (size_t i = 0; i < sizeof others / sizeof others[0] && made.len > 0; i++) rebuild(p, &made, others[i], i % 2 == 0 ? LEN : 7, name);
+    free(made.at);
+}
+
+static void rebuild_row(const row *r) {
+    pair p = opened();
+    struct bytes replies = {0};
+    feed(&p, r->data.at, r->data.len, LEN, &replies);
+    rebuild_over_others(&p, r->name);
+    free(replies.at);
+    closed(&p);
+}
+
+/* Sessions whose screens and other pages differ in their width, with and without ?40. */
+static void rebuild_widths(void) {
+    static const char *const inputs[] = {"\033[?40h\033[?3hwide\033[?47hx\033[?3lnarrow", "\033[?40h\033[?3h\033[?3lx", "\033[?40h\033[?3hwide\033[?40l\033[?47h\0337\xF0\x9F",
+                                         "main\033[?1049halt\033[?40h", "main\033[3;4H\0337\033[?47halt\033[?47l\033[1;7m\033(0q\033[?6h"};
+    for (size_t i = 0; i < sizeof inputs / sizeof inputs[0]; i++) {
+        pair p = opened();
+        size_t len = strlen(inputs[i]);
+        CHECK(vt220_feed_xterm(&p.t, &p.x, (const uint8_t *)inputs[i], len, NULL, 0, NULL) == len);
+        rebuild_over_others(&p, inputs[i]);
+        closed(&p);
+    }
+}
+
+/* The statuses of the call, and what it writes. */
+static void repaint_into(void) {
+    static uint8_t out[VT220_XTERM_PAINT_LIMIT];
+    pair p = opened();
+    vt220 no_terminal = VT220_INIT;
+    vt220_xterm no_xterm = VT220_INIT;
+    vt220_scratch no_scratch = VT220_INIT;
+    size_t len = 9, needed;
+    CHECK(vt220_xterm_repaint(&no_terminal, &p.x, &s, out, sizeof out, &len) == VT220_CLOSED && len == 0);
+    len = 9;
+    CHECK(vt220_xterm_repaint(&p.t, &no_xterm, &s, out, sizeof out, &len) == VT220_CLOSED && len == 0);
+    len = 9;
+    CHECK(vt220_xterm_repaint(&p.t, &p.x, &no_scratch, out, sizeof out, &len) == VT220_CLOSED && len == 0);
+    CHECK(vt220_xterm_repaint(&p.t, &p.x, &s, NULL, 0, &needed) == VT220_ROOM && needed > 0);
+    memset(out, 7, sizeof out);
+    CHECK(vt220_xterm_repaint(&p.t, &p.x, &s, out, needed - 1, &len) == VT220_ROOM && len == needed && out[0] == 7);
+    CHECK(vt220_xterm_repaint(&p.t, &p.x, &s, out, needed, &len) == VT220_OK && len == needed && memcmp(out, "\033c", 2) == 0 && out[needed] == 7);
+    CHECK(vt220_feed_xterm(&p.t, &p.x, BYTES("x\033["), NULL, 0, NULL) == 3);
+    len = 9;
+    CHECK(vt220_xterm_repaint(&p.t, &p.x, &s, out, sizeof out, &len) == VT220_PARTIAL && len == 0);
+    CHECK(vt220_feed_xterm(&p.t, &p.x, BYTES("\030\xE2\x80"), NULL, 0, NULL) == 3);
+    CHECK(vt220_xterm_repaint(&p.t, &p.x, &s, out, sizeof out, &len) == VT220_OK && has_pending(&p.x, &(struct bytes){(uint8_t *)"\xE2\x80", 2, 2}));
+    closed(&p);
+}
+
 static void rows(const char *path) {
     static char line[4096];
     size_t count = 0;
@@ -159,6 +257,7 @@ static void rows(const char *path) {
         const sizes *const buffers[] = {NULL, &smallest, &large};
         for (size_t i = 0; i < sizeof buffers / sizeof buffers[0]; i++)
             play_row(&r, 1, buffers[i]), play_row(&r, 3, buffers[i]), play_row(&r, LEN, buffers[i]);
+        rebuild_row(&r);
         free(r.data.at), free(r.reports.at), free(r.pending.at);
         count++;
     }
@@ -232,17 +331,6 @@ static void copies(void) {
     CHECK(vt220_reset(&p.t) == VT220_OK && shows(&p.t, "") && vt220_xterm_alternate(&p.x));
     CHECK(vt220_feed_xterm(&p.t, &p.x, BYTES("\033[?1049l"), NULL, 0, NULL) == 8 && shows(&p.t, "main"));
     closed(&p), closed(&q);
-}
-
-/* Both show the same, and so do their alternate and their main pages. */
-static void same_pages(pair *p, pair *q) {
-    static const char *const switches[] = {"", "\030\033[?47h", "\033[?47l"};
-    for (size_t i = 0; i < sizeof switches / sizeof switches[0]; i++) {
-        const uint8_t *bytes = (const uint8_t *)switches[i];
-        size_t len = strlen(switches[i]);
-        CHECK(vt220_feed_xterm(&p->t, &p->x, bytes, len, NULL, 0, NULL) == len && vt220_feed_xterm(&q->t, &q->x, bytes, len, NULL, 0, NULL) == len);
-        CHECK(vt220_same_state(&p->t, &q->t) && vt220_xterm_alternate(&p->x) == vt220_xterm_alternate(&q->x));
-    }
 }
 
 /* A terminal and what it needs, both copied inside any character and sequence and on both pages, go on as the first ones do. */
@@ -384,6 +472,8 @@ int main(int argc, char **argv) {
     if (argc != 2 || input == NULL) return 2;
     CHECK(vt220_scratch_open(&s) == VT220_OK);
     rows(argv[1]);
+    rebuild_widths();
+    repaint_into();
     handles();
     log_handles();
     copies();

@@ -9,6 +9,7 @@ use vt_term::{REPORT_LIMIT, ROW_TEXT_LIMIT, TEXT_LIMIT};
 use vt_update::UPDATE_LIMIT;
 use vt_utf8::BYTE_LIMIT;
 use vt_xterm::LINES_LIMIT as XTERM_LINES_LIMIT;
+use vt_xterm_paint::XTERM_PAINT_LIMIT;
 
 /// A byte of UTF-8 is translated to so many bytes, of which each may scroll a line off.
 const UTF8_LINES_LIMIT: usize = BYTE_LIMIT * ROW_TEXT_LIMIT;
@@ -22,6 +23,7 @@ fn main(rt: HostRuntime) -> io::Result<()> {
     println!(rt; "VT220_XTERM_LINES_LIMIT {XTERM_LINES_LIMIT}")?;
     println!(rt; "VT220_TEXT_LIMIT {TEXT_LIMIT}")?;
     println!(rt; "VT220_PAINT_LIMIT {PAINT_LIMIT}")?;
+    println!(rt; "VT220_XTERM_PAINT_LIMIT {XTERM_PAINT_LIMIT}")?;
     println!(rt; "VT220_UPDATE_LIMIT {UPDATE_LIMIT}")?;
     println!(rt; "VT220_SHOW_LIMIT {SHOW_LIMIT}")?;
     println!(rt; "VT220_PICTURE_LIMIT {PICTURE_LIMIT}")

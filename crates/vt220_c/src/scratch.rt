@@ -33,8 +33,8 @@ const _: () = prove!(ROW_TEXT_LIMIT * CHUNK <= PICTURE_LIMIT && LINES_LIMIT <= P
 /// A buffer for the longest form, a picture, and a terminal on which an update is tried. Only `new` allocates.
 #[derive(Drop)]
 pub(crate) struct Scratch {
-    room: Vec<u8>,
-    spare: Terminal,
+    pub(crate) room: Vec<u8>,
+    pub(crate) spare: Terminal,
 }
 
 impl Model for Scratch {

@@ -1,0 +1,99 @@
+//! The call of C that writes the repaint of a session under TERM=xterm.
+ghost use Rattle.std.specs.Prelude.{◌≡◌, ◌≢◌, ◌↔◌, ◌≤◌, ◌<◌, ◌⊎◌, IsTrue, true, false, length, IfSome};
+ghost use Rattle.std.specs.declared.option.Option.TheVariants.{None};
+ghost use Rattle.vt_syntax.specs.declared.held.Held.TheVariants.{Nothing};
+ghost use Rattle.vt_xterm.specs.Play.{behind};
+ghost use Rattle.vt_xterm_paint.specs.Repaint.{xterm_repaint};
+ghost use Rattle.vt220_c.specs.Rebuilt.{IsXtermRebuilt};
+ghost use Rattle.vt220_c.specs.Status.{status_ok, status_closed, status_partial, status_room};
+ghost use Rattle.vt220_c.specs.Written.{written_over};
+
+use crate::bytes::{Copied, copy_out};
+use crate::handle::Vt220;
+use crate::scratch::Scratch;
+use crate::scratch_handle::Vt220Scratch;
+use crate::status::{CLOSED, OK, PARTIAL, ROOM};
+use crate::xterm_handle::Vt220Xterm;
+use std::alloc::Global;
+use vt_picture::PICTURE_LIMIT;
+use vt_term::Terminal;
+use vt_xterm::Front;
+use vt_xterm_paint::{XTERM_PAINT_LIMIT, repaint_xterm_reserved};
+
+const _: () = prove!(XTERM_PAINT_LIMIT <= PICTURE_LIMIT);
+
+impl Scratch {
+    /// Writes the repaint of a session between sequences into the front of `out`, if it fits.
+    fn repaint_xterm(&mut self, terminal: &Terminal, front: &Front, out: &mut [u8]) -> Copied
+        requires { terminal.now.held ≡ Nothing }
+        ensures len { result.len ≡ length (xterm_repaint (behind terminal.now front.now)) }
+        ensures fits { IsTrue result.fits ↔ (length (xterm_repaint (behind terminal.now front.now)) ≤ length out.old) }
+        ensures out { result.fits ≡ true → out.new ≡ written_over (xterm_repaint (behind terminal.now front.now)) out.old }
+        ensures unchanged { result.fits ≡ false → out.new ≡ out.old }
+        ensures rebuilds { IsXtermRebuilt terminal.now front.now }
+        ensures bounded { result.len ≤ XTERM_PAINT_LIMIT }
+    {
+        self.room.clear();
+        repaint_xterm_reserved(terminal, front, &mut self.spare, &mut self.room);
+        copy_out(self.room.as_slice(), out)
+    }
+}
+
+/// Writes the repaint of a session under TERM=xterm into `out` if it fits. `x` is what the terminal needs next to its state. Writes
+/// the length to `written`. Returns `OK`, `ROOM`, `CLOSED`, or `PARTIAL` if the terminal is inside a sequence.
+///
+/// These bytes, played by `core_feed_xterm`, rebuild the session on any terminal and front. What is pending of UTF-8 is left out: if it
+/// is sent after them, it is pending again.
+#[unsafe(no_mangle)]
+pub extern "C" fn core_xterm_repaint(
+    t: &mut Vt220,
+    x: &mut Vt220Xterm,
+    s: &mut Vt220Scratch,
+    out: &mut [u8],
+    written: &mut usize,
+    alloc: Global,
+) -> u32
+    ensures same { t.new.kept.inside ≡ t.old.kept.inside }
+    ensures front { x.new.kept.inside ≡ x.old.kept.inside }
+    ensures scratch { s.new.kept.inside ≡ s.old.kept.inside }
+    ensures closed { (result ≡ status_closed)
+        ↔ ((t.old.kept.inside ≡ None) ⊎ (x.old.kept.inside ≡ None) ⊎ (s.old.kept.inside ≡ None)) }
+    ensures none { (result ≡ status_closed) ⊎ (result ≡ status_partial) → written.new ≡ 0 }
+    ensures partial { result ≢ status_closed → IfSome t.old.kept.inside (λ u. (result ≡ status_partial) ↔ (u.held ≢ Nothing)) }
+    ensures len { result ≢ status_closed → IfSome t.old.kept.inside (λ u. IfSome x.old.kept.inside (λ front.
+        u.held ≡ Nothing → written.new ≡ length (xterm_repaint (behind u front)))) }
+    ensures ok { result ≢ status_closed → IfSome t.old.kept.inside (λ u. IfSome x.old.kept.inside (λ front.
+        u.held ≡ Nothing → (result ≡ status_ok) ↔ (length (xterm_repaint (behind u front)) ≤ length out.old))) }
+    ensures room { result ≢ status_closed → IfSome t.old.kept.inside (λ u. IfSome x.old.kept.inside (λ front.
+        u.held ≡ Nothing → (result ≡ status_room) ↔ (length out.old < length (xterm_repaint (behind u front))))) }
+    ensures out { IfSome t.old.kept.inside (λ u. IfSome x.old.kept.inside (λ front.
+        result ≡ status_ok → out.new ≡ written_over (xterm_repaint (behind u front)) out.old)) }
+    ensures rebuilds { result ≡ status_ok → IfSome t.old.kept.inside (λ u. IfSome x.old.kept.inside (λ front.
+        IsXtermRebuilt u front)) }
+    ensures bounded { written.new ≤ XTERM_PAINT_LIMIT }
+    ensures unchanged { (0 < result) → out.new ≡ out.old }
+{
+    *written = 0;
+    let Some(inner) = t.take(alloc) else {
+        return CLOSED;
+    };
+    let Some(front) = x.take(alloc) else {
+        t.put(inner);
+        return CLOSED;
+    };
+    let Some(mut scratch) = s.take(alloc) else {
+        t.put(inner);
+        x.put(front);
+        return CLOSED;
+    };
+    let mut status = PARTIAL;
+    if inner.terminal().is_between() {
+        let copied = scratch.repaint_xterm(inner.terminal(), &front, out);
+        *written = copied.len;
+        status = if copied.fits { OK } else { ROOM };
+    }
+    t.put(inner);
+    x.put(front);
+    s.put(scratch);
+    status
+}

@@ -119,9 +119,9 @@ void give_up(void);
 bool rename_session(const char *name, char *why);
 
 /* front.c */
-enum { FRONT_LIMIT = VT220_PAINT_LIMIT + VT220_UPDATE_LIMIT + 64 /* the most bytes that front_paint writes */ };
+enum { FRONT_LIMIT = VT220_XTERM_PAINT_LIMIT + sizeof(vt220_utf8) /* more than front_paint writes */ };
 bool front_paint(const vt220 *t, const vt220_xterm *x, vt220_scratch *s, uint8_t *out, size_t *len);
-bool front_is_same(const vt220 *t, const vt220_xterm *x, const vt220 *other, const vt220_xterm *behind_other);
+bool front_is_same(const vt220_xterm *x, const vt220_xterm *y, const vt220 *t, vt220_scratch *s);
 
 /* upgrade.c */
 void upgrade(int program, char *why); /* becomes this program; returns only if it can't, and why */

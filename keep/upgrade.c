@@ -101,8 +101,8 @@ static bool leads_here(vt220 *other, vt220_xterm *front, const uint8_t *bytes, s
     vt220_utf8 pending = the.settled_pending;
     rebuild(other, front, bytes, len);
     replay(other, &pending, front, the.since, the.since_len);
-    if (the.is_xterm) return front_is_same(&the.terminal, &the.front, other, front);
-    return vt220_same_state(other, &the.terminal) && memcmp(&pending, &the.pending, sizeof pending) == 0;
+    if (!vt220_same_state(other, &the.terminal)) return false;
+    return the.is_xterm ? front_is_same(front, &the.front, &the.settled, &the.scratch) : memcmp(&pending, &the.pending, sizeof pending) == 0;
 }
 
 /* Writes the terminal. Returns false if what is written doesn't lead to its state. */

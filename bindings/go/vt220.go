@@ -22,18 +22,19 @@ import (
 )
 
 const (
-	Rows         = 24
-	Columns      = 132
-	ReportLimit  = 10
-	TextLimit    = 9528
-	RowTextLimit = 397
-	ShowLimit    = 51000
-	PictureLimit = 659968
-	PaintLimit   = 93512
-	UpdateLimit  = 94152
-	KeyLimit     = 5
-	TypedLimit   = 16
-	Version      = 300 // 10000 * major + 100 * minor + patch
+	Rows            = 24
+	Columns         = 132
+	ReportLimit     = 10
+	TextLimit       = 9528
+	RowTextLimit    = 397
+	ShowLimit       = 51000
+	PictureLimit    = 659968
+	PaintLimit      = 93512
+	UpdateLimit     = 94152
+	XtermPaintLimit = 187052
+	KeyLimit        = 5
+	TypedLimit      = 16
+	Version         = 300 // 10000 * major + 100 * minor + patch
 )
 
 // The errors of the calls. A call that returns an error has changed nothing.
@@ -256,6 +257,17 @@ func (x *Xterm) Pending() []byte {
 // returns ErrClosed if one of the two is closed.
 func (x *Xterm) CopyFrom(other *Xterm) error {
 	return result(C.vt220_xterm_copy(&x.handle, &other.handle))
+}
+
+// Repaint returns bytes that leave any terminal, and what it needs, as t and x are. FeedXterm takes them. What is pending of UTF-8 is left
+// out: these bytes are fed after them. It returns ErrPartial inside a sequence.
+func (x *Xterm) Repaint(t *Terminal, s *Scratch) ([]byte, error) {
+	return s.written(func(length *C.size_t) C.uint32_t {
+		if len(s.out) < XtermPaintLimit {
+			s.out = make([]C.uint8_t, XtermPaintLimit)
+		}
+		return C.vt220_xterm_repaint(&t.handle, &x.handle, &s.handle, &s.out[0], XtermPaintLimit, length)
+	})
 }
 
 // isOpen returns whether x is there and open.

@@ -47,6 +47,24 @@ func xterm(t *testing.T) *Xterm {
 	return x
 }
 
+// rebuilds returns whether the repaint of a terminal and what it needs rebuilds both on others.
+func rebuilds(t *testing.T, terminal *Terminal, x *Xterm, s *Scratch) bool {
+	bytes, err := x.Repaint(terminal, s)
+	if err != nil {
+		return err == ErrPartial && !terminal.IsBetween()
+	}
+	other, rebuilt := open(t, ""), xterm(t)
+	defer rebuilt.Close()
+	other.FeedXterm(rebuilt, []byte("other\x1b[?47hpage\xe2"))
+	if len(other.FeedXterm(rebuilt, bytes)) > 0 || len(rebuilt.Pending()) > 0 {
+		return false
+	}
+	other.FeedXterm(rebuilt, x.Pending())
+	again, err := rebuilt.Repaint(other, s)
+	same := err == nil && string(again) == string(bytes) && string(rebuilt.Pending()) == string(x.Pending())
+	return same && other.SameState(terminal) && rebuilt.Alternate() == x.Alternate()
+}
+
 // fedXterm returns what chunks of a size lead to, with the log and without one. Another terminal is copied from it after each chunk.
 func fedXterm(t *testing.T, s *Scratch, input []byte, size int) (found xtermRow) {
 	terminal, x, other, copied := open(t, ""), xterm(t), open(t, ""), xterm(t)
@@ -64,6 +82,9 @@ func fedXterm(t *testing.T, s *Scratch, input []byte, size int) (found xtermRow)
 		other.Reset()
 		if other.CopyFrom(terminal) != nil || copied.CopyFrom(x) != nil {
 			t.Error("a copy")
+		}
+		if !rebuilds(t, terminal, x, s) {
+			t.Errorf("% X: the repaint", piece)
 		}
 		found.reports += string(reports)
 		found.lines += string(lines)
@@ -134,6 +155,9 @@ func TestXtermClosed(t *testing.T) {
 	}
 	if other := xterm(t); x.CopyFrom(other) != ErrClosed || other.CopyFrom(x) != ErrClosed {
 		t.Error("copies of a closed one")
+	}
+	if _, err := x.Repaint(terminal, s); err != ErrClosed {
+		t.Error("a repaint of a closed one", err)
 	}
 	if _, _, err := terminal.FeedLogXterm(xterm(t), []byte("x"), nil); err != ErrClosed {
 		t.Error("a log without a scratch buffer", err)

@@ -189,8 +189,21 @@ def copied_xterm(data, at):
             return same and first.feed_log(data[at:]) == second.feed_log(data[at:]) and both_pages(first) == both_pages(second)
 
 
+def rebuilt_xterm(data, at):
+    """Returns whether the repaint after so many bytes, if there is one, rebuilds the terminal on another one."""
+    with vt220.Terminal(terminal="xterm") as first, vt220.Terminal(terminal="xterm") as second:
+        first.feed(data[:at])
+        if not first.is_between():
+            return raises(vt220.Partial, first.xterm_repaint)
+        made = first.xterm_repaint()
+        second.feed(b"other\033[?47hpage\xe2")
+        silent = second.feed(made) == b"" and second.pending() == b"" and second.feed(first.pending()) == b""
+        same = second.xterm_repaint() == made and second.same_state(first) and second.alternate() == first.alternate()
+        return silent and same and second.pending() == first.pending() and first.feed_log(data[at:]) == second.feed_log(data[at:]) and both_pages(first) == both_pages(second)
+
+
 def xterm():
-    """Each row of tests-c/xterm.txt, whole and byte by byte, and from a copy at each byte."""
+    """Each row of tests-c/xterm.txt, whole and byte by byte, and from a copy and a repaint at each byte."""
     rows = [line.split("\t") for line in XTERM.read_text(encoding="utf-8").splitlines() if not line.startswith("#")]
     at_power_up = {"text": "", "cursor": "1;1", "alternate": "0", "brush": "", "bells": "0", "pending": "", "reports": "", "lines": ""}
     for name, data, *fields in rows:
@@ -201,6 +214,7 @@ def xterm():
             found = fed_xterm(data, size, lambda terminal, piece: (terminal.feed(piece), ""))
             check(found == {**wanted, "lines": ""}, "xterm", f"{name}: chunks of {size} without the log")
         check(all(copied_xterm(data, at) for at in range(len(data))), "xterm", f"{name}: copies")
+        check(all(rebuilt_xterm(data, at) for at in range(len(data))), "xterm", f"{name}: repaints")
     check(len(rows) >= 40, "xterm", f"{len(rows)} rows")
 
 
@@ -210,6 +224,7 @@ def terminals():
         check(terminal.feed_until_report(b"main\033[?1049h\033[6n\xe2") == (16, b"\033[1;5R") and terminal.alternate(), "terminals", "a report")
         check(not other.alternate() and other.feed(b"\033[?1049h") == b"" and not other.alternate(), "terminals", "a VT220 has one page")
         check(raises(ValueError, terminal.copy_from, other) and terminal.alternate(), "terminals", "no copy of a VT220")
+        check(raises(ValueError, other.xterm_repaint), "terminals", "a VT220 has no repaint of two pages")
         terminal.feed(b"\xe2\x80")
         copied = terminal.copy()
         check((copied.terminal, copied.alternate(), copied.pending()) == ("xterm", True, b"\xe2\x80"), "terminals", "a copy")

@@ -32,6 +32,11 @@ def terminal(data=b""):
     return made
 
 
+def is_same(one, two):
+    """Returns whether two terminals go on alike, whatever is pending."""
+    return one.xterm_repaint() == two.xterm_repaint() and one.same_state(two) and one.alternate() == two.alternate()
+
+
 def some(chance, most=60):
     return b"".join(chance.choice(PIECES) for _ in range(chance.randint(0, most)))
 
@@ -48,27 +53,21 @@ def bytes_rebuild_a_terminal(url, _):
         two.feed(rebuild.rebuilt(one))
         two.feed(one.pending())
         check((one.repaint(), one.alternate(), one.pending()) == before, name, f"{number}: the terminal stays")
-        check(two.pending() == one.pending() and rebuild.is_same(without_pending(one), without_pending(two)), name, f"{number}: it is rebuilt")
+        check(two.pending() == one.pending() and is_same(one, two), name, f"{number}: it is rebuilt")
         more = some(chance) + b"\030"
         for way in (more, MAIN, ALTERNATE, b"\033[?40h\033[?3h" + MAIN, ALTERNATE, b"\033[?3l" + MAIN, ALTERNATE):
             check(one.feed(way) == two.feed(way) and one.same_state(two) and one.alternate() == two.alternate(), name, f"{number}: and goes on alike: {way[:20]}")
     check(rebuild.rebuilt(vt220.Terminal("utf-8")) == vt220.Terminal().repaint(), name, "that of a VT220 is its repaint")
 
 
-def without_pending(one):
-    made = one.copy()
-    made.feed(b"\030")
-    return made
-
-
 def a_terminal_that_is_rebuilt_wrongly_is_found(url, _):
     """The comparison finds each part of the state that differs."""
     name, one = "compared", terminal(b"main\033[?47halt\0337\033[?47l")
     others = [b"main\033[?47hal\0337\033[?47l", b"main\033[?47halt\033[?47l", b"main\033[?47halt\0337", b"main\033[?47halt\0337\033[?47l\033[?40h", b"\033[?40h\033[?3h\033[?47hx\033[?47l\033[?3l\033[?40l"]
-    check(rebuild.is_same(one, one.copy()), name, "a copy is the same")
+    check(is_same(one, one.copy()), name, "a copy is the same")
     for other in others:
-        check(not rebuild.is_same(one, terminal(other)), name, f"{other} isn't")
-    check(not rebuild.is_same(terminal(others[-1]), terminal()), name, "nor is a page of another width")
+        check(not is_same(one, terminal(other)), name, f"{other} isn't")
+    check(not is_same(terminal(others[-1]), terminal()), name, "nor is a page of another width")
 
 
 def played(source):
@@ -116,7 +115,7 @@ def pieces_are_cut_anywhere(url, _):
     check(until(source.is_ended, one), name, f"it ends: {source.fault()}")
     now = session.as_it_is(source.store, source.incarnation).terminal
     check(source.store.hget(source.part("ended"), "text").decode() == whole.text(), name, "the text")
-    check(rebuild.is_same(now, whole), name, "both pages")
+    check(is_same(now, whole), name, "both pages")
     check(source.receive().reports() == reports and len(reports) > 100, name, f"the reports: {len(reports)} bytes")
 
 

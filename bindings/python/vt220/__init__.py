@@ -25,7 +25,7 @@ import threading
 from typing import Any, Callable, Dict, List, NamedTuple, Tuple, Type, Union
 
 __all__ = [
-    "ROWS", "COLUMNS", "REPORT_LIMIT", "TEXT_LIMIT", "ROW_TEXT_LIMIT", "SHOW_LIMIT", "PICTURE_LIMIT", "PAINT_LIMIT", "UPDATE_LIMIT",
+    "ROWS", "COLUMNS", "REPORT_LIMIT", "TEXT_LIMIT", "ROW_TEXT_LIMIT", "SHOW_LIMIT", "PICTURE_LIMIT", "PAINT_LIMIT", "XTERM_PAINT_LIMIT", "UPDATE_LIMIT",
     "KEY_LIMIT", "TYPED_LIMIT", "VERSION", "HELD", "ENCODINGS", "TERMINALS", "Error", "Memory", "InUse", "Closed", "Partial", "Room", "Unsupported", "NoRow", "NoKey", "NoCharacter",
     "NoLibrary", "Brush", "Cell", "Cursor", "Margins", "Modes", "Saved", "Sets", "Terminal", "key", "key_length", "shown", "status_text",
     "version",
@@ -39,6 +39,7 @@ ROW_TEXT_LIMIT = 397
 SHOW_LIMIT = 51000
 PICTURE_LIMIT = 659968
 PAINT_LIMIT = 93512
+XTERM_PAINT_LIMIT = 187052
 UPDATE_LIMIT = 94152
 KEY_LIMIT = 5
 TYPED_LIMIT = 16
@@ -294,6 +295,7 @@ def _declare(library: ctypes.PyDLL) -> None:
         ("show", status, [handle, handle, buffer, size, told]),
         ("picture", status, [handle, handle, buffer, size, told]),
         ("repaint", status, [handle, handle, buffer, size, told]),
+        ("xterm_repaint", status, [handle, handle, handle, buffer, size, told]),
         ("update", status, [handle, handle, handle, buffer, size, told]),
         ("row_changes", status, [handle, handle, size, ctypes.POINTER(_Marks)]),
         ("copy", status, [handle, handle]),
@@ -479,13 +481,14 @@ class Terminal:
     """Opens a terminal in its power-up state. Its host sends the VT220's own bytes ("dec"), or UTF-8 ("utf-8").
 
     With terminal="xterm" its host sends what programs send under TERM=xterm-256color. This is always UTF-8. alternate() returns whether
-    the alternate page is shown. A copy has both pages. The page that isn't shown is no part of a repaint or an update.
+    the alternate page is shown. A copy and xterm_repaint() have both pages. The page that isn't shown is no part of repaint() or update().
 
     It is closed by close(), by the end of a with statement, or when nothing refers to it any more. Raises Memory if an allocation
     fails. Each call of a closed terminal except close() raises Closed.
 
     In UTF-8 the last bytes of a chunk may begin a character. They are kept next to the terminal until its other bytes come: pending()
     returns them. A checkpoint is repaint() and, after it, pending(): fed to a new Terminal of the same encoding, the two lead on as here.
+    With terminal="xterm" it is xterm_repaint() and, after it, pending().
     """
 
     def __init__(self, encoding: str = "dec", terminal: str = "vt220") -> None:
@@ -621,6 +624,15 @@ class Terminal:
     def repaint(self) -> bytes:
         """Returns bytes that leave any terminal in this one's state. Raises Partial inside a sequence."""
         return self._written(_library.vt220_repaint, self._opened())
+
+    def xterm_repaint(self) -> bytes:
+        """Returns bytes that leave any terminal of TERM=xterm in this one's state, with both pages. What is pending of UTF-8 is left out.
+
+        Raises Partial inside a sequence, and ValueError if this terminal is a VT220, which has one page.
+        """
+        if self._xterm is None:
+            raise ValueError("a VT220 has one page: its bytes are those of repaint()")
+        return self._written(_library.vt220_xterm_repaint, self._opened(), self._xterm.handle)
 
     def update(self, to: "Terminal") -> bytes:
         """Brings this terminal to the state of `to`, and returns bytes that do the same to any terminal in this one's old state.

@@ -31,6 +31,7 @@ pub const VT220_ROW_TEXT_LIMIT: usize = 397;
 pub const VT220_SHOW_LIMIT: usize = 51000;
 pub const VT220_PICTURE_LIMIT: usize = 659968;
 pub const VT220_PAINT_LIMIT: usize = 93512;
+pub const VT220_XTERM_PAINT_LIMIT: usize = 187052;
 pub const VT220_UPDATE_LIMIT: usize = 94152;
 pub const VT220_KEY_LIMIT: usize = 5;
 pub const VT220_TYPED_LIMIT: usize = 16;
@@ -268,6 +269,14 @@ extern "C" {
     pub fn vt220_show(t: *const vt220, s: *mut vt220_scratch, out: *mut u8, size: usize, written: *mut usize) -> u32;
     pub fn vt220_picture(t: *const vt220, s: *mut vt220_scratch, out: *mut u8, size: usize, written: *mut usize) -> u32;
     pub fn vt220_repaint(t: *const vt220, s: *mut vt220_scratch, out: *mut u8, size: usize, written: *mut usize) -> u32;
+    pub fn vt220_xterm_repaint(
+        t: *const vt220,
+        x: *const vt220_xterm,
+        s: *mut vt220_scratch,
+        out: *mut u8,
+        size: usize,
+        written: *mut usize,
+    ) -> u32;
     pub fn vt220_update(shown: *mut vt220, to: *const vt220, s: *mut vt220_scratch, out: *mut u8, size: usize, written: *mut usize) -> u32;
     pub fn vt220_row_changes(shown: *const vt220, to: *const vt220, row: usize, marks: *mut vt220_row_marks) -> u32;
     pub fn vt220_row(t: *const vt220, row: usize, cells: *mut vt220_cell, size: usize) -> usize;

@@ -17,7 +17,7 @@ pub use vt220_sys::{
     VT220_REPORT_LIMIT as REPORT_LIMIT, VT220_ROWS as ROWS, VT220_ROW_TEXT_LIMIT as ROW_TEXT_LIMIT,
     VT220_SHOW_LIMIT as SHOW_LIMIT, VT220_TEXT_LIMIT as TEXT_LIMIT, VT220_UPDATE_LIMIT as UPDATE_LIMIT,
     VT220_TYPED_LIMIT as TYPED_LIMIT, VT220_UTF8_LINES_LIMIT as UTF8_LINES_LIMIT, VT220_VERSION as VERSION,
-    VT220_XTERM_LINES_LIMIT as XTERM_LINES_LIMIT,
+    VT220_XTERM_LINES_LIMIT as XTERM_LINES_LIMIT, VT220_XTERM_PAINT_LIMIT as XTERM_PAINT_LIMIT,
 };
 
 /// Holds the cursor, and whether the next character begins a new line.
@@ -282,6 +282,17 @@ impl Xterm {
     pub fn copy_from(&mut self, other: &Xterm) {
         // SAFETY: both handles are open.
         unsafe { sys::vt220_xterm_copy(&mut self.0, &other.0) };
+    }
+
+    /// Returns bytes that leave any terminal, and what it needs, as `terminal` and this are. `Terminal::feed_xterm` takes them. What is
+    /// pending of UTF-8 is left out: these bytes are fed after them.
+    ///
+    /// # Errors
+    ///
+    /// `Partial` inside a sequence.
+    pub fn repaint(&self, terminal: &Terminal, scratch: &mut Scratch) -> Result<Vec<u8>, Error> {
+        // SAFETY: the handles are open, and the scratch buffer has capacity for any repaint.
+        scratch.written(|s, out, written| unsafe { sys::vt220_xterm_repaint(&terminal.0, &self.0, s, out, XTERM_PAINT_LIMIT, written) })
     }
 }
 

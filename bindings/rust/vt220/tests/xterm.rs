@@ -1,6 +1,6 @@
 //! What programs send under TERM=xterm, through Rust: VT220_XTERM names the file of rows. Without it, this repository's file is read.
 use std::{env, fs};
-use vt220::{Scratch, Terminal, Xterm};
+use vt220::{Error, Scratch, Terminal, Xterm};
 
 fn bytes_of(hex: &str) -> Vec<u8> {
     hex.split_whitespace().map(|byte| u8::from_str_radix(byte, 16).unwrap()).collect()
@@ -38,6 +38,20 @@ fn row_of(fields: &[&str]) -> Row {
     row
 }
 
+/// Returns whether the repaint of a terminal and what it needs rebuilds both on others.
+fn rebuilds(terminal: &Terminal, xterm: &Xterm, scratch: &mut Scratch) -> bool {
+    let bytes = match xterm.repaint(terminal, scratch) {
+        Ok(bytes) => bytes,
+        Err(error) => return error == Error::Partial && !terminal.is_between(),
+    };
+    let (mut other, mut rebuilt) = (Terminal::new().unwrap(), Xterm::new().unwrap());
+    other.feed_xterm(&mut rebuilt, b"other\x1b[?47hpage\xe2");
+    let is_silent = other.feed_xterm(&mut rebuilt, &bytes).is_empty() && rebuilt.pending().pending().is_empty();
+    other.feed_xterm(&mut rebuilt, xterm.pending().pending());
+    let is_same = other.same_state(terminal) && rebuilt.alternate() == xterm.alternate() && rebuilt.pending() == xterm.pending();
+    is_silent && is_same && rebuilt.repaint(&other, scratch) == Ok(bytes)
+}
+
 /// Returns what chunks of a size lead to, with the log and without one. Another terminal is copied from it after each chunk.
 fn fed(input: &[u8], size: usize, scratch: &mut Scratch) -> Row {
     let (mut terminal, mut xterm) = (Terminal::new().unwrap(), Xterm::new().unwrap());
@@ -50,6 +64,7 @@ fn fed(input: &[u8], size: usize, scratch: &mut Scratch) -> Row {
         (other, copied) = (Terminal::new().unwrap(), Xterm::new().unwrap());
         other.copy_from(&terminal);
         copied.copy_from(&xterm);
+        assert!(rebuilds(&terminal, &xterm, scratch));
         reports.extend(now);
         lines += &off;
     }

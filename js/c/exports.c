@@ -215,6 +215,10 @@ EXPORT(xterm_alternate) uint32_t js_xterm_alternate(uint32_t x) { return vt220_x
 /* Writes the pending part to what `utf8` returns. */
 EXPORT(xterm_pending) void js_xterm_pending(uint32_t x) { vt220_xterm_pending(AT(vt220_xterm, x), &utf8); }
 
+EXPORT(xterm_repaint) uint32_t js_xterm_repaint(uint32_t t, uint32_t x) {
+    return vt220_xterm_repaint(AT(vt220, t), AT(vt220_xterm, x), &scratch, out, sizeof out, &written);
+}
+
 EXPORT(feed_xterm) uint32_t js_feed_xterm(uint32_t t, uint32_t x, uint32_t from, uint32_t to) {
     return (uint32_t)vt220_feed_xterm(AT(vt220, t), AT(vt220_xterm, x), input + from, to - from, reports, reports_size, &written);
 }

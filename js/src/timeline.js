@@ -1,6 +1,6 @@
 // timeline.js: the terminal at each moment of a recording. A position is a number of bytes, and the state there is that of the bytes
 // before it. So it doesn't depend on how a seek got there: from the beginning, or from a checkpoint. This is a repaint and the pending bytes
-// of UTF-8, or under TERM=xterm a copy of the terminal.
+// of UTF-8.
 import { ROWS, Terminal } from "./vt220.js";
 
 /** How many bytes lie between two checkpoints. A seek plays at most about as many. */
@@ -49,7 +49,6 @@ export class Timeline {
 
   close() {
     this.terminal.close();
-    for (const { copy } of this.#checkpoints) copy?.close();
   }
 
   get length() {
@@ -91,23 +90,18 @@ export class Timeline {
     return position <= 0 ? 0 : this.#times[Math.min(chunk, this.#times.length - 1)] ?? 0;
   }
 
-  /** Returns a checkpoint of this position. No bytes lead to both pages of a terminal of TERM=xterm, so there it is a copy, of 56 KB. */
+  /** Returns a checkpoint of this position, which is between sequences. */
   #checkpoint() {
     const { position, terminal } = this;
-    if (terminal.terminal === "vt220") return { position, repaint: terminal.repaint(), pending: terminal.pending };
-    const copy = new Terminal(this.#core, { terminal: terminal.terminal });
-    copy.copyFrom(terminal);
-    return { position, copy };
+    const repaint = terminal.terminal === "xterm" ? terminal.xtermRepaint() : terminal.repaint();
+    return { position, repaint, pending: terminal.pending };
   }
 
   /** Brings the terminal to a checkpoint. */
-  #restore({ position, repaint, pending, copy }) {
-    if (copy) this.terminal.copyFrom(copy);
-    else {
-      this.terminal.reset();
-      this.terminal.feed(repaint);
-      this.terminal.feed(pending);
-    }
+  #restore({ position, repaint, pending }) {
+    this.terminal.reset();
+    this.terminal.feed(repaint);
+    this.terminal.feed(pending);
     this.position = position;
   }
 

@@ -125,7 +125,7 @@ export declare class Terminal {
   constructor(core: Core, options?: { encoding?: Encoding; terminal?: TerminalName });
   readonly encoding: Encoding;
   readonly terminal: TerminalName;
-  /** Whether the alternate page is shown. A VT220 has none. The page that isn't shown is no part of a state, a repaint or an update. */
+  /** Whether the alternate page is shown. A VT220 has none. The page that isn't shown is no part of sameState, repaint and update. */
   readonly alternate: boolean;
   /** Frees the terminal's memory. Does nothing if it is closed. */
   close(): void;
@@ -140,7 +140,8 @@ export declare class Terminal {
   feedLog(bytes: Uint8Array): { replies: Uint8Array; lines: string[] };
   /**
    * The bytes at the end of the input that begin a character of UTF-8, at most three. Nothing shows them yet. They aren't part of the
-   * state: a checkpoint is repaint() and, after it, pending. Fed to a new terminal of the same encoding, the two lead on as here.
+   * state: a checkpoint is repaint(), or xtermRepaint() under TERM=xterm, and, after it, pending. Fed to a new terminal of the same encoding,
+   * the two lead on as here.
    */
   readonly pending: Uint8Array;
   /** Resets the terminal to its power-up state, as RIS does, also inside a sequence. Nothing is pending then. */
@@ -161,6 +162,11 @@ export declare class Terminal {
   picture(): string;
   /** Returns bytes that leave any terminal of this library in exactly this state. Throws PARTIAL inside a sequence. */
   repaint(): Uint8Array;
+  /**
+   * Returns bytes that leave any terminal of TERM=xterm in exactly this state, with both pages. What is pending of UTF-8 is left out. Throws
+   * PARTIAL inside a sequence, and TypeError if this terminal is a VT220, which has one page.
+   */
+  xtermRepaint(): Uint8Array;
   /**
    * Returns bytes that lead from this state to that of `to`, and brings this terminal there. They are empty exactly if the two are
    * equal. Throws PARTIAL if one of the two is inside a sequence.

@@ -299,6 +299,11 @@ export class Terminal {
     return this.#written("repaint");
   }
 
+  xtermRepaint() {
+    if (this.#handle && this.#xterm === 0) throw new TypeError("a VT220 has one page: its bytes are those of repaint()");
+    return this.#written("xterm_repaint", this.#xterm);
+  }
+
   update(to) {
     return this.#written("update", this.#other(to));
   }

@@ -33,23 +33,24 @@ function fed(core, Terminal, options, input, size, log) {
   return found;
 }
 
-/** Returns whether two terminals have the same state, the same pending bytes and the same pages. Leaves another page shown. */
-function same(a, b) {
-  const isSame = a.sameState(b) && equal(a.pending, b.pending) && a.alternate === b.alternate;
-  for (const each of [a, b]) each.feed(ascii(each.alternate ? "\x18\x1b[?47l" : "\x18\x1b[?47h"));
-  return isSame && a.sameState(b);
+/** Returns whether terminals have the same state, the same pending bytes and the same pages. Leaves another page shown. */
+function same(a, ...others) {
+  const isSame = others.every((b) => a.sameState(b) && equal(a.pending, b.pending) && a.alternate === b.alternate);
+  for (const each of [a, ...others]) each.feed(ascii(each.alternate ? "\x18\x1b[?47l" : "\x18\x1b[?47h"));
+  return isSame && others.every((b) => a.sameState(b));
 }
 
-/** Returns whether a copy after so many bytes leads to the same end, and a VT220's repaint with what is pending. */
+/** Returns whether a copy after so many bytes leads to the same end, and a repaint with what is pending. */
 function resumes(core, Terminal, options, input, at) {
   const [whole, first, second, copied] = Array.from({ length: 4 }, () => new Terminal(core, options));
   whole.feed(input);
   first.feed(input.subarray(0, at));
   copied.copyFrom(first);
-  if (first.isBetween && first.terminal === "vt220") second.feed(first.repaint()), second.feed(first.pending);
+  second.feed(ascii(second.terminal === "xterm" ? "other\x1b[?47hpage" : ""));
+  if (first.isBetween) second.feed(first.terminal === "xterm" ? first.xtermRepaint() : first.repaint()), second.feed(first.pending);
   else second.copyFrom(first);
   for (const each of [copied, second]) each.feed(input.subarray(at));
-  const isSame = equal(whole.pending, second.pending) && whole.sameState(second) && same(whole, copied);
+  const isSame = same(whole, copied, second);
   for (const each of [whole, first, second, copied]) each.close();
   return isSame;
 }
@@ -106,6 +107,7 @@ function terminals({ Terminal }, core, check) {
   const terminal = new Terminal(core, { terminal: "xterm" }), other = new Terminal(core, { encoding: "utf-8", terminal: "vt220" });
   check("the terminals", terminal.terminal === "xterm" && terminal.encoding === "utf-8" && other.terminal === "vt220" && new Terminal(core).terminal === "vt220");
   check("another terminal", ["xterm-256color", "", null, 8].every((name) => thrown(() => new Terminal(core, { terminal: name })) === "TypeError"));
+  check("a VT220 has no repaint of two pages", thrown(() => other.xtermRepaint()) === "TypeError");
   terminal.feed(ascii("main\x1b[?1049h\xe2"));
   other.feed(ascii("\x1b[?1049h"));
   check("the pages", terminal.alternate && !other.alternate && equal(terminal.pending, [0xe2]));

@@ -1,6 +1,6 @@
 -- Functions as bytes: their parts, and their forms by tables.
 use Rattle.std.proofs.Common.{◌≡◌, Bool, true, false, ℕ, ◌+◌, ◌≤◌, ◌<◌, List, [], ◌∷◌, ◌++◌, length, take, drop, refl, sym, ap}
-use Rattle.std.proofs.Common.{subst, ◌∙◌, append_assoc, append-nil, arith, decimal, cond, ◌&&◌, eqb}
+use Rattle.std.proofs.Common.{subst, ◌∙◌, append_assoc, arith, eqb}
 use Rattle.std.specs.Fmt.{digits}
 use Rattle.std.specs.List.{list_all, range_with_len}
 use Rattle.std.specs.Prelude.{slice_index_or}
@@ -8,17 +8,16 @@ use Rattle.std.specs.Cmp.Lexicographic.{pointwise, pointwise_decides}
 use Rattle.std.proofs.lemmas.Bool.Decides.{Decides-eqb}
 use Rattle.std.proofs.Math.Seq.{take-take, take-append-add}
 use Rattle.vt_glyph.proofs.Lists.{all_in_range}
-use Rattle.vt_glyph.specs.declared.set.Set.{Set}
 use Rattle.vt_syntax.specs.Spelling.{spell_event}
 use Rattle.vt_screen.specs.declared.cell.Rendition.{Rendition}
 use Rattle.vt_controls.specs.declared.modes.TheConstants.{FRONTS, LENGTHS}
 use Rattle.vt_controls.specs.Controls.{mode_event}
-use Rattle.vt_controls.specs.Spoken.{Escape, Sequence, are_attributes, is_spoken, Speaks}
+use Rattle.vt_controls.specs.Spoken.{are_attributes, Speaks}
 use Rattle.vt_controls.specs.Private.Attributes.{attributes}
 use Rattle.vt_controls.specs.Private.Tables.{mode_last}
 use Rattle.vt_syntax.specs.Class.{opens_string}
 use Rattle.vt_controls.proofs.Speech.{fine_speaks}
-use Rattle.vt_controls.proofs.Tests.{is_fine, both_pass, at_bool, all_brushes, at_brush, all_sets, at_set, all_three, at_three}
+use Rattle.vt_controls.proofs.Tests.{is_fine, both_pass, at_bool, all_brushes, at_brush}
 
 -- bytes are equal, by a test
 abbrev pub same_bytes : List ℕ → List ℕ → Bool

@@ -1,6 +1,6 @@
 -- Tests that compute: of each truth value, brush and set, and of events.
 use Rattle.std.proofs.Common.{suc, ◌≡◌, inl, inr, Bool, true, false, not, cond, ◌&&◌, ◌||◌, ℕ, ◌-◌, ◌≤◌, List, []}
-use Rattle.std.proofs.Common.{◌∷◌, ◌++◌, length, Option, Some, None, refl, subst, arith, eqb, leb, ltb}
+use Rattle.std.proofs.Common.{◌∷◌, ◌++◌, length, Option, Some, None, refl, arith, eqb, leb, ltb}
 use Rattle.std.specs.Prelude.{IfSome}
 use Rattle.std.specs.List.{list_all}
 use Rattle.std.specs.Option.{option_to_list}
@@ -17,7 +17,8 @@ use Rattle.vt_glyph.specs.declared.set.Set.TheVariants.{Ascii, British, German, 
 use Rattle.vt_screen.specs.declared.cell.Brush.{Brush}
 use Rattle.vt_term.specs.State.{Display}
 use Rattle.vt_term.specs.Parameters.{first}
-use Rattle.vt_term.specs.Reports.{report, control_report, sequence_report}
+use Rattle.vt_term.specs.Reports.{report}
+use Rattle.vt_term.proofs.Silent.{silent-control, silent-sequence}
 use Rattle.vt_controls.specs.Spoken.{Element, is_spoken}
 use Rattle.vt_controls.specs.Spoken as spoken
 
@@ -132,25 +133,13 @@ event_is (Sequence marker params inter last) h =
     marker_is None h = tt
     marker_is (Some m) h = let r = range 0x3F 0x3F m h in (omega arith, r.1)
 
-no_report : (marker inter : Option ℕ) (last v : ℕ) (s : Display) → some_in 0x3F 0x3F marker ≡ true
-    → eqb last 0x63 ≡ false → eqb last 0x6E ≡ false → sequence_report marker inter last v s ≡ []
-unfolding sequence_report
-no_report None None last v s h c n = rw (c, n) refl
-no_report (Some m) None last v s h c n =
-    let r = range 0x3F 0x3F m h in
-    let is : 0x3F ≡ m = omega arith in
-    subst (λ m. sequence_report (Some m) None last v s ≡ []) is (rw n refl)
-no_report None (Some i) last v s h c n = refl
-no_report (Some m) (Some i) last v s h c n = refl
-
 is_silent : (e : Event) → is_event e ≡ true → (s : Display) → report e s ≡ []
-unfolding control_report
 is_silent (Print b) h s = refl
-is_silent (Control b) h s = rw (not_true (eqb b 0x9A) (and_parts (not (eqb b 0x9A)) _ h).0) refl
+is_silent (Control b) h s = silent-control b s (not_true (eqb b 0x9A) (and_parts (not (eqb b 0x9A)) _ h).0)
 is_silent (Escape i last) h s = refl
 is_silent (Sequence marker params inter last) h s =
     let part = AllPass-from_list_all (λ t. t) (parts marker params.items inter last) h in
-    no_report marker inter last (first params.items) s (part 0 true (omega arith)) (not_true _ (part 3 true (omega arith)))
+    silent-sequence marker inter last (first params.items) s (not_true _ (part 3 true (omega arith)))
     (not_true _ (part 4 true (omega arith)))
 
 -- an event, spelled, as an element

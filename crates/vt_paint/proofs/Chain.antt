@@ -16,7 +16,7 @@ use Rattle.vt_term.specs.State.{Display, at_place, full_margins, modes_at_power_
 use Rattle.vt_term.specs.Sound.{AreSoundMargins, IsSoundDisplay, IsPlace}
 use Rattle.vt_term.specs.Modes.{with_mode}
 use Rattle.vt_term.specs.Functions.{sequence_in, sequences_of, plain_escape, effect}
-use Rattle.vt_term.specs.Reports.{line_of_cursor}
+use Rattle.vt_term.specs.Answers.{line_of_cursor}
 use Rattle.vt_paint.specs.Same.{same_saved}
 use Rattle.vt_controls.specs.Controls.{margins_to, brush_events, sets_events, spelling_sets_events, private_mode}
 use Rattle.vt_controls.specs.Controls.{cursor_position, save_cursor}

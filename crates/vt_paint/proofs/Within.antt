@@ -58,7 +58,8 @@ use Rattle.vt_term.specs.declared.state.Modes.{Modes}
 use Rattle.vt_term.specs.declared.state.Saved.{Saved}
 use Rattle.vt_term.specs.Functions.{effect}
 use Rattle.vt_term.specs.Sound.{IsSoundDisplay}
-use Rattle.vt_term.specs.Reports.{line_of_cursor, report}
+use Rattle.vt_term.specs.Answers.{line_of_cursor}
+use Rattle.vt_term.specs.Reports.{report}
 use Rattle.vt_term.specs.Play.{reports_of, after_events}
 use Rattle.vt_paint.specs.Repaint.{made_events, repaint_events}
 use Rattle.vt_paint.specs.Changes.{differs_at, differing_from, differing, is_marked, AreMarked, AreChanges}

@@ -14,7 +14,7 @@ use Rattle.vt_term.specs.declared.state.Modes.{Modes}
 use Rattle.vt_term.specs.declared.state.Saved.{Saved}
 use Rattle.vt_term.specs.State.{Display, has_stop_at, stops_at_power_up, saved_sets, saved_at_power_up}
 use Rattle.vt_term.specs.State.{modes_at_power_up}
-use Rattle.vt_term.specs.Reports.{line_of_cursor}
+use Rattle.vt_term.specs.Answers.{line_of_cursor}
 use Rattle.vt_screen.specs.Same.{same_bool, when}
 use Rattle.vt_paint.specs.Same.{same_saved}
 use Rattle.vt_controls.specs.Controls.{private_mode, cursor_position, margins_to, ModeRow, mode_rows}

@@ -8,6 +8,8 @@ pub mod Bytes
 mod GlyphSizes
 mod Equal
 pub mod SoundEffects
+pub mod Tables
+pub mod Silent
 pub mod SoundPlay
 mod Playing
 mod Forgetting

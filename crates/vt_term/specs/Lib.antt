@@ -11,8 +11,10 @@ pub mod Rendition
 pub mod Modes
 pub mod Saving
 pub mod Resets
+pub mod Answers
 pub mod Functions
 pub mod Reports
+pub mod Names
 pub mod Play
 pub mod Text
 pub mod Scrolling

@@ -1,6 +1,6 @@
 -- Moving the cursor. Each of these resets the wrap flag, but for margins that have no effect. (EK-VT220-RM; the flag is
 -- this profile's)
-use Rattle.std.specs.Prelude.{ℕ, ◌+◌, ◌-◌, min, max, ◌==◌, nat_le, nat_lt, if◌then◌else◌}
+use Rattle.std.specs.Prelude.{ℕ, Bool, ◌+◌, ◌-◌, min, max, ◌==◌, nat_le, nat_lt, if◌then◌else◌}
 use Rattle.vt_screen.specs.Grid.{last_row, scroll_up, scroll_down}
 use Rattle.vt_term.specs.State.{Display, last_column, at_place}
 use Rattle.vt_term.specs.Parameters.{from_one}
@@ -69,9 +69,15 @@ next_line s = index (carriage_return s)
 abbrev pub line_feed : Display → Display
 line_feed s = if s.modes.lnm then next_line s else index s
 
--- DECSTBM: margins of at least two rows, and the cursor goes home; else no effect
+abbrev pub bottom_margin : ℕ → ℕ
+bottom_margin p = if p == 0 then last_row else min p last_row
+
+-- margins of at least two rows
+abbrev pub are_margins : ℕ → ℕ → Bool
+are_margins p1 p2 = nat_lt (from_one p1) (bottom_margin p2)
+
+-- DECSTBM: the cursor goes home; what are no margins has no effect
 abbrev pub set_margins : ℕ → ℕ → Display → Display
 set_margins p1 p2 s =
-    let top = from_one p1 in
-    let bottom = if p2 == 0 then last_row else min p2 last_row in
-    if nat_lt top bottom then home (record s { margins = record { top = top; bottom = bottom } }) else s
+    if are_margins p1 p2
+    then home (record s { margins = record { top = from_one p1; bottom = bottom_margin p2 } }) else s

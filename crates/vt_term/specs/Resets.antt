@@ -1,5 +1,5 @@
 -- Resets, and the screen alignment pattern. (EK-VT220-RM; the list of the soft reset is this profile's)
-use Rattle.std.specs.Prelude.{ℕ, Bool, true, false, Option, Some, None, ◌==◌, ◌&&◌, ◌||◌, if◌then◌else◌}
+use Rattle.std.specs.Prelude.{ℕ, Bool, true, false, Option, Some, None, is_some, ◌==◌, ◌&&◌, ◌||◌, if◌then◌else◌}
 use Rattle.vt_glyph.specs.Invocation.{sets_at_power_up}
 use Rattle.vt_screen.specs.Cells.{plain_brush, cell_of}
 use Rattle.vt_screen.specs.Grid.{fill}
@@ -40,6 +40,10 @@ abbrev pub asked_form : ℕ → ℕ → Option Bool
 asked_form p1 p2 =
     if p1 == 61 || p1 == 62 && p2 == 1 then Some false else (
     if p1 == 62 && (p2 == 0 || p2 == 2) then Some true else None)
+
+-- the values of DECSCL
+abbrev pub is_level : ℕ → ℕ → Bool
+is_level p1 p2 = is_some (asked_form p1 p2)
 
 abbrev pub soft_reset_to : Option Bool → Display → Display
 soft_reset_to None s = s

@@ -243,7 +243,7 @@ impl Display {
     /// Carries out a control sequence without marker and intermediate: DA and DSR report, and the others change the
     /// display.
     #[inline(never)]
-    #[tactic(auto, unfolding(crate::specs::Functions::sequence_in, crate::specs::Reports::sequence_report))]
+    #[tactic(auto, unfolding(crate::specs::Functions::sequences_of, crate::specs::Functions::sequence_in, crate::specs::Reports::sequence_report))]
     fn plain_sequence(&mut self, last: u8, params: &[u16], out: &mut Vec<u8>)
         requires room { vec_len out.old + 10 ≤ vec_capacity out.old }
         ensures state { self.new ≡ sequence_in plain_sequences last params.now self.old }
@@ -277,7 +277,7 @@ impl Display {
     }
 
     /// Carries out a private control sequence, with the marker `?`.
-    #[tactic(auto, unfolding(crate::specs::Functions::sequence_in, crate::specs::Reports::sequence_report))]
+    #[tactic(auto, unfolding(crate::specs::Functions::sequences_of, crate::specs::Functions::sequence_in, crate::specs::Reports::sequence_report))]
     fn private_sequence(&mut self, last: u8, params: &[u16], out: &mut Vec<u8>)
         requires room { vec_len out.old + 10 ≤ vec_capacity out.old }
         ensures state { self.new ≡ sequence_in private_sequences last params.now self.old }
@@ -297,7 +297,7 @@ impl Display {
     }
 
     /// Carries out a control sequence with the marker `>`: secondary DA.
-    #[tactic(auto, unfolding(crate::specs::Reports::sequence_report))]
+    #[tactic(auto, unfolding(crate::specs::Functions::sequences_of, crate::specs::Reports::sequence_report))]
     fn greater_sequence(&self, last: u8, params: &[u16], out: &mut Vec<u8>)
         requires room { vec_len out.old + 10 ≤ vec_capacity out.old }
         ensures items { out.new.items

@@ -1,6 +1,7 @@
 //! The terminal's reports.
-ghost use Rattle.std.specs.Prelude.{◌≡◌, ◌+◌, ◌≤◌, ◌<◌, ◌++◌, Some, None, length, decimal, vec_len, vec_capacity};
-ghost use Rattle.vt_term.specs.Reports.{answer, cursor_report, control_report, sequence_report};
+ghost use Rattle.std.specs.Prelude.{◌≡◌, ◌+◌, ◌≤◌, ◌<◌, ◌++◌, length, decimal, vec_len, vec_capacity};
+ghost use Rattle.vt_term.specs.Answers.{answer, cursor_report, reported, primary_reports, status_reports, private_reports};
+ghost use Rattle.vt_term.specs.Reports.{control_report};
 
 use crate::codes::{CSI, DECID};
 use crate::display::Display;
@@ -23,10 +24,9 @@ impl Display {
 
     /// Appends the report to DA, by the first parameter.
     #[inline(never)]
-    #[tactic(auto, unfolding(crate::specs::Reports::sequence_report))]
     pub(crate) fn report_attributes(&self, p: u16, out: &mut Vec<u8>)
         requires { vec_len out.old + 10 ≤ vec_capacity out.old }
-        ensures items { out.new.items ≡ out.old.items ++ sequence_report None None 0x63 p self.now }
+        ensures items { out.new.items ≡ out.old.items ++ reported primary_reports p self.now }
         ensures bounded { vec_len out.new ≤ vec_len out.old + 10 }
         ensures capacity { vec_capacity out.old ≤ vec_capacity out.new }
     {
@@ -38,10 +38,9 @@ impl Display {
 
     /// Appends the report to DSR: the operating status, or the cursor's position.
     #[inline(never)]
-    #[tactic(auto, unfolding(crate::specs::Reports::sequence_report))]
     pub(crate) fn report_status(&self, p: u16, out: &mut Vec<u8>)
         requires { vec_len out.old + 10 ≤ vec_capacity out.old }
-        ensures items { out.new.items ≡ out.old.items ++ sequence_report None None 0x6E p self.now }
+        ensures items { out.new.items ≡ out.old.items ++ reported status_reports p self.now }
         ensures bounded { vec_len out.new ≤ vec_len out.old + 10 }
         ensures capacity { vec_capacity out.old ≤ vec_capacity out.new }
     {
@@ -54,10 +53,9 @@ impl Display {
 
     /// Appends the report to DSR with the marker `?`: the printer, or the keyboard's language.
     #[inline(never)]
-    #[tactic(auto, unfolding(crate::specs::Reports::sequence_report))]
     pub(crate) fn report_private_status(&self, p: u16, out: &mut Vec<u8>)
         requires { vec_len out.old + 10 ≤ vec_capacity out.old }
-        ensures items { out.new.items ≡ out.old.items ++ sequence_report (Some 0x3F) None 0x6E p self.now }
+        ensures items { out.new.items ≡ out.old.items ++ reported private_reports p self.now }
         ensures bounded { vec_len out.new ≤ vec_len out.old + 10 }
         ensures capacity { vec_capacity out.old ≤ vec_capacity out.new }
     {

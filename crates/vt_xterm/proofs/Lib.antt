@@ -1,4 +1,3 @@
-mod Tables
 pub mod Colours
 pub mod Cuts
 mod Terminals

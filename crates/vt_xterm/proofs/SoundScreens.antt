@@ -35,7 +35,7 @@ use Rattle.vt_screen.specs.Laws.{RowLaws, TestLaws}
 use Rattle.vt_screen.specs.declared.cell.Cell.{Cell}
 use Rattle.vt_utf8.specs.Decoding.{characters}
 use Rattle.vt_utf8.specs.Translation.{translation}
-use Rattle.vt_xterm.proofs.Tables.{AllRows, looked_up-holds, same-numbers}
+use Rattle.vt_term.proofs.Tables.{AllRows, looked_up-holds, same-numbers}
 use Rattle.vt_xterm.specs.Columns.{cursor_character_absolute, line_position_absolute, line_position_forward}
 use Rattle.vt_xterm.specs.Columns.{cursor_next_line, cursor_preceding_line}
 use Rattle.vt_xterm.specs.Scroll.{rows_up, rows_down, rows_down_by}

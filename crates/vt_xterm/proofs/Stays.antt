@@ -10,8 +10,8 @@ use Rattle.vt_glyph.specs.declared.set.Set.{Set}
 use Rattle.vt_screen.specs.Grid.{Grid, scroll_up, scroll_down, put, put_inserting}
 use Rattle.vt_screen.specs.Cells.{cell_of}
 use Rattle.vt_term.specs.State.{Display, last_column}
-use Rattle.vt_term.specs.Parameters.{first, second, count, from_one}
-use Rattle.vt_term.specs.Moving.{carriage_return, index, reverse_index, next_line, line_feed, set_margins}
+use Rattle.vt_term.specs.Parameters.{first, second, count}
+use Rattle.vt_term.specs.Moving.{carriage_return, index, reverse_index, next_line, line_feed, are_margins, set_margins}
 use Rattle.vt_term.specs.Tabs.{horizontal_tab, clear_tabs}
 use Rattle.vt_term.specs.Writing.{after_wrap, with_glyph, write_glyph, write_if_read, print}
 use Rattle.vt_term.specs.Editing.{is_inside, insert_line, delete_line, erase_in_display, erase_in_line, names_area}
@@ -19,10 +19,12 @@ use Rattle.vt_term.specs.Rendition.{select_character_attribute}
 use Rattle.vt_term.specs.Modes.{ansi_modes, private_modes, with_mode, change_modes}
 use Rattle.vt_term.specs.Saving.{save_cursor, restore_cursor}
 use Rattle.vt_term.specs.Resets.{screen_alignment, set_conformance_level, soft_reset_to, asked_form}
-use Rattle.vt_term.specs.Functions.{unchanged, control, control_functions, plain_escape, space_escapes, escape_with}
+use Rattle.vt_term.specs.Functions.{Function, no_function, controls, control, plain_escape, escape_with}
+use Rattle.vt_term.specs.Functions.{space_escapes, number_sign_escapes, marker_tables, intermediate_tables}
 use Rattle.vt_term.specs.Functions as terminal
 use Rattle.vt_term.specs.Functions.{escape_tables, designate, designate_to, byte, effect, sequence_in, sequences_of}
-use Rattle.vt_term.specs.Functions.{plain_sequences, private_sequences, quote_sequences, exclamation_sequences}
+use Rattle.vt_term.specs.Functions.{plain_sequences, private_sequences, greater_sequences}
+use Rattle.vt_term.specs.Functions.{quote_sequences, exclamation_sequences}
 use Rattle.vt_xterm.specs.Repeating.{times, column_before, glyph_before, room, repeat}
 use Rattle.vt_xterm.specs.Tabs.{back_tab, cursor_forward_tabulation, cursor_backward_tabulation}
 use Rattle.vt_xterm.specs.Scroll.{rows_down, rows_down_by}
@@ -30,7 +32,7 @@ use Rattle.vt_xterm.specs.Pages.{Screens, on_display, save_or_restore, page_mode
 use Rattle.vt_xterm.specs.Front.{is_bare, save_if_bare, restore_if_bare, plain_functions, private_functions, exclamation_functions}
 use Rattle.vt_xterm.specs.Front.{functions_of, function_in, plain_escapes, xterm_effect}
 use Rattle.vt_xterm.specs.Front.{is_page_mode, sets_page_mode, is_page_function}
-use Rattle.vt_xterm.proofs.Tables.{AllRows, looked_up-holds}
+use Rattle.vt_term.proofs.Tables.{AllRows, looked_up-holds}
 
 -- a function leaves the width
 abbrev pub Fits : (Display → Display) → Type 0
@@ -106,7 +108,7 @@ clear_tabs-fits p s = chosen-fits (p == 0) s _ _ refl (chosen-fits (p == 3) s _ 
 
 set_margins-fits : (p1 p2 : ℕ) → Fits (set_margins p1 p2)
 set_margins-fits p1 p2 s =
-    chosen-fits (nat_lt (from_one p1) (if p2 == 0 then 24 else min p2 24)) s _ s refl refl
+    chosen-fits (are_margins p1 p2) s _ s refl refl
 
 set_conformance_level-fits : (p1 p2 : ℕ) → Fits (set_conformance_level p1 p2)
 set_conformance_level-fits p1 p2 s = go (asked_form p1 p2)
@@ -171,21 +173,20 @@ private_modes-fit on (p ∷ params) none s =
 control-fits : (b : ℕ) → Fits (control b)
 unfolding control AllRows
 control-fits b =
-    looked_up-holds (λ key f. Fits f) control_functions b unchanged (λ s. refl) (search (rules, fitting))
+    looked_up-holds (λ key f. Fits (f.effect [])) controls b no_function (λ s. refl) (search (rules, fitting))
 
 plain_escape-fits : (last : ℕ) → (last == 0x63) ≡ false → Fits (plain_escape last)
 unfolding plain_escape AllRows
 plain_escape-fits last =
-    looked_up-holds (λ key f. (key == 0x63) ≡ false → Fits f) terminal.plain_escapes last unchanged (λ h s. refl) (search (rules, fitting))
+    looked_up-holds (λ key f. (key == 0x63) ≡ false → Fits (f.effect [])) terminal.plain_escapes last no_function (λ h s. refl) (search (rules, fitting))
 
 escape_with-fits : (inter last : ℕ) → Fits (escape_with inter last)
 unfolding escape_with AllRows
 escape_with-fits inter last =
-    looked_up-holds (λ key f. Fits (f last)) escape_tables inter (λ last. unchanged) (λ s. refl) (
-      looked_up-holds (λ key f. Fits f) space_escapes last unchanged (λ s. refl) (search rules),
+    looked_up-holds (λ key (f : ℕ → Function). Fits ((f last).effect [])) escape_tables inter (λ last. no_function) (λ s. refl) (
+      looked_up-holds (λ key f. Fits (f.effect [])) space_escapes last no_function (λ s. refl) (search rules),
       (
-        looked_up-holds (λ key f. Fits f) ((byte (codes "8"), screen_alignment) ∷ []) last unchanged (λ s. refl)
-            (search rules),
+        looked_up-holds (λ key f. Fits (f.effect [])) number_sign_escapes last no_function (λ s. refl) (search rules),
         search (rules, fitting),
       ),
     )
@@ -193,24 +194,29 @@ escape_with-fits inter last =
 plain_sequence-fits : (last : ℕ) (params : List ℕ) → Fits (sequence_in plain_sequences last params)
 unfolding sequence_in AllRows
 plain_sequence-fits last params =
-    looked_up-holds (λ key f. Fits (f params)) plain_sequences last (λ params. unchanged) (λ s. refl) (search (rules, fitting, ansi_modes-fit))
+    looked_up-holds (λ key f. Fits (f.effect params)) plain_sequences last no_function (λ s. refl) (search (rules, fitting, ansi_modes-fit))
 
 private_sequence-fits : (last : ℕ) (params : List ℕ) → sets_page_mode 0x3F last params ≡ false
     → Fits (sequence_in private_sequences last params)
 unfolding sequence_in AllRows
 private_sequence-fits last params =
-    looked_up-holds (λ key f. sets_page_mode 0x3F key params ≡ false → Fits (f params)) private_sequences last
-    (λ params. unchanged) (λ h s. refl) (search (rules, fitting, private_modes-fit))
+    looked_up-holds (λ key f. sets_page_mode 0x3F key params ≡ false → Fits (f.effect params)) private_sequences last
+    no_function (λ h s. refl) (search (rules, fitting, private_modes-fit))
+
+greater_sequence-fits : (last : ℕ) (params : List ℕ) → Fits (sequence_in greater_sequences last params)
+unfolding sequence_in AllRows
+greater_sequence-fits last params =
+    looked_up-holds (λ key f. Fits (f.effect params)) greater_sequences last no_function (λ s. refl) (λ s. refl, tt)
 
 quote_sequence-fits : (last : ℕ) (params : List ℕ) → Fits (sequence_in quote_sequences last params)
 unfolding sequence_in AllRows
 quote_sequence-fits last params =
-    looked_up-holds (λ key f. Fits (f params)) quote_sequences last (λ params. unchanged) (λ s. refl) (search (rules, fitting))
+    looked_up-holds (λ key f. Fits (f.effect params)) quote_sequences last no_function (λ s. refl) (search (rules, fitting))
 
 exclamation_sequence-fits : (last : ℕ) (params : List ℕ) → Fits (sequence_in exclamation_sequences last params)
 unfolding sequence_in AllRows
 exclamation_sequence-fits last params =
-    looked_up-holds (λ key f. Fits (f params)) exclamation_sequences last (λ params. unchanged) (λ s. refl) (search (rules, fitting))
+    looked_up-holds (λ key f. Fits (f.effect params)) exclamation_sequences last no_function (λ s. refl) (search (rules, fitting))
 
 none-fits : (last : ℕ) (params : List ℕ) → Fits (sequence_in [] last params)
 unfolding sequence_in
@@ -223,11 +229,11 @@ unfolding sequences_of AllRows
 sequence-fits None None last params h = plain_sequence-fits last params
 sequence-fits (Some marker) None last params h =
     looked_up-holds (λ key table. sets_page_mode key last params ≡ false → Fits (sequence_in table last params))
-    ((byte (codes "?"), private_sequences) ∷ []) marker [] (λ h. none-fits last params)
-    (λ h. private_sequence-fits last params h, tt) h
+    marker_tables marker [] (λ h. none-fits last params)
+    (λ h. private_sequence-fits last params h, (λ h. greater_sequence-fits last params, tt)) h
 sequence-fits None (Some inter) last params h =
     looked_up-holds (λ key table. Fits (sequence_in table last params))
-    ((0x22, quote_sequences) ∷ (byte (codes "!"), exclamation_sequences) ∷ []) inter [] (none-fits last params)
+    intermediate_tables inter [] (none-fits last params)
     (quote_sequence-fits last params, (exclamation_sequence-fits last params, tt))
 sequence-fits (Some marker) (Some inter) last params h = none-fits last params
 

@@ -111,7 +111,7 @@ fn sequence(
 }
 
 /// Carries out a control sequence without marker and intermediate.
-#[tactic(auto, unfolding(crate::specs::Front::function_in, vt_term::specs::Reports::sequence_report))]
+#[tactic(auto, unfolding(crate::specs::Front::function_in, vt_term::specs::Functions::sequences_of, vt_term::specs::Reports::sequence_report))]
 fn plain_sequence(
     terminal: &mut Terminal,
     pages: &mut Pages,
@@ -195,7 +195,7 @@ fn scroll_down_by(terminal: &mut Terminal, values: &[u16])
 }
 
 /// Carries out a control sequence with the marker `?`.
-#[tactic(auto, unfolding(crate::specs::Front::function_in, vt_term::specs::Reports::sequence_report))]
+#[tactic(auto, unfolding(crate::specs::Front::function_in, vt_term::specs::Functions::sequences_of, vt_term::specs::Reports::sequence_report))]
 fn private_sequence(
     terminal: &mut Terminal,
     pages: &mut Pages,
@@ -231,7 +231,7 @@ fn private_sequence(
 }
 
 /// Carries out a control sequence with the intermediate `!`: DECSTR, which leaves DECAWM set.
-#[tactic(auto, unfolding(crate::specs::Front::function_in, vt_term::specs::Modes::with_mode, vt_term::specs::Reports::sequence_report))]
+#[tactic(auto, unfolding(crate::specs::Front::function_in, vt_term::specs::Modes::with_mode, vt_term::specs::Functions::sequences_of, vt_term::specs::Reports::sequence_report))]
 fn exclamation_sequence(
     terminal: &mut Terminal,
     pages: &mut Pages,

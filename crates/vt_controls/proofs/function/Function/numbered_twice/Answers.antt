@@ -1,4 +1,4 @@
-use Rattle.std.proofs.Common.{◌≡◌, ◌≤◌, ◌<◌, ◌∙◌, ◌∷◌, ◌++◌, [], List, ℕ, sym, ap, subst, refl, arith, decimal, length, take}
+use Rattle.std.proofs.Common.{◌≡◌, ◌≤◌, ◌∙◌, ◌∷◌, ◌++◌, [], List, ℕ, sym, ap, subst, refl, arith, decimal, length, take}
 use Rattle.std.proofs.lemmas.Fmt.{length-decimal-le}
 use Rattle.std.proofs.lemmas.List.{length-take}
 use Rattle.vt_controls.specs.Spoken.{Sequence, Speaks}

@@ -4,7 +4,6 @@ use Rattle.std.specs.Prelude.{flat_map, ◌≤◌, if◌then◌else◌}
 use Rattle.std.proofs.Math.Seq.{take-add}
 use Rattle.std.proofs.lemmas.Grind.{flat_map-append}
 use Rattle.vt_syntax.specs.Laws.{SplitLaw}
-use Rattle.vt_screen.specs.declared.cell.Cell.{Cell}
 use Rattle.vt_term.specs.Text.{line_text}
 use Rattle.vt_syntax.specs.declared.event.Event.{Event}
 use Rattle.vt_syntax.specs.Held.{IsHeldPart, events_from, held_from}

@@ -1,6 +1,6 @@
 -- Which functions leave the pages and the width.
 use Rattle.std.proofs.Common.{rules, ◌≡◌, ℕ, Bool, true, false, zero, suc, List, [], ◌∷◌, Option, Some, None, refl, ◌∙◌}
-use Rattle.std.specs.Prelude.{◌==◌, ◌||◌, nat_lt, min, length, if◌then◌else◌, codes}
+use Rattle.std.specs.Prelude.{◌==◌, ◌||◌, min, length, if◌then◌else◌, codes}
 use Rattle.std.specs.List.{list_any}
 use Rattle.vt_syntax.specs.declared.event.Event.{Event}
 use Rattle.vt_syntax.specs.declared.event.Event.TheVariants.{Print, Control, Escape, Sequence}
@@ -18,7 +18,7 @@ use Rattle.vt_term.specs.Editing.{is_inside, insert_line, delete_line, erase_in_
 use Rattle.vt_term.specs.Rendition.{select_character_attribute}
 use Rattle.vt_term.specs.Modes.{ansi_modes, private_modes, with_mode, change_modes}
 use Rattle.vt_term.specs.Saving.{save_cursor, restore_cursor}
-use Rattle.vt_term.specs.Resets.{screen_alignment, set_conformance_level, soft_reset_to, asked_form}
+use Rattle.vt_term.specs.Resets.{set_conformance_level, soft_reset_to, asked_form}
 use Rattle.vt_term.specs.Functions.{Function, no_function, controls, control, plain_escape, escape_with}
 use Rattle.vt_term.specs.Functions.{space_escapes, number_sign_escapes, marker_tables, intermediate_tables}
 use Rattle.vt_term.specs.Functions as terminal

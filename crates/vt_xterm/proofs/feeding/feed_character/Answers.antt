@@ -1,4 +1,4 @@
-use Rattle.std.proofs.Common.{ℕ, List, subst, take}
+use Rattle.std.proofs.Common.{ℕ, List, subst}
 use Rattle.vt_xterm.specs.Private.Feeds.{whole_of, FeedsBytes}
 use Rattle.vt_xterm.proofs.Fed.{leaves-ascii, one-byte}
 use Rattle.vt_xterm.proofs.Logged.{keeps-ascii-character}

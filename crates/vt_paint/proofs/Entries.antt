@@ -1,9 +1,9 @@
 -- The tables of parts of headers, by computing.
-use Rattle.std.proofs.Common.{◌≡◌, cond, append_assoc, append-nil, ap, ◌∙◌, ℕ, List, [], ◌∷◌, ◌++◌, refl, ◌+◌, ◌-◌}
-use Rattle.std.proofs.Common.{◌*◌, ◌≤◌, ◌<◌, ◌==◌, Bool, true, take, slice_index_or, nat_le, arith}
-use Rattle.std.specs.Prelude.{decimal, ◌==◌}
+use Rattle.std.proofs.Common.{◌≡◌, append_assoc, append-nil, ap, ◌∙◌, ℕ, List, [], ◌∷◌, ◌++◌, refl, ◌+◌, ◌-◌}
+use Rattle.std.proofs.Common.{◌*◌, ◌≤◌, ◌<◌, true, take, slice_index_or, nat_le, arith}
+use Rattle.std.specs.Prelude.{decimal}
 use Rattle.std.specs.Fmt.{digits}
-use Rattle.std.specs.Cmp.Lexicographic.{pointwise, pointwise_decides}
+use Rattle.std.specs.Cmp.Lexicographic.{pointwise_decides}
 use Rattle.std.proofs.lemmas.Bool.Decides.{Decides-eqb}
 use Rattle.vt_controls.proofs.Spelled.{same_bytes}
 use Rattle.vt_controls.proofs.Tests.{both_pass, all_brushes, at_brush}

@@ -10,12 +10,12 @@ use Rattle.vt_paint.specs.Pieces.{is_blank_grid, piece, needs_header, row_pieces
 use Rattle.vt_paint.specs.Pieces.{piece_of, pieces}
 use Rattle.vt_paint.specs.Private.ChangeEvents.{changed_row, change, short_brush_events, change_of, changed_cells}
 use Rattle.vt_paint.specs.Private.ChangeEvents.{start_item, saved_cursor, record_item, change_events}
-use Rattle.vt_controls.specs.Spoken.{are_numbers, is_one_of, Speaks, element_bytes}
+use Rattle.vt_controls.specs.Spoken.{are_numbers, is_one_of, Speaks}
 use Rattle.vt_term.specs.State.{has_stop_at, stops_at_power_up, saved_at_power_up, Display, last_column, saved_sets}
 use Rattle.vt_term.specs.State.{modes_at_power_up}
 use Rattle.std.proofs.Common.{◌≡◌, Bool, true, false, not, cond, eqb, leb, ◌&&◌, ℕ, zero, suc, ◌+◌, ◌-◌, ◌*◌, ◌≤◌}
 use Rattle.std.proofs.Common.{◌<◌, List, [], ◌∷◌, ◌++◌, length, length-append, append_assoc, append-nil, Option, Some}
-use Rattle.std.proofs.Common.{None, decimal, codes, refl, sym, ap, ◌∙◌, arith, ltb, subst}
+use Rattle.std.proofs.Common.{None, decimal, codes, refl, sym, ap, ◌∙◌, arith}
 use Rattle.std.specs.Prelude.{All}
 use Rattle.std.specs.Fmt.{digits}
 use Rattle.std.specs.List.{range_with_len, flat_map, list_all, sum_by}
@@ -26,7 +26,7 @@ use Rattle.std.proofs.lemmas.Grind.{flat_map-append}
 use Rattle.std.proofs.lemmas.List.Elements.{All-nil, All-cons, All-append}
 use Rattle.std.proofs.lemmas.List.Sums.{sum_by-cons}
 use Rattle.vt_syntax.specs.declared.event.Event.{Event}
-use Rattle.vt_syntax.specs.declared.event.Event.TheVariants.{Print, Control, Escape, Sequence}
+use Rattle.vt_syntax.specs.declared.event.Event.TheVariants.{Print, Control, Escape}
 use Rattle.vt_syntax.specs.Spelling.{IsEvent, spell_event, spell_events}
 use Rattle.vt_glyph.specs.Tables.{IsGlyph, is_glyph, space}
 use Rattle.vt_glyph.specs.GraphicSets.{GraphicSets}
@@ -40,7 +40,7 @@ use Rattle.vt_glyph.specs.Designation.{final_of}
 use Rattle.vt_glyph.proofs.Lists.{all_taken}
 use Rattle.vt_controls.proofs.Speech.{speaks-none, speaks-append, two_numbers_are, fine_speaks}
 use Rattle.vt_controls.proofs.Tests.{all_sets, all_three, at_three, both_pass, at_bool, all_brushes, at_brush, at_set}
-use Rattle.vt_controls.proofs.Tests.{is_fine, fine_is, fine_silent, is_event, element_of}
+use Rattle.vt_controls.proofs.Tests.{is_fine, fine_is, fine_silent}
 use Rattle.vt_syntax.specs.Class.{opens_string}
 use Rattle.vt_syntax.specs.Held.{spell_values}
 use Rattle.vt_paint.specs.Items.{is_wide, stop_events, made_stops, stops_item, saved_events, saved_item, cells_item}

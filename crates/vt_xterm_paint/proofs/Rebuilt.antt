@@ -18,7 +18,7 @@ use Rattle.vt_screen.proofs.Places.{width-bounds}
 use Rattle.vt_term.specs.State.{Display, State, display_at_power_up, power_up}
 use Rattle.vt_term.specs.Sound.{IsSoundDisplay, IsSound}
 use Rattle.vt_term.specs.Pages.{PageState, IsSoundPage, page_at_power_up, with_page}
-use Rattle.vt_term.specs.Functions.{effect}
+use Rattle.vt_term.specs.Functions.{effect, sequences_of}
 use Rattle.vt_term.specs.Reports.{report, sequence_report}
 use Rattle.vt_term.specs.Play as vt220
 use Rattle.vt_term.specs.Play.{play}
@@ -93,7 +93,7 @@ items-lead s other alternate i =
 start-leads : (alternate : Bool) (u : Screens)
     → Leads (reset_to_initial_state ∷ private_mode 40 true ∷ private_mode 47 (not alternate) ∷ []) u
     (on_pages display_at_power_up page_at_power_up (not alternate))
-unfolding functions_of function_in with_page_mode sequence_report
+unfolding functions_of function_in with_page_mode sequences_of sequence_report
 start-leads true u = record { is = refl; silent = refl }
 start-leads false u = record { is = refl; silent = refl }
 
@@ -101,7 +101,7 @@ exchange-leads : (alternate wide : Bool) (page : PageState) → page.grid.width 
     → Leads (private_mode 47 alternate ∷ private_mode 3 false ∷ [])
     (on_pages (with_page page display_at_power_up) page_at_power_up (not alternate))
     (on_pages display_at_power_up page alternate)
-unfolding functions_of function_in with_page_mode sequence_report
+unfolding functions_of function_in with_page_mode sequences_of sequence_report
 exchange-leads true true page is = record { is = rw is refl; silent = refl }
 exchange-leads true false page is = record { is = rw is refl; silent = refl }
 exchange-leads false true page is = record { is = rw is refl; silent = refl }
@@ -109,7 +109,7 @@ exchange-leads false false page is = record { is = rw is refl; silent = refl }
 
 end-leads : (s : Display) (pages : PagesState)
     → Leads (private_mode 40 pages.resizes ∷ []) (on_pages s pages.other pages.alternate) (record { display = s; pages = pages })
-unfolding functions_of function_in with_page_mode sequence_report
+unfolding functions_of function_in with_page_mode sequences_of sequence_report
 end-leads s pages = by pages.resizes
   where
     by : (on : Bool) → Leads (private_mode 40 on ∷ []) (on_pages s pages.other pages.alternate)

@@ -14,8 +14,8 @@
  *
  * TERM=xterm. vt220_feed_xterm takes what programs send if TERM is xterm or xterm-256color: UTF-8, and functions that a VT220 lacks.
  * These are CHA, HPA, HPR, VPA, VPR, CNL, CPL, CHT, CBT, SU, SD, REP, SCP, RCP, and the alternate page (?47, ?1047, ?1048, ?1049).
- * Colours have no effect. DECSTR leaves DECAWM set. DECCOLM has an effect only if ?40 is set. Everything else is as on a VT220, and so
- * are the replies.
+ * Colours have no effect. DECSTR and DECSCL leave DECAWM set. DECCOLM has an effect only if ?40 is set. Everything else is as on a
+ * VT220, and so are the replies.
  *
  * Handles. You allocate a vt220, a vt220_scratch or a vt220_xterm as a struct. All zero means closed. An open handle owns memory until
  * you close it. Only vt220_open, vt220_scratch_open and vt220_xterm_open allocate. Any call on a closed handle is safe, and reports it.

@@ -14,7 +14,7 @@ use Rattle.vt_screen.proofs.SoundGrids.{blank_grid-sound, scroll_up-sound, scrol
 use Rattle.vt_term.specs.State.{Display, State, last_column, has_stop_at}
 use Rattle.vt_term.specs.Sound.{IsPlace, IsSoundDisplay, IsSound}
 use Rattle.vt_term.specs.Pages.{PageState, IsSoundPage, page_of, with_page, blanked, resized, fitted}
-use Rattle.vt_term.specs.Modes.{private_modes, with_mode, column_mode}
+use Rattle.vt_term.specs.Modes.{private_modes, with_mode, column_mode, autowrap_mode}
 use Rattle.vt_term.specs.Functions.{byte, effect, sequence_in, sequences_of}
 use Rattle.vt_term.specs.Play.{play}
 use Rattle.vt_term.proofs.SoundEffects as terminals
@@ -26,8 +26,8 @@ use Rattle.vt_term.specs.Moving.{cursor_up, cursor_down}
 use Rattle.vt_term.specs.Tabs.{horizontal_tab}
 use Rattle.vt_term.specs.Writing.{write_glyph}
 use Rattle.vt_term.specs.Saving.{save_cursor, restore_cursor}
-use Rattle.vt_term.specs.Resets.{soft_reset}
-use Rattle.vt_term.specs.Parameters.{count}
+use Rattle.vt_term.specs.Resets.{soft_reset, is_level, set_conformance_level}
+use Rattle.vt_term.specs.Parameters.{first, second, count}
 use Rattle.vt_term.specs.State.{display_at_power_up, power_up}
 use Rattle.vt_term.specs.Scrolling.{scrolled_off}
 use Rattle.vt_screen.specs.Cells.{blank}
@@ -43,7 +43,7 @@ use Rattle.vt_xterm.specs.Repeating.{times, column_before, glyph_before, room, r
 use Rattle.vt_xterm.specs.Tabs.{stop_before, back_tab, cursor_forward_tabulation, cursor_backward_tabulation}
 use Rattle.vt_xterm.specs.Attributes.{without_colours, select_attributes}
 use Rattle.vt_xterm.specs.Front.{FunctionTable, is_bare, save_if_bare, restore_if_bare, plain_functions, private_functions}
-use Rattle.vt_xterm.specs.Front.{soft_reset_wrapping, exclamation_functions, functions_of, function_in, plain_escapes, xterm_effect}
+use Rattle.vt_xterm.specs.Front.{soft_reset_wrapping, set_level_wrapping, intermediate_functions, functions_of, function_in, plain_escapes, xterm_effect}
 use Rattle.vt_xterm.specs.Play.{behind, front_at_power_up}
 use Rattle.vt_xterm.specs.Play.{Whole, IsSoundWhole, screens_of, after_events, play_bytes, play_character}
 use Rattle.vt_xterm.specs.Play.{play_characters, play_xterm}
@@ -260,6 +260,14 @@ select_attributes-keeps params s i = terminals.select_graphic_rendition-keeps (w
 soft_reset_wrapping-keeps : terminals.Keeps soft_reset_wrapping
 soft_reset_wrapping-keeps s i = terminals.autowrap_mode-keeps true (soft_reset s) (terminals.soft_reset-keeps s i)
 
+set_level_wrapping-keeps : (params : List ℕ) → terminals.Keeps (set_level_wrapping params)
+set_level_wrapping-keeps params s i =
+    let p1 : ℕ = first params in
+    let p2 : ℕ = second params in
+    one-of (is_level p1 p2) (λ t. autowrap_mode true (set_conformance_level p1 p2 t))
+    (λ t sound. terminals.autowrap_mode-keeps true (set_conformance_level p1 p2 t)
+    (terminals.set_conformance_level-keeps p1 p2 t sound)) s i
+
 before-inside : (s : Display) → IsSoundDisplay s → (column_before s == 0) ≡ false
     → (1 ≤ column_before s) × (column_before s ≤ last_column s)
 before-inside s i some = (grind (arith, nat_tests), at-most s.cursor.wrap)
@@ -344,8 +352,10 @@ module _ (glyphs : GlyphLaws) (sets : SetsLaws) (rows : RowLaws) (tests : TestLa
       looked_up-holds (λ key table. AllFunctionsKeep params table) ((byte (codes "?"), private_functions) ∷ []) marker [] tt
       ((change_page_modes-keeps glyphs sets true params, (change_page_modes-keeps glyphs sets false params, tt)), tt)
   functions_of-keep params None (Some inter) =
-      looked_up-holds (λ key table. AllFunctionsKeep params table) ((byte (codes "!"), exclamation_functions) ∷ []) inter [] tt
-      ((display-keeps soft_reset_wrapping soft_reset_wrapping-keeps, tt), tt)
+      looked_up-holds (λ key table. AllFunctionsKeep params table) intermediate_functions inter [] tt (
+        (display-keeps (set_level_wrapping params) (set_level_wrapping-keeps params), tt),
+        ((display-keeps soft_reset_wrapping soft_reset_wrapping-keeps, tt), tt),
+      )
   functions_of-keep params (Some marker) (Some inter) = tt
 
   function_in-keeps : (table : FunctionTable) (event : Event) (last : ℕ) (params : List ℕ)

@@ -16,9 +16,9 @@ use Rattle.vt_term.specs.Tabs.{horizontal_tab, clear_tabs}
 use Rattle.vt_term.specs.Writing.{after_wrap, with_glyph, write_glyph, write_if_read, print}
 use Rattle.vt_term.specs.Editing.{is_inside, insert_line, delete_line, erase_in_display, erase_in_line, names_area}
 use Rattle.vt_term.specs.Rendition.{select_character_attribute}
-use Rattle.vt_term.specs.Modes.{ansi_modes, private_modes, with_mode, change_modes}
+use Rattle.vt_term.specs.Modes.{ansi_modes, private_modes, with_mode, change_modes, autowrap_mode}
 use Rattle.vt_term.specs.Saving.{save_cursor, restore_cursor}
-use Rattle.vt_term.specs.Resets.{set_conformance_level, soft_reset_to, asked_form}
+use Rattle.vt_term.specs.Resets.{is_level, set_conformance_level, soft_reset_to, asked_form}
 use Rattle.vt_term.specs.Functions.{Function, no_function, controls, control, plain_escape, escape_with}
 use Rattle.vt_term.specs.Functions.{space_escapes, number_sign_escapes, marker_tables, intermediate_tables}
 use Rattle.vt_term.specs.Functions as terminal
@@ -30,6 +30,7 @@ use Rattle.vt_xterm.specs.Tabs.{back_tab, cursor_forward_tabulation, cursor_back
 use Rattle.vt_xterm.specs.Scroll.{rows_down, rows_down_by}
 use Rattle.vt_xterm.specs.Pages.{Screens, on_display, save_or_restore, page_modes, with_page_mode, change_page_modes}
 use Rattle.vt_xterm.specs.Front.{is_bare, save_if_bare, restore_if_bare, plain_functions, private_functions, exclamation_functions}
+use Rattle.vt_xterm.specs.Front.{set_level_wrapping, quote_functions, intermediate_functions}
 use Rattle.vt_xterm.specs.Front.{functions_of, function_in, plain_escapes, xterm_effect}
 use Rattle.vt_xterm.specs.Front.{is_page_mode, sets_page_mode, is_page_function}
 use Rattle.vt_term.proofs.Tables.{AllRows, looked_up-holds}
@@ -270,6 +271,12 @@ save_if_bare-fits params s = chosen-fits (is_bare params) s (save_cursor s) s re
 restore_if_bare-fits : (params : List ℕ) → Fits (restore_if_bare params)
 restore_if_bare-fits params s = chosen-fits (is_bare params) s (restore_cursor s) s refl refl
 
+set_level_wrapping-fits : (params : List ℕ) → Fits (set_level_wrapping params)
+set_level_wrapping-fits params s =
+    let leveled : Display = set_conformance_level (first params) (second params) s in
+    chosen-fits (is_level (first params) (second params)) s (autowrap_mode true leveled) s
+    (set_conformance_level-fits (first params) (second params) s) refl
+
 ruleset own-fitting = (
   cursor_forward_tabulation-fits,
   cursor_backward_tabulation-fits,
@@ -321,6 +328,14 @@ exclamation-stays event last params fits =
     looked_up-holds (λ key f. Stays (f params)) exclamation_functions last (λ params. on_display (effect event))
     (display-stays (effect event) fits) (λ s. (refl, refl), tt)
 
+quote-stays : (event : Event) (last : ℕ) (params : List ℕ) → Fits (effect event)
+    → Stays (function_in quote_functions event last params)
+unfolding function_in AllRows
+quote-stays event last params fits =
+    looked_up-holds (λ key f. Stays (f params)) quote_functions last (λ params. on_display (effect event))
+    (display-stays (effect event) fits)
+    (display-stays (set_level_wrapping params) (set_level_wrapping-fits params), tt)
+
 none-stays : (event : Event) (last : ℕ) (params : List ℕ) → Fits (effect event) → Stays (function_in [] event last params)
 unfolding function_in
 none-stays event last params fits s = (refl, fits s.display)
@@ -336,8 +351,8 @@ sequence-stays event (Some marker) None last params fits h =
     (λ h. private-stays event last params fits h, tt) h
 sequence-stays event None (Some inter) last params fits h =
     looked_up-holds (λ key table. Stays (function_in table event last params))
-    ((byte (codes "!"), exclamation_functions) ∷ []) inter [] (none-stays event last params fits)
-    (exclamation-stays event last params fits, tt)
+    intermediate_functions inter [] (none-stays event last params fits)
+    (quote-stays event last params fits, (exclamation-stays event last params fits, tt))
 sequence-stays event (Some marker) (Some inter) last params fits h = none-stays event last params fits
 
 escape-stays : (last : ℕ) → (last == 0x63) ≡ false → Stays (function_in plain_escapes (Escape None last) last [])

@@ -7,11 +7,11 @@ use Rattle.vt_syntax.specs.declared.event.Event.TheVariants.{Print, Control, Esc
 use Rattle.vt_syntax.specs.Spelling.{spell_event}
 use Rattle.vt_glyph.specs.LookUp.{look_up}
 use Rattle.vt_term.specs.State.{Display}
-use Rattle.vt_term.specs.Parameters.{first, count}
+use Rattle.vt_term.specs.Parameters.{first, second, count}
 use Rattle.vt_term.specs.Saving.{save_cursor, restore_cursor}
 use Rattle.vt_term.specs.Moving.{cursor_forward}
 use Rattle.vt_term.specs.Modes.{autowrap_mode}
-use Rattle.vt_term.specs.Resets.{soft_reset}
+use Rattle.vt_term.specs.Resets.{soft_reset, is_level, set_conformance_level}
 use Rattle.vt_term.specs.Functions.{byte, effect}
 use Rattle.vt_xterm.specs.Columns.{cursor_character_absolute, line_position_absolute, line_position_forward}
 use Rattle.vt_xterm.specs.Columns.{cursor_next_line, cursor_preceding_line}
@@ -69,6 +69,20 @@ soft_reset_wrapping s = autowrap_mode true (soft_reset s)
 abbrev pub exclamation_functions : FunctionTable
 exclamation_functions = (byte (codes "p"), λ params. on_display soft_reset_wrapping) ∷ []
 
+-- DECSCL: its soft reset leaves DECAWM set, too
+abbrev pub set_level_wrapping : List ℕ → Display → Display
+set_level_wrapping params s =
+    if is_level (first params) (second params)
+    then autowrap_mode true (set_conformance_level (first params) (second params) s) else s
+
+-- after `"`
+abbrev pub quote_functions : FunctionTable
+quote_functions = (byte (codes "p"), λ params. on_display (set_level_wrapping params)) ∷ []
+
+-- by the intermediate
+abbrev pub intermediate_functions : List (ℕ × FunctionTable)
+intermediate_functions = (0x22, quote_functions) ∷ (byte (codes "!"), exclamation_functions) ∷ []
+
 abbrev pub table_after : List (ℕ × FunctionTable) → ℕ → FunctionTable
 table_after tables b = unwrap_or (look_up tables b) []
 
@@ -76,7 +90,7 @@ table_after tables b = unwrap_or (look_up tables b) []
 unfoldable pub functions_of : Option ℕ → Option ℕ → FunctionTable
 functions_of None None = plain_functions
 functions_of (Some marker) None = table_after ((byte (codes "?"), private_functions) ∷ []) marker
-functions_of None (Some inter) = table_after ((byte (codes "!"), exclamation_functions) ∷ []) inter
+functions_of None (Some inter) = table_after intermediate_functions inter
 functions_of (Some marker) (Some inter) = []
 
 -- what the table has for the final byte, or else the event's effect on a VT220

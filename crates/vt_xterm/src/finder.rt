@@ -61,6 +61,7 @@ fn is_own_sequence(marker: Option<u8>, values: &[u16], inter: Option<u8>, last: 
         (None, None) => is_own_plain(values, last),
         (Some(b'?'), None) => last == b'h' || last == b'l',
         (None, Some(b'!')) => last == b'p',
+        (None, Some(b'"')) => last == b'p',
         _ => false,
     }
 }

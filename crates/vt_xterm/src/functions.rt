@@ -3,9 +3,11 @@ ghost use Rattle.std.specs.Prelude.{◌≡◌, ◌≤◌, ◌+◌, ◌++◌, [],
 ghost use Rattle.vt_syntax.specs.Event.{event_of};
 ghost use Rattle.vt_syntax.specs.Spelling.{IsEvent};
 ghost use Rattle.vt_syntax.specs.declared.event.Event.TheVariants.{Escape, Sequence};
+ghost use Rattle.vt_term.specs.Parameters.{first, second};
+ghost use Rattle.vt_term.specs.Resets.{is_level};
 ghost use Rattle.vt_term.specs.Reports.{report};
 ghost use Rattle.vt_xterm.specs.Pages.{screens, shown_by};
-ghost use Rattle.vt_xterm.specs.Front.{plain_functions, private_functions, exclamation_functions, plain_escapes};
+ghost use Rattle.vt_xterm.specs.Front.{plain_functions, private_functions, exclamation_functions, quote_functions, plain_escapes};
 ghost use Rattle.vt_xterm.specs.Scroll.{rows_down_by};
 ghost use Rattle.vt_xterm.specs.Front.{is_bare, save_if_bare, restore_if_bare, functions_of, function_in, xterm_effect};
 
@@ -99,6 +101,7 @@ fn sequence(
         (None, None) => plain_sequence(terminal, pages, values, last, out),
         (Some(b'?'), None) => private_sequence(terminal, pages, values, last, out),
         (None, Some(b'!')) => exclamation_sequence(terminal, pages, values, last, out),
+        (None, Some(b'"')) => quote_sequence(terminal, pages, values, last, out),
         _ => {
             let kind = EventKind::Sequence {
                 marker,
@@ -263,5 +266,51 @@ fn exclamation_sequence(
             last,
         };
         terminal.carry_out(kind, values, out);
+    }
+}
+
+/// Carries out a control sequence with the intermediate `"`: DECSCL, which leaves DECAWM set if there is such a level.
+#[tactic(auto, unfolding(crate::specs::Front::function_in, vt_term::specs::Modes::with_mode, vt_term::specs::Functions::sequence_in, vt_term::specs::Functions::sequences_of, vt_term::specs::Reports::sequence_report))]
+fn quote_sequence(
+    terminal: &mut Terminal,
+    pages: &mut Pages,
+    values: &[u16],
+    last: u8,
+    out: &mut Vec<u8>,
+)
+    requires event { IsEvent (Sequence None (record { items = values.now }) (Some 0x22) last) }
+    requires room { vec_len out.old + 10 ≤ vec_capacity out.old }
+    ensures terminal { terminal.new ≡ shown_by (function_in quote_functions
+        (Sequence None (record { items = values.now }) (Some 0x22) last) last values.now (screens terminal.old pages.old))
+        terminal.old.held }
+    ensures pages { pages.new ≡ (function_in quote_functions
+        (Sequence None (record { items = values.now }) (Some 0x22) last) last values.now
+        (screens terminal.old pages.old)).pages }
+    ensures reports { out.new.items ≡ out.old.items
+        ++ report (Sequence None (record { items = values.now }) (Some 0x22) last) terminal.old.display }
+    ensures bounded { vec_len out.new ≤ vec_len out.old + 10 }
+    ensures capacity { vec_capacity out.old ≤ vec_capacity out.new }
+{
+    let _ = pages;
+    let kind = EventKind::Sequence {
+        marker: None,
+        inter: Some(b'"'),
+        last,
+    };
+    terminal.carry_out(kind, values, out);
+    if last == b'p' && is_level(values) {
+        terminal.change_private_modes(&[DECAWM], true);
+    }
+}
+
+/// Returns whether these are the values of DECSCL: 61, and 62 with 0, 1 or 2.
+fn is_level(values: &[u16]) -> bool
+    ensures { result ≡ is_level (first values.now) (second values.now) }
+{
+    let second = values.get(1).copied().unwrap_or(0);
+    match values.first() {
+        Some(61) => true,
+        Some(62) => second <= 2,
+        _ => false,
     }
 }

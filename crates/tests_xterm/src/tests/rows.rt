@@ -42,8 +42,8 @@ const COLUMNS: [Row; 17] = [
     ("CBT to the first column", "\x1b[1;20H\x1b[9Z", "\n", (1, 1)),
 ];
 
-// xterm's control sequences: DECSET 3, 40, 47, 1047, 1048 and 1049, DECSTR, and RIS
-const PAGES: [Row; 17] = [
+// xterm's control sequences: DECSET 3, 40, 47, 1047, 1048 and 1049, DECSTR, DECSCL, and RIS
+const PAGES: [Row; 19] = [
     (
         "?1049h shows a blank page",
         "ab\x1b[?1049hx",
@@ -118,6 +118,18 @@ const PAGES: [Row; 17] = [
         "\x1b[!p\x1b[1;80Hab",
         "",
         (2, 2),
+    ),
+    (
+        "DECSCL leaves wrapping on",
+        "\x1b[62\"p\x1b[1;80Hab",
+        "",
+        (2, 2),
+    ),
+    (
+        "no level leaves the modes",
+        "\x1b[?7l\x1b[63\"p\x1b[1;80Hab",
+        "",
+        (1, 80),
     ),
     ("UTF-8", "é\x1b[?1049h“x", " \"x\n", (1, 4)),
     (

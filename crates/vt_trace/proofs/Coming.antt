@@ -1,5 +1,5 @@
 -- The summary of bytes in two parts, of which the first were counted.
-use Rattle.std.proofs.Common.{◌≡◌, ℕ, ◌+◌, ◌<◌, List, [], ◌∷◌, ◌++◌, Bool, cond, get_or, refl, sym, ap, ◌∙◌, arith}
+use Rattle.std.proofs.Common.{◌≡◌, ℕ, ◌+◌, ◌<◌, List, [], ◌∷◌, ◌++◌, Bool, cond, get_or, length, refl, sym, ap, ◌∙◌, arith}
 use Rattle.std.proofs.Common.{add-zero, append-nil, append_assoc}
 use Rattle.std.specs.Prelude.{count_by, fold, ◌==◌}
 use Rattle.std.specs.List.{sum_by}
@@ -10,7 +10,7 @@ use Rattle.vt_syntax.specs.Held.{held_of, held_after, held_from, events_from}
 use Rattle.vt_syntax.specs.Laws.{SplitLaw}
 use Rattle.vt_syntax.specs.Split.{split_of}
 use Rattle.vt_syntax.proofs.Splits.{last_is_rest}
-use Rattle.vt_trace.specs.Names.{numbered}
+use Rattle.vt_trace.specs.Names.{names, numbered}
 use Rattle.vt_trace.specs.Skipped.{code_of, item_kinds, kinds_of}
 use Rattle.vt_trace.specs.Trace.{is_nothing, is_string, open_kind, code_after}
 use Rattle.vt_trace.specs.Runs.{byte_kind}
@@ -96,7 +96,7 @@ module _ (s : Summary) (bytes more : List ℕ) (law : SplitLaw) (was : HasCounte
       ∙ joined _ _ _ _ _ _ (count_append (is_ignored_kind k) (events_of bytes) come)
       (count_append (λ kind. kind == k) (item_kinds bytes) kinds_come)
 
-  named_so : (k : ℕ) → k < 75 → counted (get_or s.named k 0 + times_named (numbered k) come)
+  named_so : (k : ℕ) → k < length names → counted (get_or s.named k 0 + times_named (numbered k) come)
       ≡ counted (times_named (numbered k) (events_of bytes ++ come))
   unfolding times_named
   named_so k low =
@@ -116,7 +116,7 @@ module _ (s : Summary) (bytes more : List ℕ) (law : SplitLaw) (was : HasCounte
       let same : ignored_before ≡ all_ignored events kinds = λ i k. ignored_so k i in
       ap (λ (f : ℕ → ℕ). ignored_lines f ++ named_lines named_before) same
       ∙ ap (λ (l : List ℕ). ignored_lines (all_ignored events kinds) ++ l)
-      (flat_agree (named_line named_before) (named_line named_after) 0 75
+      (flat_agree (named_line named_before) (named_line named_after) 0 (length names)
       (λ k low high. ap (λ n. count_line n (numbered k)) (named_so k (omega (arith, high)))))
       ∙ ap (λ (es : List Event). event_summary es kinds) (sym (events_more s.parser bytes more law was.held))
       ∙ ap (λ (l : List ℕ). event_summary (events_of (bytes ++ more)) l)

@@ -17,7 +17,8 @@ use Rattle.vt_syntax.specs.Reading.{events_of}
 use Rattle.vt_syntax.specs.Held.{IsHeldPart, events_from, held_from, held_after}
 use Rattle.vt_syntax.specs.Laws.{SplitLaw}
 use Rattle.vt_glyph.proofs.Lists.{all_in_range}
-use Rattle.vt_trace.specs.Names.{name_of, numbered}
+use Rattle.vt_term.specs.Names.{name_of}
+use Rattle.vt_trace.specs.Names.{names, numbered}
 use Rattle.std.specs.Option.{option_to_list}
 use Rattle.vt_syntax.specs.Split.{split_of}
 use Rattle.vt_trace.specs.Skipped.{item_kinds, rest_kind, kinds_of}
@@ -54,10 +55,10 @@ abbrev pub are_apart : ℕ → ℕ → Bool
 are_apart m n = eqb m n || not (pointwise nat_eq (numbered m) (numbered n))
 
 -- no two are the same
-pub apart : (i j : ℕ) → i < 75 → j < 75 → i ≢ j → pointwise nat_eq (numbered i) (numbered j) ≡ false
+pub apart : (i j : ℕ) → i < length names → j < length names → i ≢ j → pointwise nat_eq (numbered i) (numbered j) ≡ false
 apart i j low high other =
-    go (eqb i j) (pointwise nat_eq (numbered i) (numbered j)) refl (all_in_range (are_apart i) 0 75 j
-    (all_in_range (λ m. list_all (are_apart m) (range_with_len 0 75)) 0 75 i refl (omega arith) (omega (arith, low)))
+    go (eqb i j) (pointwise nat_eq (numbered i) (numbered j)) refl (all_in_range (are_apart i) 0 (length names) j
+    (all_in_range (λ m. list_all (are_apart m) (range_with_len 0 (length names))) 0 (length names) i refl (omega arith) (omega (arith, low)))
     (omega arith) (omega (arith, high)))
   where
     go : (e b : Bool) → eqb i j ≡ e → e || not b ≡ true → b ≡ false
@@ -137,7 +138,7 @@ module _ (events : List Event) (kinds ignored named : List ℕ) (counts : AreCou
 
   module _ (e : Event) where
     -- an event with a name
-    pub counts-named : (n : ℕ) (more : List ℕ) → name_of e ≡ Some (numbered n) → n < 75 → length named ≡ 75
+    pub counts-named : (n : ℕ) (more : List ℕ) → name_of e ≡ Some (numbered n) → n < length names → length named ≡ length names
         → more ≡ set named n (min (get_or named n 0 + 1) (2 ^ 64 - 1)) → AreCounts (events ++ e ∷ []) kinds ignored more
     unfolding times_named times_ignored times_skipped
     counts-named n more is within len was = record {
@@ -208,12 +209,12 @@ zeros_long : (n : ℕ) → length (zeros_of n) ≡ n
 zeros_long n = length-replicate n zero
 
 -- no events
-pub none_counted : AreCounts [] [] (replicate 13312 0) (replicate 75 0)
+pub none_counted : AreCounts [] [] (replicate 13312 0) (replicate (length names) 0)
 unfolding times_named times_ignored times_skipped
 none_counted = record {
   size = zeros_long 13312;
   of_ignored = λ k. zeros 13312 k;
-  of_named = λ k low. zeros 75 k;
+  of_named = λ k low. zeros (length names) k;
 }
 
 -- ---- lines
@@ -305,7 +306,7 @@ same_ignored events kinds ignored named last counts =
 pub same_named : (events : List Event) (kinds ignored named : List ℕ) → AreCounts events kinds ignored named
     → named_lines (found_at named) ≡ named_lines (λ number. counted (times_named (numbered number) events))
 same_named events kinds ignored named counts =
-    flat_agree (named_line (found_at named)) (named_line (λ number. counted (times_named (numbered number) events))) 0 75
+    flat_agree (named_line (found_at named)) (named_line (λ number. counted (times_named (numbered number) events))) 0 (length names)
     (λ k low high. ap (λ n. count_line n (numbered k)) (counts.of_named k (omega (arith, high))))
 
 pub summed : (s : Summary) (bytes before first out : List ℕ) (last : Option ℕ) → HasCounted bytes s

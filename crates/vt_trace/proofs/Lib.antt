@@ -1,7 +1,6 @@
 mod Tables
-mod Alone
 mod Witnesses
-mod Acting
+mod Rows
 mod TracedBytes
 mod Traces
 mod Counts

@@ -1,6 +1,6 @@
 -- The trace of bytes that are taken at once.
 use Rattle.std.proofs.Common.{◌≡◌, ◌≢◌, inl, ℕ, suc, ◌+◌, ◌-◌, cond, ◌≤◌, ◌<◌, List, [], ◌∷◌, ◌++◌, Bool, true, false, not, ◌||◌}
-use Rattle.std.proofs.Common.{refl, sym, ap, ◌∙◌, arith, length, map, append-nil, append_assoc, drop, take, add-zero, Option, Some, None, eqb, length-take}
+use Rattle.std.proofs.Common.{refl, sym, ap, ◌∙◌, arith, length, map, append-nil, append_assoc, drop, take, add-zero, eqb, length-take}
 use Rattle.std.proofs.lemmas.List.{take_more}
 use Rattle.std.proofs.Math.Seq.{take-length, take-take, take-add}
 use Rattle.std.specs.Prelude.{All, slice_index, ◌&&◌}
@@ -17,7 +17,8 @@ use Rattle.vt_syntax.specs.Held.{events_from, held_from}
 use Rattle.vt_syntax.specs.Laws.{SplitLaw, SpellingLaw}
 use Rattle.vt_glyph.specs.Invocation.{has_no_glyph, HasGlyph}
 use Rattle.vt_term.specs.State.{Display, State}
-use Rattle.vt_term.specs.Reports.{report, control_report, sequence_report}
+use Rattle.vt_term.specs.Reports.{report}
+use Rattle.vt_term.proofs.Silent.{silent-control, silent-sequence}
 use Rattle.vt_term.specs.Parameters.{first}
 use Rattle.vt_term.specs.Play.{play, Played, after_events}
 use Rattle.vt_trace.specs.declared.tracing.Tracer.{Tracer}
@@ -474,34 +475,17 @@ module _ (law : SpellingLaw) (split : SplitLaw) where
 
 -- ---- requests
 
-quiet_control : (b : ℕ) (s : Display) → eqb b 0x9A ≡ false → control_report b s ≡ []
-unfolding control_report
-quiet_control b s other = rw other refl
-
-quiet_sequence : (marker inter : Option ℕ) (last p : ℕ) (s : Display) → eqb last 0x63 ≡ false → eqb last 0x6E ≡ false
-    → sequence_report marker inter last p s ≡ []
-unfolding sequence_report
-quiet_sequence None None last p s c n = rw (c, n) refl
-quiet_sequence (Some marker) None last p s c n = go (eqb marker 0x3F) (eqb marker 0x3E) refl refl
-  where
-    go : (x y : Bool) → eqb marker 0x3F ≡ x → eqb marker 0x3E ≡ y → sequence_report (Some marker) None last p s ≡ []
-    go true y is also = rw (is, n) refl
-    go false true is also = rw (is, also, c) refl
-    go false false is also = rw (is, also) refl
-quiet_sequence None (Some inter) last p s c n = refl
-quiet_sequence (Some marker) (Some inter) last p s c n = refl
-
 neither : (a b : Bool) → a || b ≡ false → (a ≡ false) × (b ≡ false)
 neither true b h = absurd cc
 neither false b h = (refl, h)
 
 pub quiet_event : (e : Event) (s : Display) → is_request e ≡ false → report e s ≡ []
 quiet_event (Print b) s h = refl
-quiet_event (Control b) s h = quiet_control b s h
+quiet_event (Control b) s h = silent-control b s h
 quiet_event (Escape inter last) s h = refl
 quiet_event (Sequence marker params inter last) s h =
     let both = neither (eqb last 0x63) (eqb last 0x6E) h in
-    quiet_sequence marker inter last (first params.items) s both.0 both.1
+    silent-sequence marker inter last (first params.items) s both.0 both.1
 
 -- ---- slices
 

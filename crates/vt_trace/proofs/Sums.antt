@@ -1,7 +1,7 @@
 -- The counts of a summary add up to the number of what was counted.
 use Rattle.std.proofs.Common.{◌≡◌, ◌≢◌, ℕ, zero, suc, ◌+◌, ◌*◌, ◌<◌, ◌≤◌, ◌⊎◌, inl, inr, List, [], ◌∷◌, ◌++◌, Bool, true, false, cond, length}
 use Rattle.std.proofs.Common.{Option, Some, None, refl, sym, ap, ◌∙◌, arith, eqb, nat_eq}
-use Rattle.std.specs.Prelude.{count_by, ◌==◌, ◌&&◌, All, codes, unwrap_or, option_map, option_and_then, if◌then◌else◌}
+use Rattle.std.specs.Prelude.{count_by, ◌==◌, ◌&&◌, All, codes, unwrap_or, option_map, is_some, if◌then◌else◌}
 use Rattle.std.specs.List.{range_with_len, list_all, sum_by}
 use Rattle.std.specs.Cmp.Lexicographic.{pointwise}
 use Rattle.std.proofs.lemmas.List.Elements.{All-tail}
@@ -11,16 +11,18 @@ use Rattle.vt_syntax.specs.declared.event.Event.{Event}
 use Rattle.vt_syntax.specs.declared.event.Event.TheVariants.{Print, Control, Escape, Sequence}
 use Rattle.vt_syntax.specs.Spelling.{IsEvent, IsEscapeFinal}
 use Rattle.vt_glyph.specs.declared.set.Set.{Set}
-use Rattle.vt_glyph.specs.declared.set.Set.TheVariants.{Ascii, British, German, Special, Supplemental}
 use Rattle.vt_glyph.specs.LookUp.{look_up, contains}
-use Rattle.vt_glyph.specs.Designation.{set_of_final}
+use Rattle.vt_glyph.specs.Designation.{finals}
 use Rattle.vt_glyph.specs.Invocation.{has_no_glyph}
-use Rattle.vt_trace.specs.Names.{Function, FunctionTable, name_of, numbered, control_names, control_name, plain_escape_names, plain_escape_name}
-use Rattle.vt_trace.specs.Names.{set_name, designation_name, space_escape_names, number_sign_escape_names, escape_names, escape_with_name}
-use Rattle.vt_trace.specs.Names.{marker_names, intermediate_names, names_of, name_with, name_in}
+use Rattle.vt_term.specs.Functions.{Function, FunctionTable, no_function, function_in, controls, plain_escapes, space_escapes}
+use Rattle.vt_term.specs.Functions.{number_sign_escapes, set_name, designation, escape_tables, escape_function}
+use Rattle.vt_term.specs.Functions.{marker_tables, intermediate_tables, sequences_of}
+use Rattle.vt_term.specs.Names.{name_with, name_of, control_name, plain_escape_name, escape_with_name, sequence_name}
+use Rattle.vt_term.proofs.Tables.{AllRows, looked_up-holds}
+use Rattle.vt_trace.specs.Names.{names, numbered}
 use Rattle.vt_trace.specs.Skipped.{all_kinds}
 use Rattle.vt_trace.specs.Summary.{IsByteAtMost, kind_number, has_name, is_ignored_kind, times_named, times_ignored, times_skipped}
-use Rattle.vt_trace.proofs.Tables.{AllRows, row_found, no_some}
+use Rattle.vt_trace.proofs.Tables.{no_some}
 use Rattle.vt_trace.proofs.Counts.{named_by, not_named, not_ignored, ignored_by, not_equal}
 use Rattle.vt_trace.proofs.Coming.{sum_cons, count_cons}
 use Rattle.vt_trace.proofs.KindLines.{small_kind}
@@ -122,128 +124,86 @@ module _ {A : Type 0} (P : A → Type 0) (p q : ℕ → A → Bool) (ks ms : Lis
 
 -- how many of all names it is
 abbrev is_one : List ℕ → Bool
-is_one name = count_by (λ number. pointwise nat_eq (numbered number) name) (range_with_len 0 75) == 1
+is_one name = count_by (λ number. pointwise nat_eq (numbered number) name) (range_with_len 0 (length names)) == 1
 
 both_true : (a b : Bool) → a && b ≡ true → (a ≡ true) × (b ≡ true)
 both_true true b h = (refl, h)
 both_true false b h = absurd cc
 
-looked : {X : Type 0} (test : X → Bool) (rows : List (ℕ × X)) (key : ℕ) (x : X)
-    → list_all (λ row. test row.1) rows ≡ true → look_up rows key ≡ Some x → test x ≡ true
-looked test [] key x all h = absurd (no_some x h)
-looked test (row ∷ rows) key x all h =
-    let two = both_true (test row.1) (list_all (λ row. test row.1) rows) all in
-    go (eqb key row.0) two.0 (λ (k : look_up rows key ≡ Some x). looked test rows key x two.1 k) h
-  where
-    go : (t : Bool) → test row.1 ≡ true → (look_up rows key ≡ Some x → test x ≡ true)
-        → (if t then Some row.1 else look_up rows key) ≡ Some x → test x ≡ true
-    go true here rest k = let same : row.1 ≡ x = cc in ap test (sym same) ∙ here
-    go false here rest k = rest k
+-- a function of these values has one of all names
+abbrev IsNamed : List ℕ → ℕ → Function → Type 0
+IsNamed values key f = f.takes values ≡ true → is_one f.name ≡ true
 
--- of SCS
-first_sets : (set : Set) → is_one (codes "SCS G0 " ++ set_name set) ≡ true
-first_sets Ascii = refl
-first_sets British = refl
-first_sets German = refl
-first_sets Special = refl
-first_sets Supplemental = refl
-
-second_sets : (set : Set) → is_one (codes "SCS G1 " ++ set_name set) ≡ true
-second_sets Ascii = refl
-second_sets British = refl
-second_sets German = refl
-second_sets Special = refl
-second_sets Supplemental = refl
-
-third_sets : (set : Set) → is_one (codes "SCS G2 " ++ set_name set) ≡ true
-third_sets Ascii = refl
-third_sets British = refl
-third_sets German = refl
-third_sets Special = refl
-third_sets Supplemental = refl
-
-fourth_sets : (set : Set) → is_one (codes "SCS G3 " ++ set_name set) ≡ true
-fourth_sets Ascii = refl
-fourth_sets British = refl
-fourth_sets German = refl
-fourth_sets Special = refl
-fourth_sets Supplemental = refl
-
--- a name by the final byte
-Ones : ℕ → (ℕ → Option (List ℕ)) → Type 0
-Ones key f = (last : ℕ) (name : List ℕ) → f last ≡ Some name → is_one name ≡ true
-
-designated : (begins : List ℕ) → ((set : Set) → is_one (begins ++ set_name set) ≡ true)
-    → (last : ℕ) (name : List ℕ) → designation_name begins last ≡ Some name → is_one name ≡ true
-designated begins each last name h = go (set_of_final last) h
-  where
-    go : (o : Option Set) → option_map (λ set. begins ++ set_name set) o ≡ Some name → is_one name ≡ true
-    go None k = absurd (no_some name k)
-    go (Some set) k = let same : begins ++ set_name set ≡ name = cc in ap is_one (sym same) ∙ each set
-
-escape_rows : AllRows Ones escape_names
-unfolding AllRows Ones
-escape_rows = (
-  (λ last name h. looked is_one space_escape_names last name refl h),
-  (
-    (λ last name h. looked is_one number_sign_escape_names last name refl h),
-    (
-      designated (codes "SCS G0 ") first_sets,
-      (
-        designated (codes "SCS G1 ") second_sets,
-        (designated (codes "SCS G2 ") third_sets, (designated (codes "SCS G3 ") fourth_sets, tt)),
-      ),
-    ),
-  ),
-)
-
-escape_one : (inter last : ℕ) (name : List ℕ) → escape_with_name inter last ≡ Some name → is_one name ≡ true
-unfolding escape_with_name Ones
-escape_one inter last name h = go (look_up escape_names inter) refl h
-  where
-    go : (o : Option (ℕ → Option (List ℕ))) → look_up escape_names inter ≡ o
-        → unwrap_or o (λ last. None) last ≡ Some name → is_one name ≡ true
-    go None is k = absurd (no_some name k)
-    go (Some f) is k = row_found Ones escape_names escape_rows inter f is last name k
-
--- of control sequences
 abbrev are_ones : FunctionTable → Bool
 are_ones table = list_all (λ row. is_one row.1.name) table
 
-named_one : (values : List ℕ) (function : Function) (name : List ℕ) → name_with values function ≡ Some name
-    → function.name ≡ name
-named_one values function name h = go (function.takes values) h
-  where
-    go : (t : Bool) → (if t then Some function.name else None) ≡ Some name → function.name ≡ name
-    go true k = cc
-    go false k = absurd (no_some name k)
+rows_named : (values : List ℕ) (table : FunctionTable) → are_ones table ≡ true → AllRows (IsNamed values) table
+unfolding AllRows
+rows_named values [] all = tt
+rows_named values (row ∷ rows) all =
+    let two = both_true (is_one row.1.name) (are_ones rows) all in (λ h. two.0, rows_named values rows two.1)
 
-table_one : (table : FunctionTable) → are_ones table ≡ true → (last : ℕ) (values name : List ℕ)
-    → name_in table last values ≡ Some name → is_one name ≡ true
-unfolding name_in
-table_one table all last values name h = go (look_up table last) refl h
-  where
-    go : (o : Option Function) → look_up table last ≡ o
-        → option_and_then (λ function. name_with values function) o ≡ Some name → is_one name ≡ true
-    go None is k = absurd (no_some name k)
-    go (Some function) is k =
-        ap is_one (sym (named_one values function name k))
-        ∙ looked (λ (f : Function). is_one f.name) table last function all is
+table_named : (values : List ℕ) (table : FunctionTable) → are_ones table ≡ true → (key : ℕ)
+    → IsNamed values key (function_in table key)
+table_named values table all key =
+    looked_up-holds (IsNamed values) table key no_function (λ h. absurd cc) (rows_named values table all)
 
-found_table : (tables : List (ℕ × FunctionTable)) → list_all (λ row. are_ones row.1) tables ≡ true → (key : ℕ)
-    → are_ones (unwrap_or (look_up tables key) []) ≡ true
-found_table tables all key = go (look_up tables key) refl
+-- the name of SCS for each set of a table
+sets_named : (begins : List ℕ) (rows : List (ℕ × Set)) → list_all (λ row. is_one (begins ++ set_name row.1)) rows ≡ true
+    → (last : ℕ) → is_some (look_up rows last) ≡ true
+    → is_one (begins ++ unwrap_or (option_map set_name (look_up rows last)) []) ≡ true
+sets_named begins [] all last h = absurd cc
+sets_named begins (row ∷ rows) all last h =
+    let two = both_true (is_one (begins ++ set_name row.1)) (list_all (λ row. is_one (begins ++ set_name row.1)) rows) all in
+    go (last == row.0) two.0 h (λ k. sets_named begins rows two.1 last k)
   where
-    go : (o : Option FunctionTable) → look_up tables key ≡ o → are_ones (unwrap_or o []) ≡ true
-    go None is = refl
-    go (Some table) is = looked are_ones tables key table all is
+    go : (t : Bool) → is_one (begins ++ set_name row.1) ≡ true
+        → is_some (if t then Some row.1 else look_up rows last) ≡ true
+        → (is_some (look_up rows last) ≡ true
+        → is_one (begins ++ unwrap_or (option_map set_name (look_up rows last)) []) ≡ true)
+        → is_one (begins ++ unwrap_or (option_map set_name (if t then Some row.1 else look_up rows last)) []) ≡ true
+    go true here k rest = here
+    go false here k rest = rest k
 
-tables_one : (marker inter : Option ℕ) → are_ones (names_of marker inter) ≡ true
-unfolding names_of
+designated : (slot : ℕ) (begins : List ℕ) → list_all (λ row. is_one (begins ++ set_name row.1)) finals ≡ true → (last : ℕ)
+    → IsNamed [] last (designation slot begins last)
+designated slot begins all last = sets_named begins finals all last
+
+escape_named : (inter last : ℕ) → IsNamed [] last (escape_function inter last)
+unfolding AllRows
+escape_named inter last =
+    looked_up-holds (λ key (f : ℕ → Function). IsNamed [] last (f last)) escape_tables inter (λ last. no_function) (λ h. absurd cc) (
+      table_named [] space_escapes refl last,
+      (
+        table_named [] number_sign_escapes refl last,
+        (
+          designated 0 (codes "SCS G0 ") refl last,
+          (
+            designated 1 (codes "SCS G1 ") refl last,
+            (designated 2 (codes "SCS G2 ") refl last, (designated 3 (codes "SCS G3 ") refl last, tt)),
+          ),
+        ),
+      ),
+    )
+
+tables_one : (marker inter : Option ℕ) → are_ones (sequences_of marker inter) ≡ true
+unfolding sequences_of AllRows
 tables_one None None = refl
-tables_one (Some marker) None = found_table marker_names refl marker
-tables_one None (Some inter) = found_table intermediate_names refl inter
+tables_one (Some marker) None =
+    looked_up-holds (λ key table. are_ones table ≡ true) marker_tables marker [] refl (refl, (refl, tt))
+tables_one None (Some inter) =
+    looked_up-holds (λ key table. are_ones table ≡ true) intermediate_tables inter [] refl (refl, (refl, tt))
 tables_one (Some marker) (Some inter) = refl
+
+-- the name of a function that takes the values
+named_one : (values : List ℕ) (f : Function) (name : List ℕ) → (f.takes values ≡ true → is_one f.name ≡ true)
+    → name_with values f ≡ Some name → is_one name ≡ true
+named_one values f name one h = go (f.takes values) one h
+  where
+    go : (t : Bool) → (t ≡ true → is_one f.name ≡ true) → (if t then Some f.name else None) ≡ Some name
+        → is_one name ≡ true
+    go true one k = let same : f.name ≡ name = cc in ap is_one (sym same) ∙ one refl
+    go false one k = absurd (no_some name k)
 
 print_one : (t : Bool) (name : List ℕ) → (if t then None else Some (codes "text")) ≡ Some name → is_one name ≡ true
 print_one true name h = absurd (no_some name h)
@@ -251,13 +211,17 @@ print_one false name h = let same : codes "text" ≡ name = cc in ap is_one (sym
 
 -- each name of an event is one of all names
 name_is_one : (event : Event) (name : List ℕ) → name_of event ≡ Some name → is_one name ≡ true
-unfolding control_name plain_escape_name
+unfolding control_name plain_escape_name escape_with_name sequence_name
 name_is_one (Print b) name h = print_one (has_no_glyph b) name h
-name_is_one (Control b) name h = looked is_one control_names b name refl h
-name_is_one (Escape None last) name h = looked is_one plain_escape_names last name refl h
-name_is_one (Escape (Some inter) last) name h = escape_one inter last name h
+name_is_one (Control b) name h =
+    named_one (0 ∷ []) (function_in controls b) name (table_named (0 ∷ []) controls refl b) h
+name_is_one (Escape None last) name h =
+    named_one [] (function_in plain_escapes last) name (table_named [] plain_escapes refl last) h
+name_is_one (Escape (Some inter) last) name h =
+    named_one [] (escape_function inter last) name (escape_named inter last) h
 name_is_one (Sequence marker params inter last) name h =
-    table_one (names_of marker inter) (tables_one marker inter) last params.items name h
+    let table = sequences_of marker inter in
+    named_one params.items (function_in table last) name (table_named params.items table (tables_one marker inter) last) h
 
 -- ---- numbers of kinds
 
@@ -346,7 +310,7 @@ module _ (size : ℕ) (numbers : List ℕ) where
 pub add_up : (events : List Event) (kinds : List ℕ) → All IsEvent events → All IsByteAtMost events
     → list_all (contains all_kinds) kinds ≡ true
     → sum_by (λ number. times_ignored number events + times_skipped number kinds) (range_with_len 0 13312)
-    + sum_by (λ number. times_named (numbered number) events) (range_with_len 0 75) ≡ length events + length kinds
+    + sum_by (λ number. times_named (numbered number) events) (range_with_len 0 (length names)) ≡ length events + length kinds
 add_up events kinds are small all =
-    all_counted 13312 (range_with_len 0 75) kind_small number_small (λ event name is. eqb-true _ 1 (name_is_one event name is))
+    all_counted 13312 (range_with_len 0 (length names)) kind_small number_small (λ event name is. eqb-true _ 1 (name_is_one event name is))
     events kinds (λ k d low. (are k d low, small k d low)) all

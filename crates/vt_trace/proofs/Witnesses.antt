@@ -1,7 +1,6 @@
 -- Three sound displays: each function changes one of them.
 use Rattle.std.proofs.Common.{◌≡◌, ℕ, Bool, true, false, List, [], ◌∷◌, length, None, refl, ap, arith, inl, inr}
-use Rattle.std.specs.Prelude.{slice_index, fold}
-use Rattle.vt_syntax.specs.declared.event.Event.{Event}
+use Rattle.std.specs.Prelude.{slice_index, fold, ◌⊎◌, ◌≢◌}
 use Rattle.vt_glyph.specs.declared.set.Set.TheVariants.{German}
 use Rattle.vt_screen.specs.Grid.{blank_grid}
 use Rattle.vt_screen.proofs.SoundGrids.{blank_grid-sound}
@@ -10,9 +9,6 @@ use Rattle.vt_term.specs.State.{Display, display_at_power_up, at_place, full_mar
 use Rattle.vt_term.specs.Tabs.{no_stops}
 use Rattle.vt_term.specs.Modes.{ansi_modes, private_modes, keypad_mode, report_form}
 use Rattle.vt_term.specs.Sound.{IsSoundDisplay}
-use Rattle.vt_term.specs.Functions.{effect}
-use Rattle.vt_term.specs.Reports.{report}
-use Rattle.vt_trace.specs.Ignored.{DoesSomething}
 
 -- power-up, with the wrap flag set at the end of line 1
 abbrev pub at_end : Display
@@ -49,6 +45,12 @@ all_on = record {
 length-no_stops : length no_stops ≡ 132
 unfolding no_stops
 length-no_stops = refl
+
+-- a sound display that the effect changes, or on which something is reported
+pub record Acts (effect : Display → Display) (report : Display → List ℕ) : Type 0 where
+  pub display : Display
+  pub sound : IsSoundDisplay display
+  pub acts : (effect display ≢ display) ⊎ (report display ≢ [])
 
 module _ (base : IsSoundDisplay display_at_power_up) where
   at_end-sound : IsSoundDisplay at_end
@@ -113,38 +115,38 @@ module _ (base : IsSoundDisplay display_at_power_up) where
     saved_sets = base.saved_sets;
   }
 
-  -- a test that a sound display passes, and that it doesn't pass after the event
-  differs : (test : Display → Bool) (s : Display) → IsSoundDisplay s → (event : Event) → test s ≡ true
-      → test (effect event s) ≡ false → DoesSomething event
-  differs test s sound event before after = record {
-    display = s;
-    sound = sound;
-    acts = inl (λ (same : effect event s ≡ s). let tested : test (effect event s) ≡ test s = ap test same in absurd cc);
-  }
+  module _ (effect : Display → Display) (report : Display → List ℕ) where
+    -- a test that a sound display passes, and that it doesn't pass after the effect
+    differs : (test : Display → Bool) (s : Display) → IsSoundDisplay s → test s ≡ true → test (effect s) ≡ false
+        → Acts effect report
+    differs test s sound before after = record {
+      display = s;
+      sound = sound;
+      acts = inl
+          (λ (same : effect s ≡ s). let tested : test (effect s) ≡ test s = ap test same in absurd cc);
+    }
 
-  pub acts_at_end : (test : Display → Bool) (event : Event) → test at_end ≡ true → test (effect event at_end) ≡ false
-      → DoesSomething event
-  acts_at_end test event = differs test at_end at_end-sound event
+    pub acts_at_end : (test : Display → Bool) → test at_end ≡ true → test (effect at_end) ≡ false → Acts effect report
+    acts_at_end test = differs test at_end at_end-sound
 
-  pub acts_all_on : (test : Display → Bool) (event : Event) → test all_on ≡ true → test (effect event all_on) ≡ false
-      → DoesSomething event
-  acts_all_on test event = differs test all_on all_on-sound event
+    pub acts_all_on : (test : Display → Bool) → test all_on ≡ true → test (effect all_on) ≡ false → Acts effect report
+    acts_all_on test = differs test all_on all_on-sound
 
-  pub acts_all_off : (test : Display → Bool) (event : Event) → test all_off ≡ true
-      → test (effect event all_off) ≡ false → DoesSomething event
-  acts_all_off test event = differs test all_off all_off-sound event
+    pub acts_all_off : (test : Display → Bool) → test all_off ≡ true → test (effect all_off) ≡ false
+        → Acts effect report
+    acts_all_off test = differs test all_off all_off-sound
 
-  -- the wrap flag is reset
-  pub resets_wrap : (event : Event) → (effect event at_end).cursor.wrap ≡ false → DoesSomething event
-  resets_wrap event after = acts_at_end (λ s. s.cursor.wrap) event refl after
+    -- the wrap flag is reset
+    pub resets_wrap : (effect at_end).cursor.wrap ≡ false → Acts effect report
+    resets_wrap after = acts_at_end (λ s. s.cursor.wrap) refl after
 
-  -- something is reported, which begins with ESC
-  pub reports : (event : Event) → slice_index (report event at_end) 0 ≡ 0x1B → DoesSomething event
-  reports event says = record {
-    display = at_end;
-    sound = at_end-sound;
-    acts = inr
-        (λ (none : report event at_end ≡ []).
-        let silent : slice_index (report event at_end) 0 ≡ 0 = ap (λ (bytes : List ℕ). slice_index bytes 0) none in
-        absurd (omega (arith, silent, says)));
-  }
+    -- something is reported, which begins with ESC
+    pub reports : slice_index (report at_end) 0 ≡ 0x1B → Acts effect report
+    reports says = record {
+      display = at_end;
+      sound = at_end-sound;
+      acts = inr
+          (λ (none : report at_end ≡ []).
+          let silent : slice_index (report at_end) 0 ≡ 0 = ap (λ (bytes : List ℕ). slice_index bytes 0) none in
+          absurd (omega (arith, silent, says)));
+    }

@@ -6,7 +6,7 @@ use Rattle.vt_syntax.specs.Reading.{events_of}
 use Rattle.vt_syntax.specs.declared.held.Held.{Held}
 use Rattle.vt_syntax.specs.Held.{held_after, held_from, events_from}
 use Rattle.vt_trace.specs.declared.summary.Summary.{Summary}
-use Rattle.vt_trace.specs.Names.{numbered}
+use Rattle.vt_trace.specs.Names.{names, numbered}
 use Rattle.vt_trace.specs.Skipped.{code_of, item_kinds}
 use Rattle.vt_trace.specs.Summary.{counted, times_named, times_ignored, times_skipped, all_ignored, ignored_lines, named_lines}
 use Rattle.vt_trace.specs.Trace.{is_nothing, is_string, code_after, open_kind}
@@ -16,7 +16,7 @@ use Rattle.vt_trace.specs.Runs.{byte_kind}
 pub record AreCounts (events : List Event) (kinds : List ℕ) (ignored named : List ℕ) : Type 0 where
   pub size : length ignored ≡ 13312
   pub of_ignored : (k : ℕ) → get_or ignored k 0 ≡ all_ignored events kinds k
-  pub of_named : (k : ℕ) → k < 75 → get_or named k 0 ≡ counted (times_named (numbered k) events)
+  pub of_named : (k : ℕ) → k < length names → get_or named k 0 ≡ counted (times_named (numbered k) events)
 
 -- the summary has counted the events and the items of these bytes, and no others
 pub record HasCounted (bytes : List ℕ) (s : Summary) : Type 0 where

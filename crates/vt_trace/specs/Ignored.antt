@@ -5,7 +5,7 @@ use Rattle.vt_term.specs.State.{Display}
 use Rattle.vt_term.specs.Sound.{IsSoundDisplay}
 use Rattle.vt_term.specs.Functions.{effect}
 use Rattle.vt_term.specs.Reports.{report}
-use Rattle.vt_trace.specs.Names.{name_of}
+use Rattle.vt_term.specs.Names.{name_of}
 
 -- an event without a name
 abbrev pub is_ignored : Event → Bool

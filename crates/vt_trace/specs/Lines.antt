@@ -6,7 +6,7 @@ use Rattle.std.specs.Option.{option_to_list}
 use Rattle.vt_syntax.specs.declared.event.Event.{Event}
 use Rattle.vt_syntax.specs.declared.event.Event.TheVariants.{Print, Control, Escape, Sequence}
 use Rattle.vt_syntax.specs.Class.{is_plain}
-use Rattle.vt_trace.specs.Names.{name_of}
+use Rattle.vt_term.specs.Names.{name_of}
 
 -- ---- bytes as text
 

@@ -1,12 +1,13 @@
 -- The summary of bytes: how often each name occurs among their events, and each kind of what is ignored. (this profile)
-use Rattle.std.specs.Prelude.{◌≡◌, ℕ, ◌≤◌, ◌+◌, ◌-◌, ◌*◌, ◌^◌, List, [], ◌∷◌, ◌++◌, Bool, false, Option, Some, None, min, codes, decimal}
+use Rattle.std.specs.Prelude.{◌≡◌, ℕ, ◌≤◌, ◌+◌, ◌-◌, ◌*◌, ◌^◌, List, [], ◌∷◌, ◌++◌, Bool, false, Option, Some, None, length, min, codes, decimal}
 use Rattle.std.specs.Prelude.{◌==◌, ◌&&◌, if◌then◌else◌, nat_eq, count_by}
 use Rattle.std.specs.List.{flat_map, range_with_len}
 use Rattle.std.specs.Cmp.Lexicographic.{pointwise}
 use Rattle.vt_syntax.specs.declared.event.Event.{Event}
 use Rattle.vt_syntax.specs.declared.event.Event.TheVariants.{Print, Control, Escape, Sequence}
 use Rattle.vt_syntax.specs.Reading.{events_of}
-use Rattle.vt_trace.specs.Names.{name_of, numbered}
+use Rattle.vt_term.specs.Names.{name_of}
+use Rattle.vt_trace.specs.Names.{names, numbered}
 use Rattle.vt_trace.specs.Ignored.{is_ignored}
 use Rattle.vt_trace.specs.Lines.{shown_byte, bytes_column}
 use Rattle.vt_trace.specs.Skipped.{kind_name, kinds_of}
@@ -123,7 +124,7 @@ ignored_lines times =
 
 -- the names in the order of the list of all names
 abbrev pub named_lines : (ℕ → ℕ) → List ℕ
-named_lines times = flat_map (named_line times) (range_with_len 0 75)
+named_lines times = flat_map (named_line times) (range_with_len 0 (length names))
 
 -- how often an event was ignored, or an item had no function, whose kind has this number
 abbrev pub all_ignored : List Event → List ℕ → ℕ → ℕ

@@ -9,7 +9,7 @@ ghost use Rattle.vt_term.specs.Play.{play};
 ghost use Rattle.vt_syntax.specs.declared.event.Event.{Event};
 ghost use Rattle.vt_trace.specs.Ignored.{is_ignored, HasNoEffect, DoesSomething};
 ghost use Rattle.vt_syntax.specs.Reading.{events_of};
-ghost use Rattle.vt_trace.specs.Names.{numbered};
+ghost use Rattle.vt_trace.specs.Names.{names, numbered};
 ghost use Rattle.vt_trace.specs.Summary.{kind_number, without_values, IsByteAtMost, times_ignored, times_skipped, times_named};
 ghost use Rattle.vt_trace.specs.Summary.{HasPart, kind_line, single_line, ignored_lines};
 ghost use Rattle.vt_trace.specs.Skipped.{all_kinds, kinds_of};
@@ -40,8 +40,10 @@ pub fn cuts()
     soundness();
 }
 
-/// States that each kind of what is ignored has its own line in a summary: two events with one number differ in their values
-/// alone, no event has the number of what is no event, and each line is among those of the summary, whatever the counts are.
+/// States that each kind of what is ignored has its own line in a summary.
+///
+/// Two events with one number differ in their values alone. No event has the number of what is no event. The line of each
+/// kind is among those of the summary, whatever the counts are.
 pub fn kinds()
     ensures events { (a b : Event) → IsEvent a → IsEvent b → IsByteAtMost a → IsByteAtMost b → kind_number a ≡ kind_number b
         → without_values a ≡ without_values b }
@@ -58,7 +60,7 @@ pub fn kinds()
 pub fn sums()
     ensures { (bytes : List ℕ) → All IsByteAtMost (events_of bytes)
         → sum_by (λ number. times_ignored number (events_of bytes) + times_skipped number (kinds_of bytes)) (range_with_len 0 13312)
-        + sum_by (λ number. times_named (numbered number) (events_of bytes)) (range_with_len 0 75)
+        + sum_by (λ number. times_named (numbered number) (events_of bytes)) (range_with_len 0 (length names))
         ≡ length (events_of bytes) + length (kinds_of bytes) }
 {
     spelled();

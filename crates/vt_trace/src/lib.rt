@@ -4,10 +4,10 @@
 mod buffer;
 mod bytes;
 mod fronts;
+mod functions;
 pub mod laws;
 mod lines;
 mod names;
-mod numbers;
 mod sequences;
 mod skipped;
 mod summary;

@@ -1,11 +1,16 @@
 //! The names of events, as the specification's tables have them.
-ghost use Rattle.std.specs.Prelude.{◌≡◌, ◌≤◌, ◌<◌, length, IfSome, option_copied, option_map};
+ghost use Rattle.std.specs.Prelude.{◌≡◌, ◌≤◌, ℕ, [], length, IfSome, option_copied, option_map};
 ghost use Rattle.vt_syntax.specs.Event.{event_of};
+ghost use Rattle.vt_term.specs.Functions.{designation};
+ghost use Rattle.vt_term.specs.Names.{name_of, name_with, control_name, plain_escape_name, escape_with_name, print_name};
 ghost use Rattle.vt_trace.specs.Ignored.{is_ignored};
-ghost use Rattle.vt_trace.specs.Names.{name_of, control_name, plain_escape_name, escape_with_name, print_name, numbered};
+ghost use Rattle.vt_trace.specs.Names.{word_of, basic_word, sequence_word, slot_begins};
 
-use crate::numbers::*;
+use crate::functions::Basic::{self, *};
+use crate::functions::Slot::{self, *};
+use crate::functions::{ControlFunction, Sequence};
 use crate::sequences::sequence;
+use vt_glyph::Set;
 use vt_syntax::EventKind;
 
 /// Returns the name of an event, and `None` if it is ignored. `values` are those of a control sequence.
@@ -14,8 +19,8 @@ pub fn name(kind: EventKind, values: &[u16]) -> Option<&'static str>
     ensures word { option_copied result ≡ name_of (event_of kind values.now) }
     ensures short { IfSome result (λ word. length word.now ≤ 23) }
 {
-    match number(kind, values) {
-        Some(number) => Some(word(number)),
+    match function(kind, values) {
+        Some(function) => Some(function.word()),
         None => None,
     }
 }
@@ -27,16 +32,15 @@ pub fn is_ignored(kind: EventKind, values: &[u16]) -> bool
     name(kind, values).is_none()
 }
 
-/// Returns the number of an event's name, and `None` if it is ignored.
+/// Returns the control function of an event, and `None` if it is ignored.
 #[inline(always)]
-pub(crate) fn number(kind: EventKind, values: &[u16]) -> Option<u8>
-    ensures word { option_map numbered result ≡ name_of (event_of kind values.now) }
-    ensures within { IfSome result (λ number. number < 75) }
+pub(crate) fn function(kind: EventKind, values: &[u16]) -> Option<ControlFunction>
+    ensures { option_map word_of result ≡ name_of (event_of kind values.now) }
 {
     match kind {
-        EventKind::Print(b) => print(b),
-        EventKind::Control(b) => control(b),
-        EventKind::Escape { inter: None, last } => plain_escape(last),
+        EventKind::Print(b) => basic(print(b)),
+        EventKind::Control(b) => basic(control(b)),
+        EventKind::Escape { inter: None, last } => basic(plain_escape(last)),
         EventKind::Escape {
             inter: Some(inter),
             last,
@@ -45,26 +49,46 @@ pub(crate) fn number(kind: EventKind, values: &[u16]) -> Option<u8>
             marker,
             inter,
             last,
-        } => sequence(marker, values, inter, last),
+        } => of_sequence(sequence(marker, values, inter, last)),
     }
 }
 
-/// A graphic byte that has a glyph.
-fn print(b: u8) -> Option<u8>
-    ensures word { option_map numbered result ≡ print_name b }
-    ensures within { IfSome result (λ number. number < 75) }
+/// Returns a function that isn't a control sequence, if there is one.
+#[inline(always)]
+fn basic(f: Option<Basic>) -> Option<ControlFunction>
+    ensures { option_map word_of result ≡ option_map basic_word f }
+{
+    match f {
+        Some(f) => Some(ControlFunction::Basic(f)),
+        None => None,
+    }
+}
+
+/// Returns a control sequence, if there is one.
+#[inline(always)]
+fn of_sequence(f: Option<Sequence>) -> Option<ControlFunction>
+    ensures { option_map word_of result ≡ option_map sequence_word f }
+{
+    match f {
+        Some(f) => Some(ControlFunction::Sequence(f)),
+        None => None,
+    }
+}
+
+/// Returns the function of a graphic byte, if it has a glyph.
+fn print(b: u8) -> Option<Basic>
+    ensures { option_map basic_word result ≡ print_name b }
 {
     if b != 0x20 && (b % 0x80 < 0x21 || b % 0x80 > 0x7E) {
         return None;
     }
-    Some(TEXT)
+    Some(Text)
 }
 
-/// A control.
-#[tactic(auto, unfolding(crate::specs::Names::control_name))]
-fn control(b: u8) -> Option<u8>
-    ensures word { option_map numbered result ≡ control_name b }
-    ensures within { IfSome result (λ number. number < 75) }
+/// Returns the function of a control.
+#[tactic(auto, unfolding(vt_term::specs::Names::control_name))]
+fn control(b: u8) -> Option<Basic>
+    ensures { option_map basic_word result ≡ control_name b }
 {
     match b {
         0x08 => Some(BS),
@@ -87,11 +111,10 @@ fn control(b: u8) -> Option<u8>
     }
 }
 
-/// An escape sequence without an intermediate.
-#[tactic(auto, unfolding(crate::specs::Names::plain_escape_name))]
-fn plain_escape(last: u8) -> Option<u8>
-    ensures word { option_map numbered result ≡ plain_escape_name last }
-    ensures within { IfSome result (λ number. number < 75) }
+/// Returns the function of an escape sequence without an intermediate.
+#[tactic(auto, unfolding(vt_term::specs::Names::plain_escape_name))]
+fn plain_escape(last: u8) -> Option<Basic>
+    ensures { option_map basic_word result ≡ plain_escape_name last }
 {
     match last {
         b'7' => Some(DECSC),
@@ -108,36 +131,29 @@ fn plain_escape(last: u8) -> Option<u8>
     }
 }
 
-/// An escape sequence with an intermediate: S7C1T, S8C1T, DECALN and SCS.
-#[tactic(auto, unfolding(crate::specs::Names::escape_with_name))]
-fn escape(inter: u8, last: u8) -> Option<u8>
-    ensures word { option_map numbered result ≡ escape_with_name inter last }
-    ensures within { IfSome result (λ number. number < 75) }
+/// Returns the function of an escape sequence with an intermediate: S7C1T, S8C1T, DECALN and SCS.
+#[tactic(auto, unfolding(vt_term::specs::Names::escape_with_name))]
+fn escape(inter: u8, last: u8) -> Option<ControlFunction>
+    ensures { option_map word_of result ≡ escape_with_name inter last }
 {
     match (inter, last) {
-        (b' ', b'F') => Some(S7C1T),
-        (b' ', b'G') => Some(S8C1T),
-        (b'#', b'8') => Some(DECALN),
-        (b'(', b'B') => Some(SCS_G0_ASCII),
-        (b'(', b'A') => Some(SCS_G0_BRITISH),
-        (b'(', b'K') => Some(SCS_G0_GERMAN),
-        (b'(', b'0') => Some(SCS_G0_SPECIAL_GRAPHICS),
-        (b'(', b'<') => Some(SCS_G0_SUPPLEMENTAL),
-        (b')', b'B') => Some(SCS_G1_ASCII),
-        (b')', b'A') => Some(SCS_G1_BRITISH),
-        (b')', b'K') => Some(SCS_G1_GERMAN),
-        (b')', b'0') => Some(SCS_G1_SPECIAL_GRAPHICS),
-        (b')', b'<') => Some(SCS_G1_SUPPLEMENTAL),
-        (b'*', b'B') => Some(SCS_G2_ASCII),
-        (b'*', b'A') => Some(SCS_G2_BRITISH),
-        (b'*', b'K') => Some(SCS_G2_GERMAN),
-        (b'*', b'0') => Some(SCS_G2_SPECIAL_GRAPHICS),
-        (b'*', b'<') => Some(SCS_G2_SUPPLEMENTAL),
-        (b'+', b'B') => Some(SCS_G3_ASCII),
-        (b'+', b'A') => Some(SCS_G3_BRITISH),
-        (b'+', b'K') => Some(SCS_G3_GERMAN),
-        (b'+', b'0') => Some(SCS_G3_SPECIAL_GRAPHICS),
-        (b'+', b'<') => Some(SCS_G3_SUPPLEMENTAL),
+        (b' ', b'F') => Some(ControlFunction::Basic(S7C1T)),
+        (b' ', b'G') => Some(ControlFunction::Basic(S8C1T)),
+        (b'#', b'8') => Some(ControlFunction::Basic(DECALN)),
+        (b'(', _) => scs(G0, last),
+        (b')', _) => scs(G1, last),
+        (b'*', _) => scs(G2, last),
+        (b'+', _) => scs(G3, last),
         _ => None,
+    }
+}
+
+/// Returns the SCS of a slot and a final byte, if the byte designates a set.
+fn scs(slot: Slot, last: u8) -> Option<ControlFunction>
+    ensures { (n : ℕ) → option_map word_of result ≡ name_with [] (designation n (slot_begins slot) last) }
+{
+    match Set::of_final(last) {
+        Some(set) => Some(ControlFunction::Scs(slot, set)),
+        None => None,
     }
 }

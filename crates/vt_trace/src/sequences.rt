@@ -1,23 +1,29 @@
 //! The names of control sequences: some are functions of certain values only.
-ghost use Rattle.std.specs.Prelude.{◌≡◌, IfSome, ℕ, List, [], ◌∷◌, Some, None, ◌<◌, option_map, if◌then◌else◌};
+ghost use Rattle.std.specs.Prelude.{◌≡◌, ℕ, List, [], ◌∷◌, Some, None, option_map, if◌then◌else◌};
 ghost use Rattle.std.specs.List.{list_any};
 ghost use Rattle.vt_glyph.specs.LookUp.{contains};
 ghost use Rattle.vt_term.specs.Parameters.{first, second};
-ghost use Rattle.vt_trace.specs.Names.{sequence_name, name_in, plain_names, private_names, greater_names, quote_names};
-ghost use Rattle.vt_trace.specs.Names.{exclamation_names, are_margins, is_level, numbered};
+ghost use Rattle.vt_term.specs.Moving.{are_margins};
+ghost use Rattle.vt_term.specs.Modes.{ansi_modes, private_modes};
+ghost use Rattle.vt_term.specs.Rendition.{rendition_changes};
+ghost use Rattle.vt_term.specs.Resets.{is_level};
+ghost use Rattle.vt_term.specs.Answers.{status_reports, private_reports};
+ghost use Rattle.vt_term.specs.Functions.{numbers_of, function_in, plain_sequences, private_sequences, greater_sequences};
+ghost use Rattle.vt_term.specs.Functions.{quote_sequences, exclamation_sequences};
+ghost use Rattle.vt_term.specs.Names.{sequence_name, name_with};
+ghost use Rattle.vt_trace.specs.Names.{sequence_word};
 
-use crate::numbers::*;
+use crate::functions::Sequence::{self, *};
 
 /// Returns the name of a control sequence, if it has a function.
-#[tactic(auto, unfolding(crate::specs::Names::names_of, crate::specs::Names::name_in))]
+#[tactic(auto, unfolding(vt_term::specs::Functions::sequences_of, vt_term::specs::Names::sequence_name))]
 pub(crate) fn sequence(
     marker: Option<u8>,
     values: &[u16],
     inter: Option<u8>,
     last: u8,
-) -> Option<u8>
-    ensures word { option_map numbered result ≡ sequence_name marker inter last values.now }
-    ensures within { IfSome result (λ number. number < 75) }
+) -> Option<Sequence>
+    ensures { option_map sequence_word result ≡ sequence_name marker inter last values.now }
 {
     match (marker, inter) {
         (None, None) => plain(last, values),
@@ -29,13 +35,11 @@ pub(crate) fn sequence(
     }
 }
 
-/// Returns a number if the test is passed.
-fn named(test: bool, number: u8) -> Option<u8>
-    requires { number < 75 }
-    ensures word { option_map numbered result ≡ if test then Some (numbered number) else None }
-    ensures within { IfSome result (λ number. number < 75) }
+/// Returns a function if it takes the values.
+fn if_takes(takes: bool, f: Sequence) -> Option<Sequence>
+    ensures { option_map sequence_word result ≡ if takes then Some (sequence_word f) else None }
 {
-    if test { Some(number) } else { None }
+    if takes { Some(f) } else { None }
 }
 
 /// The first value; one that isn't there is 0.
@@ -53,10 +57,8 @@ fn second(values: &[u16]) -> u16
 }
 
 /// Without marker and intermediate.
-#[tactic(auto, unfolding(crate::specs::Names::name_in))]
-fn plain(last: u8, values: &[u16]) -> Option<u8>
-    ensures word { option_map numbered result ≡ name_in plain_names last values.now }
-    ensures within { IfSome result (λ number. number < 75) }
+fn plain(last: u8, values: &[u16]) -> Option<Sequence>
+    ensures { option_map sequence_word result ≡ name_with values.now (function_in plain_sequences last) }
 {
     match last {
         b'@' => Some(ICH),
@@ -65,70 +67,62 @@ fn plain(last: u8, values: &[u16]) -> Option<u8>
         b'C' => Some(CUF),
         b'D' => Some(CUB),
         b'H' => Some(CUP),
-        b'J' => named(first(values) <= 2, ED),
-        b'K' => named(first(values) <= 2, EL),
+        b'J' => if_takes(first(values) <= 2, ED),
+        b'K' => if_takes(first(values) <= 2, EL),
         b'L' => Some(IL),
         b'M' => Some(DL),
         b'P' => Some(DCH),
         b'X' => Some(ECH),
-        b'c' => named(first(values) == 0, DA),
+        b'c' => if_takes(first(values) == 0, DA),
         b'f' => Some(HVP),
-        b'g' => named(clears_tabs(first(values)), TBC),
-        b'h' => named(has_ansi_mode(values), SM),
-        b'l' => named(has_ansi_mode(values), RM),
-        b'm' => named(has_attribute(values), SGR),
-        b'n' => named(asks_for_status(first(values)), DSR),
-        b'r' => named(are_margins(values), DECSTBM),
+        b'g' => if_takes(clears_tabs(first(values)), TBC),
+        b'h' => if_takes(has_ansi_mode(values), SM),
+        b'l' => if_takes(has_ansi_mode(values), RM),
+        b'm' => if_takes(has_attribute(values), SGR),
+        b'n' => if_takes(asks_for_status(first(values)), DSR),
+        b'r' => if_takes(are_margins(values), DECSTBM),
         _ => None,
     }
 }
 
 /// After `?`.
-#[tactic(auto, unfolding(crate::specs::Names::name_in))]
-fn private(last: u8, values: &[u16]) -> Option<u8>
-    ensures word { option_map numbered result ≡ name_in private_names last values.now }
-    ensures within { IfSome result (λ number. number < 75) }
+fn private(last: u8, values: &[u16]) -> Option<Sequence>
+    ensures { option_map sequence_word result ≡ name_with values.now (function_in private_sequences last) }
 {
     match last {
-        b'J' => named(first(values) <= 2, DECSED),
-        b'K' => named(first(values) <= 2, DECSEL),
-        b'h' => named(has_private_mode(values), SM),
-        b'l' => named(has_private_mode(values), RM),
-        b'n' => named(asks_for_private_status(first(values)), DSR),
+        b'J' => if_takes(first(values) <= 2, DECSED),
+        b'K' => if_takes(first(values) <= 2, DECSEL),
+        b'h' => if_takes(has_private_mode(values), SM),
+        b'l' => if_takes(has_private_mode(values), RM),
+        b'n' => if_takes(asks_for_private_status(first(values)), DSR),
         _ => None,
     }
 }
 
 /// After `>`.
-#[tactic(auto, unfolding(crate::specs::Names::name_in))]
-fn greater(last: u8, values: &[u16]) -> Option<u8>
-    ensures word { option_map numbered result ≡ name_in greater_names last values.now }
-    ensures within { IfSome result (λ number. number < 75) }
+fn greater(last: u8, values: &[u16]) -> Option<Sequence>
+    ensures { option_map sequence_word result ≡ name_with values.now (function_in greater_sequences last) }
 {
     match last {
-        b'c' => named(first(values) == 0, DA),
+        b'c' => if_takes(first(values) == 0, DA),
         _ => None,
     }
 }
 
 /// After `"`.
-#[tactic(auto, unfolding(crate::specs::Names::name_in))]
-fn quote(last: u8, values: &[u16]) -> Option<u8>
-    ensures word { option_map numbered result ≡ name_in quote_names last values.now }
-    ensures within { IfSome result (λ number. number < 75) }
+fn quote(last: u8, values: &[u16]) -> Option<Sequence>
+    ensures { option_map sequence_word result ≡ name_with values.now (function_in quote_sequences last) }
 {
     match last {
-        b'p' => named(is_level(values), DECSCL),
-        b'q' => named(first(values) <= 2, DECSCA),
+        b'p' => if_takes(is_level(values), DECSCL),
+        b'q' => if_takes(first(values) <= 2, DECSCA),
         _ => None,
     }
 }
 
 /// After `!`.
-#[tactic(auto, unfolding(crate::specs::Names::name_in))]
-fn exclamation(last: u8) -> Option<u8>
-    ensures word { (values : List ℕ) → option_map numbered result ≡ name_in exclamation_names last values }
-    ensures within { IfSome result (λ number. number < 75) }
+fn exclamation(last: u8) -> Option<Sequence>
+    ensures { (values : List ℕ) → option_map sequence_word result ≡ name_with values (function_in exclamation_sequences last) }
 {
     match last {
         b'p' => Some(DECSTR),
@@ -145,21 +139,21 @@ fn clears_tabs(p: u16) -> bool
 
 /// DSR of the operating status, or of the cursor's place.
 fn asks_for_status(p: u16) -> bool
-    ensures { result ≡ contains (5 ∷ 6 ∷ []) p }
+    ensures { result ≡ contains (numbers_of status_reports) p }
 {
     p == 5 || p == 6
 }
 
 /// DSR of the printer, or of the keyboard's language.
 fn asks_for_private_status(p: u16) -> bool
-    ensures { result ≡ contains (15 ∷ 26 ∷ []) p }
+    ensures { result ≡ contains (numbers_of private_reports) p }
 {
     p == 15 || p == 26
 }
 
 /// The top margin is above the bottom one.
 fn are_margins(values: &[u16]) -> bool
-    ensures { result ≡ are_margins values.now }
+    ensures { result ≡ are_margins (first values.now) (second values.now) }
 {
     let top = first(values).max(1);
     let bottom = match second(values) {
@@ -171,28 +165,28 @@ fn are_margins(values: &[u16]) -> bool
 
 /// DECSCL 61, and 62 with 0, 1 or 2.
 fn is_level(values: &[u16]) -> bool
-    ensures { result ≡ is_level values.now }
+    ensures { result ≡ is_level (first values.now) (second values.now) }
 {
     first(values) == 61 || (first(values) == 62 && second(values) <= 2)
 }
 
 /// A mode of the terminal is among the values.
 fn has_ansi_mode(values: &[u16]) -> bool
-    ensures { result ≡ list_any (contains (2 ∷ 4 ∷ 12 ∷ 20 ∷ [])) values.now }
+    ensures { result ≡ list_any (contains (numbers_of ansi_modes)) values.now }
 {
     values.iter().any(|p| matches!(*p, 2 | 4 | 12 | 20))
 }
 
 /// A private mode of the terminal is among the values.
 fn has_private_mode(values: &[u16]) -> bool
-    ensures { result ≡ list_any (contains (1 ∷ 3 ∷ 4 ∷ 5 ∷ 6 ∷ 7 ∷ 8 ∷ 25 ∷ [])) values.now }
+    ensures { result ≡ list_any (contains (numbers_of private_modes)) values.now }
 {
     values.iter().any(|p| matches!(*p, 1 | 3..=8 | 25))
 }
 
 /// An attribute is among the values.
 fn has_attribute(values: &[u16]) -> bool
-    ensures { result ≡ list_any (contains (0 ∷ 1 ∷ 4 ∷ 5 ∷ 7 ∷ 22 ∷ 24 ∷ 25 ∷ 27 ∷ [])) values.now }
+    ensures { result ≡ list_any (contains (numbers_of rendition_changes)) values.now }
 {
     values
         .iter()

@@ -17,9 +17,9 @@ ghost use Rattle.vt_trace.specs.Counted.{AreCounts, HasCounted};
 
 use crate::bytes::{push_bytes, push_number, push_shown};
 use crate::fronts::{are_plain, is_print};
+use crate::functions::{FUNCTIONS, word_at};
 use crate::lines::push_kind;
-use crate::names::number;
-use crate::numbers::{NAMES, word};
+use crate::names::function;
 use crate::skipped::{kind_name, open_kind, read};
 use std::alloc::{AllocError, Global};
 use vt_syntax::laws::{one_split, spelled};
@@ -35,7 +35,7 @@ pub struct Summary {
     /// The C1 control that opened the string that is held, and 0 if none is.
     code: u8,
     ignored: Vec<u64>,
-    named: [u64; NAMES],
+    named: [u64; FUNCTIONS],
 }
 
 impl Summary {
@@ -49,7 +49,7 @@ impl Summary {
             parser: Parser::new(),
             code: 0,
             ignored,
-            named: [0; NAMES],
+            named: [0; FUNCTIONS],
         })
     }
 
@@ -124,10 +124,8 @@ impl Summary {
     }
 }
 
-/// The most bytes of a summary: 256 single bytes, 6698 kinds of sequences and 75 names, each with a line.
-pub const SUMMARY_LIMIT: usize = 45 * 256 + 44 * 6698 + 45 * 75;
-
-const _: () = prove!(SUMMARY_LIMIT == 309607);
+/// The most bytes of a summary: 256 single bytes, 6698 kinds of sequences and the names, each with a line.
+pub const SUMMARY_LIMIT: usize = 45 * 256 + 44 * 6698 + 45 * FUNCTIONS;
 
 impl Summary {
     /// Appends the summary of the bytes that were counted, in existing capacity. It counts what is open at their end. It
@@ -191,7 +189,7 @@ fn count_event(
     event: Option<EventKind>,
     values: &[u16],
     ignored: &mut Vec<u64>,
-    named: &mut [u64; NAMES],
+    named: &mut [u64; FUNCTIONS],
 )
     requires { IfSome event (λ kind. IsEvent (event_of kind values.now)) }
     ensures { (events : List Event) (kinds : List ℕ) → AreCounts events kinds ignored.old.items named.old
@@ -203,23 +201,23 @@ fn count_event(
 }
 
 /// Counts an event.
-fn count_kind(kind: EventKind, values: &[u16], ignored: &mut Vec<u64>, named: &mut [u64; NAMES])
+fn count_kind(kind: EventKind, values: &[u16], ignored: &mut Vec<u64>, named: &mut [u64; FUNCTIONS])
     requires { IsEvent (event_of kind values.now) }
     ensures { (events : List Event) (kinds : List ℕ) → AreCounts events kinds ignored.old.items named.old
         → AreCounts (events ++ event_of kind values.now ∷ []) kinds ignored.new.items named.new }
 {
-    match number(kind, values) {
-        Some(number) => count_named(named, number),
+    match function(kind, values) {
+        Some(function) => count_named(named, function.index()),
         None => count_ignored(ignored, kind_number(kind)),
     }
 }
 
 /// Counts one more.
-fn count_named(named: &mut [u64; NAMES], number: u8)
-    requires { number < 75 }
-    ensures { named.new ≡ set named.old number (min (get_or named.old number 0 + 1) (2 ^ 64 - 1)) }
+fn count_named(named: &mut [u64; FUNCTIONS], index: usize)
+    requires { index < FUNCTIONS }
+    ensures { named.new ≡ set named.old index (min (get_or named.old index 0 + 1) (2 ^ 64 - 1)) }
 {
-    named[number as usize] = named[number as usize].saturating_add(1);
+    named[index] = named[index].saturating_add(1);
 }
 
 /// Counts one more. A number of no kind is left out.
@@ -443,22 +441,22 @@ fn count_before(counts: &[u64], number: usize) -> u64
 }
 
 /// Appends the lines of names.
-fn push_named_lines(named: &[u64; NAMES], out: &mut Vec<u8>)
-    requires { vec_len out.old + 3375 ≤ vec_capacity out.old }
+fn push_named_lines(named: &[u64; FUNCTIONS], out: &mut Vec<u8>)
+    requires { vec_len out.old + 45 * FUNCTIONS ≤ vec_capacity out.old }
     ensures items { out.new.items ≡ out.old.items ++ named_lines (λ number. get_or named.now number 0) }
-    ensures bounded { vec_len out.new ≤ vec_len out.old + 3375 }
+    ensures bounded { vec_len out.new ≤ vec_len out.old + 45 * FUNCTIONS }
     ensures capacity { vec_capacity out.old ≤ vec_capacity out.new }
 {
-    for number in 0..75u8 {
-        push_named(named[number as usize], number, out);
+    for index in 0..FUNCTIONS {
+        push_named(named[index], index, out);
     }
 }
 
 /// Appends the line of a name, if it occurs.
-fn push_named(count: u64, number: u8, out: &mut Vec<u8>)
-    requires number { number < 75 }
+fn push_named(count: u64, index: usize, out: &mut Vec<u8>)
+    requires index { index < FUNCTIONS }
     requires room { vec_len out.old + 45 ≤ vec_capacity out.old }
-    ensures items { out.new.items ≡ out.old.items ++ count_line count (numbered number) }
+    ensures items { out.new.items ≡ out.old.items ++ count_line count (numbered index) }
     ensures bounded { vec_len out.new ≤ vec_len out.old + 45 }
     ensures capacity { vec_capacity out.old ≤ vec_capacity out.new }
 {
@@ -467,6 +465,6 @@ fn push_named(count: u64, number: u8, out: &mut Vec<u8>)
     }
     push_number(count, out);
     push_bytes(b"\t", out);
-    push_bytes(word(number).as_bytes(), out);
+    push_bytes(word_at(index).as_bytes(), out);
     push_bytes(b"\n", out);
 }

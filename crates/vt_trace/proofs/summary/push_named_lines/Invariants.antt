@@ -5,9 +5,9 @@ use Rattle.vt_trace.specs.Summary.{count_line}
 use Rattle.vt_trace.specs.Names.{numbered}
 use Rattle.vt_trace.proofs.summary.push_named_lines.Given as goal
 
-abbrev pub invariant-loop-number : goal.invariant-loop-number
-invariant-loop-number l = record {
-  items : l.out.items ≡ l.initial.out.items ++ flat_map (λ number. count_line (get_or l.named number 0) (numbered number)) (range_with_len 0 (l.number - 0));
-  bounded : vec_len l.out + 45 * 0 ≤ vec_len l.initial.out + 45 * l.number;
+abbrev pub invariant-loop-index : goal.invariant-loop-index
+invariant-loop-index l = record {
+  items : l.out.items ≡ l.initial.out.items ++ flat_map (λ number. count_line (get_or l.named number 0) (numbered number)) (range_with_len 0 (l.index - 0));
+  bounded : vec_len l.out + 45 * 0 ≤ vec_len l.initial.out + 45 * l.index;
   capacity : vec_capacity l.initial.out ≤ vec_capacity l.out;
 }

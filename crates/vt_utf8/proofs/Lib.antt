@@ -11,3 +11,4 @@ mod Lanes
 mod Narrow
 mod Whole
 mod Moves
+mod RoundTrip

@@ -334,7 +334,7 @@ module _ (code n : ℕ) (low : 0x20 ≤ code) (high : code ≤ 0x7E) where
 
 -- ---- a glyph by its spelling
 
-none-is : (o : Option ℕ) → is_none o ≡ true → o ≡ None
+pub none-is : (o : Option ℕ) → is_none o ≡ true → o ≡ None
 none-is None h = refl
 none-is (Some x) h = absurd cc
 

@@ -1,7 +1,7 @@
 -- The text of a screen, placed row by row in UTF-8, comes back as that text.
 use Rattle.std.proofs.Common.{◌≡◌, inl, inr, ℕ, zero, suc, ◌+◌, ◌-◌, ◌<◌, ◌≤◌, Bool, true, false, List, [], ◌∷◌, ◌++◌, All, length, take}
-use Rattle.std.proofs.Common.{get_or, map, flat_map, Option, Some, None, refl, sym, ap, subst, ◌∙◌, arith, append-nil, IsTrue, min, max}
-use Rattle.std.proofs.Common.{◌==◌, ◌&&◌, nat_lt, nat_le, slice_index, if◌then◌else◌, encode_utf8, encode_utf8_all, is_none, decimal}
+use Rattle.std.proofs.Common.{get_or, flat_map, None, refl, sym, ap, subst, ◌∙◌, arith, append-nil, IsTrue, min, max}
+use Rattle.std.proofs.Common.{◌==◌, ◌&&◌, nat_lt, nat_le, slice_index, if◌then◌else◌, encode_utf8, encode_utf8_all, is_none}
 use Rattle.std.specs.List.{range_with_len, list_all}
 use Rattle.std.specs.Fmt.{digits}
 use Rattle.std.proofs.Math.Seq.{take-length}
@@ -11,11 +11,10 @@ use Rattle.std.proofs.lemmas.Grind.{same_number_lists}
 use Rattle.std.proofs.lemmas.List.{length-map, get_or-map, get_or_default, get_or_past}
 use Rattle.std.proofs.lemmas.List.Elements.{All-head, All-tail, All-cons, All-from_recursion, All-from_get_or}
 use Rattle.std.proofs.lemmas.Str.{encode_ascii}
-use lib.Utf8.{scalar, low_scalar}
+use lib.Utf8.{low_scalar}
 use Rattle.bstr.specs.Utf8.{Decoded, decoded, good}
 use Rattle.bstr.proofs.lemmas.EncodeLemmas.{decoded-encode}
 use Rattle.unicode_width.proofs.Computing.{unicode_width}
-use Rattle.vt_syntax.specs.declared.event.Event.{Event}
 use Rattle.vt_syntax.specs.declared.held.Held.TheVariants.{Nothing}
 use Rattle.vt_syntax.specs.Held.{held_after}
 use Rattle.vt_syntax.specs.Reading.{events_of}
@@ -23,7 +22,6 @@ use Rattle.vt_syntax.specs.Spelling.{IsEvent, spell_event}
 use Rattle.vt_syntax.specs.Laws.{SpellingLaw}
 use Rattle.vt_glyph.specs.declared.set.Set.{Set}
 use Rattle.vt_glyph.specs.declared.set.Set.TheVariants.{Ascii, British, German, Special, Supplemental}
-use Rattle.vt_glyph.specs.declared.glyph.Spelling.{Spelling}
 use Rattle.vt_glyph.specs.declared.glyph.Spelling.TheVariants.{Plain}
 use Rattle.vt_glyph.specs.Tables.{IsGlyph, is_glyph, glyph_of, set_codes, shows, space}
 use Rattle.vt_glyph.specs.Spell.{spelling_of}
@@ -47,14 +45,15 @@ use Rattle.vt_term.specs.Play.{Played, play, both}
 use Rattle.vt_utf8.specs.Cells.{cells}
 use Rattle.vt_utf8.specs.Similar.{shown}
 use Rattle.vt_utf8.specs.Decoding.{characters, pending_after}
-use Rattle.vt_utf8.specs.Translation.{reads_ascii, written, translation}
+use Rattle.vt_utf8.specs.Translation.{written, translation}
 use Rattle.vt_utf8.specs.Play.{translated_all, translated, play_utf8}
 use Rattle.vt_utf8.specs.Placing.{to_row, placed_row, placed_rows, TakesText, shows_space}
 use Rattle.vt_utf8.proofs.Cuts.{characters-append, pending-append, translation-ascii, ascii-characters, ascii-pending, ascii-played}
 use Rattle.vt_utf8.proofs.Cuts.{utf8-nothing, utf8-append, utf8-sound}
 use Rattle.vt_utf8.proofs.Themselves.{shown-itself}
 use Rattle.vt_utf8.proofs.Whole.{decoded-whole}
-use Rattle.vt_utf8.proofs.Written.{writes, unshifted-same, none-is}
+use Rattle.vt_utf8.proofs.Written.{none-is}
+use Rattle.vt_utf8.proofs.Wide.{silently, plays-glyph}
 
 -- ---- the 204 glyphs as characters
 
@@ -173,10 +172,6 @@ translated-itself s n takes is = go (nat_lt n 0x80) refl
         let range = own-beyond n (own n is) (grind (arith, nat_tests)) in
         translated-beyond s n takes is range.0 range.1
 
--- a state of another display, without a report
-abbrev silently : State → Display → Played
-silently s d = record { state = record s { display = d }; reports = [] }
-
 module _ (spelled : SpellingLaw) (spelling : SpellingLaws) where
   writes-itself : (s : State) (n : ℕ) → IsSound s → TakesText s → IsGlyph n
       → play s (translation s n) ≡ silently s (write_glyph n s.display)
@@ -184,8 +179,7 @@ module _ (spelled : SpellingLaw) (spelling : SpellingLaws) where
       let none : s.display.sets.pending ≡ None =
       none-is s.display.sets.pending (and_parts _ (is_none s.display.sets.pending) takes.ascii).1 in
       ap (λ (bytes : List ℕ). play s bytes) (translated-itself s n takes is)
-      ∙ writes spelled spelling s n sound takes.between is
-      ∙ ap (λ (d : Display). silently s (write_glyph n d)) (unshifted-same s.display none)
+      ∙ plays-glyph spelled spelling s n sound takes.between none is
 
   pub comes-back : (s : State) (n : ℕ) → IsSound s → TakesText s → IsGlyph n
       → play_utf8 s [] (encode_utf8 n) ≡ silently s (write_glyph n s.display)

@@ -10,4 +10,6 @@ mod Written
 mod Lanes
 mod Narrow
 mod Whole
+mod Wide
 mod Moves
+mod RoundTrip

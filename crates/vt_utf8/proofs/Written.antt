@@ -88,7 +88,7 @@ print-off d code low high = rw (has-glyph code low high) (go d.cursor.wrap)
     go false = refl
 
 module _ (d : Display) where
-  does-printed : (code : ℕ) → 0x20 ≤ code → code ≤ 0x7E → Does (code ∷ []) d (print code d) (glyph_off d)
+  pub does-printed : (code : ℕ) → 0x20 ≤ code → code ≤ 0x7E → Does (code ∷ []) d (print code d) (glyph_off d)
   does-printed code low high = record {
     events = Print code ∷ [];
     spelled = refl;
@@ -169,7 +169,7 @@ with-sets n d x = go d.cursor.wrap
     go true = refl
     go false = refl
 
-leaves-sets : (n : ℕ) (d : Display) → (write_glyph n d).sets ≡ d.sets
+pub leaves-sets : (n : ℕ) (d : Display) → (write_glyph n d).sets ≡ d.sets
 leaves-sets n d = go d.cursor.wrap
   where
     go : (w : Bool) → (put_glyph n (if w then next_line d else d)).sets ≡ d.sets
@@ -202,7 +202,7 @@ unfolding after_read
 after-graphic sets code low high = rw (has-glyph code low high) refl
 
 -- a graphic byte that is read as this glyph
-prints : (d : Display) (code n : ℕ) → 0x20 ≤ code → code ≤ 0x7E → glyph_read d.sets code ≡ Some n
+pub prints : (d : Display) (code n : ℕ) → 0x20 ≤ code → code ≤ 0x7E → glyph_read d.sets code ≡ Some n
     → print code d ≡ write_glyph n (unshifted d)
 prints d code n low high read = rw (read, after-graphic d.sets code low high) refl
 
@@ -334,7 +334,7 @@ module _ (code n : ℕ) (low : 0x20 ≤ code) (high : code ≤ 0x7E) where
 
 -- ---- a glyph by its spelling
 
-none-is : (o : Option ℕ) → is_none o ≡ true → o ≡ None
+pub none-is : (o : Option ℕ) → is_none o ≡ true → o ≡ None
 none-is None h = refl
 none-is (Some x) h = absurd cc
 
@@ -368,7 +368,7 @@ does-spelled d (Third code) n four low high law =
     (λ sets e. same-read sets (shifted_once 3 spelling_sets) code e ∙ law)
 
 module _ (spelled : SpellingLaw) (spelling : SpellingLaws) where
-  plays : (d e : Display) (bytes : List ℕ) (off : List (List Cell)) → Does bytes d e off
+  pub plays : (d e : Display) (bytes : List ℕ) (off : List (List Cell)) → Does bytes d e off
       → play (record { display = d; held = Nothing }) bytes
       ≡ record { state = record { display = e; held = Nothing }; reports = [] }
   unfolding play

@@ -4,5 +4,6 @@ pub mod Cells
 pub mod Showing
 pub mod Translation
 pub mod Play
+pub mod Placing
 pub mod Logs
 pub mod Private

@@ -15,7 +15,9 @@ use Rattle.vt_glyph.specs.Spell.{spelling_of}
 use Rattle.vt_screen.specs.declared.cell.Cell.{Cell}
 use Rattle.vt_screen.specs.Grid.{row_of}
 use Rattle.vt_term.specs.State.{Display, State, last_column}
+use Rattle.vt_term.specs.Moving.{next_line}
 use Rattle.vt_term.specs.Scrolling.{is_at_end as is_at_bottom}
+use Rattle.vt_term.specs.Writing.{write_glyph}
 use Rattle.vt_utf8.specs.Similar.{shown}
 use Rattle.vt_utf8.specs.Cells.{cells}
 
@@ -106,3 +108,9 @@ glyph_off s = if s.cursor.wrap && is_at_bottom s then row_of s.grid 1 ∷ [] els
 -- no single shift is pending
 abbrev pub unshifted : Display → Display
 unshifted s = record s { sets = record s.sets { pending = None } }
+
+-- a glyph and a space, in the next line if the row has one cell left: there under DECAWM, and without it nowhere
+abbrev pub write_wide : ℕ → Display → Display
+write_wide glyph s =
+    if not (is_at_end s) then write_glyph space (write_glyph glyph s) else (
+    if s.modes.decawm then write_glyph space (write_glyph glyph (next_line s)) else s)

@@ -1,7 +1,14 @@
-use Rattle.vt_utf8.proofs.Moves.{moves}
+use Rattle.vt_utf8.proofs.Moves.{moves, like-x}
 use Rattle.vt_utf8.proofs.laws.moves.Goals as goal
 
 pub returns : goal.returns
 returns c =
-    moves c.spelled.ensures c.spelling.ensures c.glyphs.ensures c.soundness.ensures.play c.cuts.ensures.two
-    c.cuts.ensures.none
+    let spelled = c.spelled.ensures in
+    let spelling = c.spelling.ensures in
+    let glyphs = c.glyphs.ensures in
+    let sound = c.soundness.ensures.play in
+    let played = c.cuts.ensures in
+    record {
+      fits = moves spelled spelling glyphs sound played.two played.none;
+      like_x = like-x spelled spelling glyphs sound played.two played.none;
+    }

@@ -1,0 +1,126 @@
+-- What a character of two cells leaves: its glyph and a space, in one row.
+use Rattle.std.proofs.Common.{◌≡◌, ℕ, ◌≤◌, Bool, true, false, not, List, [], ◌∷◌, ◌++◌, All, None, inr, refl, sym, ap, subst, ◌∙◌, arith}
+use Rattle.std.specs.Prelude.{nat_lt, if◌then◌else◌}
+use Rattle.std.proofs.lemmas.Bool.Decides.{nat_tests}
+use Rattle.std.proofs.lemmas.List.Elements.{All-from_recursion}
+use Rattle.vt_syntax.specs.declared.event.Event.TheVariants.{Control}
+use Rattle.vt_syntax.specs.declared.held.Held.TheVariants.{Nothing}
+use Rattle.vt_syntax.specs.Class.{opens_string}
+use Rattle.vt_syntax.specs.Held.{held_after}
+use Rattle.vt_syntax.specs.Reading.{events_of}
+use Rattle.vt_syntax.specs.Spelling.{IsEvent}
+use Rattle.vt_syntax.specs.Laws.{SpellingLaw}
+use Rattle.vt_glyph.specs.GraphicSets.{GraphicSets}
+use Rattle.vt_glyph.specs.Tables.{IsGlyph, space}
+use Rattle.vt_glyph.specs.Laws.{GlyphLaws, SpellingLaws}
+use Rattle.vt_term.specs.State.{Display, State}
+use Rattle.vt_term.specs.Sound.{IsSound}
+use Rattle.vt_term.specs.Moving.{next_line}
+use Rattle.vt_term.specs.Writing.{write_glyph}
+use Rattle.vt_term.specs.Functions.{control}
+use Rattle.vt_term.specs.Reports.{control_report}
+use Rattle.vt_term.specs.Play.{Played, play, both}
+use Rattle.vt_utf8.specs.Translation.{written, both_halves, is_at_end, translation, write_wide}
+use Rattle.vt_utf8.specs.Similar.{shown}
+use Rattle.vt_utf8.specs.Cells.{cells}
+use Rattle.vt_utf8.proofs.Silence.{shown-glyph}
+use Rattle.vt_utf8.proofs.Written.{writes, unshifted-same, leaves-sets}
+
+-- a state of another display, without a report
+abbrev pub silently : State → Display → Played
+silently s d = record { state = record s { display = d }; reports = [] }
+
+abbrev pub KeepsSound : Type 0
+KeepsSound = (s : State) (bytes : List ℕ) → IsSound s → IsSound (play s bytes).state
+
+abbrev pub PlaysTwo : Type 0
+PlaysTwo = (s : State) (a b : List ℕ) → play s (a ++ b) ≡ both (play s a) (play (play s a).state b)
+
+pub is-beyond : (c : ℕ) → 0x80 ≤ c → nat_lt c 0x80 ≡ false
+is-beyond c beyond = grind (arith, nat_tests)
+
+module _ (spelled : SpellingLaw) where
+  nel : (s : State) → s.held ≡ Nothing → play s (0x1B ∷ 0x45 ∷ []) ≡ silently s (next_line s.display)
+  unfolding play control control_report opens_string
+  nel s between =
+      let is : All IsEvent (Control 0x85 ∷ []) =
+      All-from_recursion IsEvent (Control 0x85 ∷ []) (inr (omega arith, omega arith, refl), tt) in
+      let are : events_of (0x1B ∷ 0x45 ∷ []) ≡ Control 0x85 ∷ [] = spelled.all_events (Control 0x85 ∷ []) is in
+      let left : held_after (0x1B ∷ 0x45 ∷ []) ≡ Nothing = spelled.all_held (Control 0x85 ∷ []) is in
+      rw (between, are, left) refl
+
+module _ (spelled : SpellingLaw) (spelling : SpellingLaws) where
+  pub plays-glyph : (s : State) (n : ℕ) → IsSound s → s.held ≡ Nothing → s.display.sets.pending ≡ None → IsGlyph n
+      → play s (written n s.display.sets) ≡ silently s (write_glyph n s.display)
+  plays-glyph s n sound between none is =
+      writes spelled spelling s n sound between is
+      ∙ ap (λ (d : Display). silently s (write_glyph n d)) (unshifted-same s.display none)
+
+  -- a glyph and a space
+  pub plays-halves : KeepsSound → PlaysTwo → (s : State) (n : ℕ) → IsSound s → s.held ≡ Nothing
+      → s.display.sets.pending ≡ None → IsGlyph n → IsGlyph space
+      → play s (both_halves n s.display.sets) ≡ silently s (write_glyph space (write_glyph n s.display))
+  plays-halves keeps two s n sound between none is blank =
+      let d = s.display in
+      let a = written n d.sets in
+      let t : State = record s { display = write_glyph n d } in
+      let first : play s a ≡ silently s (write_glyph n d) = plays-glyph s n sound between none is in
+      let sets = leaves-sets n d in
+      two s a (written space d.sets)
+      ∙ ap (λ (p : Played). both p (play p.state (written space d.sets))) first
+      ∙ ap (λ (g : GraphicSets). both (silently s (write_glyph n d)) (play t (written space g))) (sym sets)
+      ∙ ap (λ (p : Played). both (silently s (write_glyph n d)) p)
+      (plays-glyph t space (subst IsSound (ap (λ (p : Played). p.state) first) (keeps s a sound)) between
+      (ap (λ (g : GraphicSets). g.pending) sets ∙ none) blank)
+
+  pub plays-wide : GlyphLaws → KeepsSound → PlaysTwo
+      → ((s : State) → IsSound s → play s [] ≡ record { state = s; reports = [] })
+      → (s : State) (c : ℕ) → IsSound s → s.held ≡ Nothing → s.display.sets.pending ≡ None → 0x80 ≤ c → cells c ≡ 2
+      → play s (translation s c) ≡ silently s (write_wide (shown c) s.display)
+  unfolding translation
+  plays-wide glyphs keeps two nothing s c sound between none beyond is = by_end (is_at_end d) refl
+    where
+      d : Display
+      d = s.display
+
+      n : ℕ
+      n = shown c
+
+      left : Bool → Bool → Display
+      left last wraps =
+          if not last then write_glyph space (write_glyph n d) else (
+          if wraps then write_glyph space (write_glyph n (next_line d)) else d)
+
+      high : nat_lt c 0x80 ≡ false
+      high = is-beyond c beyond
+
+      by_mode : (b : Bool) → d.modes.decawm ≡ b → is_at_end d ≡ true
+          → play s (translation s c) ≡ silently s (write_wide n d)
+      by_mode true on last =
+          let bytes : translation s c ≡ (0x1B ∷ 0x45 ∷ []) ++ both_halves n d.sets = rw (high, between, is, last, on) refl in
+          let here : write_wide n d ≡ write_glyph space (write_glyph n (next_line d)) =
+          ap (λ (b : Bool). left b d.modes.decawm) last ∙ ap (λ (b : Bool). left true b) on in
+          let t : State = record s { display = next_line d } in
+          let first : play s (0x1B ∷ 0x45 ∷ []) ≡ silently s (next_line d) = nel spelled s between in
+          ap (λ (b : List ℕ). play s b) bytes
+          ∙ two s (0x1B ∷ 0x45 ∷ []) (both_halves n d.sets)
+          ∙ ap (λ (p : Played). both p (play p.state (both_halves n d.sets))) first
+          ∙ ap (λ (p : Played). both (silently s (next_line d)) p)
+          (plays-halves keeps two t n
+          (subst IsSound (ap (λ (p : Played). p.state) first) (keeps s (0x1B ∷ 0x45 ∷ []) sound)) between none
+          (shown-glyph glyphs c) glyphs.space)
+          ∙ ap (λ (e : Display). silently s e) (sym here)
+      by_mode false off last =
+          let bytes : translation s c ≡ [] = rw (high, between, is, last, off) refl in
+          let here : write_wide n d ≡ d = ap (λ (b : Bool). left b d.modes.decawm) last ∙ ap (λ (b : Bool). left true b) off in
+          ap (λ (b : List ℕ). play s b) bytes ∙ nothing s sound ∙ ap (λ (e : Display). silently s e) (sym here)
+
+      by_end : (b : Bool) → is_at_end d ≡ b → play s (translation s c) ≡ silently s (write_wide n d)
+      by_end true last = by_mode d.modes.decawm refl last
+      by_end false inside =
+          let bytes : translation s c ≡ both_halves n d.sets = rw (high, between, is, inside) refl in
+          let here : write_wide n d ≡ write_glyph space (write_glyph n d) =
+          ap (λ (b : Bool). left b d.modes.decawm) inside in
+          ap (λ (b : List ℕ). play s b) bytes
+          ∙ plays-halves keeps two s n sound between none (shown-glyph glyphs c) glyphs.space
+          ∙ ap (λ (e : Display). silently s e) (sym here)

@@ -1,7 +1,7 @@
-"""Builds the drivers of other terminals in bench/peers, as far as these are installed (Debian: libvterm-dev, libtsm-dev, librust-vt100-dev).
+"""Builds the drivers of other terminals in bench/peers, as far as these are installed (Debian: libvterm-dev, libtsm-dev, librust-vt100-dev,
+librust-alacritty-terminal-dev).
 
-Each reads standard input to its end on a screen of 24 lines and 80 columns. With the word `text`, those of libvterm and vt100 then print
-the screen.
+Each reads standard input to its end on a screen of 24 lines and 80 columns. With the word `text`, those in PRINTING then print the screen.
 """
 import pathlib
 import shutil
@@ -10,6 +10,7 @@ import sys
 
 HERE = pathlib.Path(__file__).resolve().parent
 REGISTRY = pathlib.Path("/usr/share/cargo/registry")
+PRINTING = ("libvterm", "vt100")
 CARGO = f'[source.crates-io]\nreplace-with = "debian"\n[source.debian]\ndirectory = "{REGISTRY}"\n'
 
 
@@ -19,22 +20,23 @@ def of_c(folder, name, *words):
     return folder / name if made.returncode == 0 else None
 
 
-def of_rust(folder):
-    """Builds the driver of the vt100 crate. Returns its path, or None if it can't be built."""
-    if not (shutil.which("cargo") and any(REGISTRY.glob("vt100-*"))):
+def of_rust(folder, name, crate):
+    """Builds a driver in Rust, over a crate. Returns its path, or None if it can't be built."""
+    if not (shutil.which("cargo") and any(REGISTRY.glob(f"{crate}-*"))):
         return None
-    crate = folder / "peer"
-    shutil.copytree(HERE / "peers/vt100", crate)
-    (crate / ".cargo").mkdir()
-    (crate / ".cargo/config.toml").write_text(CARGO)
-    made = subprocess.run(["cargo", "build", "--release", "--offline", "--quiet"], cwd=crate)
-    return crate / "target/release/peer" if made.returncode == 0 else None
+    peer = folder / f"peer-{name}"
+    shutil.copytree(HERE / f"peers/{name}", peer)
+    (peer / ".cargo").mkdir()
+    (peer / ".cargo/config.toml").write_text(CARGO)
+    made = subprocess.run(["cargo", "build", "--release", "--offline", "--quiet"], cwd=peer)
+    return peer / "target/release/peer" if made.returncode == 0 else None
 
 
 def drivers(folder):
     """Returns the path of each driver by the name of its terminal, and says which of them can't be built."""
     folder = pathlib.Path(folder).resolve()
-    built = {"libvterm": of_c(folder, "vterm", "-lvterm"), "libtsm": of_c(folder, "tsm", "-ltsm"), "vt100": of_rust(folder)}
+    built = {"libvterm": of_c(folder, "vterm", "-lvterm"), "libtsm": of_c(folder, "tsm", "-ltsm"), "vt100": of_rust(folder, "vt100", "vt100"),
+             "alacritty": of_rust(folder, "alacritty", "alacritty_terminal")}
     for name in [name for name, path in built.items() if path is None]:
         print(f"{sys.argv[0]}: {name} isn't installed, so it has no column", file=sys.stderr)
     return {name: str(path) for name, path in built.items() if path}

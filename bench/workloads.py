@@ -1,13 +1,21 @@
-"""The benchmark's inputs: seven workloads, three in UTF-8, and three screens, the same bytes on every machine."""
+"""The benchmark's inputs: eleven workloads, three in UTF-8, and three screens, the same bytes on every machine.
+
+Four workloads are what frequent programs write on a terminal line: `seq`, `find`, make with gcc, and `git log --color`. The programs' words
+are fixed, and all others are made from the seed.
+"""
 
 LETTERS = b"      eeeeettttaaaaooooiiinnnssshhrrddllccuummwwffggyyppbbvkxjqz.,0123456789"
+NAMES = (b"account", b"build", b"cache", b"device", b"event", b"format", b"graph", b"header", b"index", b"layout", b"memory", b"network",
+         b"object", b"parser", b"queue", b"reader", b"screen", b"table", b"update", b"window")
+WARNINGS = (b"format=", b"sign-compare", b"unused-parameter", b"unused-variable")
 
 
 class Source:
-    """Numbers from a seed (a 64-bit linear congruential generator, its upper half)."""
+    """Numbers from a seed (a 64-bit linear congruential generator, its upper half), and the number of the part that is made."""
 
     def __init__(self, seed):
         self.state = seed
+        self.part = 0
 
     def below(self, n):
         self.state = (self.state * 6364136223846793005 + 1442695040888963407) % 2**64
@@ -71,6 +79,56 @@ def bells(source):
     return plain(source) + (b"\a" if source.below(16) == 0 else b"")
 
 
+def seq(source):
+    """A line of `seq`."""
+    return b"%d\r\n" % source.part
+
+
+def named(source):
+    """Two words, as the name of a file or of a function."""
+    return b"%s_%s" % (source.among(NAMES), source.among(NAMES))
+
+
+def find(source):
+    """A directory and the files in it, as `find` lists them."""
+    directory = b"/".join((b".", *(source.among(NAMES) for _ in range(1 + source.below(6)))))
+    files = (b"/%s.%s" % (named(source), source.among((b"c", b"h", b"o", b"txt"))) for _ in range(source.below(20)))
+    return b"".join(b"%s%s\r\n" % (directory, file) for file in (b"", *files))
+
+
+def warning(source, path):
+    """A warning in colours, as gcc writes it."""
+    option, row, name = source.among(WARNINGS), 1 + source.below(2000), source.among(NAMES)
+    before, after = b"    " + source.text(source.below(20)), source.text(source.below(30))
+    url = b"\x1b]8;;https://gcc.gnu.org/onlinedocs/gcc/Warning-Options.html#index-W%s\a-W%s\x1b]8;;\a" % (option, option)
+    lines = (b"\x1b[01m\x1b[K%s:\x1b[m\x1b[K In function '\x1b[01m\x1b[K%s\x1b[m\x1b[K':" % (path, named(source)),
+             b"\x1b[01m\x1b[K%s:%d:%d:\x1b[m\x1b[K \x1b[01;35m\x1b[Kwarning: \x1b[m\x1b[K%s '\x1b[01m\x1b[K%s\x1b[m\x1b[K' "
+             b"[\x1b[01;35m\x1b[K%s\x1b[m\x1b[K]" % (path, row, len(before) + 1, source.text(10 + source.below(40)), name, url),
+             b"%5d | %s\x1b[01;35m\x1b[K%s\x1b[m\x1b[K%s" % (row, before, name, after),
+             b"      | %s\x1b[01;35m\x1b[K^%s\x1b[m\x1b[K" % (b" " * len(before), b"~" * (len(name) - 1)))
+    return b"".join(line + b"\r\n" for line in lines)
+
+
+def compilation(source):
+    """A command of make that compiles a file. One in four has a warning."""
+    path = b"src/%s/%s" % (source.among(NAMES), named(source))
+    command = b"gcc -O2 -Wall -Wextra -Iinclude -c -o out/%s.o %s.c\r\n" % (path, path)
+    return command + (warning(source, path + b".c") if source.below(4) == 0 else b"")
+
+
+def git_log(source):
+    """A commit with its message, as `git log --color` writes it. One in sixteen has a tag."""
+    name = b"".join(b"%08x" % source.below(2**31) for _ in range(5))
+    tag = b""
+    if source.below(16) == 0:
+        tag = b"\x1b[33m (\x1b[m\x1b[1;33mtag: v%d.%d\x1b[m\x1b[33m)\x1b[m" % (source.below(10), source.below(10))
+    day, time = source.among((b"Mon", b"Wed", b"Fri")), tuple(source.below(60) for _ in range(2))
+    message = (b"    " + source.text(20 + source.below(53)) for _ in range(1 + source.below(6)))
+    lines = (b"\x1b[33mcommit %s\x1b[m%s" % (name, tag), b"Author: A. Writer <writer@example.org>",
+             b"Date:   %s Nov %d 12:%02d:%02d 2026 +0000" % (day, 1 + source.below(30), *time), b"", *message, b"")
+    return b"".join(line + b"\r\n" for line in lines)
+
+
 def german(source):
     """A line of letters in UTF-8, one in eight of them beyond ASCII."""
     line = (source.among("äöüßÄÖÜ") if source.below(8) == 0 else chr(source.among(LETTERS)) for _ in range(source.below(101)))
@@ -85,7 +143,8 @@ def boxes(source):
 
 
 WORKLOADS = {"plain lines": plain, "addressing, SGR": addressing, "region, IL, DL": region,
-             "supplemental": supplemental, "random bytes": random_bytes, "scroll region": scrolling, "bells": bells}
+             "supplemental": supplemental, "random bytes": random_bytes, "scroll region": scrolling, "bells": bells,
+             "seq": seq, "find": find, "compile": compilation, "git log --color": git_log}
 UTF_8 = {"plain lines": plain, "German": german, "boxes": boxes}
 
 
@@ -94,6 +153,7 @@ def make(name, size, among=WORKLOADS):
     source = Source(1 + list(among).index(name))
     parts, length = [], 0
     while length < size:
+        source.part += 1
         parts.append(among[name](source))
         length += len(parts[-1])
     return b"".join(parts)[:size]

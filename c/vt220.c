@@ -19,6 +19,7 @@ void core_close(handle *t);
 uint32_t core_scratch_open(handle *s);
 void core_scratch_close(handle *s);
 size_t core_feed(handle *t, const uint8_t *bytes, size_t len, bool counts, uint8_t *reports, size_t size, size_t *written, size_t *bells);
+size_t core_feed_byte(handle *t, uint8_t byte, uint8_t *reports, size_t size, size_t *written);
 size_t core_feed_log(handle *t, handle *s, const uint8_t *bytes, size_t len, bool counts, uint8_t *reports, size_t size, size_t *written,
                      uint8_t *lines, size_t lines_size, size_t *lines_written, size_t *bells);
 size_t core_feed_utf8(handle *t, vt220_utf8 *u, const uint8_t *bytes, size_t len, bool counts, uint8_t *reports, size_t size,
@@ -57,6 +58,10 @@ bool core_saved(handle *t, vt220_saved_record *saved);
 bool core_is_between(handle *t);
 uint32_t core_held_kind(handle *t);
 bool core_same_state(handle *a, handle *b);
+
+/* A terminal of the caller begins with its handle. So the call with one byte makes no copy. */
+_Static_assert(offsetof(vt220, terminal) == offsetof(handle, at) && offsetof(vt220, is_open) == offsetof(handle, is_open), "one form");
+_Static_assert(sizeof(handle) <= offsetof(vt220, bells), "a handle ends before the bells");
 
 /* Stands for a null pointer of length 0. */
 static uint8_t nothing;
@@ -280,8 +285,16 @@ INLINED size_t feed(player by, const uint8_t *bytes, size_t len, uint8_t *report
     return taken;
 }
 
-size_t vt220_feed(vt220 *t, const uint8_t *bytes, size_t len, uint8_t *reports, size_t size, size_t *written) {
+/* Does what vt220_feed does, for any number of bytes. It isn't inlined, so that a call with one byte saves no registers for it. */
+__attribute__((noinline)) static size_t feed_many(vt220 *t, const uint8_t *bytes, size_t len, uint8_t *reports, size_t size,
+                                                  size_t *written) {
     return feed((player){t, NULL, NULL, NULL}, bytes, len, reports, size, written, NULL);
+}
+
+size_t vt220_feed(vt220 *t, const uint8_t *bytes, size_t len, uint8_t *reports, size_t size, size_t *written) {
+    if (len != 1 || *bytes == BEL || !t->is_open || reports == NULL || written == NULL)
+        return feed_many(t, bytes, len, reports, size, written);
+    return core_feed_byte((handle *)t, *bytes, reports, size, written);
 }
 
 size_t vt220_feed_utf8(vt220 *t, vt220_utf8 *u, const uint8_t *bytes, size_t len, uint8_t *reports, size_t size, size_t *written) {

@@ -77,6 +77,12 @@ static void rooms(void) {
     for (size_t room = 0; room < VT220_REPORT_LIMIT; room++)
         CHECK(vt220_feed(&t, BYTES("\033[c"), out, room, &written) == 0 && written == 0 && untouched());
     CHECK(vt220_feed(&t, BYTES(""), out, 0, &written) == 0 && written == 0);
+    CHECK(vt220_feed(&t, BYTES("\033[5"), out, 30, &written) == 3 && written == 0);
+    for (size_t room = 0; room < VT220_REPORT_LIMIT; room++)
+        CHECK(vt220_feed(&t, BYTES("n"), out, room, &written) == 0 && written == 0 && untouched());
+    CHECK(vt220_feed(&t, BYTES("n"), out, VT220_REPORT_LIMIT, &written) == 1 && written == 4 && memcmp(out, "\033[0n", 4) == 0);
+    CHECK(memcmp(out + 4, before + 4, sizeof out - 4) == 0);
+    memset(out, 0xA5, sizeof out);
     CHECK(vt220_feed(&t, BYTES("\033[1;1Hone\r\n\033[4mtwo"), out, 10, &written) == 18 && written == 0 && untouched());
     for (int call = 0; call < 2; call++) {
         uint32_t (*write)(const vt220 *, vt220_scratch *, uint8_t *, size_t, size_t *) = call == 0 ? vt220_text : vt220_repaint;

@@ -81,6 +81,8 @@ size_t core_feed(handle *t, const uint8_t *bytes, size_t len, bool counts, uint8
     return feeds(bytes, len, counts, rung);
 }
 
+size_t core_feed_byte(handle *t, uint8_t byte, uint8_t *reports, size_t size, size_t *written) { return move(t), 1; }
+
 size_t core_feed_log(handle *t, handle *s, const uint8_t *bytes, size_t len, bool counts, uint8_t *reports, size_t size, size_t *written,
                      uint8_t *lines, size_t lines_size, size_t *lines_written, size_t *rung) {
     move(t), move(s);
@@ -165,6 +167,7 @@ static void handles_have_the_new_blocks(void) {
     for (int turn = 0; turn < 2; turn++) {
         CHECK(vt220_feed(&t, BYTES("a\ab"), out, sizeof out, &written) == 3);
         CHECK(vt220_feed(&t, BYTES("a\ab"), NULL, 0, NULL) == 3);
+        CHECK(vt220_feed(&t, BYTES("a"), out, sizeof out, &written) == 1);
         CHECK(vt220_feed_log(&t, &s, BYTES("a\ab"), out, sizeof out, &written, lines, sizeof lines, &logged) == 3);
         CHECK(vt220_feed_log(&t, &s, BYTES("a\ab"), NULL, 0, NULL, lines, sizeof lines, &logged) == 3);
         CHECK(vt220_feed_utf8(&t, &pending, BYTES("a\ab"), out, sizeof out, &written) == 3);

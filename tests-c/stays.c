@@ -68,6 +68,8 @@ int main(void) {
         const uint8_t *bytes = (const uint8_t *)states[i];
         size_t len = strlen(states[i]);
         STAYS(core_feed(&t, bytes, len, true, out, sizeof out, &written, &rung));
+        STAYS(core_feed_byte(&u, *bytes, out, sizeof out, &written));
+        STAYS(core_feed_byte(&u, *bytes, out, 9, &written));
         writing(0);
         reading();
         writing(sizeof out);

@@ -1,4 +1,5 @@
-/* fields FILE: what each reader returns, one field at a time, as tests-c/fields.txt has it. So two fields of a struct can't be swapped. */
+/* fields FILE ABI: what each reader returns, one field at a time, as FILE (tests-c/fields.txt) has it. So two fields of a struct can't be
+ * swapped. ABI (tests-c/abi.txt) has the name and the place of each mode, which the compiler confirms apart from this. */
 #include "check.h"
 
 typedef struct field {
@@ -35,13 +36,33 @@ static void put_stop(fields *f, size_t column, bool is_set) {
 #define PUT_SETS(of, from) (PUT(of, from, g0), PUT(of, from, g1), PUT(of, from, g2), PUT(of, from, g3), PUT(of, from, gl), PUT(of, from, gr))
 #define PUT_CURSOR(of, from) (PUT(of, from, row), PUT(of, from, col), PUT(of, from, wrap))
 
+/* The modes of vt220_mode_set: their names, and their places in it. */
+typedef struct mode {
+    char name[32];
+    size_t place;
+} mode;
+
+static mode modes[sizeof(vt220_mode_set)];
+static size_t mode_count;
+
+/* Reads the rows of the file that are modes: all fields of their struct but the last one, `reserved`. */
+static void read_modes(const char *path) {
+    static char line[128];
+    FILE *file = fopen(path, "r");
+    if (file == NULL) abort();
+    while (fgets(line, sizeof line, file) != NULL && mode_count < sizeof modes / sizeof modes[0]) {
+        mode *next = &modes[mode_count];
+        size_t size;
+        if (sscanf(line, "vt220_mode_set.%31s %zu %zu", next->name, &next->place, &size) == 3 && size == sizeof(bool)) mode_count++;
+    }
+    fclose(file);
+    CHECK(mode_count >= 13);
+}
+
 static void put_modes(fields *f, const vt220 *t) {
-    vt220_mode_set modes;
-    CHECK(vt220_modes(t, &modes));
-    PUT("modes", modes, kam), PUT("modes", modes, irm), PUT("modes", modes, srm), PUT("modes", modes, lnm);
-    PUT("modes", modes, decckm), PUT("modes", modes, decsclm), PUT("modes", modes, decscnm), PUT("modes", modes, decom);
-    PUT("modes", modes, decawm), PUT("modes", modes, decarm), PUT("modes", modes, dectcem);
-    PUT("modes", modes, keypad_application), PUT("modes", modes, reports_8bit);
+    vt220_mode_set set;
+    CHECK(vt220_modes(t, &set));
+    for (size_t i = 0; i < mode_count; i++) put(f, "modes.", modes[i].name, ((const unsigned char *)&set)[modes[i].place]);
 }
 
 static void put_parts(fields *f, const vt220 *t) {
@@ -131,7 +152,8 @@ static void whole_pieces(void) {
 }
 
 int main(int count, char **words) {
-    if (count != 2) return 2;
+    if (count != 3) return 2;
+    read_modes(words[2]);
     whole_pieces();
     one_field_at_a_time(words[1]);
     return finish("fields");

@@ -3,12 +3,24 @@ package vt220
 import (
 	"fmt"
 	"os"
+	"reflect"
 	"runtime"
 	"strconv"
 	"strings"
 	"testing"
 	"time"
 )
+
+// nameInC returns the name in C of a field of Modes.
+func nameInC(name string) string {
+	switch name {
+	case "KeypadApplication":
+		return "keypad_application"
+	case "Reports8Bit":
+		return "reports_8bit"
+	}
+	return strings.ToLower(name)
+}
 
 // fieldsOf returns what each reader returns, by the names of tests-c/fields.txt.
 func fieldsOf(t *Terminal) map[string]int {
@@ -35,12 +47,10 @@ func fieldsOf(t *Terminal) map[string]int {
 	place("cursor", t.Cursor())
 	margins := t.Margins()
 	found["margins.top"], found["margins.bottom"] = margins.Top, margins.Bottom
-	m := t.Modes()
-	found["modes.kam"], found["modes.irm"], found["modes.srm"], found["modes.lnm"] = is(m.KAM), is(m.IRM), is(m.SRM), is(m.LNM)
-	found["modes.decckm"], found["modes.decsclm"], found["modes.decscnm"] = is(m.DECCKM), is(m.DECSCLM), is(m.DECSCNM)
-	found["modes.decom"], found["modes.decawm"], found["modes.decarm"] = is(m.DECOM), is(m.DECAWM), is(m.DECARM)
-	found["modes.dectcem"], found["modes.keypad_application"] = is(m.DECTCEM), is(m.KeypadApplication)
-	found["modes.reports_8bit"] = is(m.Reports8Bit)
+	modes := reflect.ValueOf(t.Modes())
+	for i := 0; i < modes.NumField(); i++ {
+		found["modes."+nameInC(modes.Type().Field(i).Name)] = is(modes.Field(i).Bool())
+	}
 	c := t.Row(1)[0]
 	found["cell.glyph"] = int(c.Glyph)
 	attributes("cell", Brush{c.Bold, c.Underline, c.Blink, c.Reverse, c.IsProtected})

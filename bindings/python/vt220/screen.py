@@ -9,9 +9,8 @@ from .expected import expression_as_shown, expression_of_text, text_as_shown
 
 # The name of each attribute in a stored screen, in the order of Cell's fields after the glyph.
 ATTRIBUTES = ("bold", "underline", "blink", "reverse", "protected")
-MODES = ("KAM", "IRM", "SRM", "LNM", "DECCKM", "DECSCLM", "DECSCNM", "DECOM", "DECAWM", "DECARM", "DECTCEM", "DECKPAM", "S8C1T")
-# The modes that are set at power-up.
-SET_AT_FIRST = ("SRM", "DECAWM", "DECARM", "DECTCEM")
+# The name of each mode in a stored screen, in the order of Modes' fields.
+MODES = tuple({"keypad_application": "DECKPAM", "reports_8bit": "S8C1T"}.get(name, name.upper()) for name in Modes._fields)
 # Stands for a masked cell. No set of the VT220 has this character.
 MASK = "\u2588"
 # The names of the graphic sets by their final bytes, as docs/SPECIFICATION.md has them.
@@ -195,9 +194,16 @@ class Screen:
             yield f"width: {self.width}"
         if self.margins != (1, ROWS):
             yield f"margins: {self.margins.top} {self.margins.bottom}"
-        changed = [("+" if is_set else "-") + name for name, is_set in zip(MODES, self.modes) if is_set != (name in SET_AT_FIRST)]
+        modes = zip(MODES, self.modes, _modes_at_power_up())
+        changed = [("+" if is_set else "-") + name for name, is_set, at_first in modes if is_set != at_first]
         if changed:
             yield "modes: " + " ".join(changed)
+
+
+@functools.lru_cache(maxsize=None)
+def _modes_at_power_up() -> Modes:
+    with Terminal() as terminal:
+        return terminal.modes()
 
 
 @functools.lru_cache(maxsize=4096)

@@ -3,12 +3,17 @@
 //!
 //! `frames N [--time]` plays frames of N bytes. With `--time` it also prints how long an update and a repaint took on
 //! average, in the quickest round of many.
+//!
+//! `frames N --count CALL` makes only one call after each frame: `show`, `repaint`, `update`, or `nothing`. So a
+//! count of instructions less that of `nothing` is the call's.
 #![tactic(auto)]
 
 ghost use Rattle.std.specs.Prelude.{◌≤◌};
 
+mod counted;
 mod server;
 
+use crate::counted::{Call, count};
 use crate::server::Server;
 use std::alloc::Global;
 use std::env;
@@ -65,6 +70,12 @@ fn main(rt: HostRuntime) -> io::Result<()> {
     let size = size.max(1);
     let mut recording = Vec::new(rt.alloc());
     rt.reader().read_to_end(&mut recording)?;
+    if words.len() > 3 {
+        let call = Call::named(words[3].as_str());
+        let (calls, bytes) = count(rt.alloc(), &recording, size, call)?;
+        println!(rt; "{calls} calls, {bytes} bytes")?;
+        return Ok(());
+    }
     let mut server = Server::new(rt.alloc())?;
     play(&rt, rt.alloc(), &mut server, &recording, size)?;
     let (sent, painted) = (server.updates.bytes, server.repaints.bytes);

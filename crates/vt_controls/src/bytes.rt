@@ -1,5 +1,5 @@
 //! Bytes and numbers, appended to an output that has capacity for them, or written into a buffer.
-ghost use Rattle.std.specs.Prelude.{◌≡◌, ℕ, ◌+◌, ◌≤◌, ◌++◌, length, take, vec_len, vec_capacity};
+ghost use Rattle.std.specs.Prelude.{◌≡◌, ℕ, ◌+◌, ◌≤◌, ◌++◌, length, take, decimal, vec_len, vec_capacity};
 ghost use Rattle.vt_screen.specs.Same.{when};
 
 use itoa::{Buffer, Integer};
@@ -64,4 +64,25 @@ pub fn put_front<const N: usize>(part: &[u8], len: usize, at: usize, all: &mut [
         all[at + i] = *byte;
     }
     at + len
+}
+
+/// Speed: writes a number in decimal at a position. Returns the position after it.
+#[inline(always)]
+pub(crate) fn put_number<const N: usize>(n: u8, at: usize, all: &mut [u8; N]) -> usize
+    requires { at + 3 ≤ N }
+    ensures items { take result all.new ≡ take at all.old ++ decimal n }
+    ensures next { result ≡ at + length (decimal n) }
+    ensures bounded { result ≤ at + 3 }
+{
+    if n < 10 {
+        return put_part(&[b'0' + n], at, all);
+    }
+    if n < 100 {
+        return put_part(&[b'0' + n / 10, b'0' + n % 10], at, all);
+    }
+    put_part(
+        &[b'0' + n / 100, b'0' + n / 10 % 10, b'0' + n % 10],
+        at,
+        all,
+    )
 }

@@ -7,9 +7,8 @@ ghost use Rattle.vt_controls.specs.Controls.{designation_of, left_event, right_e
 ghost use Rattle.vt_controls.specs.Spoken.{Control, Escape, Sequence, is_spoken, is_one_of, Speaks};
 ghost use Rattle.vt_controls.specs.Private.Attributes.{attribute, attributes};
 
-use crate::bytes::{push_bytes, put_front, put_part};
+use crate::bytes::{push_bytes, put_front, put_number, put_part};
 use crate::modes::{FRONTS, LENGTHS, last_of};
-use itoa::Buffer;
 use std::marker::Model;
 use vt_glyph::Set;
 use vt_screen::Rendition;
@@ -125,8 +124,11 @@ impl Function {
         if n == 1 {
             return Function::sequence(b"", &[last]);
         }
-        let mut buffer = Buffer::new();
-        Function::sequence(buffer.format(n).as_bytes(), &[last])
+        let mut bytes = [0; FUNCTION_LIMIT];
+        let at = put_part(b"\x1B[", 0, &mut bytes);
+        let at = put_number(n, at, &mut bytes);
+        let len = put_part(&[last], at, &mut bytes);
+        Function { bytes, len }
     }
 
     /// Returns a control sequence of two numbers.
@@ -138,13 +140,11 @@ impl Function {
         ensures shorter { n < 100 → m < 100 → length result ≤ 8 }
         ensures shortest { n < 10 → length result ≤ 8 }
     {
-        let mut first = Buffer::new();
-        let mut second = Buffer::new();
         let mut bytes = [0; FUNCTION_LIMIT];
         let at = put_part(b"\x1B[", 0, &mut bytes);
-        let at = put_part(first.format(n).as_bytes(), at, &mut bytes);
+        let at = put_number(n, at, &mut bytes);
         let at = put_part(b";", at, &mut bytes);
-        let at = put_part(second.format(m).as_bytes(), at, &mut bytes);
+        let at = put_number(m, at, &mut bytes);
         let len = put_part(&[last], at, &mut bytes);
         Function { bytes, len }
     }

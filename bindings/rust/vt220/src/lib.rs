@@ -35,45 +35,29 @@ pub struct Margins {
     pub bottom: usize,
 }
 
-/// Holds the modes: true if set.
-#[derive(Clone, Copy, Debug, Default, PartialEq, Eq)]
-pub struct Modes {
-    pub kam: bool,
-    pub irm: bool,
-    pub srm: bool,
-    pub lnm: bool,
-    pub decckm: bool,
-    pub decsclm: bool,
-    pub decscnm: bool,
-    pub decom: bool,
-    pub decawm: bool,
-    pub decarm: bool,
-    pub dectcem: bool,
-    pub keypad_application: bool,
-    pub reports_8bit: bool,
+macro_rules! modes {
+    ($($name:ident)*) => {
+        /// Holds the modes: true if set.
+        #[derive(Clone, Copy, Debug, Default, PartialEq, Eq)]
+        pub struct Modes {
+            $(pub $name: bool,)*
+        }
+
+        impl Modes {
+            /// Returns the modes as the library takes them.
+            fn handed_over(&self) -> sys::vt220_mode_set {
+                sys::vt220_mode_set { $($name: self.$name,)* ..Default::default() }
+            }
+
+            /// Returns the modes that the library wrote.
+            fn written(set: &sys::vt220_mode_set) -> Modes {
+                Modes { $($name: set.$name,)* }
+            }
+        }
+    };
 }
 
-impl Modes {
-    /// Returns the modes as the library takes them.
-    fn handed_over(&self) -> sys::vt220_mode_set {
-        sys::vt220_mode_set {
-            kam: self.kam,
-            irm: self.irm,
-            srm: self.srm,
-            lnm: self.lnm,
-            decckm: self.decckm,
-            decsclm: self.decsclm,
-            decscnm: self.decscnm,
-            decom: self.decom,
-            decawm: self.decawm,
-            decarm: self.decarm,
-            dectcem: self.dectcem,
-            keypad_application: self.keypad_application,
-            reports_8bit: self.reports_8bit,
-            reserved: [0; 19],
-        }
-    }
-}
+modes! { kam irm srm lnm decckm decsclm decscnm decom decawm decarm dectcem keypad_application reports_8bit }
 
 /// Holds the attributes with which a character is written.
 #[derive(Clone, Copy, Debug, Default, PartialEq, Eq)]
@@ -563,21 +547,7 @@ impl Terminal {
     pub fn modes(&self) -> Modes {
         let mut now = sys::vt220_mode_set::default();
         unsafe { sys::vt220_modes(&self.0, &mut now) };
-        Modes {
-            kam: now.kam,
-            irm: now.irm,
-            srm: now.srm,
-            lnm: now.lnm,
-            decckm: now.decckm,
-            decsclm: now.decsclm,
-            decscnm: now.decscnm,
-            decom: now.decom,
-            decawm: now.decawm,
-            decarm: now.decarm,
-            dectcem: now.dectcem,
-            keypad_application: now.keypad_application,
-            reports_8bit: now.reports_8bit,
-        }
+        Modes::written(&now)
     }
 
     /// Returns the attributes with which the next character is written.

@@ -31,25 +31,12 @@ fn put_sets(fields: &mut Fields, of: &str, g: &[u8; 4], gl: u8, gr: u8) {
     put(fields, of, "gr", gr);
 }
 
+/// Puts the modes by the names that their `Debug` writes.
 fn put_modes(fields: &mut Fields, terminal: &Terminal) {
-    let modes = terminal.modes();
-    let all = [
-        ("kam", modes.kam),
-        ("irm", modes.irm),
-        ("srm", modes.srm),
-        ("lnm", modes.lnm),
-        ("decckm", modes.decckm),
-        ("decsclm", modes.decsclm),
-        ("decscnm", modes.decscnm),
-        ("decom", modes.decom),
-        ("decawm", modes.decawm),
-        ("decarm", modes.decarm),
-        ("dectcem", modes.dectcem),
-        ("keypad_application", modes.keypad_application),
-        ("reports_8bit", modes.reports_8bit),
-    ];
-    for (name, is_set) in all {
-        put(fields, "modes", name, is_set);
+    let text = format!("{:?}", terminal.modes());
+    for part in text["Modes { ".len()..text.len() - " }".len()].split(", ") {
+        let (name, value) = part.split_once(": ").unwrap();
+        put(fields, "modes", name, value.parse::<bool>().unwrap());
     }
 }
 

@@ -2,82 +2,67 @@
 use super::common::{Played, holds_at};
 use std::alloc::Global;
 use std::test::Fail;
-use vt_term::Modes;
+use vt_term::{Modes, Terminal};
 
-const POWER_UP: Modes = Modes {
-    kam: false,
-    irm: false,
-    srm: true,
-    lnm: false,
-    decckm: false,
-    decsclm: false,
-    decscnm: false,
-    decom: false,
-    decawm: true,
-    decarm: true,
-    dectcem: true,
-    keypad_application: false,
-    reports_8bit: false,
-};
-
-/// An input, and the modes that it leaves.
-const MODES: [(&[u8], Modes); 9] = [
-    (b"", POWER_UP),
-    (
-        b"\x1b[!p",
-        Modes {
-            decawm: false,
-            ..POWER_UP
-        },
-    ),
-    (
-        b"\x1b=\x1b[?25l\x1b[2;4h",
-        Modes {
-            kam: true,
-            irm: true,
-            dectcem: false,
-            keypad_application: true,
-            ..POWER_UP
-        },
-    ),
-    (
-        b"\x1b=\x1b[?25l\x1b[2;4h\x1b[!p",
-        Modes {
-            decawm: false,
-            ..POWER_UP
-        },
-    ),
-    (
-        b"\x1b[12l\x1b[20h",
-        Modes {
-            srm: false,
-            lnm: true,
-            ..POWER_UP
-        },
-    ),
-    (
-        b"\x1b[?1;4;5;6h\x1b[?7;8l",
-        Modes {
-            decckm: true,
-            decsclm: true,
-            decscnm: true,
-            decom: true,
-            decawm: false,
-            decarm: false,
-            ..POWER_UP
-        },
-    ),
-    (
-        b"\x1b[62\"p",
-        Modes {
-            decawm: false,
-            reports_8bit: true,
-            ..POWER_UP
-        },
-    ),
-    (b"\x1b[62;3\"p\x1b[?!p\x1b[?2;42h\x1b[3;7;25l", POWER_UP),
-    (b"\x1b=\x1b[?1;5h\x1b[4h\x1b G\x1bc", POWER_UP),
-];
+/// Returns inputs, and the modes that each leaves, by those at power-up. (tests-c/fields.txt has the modes at power-up.)
+fn rows(power_up: Modes) -> [(&'static [u8], Modes); 8] {
+    [
+        (
+            b"\x1b[!p",
+            Modes {
+                decawm: false,
+                ..power_up
+            },
+        ),
+        (
+            b"\x1b=\x1b[?25l\x1b[2;4h",
+            Modes {
+                kam: true,
+                irm: true,
+                dectcem: false,
+                keypad_application: true,
+                ..power_up
+            },
+        ),
+        (
+            b"\x1b=\x1b[?25l\x1b[2;4h\x1b[!p",
+            Modes {
+                decawm: false,
+                ..power_up
+            },
+        ),
+        (
+            b"\x1b[12l\x1b[20h",
+            Modes {
+                srm: false,
+                lnm: true,
+                ..power_up
+            },
+        ),
+        (
+            b"\x1b[?1;4;5;6h\x1b[?7;8l",
+            Modes {
+                decckm: true,
+                decsclm: true,
+                decscnm: true,
+                decom: true,
+                decawm: false,
+                decarm: false,
+                ..power_up
+            },
+        ),
+        (
+            b"\x1b[62\"p",
+            Modes {
+                decawm: false,
+                reports_8bit: true,
+                ..power_up
+            },
+        ),
+        (b"\x1b[62;3\"p\x1b[?!p\x1b[?2;42h\x1b[3;7;25l", power_up),
+        (b"\x1b=\x1b[?1;5h\x1b[4h\x1b G\x1bc", power_up),
+    ]
+}
 
 /// Whether an input leaves these modes, and asks for no report.
 fn leaves(alloc: Global, input: &[u8], modes: Modes) -> Result<bool, Fail> {
@@ -87,7 +72,8 @@ fn leaves(alloc: Global, input: &[u8], modes: Modes) -> Result<bool, Fail> {
 
 #[test]
 fn modes_are_kept(rt: HostRuntime) -> Result<(), Fail> {
-    for (i, (input, modes)) in MODES.iter().enumerate() {
+    let power_up = Terminal::new(rt.alloc())?.modes();
+    for (i, (input, modes)) in rows(power_up).iter().enumerate() {
         holds_at(&rt, i, leaves(rt.alloc(), input, *modes)?);
     }
     Ok(())

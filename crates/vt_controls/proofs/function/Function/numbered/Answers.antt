@@ -1,10 +1,14 @@
-use Rattle.std.proofs.Common.{◌≡◌, ◌∙◌, ◌∷◌, [], List, ℕ, sym, subst, true, arith, decimal}
-use Rattle.vt_controls.specs.Spoken.{Sequence, is_spoken}
-use Rattle.vt_controls.proofs.Speech.{numbers_spoken, number_is}
+use Rattle.std.proofs.Common.{◌∷◌, [], sym, subst, refl, arith, decimal}
+use Rattle.vt_controls.specs.Spoken.{Sequence, Speaks}
+use Rattle.vt_controls.proofs.Speech.{speaks-one, numbers_spoken, number_is}
+use Rattle.vt_controls.proofs.Spelled.{three_parts}
 use Rattle.vt_controls.proofs.function.Function.numbered.Goals as goal
 
-pub sequence-requires-2-clause-spoken : goal.sequence-requires-2-clause-spoken
-sequence-requires-2-clause-spoken c =
-    let text : c.as_bytes.result.now ≡ decimal c.args.n = c.as_bytes.ensures.value ∙ c.format.ensures.text in
-    subst (λ (text : List ℕ). is_spoken (Sequence text (c.args.last ∷ [])) ≡ true) (sym text)
-    (numbers_spoken (decimal c.args.n) c.args.last c.requires (number_is c.args.n (omega (arith, c.ranges.n.fits))))
+pub invariant_of-result : goal.invariant_of-result
+invariant_of-result c =
+    let n = decimal c.args.n in
+    let are = number_is c.args.n (omega (arith, c.ranges.n.fits)) in
+    let spoken = speaks-one (Sequence n (c.args.last ∷ [])) (numbers_spoken n c.args.last c.requires are) in
+    let all = three_parts [] (0x1B ∷ 0x5B ∷ []) n (c.args.last ∷ []) _ _ _ refl c.put_part-at.ensures.items
+    c.put_number-at.ensures.items c.put_part-len.ensures.items in
+    (omega arith, subst Speaks (sym all) spoken)

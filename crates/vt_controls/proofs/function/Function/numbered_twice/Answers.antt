@@ -1,4 +1,4 @@
-use Rattle.std.proofs.Common.{◌≡◌, ◌≤◌, ◌∙◌, ◌∷◌, ◌++◌, [], List, ℕ, sym, ap, subst, refl, arith, decimal, length, take}
+use Rattle.std.proofs.Common.{◌∷◌, ◌++◌, [], sym, subst, refl, arith, decimal}
 use Rattle.std.proofs.lemmas.Fmt.{length-decimal-le}
 use Rattle.std.proofs.lemmas.List.{length-take}
 use Rattle.vt_controls.specs.Spoken.{Sequence, Speaks}
@@ -10,34 +10,25 @@ pub invariant_of-result : goal.invariant_of-result
 invariant_of-result c =
     let n = decimal c.args.n in
     let m = decimal c.args.m in
-    let first : c.as_bytes.result.now ≡ n = c.as_bytes.ensures.value ∙ c.format.ensures.text in
-    let second : c.as_bytes-2.result.now ≡ m = c.as_bytes-2.ensures.value ∙ c.format-2.ensures.text in
     let is = two_numbers_are c.args.n c.args.m (omega (arith, c.ranges.n.fits)) (omega (arith, c.ranges.m.fits)) in
     let spoken = speaks-one (Sequence (n ++ 0x3B ∷ m) (c.args.last ∷ []))
     (numbers_spoken (n ++ 0x3B ∷ m) c.args.last c.requires is) in
-    let all = two_numbers [] n m _ _ _ _ _ c.args.last refl c.put_part-at.ensures.items
-    (c.put_part-at-2.ensures.items ∙ ap (λ (xs : List ℕ). take c.put_part-at.result c.put_part-at.new.all ++ xs) first)
-    c.put_part-at-3.ensures.items
-    (c.put_part-at-4.ensures.items ∙ ap (λ (xs : List ℕ). take c.put_part-at-3.result c.put_part-at-3.new.all ++ xs) second)
-    c.put_part-len.ensures.items in
+    let all = two_numbers [] n m _ _ _ _ _ c.args.last refl c.put_part-at.ensures.items c.put_number-at.ensures.items
+    c.put_part-at-2.ensures.items c.put_number-at-2.ensures.items c.put_part-len.ensures.items in
     (omega arith, subst Speaks (sym all) spoken)
 
 pub returns-clause-short : goal.returns-clause-short
 returns-clause-short c = λ h.
-    let first : length c.as_bytes.result.now ≤ 2 =
-    rw (c.as_bytes.ensures.value, c.format.ensures.text) (length-decimal-le 2 c.args.n (omega arith) (omega arith) (omega arith)) in
+    let first = length-decimal-le 2 c.args.n (omega arith) (omega arith) (omega arith) in
     rw length-take (omega (arith, first))
 
 pub returns-clause-shorter : goal.returns-clause-shorter
 returns-clause-shorter c = λ h k.
-    let first : length c.as_bytes.result.now ≤ 2 =
-    rw (c.as_bytes.ensures.value, c.format.ensures.text) (length-decimal-le 2 c.args.n (omega arith) (omega arith) (omega arith)) in
-    let second : length c.as_bytes-2.result.now ≤ 2 =
-    rw (c.as_bytes-2.ensures.value, c.format-2.ensures.text) (length-decimal-le 2 c.args.m (omega arith) (omega arith) (omega arith)) in
+    let first = length-decimal-le 2 c.args.n (omega arith) (omega arith) (omega arith) in
+    let second = length-decimal-le 2 c.args.m (omega arith) (omega arith) (omega arith) in
     rw length-take (omega (arith, first, second))
 
 pub returns-clause-shortest : goal.returns-clause-shortest
 returns-clause-shortest c = λ h.
-    let first : length c.as_bytes.result.now ≤ 1 =
-    rw (c.as_bytes.ensures.value, c.format.ensures.text) (length-decimal-le 1 c.args.n (omega arith) (omega arith) (omega arith)) in
+    let first = length-decimal-le 1 c.args.n (omega arith) (omega arith) (omega arith) in
     rw length-take (omega (arith, first))

@@ -1,6 +1,7 @@
 -- Elements one after another, and that their bytes are ASCII.
 use Rattle.std.proofs.Common.{◌≡◌, Bool, true, false, cond, ltb, ◌^◌, ◌&&◌, ℕ, ◌-◌, ◌≤◌, ◌<◌, List, [], ◌∷◌, ◌++◌, refl}
 use Rattle.std.proofs.Common.{sym, ap, subst, ◌∙◌, arith, decimal, codes, bytes_eq, append-nil}
+use Rattle.std.specs.Fmt.{digits}
 use Rattle.std.specs.List.{flat_map, list_all, list_any}
 use Rattle.std.specs.Str.{IsAscii}
 use Rattle.std.specs.Str.Parse.{AllDigits}
@@ -128,6 +129,7 @@ rows_small (row ∷ rows) parameters ending are h =
     (λ l. rows_small rows parameters ending are.2 l)
 
 sequences_small : AreSmall spoken_sequences
+unfolding digits
 sequences_small =
     let numbers = numbers_small in
     let none = λ (text : List ℕ) (h : is_among ([] ∷ []) text ≡ true). among_small ([] ∷ []) text refl h in

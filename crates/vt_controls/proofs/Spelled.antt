@@ -10,7 +10,7 @@ use Rattle.std.proofs.Math.Seq.{take-take, take-append-add}
 use Rattle.vt_glyph.proofs.Lists.{all_in_range}
 use Rattle.vt_syntax.specs.Spelling.{spell_event}
 use Rattle.vt_screen.specs.declared.cell.Rendition.{Rendition}
-use Rattle.vt_controls.specs.declared.modes.TheConstants.{FRONTS, LENGTHS}
+use Rattle.vt_controls.specs.declared.modes.TheConstants.{FRONTS, LENGTHS, ALL_MODES}
 use Rattle.vt_controls.specs.Controls.{mode_event}
 use Rattle.vt_controls.specs.Spoken.{are_attributes, Speaks}
 use Rattle.vt_controls.specs.Private.Attributes.{attributes}
@@ -69,22 +69,22 @@ mode_form index on = take (slice_index_or LENGTHS index 0) (slice_index_or FRONT
 abbrev mode_test : ℕ → Bool
 mode_test index = both_pass (λ on. same_bytes (mode_form index on) (spell_event (mode_event index on)))
 
-modes_are : list_all mode_test (range_with_len 0 14) ≡ true
+modes_are : list_all mode_test (range_with_len 0 ALL_MODES) ≡ true
 unfolding both_pass digits
 modes_are = refl
 
-pub mode_spelled : (index : ℕ) (on : Bool) → index < 14 → mode_form index on ≡ spell_event (mode_event index on)
+pub mode_spelled : (index : ℕ) (on : Bool) → index < ALL_MODES → mode_form index on ≡ spell_event (mode_event index on)
 mode_spelled index on low =
     same_bytes-is _ _ (at_bool (λ on. same_bytes (mode_form index on) (spell_event (mode_event index on)))
-    (all_in_range mode_test 0 14 index modes_are (omega arith) (omega arith)) on)
+    (all_in_range mode_test 0 ALL_MODES index modes_are (omega arith) (omega arith)) on)
 
-modes_fine : list_all (λ index. both_pass (λ on. is_fine (mode_event index on))) (range_with_len 0 14) ≡ true
+modes_fine : list_all (λ index. both_pass (λ on. is_fine (mode_event index on))) (range_with_len 0 ALL_MODES) ≡ true
 unfolding both_pass digits opens_string
 modes_fine = refl
 
-pub mode_speaks : (index : ℕ) (on : Bool) → index < 14 → Speaks (mode_form index on)
+pub mode_speaks : (index : ℕ) (on : Bool) → index < ALL_MODES → Speaks (mode_form index on)
 mode_speaks index on low =
     subst Speaks (sym (mode_spelled index on low))
     (fine_speaks (mode_event index on)
     (at_bool (λ on. is_fine (mode_event index on))
-    (all_in_range (λ index. both_pass (λ on. is_fine (mode_event index on))) 0 14 index modes_fine (omega arith) (omega arith)) on))
+    (all_in_range (λ index. both_pass (λ on. is_fine (mode_event index on))) 0 ALL_MODES index modes_fine (omega arith) (omega arith)) on))

@@ -1,6 +1,7 @@
 -- The control functions that a repaint is made of, as events. (EK-VT220-RM, chapter 4; ECMA-48)
-use Rattle.std.specs.Prelude.{ℕ, List, [], ◌∷◌, ◌++◌, Bool, Some, None, ◌==◌, if◌then◌else◌, codes, map}
+use Rattle.std.specs.Prelude.{ℕ, List, [], ◌∷◌, ◌++◌, Bool, not, Some, None, ◌==◌, if◌then◌else◌, codes, map}
 use Rattle.std.specs.Prelude.{slice_index_or}
+use Rattle.std.specs.List.{filter}
 use Rattle.vt_syntax.specs.declared.event.Event.{Event}
 use Rattle.vt_syntax.specs.declared.event.Event.TheVariants.{Print, Control, Escape, Sequence}
 use Rattle.vt_glyph.specs.declared.set.Set.{Set}
@@ -15,6 +16,7 @@ use Rattle.vt_screen.specs.declared.cell.Brush.{Brush}
 use Rattle.vt_screen.specs.Same.{when}
 use Rattle.vt_term.specs.declared.state.Modes.{Modes}
 use Rattle.vt_term.specs.Functions.{byte}
+use Rattle.vt_term.specs.Modes.{ansi_values, private_values}
 
 -- ---- control sequences
 
@@ -143,16 +145,19 @@ spelling_sets_events =
 
 -- ---- modes
 
--- A mode by what sets or resets it and by its value: the ANSI ones first; then the keypad and the form of reports.
+-- A mode by what sets or resets it and by its value.
 abbrev pub ModeRow : Type 0
 ModeRow = (Bool → Event) × (Modes → Bool)
 
+abbrev pub mode_row : (ℕ → Bool → Event) → ℕ × (Modes → Bool) → ModeRow
+mode_row event value = (event value.0, value.1)
+
+-- The ANSI modes, the private ones apart from DECOM, which moves the cursor, the keypad and the form of reports.
 abbrev pub mode_rows : List ModeRow
 mode_rows =
-    (ansi_mode 2, λ m. m.kam) ∷ (ansi_mode 4, λ m. m.irm) ∷ (ansi_mode 12, λ m. m.srm) ∷ (ansi_mode 20, λ m. m.lnm)
-    ∷ (private_mode 1, λ m. m.decckm) ∷ (private_mode 4, λ m. m.decsclm) ∷ (private_mode 5, λ m. m.decscnm)
-    ∷ (private_mode 7, λ m. m.decawm) ∷ (private_mode 8, λ m. m.decarm) ∷ (private_mode 25, λ m. m.dectcem)
-    ∷ (keypad, λ m. m.keypad_application) ∷ (report_form, λ m. m.reports_8bit) ∷ []
+    map (mode_row ansi_mode) ansi_values
+    ++ (map (mode_row private_mode) (filter (λ (value : ℕ × (Modes → Bool)). not (value.0 == 6)) private_values)
+    ++ (keypad, λ m. m.keypad_application) ∷ (report_form, λ m. m.reports_8bit) ∷ [])
 
 -- what sets or resets a mode: one of the table, then DECCOLM and DECOM
 abbrev pub mode_event : ℕ → Bool → Event

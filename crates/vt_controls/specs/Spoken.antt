@@ -1,7 +1,9 @@
 -- What repaints and updates are made of: graphic characters and the control functions that these tables name, in
 -- their 7-bit forms, and nothing else. (ECMA-48 5; EK-VT220-RM, chapter 4)
 use Rattle.std.specs.Prelude.{◌≡◌, ℕ, List, [], ◌∷◌, ◌++◌, Bool, true, false, ◌==◌, ◌&&◌, ◌||◌, nat_le, codes, bytes_eq}
+use Rattle.std.specs.Prelude.{decimal, map}
 use Rattle.std.specs.List.{flat_map, list_all, list_any}
+use Rattle.vt_term.specs.Modes.{ansi_modes, private_modes}
 
 -- a graphic character; a control of one byte; ESC and what follows it; CSI, the parameters, and what ends it
 pub data Element : Type 0 where
@@ -43,11 +45,9 @@ abbrev pub is_designation : List ℕ → Bool
 is_designation (slot ∷ set ∷ []) = is_one_of (codes "()*+") slot && is_one_of (codes "BAK0<") set
 is_designation _ = false
 
--- KAM, IRM, SRM and LNM; DECCKM, DECCOLM, DECSCLM, DECSCNM, DECOM, DECAWM, DECARM and DECTCEM
+-- the modes of the terminal, by their numbers: after `?` that of a private one
 abbrev pub mode_numbers : List (List ℕ)
-mode_numbers =
-    codes "2" ∷ codes "4" ∷ codes "12" ∷ codes "20" ∷ codes "?1" ∷ codes "?3" ∷ codes "?4" ∷ codes "?5" ∷ codes "?6"
-    ∷ codes "?7" ∷ codes "?8" ∷ codes "?25" ∷ []
+mode_numbers = map (λ mode. decimal mode.0) ansi_modes ++ map (λ mode. 0x3F ∷ decimal mode.0) private_modes
 
 -- ---- the tables
 

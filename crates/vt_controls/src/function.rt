@@ -8,7 +8,7 @@ ghost use Rattle.vt_controls.specs.Spoken.{Control, Escape, Sequence, is_spoken,
 ghost use Rattle.vt_controls.specs.Private.Attributes.{attribute, attributes};
 
 use crate::bytes::{push_bytes, put_front, put_number, put_part};
-use crate::modes::{FRONTS, LENGTHS, last_of};
+use crate::modes::{ALL_MODES, FRONTS, LENGTHS, last_of};
 use std::marker::Model;
 use vt_glyph::Set;
 use vt_screen::Rendition;
@@ -388,7 +388,7 @@ impl Function {
     /// Returns what sets or resets a mode, by its index in the table of modes.
     #[inline]
     pub fn mode(index: usize, on: bool) -> Function
-        requires { index < 14 }
+        requires { index < ALL_MODES }
         ensures value { result ≡ spell_event (mode_event index on) }
         ensures short { length result ≤ 6 }
     {

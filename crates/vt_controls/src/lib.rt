@@ -8,4 +8,4 @@ mod modes;
 
 pub use bytes::{push_bytes, push_number, push_when, put_front, put_part};
 pub use function::{FUNCTION_LIMIT, Function};
-pub use modes::{AT_POWER_UP, DECAWM, DECCOLM, DECOM, IRM, MODES, mode_values};
+pub use modes::{ALL_MODES, AT_POWER_UP, DECAWM, DECCOLM, DECOM, IRM, MODES, mode_values};

@@ -15,13 +15,16 @@ pub const IRM: usize = 1;
 pub const DECAWM: usize = 7;
 
 /// The index of DECCOLM, whose value is the width.
-pub const DECCOLM: usize = 12;
+pub const DECCOLM: usize = MODES;
 
 /// The index of DECOM, which moves the cursor.
-pub const DECOM: usize = 13;
+pub const DECOM: usize = MODES + 1;
+
+/// The number of all modes.
+pub const ALL_MODES: usize = MODES + 2;
 
 /// Lists the bytes that set and reset each mode, without the last one.
-pub(crate) const FRONTS: [[u8; 5]; 14] = [
+pub(crate) const FRONTS: [[u8; 5]; ALL_MODES] = [
     // KAM, IRM, SRM and LNM
     *b"\x1B[2  ",
     *b"\x1B[4  ",
@@ -43,18 +46,18 @@ pub(crate) const FRONTS: [[u8; 5]; 14] = [
 ];
 
 /// The lengths of these.
-pub(crate) const LENGTHS: [usize; 14] = [3, 3, 4, 4, 4, 4, 4, 4, 4, 5, 1, 2, 4, 4];
+pub(crate) const LENGTHS: [usize; ALL_MODES] = [3, 3, 4, 4, 4, 4, 4, 4, 4, 5, 1, 2, 4, 4];
 
 /// The last bytes of what sets them.
-const SET: [u8; 14] = *b"hhhhhhhhhh=Ghh";
+const SET: [u8; ALL_MODES] = *b"hhhhhhhhhh=Ghh";
 
 /// The last bytes of what resets them.
-const RESET: [u8; 14] = *b"llllllllll>Fll";
+const RESET: [u8; ALL_MODES] = *b"llllllllll>Fll";
 
 /// Returns the last byte of what sets or resets a mode.
 #[inline(always)]
 pub(crate) fn last_of(index: usize, on: bool) -> u8
-    requires { index < 14 }
+    requires { index < ALL_MODES }
     ensures { result ≡ mode_last index on }
 {
     if on { SET[index] } else { RESET[index] }

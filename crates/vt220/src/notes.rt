@@ -71,15 +71,24 @@ pub(crate) fn hint_of(detected: Detected) -> Option<&'static str> {
 
 /// Returns the size that the first line of a recording gives.
 fn recorded_size(format: Format, beginning: &[u8]) -> Option<Size> {
-    let line = beginning.split(|byte| *byte == b'\n').next()?;
     match format {
         Format::Raw => None,
         Format::Ttyrec => None,
-        Format::Script => size_in(line, b"COLUMNS=\"", b"LINES=\""),
-        Format::Asciicast => match size_in(line, b"\"width\"", b"\"height\"") {
-            Some(size) => Some(size),
-            None => size_in(line, b"\"cols\"", b"\"rows\""),
-        },
+        Format::Script => size_in(first_line(beginning)?, b"COLUMNS=\"", b"LINES=\""),
+        Format::Asciicast => asciicast_size(first_line(beginning)?),
+    }
+}
+
+/// Returns the bytes up to the first LF.
+fn first_line(bytes: &[u8]) -> Option<&[u8]> {
+    bytes.split(|byte| *byte == b'\n').next()
+}
+
+/// Returns the size that the first line of an asciicast gives.
+fn asciicast_size(line: &[u8]) -> Option<Size> {
+    match size_in(line, b"\"width\"", b"\"height\"") {
+        Some(size) => Some(size),
+        None => size_in(line, b"\"cols\"", b"\"rows\""),
     }
 }
 

@@ -221,3 +221,32 @@ pub three-made : (r : Option ℕ) (P : Type 0) (piece : List ℕ)
 three-made None P piece made long low high second-on third-on = tt
 three-made (Some c) P piece made long low high second-on third-on =
     three-whole-by piece c long low high second-on third-on (sym made.1)
+
+-- no first byte of two bytes narrows the second
+low-second : (b x : ℕ) → b ≤ 0xDF → continues x ≡ true → second b x ≡ true
+low-second b x high on =
+    let e : (b == 0xE0) ≡ false = grind (arith, nat_tests) in
+    let f : (b == 0xED) ≡ false = grind (arith, nat_tests) in
+    let g : (b == 0xF0) ≡ false = grind (arith, nat_tests) in
+    let h : (b == 0xF4) ≡ false = grind (arith, nat_tests) in
+    rw (e, f, g, h) on
+
+two-whole-by : (piece : List ℕ) (c : ℕ) → 2 ≤ length piece → 0xC2 ≤ slice_index piece 0 → slice_index piece 0 ≤ 0xDF
+    → continues (slice_index piece 1) ≡ true → code_of_2 (slice_index piece 0) (slice_index piece 1) ≡ c
+    → (0x80 ≤ c) × IsWhole piece c 2
+two-whole-by [] c long low high second-on is = absurd (omega (arith, long))
+two-whole-by (b ∷ []) c long low high second-on is = absurd (omega (arith, long))
+two-whole-by (b ∷ x ∷ rest) c long low high second-on is =
+    let no_first : nat_lt b 0xC2 ≡ false = grind (arith, nat_tests) in
+    let no_last : nat_lt 0xF4 b ≡ false = grind (arith, nat_tests) in
+    let is_two : nat_lt b 0xE0 ≡ true = grind (arith, nat_tests) in
+    let any : second b x ≡ true = low-second b x high second-on in
+    let large : 0x80 ≤ code_of_2 b x = omega (arith, low) in
+    subst (λ (k : ℕ). (0x80 ≤ k) × IsWhole (b ∷ x ∷ rest) k 2) is (large, two b no_first no_last x any rest is_two)
+
+pub two-made : (r : Option ℕ) (P : Type 0) (piece : List ℕ)
+    → SomeIff r P (code_of_2 (slice_index piece 0) (slice_index piece 1)) → 2 ≤ length piece → 0xC2 ≤ slice_index piece 0
+    → slice_index piece 0 ≤ 0xDF → continues (slice_index piece 1) ≡ true → IfSome r (λ c. (0x80 ≤ c) × IsWhole piece c 2)
+two-made None P piece made long low high second-on = tt
+two-made (Some c) P piece made long low high second-on =
+    two-whole-by piece c long low high second-on (sym made.1)

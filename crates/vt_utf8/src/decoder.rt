@@ -87,6 +87,27 @@ fn three_bytes(piece: &[u8]) -> Option<char>
     None
 }
 
+/// Returns the character of two bytes that begin a chunk, if there is one. Speed: it is decoded by fewer tests.
+#[inline(always)]
+fn two_bytes(piece: &[u8]) -> Option<char>
+    ensures { IfSome result (λ c. (0x80 ≤ c) × IsWhole piece.now c 2) }
+{
+    if piece.len() < 2 {
+        return None;
+    }
+    let (b, x) = (piece[0], piece[1]);
+    if b < 0xC2 {
+        return None;
+    }
+    if b > 0xDF {
+        return None;
+    }
+    if continues(x) {
+        return char::from_u32((b as u32 - 0xC0) * 64 + (x as u32 - 0x80));
+    }
+    None
+}
+
 /// Returns the character beyond ASCII at the front of a chunk, if it is whole, and how many bytes it takes.
 #[inline(always)]
 pub fn whole_character(piece: &[u8]) -> Option<(char, usize)>
@@ -94,6 +115,9 @@ pub fn whole_character(piece: &[u8]) -> Option<(char, usize)>
 {
     if let Some(c) = three_bytes(piece) {
         return Some((c, 3));
+    }
+    if let Some(c) = two_bytes(piece) {
+        return Some((c, 2));
     }
     let (found, size) = decode(piece);
     let Some(c) = found else {

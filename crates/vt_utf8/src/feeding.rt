@@ -21,8 +21,8 @@ use crate::ascii::ascii_run;
 use crate::decoder::{Decoder, whole_character};
 use crate::laws::{ascii, cuts, one_byte, silence, writes};
 use crate::log::BytesLog;
-use crate::similar::{code_of, glyph_of_code};
-use crate::translation::{BYTE_LIMIT, TRANSLATION_LIMIT, has_one_cell, translation};
+use crate::similar::glyph_of_code;
+use crate::translation::{BYTE_LIMIT, TRANSLATION_LIMIT, narrow_code, translation};
 use std::alloc::AllocError;
 use vt_syntax::Held;
 use vt_syntax::laws::one_split;
@@ -150,6 +150,19 @@ fn feed_front<L: BytesLog>(
     at
 }
 
+/// Returns how many bytes at the front of a chunk that isn't empty are ASCII. Speed: no search begins at a byte that isn't.
+#[inline(always)]
+fn ascii_front(piece: &[u8]) -> usize
+    requires { 1 ≤ length piece.now }
+    ensures within { result ≤ length piece.now }
+    ensures ascii { All (λ b. b < 0x80) (take result piece.now) }
+{
+    if piece[0] < 0x80 {
+        return ascii_run(piece);
+    }
+    0
+}
+
 /// Plays the front of a chunk that isn't empty: the ASCII bytes or the whole characters there if nothing is pending,
 /// otherwise a byte. Returns how many bytes it played: none if the log is full.
 #[inline(always)]
@@ -171,7 +184,7 @@ fn feed_next<L: BytesLog>(
     ensures capacity { vec_capacity out.old ≤ vec_capacity out.new }
 {
     if decoder.is_empty() {
-        let run = ascii_run(piece);
+        let run = ascii_front(piece);
         if run > 0 {
             return feed_ascii(terminal, decoder, &piece[..run], log, out);
         }
@@ -414,9 +427,11 @@ pub fn feed_beyond_ascii(terminal: &mut Terminal, c: char, out: &mut Vec<u8>)
     let _ = terminal.width();
     silence();
     writes();
-    if writes_glyphs(terminal) && has_one_cell(c) {
-        terminal.write_glyph(glyph_of_code(code_of(c)));
-        return;
+    if writes_glyphs(terminal) {
+        if let Some(code) = narrow_code(c) {
+            terminal.write_glyph(glyph_of_code(code));
+            return;
+        }
     }
     feed_translated(terminal, c, out);
 }
@@ -482,9 +497,11 @@ pub fn feed_beyond_ascii_log(
     let _ = terminal.width();
     silence();
     writes();
-    if writes_glyphs(terminal) && has_one_cell(c) {
-        write_logged(terminal, glyph_of_code(code_of(c)), lines);
-        return;
+    if writes_glyphs(terminal) {
+        if let Some(code) = narrow_code(c) {
+            write_logged(terminal, glyph_of_code(code), lines);
+            return;
+        }
     }
     feed_translated_log(terminal, c, out, lines);
 }

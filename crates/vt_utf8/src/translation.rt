@@ -1,11 +1,13 @@
 //! Translation: the terminal's own bytes for a character, in the terminal's state.
-ghost use Rattle.std.specs.Prelude.{◌≡◌, ◌+◌, ◌<◌, ◌≤◌, ◌++◌, [], ◌∷◌, ◌==◌, length};
+ghost use Rattle.std.specs.Prelude.{◌≡◌, ◌+◌, ◌<◌, ◌≤◌, ◌++◌, [], ◌∷◌, true, IfSome, length};
 ghost use Rattle.std.specs.Option.{option_to_list};
 ghost use Rattle.arrayvec.specs.ArrayVec.{array_vec_len};
+ghost use Rattle.vt_glyph.specs.Encoding.{encoded_glyph};
 ghost use Rattle.vt_glyph.specs.Spell.{spelling_of};
 ghost use Rattle.vt_glyph.specs.Designation.{final_of};
 ghost use Rattle.vt_utf8.specs.Similar.{shown};
 ghost use Rattle.vt_utf8.specs.Cells.{cells};
+ghost use Rattle.vt_utf8.specs.Private.Codes.{is_code};
 ghost use Rattle.vt_utf8.specs.Translation.{reads_ascii, while_designated, spelled_in, both_halves, is_at_end};
 ghost use Rattle.vt_utf8.specs.Translation.{written_wide, in_cells, put, translation};
 ghost use Rattle.vt_utf8.specs.Play.{translated_all};
@@ -42,18 +44,22 @@ pub fn cells(c: char) -> usize
     }
 }
 
-/// Returns whether a character beyond ASCII has one cell. Speed: those of the two charts have.
+/// Returns the code of the glyph that is shown for a character beyond ASCII, if the character has one cell. Speed: those of the
+/// two charts have, and each finds its code by one test.
 #[inline(always)]
-pub(crate) fn has_one_cell(c: char) -> bool
-    ensures { result ≡ (cells c == 1) }
+pub(crate) fn narrow_code(c: char) -> Option<u8>
+    ensures { IfSome result (λ code. (cells c ≡ 1) × (encoded_glyph code ≡ shown c) × (is_code code ≡ true)) }
 {
     if is_in(0xA0, 0x17F, c as u32) {
-        return true;
+        return Some(code_of(c));
     }
     if is_in(0x2500, 0x257F, c as u32) {
-        return true;
+        return Some(code_of(c));
     }
-    cells(c) == 1
+    if cells(c) == 1 {
+        return Some(code_of(c));
+    }
+    None
 }
 
 /// Returns the spelling of the glyph that is shown for a character from U+00A0 on.

@@ -1,5 +1,4 @@
-use Rattle.std.proofs.Common.{sym, ◌∙◌}
-use Rattle.std.proofs.lemmas.Bool.{eqb-true}
+use Rattle.std.proofs.Common.{◌∙◌}
 use Rattle.vt_utf8.proofs.Written.{written-itself}
 use Rattle.vt_utf8.proofs.feeding.feed_beyond_ascii.Goals as goal
 
@@ -7,10 +6,10 @@ pub returns-clause-silent : goal.returns-clause-silent
 returns-clause-silent c =
     c.silence.ensures.silent c.args.terminal.now c.args.c c.width.ensures.sound c.requires.beyond
 
-pub returns-then-has_one_cell-clause-state : goal.returns-then-has_one_cell-clause-state
-returns-then-has_one_cell-clause-state c =
+pub returns-in-Some-clause-state : goal.returns-in-Some-clause-state
+returns-in-Some-clause-state c =
     let is = c.if-writes_glyphs.ensures in
     written-itself c.args.terminal.now c.write_glyph.new.self c.args.c c.glyph_of_code.result is.1
     (c.writes.ensures.one c.args.terminal.now c.args.c c.width.ensures.sound is.0 c.requires.beyond
-    (eqb-true _ _ (sym c.has_one_cell.ensures ∙ c.if-has_one_cell.true)))
-    (c.glyph_of_code.ensures ∙ c.code_of.ensures.glyph) c.write_glyph.ensures
+    c.in-Some.ensures.0)
+    (c.glyph_of_code.ensures ∙ c.in-Some.ensures.1) c.write_glyph.ensures

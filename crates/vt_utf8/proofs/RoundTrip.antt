@@ -285,7 +285,7 @@ row-event row last = record {
 }
 
 row-silent : (row : ℕ) (d : Display) → report (to_row row) d ≡ []
-unfolding sequence_report
+unfolding sequence_report sequences_of
 row-silent row d = refl
 
 row-effect : (row : ℕ) (d : Display) → effect (to_row row) d ≡ cursor_position row 1 d

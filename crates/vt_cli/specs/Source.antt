@@ -74,8 +74,7 @@ encoding_of (Some name) = encoding_named name
 abbrev pub plays_xterm : Text → Bool
 plays_xterm command =
     not (bytes_eq command (codes "pages"))
-    && (not (bytes_eq command (codes "trace"))
-    && (not (bytes_eq command (codes "summary")) && not (bytes_eq command (codes "content"))))
+    && (not (bytes_eq command (codes "trace")) && not (bytes_eq command (codes "summary")))
 
 -- xterm, for a command and the encoding that was asked for: it reads UTF-8
 abbrev pub xterm_for : (command : Text) → Option Encoding → Result TerminalType Complaint
@@ -141,4 +140,4 @@ line_of NoEncoding = codes "vt220: --encoding is dec or utf-8" ++ 0x0A ∷ []
 line_of NoTerminal = codes "vt220: --terminal is vt220 or xterm" ++ 0x0A ∷ []
 line_of OnlyUtf8 = codes "vt220: --terminal xterm reads UTF-8, and not --encoding dec" ++ 0x0A ∷ []
 line_of OnlyVt220 =
-    codes "vt220: pages, trace, summary and content play no xterm" ++ 0x0A ∷ codes "vt220: text, show, picture, status, reports, repaint and log do" ++ 0x0A ∷ []
+    codes "vt220: pages, trace and summary play no xterm" ++ 0x0A ∷ codes "vt220: text, show, picture, status, reports, repaint, log and content do" ++ 0x0A ∷ []

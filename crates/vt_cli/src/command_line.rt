@@ -70,7 +70,7 @@ const TRACE: &str = "A line for each event: its place, its name and its values";
 const SUMMARY: &str = "The names of the events, each with its count; the ignored ones first";
 
 /// What `content` is for.
-const CONTENT: &str = "The host's bytes of a recording";
+const CONTENT: &str = "The host's bytes of a recording, or with --terminal xterm bytes for a VT220";
 
 /// The subcommands, each by its name and what it is for.
 const SUBCOMMANDS: [(&str, &str); 11] = [

@@ -97,8 +97,8 @@ fn request_in(alloc: Global, words: &[String]) -> Result<Request, Refused>
 ///
 /// `Err` is what to end with if there is no request: the help or the version that was asked for (status 0), a failed
 /// allocation (1), or what is wrong with the arguments (2). Such are also `--timing` with a format other than script, a
-/// moment in seconds with raw, or with script without `--timing`, and xterm with dec, or with `pages`, `trace`, `summary` or
-/// `content`. (this profile)
+/// moment in seconds with raw, or with script without `--timing`, and xterm with dec, or with `pages`, `trace` or `summary`.
+/// (this profile)
 pub fn request(alloc: Global, words: Vec<String>) -> Result<Request, Refused>
     ensures ok { IfOk result (IsRequest words.items) }
     ensures err { IfErr result (IsNoRequest words.items) }

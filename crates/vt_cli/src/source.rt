@@ -66,8 +66,8 @@ impl Complaint {
             Complaint::NoTerminal => "vt220: --terminal is vt220 or xterm\n",
             Complaint::OnlyUtf8 => "vt220: --terminal xterm reads UTF-8, and not --encoding dec\n",
             Complaint::OnlyVt220 => {
-                "vt220: pages, trace, summary and content play no xterm\n\
-                 vt220: text, show, picture, status, reports, repaint and log do\n"
+                "vt220: pages, trace and summary play no xterm\n\
+                 vt220: text, show, picture, status, reports, repaint, log and content do\n"
             }
         }
     }
@@ -171,7 +171,7 @@ fn encoding_of(name: Option<&str>) -> Result<Option<Encoding>, Complaint>
 fn plays_xterm(command: &str) -> bool
     ensures { result ≡ plays_xterm command.now }
 {
-    !matches!(command, "pages" | "trace" | "summary" | "content")
+    !matches!(command, "pages" | "trace" | "summary")
 }
 
 /// Returns xterm, for a command and the encoding that was asked for.

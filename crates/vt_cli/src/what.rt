@@ -40,6 +40,6 @@ pub enum Word {
     Trace,
     /// The names of the events, each with how many there were, after the whole input.
     Summary,
-    /// The host's bytes.
+    /// The host's bytes. For xterm, bytes with which a VT220 shows the same.
     Content,
 }

@@ -1,7 +1,8 @@
 -- What decoding leaves, a part of a chunk after another.
 use Rattle.std.proofs.Common.{◌≡◌, ℕ, ◌+◌, List, [], ◌∷◌, ◌++◌, take, drop, refl, sym, ap, ◌∙◌, append_assoc, append-nil}
 use Rattle.std.proofs.Math.Seq.{take-add}
-use Rattle.vt_term.specs.State.{State}
+use Rattle.vt_syntax.specs.Split.{split_after}
+use Rattle.vt_term.specs.State.{State, power_up}
 use Rattle.vt_term.specs.Sound.{IsSound}
 use Rattle.vt_term.specs.Play.{Played, play, both}
 use Rattle.vt_utf8.specs.Decoding.{read, pending_after}
@@ -50,6 +51,18 @@ pub nothing_decoded : (s : State) (pending : List ℕ) → translated s pending 
 unfolding translated
 nothing_decoded s pending = refl
 
+none_played : power_up ≡ (play power_up []).state
+unfolding play split_after
+none_played = refl
+
+-- nothing was decoded by a new terminal
+pub decodes-first : (s : State) (pending : List ℕ) → s ≡ power_up → pending ≡ [] → Decodes power_up [] [] s pending [] []
+decodes-first s pending state left = record {
+  state = state ∙ none_played ∙ ap (λ (x : List ℕ). (play power_up x).state) (sym (nothing_decoded power_up []));
+  left = left;
+  bytes_are = sym (nothing_decoded power_up []);
+}
+
 pub decodes-ascii : (s t : State) (run before out : List ℕ) → translated s [] run ≡ run → pending_after [] run ≡ []
     → t ≡ (play s run).state → out ≡ before ++ run → Decodes s [] run t [] before out
 decodes-ascii s t run before out same none state bytes = record {
@@ -84,21 +97,37 @@ module _ (none : (s : State) (pending : List ℕ) → IsSound s
       ∙ ap (λ (x : State). translated s pending chunk ++ translated x (pending_after pending chunk) more) (sym d.state)
       ∙ ap (λ (x : List ℕ). translated s pending chunk ++ translated t x more) (sym d.left)
 
-  pub decodes-more : (s t u : State) (pending after left chunk before out last : List ℕ) (at n : ℕ) → IsSound s
-      → Decodes s pending (take at chunk) t after before out → Decodes t after (take n (drop at chunk)) u left out last
-      → Decodes s pending (take (at + n) chunk) u left before last
+  -- two chunks
+  pub decodes-both : (s t u : State) (pending after left a b before out last : List ℕ) → IsSound s
+      → Decodes s pending a t after before out → Decodes t after b u left out last
+      → Decodes s pending (a ++ b) u left before last
   unfolding play_utf8
-  decodes-more s t u pending after left chunk before out last at n sound first second =
-      let a = take at chunk in
-      let b = take n (drop at chunk) in
+  decodes-both s t u pending after left a b before out last sound first second =
       let joint = decoded-on s t pending after a before out b sound first in
       let played : (play s (translated s pending (a ++ b))).state ≡ (play t (translated t after b)).state =
       ap (λ (p : Played). p.state) (two s pending a b sound)
       ∙ rw (← first.state, ← first.left) refl in
-      rw (take-add at n chunk) (record {
+      record {
         state = second.state ∙ sym played;
         left = second.left ∙ ap (λ (q : List ℕ). pending_after q b) first.left ∙ sym (lasting pending a b);
         bytes_are = second.bytes_are ∙ ap (λ (o : List ℕ). o ++ translated t after b) first.bytes_are
             ∙ append_assoc before (translated s pending a) (translated t after b)
             ∙ ap (λ (x : List ℕ). before ++ x) (sym joint);
+      }
+
+  pub decodes-more : (s t u : State) (pending after left chunk before out last : List ℕ) (at n : ℕ) → IsSound s
+      → Decodes s pending (take at chunk) t after before out → Decodes t after (take n (drop at chunk)) u left out last
+      → Decodes s pending (take (at + n) chunk) u left before last
+  decodes-more s t u pending after left chunk before out last at n sound first second =
+      rw (take-add at n chunk) (decodes-both s t u pending after left _ _ before out last sound first second)
+
+  -- a chunk whose bytes are appended to others
+  pub decodes-next : (s t u : State) (pending after left a b x out : List ℕ) → IsSound s
+      → Decodes s pending a t after [] x → Decodes t after b u left [] out
+      → Decodes s pending (a ++ b) u left [] (x ++ out)
+  decodes-next s t u pending after left a b x out sound first second =
+      decodes-both s t u pending after left a b [] x (x ++ out) sound first (record {
+        state = second.state;
+        left = second.left;
+        bytes_are = ap (λ (y : List ℕ). x ++ y) second.bytes_are;
       })

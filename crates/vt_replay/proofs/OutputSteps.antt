@@ -1,10 +1,16 @@
 -- What an output writes of bytes in turn.
-use Rattle.std.proofs.Common.{◌≡◌, ℕ, Bool, ◌+◌, ◌-◌, ◌≤◌, ◌++◌, List, [], length, take, drop, arith, refl, sym, ap, ◌∙◌}
+use Rattle.std.proofs.Common.{◌≡◌, ℕ, Bool, ◌+◌, ◌-◌, ◌≤◌, ◌++◌, List, [], length, take, drop, arith, refl, sym, ap, subst, ◌∙◌}
+use Rattle.std.proofs.Common.{Option, Result, true, inl, inr}
+use Rattle.std.specs.Prelude.{Ok, Err}
 use Rattle.std.proofs.Common.{append_assoc, append-nil, length-append, length-drop}
 use Rattle.std.proofs.lemmas.List.{take-append-drop}
 use Rattle.std.proofs.Math.Seq.{take-add, take-length}
 use Rattle.vt_device.specs.Writing.{IsProperBeginning}
-use Rattle.vt_replay.specs.Output.{IsAfter, IsCutBefore}
+use Rattle.vt_device.specs.Runs.{Flags, Moves}
+use Rattle.vt_recording.specs.declared.fault.Fault.{Fault}
+use Rattle.vt_recording.specs.declared.fault.Fault.TheVariants.{Memory, Partial, Read, Write, TooLong, Broken, NoTimes}
+use Rattle.vt_replay.specs.Output.{IsAfter, IsCutBefore, IsCutAtEnd, IsCutOutput, OutputTable}
+use Rattle.vt_replay.specs.Output.{Translation, IsWritten, IsStopped, IsStoppedAtEnd, IsStoppedOutput, TranslatedTable}
 use Rattle.vt_replay.proofs.Steps.{behind}
 
 abbrev pub Writes : Type 0
@@ -13,11 +19,6 @@ Writes = List ℕ → List ℕ
 -- what is written at the end is there
 abbrev pub Holds : Type 0
 Holds = List ℕ → Bool
-
--- a host's bytes were decoded: what is decoded of bytes that come after them
-pub record IsDecodedAfter (decoded : Writes) (b : List ℕ) (decoded_after : Writes) : Type 0 where
-  pub on : (more : List ℕ) → decoded (b ++ more) ≡ decoded b ++ decoded_after more
-  pub none : decoded_after [] ≡ []
 
 -- bytes, and then more of them
 pub then_more : (written ending : Writes) (there : Holds) (b c : List ℕ) (middle middle_ending : Writes) (middle_there : Holds) (last last_ending : Writes) (last_there : Holds)
@@ -80,18 +81,64 @@ pub chunk_written : (written ending : Writes) (there : Holds) (b chunk w part : 
     → w ++ part ≡ written (b ++ chunk)
 chunk_written written ending there b chunk w part middle middle_ending middle_there first is then = rw (is, then, first.on chunk) refl
 
+-- a host's bytes came, and what is written of the terminal's bytes for them is written
+pub record HaveCome (Came Translates : Translation) (written ending : Writes) (there : Holds) (last last_ending : Writes) (last_there : Holds)
+    (b w : List ℕ) : Type 0 where
+  pub x : List ℕ
+  pub came : Came b x
+  pub translates : Translates b x
+  pub all : w ≡ written x
+  pub after : IsAfter written ending there x last last_ending last_there
+
+-- nothing came, and nothing is written
+pub none_come : (Came Translates : Translation) (written ending : Writes) (there : Holds) → Came [] [] → Translates [] []
+    → written [] ≡ [] → HaveCome Came Translates written ending there written ending there [] []
+none_come Came Translates written ending there came translates none = record {
+  x = [];
+  came = came;
+  translates = translates;
+  all = sym none;
+  after = record {
+    on = λ more. ap (λ (l : List ℕ). l ++ written more) (sym none);
+    end_on = λ more. refl;
+    there_on = λ more. refl;
+    none = none;
+  };
+}
+
+-- one more chunk came, and what is written of it is written
+pub come_more : (Came Came_after Translates : Translation) (written ending : Writes) (there : Holds) (middle middle_ending : Writes) (middle_there : Holds)
+    (last last_ending : Writes) (last_there : Holds) (b w chunk held part : List ℕ)
+    → ((b x : List ℕ) → Came b x → Came_after (b ++ chunk) (x ++ held)) → ((b x : List ℕ) → Came_after b x → Translates b x)
+    → HaveCome Came Translates written ending there middle middle_ending middle_there b w
+    → IsAfter middle middle_ending middle_there held last last_ending last_there → part ≡ middle held
+    → HaveCome Came_after Translates written ending there last last_ending last_there (b ++ chunk) (w ++ part)
+come_more Came Came_after Translates written ending there middle middle_ending middle_there last last_ending last_there b w chunk held part on given h after is = record {
+  x = h.x ++ held;
+  came = on b h.x h.came;
+  translates = given (b ++ chunk) (h.x ++ held) (on b h.x h.came);
+  all = chunk_written written ending there h.x held w part middle middle_ending middle_there h.after h.all is;
+  after = then_more written ending there h.x held middle middle_ending middle_there last last_ending last_there h.after after;
+}
+
 -- a write of a chunk failed
-pub chunk_cut : (written ending : Writes) (there : Holds) (piece : ℕ) (b chunk w part : List ℕ) (middle middle_ending : Writes) (middle_there : Holds)
-    → IsAfter written ending there b middle middle_ending middle_there → w ≡ written b → length chunk ≤ piece
-    → IsProperBeginning part (middle chunk) → IsCutBefore written piece (b ++ chunk) (w ++ part)
-chunk_cut written ending there piece b chunk w part middle middle_ending middle_there first is short p = record {
+pub chunk_stopped : (Came Came_after Translates : Translation) (written ending : Writes) (there : Holds) (middle middle_ending : Writes) (middle_there : Holds)
+    (piece : ℕ) (b w chunk held part : List ℕ)
+    → ((b x : List ℕ) → Came b x → Came_after (b ++ chunk) (x ++ held)) → ((b x : List ℕ) → Came_after b x → Translates b x)
+    → HaveCome Came Translates written ending there middle middle_ending middle_there b w → length chunk ≤ piece
+    → IsProperBeginning part (middle held) → IsStopped Translates written piece (b ++ chunk) (w ++ part)
+chunk_stopped Came Came_after Translates written ending there middle middle_ending middle_there piece b w chunk held part on given h short p = record {
   before = b;
   last = chunk;
   joined = refl;
   short = short;
+  x = h.x;
+  y = held;
+  translates_before = h.translates;
+  translates = given (b ++ chunk) (h.x ++ held) (on b h.x h.came);
   more = part;
-  begins = ap (λ (x : List ℕ). x ++ part) is;
-  part = behind (written b) part _ w _ is (first.on chunk) p;
+  begins = ap (λ (x : List ℕ). x ++ part) h.all;
+  part = behind (written h.x) part _ w _ h.all (h.after.on held) p;
 }
 
 -- what is left of the end
@@ -104,34 +151,63 @@ pub there_so : (written ending : Writes) (there : Holds) (b : List ℕ) (last la
     → IsAfter written ending there b last last_ending last_there → there b ≡ last_there []
 there_so written ending there b last last_ending last_there after = sym (ap there (append-nil b)) ∙ after.there_on []
 
--- one more chunk is decoded
-pub decoded_more : (decoded middle last : Writes) (b chunk : List ℕ) → IsDecodedAfter decoded b middle
-    → IsDecodedAfter middle chunk last → IsDecodedAfter decoded (b ++ chunk) last
-decoded_more decoded middle last b chunk first second = record {
-  on = λ more. rw (append_assoc, first.on (chunk ++ more), second.on more, first.on chunk, append_assoc) refl;
-  none = second.none;
-}
+-- ---- bytes that are translated in one way
 
--- an output that is given what a host's bytes are decoded to
-pub through : (decoded decoded_after : Writes) (b : List ℕ) (written ending : Writes) (there : Holds)
-    (last last_ending : Writes) (last_there : Holds)
-    → IsDecodedAfter decoded b decoded_after
-    → IsAfter written ending there (decoded b) last last_ending last_there
-    → IsAfter (λ bytes. written (decoded bytes)) (λ bytes. ending (decoded bytes)) (λ bytes. there (decoded bytes)) b
-    (λ bytes. last (decoded_after bytes)) (λ bytes. last_ending (decoded_after bytes))
-    (λ bytes. last_there (decoded_after bytes))
-through decoded decoded_after b written ending there last last_ending last_there d after = record {
-  on = λ more. ap written (d.on more) ∙ after.on (decoded_after more);
-  end_on = λ more. ap ending (d.on more) ∙ after.end_on (decoded_after more);
-  there_on = λ more. ap there (d.on more) ∙ after.there_on (decoded_after more);
-  none = ap last d.none ∙ after.none;
-}
+module _ (Translates : Translation) (decoded : Writes) (only : (b x : List ℕ) → Translates b x → x ≡ decoded b)
+    (written ending : Writes) (there : Holds) where
+  stopped_so : (piece : ℕ) (b w : List ℕ) → IsStopped Translates written piece b w
+      → IsCutBefore (λ bytes. written (decoded bytes)) piece b w
+  stopped_so piece b w h = record {
+    before = h.before;
+    last = h.last;
+    joined = h.joined;
+    short = h.short;
+    more = h.more;
+    begins = h.begins ∙ ap (λ (x : List ℕ). written x ++ h.more) (only h.before h.x h.translates_before);
+    part = subst (λ (x : List ℕ). IsProperBeginning w (written x)) (only b (h.x ++ h.y) h.translates) h.part;
+  }
 
--- an output that is given what one more chunk is decoded to
-pub after_more : (host middle : Writes) (b chunk : List ℕ) (written ending : Writes) (there : Holds) (now now_ending : Writes) (now_there : Holds) (last last_ending : Writes) (last_there : Holds)
-    → IsDecodedAfter host b middle → IsAfter written ending there (host b) now now_ending now_there
-    → IsAfter now now_ending now_there (middle chunk) last last_ending last_there
-    → IsAfter written ending there (host (b ++ chunk)) last last_ending last_there
-after_more host middle b chunk written ending there now now_ending now_there last last_ending last_there d first second =
-    rw (d.on chunk)
-    (then_more written ending there (host b) (middle chunk) now now_ending now_there last last_ending last_there first second)
+  at_end_so : (b w : List ℕ) → IsStoppedAtEnd Translates written ending there b w
+      → (there (decoded b) ≡ true) × IsCutAtEnd (λ bytes. written (decoded bytes)) (λ bytes. ending (decoded bytes)) b w
+  at_end_so b w h =
+      let is = only b h.x h.translates in (
+        ap there (sym is) ∙ h.is_there,
+        record {
+          more = h.cut.more;
+          begins = h.cut.begins ∙ ap (λ (x : List ℕ). written x ++ h.cut.more) is;
+          part = subst (λ (x : List ℕ). IsProperBeginning h.cut.more (ending x)) is h.cut.part;
+        },
+      )
+
+  output_so : (piece : ℕ) (b w : List ℕ) (f : Flags) → IsStoppedOutput Translates written ending there piece b w f
+      → IsCutOutput (λ bytes. written (decoded bytes)) (λ bytes. ending (decoded bytes)) (λ bytes. there (decoded bytes)) piece b w f
+  output_so piece b w f (inl h) = inl (h.0, stopped_so piece b w h.1)
+  output_so piece b w f (inr h) = inr (h.0, (at_end_so b w h.1).0, (at_end_so b w h.1).1)
+
+  -- what each answer says is then what it says of the bytes that they are decoded to
+  pub in_one_way : (result : Result (Unit {0}) Fault) (piece : ℕ) (b w : List ℕ) (f : Flags) (limit : ℕ)
+      → TranslatedTable Translates written ending there result piece b w f limit
+      → OutputTable (λ bytes. written (decoded bytes)) (λ bytes. ending (decoded bytes)) (λ bytes. there (decoded bytes)) result piece b w f limit
+  in_one_way (Ok u) piece b w f limit h =
+      let is = only b h.2.x h.2.translates in
+      (h.0, h.1, ap there (sym is) ∙ h.2.holds, h.2.all ∙ ap (λ (x : List ℕ). written x ++ ending x) is)
+  in_one_way (Err Memory) piece b w f limit h = h
+  in_one_way (Err Partial) piece b w f limit h =
+      let is = only b h.2.x h.2.translates in (h.0, h.1, ap there (sym is) ∙ h.2.holds, h.2.all ∙ ap written is)
+  in_one_way (Err Read) piece b w f limit h = (h.0, h.1, h.2.all ∙ ap written (only b h.2.x h.2.translates))
+  in_one_way (Err Write) piece b w f limit h = (output_so piece b w f h.0, h.1)
+  in_one_way (Err TooLong) piece b w f limit h =
+      (h.0, h.1, h.2.all ∙ ap written (only (take limit b) h.2.x h.2.translates))
+  in_one_way (Err (Broken place)) piece b w f limit h = h
+  in_one_way (Err NoTimes) piece b w f limit h = h
+
+  pub moves_one_way : (left left_after held held_after : Option (List ℕ)) (result : Result (Unit {0}) Fault) (piece : ℕ) (f : Flags) (limit : ℕ)
+      → Moves left left_after held held_after (λ b w. TranslatedTable Translates written ending there result piece b w f limit)
+      → Moves left left_after held held_after (λ b w. OutputTable (λ bytes. written (decoded bytes)) (λ bytes. ending (decoded bytes)) (λ bytes. there (decoded bytes)) result piece b w f limit)
+  moves_one_way left left_after held held_after result piece f limit m = record {
+    b = m.b;
+    w = m.w;
+    taken = m.taken;
+    given = m.given;
+    holds = in_one_way result piece m.b m.w f limit m.holds;
+  }

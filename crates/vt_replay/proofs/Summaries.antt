@@ -6,8 +6,7 @@ use Rattle.vt_syntax.specs.Laws.{SplitLaw}
 use Rattle.vt_device.specs.Runs.{Flags, Moves}
 use Rattle.vt_recording.specs.declared.format.Encoding.{Encoding}
 use Rattle.vt_recording.specs.declared.fault.Fault.{Fault}
-use Rattle.vt_replay.specs.Output.{EncodedTable, always}
-use Rattle.vt_replay.specs.Words.{nothing}
+use Rattle.vt_replay.specs.Output.{EncodedTable, always, nothing}
 use Rattle.vt_trace.specs.declared.summary.Summary.{Summary}
 use Rattle.vt_trace.specs.Counted.{HasCounted, HasCountedSome, AreSome, summary_after}
 use Rattle.vt_trace.specs.Summary.{summary}

@@ -6,5 +6,6 @@ pub mod PageCuts
 pub mod Pages
 pub mod Playing
 pub mod Request
+pub mod Showing
 pub mod Status
 pub mod Words

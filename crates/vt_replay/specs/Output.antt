@@ -1,11 +1,18 @@
 -- What an output takes from its reader and gives to its writer. (this profile)
-use Rattle.std.specs.Prelude.{◌≡◌, ◌⊎◌, ℕ, ◌≤◌, ◌+◌, ◌++◌, List, [], length, take, Bool, true, false, Result, Ok, Err}
+use Rattle.std.specs.Prelude.{◌≡◌, ◌⊎◌, ℕ, ◌≤◌, ◌+◌, ◌++◌, List, [], length, take, ⊤, Bool, true, false, Result, Ok, Err}
 use Rattle.vt_device.specs.Runs.{Flags, AreFlags}
 use Rattle.vt_device.specs.Writing.{IsProperBeginning}
 use Rattle.vt_recording.specs.declared.format.Encoding.{Encoding}
 use Rattle.vt_replay.specs.Encoding.{decoded}
 use Rattle.vt_recording.specs.declared.fault.Fault.{Fault}
 use Rattle.vt_recording.specs.declared.fault.Fault.TheVariants.{Memory, Partial, Read, Write, TooLong, Broken, NoTimes}
+
+-- an output that writes all bytes that come, or at the end, and one that writes none
+abbrev pub all : List ℕ → List ℕ
+all bytes = bytes
+
+abbrev pub nothing : List ℕ → List ℕ
+nothing bytes = []
 
 -- what an output writes at the end is always there
 abbrev pub always : List ℕ → Bool
@@ -63,17 +70,74 @@ EncodedTable encoding written ending there result piece b w f limit =
     OutputTable (λ bytes. written (decoded encoding bytes)) (λ bytes. ending (decoded encoding bytes))
     (λ bytes. there (decoded encoding bytes)) result piece b w f limit
 
+-- ---- a host's bytes as one of several byte lists of the terminal
+
+-- the host's bytes b may be the terminal's bytes x
+abbrev pub Translation : Type 1
+Translation = List ℕ → List ℕ → Type 0
+
+-- w is what is written of some bytes of the terminal that the host's bytes b are, and a fact holds of these
+pub record IsWritten (Translates : Translation) (written : List ℕ → List ℕ) (b w : List ℕ) (P : List ℕ → Type 0) : Type 0 where
+  pub x : List ℕ
+  pub translates : Translates b x
+  pub all : w ≡ written x
+  pub holds : P x
+
+-- as `IsCutBefore`: of the chunks before the last one the terminal's bytes are x, and of all of them y more
+pub record IsStopped (Translates : Translation) (written : List ℕ → List ℕ) (piece : ℕ) (b w : List ℕ) : Type 0 where
+  pub before : List ℕ
+  pub last : List ℕ
+  pub joined : b ≡ before ++ last
+  pub short : length last ≤ piece
+  pub x : List ℕ
+  pub y : List ℕ
+  pub translates_before : Translates before x
+  pub translates : Translates b (x ++ y)
+  pub more : List ℕ
+  pub begins : w ≡ written x ++ more
+  pub part : IsProperBeginning w (written (x ++ y))
+
+-- as `IsCutAtEnd`
+pub record IsStoppedAtEnd (Translates : Translation) (written ending : List ℕ → List ℕ) (there : List ℕ → Bool) (b w : List ℕ) : Type 0 where
+  pub x : List ℕ
+  pub translates : Translates b x
+  pub is_there : there x ≡ true
+  pub cut : IsCutAtEnd written ending x w
+
+abbrev pub IsStoppedOutput : Translation → (written ending : List ℕ → List ℕ) → (there : List ℕ → Bool) → (piece : ℕ) → (b w : List ℕ) → Flags → Type 0
+IsStoppedOutput Translates written ending there piece b w f =
+    (AreFlags f false false true × IsStopped Translates written piece b w)
+    ⊎ (AreFlags f false true true × IsStoppedAtEnd Translates written ending there b w)
+
+-- what each answer says of a host's bytes, of which the terminal's bytes are given to the output
+abbrev pub TranslatedTable : Translation → (written ending : List ℕ → List ℕ) → (there : List ℕ → Bool) → Result (Unit {0}) Fault → (piece : ℕ) → (b w : List ℕ) → Flags → (limit : ℕ) → Type 0
+TranslatedTable Translates written ending there (Ok u) piece b w f limit = AreFlags f false true false × (length b ≤ limit)
+    × IsWritten Translates (λ x. written x ++ ending x) b w (λ x. there x ≡ true)
+TranslatedTable Translates written ending there (Err Memory) piece b w f limit = AreFlags f false false false × (b ≡ []) × (w ≡ [])
+TranslatedTable Translates written ending there (Err Partial) piece b w f limit = AreFlags f false true false × (length b ≤ limit)
+    × IsWritten Translates written b w (λ x. there x ≡ false)
+TranslatedTable Translates written ending there (Err Read) piece b w f limit = AreFlags f true false false × (length b ≤ limit)
+    × IsWritten Translates written b w (λ x. ⊤)
+TranslatedTable Translates written ending there (Err Write) piece b w f limit =
+    IsStoppedOutput Translates written ending there piece b w f × (length b ≤ limit)
+TranslatedTable Translates written ending there (Err TooLong) piece b w f limit = AreFlags f false false false × (length b ≡ limit + 1)
+    × IsWritten Translates written (take limit b) w (λ x. ⊤)
+TranslatedTable Translates written ending there (Err (Broken place)) piece b w f limit = ⊥
+TranslatedTable Translates written ending there (Err NoTimes) piece b w f limit = ⊥
+
 -- ---- the parts of an output
 
 -- what each answer of the reading part says, with a fact that holds after the whole input
-abbrev pub ComingTable : (written : List ℕ → List ℕ) → Result (Unit {0}) Fault → (after : Type 0) → (piece : ℕ) → (b w : List ℕ) → Flags → (limit : ℕ) → Type 0
-ComingTable written (Ok u) after piece b w f limit = AreFlags f false true false × (length b ≤ limit) × (w ≡ written b) × after
-ComingTable written (Err Memory) after piece b w f limit = ⊥
-ComingTable written (Err Partial) after piece b w f limit = ⊥
-ComingTable written (Err Read) after piece b w f limit = AreFlags f true false false × (length b ≤ limit) × (w ≡ written b)
-ComingTable written (Err Write) after piece b w f limit = AreFlags f false false true × (length b ≤ limit)
-    × IsCutBefore written piece b w
-ComingTable written (Err TooLong) after piece b w f limit = AreFlags f false false false × (length b ≡ limit + 1)
-    × (w ≡ written (take limit b))
-ComingTable written (Err (Broken place)) after piece b w f limit = ⊥
-ComingTable written (Err NoTimes) after piece b w f limit = ⊥
+abbrev pub ComingTable : Translation → (written : List ℕ → List ℕ) → Result (Unit {0}) Fault → (after : List ℕ → Type 0) → (piece : ℕ) → (b w : List ℕ) → Flags → (limit : ℕ) → Type 0
+ComingTable Translates written (Ok u) after piece b w f limit = AreFlags f false true false × (length b ≤ limit)
+    × IsWritten Translates written b w after
+ComingTable Translates written (Err Memory) after piece b w f limit = ⊥
+ComingTable Translates written (Err Partial) after piece b w f limit = ⊥
+ComingTable Translates written (Err Read) after piece b w f limit = AreFlags f true false false × (length b ≤ limit)
+    × IsWritten Translates written b w (λ x. ⊤)
+ComingTable Translates written (Err Write) after piece b w f limit = AreFlags f false false true × (length b ≤ limit)
+    × IsStopped Translates written piece b w
+ComingTable Translates written (Err TooLong) after piece b w f limit = AreFlags f false false false × (length b ≡ limit + 1)
+    × IsWritten Translates written (take limit b) w (λ x. ⊤)
+ComingTable Translates written (Err (Broken place)) after piece b w f limit = ⊥
+ComingTable Translates written (Err NoTimes) after piece b w f limit = ⊥

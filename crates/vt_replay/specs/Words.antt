@@ -6,6 +6,7 @@ use Rattle.vt_replay.specs.Pages.{pages}
 use Rattle.vt_trace.specs.Trace.{trace, tracer_all, tracer_at_start, end_lines}
 use Rattle.vt_trace.specs.Summary.{summary}
 use Rattle.vt_cli.specs.declared.what.TerminalType.{TerminalType}
+use Rattle.vt_cli.specs.declared.what.TerminalType.TheVariants.{Xterm}
 use Rattle.vt_cli.specs.declared.what.Word.{Word}
 use Rattle.vt_cli.specs.declared.what.Word.TheVariants.{Replay, Log, Pages, Trace, Summary, Content}
 use Rattle.vt_recording.specs.declared.fault.Fault.{Fault}
@@ -13,8 +14,9 @@ use Rattle.vt_recording.specs.declared.format.Encoding.{Encoding}
 use Rattle.vt_replay.specs.Due.{sent_by, end_by, there_by}
 use Rattle.vt_replay.specs.Encoding.{decoded}
 use Rattle.vt_replay.specs.Log.{screen, lines_in, screen_in}
-use Rattle.vt_replay.specs.Output.{OutputTable, always}
+use Rattle.vt_replay.specs.Output.{OutputTable, always, all, nothing}
 use Rattle.vt_replay.specs.Playing.{language_of, played_as}
+use Rattle.vt_replay.specs.Showing.{ShownTable}
 
 -- ---- pages
 
@@ -29,14 +31,6 @@ trace_written bytes = trace power_up tracer_at_start bytes
 -- the end of a text, if the last line is one, and the line of a sequence or string that is still open
 abbrev pub trace_ending : List ℕ → List ℕ
 trace_ending bytes = end_lines (tracer_all power_up tracer_at_start bytes)
-
--- ---- content
-
-abbrev pub all : List ℕ → List ℕ
-all bytes = bytes
-
-abbrev pub nothing : List ℕ → List ℕ
-nothing bytes = []
 
 -- ---- words
 
@@ -54,7 +48,7 @@ of_decoded encoding written ending = record {
   there = always;
 }
 
--- a row a word, for a terminal and in an encoding. A replay and a log alone play xterm
+-- a row a word, for a terminal and in an encoding. A replay and a log play xterm; what content writes then is below
 abbrev pub due_of : Word → TerminalType → Encoding → Due
 due_of (Replay what) terminal encoding =
     let played = played_as (language_of terminal encoding) in
@@ -67,8 +61,9 @@ due_of Trace terminal encoding = of_decoded encoding trace_written trace_ending
 due_of Summary terminal encoding = of_decoded encoding nothing summary
 due_of Content terminal encoding = of_decoded encoding all nothing
 
--- what each answer says, by the word
+-- what each answer says, by the word. Under TERM=xterm content is what a VT220 is sent, so that it shows the same
 abbrev pub WordTable : Result (Unit {0}) Fault → Word → TerminalType → Encoding → (piece : ℕ) → (b w : List ℕ) → Flags → (limit : ℕ) → Type 0
+WordTable result Content Xterm encoding piece b w f limit = ShownTable result piece b w f limit
 WordTable result word terminal encoding piece b w f limit =
     let due = due_of word terminal encoding in
     OutputTable due.written due.ending due.there result piece b w f limit

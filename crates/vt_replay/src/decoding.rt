@@ -7,15 +7,18 @@ ghost use Rattle.vt_utf8.specs.Play.{translated, translated_all};
 ghost use Rattle.vt_replay.specs.Encoding.{Decodes};
 
 use std::alloc::{AllocError, Global};
-use vt_term::laws::cuts;
+use vt_term::laws::{cuts, soundness};
 use vt_term::{REPORT_LIMIT, Terminal};
 use vt_utf8::laws::{ascii, cuts as utf8_cuts, one_byte};
 use vt_utf8::{BYTE_LIMIT, Decoder, ascii_run, translated};
 
 /// How the host's bytes become the terminal's.
 pub(crate) trait Decoding: Drop {
-    /// The terminal's bytes for bytes that come.
-    ghost decoded: { Self → List ℕ → List ℕ };
+    /// The terminal's bytes may be these, if the host's are those.
+    ghost Translates: { List ℕ → List ℕ → Type 0 };
+
+    /// All bytes that came, and the terminal's bytes for them.
+    ghost Came: { Self → List ℕ → List ℕ → Type 0 };
 
     /// The terminal's bytes for the chunk that was decoded last.
     ghost held: { Self → List ℕ → List ℕ };
@@ -27,11 +30,10 @@ pub(crate) trait Decoding: Drop {
     fn decode(&mut self, chunk: &[u8])
         requires some { 1 ≤ length chunk.now }
         requires short { length chunk.now ≤ most self.old }
-        ensures held { held self.new chunk.now ≡ decoded self.old chunk.now }
-        ensures few { length (held self.new chunk.now) ≤ 44 * length chunk.now }
-        ensures on { (more : List ℕ) → decoded self.old (chunk.now ++ more)
-            ≡ decoded self.old chunk.now ++ decoded self.new more }
-        ensures none { decoded self.new [] ≡ [] }
+        ensures came { (b x : List ℕ) → Came self.old b x
+            → Came self.new (b ++ chunk.now) (x ++ held self.new chunk.now) }
+        ensures translates { (b x : List ℕ) → Came self.new b x → Translates b x }
+        ensures few { length (held self.new chunk.now) ≤ 94152 * length chunk.now }
         ensures most { most self.old ≤ most self.new };
 
     /// Returns the terminal's bytes for the chunk that was decoded last.
@@ -44,7 +46,9 @@ pub(crate) trait Decoding: Drop {
 pub(crate) struct Plain;
 
 impl Decoding for Plain {
-    ghost decoded = { λ d bytes. bytes };
+    ghost Translates = { λ b x. x ≡ b };
+
+    ghost Came = { λ d b x. x ≡ b };
 
     ghost held = { λ d chunk. chunk };
 
@@ -88,15 +92,17 @@ impl Utf8 {
 }
 
 impl Decoding for Utf8 {
-    ghost decoded = { λ d bytes. translated d.terminal d.decoder bytes };
+    ghost Translates = { λ b x. x ≡ translated power_up [] b };
+
+    ghost Came = { λ d b x. Decodes power_up [] b d.terminal d.decoder [] x };
 
     ghost held = { λ d chunk. d.bytes.items };
 
     ghost most = { λ d. min (vec_capacity d.reports / 10) (vec_capacity d.bytes / 44) };
 
     fn decode(&mut self, chunk: &[u8]) {
-        let _ = self.terminal.width();
         utf8_cuts();
+        soundness();
         self.bytes.clear();
         decode_chunk(
             &mut self.terminal,
@@ -238,7 +244,7 @@ fn decode_character(
 }
 
 /// Plays bytes, and drops their reports.
-fn play_silently(terminal: &mut Terminal, bytes: &[u8], reports: &mut Vec<u8>)
+pub(crate) fn play_silently(terminal: &mut Terminal, bytes: &[u8], reports: &mut Vec<u8>)
     requires { 10 ≤ vec_capacity reports.old }
     ensures state { terminal.new ≡ (play terminal.old bytes.now).state }
     ensures capacity { vec_capacity reports.old ≤ vec_capacity reports.new }

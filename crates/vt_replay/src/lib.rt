@@ -3,6 +3,7 @@
 #![tactic(auto)]
 
 mod blanks;
+mod converting;
 mod decoding;
 mod engine;
 mod language;

@@ -4,7 +4,7 @@ ghost use Rattle.std.specs.Bool.{OnTrue};
 ghost use Rattle.std.specs.Io.KnownBytes.{IsAtEnd};
 ghost use Rattle.vt_device.specs.Runs.{Moves};
 ghost use Rattle.vt_device.specs.Writing.{Gives, WriteTable};
-ghost use Rattle.vt_replay.specs.Output.{IsAfter, OutputTable, EncodedTable, ComingTable};
+ghost use Rattle.vt_replay.specs.Output.{IsAfter, OutputTable, EncodedTable, TranslatedTable, ComingTable};
 
 use crate::decoding::{Decoding, Plain, Utf8};
 use std::alloc::{AllocError, Global};
@@ -147,7 +147,7 @@ pub fn write_output_from<O: Output, S: Source, W: Write>(
 }
 
 /// Gives a source's bytes, decoded, to an output, and writes what it makes of them.
-fn write_by<O: Output, D: Decoding, S: Source, W: Write>(
+pub(crate) fn write_by<O: Output, D: Decoding, S: Source, W: Write>(
     alloc: Global,
     output: &mut O,
     decoding: &mut D,
@@ -160,7 +160,8 @@ fn write_by<O: Output, D: Decoding, S: Source, W: Write>(
     requires counts { O.counted output.old ≡ 0 }
     requires none { O.written output.old [] ≡ [] }
     requires decodes { piece ≤ D.most decoding.old }
-    requires none_decoded { D.decoded decoding.old [] ≡ [] }
+    requires none_came { D.Came decoding.old [] [] }
+    requires none_translated { D.Translates [] [] }
     requires reader_works { S.failed reader.old ≡ false }
     requires reader_goes_on { S.ended reader.old ≡ false }
     requires writer_works { writer.old.failed ≡ false }
@@ -168,7 +169,7 @@ fn write_by<O: Output, D: Decoding, S: Source, W: Write>(
     requires limit_in_range { limit ≤ 1099511627776 }
     ensures answer { Moves (S.remaining reader.old) (S.remaining reader.new) (W.contents writer.old.device)
         (W.contents writer.new.device)
-        (λ b w. OutputTable (λ bytes. O.written output.old (D.decoded decoding.old bytes)) (λ bytes. O.ending output.old (D.decoded decoding.old bytes)) (λ bytes. O.there output.old (D.decoded decoding.old bytes)) result piece b w (record { reader_failed = S.failed reader.new; reader_ended = S.ended reader.new; writer_failed = writer.new.failed }) limit) }
+        (λ b w. TranslatedTable D.Translates (O.written output.old) (O.ending output.old) (O.there output.old) result piece b w (record { reader_failed = S.failed reader.new; reader_ended = S.ended reader.new; writer_failed = writer.new.failed }) limit) }
     ensures whole { S.ended reader.new ≡ true → IsAtEnd (S.remaining reader.new) }
 {
     let mut room = Room::new(alloc, piece, output.capacity())?;
@@ -219,7 +220,8 @@ fn write_in_room<O: Output, D: Decoding, S: Source, W: Write>(
     requires counts { O.counted output.old ≡ 0 }
     requires none { O.written output.old [] ≡ [] }
     requires decodes { length buffer.old ≤ D.most decoding.old }
-    requires none_decoded { D.decoded decoding.old [] ≡ [] }
+    requires none_came { D.Came decoding.old [] [] }
+    requires none_translated { D.Translates [] [] }
     requires reader_works { S.failed reader.old ≡ false }
     requires reader_goes_on { S.ended reader.old ≡ false }
     requires writer_works { writer.old.failed ≡ false }
@@ -228,7 +230,7 @@ fn write_in_room<O: Output, D: Decoding, S: Source, W: Write>(
     requires room { O.reserve output.old ≤ vec_capacity out.old }
     ensures answer { Moves (S.remaining reader.old) (S.remaining reader.new) (W.contents writer.old.device)
         (W.contents writer.new.device)
-        (λ b w. OutputTable (λ bytes. O.written output.old (D.decoded decoding.old bytes)) (λ bytes. O.ending output.old (D.decoded decoding.old bytes)) (λ bytes. O.there output.old (D.decoded decoding.old bytes)) result (length buffer.old) b w (record { reader_failed = S.failed reader.new; reader_ended = S.ended reader.new; writer_failed = writer.new.failed }) limit) }
+        (λ b w. TranslatedTable D.Translates (O.written output.old) (O.ending output.old) (O.there output.old) result (length buffer.old) b w (record { reader_failed = S.failed reader.new; reader_ended = S.ended reader.new; writer_failed = writer.new.failed }) limit) }
     ensures whole { S.ended reader.new ≡ true → IsAtEnd (S.remaining reader.new) }
 {
     write_coming(output, decoding, reader, writer, limit, buffer, out)?;
@@ -259,7 +261,8 @@ fn write_coming<O: Output, D: Decoding, S: Source, W: Write>(
     requires counts { O.counted output.old ≡ 0 }
     requires none { O.written output.old [] ≡ [] }
     requires decodes { length buffer.old ≤ D.most decoding.old }
-    requires none_decoded { D.decoded decoding.old [] ≡ [] }
+    requires none_came { D.Came decoding.old [] [] }
+    requires none_translated { D.Translates [] [] }
     requires reader_works { S.failed reader.old ≡ false }
     requires reader_goes_on { S.ended reader.old ≡ false }
     requires writer_works { writer.old.failed ≡ false }
@@ -268,7 +271,7 @@ fn write_coming<O: Output, D: Decoding, S: Source, W: Write>(
     requires room { O.reserve output.old ≤ vec_capacity out.old }
     ensures moves { Moves (S.remaining reader.old) (S.remaining reader.new) (W.contents writer.old.device)
         (W.contents writer.new.device)
-        (λ b w. ComingTable (λ bytes. O.written output.old (D.decoded decoding.old bytes)) result (IsAfter (O.written output.old) (O.ending output.old) (O.there output.old) (D.decoded decoding.old b) (O.written output.new) (O.ending output.new) (O.there output.new)) (length buffer.old) b w (record { reader_failed = S.failed reader.new; reader_ended = S.ended reader.new; writer_failed = writer.new.failed }) limit) }
+        (λ b w. ComingTable D.Translates (O.written output.old) result (λ x. IsAfter (O.written output.old) (O.ending output.old) (O.there output.old) x (O.written output.new) (O.ending output.new) (O.there output.new)) (length buffer.old) b w (record { reader_failed = S.failed reader.new; reader_ended = S.ended reader.new; writer_failed = writer.new.failed }) limit) }
     ensures whole { S.ended reader.new ≡ true → IsAtEnd (S.remaining reader.new) }
     ensures capacity { vec_capacity out.old ≤ vec_capacity out.new }
     ensures reserve { O.reserve output.new ≡ O.reserve output.old }

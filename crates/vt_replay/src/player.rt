@@ -105,8 +105,8 @@ impl Player for Utf8Player {
 /// The host's bytes are UTF-8, with the functions of xterm.
 #[derive(Drop)]
 pub(crate) struct XtermPlayer {
-    terminal: Terminal,
-    front: Front,
+    pub(crate) terminal: Terminal,
+    pub(crate) front: Front,
 }
 
 impl XtermPlayer {

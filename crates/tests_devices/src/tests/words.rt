@@ -276,7 +276,7 @@ fn utf8_rows() -> [Row; 11] {
 }
 
 /// Rows by hand for xterm, from docs/SPECIFICATION.md.
-fn xterm_rows() -> [Row; 6] {
+fn xterm_rows() -> [Row; 8] {
     [
         (
             "the alternate page, and a column by CHA",
@@ -319,6 +319,20 @@ fn xterm_rows() -> [Row; 6] {
             of_xterm(Word::Log),
             DONE,
             b"A\n\xc3\xa9\n\n\n\n\n\n\n\n\n\n\n\n\n\n\n\n\n\n\n\n\n\n\n\n\n",
+        ),
+        (
+            "content is nothing if nothing changes",
+            b"\x07\r\x1b[38;5;7m\x1b]0;a title\x07\x1b[1`",
+            of_xterm(Word::Content),
+            DONE,
+            b"",
+        ),
+        (
+            "content hasn't a sequence that has begun, or a pending part",
+            b"\x1b[3\x18\xe2\x94",
+            of_xterm(Word::Content),
+            DONE,
+            b"",
         ),
     ]
 }

@@ -333,7 +333,7 @@ fn words_ask_for_an_encoding(rt: HostRuntime) -> Result<(), Fail> {
 }
 
 /// Lines, and the terminal and the encoding that each asks for.
-const FOR_TERMINALS: [(&str, TerminalType, Option<Encoding>); 5] = [
+const FOR_TERMINALS: [(&str, TerminalType, Option<Encoding>); 6] = [
     ("vt220 text a", TerminalType::Vt220, None),
     ("vt220 log --terminal vt220", TerminalType::Vt220, None),
     (
@@ -348,6 +348,11 @@ const FOR_TERMINALS: [(&str, TerminalType, Option<Encoding>); 5] = [
     ),
     (
         "vt220 picture --terminal=xterm --encoding utf-8",
+        TerminalType::Xterm,
+        Some(Encoding::Utf8),
+    ),
+    (
+        "vt220 content --terminal xterm a",
         TerminalType::Xterm,
         Some(Encoding::Utf8),
     ),
@@ -376,7 +381,7 @@ fn words_ask_for_a_terminal(rt: HostRuntime) -> Result<(), Fail> {
 }
 
 /// A line that is refused, and the sentences that say why.
-const MISFITS: [(&str, &str); 24] = [
+const MISFITS: [(&str, &str); 23] = [
     (
         "vt220 text --format cast",
         "vt220: --format is raw, script, ttyrec or asciicast\n\
@@ -416,13 +421,12 @@ const MISFITS: [(&str, &str); 24] = [
     ("vt220 pages --terminal=xterm --encoding utf-8", NO_XTERM),
     ("vt220 trace --terminal xterm", NO_XTERM),
     ("vt220 summary --terminal xterm --encoding utf-8", NO_XTERM),
-    ("vt220 content --terminal xterm a", NO_XTERM),
 ];
 
 const NO_TERMINAL: &str = "vt220: --terminal is vt220 or xterm\n";
 
-const NO_XTERM: &str = "vt220: pages, trace, summary and content play no xterm\n\
-     vt220: text, show, picture, status, reports, repaint and log do\n";
+const NO_XTERM: &str = "vt220: pages, trace and summary play no xterm\n\
+     vt220: text, show, picture, status, reports, repaint, log and content do\n";
 
 const NO_ENCODING: &str = "vt220: --encoding is dec or utf-8\n";
 

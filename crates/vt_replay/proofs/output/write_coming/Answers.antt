@@ -1,11 +1,13 @@
-use Rattle.std.proofs.Common.{◌≡◌, ℕ, ◌*◌, ◌≤◌, ◌<◌, List, length, take, nat_lt, true, false, ap, refl, ◌∙◌}
+use Rattle.std.proofs.Common.{◌≡◌, ℕ, ◌*◌, ◌≤◌, ◌<◌, List, length, take, nat_lt, true, false, subst, refl, ◌∙◌}
+use Rattle.std.specs.Bool.{⊤}
 use Rattle.std.proofs.Common.{arith, length-append, length-drop}
 use Rattle.std.proofs.lemmas.List.{length-take, take-append-le}
 use Rattle.std.proofs.lemmas.Grind.{common_steps}
 use Rattle.std.proofs.KnownBytes.{Consumes-trans}
 use Rattle.std.proofs.lemmas.Bool.Decides.{nat_tests}
+use Rattle.vt_replay.specs.Output.{IsWritten}
 use Rattle.vt_replay.proofs.Steps.{Moves-step, Moves-end, counted, passed, within-limit}
-use Rattle.vt_replay.proofs.OutputSteps.{chunk_written, chunk_cut, through, decoded_more, after_more}
+use Rattle.vt_replay.proofs.OutputSteps.{come_more, chunk_stopped}
 use Rattle.vt_replay.proofs.output.write_coming.Goals as goal
 
 pub loop-left-preserved : goal.loop-left-preserved
@@ -16,19 +18,17 @@ loop-left-preserved g c =
     let within : c.in-Ok.count ≤ c.loop-left.left = omega (arith, long, bound, c.min-want.ensures) in
     let decodes = rw take-append-le at c.decode.ensures in
     let given = c.bytes.ensures in
-    let all = rw take-append-le at given ∙ decodes.held in
+    let all = rw take-append-le at given in
     let after = rw all at c.if-not-write_chunk.ensures.after in
     let writes = rw all at gives.holds.1 in
     let few = simp length-take at decodes.few in
-    let size : length c.bytes.result.now ≤ 44 * c.in-Ok.count =
+    let size : length c.bytes.result.now ≤ 94152 * c.in-Ok.count =
     rw (rw take-append-le at given) (omega (arith, few)) in
     record {
       moved = Moves-step _ _ _ _ _ _ _ _ _ gives.w c.loop-left.invariant.moved c.in-Ok.ensures.bytes.0 gives.given
           (λ b w h. (
             counted b _ _ _ _ h.0 bound within,
-            chunk_written _ _ _ b _ w _ _ _ _ (through _ _ b _ _ _ _ _ _ h.2 h.3) h.1 writes,
-            decoded_more _ _ _ b _ h.2 (record { on = decodes.on; none = decodes.none }),
-            after_more _ _ b (take c.in-Ok.count c.read_chunk.new.buf) _ _ _ _ _ _ _ _ _ h.2 h.3 after,
+            come_more _ _ _ _ _ _ _ _ _ _ _ _ b w _ _ _ decodes.came decodes.translates h.1 after writes,
           ));
       within = omega (arith, c.loop-left.invariant.within);
       reader_works = grind (arith, common_steps, c.in-Ok.ensures);
@@ -57,7 +57,7 @@ returns-then-not-write_chunk-clause-moves g c =
     let bound : c.in-Ok.count ≤ length c.read_chunk.new.buf = c.in-Ok.ensures.bound.0 in
     let within : c.in-Ok.count ≤ c.loop-left.left = omega (arith, long, bound, c.min-want.ensures) in
     let decodes = rw take-append-le at c.decode.ensures in
-    let all = rw take-append-le at c.bytes.ensures ∙ decodes.held in
+    let all = rw take-append-le at c.bytes.ensures in
     let part = rw all at gives.holds.1 in
     let works : g.S.Source.failed c.read_chunk.new.self ≡ false = grind (arith, common_steps, c.in-Ok.ensures) in
     let goes_on : g.S.Source.ended c.read_chunk.new.self ≡ false = grind (arith, common_steps, c.in-Ok.ensures) in
@@ -68,7 +68,7 @@ returns-then-not-write_chunk-clause-moves g c =
     let size = counted b _ _ _ _ h.0 bound within in (
       record { reader_failed = works; reader_ended = goes_on; writer_failed = gives.holds.0 },
       omega (arith, size),
-      chunk_cut _ _ _ _ b _ w _ _ _ _ (through _ _ b _ _ _ _ _ _ h.2 h.3) h.1 short part,
+      chunk_stopped _ _ _ _ _ _ _ _ _ _ b w _ _ _ decodes.came decodes.translates h.1 short part,
     ))
 
 pub returns-in-Ok-eq0-clause-moves : goal.returns-in-Ok-eq0-clause-moves
@@ -83,8 +83,7 @@ returns-in-Ok-eq0-clause-moves g c =
     Moves-end _ _ _ _ _ _ _ c.loop-left.invariant.moved none (λ b w h. (
       record { reader_failed = works; reader_ended = ended; writer_failed = c.loop-left.invariant.writer_works },
       omega (arith, h.0),
-      h.1,
-      h.3,
+      record { x = h.1.x; translates = h.1.translates; all = h.1.all; holds = h.1.after },
     ))
 
 pub returns-in-Ok-read_chunk-clause-moves : goal.returns-in-Ok-read_chunk-clause-moves
@@ -95,6 +94,7 @@ returns-in-Ok-read_chunk-clause-moves g c =
     grind (arith, common_steps, c.in-Ok-read_chunk.ensures, c.in-Ok-read_chunk.field-0-test) in
     let moved = c.loop-left.invariant.moved in
     let total : length moved.b ≡ c.args.limit = omega (arith, moved.holds.0) in
+    let come = moved.holds.1 in
     record {
       b = _;
       w = moved.w;
@@ -103,7 +103,8 @@ returns-in-Ok-read_chunk-clause-moves g c =
       holds = (
         record { reader_failed = works; reader_ended = goes_on; writer_failed = c.loop-left.invariant.writer_works },
         passed moved.b _ _ _ total c.in-Ok-read_chunk.ensures.bound.0 (omega (arith, long)) c.in-Ok-read_chunk.field-0-test.1,
-        moved.holds.1
-            ∙ ap (λ (x : List ℕ). g.O.Output.written c.args.output.now (g.D.Decoding.decoded c.args.decoding.now x)) (within-limit moved.b _ c.args.limit total),
+        subst (λ (b : List ℕ). IsWritten g.D.Decoding.Translates (g.O.Output.written c.args.output.now) b moved.w (λ (x : List ℕ). ⊤))
+            (within-limit moved.b _ c.args.limit total)
+            (record { x = come.x; translates = come.translates; all = come.all; holds = tt }),
       );
     }

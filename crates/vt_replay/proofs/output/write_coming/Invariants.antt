@@ -1,7 +1,6 @@
 use Rattle.std.proofs.Common.{◌≡◌, ◌+◌, ◌*◌, ◌≤◌, [], false, length, vec_capacity}
 use Rattle.vt_device.specs.Runs.{Moves}
-use Rattle.vt_replay.specs.Output.{IsAfter}
-use Rattle.vt_replay.proofs.OutputSteps.{IsDecodedAfter}
+use Rattle.vt_replay.proofs.OutputSteps.{HaveCome}
 use Rattle.vt_replay.proofs.output.write_coming.Given as goal
 
 abbrev pub invariant-loop-left : goal.invariant-loop-left
@@ -10,11 +9,9 @@ invariant-loop-left g l = record {
       (g.W.Write.contents l.initial.writer.device) (g.W.Write.contents l.writer.device)
       (λ b w.
       (length b + l.left ≡ l.limit)
-      × (w ≡ g.O.Output.written l.initial.output (g.D.Decoding.decoded l.initial.decoding b))
-      × IsDecodedAfter (g.D.Decoding.decoded l.initial.decoding) b (g.D.Decoding.decoded l.decoding)
-      × IsAfter (g.O.Output.written l.initial.output) (g.O.Output.ending l.initial.output)
-      (g.O.Output.there l.initial.output) (g.D.Decoding.decoded l.initial.decoding b)
-      (g.O.Output.written l.output) (g.O.Output.ending l.output) (g.O.Output.there l.output));
+      × HaveCome (g.D.Decoding.Came l.decoding) g.D.Decoding.Translates (g.O.Output.written l.initial.output)
+      (g.O.Output.ending l.initial.output) (g.O.Output.there l.initial.output) (g.O.Output.written l.output)
+      (g.O.Output.ending l.output) (g.O.Output.there l.output) b w);
   within : l.left ≤ l.limit;
   reader_works : g.S.Source.failed l.reader ≡ false;
   reader_goes_on : g.S.Source.ended l.reader ≡ false;
@@ -23,7 +20,7 @@ invariant-loop-left g l = record {
   decodes : length l.buffer ≤ g.D.Decoding.most l.decoding;
   nothing : g.O.Output.written l.output [] ≡ [];
   reserve : g.O.Output.reserve l.output ≡ g.O.Output.reserve l.initial.output;
-  counted : g.O.Output.counted l.output + 440 * l.left ≤ 440 * l.limit;
+  counted : g.O.Output.counted l.output + 941520 * l.left ≤ 941520 * l.limit;
   capacity : vec_capacity l.initial.out ≤ vec_capacity l.out;
 }
 

@@ -15,8 +15,12 @@ returns-then-not-is_there-clause-answer g c =
       holds = (
         h.0,
         h.1,
-        there_so _ _ _ _ _ _ _ h.3 ∙ sym c.if-not-is_there.ensures,
-        h.2,
+        record {
+          x = h.2.x;
+          translates = h.2.translates;
+          all = h.2.all;
+          holds = there_so _ _ _ _ _ _ _ h.2.holds ∙ sym c.if-not-is_there.ensures;
+        },
       );
     }
 
@@ -27,8 +31,12 @@ returns-then-write_whole-clause-answer g c =
     Moves-write _ _ _ _ _ _ _ _ c.in_ok-write_coming.ensures.moves gives.given (λ b w h. (
       record { reader_failed = h.0.reader_failed; reader_ended = h.0.reader_ended; writer_failed = gives.holds.0 },
       h.1,
-      there_so _ _ _ _ _ _ _ h.3 ∙ sym c.if-not-is_there.ensures,
-      rw (h.2, last, c.end.ensures, ends_so _ _ _ _ _ _ _ h.3) refl,
+      record {
+        x = h.2.x;
+        translates = h.2.translates;
+        all = rw (h.2.all, last, c.end.ensures, ends_so _ _ _ _ _ _ _ h.2.holds) refl;
+        holds = there_so _ _ _ _ _ _ _ h.2.holds ∙ sym c.if-not-is_there.ensures;
+      },
     ))
 
 pub returns-else-write_whole-clause-answer : goal.returns-else-write_whole-clause-answer
@@ -37,11 +45,15 @@ returns-else-write_whole-clause-answer g c =
     Moves-write _ _ _ _ _ _ _ _ c.in_ok-write_coming.ensures.moves gives.given (λ b w h. (
       inr (
         record { reader_failed = h.0.reader_failed; reader_ended = h.0.reader_ended; writer_failed = gives.holds.0 },
-        there_so _ _ _ _ _ _ _ h.3 ∙ sym c.if-not-is_there.ensures,
         record {
-          more = gives.w;
-          begins = rw h.2 refl;
-          part = rw (c.deref.ensures.value ∙ c.end.ensures ∙ ends_so _ _ _ _ _ _ _ h.3) at gives.holds.1;
+          x = h.2.x;
+          translates = h.2.translates;
+          is_there = there_so _ _ _ _ _ _ _ h.2.holds ∙ sym c.if-not-is_there.ensures;
+          cut = record {
+            more = gives.w;
+            begins = rw h.2.all refl;
+            part = rw (c.deref.ensures.value ∙ c.end.ensures ∙ ends_so _ _ _ _ _ _ _ h.2.holds) at gives.holds.1;
+          };
         },
       ),
       h.1,

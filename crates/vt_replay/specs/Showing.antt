@@ -1,0 +1,62 @@
+-- What a VT220 is sent, so that it shows what a host's bytes leave under TERM=xterm. (this profile)
+use Rattle.std.specs.Prelude.{◌≡◌, ℕ, ◌≤◌, List, [], ◌∷◌, ◌++◌, length, Result}
+use Rattle.vt_syntax.specs.declared.held.Held.TheVariants.{Nothing}
+use Rattle.vt_term.specs.State.{State, power_up}
+use Rattle.vt_term.specs.Play.{Played, play, both, joined}
+use Rattle.vt_update.specs.Leads.{silently, Leads}
+use Rattle.vt_device.specs.Runs.{Flags}
+use Rattle.vt_recording.specs.declared.fault.Fault.{Fault}
+use Rattle.vt_replay.specs.declared.language.Language.TheVariants.{Xterm}
+use Rattle.vt_replay.specs.Output.{TranslatedTable, always, all, nothing}
+use Rattle.vt_replay.specs.Playing.{played_as}
+
+-- the same display, and no sequence has begun
+abbrev pub between : State → State
+between s = record s { held = Nothing }
+
+-- what all the bytes of a host leave under TERM=xterm, without a sequence that they began
+abbrev pub shown_after : List ℕ → State
+shown_after bytes = between (played_as Xterm bytes).state
+
+-- of each chunk, which come after other bytes, there is an update: it leads a VT220 from what it shows before to what the host's
+-- bytes leave after the chunk. A chunk has at most 65536 bytes
+abbrev pub ShowsAlong : (shown : State) → (before : List ℕ) → (chunks updates : List (List ℕ)) → Type 0
+ShowsAlong shown before [] [] = Unit {0}
+ShowsAlong shown before [] (update ∷ updates) = ⊥
+ShowsAlong shown before (chunk ∷ chunks) [] = ⊥
+ShowsAlong shown before (chunk ∷ chunks) (update ∷ updates) =
+    (length chunk ≤ 65536) × Leads shown update (shown_after (before ++ chunk))
+    × ShowsAlong (shown_after (before ++ chunk)) (before ++ chunk) chunks updates
+
+-- a VT220 at power-up that is sent w is then in the state that the host's bytes leave, and makes no report. It is so after
+-- each of some chunks of these, too
+pub record Shows (bytes w : List ℕ) : Type 0 where
+  pub leads : Leads power_up w (shown_after bytes)
+  pub chunks : List (List ℕ)
+  pub updates : List (List ℕ)
+  pub chunks_are : joined chunks ≡ bytes
+  pub updates_are : joined updates ≡ w
+  pub along : ShowsAlong power_up [] chunks updates
+
+-- what each answer says, b being the host's bytes and w those for the VT220
+abbrev pub ShownTable : Result (Unit {0}) Fault → (piece : ℕ) → (b w : List ℕ) → Flags → (limit : ℕ) → Type 0
+ShownTable result piece b w f limit = TranslatedTable Shows all nothing always result piece b w f limit
+
+-- ---- the converter; private contracts alone speak of this
+
+-- what a VT220 shows after chunks
+abbrev pub last_shown : (shown : State) → (before : List ℕ) → (chunks : List (List ℕ)) → State
+last_shown shown before [] = shown
+last_shown shown before (chunk ∷ chunks) = last_shown (shown_after (before ++ chunk)) (before ++ chunk) chunks
+
+-- the host's bytes b came, the VT220 was sent w, and is in the state `shown`. What bytes leave that come then is `on`
+pub record AreShown (on : List ℕ → Played) (shown : State) (b w : List ℕ) : Type 0 where
+  pub host : (more : List ℕ) → played_as Xterm (b ++ more) ≡ both (played_as Xterm b) (on more)
+  pub sent : play power_up w ≡ silently shown
+  pub is_shown : shown ≡ shown_after b
+  pub chunks : List (List ℕ)
+  pub updates : List (List ℕ)
+  pub chunks_are : joined chunks ≡ b
+  pub updates_are : joined updates ≡ w
+  pub along : ShowsAlong power_up [] chunks updates
+  pub last : last_shown power_up [] chunks ≡ shown

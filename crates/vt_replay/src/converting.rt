@@ -1,0 +1,104 @@
+//! What a host sends under TERM=xterm, as updates of a VT220.
+ghost use Rattle.std.specs.Prelude.{◌≡◌, ◌*◌, ◌/◌, ◌≤◌, [], min, vec_capacity, IfOk};
+ghost use Rattle.vt_syntax.specs.declared.held.Held.TheVariants.{Nothing};
+ghost use Rattle.vt_term.specs.State.{power_up};
+ghost use Rattle.vt_update.specs.declared.updating.TheConstants.{UPDATE_LIMIT};
+ghost use Rattle.vt_xterm.specs.Play.{play_xterm, behind, front_at_power_up};
+ghost use Rattle.vt_replay.specs.Playing.{on_terminal};
+ghost use Rattle.vt_replay.specs.Showing.{between, Shows, AreShown};
+
+use crate::decoding::{Decoding, play_silently};
+use crate::player::{Player, XtermPlayer};
+use std::alloc::{AllocError, Global};
+use vt_syntax::laws::spelled;
+use vt_term::laws::{cuts, soundness};
+use vt_term::{REPORT_LIMIT, Terminal};
+use vt_update::laws::leading;
+use vt_update::{UPDATE_LIMIT, update_reserved};
+use vt_xterm::laws::cuts as xterm_cuts;
+
+/// ESC and CAN: a sequence that has begun is left, and nothing else changes.
+const CANCEL: &[u8] = b"\x1b\x18";
+
+/// The host's bytes are UTF-8, with the functions of xterm. The terminal's bytes for a chunk are an update from what a VT220 shows
+/// to what the chunk leaves.
+#[derive(Drop)]
+pub(crate) struct Converter {
+    player: XtermPlayer,
+    /// The VT220 that gets the updates.
+    shown: Terminal,
+    /// The state to which the next update leads.
+    target: Terminal,
+    /// The reports of a chunk, which are dropped.
+    reports: Vec<u8>,
+    /// The update for a chunk.
+    update: Vec<u8>,
+    ghost between: { shown.held ≡ Nothing },
+    ghost room: { UPDATE_LIMIT ≤ vec_capacity update },
+}
+
+/// States that before a host's bytes come, a VT220 at power-up shows what they leave.
+fn first_shown()
+    ensures { AreShown (λ more. on_terminal (play_xterm (behind power_up front_at_power_up) [] more)) power_up [] [] }
+{
+    cuts();
+    xterm_cuts();
+    soundness();
+}
+
+impl Converter {
+    /// Returns the converter of a new terminal, with memory for chunks of so many bytes. `Err` means that allocation failed.
+    pub(crate) fn new(alloc: Global, piece: usize) -> Result<Converter, AllocError>
+        requires { piece ≤ 65536 }
+        ensures came { IfOk result (λ d. AreShown
+            (λ more. on_terminal (play_xterm (behind d.player.terminal d.player.front) d.player.front.pending more))
+            d.shown [] []) }
+        ensures reports { IfOk result (λ d. 10 * piece ≤ vec_capacity d.reports) }
+    {
+        first_shown();
+        Ok(Converter {
+            player: XtermPlayer::new(alloc)?,
+            shown: Terminal::new(alloc)?,
+            target: Terminal::new(alloc)?,
+            reports: Vec::with_capacity(alloc, REPORT_LIMIT * piece)?,
+            update: Vec::with_capacity(alloc, UPDATE_LIMIT)?,
+        })
+    }
+}
+
+/// Makes a terminal show what another one shows, with no sequence begun.
+fn copy_between(terminal: &Terminal, target: &mut Terminal, reports: &mut Vec<u8>)
+    requires { 10 ≤ vec_capacity reports.old }
+    ensures state { target.new ≡ between terminal.now }
+    ensures capacity { vec_capacity reports.old ≤ vec_capacity reports.new }
+{
+    spelled();
+    let _ = terminal.width();
+    target.copy_from(terminal);
+    play_silently(target, CANCEL, reports);
+}
+
+impl Decoding for Converter {
+    ghost Translates = { Shows };
+
+    ghost Came = { λ d b x. AreShown (λ more. on_terminal (play_xterm (behind d.player.terminal d.player.front) d.player.front.pending more)) d.shown b x };
+
+    ghost held = { λ d chunk. d.update.items };
+
+    ghost most = { λ d. min 65536 (vec_capacity d.reports / 10) };
+
+    fn decode(&mut self, chunk: &[u8]) {
+        cuts();
+        soundness();
+        leading();
+        self.reports.clear();
+        self.player.feed(chunk, &mut self.reports);
+        copy_between(self.player.terminal(), &mut self.target, &mut self.reports);
+        self.update.clear();
+        update_reserved(&mut self.shown, &self.target, &mut self.update);
+    }
+
+    fn bytes<'a>(&'a self, _chunk: &'a [u8]) -> &'a [u8] {
+        self.update.as_slice()
+    }
+}

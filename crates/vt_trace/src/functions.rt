@@ -249,15 +249,6 @@ impl ControlFunction {
             ControlFunction::Sequence(sequence) => SEQUENCES + sequence as usize,
         }
     }
-
-    /// Returns the name of the function.
-    #[inline(always)]
-    pub(crate) fn word(self) -> &'static str
-        ensures word { result.now ≡ word_of self }
-        ensures short { length result.now ≤ 23 }
-    {
-        word_at(self.index())
-    }
 }
 
 /// Returns the name with an index.

@@ -1,14 +1,14 @@
 //! The names of events, as the specification's tables have them.
-ghost use Rattle.std.specs.Prelude.{◌≡◌, ◌≤◌, ℕ, [], length, IfSome, option_copied, option_map};
+ghost use Rattle.std.specs.Prelude.{◌≡◌, ◌≤◌, ◌<◌, ℕ, [], length, IfSome, option_copied, option_map};
 ghost use Rattle.vt_syntax.specs.Event.{event_of};
 ghost use Rattle.vt_term.specs.Functions.{designation};
 ghost use Rattle.vt_term.specs.Names.{name_of, name_with, control_name, plain_escape_name, escape_with_name, print_name};
 ghost use Rattle.vt_trace.specs.Ignored.{is_ignored};
-ghost use Rattle.vt_trace.specs.Names.{word_of, basic_word, sequence_word, slot_begins};
+ghost use Rattle.vt_trace.specs.Names.{numbered, word_of, basic_word, sequence_word, slot_begins};
 
 use crate::functions::Basic::{self, *};
 use crate::functions::Slot::{self, *};
-use crate::functions::{ControlFunction, Sequence};
+use crate::functions::{ControlFunction, FUNCTIONS, Sequence, word_at};
 use crate::sequences::sequence;
 use vt_glyph::Set;
 use vt_syntax::EventKind;
@@ -19,8 +19,8 @@ pub fn name(kind: EventKind, values: &[u16]) -> Option<&'static str>
     ensures word { option_copied result ≡ name_of (event_of kind values.now) }
     ensures short { IfSome result (λ word. length word.now ≤ 23) }
 {
-    match function(kind, values) {
-        Some(function) => Some(function.word()),
+    match index(kind, values) {
+        Some(index) => Some(word_at(index)),
         None => None,
     }
 }
@@ -32,24 +32,37 @@ pub fn is_ignored(kind: EventKind, values: &[u16]) -> bool
     name(kind, values).is_none()
 }
 
-/// Returns the control function of an event, and `None` if it is ignored.
+/// Returns the index of an event's control function, and `None` if the event is ignored.
 #[inline(always)]
-pub(crate) fn function(kind: EventKind, values: &[u16]) -> Option<ControlFunction>
-    ensures { option_map word_of result ≡ name_of (event_of kind values.now) }
+pub(crate) fn index(kind: EventKind, values: &[u16]) -> Option<usize>
+    ensures word { option_map numbered result ≡ name_of (event_of kind values.now) }
+    ensures within { IfSome result (λ index. index < FUNCTIONS) }
 {
     match kind {
-        EventKind::Print(b) => basic(print(b)),
-        EventKind::Control(b) => basic(control(b)),
-        EventKind::Escape { inter: None, last } => basic(plain_escape(last)),
+        EventKind::Print(b) => index_of(basic(print(b))),
+        EventKind::Control(b) => index_of(basic(control(b))),
+        EventKind::Escape { inter: None, last } => index_of(basic(plain_escape(last))),
         EventKind::Escape {
             inter: Some(inter),
             last,
-        } => escape(inter, last),
+        } => index_of(escape(inter, last)),
         EventKind::Sequence {
             marker,
             inter,
             last,
-        } => of_sequence(sequence(marker, values, inter, last)),
+        } => index_of(of_sequence(sequence(marker, values, inter, last))),
+    }
+}
+
+/// Returns the index of a function, if there is one.
+#[inline(always)]
+fn index_of(f: Option<ControlFunction>) -> Option<usize>
+    ensures word { option_map numbered result ≡ option_map word_of f }
+    ensures within { IfSome result (λ index. index < FUNCTIONS) }
+{
+    match f {
+        Some(f) => Some(f.index()),
+        None => None,
     }
 }
 

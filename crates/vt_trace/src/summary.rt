@@ -19,7 +19,7 @@ use crate::bytes::{push_bytes, push_number, push_shown};
 use crate::fronts::{are_plain, is_print};
 use crate::functions::{FUNCTIONS, word_at};
 use crate::lines::push_kind;
-use crate::names::function;
+use crate::names::index;
 use crate::skipped::{kind_name, open_kind, read};
 use std::alloc::{AllocError, Global};
 use vt_syntax::laws::{one_split, spelled};
@@ -206,8 +206,8 @@ fn count_kind(kind: EventKind, values: &[u16], ignored: &mut Vec<u64>, named: &m
     ensures { (events : List Event) (kinds : List ℕ) → AreCounts events kinds ignored.old.items named.old
         → AreCounts (events ++ event_of kind values.now ∷ []) kinds ignored.new.items named.new }
 {
-    match function(kind, values) {
-        Some(function) => count_named(named, function.index()),
+    match index(kind, values) {
+        Some(index) => count_named(named, index),
         None => count_ignored(ignored, kind_number(kind)),
     }
 }

@@ -7,6 +7,7 @@
 #   make js           the package for JavaScript in out/js/: vt220.wasm, package/ and vt220-VERSION.tgz; and what js/vt220-page
 #                     and the fleet's page need
 #   make install      installs these under PREFIX with their manual pages and completions, and prints each file
+#   make install-lib  installs the library alone, with its headers and its manual page
 #   make uninstall    removes it, and the directories that are then empty
 #   make crates OF=.. prints the crates of this repository that some crates depend on, and themselves, lowest first
 #   make version      prints the version
@@ -46,6 +47,7 @@ endif
 VERSION := $(shell awk '$$2 == "VT220_VERSION" { printf "%d.%d.%d", $$3 / 10000, $$3 / 100 % 100, $$3 % 100 }' include/vt220.h)
 SONAME := libvt220.so.$(firstword $(subst ., ,$(VERSION)))
 HEADERS := include/vt220.h include/vt220-keys.h
+FILL = sed 's,@PREFIX@,$(PREFIX),; s,@LIBDIR@,$(LIBDIR),; s,@VERSION@,$(VERSION),'
 
 # crates.txt: CRATES, lowest first, and deps_NAME of each.
 comma := ,
@@ -59,7 +61,7 @@ sources = crates.txt $(shell find $(addprefix crates/,$(call chain,$(1))) -minde
 PROGRAM := crates/vt220/out/vt220
 CHUNKS := crates/chunks/out/chunks
 
-.PHONY: everything program lib keeper js install uninstall crates version help
+.PHONY: everything program lib keeper js install install-lib uninstall crates version help
 everything: program lib keeper
 program: $(PROGRAM)
 lib: $(OUT)/libvt220.a $(OUT)/libvt220.so $(OUT)/vt220.pc $(addprefix $(OUT)/,$(notdir $(HEADERS)))
@@ -89,7 +91,7 @@ $(OUT)/libvt220.so: $(OUT)/vt220.o packaging/libvt220.map
 	@ln -s libvt220.so.$(VERSION) $(OUT)/$(SONAME)
 	@ln -s $(SONAME) $@
 $(OUT)/vt220.pc: packaging/vt220.pc.in include/vt220.h
-	@sed 's,@PREFIX@,$(PREFIX),; s,@LIBDIR@,$(LIBDIR),; s,@VERSION@,$(VERSION),' $< >$@
+	@$(FILL) $< >$@
 $(OUT)/%.h: include/%.h
 	@cp $< $@
 $(OUT)/vt220-keep: $(wildcard keep/*.[ch]) $(HEADERS) $(OUT)/libvt220.a
@@ -98,11 +100,36 @@ $(OUT)/vt220-keep: $(wildcard keep/*.[ch]) $(HEADERS) $(OUT)/libvt220.a
 js: program lib $(CHUNKS)
 	@js/build
 
-INSTALLING = PREFIX='$(PREFIX)' LIBDIR='$(LIBDIR)' DESTDIR='$(DESTDIR)' VERSION=$(VERSION) OUT='$(OUT)' packaging/install
+# What is installed: FROM:TO:MODE of each file, and TARGET:TO of each link. vt220.pc comes from standard input, since PREFIX may be another than
+# when the library was built.
+PAGES := man/vt220.1 man/vt220.3 man/vt220.7 keep/vt220-keep.1
+SHARE = $(PREFIX)/share
+FILES = $(PROGRAM):$(PREFIX)/bin/vt220:755 $(OUT)/vt220-keep:$(PREFIX)/bin/vt220-keep:755 \
+  $(foreach page,$(PAGES),$(page):$(SHARE)/man/man$(subst .,,$(suffix $(page)))/$(notdir $(page)):644) \
+  $(foreach name,vt220 vt220-keep,completions/$(name).bash:$(SHARE)/bash-completion/completions/$(name):644 \
+    completions/_$(name):$(SHARE)/zsh/site-functions/_$(name):644 completions/$(name).fish:$(SHARE)/fish/vendor_completions.d/$(name).fish:644) \
+  $(foreach header,$(HEADERS),$(header):$(PREFIX)/include/$(notdir $(header)):644) $(OUT)/libvt220.a:$(LIBDIR)/libvt220.a:644 \
+  $(OUT)/libvt220.so.$(VERSION):$(LIBDIR)/libvt220.so.$(VERSION):755 /dev/stdin:$(LIBDIR)/pkgconfig/vt220.pc:644
+LINKS = libvt220.so.$(VERSION):$(LIBDIR)/$(SONAME) $(SONAME):$(LIBDIR)/libvt220.so
+INSTALLED = $(foreach file,$(LINKS) $(FILES),$(word 2,$(subst :, ,$(file))))
+# A directory and those above it, up to PREFIX or LIBDIR. The directories that every system has stay.
+up = $(if $(filter $(PREFIX)/% $(LIBDIR) $(LIBDIR)/%,$(1)),$(1) $(call up,$(patsubst %/,%,$(dir $(1)))))
+STAY = $(if $(DESTDIR),,$(addprefix /usr/local/,bin include lib share share/man) $(if $(filter /usr,$(PREFIX)),/usr/%))
+IS_ABSOLUTE = $(if $(filter-out /%,$(PREFIX) $(LIBDIR)),$(error PREFIX and LIBDIR aren't absolute: $(PREFIX) $(LIBDIR)))
+LOADER = DESTDIR='$(DESTDIR)' packaging/loader
+
 install: everything
-	@$(INSTALLING)
+install-lib: lib
+install-lib: FILES := $(filter man/vt220.3:% include/% $(OUT)/libvt220.% /dev/stdin:%,$(FILES))
+install install-lib:
+	$(IS_ABSOLUTE)@$(FILL) packaging/vt220.pc.in | for file in $(FILES); do \
+	  IFS=: read -r from to mode <<<"$$file"; install -D -m $$mode $$from $(DESTDIR)$$to; echo "installed $(DESTDIR)$$to"; done
+	@for link in $(LINKS); do ln -sf $${link%:*} $(DESTDIR)$${link#*:}; echo "installed $(DESTDIR)$${link#*:}"; done
+	@$(LOADER) $(LIBDIR)/$(SONAME)
 uninstall:
-	@$(INSTALLING) --remove
+	$(IS_ABSOLUTE)@for file in $(addprefix $(DESTDIR),$(INSTALLED)); do [ ! -e $$file ] && [ ! -L $$file ] || { rm $$file; echo "removed $$file"; }; done
+	@rmdir $(addprefix $(DESTDIR),$(filter-out $(STAY),$(foreach file,$(INSTALLED),$(call up,$(patsubst %/,%,$(dir $(file))))))) 2>/dev/null || true
+	@$(LOADER)
 
 crates:
 	@printf '%s\n' $(call chain,$(OF))

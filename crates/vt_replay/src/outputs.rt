@@ -161,6 +161,8 @@ impl SummaryOutput {
 }
 
 impl Output for SummaryOutput {
+    ghost use Rattle.vt_trace.specs.declared.summary.TheConstants.{SUMMARY_LIMIT};
+
     ghost written = { λ o bytes. [] };
 
     ghost ending = { λ o bytes. summary_after o.counts bytes };
@@ -171,7 +173,7 @@ impl Output for SummaryOutput {
 
     ghost counted = { λ o. 0 };
 
-    ghost reserve = { λ o. 309607 };
+    ghost reserve = { λ o. SUMMARY_LIMIT };
 
     fn capacity(&self) -> usize {
         SUMMARY_LIMIT

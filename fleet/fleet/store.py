@@ -145,6 +145,7 @@ class Store(redis.Redis):
         super().__init__(*words, **options)
         self.away_since = None
         self.outages = 0  # how often the store was away
+        self.connections = 0  # that were made
         self.run_id, self.minds_runs = None, False
         self.password_file = None
         self.was_let_in = False  # a password was accepted once: if it isn't any more, it is being changed
@@ -173,6 +174,7 @@ class Store(redis.Redis):
             if self.minds_runs:
                 raise AnotherRun()
         self.run_id, self.was_let_in = run_id, True
+        self.connections += 1
 
     def accept_run(self):
         """Goes on with the store as it is now: whoever calls this reads anew what it depends on."""

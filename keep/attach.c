@@ -392,8 +392,8 @@ static void print_screen(void) {
     if (len > 1) fwrite(text, 1, len, stdout);
 }
 
-/* Shows the last screen of a command that has ended as text, and how and when it ended. */
-static int show_last(const char *name) {
+/* Shows the last screen of a command that has ended as text, and how and when it ended. The session stays, unless `removes` is true. */
+static int show_last(const char *name, bool removes) {
     char day[32] = "";
     wire_patience(it.socket, patience);
     while (it.why == 0) read_frames(0);
@@ -402,10 +402,11 @@ static int show_last(const char *name) {
         time_t when = (time_t)it.ending.time;
         struct tm parts;
         bool has_day = localtime_r(&when, &parts) != NULL && strftime(day, sizeof day, "%Y-%m-%d %H:%M:%S", &parts) > 0;
-        if (has_day) printf("vt220-keep: ended on %s\n", day);
+        if (has_day && removes) printf("vt220-keep: ended on %s\n", day);
+        else if (has_day) printf("vt220-keep: ended on %s, and kept with its log until vt220-keep kill %s\n", day, name);
     }
     int status = say(name);
-    if (fflush(stdout) == 0 && it.why == FRAME_ENDED) confirm_end();
+    if (removes && fflush(stdout) == 0 && it.why == FRAME_ENDED) confirm_end();
     return status;
 }
 
@@ -425,9 +426,7 @@ static int follow(const char *name) {
     return status;
 }
 
-int attach(int socket, const char *name, bool is_read_only) {
-    struct hello hello;
-    char why[WHY_LIMIT] = "doesn't answer";
+int attach(int socket, const char *name, bool is_read_only, bool removes) {
     const char *inside = getenv("KEEP_SESSION"), *encoding = getenv("KEEP_ENCODING");
     bool reads_utf8 = encoding != NULL && strcmp(encoding, encoding_name(true)) == 0;
     it.socket = socket;
@@ -437,14 +436,12 @@ int attach(int socket, const char *name, bool is_read_only) {
     if (inside != NULL && strcmp(inside, name) == 0) fail(1, "cannot attach to %s from inside itself", name);
     if (!isatty(STDOUT_FILENO) || tcgetattr(STDIN_FILENO, &it.before) != 0) fail(2, "attach needs a terminal");
     if (vt220_open(&it.terminal) != VT220_OK) fail(1, "out of memory");
-    int result = wire_begin(socket, ASK_ATTACH, is_read_only ? FLAG_READ_ONLY : 0, &hello, why);
-    if (result == WIRE_FULL) fail(1, "%s takes no more clients", name);
-    if (result != WIRE_OK) fail(1, "%s %s", name, why);
+    struct hello hello = wire_greet(socket, name, ASK_ATTACH, (is_read_only ? FLAG_READ_ONLY : 0) | (removes ? FLAG_REMOVES : 0));
     it.version = hello.version;
     it.keys.is_utf8 = hello.is_utf8;
     it.keys.is_xterm = hello.is_xterm;
     it.keys.can_scroll = true;
-    int status = hello.is_over ? show_last(name) : follow(name);
+    int status = hello.is_over ? show_last(name, removes) : follow(name);
     scroll_leave();
     vt220_close(&it.terminal);
     close(socket);

@@ -94,7 +94,6 @@ static void put_lines(struct client *c) {
 
 static void put_ending(struct client *c) {
     put(c, FRAME_ENDED, &the.ending, sizeof the.ending);
-    c->awaits_seen = true;
     leave(c);
 }
 
@@ -137,7 +136,10 @@ void serve(struct client *c, long long time) {
             c->rings = false;
             c->due = time + INTERVAL;
         }
-        if (the.is_over) put_ending(c);
+        if (the.is_over) {
+            put_ending(c);
+            c->awaits_seen = true;
+        }
     }
     send_on(c);
 }
@@ -173,15 +175,18 @@ static size_t count_attached(void) {
     return count;
 }
 
-static void admit(struct client *c) {
+static void admit(struct client *c, bool removes) {
     if (count_attached() >= ATTACHED_LIMIT || vt220_open(&c->shown) != VT220_OK) {
         put(c, FRAME_FULL, NULL, 0);
         leave(c);
         return;
     }
     c->state = ATTACHED;
-    c->deadline = the.is_over ? now() + patience : LLONG_MAX;
+    c->deadline = LLONG_MAX;
     put_repaint(c);
+    if (!the.is_over) return;
+    put_ending(c);
+    c->awaits_seen = removes; /* otherwise it only looks: the session and its log stay */
 }
 
 static void detach_all(void) {
@@ -230,13 +235,14 @@ static void begin(struct client *c) {
     c->ask = (char)c->in[HELLO_ASK];
     if (types_keys(c->ask) && told[0] >= PROTOCOL_ENCODING) put(c, FRAME_ENCODING, &(uint8_t){the.is_utf8}, 1);
     if (types_keys(c->ask) && told[0] >= PROTOCOL_TERMINAL) put(c, FRAME_TERMINAL, &(uint8_t){the.is_xterm}, 1);
-    c->is_read_only = c->in[HELLO_FLAGS] & FLAG_READ_ONLY;
+    uint8_t flags = c->in[HELLO_FLAGS];
+    c->is_read_only = flags & FLAG_READ_ONLY;
     c->in_len -= HELLO_LENGTH;
     memmove(c->in, c->in + HELLO_LENGTH, c->in_len);
     if (!is_known) {
         leave(c);
     } else if (c->ask == ASK_ATTACH) {
-        admit(c);
+        admit(c, flags & FLAG_REMOVES);
     } else if (c->ask == ASK_SEND) {
         c->state = SENDING;
         c->deadline = LLONG_MAX;

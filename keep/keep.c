@@ -28,7 +28,7 @@ static const char usage[] =
     "       vt220-keep send [-l] NAME [KEY ...]\n"
     "                                       send keys by name (Enter, Up, PF1, ^C ..), other words as text, or standard\n"
     "                                       input if there is no KEY; -l: each KEY is text\n"
-    "       vt220-keep kill NAME            end the command\n"
+    "       vt220-keep kill NAME            end the command; if it has ended, remove its screen and its log\n"
     "       vt220-keep rename NAME NEW      rename a session\n"
     "       vt220-keep upgrade NAME         keep a session with this program from now on, in place of the one that started it\n"
     "       vt220-keep help | --help        print this help\n"
@@ -144,12 +144,12 @@ static int do_new(char **words, const struct options *options) {
     } else {
         start_session(&folder, &beginning);
     }
-    return options->attaches ? attach(existing(&folder, words[0]), words[0], false) : 0;
+    return options->attaches ? attach(existing(&folder, words[0]), words[0], false, true) : 0;
 }
 
 static int do_attach(char **words, const struct options *options) {
     struct folder folder = open_folder();
-    return attach(existing(&folder, words[0]), words[0], options->is_read_only);
+    return attach(existing(&folder, words[0]), words[0], options->is_read_only, false);
 }
 
 static int do_list(char **words, const struct options *options) {

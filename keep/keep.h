@@ -66,6 +66,9 @@ const char *encoding_name(bool is_utf8);
 const char *terminal_name(bool is_xterm);
 bool types_keys(char ask); /* whether a client that asks this is sent FRAME_ENCODING and FRAME_TERMINAL, if its version has them */
 int wire_begin(int socket, char ask, uint8_t flags, struct hello *hello, char *why);
+struct hello wire_greet(int socket, const char *name, char ask, uint8_t flags); /* ends the program unless the keeper will do what it is asked */
+/* Ends the program if a keeper that closed the connection has ended. So has the session then, which is what was asked of a kill. */
+void wire_look_for_end(const char *name, char ask);
 bool wire_send(int socket, char letter, const void *bytes, size_t len);
 bool wire_receive(int socket, char *letter, uint8_t *bytes, size_t room, size_t *len);
 void wire_patience(int socket, int milliseconds);
@@ -134,7 +137,7 @@ void scroll_leave(void);
 
 /* --- attach.c and send.c --- */
 
-int attach(int socket, const char *name, bool is_read_only);
+int attach(int socket, const char *name, bool is_read_only, bool removes); /* `removes`: the session of a command that has ended */
 void send_keys_to(const struct folder *folder, const char *name, char **keys, bool is_text);
 int shell_status(int ending);
 

@@ -191,15 +191,15 @@ static void ask(int socket, const char *name, bool is_for_scripts) {
 
 static void list_one(int folder, const char *name, bool is_for_scripts) {
     char why[WHY_LIMIT];
-    int socket = connect_to(folder, name);
+    int socket = connect_to(folder, name), error = errno;
     if (socket >= 0) {
         ask(socket, name, is_for_scripts);
         close(socket);
-    } else if (errno == ECONNREFUSED && lock_folder(folder)) {
+    } else if (error == ECONNREFUSED && lock_folder(folder)) {
         is_free(folder, name, why);
         unlock_folder(folder);
-    } else if (errno != ENOENT) {
-        show_fault(name, errno == EAGAIN ? "doesn't answer" : strerror(errno), is_for_scripts);
+    } else if (error != ENOENT && error != ECONNREFUSED) {
+        show_fault(name, error == EAGAIN ? "doesn't answer" : strerror(error), is_for_scripts);
     }
 }
 

@@ -35,7 +35,10 @@ enum {
     ASK_RENAME = 'n', /* FRAME_NAME follows */
     ASK_UPGRADE = 'u' /* since version 3; FRAME_PROGRAM follows */
 };
-enum { FLAG_READ_ONLY = 1 };
+enum {
+    FLAG_READ_ONLY = 1,
+    FLAG_REMOVES = 2 /* of a client that attaches: if the command has ended, the session is over once this client has shown that */
+};
 
 /* The frames of a client. */
 enum {
@@ -44,7 +47,7 @@ enum {
     FRAME_LOG = 'G',  /* since version 2, of an attached client: it wants the log */
     FRAME_NAME = 'N', /* the new name */
     FRAME_PROGRAM = 'U', /* since version 3: it is empty, and a file is passed with it, the program to become */
-    FRAME_SEEN = 'S'  /* the end of the command was shown to somebody */
+    FRAME_SEEN = 'S'  /* the end of the command was shown. It counts if the client attached before the end, or with FLAG_REMOVES */
 };
 
 /* The frames of a keeper. */

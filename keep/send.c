@@ -13,10 +13,16 @@ static struct {
     uint8_t bytes[FRAME_LIMIT];
 } it;
 
+/* Ends the program, since keys can't be sent. */
+static noreturn void fail_sending(void) {
+    wire_look_for_end(it.name, ASK_SEND);
+    fail(1, "%s takes no keys", it.name);
+}
+
 static void send_bytes(const uint8_t *bytes, size_t len) {
     for (size_t at = 0, n; at < len; at += n) {
         n = len - at < KEYS_LIMIT ? len - at : KEYS_LIMIT;
-        if (!wire_send(it.socket, FRAME_KEYS, bytes + at, n)) fail(1, "%s takes no keys", it.name);
+        if (!wire_send(it.socket, FRAME_KEYS, bytes + at, n)) fail_sending();
     }
 }
 
@@ -63,14 +69,13 @@ static void look_at_names(char **keys) {
 
 /* Sends `keys`: each is a key's name, otherwise text. If `is_text` is true, all are text. Without any, sends standard input. */
 void send_keys_to(const struct folder *folder, const char *name, char **keys, bool is_text) {
-    char why[WHY_LIMIT] = "doesn't answer", letter;
+    char letter;
     uint8_t key[VT220_TYPED_LIMIT];
-    struct hello hello;
     size_t len;
     it.name = name;
     play_repaint(folder);
     it.socket = existing(folder, name);
-    if (wire_begin(it.socket, ASK_SEND, 0, &hello, why) != WIRE_OK) fail(1, "%s %s", name, why);
+    struct hello hello = wire_greet(it.socket, name, ASK_SEND, 0);
     it.keys.is_utf8 = hello.is_utf8;
     it.keys.is_xterm = hello.is_xterm;
     if (!is_text) look_at_names(keys);
@@ -84,7 +89,7 @@ void send_keys_to(const struct folder *folder, const char *name, char **keys, bo
     }
     send_bytes(key, keys_flush(&it.keys, key));
     bool is_done = wire_send(it.socket, FRAME_DONE, "", 0) && wire_receive(it.socket, &letter, it.bytes, sizeof it.bytes, &len);
-    if (!is_done || letter != FRAME_ANSWER) fail(1, "%s takes no keys", name);
+    if (!is_done || letter != FRAME_ANSWER) fail_sending();
     close(it.socket);
     vt220_close(&it.terminal);
     if (it.keys.rings) fail(1, "no key of a VT220 sends some of these characters; the others are sent");

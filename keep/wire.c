@@ -49,6 +49,7 @@ static bool send_all(int socket, const void *bytes, size_t len) {
     for (size_t at = 0; at < len;) {
         ssize_t n = send(socket, (const char *)bytes + at, len - at, MSG_NOSIGNAL);
         if (n < 0 && errno == EINTR) continue;
+        if (n < 0 && (errno == EPIPE || errno == ECONNRESET)) has_closed = true;
         if (n <= 0) return false;
         at += (size_t)n;
     }
@@ -117,24 +118,28 @@ int wire_begin(int socket, char ask, uint8_t flags, struct hello *hello, char *w
     return WIRE_OTHER_VERSION;
 }
 
-/* Ends the program, since a keeper doesn't answer. If the keeper has ended, so has the session, which is what was asked of a kill. */
-static noreturn void fail_silent(const char *name, char ask) {
+void wire_look_for_end(const char *name, char ask) {
     struct folder folder = open_folder();
     bool is_gone = has_closed && connect_to(folder.file, name) < 0 && (errno == ENOENT || errno == ECONNREFUSED);
     if (is_gone && ask == ASK_KILL) exit(0);
     if (is_gone) fail(1, "no such session: %s", name);
+    close(folder.file);
+}
+
+/* Ends the program, since a keeper doesn't answer. */
+static noreturn void fail_silent(const char *name, char ask) {
+    wire_look_for_end(name, ask);
     fail(1, "%s doesn't answer", name);
 }
 
-/* Ends the program unless the keeper will do what it is asked. Returns the version of the protocol. */
-static uint8_t begin(int socket, const char *name, char ask) {
+struct hello wire_greet(int socket, const char *name, char ask, uint8_t flags) {
     struct hello hello;
     char why[WHY_LIMIT];
-    int result = wire_begin(socket, ask, 0, &hello, why);
+    int result = wire_begin(socket, ask, flags, &hello, why);
     if (result == WIRE_FULL) fail(1, "%s takes no more clients", name);
     if (result == WIRE_OTHER_VERSION) fail(1, "%s %s", name, why);
     if (result != WIRE_OK) fail_silent(name, ask);
-    return hello.version;
+    return hello;
 }
 
 /* Reads the reply to a request. Ends the program if there is none. */
@@ -149,7 +154,7 @@ static size_t read_answer(int socket, const char *name, char ask, uint8_t *bytes
 }
 
 size_t wire_ask(int socket, const char *name, char ask, const char *argument, uint8_t *bytes) {
-    begin(socket, name, ask);
+    wire_greet(socket, name, ask, 0);
     if (ask == ASK_KILL) wire_patience(socket, patience + KILL_MORE);
     if (argument != NULL) wire_send(socket, FRAME_NAME, argument, strlen(argument)); /* if it can't be sent, nothing is answered */
     return read_answer(socket, name, ask, bytes);
@@ -174,7 +179,7 @@ void wire_ask_upgrade(int socket, const char *name) {
     static uint8_t bytes[FRAME_LIMIT];
     int program = open("/proc/self/exe", O_RDONLY | O_CLOEXEC);
     if (program < 0) fail(1, "/proc/self/exe: %s", strerror(errno));
-    if (begin(socket, name, ASK_UPGRADE) < PROTOCOL_UPGRADE) fail(1, "%s is kept by an older vt220-keep, which can't be replaced", name);
+    if (wire_greet(socket, name, ASK_UPGRADE, 0).version < PROTOCOL_UPGRADE) fail(1, "%s is kept by an older vt220-keep, which can't be replaced", name);
     wire_patience(socket, patience + UPGRADE_MORE);
     send_file(socket, FRAME_PROGRAM, program); /* likewise */
     read_answer(socket, name, ASK_UPGRADE, bytes);
@@ -204,7 +209,7 @@ uint8_t *wire_ask_log(int socket, const char *name, size_t *len, uint64_t *lost)
     struct gathered log = {0};
     size_t frame_len, screen_len = 0;
     char letter;
-    if (begin(socket, name, ASK_LOG) < PROTOCOL_LOG) fail(1, "%s is kept by an older vt220-keep, which keeps no log", name);
+    if (wire_greet(socket, name, ASK_LOG, 0).version < PROTOCOL_LOG) fail(1, "%s is kept by an older vt220-keep, which keeps no log", name);
     while (wire_receive(socket, &letter, bytes, sizeof bytes, &frame_len) && (letter == FRAME_SCREEN || letter == FRAME_LINES)) {
         if (letter == FRAME_LINES) gather(&log, bytes, frame_len);
         if (letter == FRAME_SCREEN) memcpy(screen, bytes, screen_len = frame_len);

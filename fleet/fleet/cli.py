@@ -49,9 +49,9 @@ def do_worker(words, settings):
     store.examine(settings.store.unsafe)
     worker = Worker(store, chosen)
     if chosen.metrics:
-        from .metrics import serve
+        from .metrics import WorkerMetrics, serve
 
-        serve(worker, chosen.metrics)
+        serve(WorkerMetrics(worker), chosen.metrics)
     on_end(lambda: (setattr(worker, "is_leaving", True), setattr(store, "patience", min(LEAVING, settings.store.give_up))))
     while not worker.is_gone:
         worker.turn()
@@ -87,6 +87,7 @@ def do_host(words, settings):
     if not words.replay:
         return keep_running(made, language, words, settings)
     host = Host(*made, words.replay, None, *language)
+    served_metrics(host, words.metrics or settings.host.metrics)
     host.register()
     host.end(replay(host, words.replay, words.rate))
     return 0
@@ -110,6 +111,7 @@ def keep_running(made, language, words, settings):
     link, state = held(path, words.command)
     incarnation, *language = (state["incarnation"], state["encoding"], state["terminal"]) if state else (None, *language)
     host = Host(*made, " ".join(words.command), incarnation, *language)
+    metrics = served_metrics(host, words.metrics or settings.host.metrics)
     try:
         host.resume()
     except Exception:
@@ -120,6 +122,8 @@ def keep_running(made, language, words, settings):
         program = Program(host, link, state)
     else:
         program = started(host, words.command, path, words.user or settings.host.user, settings.host.orphan)
+    if metrics:
+        metrics.program = program
     on_end(lambda: (program.stop(), setattr(made[0], "patience", min(LEAVING, settings.store.give_up))))
     signal.signal(signal.SIGUSR1, lambda *_: program.leave())
     status = program.run()
@@ -132,6 +136,17 @@ def keep_running(made, language, words, settings):
     finally:
         program.done()
     return 1 if status is None else status
+
+
+def served_metrics(host, address):
+    """Serves a host's metrics if there is an address, and returns them."""
+    if not address:
+        return None
+    from .metrics import HostMetrics, serve
+
+    made = HostMetrics(host)
+    serve(made, address)
+    return made
 
 
 def replay(host, path, rate):
@@ -279,7 +294,7 @@ def do_metrics(words, settings):
 def do_web(words, settings):
     from .web import serve
 
-    for name in ("address", "port", "typing"):
+    for name in ("address", "port", "typing", "metrics"):
         if getattr(words, name) is not None:
             setattr(settings.web, name, getattr(words, name))
     asked = settings.connect()
@@ -305,6 +320,7 @@ def add_hosts(add):
     each.add_argument("--replay", metavar="FILE", help="sends a file's bytes instead of running a command")
     each.add_argument("--user", help="runs the command as this user, which needs root: so it can't read what this host reads")
     each.add_argument("--rate", type=option(int, "rate"), default=9600, help="bytes a second for --replay (9600)")
+    each.add_argument("--metrics", metavar="HOST:PORT", help="serves metrics for Prometheus at this address")
     each.add_argument("name")
     each.add_argument("command", nargs=argparse.REMAINDER)
 
@@ -334,6 +350,7 @@ def add_viewers(add):
     each.add_argument("--address", help="the address on which it listens (127.0.0.1)")
     each.add_argument("--port", type=option(int, "port"), help="the port on which it listens (8220)")
     each.add_argument("--typing", action="store_true", default=None, help="allows the page to type, if the session's host does")
+    each.add_argument("--metrics", metavar="HOST:PORT", help="serves metrics for Prometheus at this address")
 
 
 def add_operators(add):

@@ -49,6 +49,7 @@ class Host:
     orphan: float = 7 * 86400.0
     encoding: str = "dec"
     terminal: str = "vt220"
+    metrics: str = ""
 
 
 @dataclass
@@ -57,6 +58,7 @@ class Web:
     port: int = 8220
     token_file: str = ""
     typing: bool = False
+    metrics: str = ""
 
 
 SECTIONS = {"store": Store, "worker": Worker, "host": Host, "web": Web}

@@ -57,7 +57,7 @@ class Host:
         # Seconds between two renewals, which are also those that a read of what comes for the program waits.
         self.beat = min(BEAT, lease / 3)
         self.takes_input = takes_input
-        self.at = 0
+        self.at = self.begun = self.stored = 0  # positions: of what was sent, where this host began, of what the store has taken
         self.played = 0
         self.held = collections.deque()  # what was sent last: (position after it, moment, bytes)
         self.held_bytes = 0
@@ -69,6 +69,7 @@ class Host:
         self.last = dict.fromkeys(INPUTS, b"0-0")  # the last entry of each stream that was read
         self.passed_on = 0
         self.rebuilt = 0  # how often the store had to be sent something again
+        self.is_waiting = False  # more than WAITING isn't played
         self.renewed = 0.0
         self.is_program_over = lambda: False
 
@@ -91,6 +92,7 @@ class Host:
     def resume(self):
         """Takes over a session from its last host, which is no more. Raises Taken if the session isn't there to be taken."""
         self.at, self.played = self.register()
+        self.begun = self.stored = self.at
 
     def adopt(self, begin, end, last):
         """Takes in what the program's holder has: the bytes from a position to another, and the last inputs that it took."""
@@ -144,7 +146,7 @@ class Host:
         words = self.incarnation, at - len(data), at, self.version(), moment, data, self.me
         answer = self.store.run("append", *words)
         if answer[0] == "ok":
-            self.played = int(answer[1] or 0)
+            self.played, self.stored = int(answer[1] or 0), at
         elif answer[0] in ("lost", "back"):
             self.rebuild(0 if answer[0] == "lost" else int(answer[1]))
         else:
@@ -171,6 +173,7 @@ class Host:
                     answer = self.store.run("append", self.incarnation, *words)
                     if answer[0] != "ok":
                         self.fail(WentBack(f"the store has the bytes up to {there} and takes none after them: {answer[0]}"))
+            self.stored = self.at
             log.warning("%s: sent again from %d to %d", self.name, there, self.at)
 
     def register_again(self):
@@ -195,11 +198,13 @@ class Host:
         """Waits while more bytes than may wait are not played. So a program is slowed as by a slow terminal. If no worker can
         continue the session, the program waits until somebody ends it: nobody could ever play its bytes."""
         while self.at - self.played > WAITING and not self.fault:
+            self.is_waiting = True
             if self.said_fault and self.is_program_over():
                 raise Unplayable(f"no worker can continue this session: {self.said_fault}")
             time.sleep(0.02)
             self.played = int(self.store.hget(self.part("about"), "played") or 0)
             self.renew_if_due()
+        self.is_waiting = False
 
     def end(self, status):
         """Closes the session with the program's exit status."""

@@ -50,36 +50,38 @@ class Inbox:
             self.close()
 
     def wait(self, patience):
-        """Waits until there is a message, for at most so many seconds."""
+        """Waits until there is a message, for at most so many seconds. Returns whether something came."""
         if not self.connection:
             self.connect()
         if self.connection:
-            self.receive(patience)
-        else:
-            time.sleep(patience)
+            return self.receive(patience) > 0
+        time.sleep(patience)
+        return False
 
     def receive(self, patience):
-        """Reads what the socket has. Returns whether it may have more."""
+        """Reads what the socket has. Returns how many bytes that are: it may have more if they are PIECE."""
         try:
             self.connection._sock.settimeout(patience)
             data = self.connection._sock.recv(PIECE)
         except (TimeoutError, BlockingIOError, ssl.SSLWantReadError):
-            return False
+            return 0
         except OSError:
             data = b""
         if not data:
             self.close()
-            return False
+            return 0
         self.reader.feed(data)
-        return len(data) == PIECE
+        return len(data)
 
     def collect(self):
         """Takes in all messages that are here. Returns whether none can have been missed since the last call."""
         was_whole = self.is_whole
-        while self.connection and self.receive(0):
+        while self.connection and self.receive(0) == PIECE:
             pass
-        while self.connection and (message := self.reader.gets()) is not False:
-            self.hear(message)
+        if self.connection:
+            gets, hear = self.reader.gets, self.hear
+            while (message := gets()) is not False:
+                hear(message)
         self.ping()
         self.is_whole = self.connection is not None
         return was_whole and self.is_whole

@@ -1,4 +1,4 @@
-"""Metrics in Prometheus's text form, of a worker and of the whole fleet; and /healthz, which is 200 or 503."""
+"""Metrics in Prometheus's text form, of a worker, a host, the page and the whole fleet; and /healthz, which is 200 or 503."""
 import collections
 import threading
 import time
@@ -34,7 +34,30 @@ def family_of(latency):
     return HistogramMetricFamily("fleet_report_seconds", words, buckets=buckets, sum_value=latency.sum)
 
 
-class Metrics:
+def gauge(name, words, value):
+    return GaugeMetricFamily(f"fleet_{name}", words, value=value)
+
+
+def counter(name, words, value):
+    return CounterMetricFamily(f"fleet_{name}", words, value=value)
+
+
+def counted(kind, name, words, label, counts):
+    """Returns a gauge or a counter for each value of a label."""
+    family = kind(f"fleet_{name}", words, labels=[label])
+    for what, count in counts.items():
+        family.add_metric([what], count)
+    return family
+
+
+def of_store(store):
+    """Yields what each process knows of its store."""
+    yield counter("store_outages", "How often the store was away", store.outages)
+    yield counter("store_connections", "Connections to the store that were made", store.connections)
+    yield gauge("store_is_away", "1 while the store doesn't answer", int(store.away_since is not None))
+
+
+class WorkerMetrics:
     """Those of a worker."""
 
     def __init__(self, worker):
@@ -43,17 +66,12 @@ class Metrics:
     def collect(self):
         worker = self.worker
         for name, count in worker.counts.items():
-            yield CounterMetricFamily(f"fleet_{name}", WORDS[name], value=count)
-        yield CounterMetricFamily("fleet_store_outages", "How often the store was away", value=worker.store.outages)
-        gauges = {
-            "sessions": ("Sessions that this worker has", len(worker.kept)),
-            "due": ("Sessions with something to play", len(worker.due)),
-            "choked": ("Sessions whose hosts don't read their reports", len(worker.choked)),
-            "watched": ("Sessions that somebody looks at", len(worker.frames.watched)),
-            "store_is_away": ("1 while the store doesn't answer", int(worker.store.away_since is not None)),
-        }
-        for name, (words, value) in gauges.items():
-            yield GaugeMetricFamily(f"fleet_{name}", words, value=value)
+            yield counter(name, WORDS[name], count)
+        yield from of_store(worker.store)
+        yield gauge("sessions", "Sessions that this worker has", len(worker.kept))
+        yield gauge("due", "Sessions with something to play", len(worker.due))
+        yield gauge("choked", "Sessions whose hosts don't read their reports", len(worker.choked))
+        yield gauge("watched", "Sessions that somebody looks at", len(worker.frames.watched))
         yield family_of(worker.latency)
 
     def problem(self):
@@ -62,6 +80,61 @@ class Metrics:
             return "the store is away"
         silent = time.monotonic() - self.worker.claims.beaten
         return f"no turn for {silent:.0f} s" if silent > self.worker.settings.lease else ""
+
+
+PROGRAM_STATES = ("running", "slowed", "ended")
+
+
+class HostMetrics:
+    """Those of a host. `program` is set when its program runs."""
+
+    def __init__(self, host):
+        self.host, self.program = host, None
+
+    def state(self):
+        """Returns what its program does: it is slowed if more than may wait isn't played, or if the store is away."""
+        if self.program.is_ended:
+            return "ended"
+        return "slowed" if self.host.is_waiting or self.host.store.away_since is not None else "running"
+
+    def collect(self):
+        host, program = self.host, self.program
+        yield counter("host_bytes", "Bytes of its program that the store has taken from this host", host.stored - host.begun)
+        yield gauge("host_unplayed_bytes", "Bytes in the store that no worker has played, as far as this host knows", max(0, host.stored - host.played))
+        yield from of_store(host.store)
+        if not program:
+            return
+        since = program.sends_since
+        yield gauge("host_lag_bytes", "Bytes of its program that the store doesn't have", max(0, program.end - host.stored))
+        yield gauge("host_lag_seconds", "Seconds for which the same bytes are being sent", 0 if since is None else time.monotonic() - since)
+        yield counter("host_inputs", "Keys and reports that its program was given", program.given)
+        yield counted(GaugeMetricFamily, "host_program", "1 for the state of its program", "state", dict.fromkeys(PROGRAM_STATES, 0) | {self.state(): 1})
+
+    def problem(self):
+        """Returns why this host isn't well, or nothing."""
+        if self.host.store.away_since is not None:
+            return "the store is away"
+        return self.host.said_fault or ""
+
+
+class PageMetrics:
+    """Those of the page."""
+
+    def __init__(self, page):
+        self.page = page
+
+    def collect(self):
+        page = self.page
+        yield gauge("page_clients", "Browsers that are connected", page.gallery.clients)
+        yield gauge("page_sessions", "Sessions that the page shows", len(page.gallery.followed))
+        yield counter("page_connections", "Connections of browsers that were let in", page.connections)
+        yield counter("page_sent_bytes", "Bytes of pages and messages that were sent", page.sent)
+        yield counter("page_received_bytes", "Bytes of messages that came", page.received)
+        yield counted(CounterMetricFamily, "page_refused", "Requests that were refused, and why", "why", page.refused)
+        yield from of_store(page.store)
+
+    def problem(self):
+        return self.page.problem()
 
 
 class WholeFleet:
@@ -97,26 +170,20 @@ class WholeFleet:
 
     def collect(self):
         facts = self.look()
-        yield GaugeMetricFamily("fleet_store_up", "1 if the store answers", value=int("problem" not in facts))
+        yield gauge("store_up", "1 if the store answers", int("problem" not in facts))
         if "problem" in facts:
             return
-        yield GaugeMetricFamily("fleet_store_round_trip_seconds", "Seconds until the store answered a ping", value=facts["trip"])
-        yield GaugeMetricFamily("fleet_workers", "Workers that live", value=facts["workers"])
-        yield GaugeMetricFamily("fleet_waiting_seconds", "Seconds since the session that waits longest has no worker", value=facts["waited"])
+        yield gauge("store_round_trip_seconds", "Seconds until the store answered a ping", facts["trip"])
+        yield gauge("workers", "Workers that live", facts["workers"])
+        yield gauge("waiting_seconds", "Seconds since the session that waits longest has no worker", facts["waited"])
         lags = [each["lag"] for each in facts["listed"]]
-        yield GaugeMetricFamily("fleet_lag_bytes", "Bytes of all sessions that no worker has played", value=sum(lags))
-        yield GaugeMetricFamily("fleet_lag_most_bytes", "The most of them in one session", value=max(lags, default=0))
+        yield gauge("lag_bytes", "Bytes of all sessions that no worker has played", sum(lags))
+        yield gauge("lag_most_bytes", "The most of them in one session", max(lags, default=0))
         states = collections.Counter(each["state"].split(" ")[0] if each["status"] else each["state"] for each in facts["listed"])
         states["ended"] += facts["ended"]
-        yield self.counted("fleet_states", "Sessions by their state", "state", dict.fromkeys(STATES, 0) | states)
+        yield counted(GaugeMetricFamily, "states", "Sessions by their state", "state", dict.fromkeys(STATES, 0) | states)
         faults = collections.Counter(each["fault"].split(":")[0] for each in facts["listed"] if each["fault"])
-        yield self.counted("fleet_session_faults", "Sessions with a fault, by its name", "fault", faults)
-
-    def counted(self, name, words, label, counts):
-        family = GaugeMetricFamily(name, words, labels=[label])
-        for what, count in counts.items():
-            family.add_metric([what], count)
-        return family
+        yield counted(GaugeMetricFamily, "session_faults", "Sessions with a fault, by its name", "fault", faults)
 
 
 def server(collector, address):
@@ -150,6 +217,6 @@ def server(collector, address):
     return ThreadingHTTPServer((host or "127.0.0.1", int(port)), Handler)
 
 
-def serve(worker, address):
-    """Serves a worker's metrics at HOST:PORT, from a separate thread."""
-    threading.Thread(target=server(Metrics(worker), address).serve_forever, daemon=True).start()
+def serve(collector, address):
+    """Serves metrics at HOST:PORT, from a separate thread."""
+    threading.Thread(target=server(collector, address).serve_forever, daemon=True).start()

@@ -87,6 +87,8 @@ class Program:
         self.is_over, self.was_taken = threading.Event(), threading.Event()
         self.is_leaving = self.passes_on = self.is_gone = False
         self.given = self.taken = 0  # inputs, that the holder was sent and that the program has read
+        self.end = state["end"]  # the position after what the program wrote, as far as this host knows
+        self.sends_since = None  # since when the same bytes are being sent
         self.lock = threading.Lock()
         host.is_program_over = lambda: self.is_ended
         self.is_ended, self.status = False, None
@@ -111,6 +113,7 @@ class Program:
 
     def hear(self, letter, number, data):
         if letter == wire.BYTES:
+            self.end = max(self.end, number)
             self.came.put((number, data))
         elif letter == wire.TAKEN:
             self.taken = number
@@ -133,7 +136,9 @@ class Program:
         try:
             self.begin_to_pass_on()
             while came := self.next():
+                self.sends_since = time.monotonic()
                 self.host.send_up_to(*came)
+                self.sends_since = None
                 self.say(wire.KEPT, self.host.at)
                 self.begin_to_pass_on()
         except Fault as fault:

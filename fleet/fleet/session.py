@@ -32,18 +32,21 @@ class Session:
     def data_of(self, entry_id, fields):
         """Returns what of an entry wasn't played yet. Raises a fault if it isn't a host's, or if bytes before it are missing."""
         said = fields.get(b"v", b"")
-        if format_of(said) not in self.formats:
+        written = format_of(said)
+        if written not in self.formats:
             raise Version(f"entry {entry_id.decode('ascii', 'replace')} is", said)
-        self.newest = max(self.newest, format_of(said))
-        at, number = map(int, entry_id.split(b"-"))
+        self.newest = max(self.newest, written)
+        head, _, tail = entry_id.partition(b"-")
+        at, number = int(head), int(tail)
         data = fields.get(b"bytes", b"")
         if not is_formed(at, number, fields):
             raise Wrong(f"entry {entry_id.decode()} is no host's: it has {', '.join(map(repr, sorted(fields)))}, {len(data)} bytes")
-        if at - len(data) > self.at:
-            raise Trimmed(f"the bytes from {self.at} to {at - len(data)} are gone")
+        begin = at - len(data)
+        if begin > self.at:
+            raise Trimmed(f"the bytes from {self.at} to {begin} are gone")
         if number == 2:
             self.status = fields[b"status"].decode()
-        return data[self.at - (at - len(data)) :] if at > self.at else b""
+        return data[self.at - begin :] if at > self.at else b""
 
     def settled(self):
         """Returns the position up to which all bytes are in the terminal's state: what is pending comes after it."""
@@ -51,8 +54,8 @@ class Session:
 
     def play(self, data, reports, most=None):
         """Plays bytes, up to `most` reports. Appends the reports as (position, bytes), and returns how many bytes were played."""
-        begin = self.at
-        while self.at - begin < len(data) and (most is None or len(reports) < most):
+        begin, length = self.at, len(data)
+        while self.at - begin < length and (most is None or len(reports) < most):
             played, report = self.terminal.feed_until_report(data[self.at - begin :])
             self.at += played
             if report:

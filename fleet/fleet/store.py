@@ -87,6 +87,11 @@ def packed(words):
     return b"*%d\r\n" % len(words) + b"".join([b"$%d\r\n%b\r\n" % (len(word), word) for word in words])
 
 
+def as_bytes(word):
+    """Returns a word of a command: bytes, text or a number."""
+    return word if isinstance(word, bytes) else word.encode() if isinstance(word, str) else b"%d" % word
+
+
 def words_of_read(count, streams, patience):
     """Returns the words of XREAD, with {stream: the last id}."""
     wait = [b"BLOCK", b"%d" % max(1, int(patience * 1000))] if patience else []
@@ -106,6 +111,14 @@ def has_come(connection, patience):
         return connection.can_read(patience)
     except AttributeError as error:
         raise ConnectionError(f"the connection was reset: {error.__context__}") from error
+
+
+def answer_of(connection):
+    """Returns the next answer over a connection, which may be an error."""
+    try:
+        return connection.read_response()
+    except ResponseError as error:
+        return error
 
 
 class Awaited:
@@ -145,6 +158,7 @@ class Store(redis.Redis):
         super().__init__(*words, **options)
         self.away_since = None
         self.outages = 0  # how often the store was away
+        self.connections = 0  # that were made
         self.run_id, self.minds_runs = None, False
         self.password_file = None
         self.was_let_in = False  # a password was accepted once: if it isn't any more, it is being changed
@@ -173,6 +187,7 @@ class Store(redis.Redis):
             if self.minds_runs:
                 raise AnotherRun()
         self.run_id, self.was_let_in = run_id, True
+        self.connections += 1
 
     def accept_run(self):
         """Goes on with the store as it is now: whoever calls this reads anew what it depends on."""
@@ -216,18 +231,41 @@ class Store(redis.Redis):
 
         def once():
             together.command_stack = list(commands)
-            answers = together.execute(raise_on_error=False)
-            for answer in answers:
-                if is_missing(answer):
-                    self.load()
-                    raise ConnectionError("the store had no functions")
-                if isinstance(answer, Exception) and is_for_now(answer):
-                    raise answer
-                if isinstance(answer, Exception) and is_denial(answer):
-                    raise NoPermissionError(str(answer))
-            return answers
+            return self.sound(together.execute(raise_on_error=False))
 
         return self.patiently(once)
+
+    def sound(self, answers):
+        """Returns answers, errors among them. Raises those errors that concern the store and no single command."""
+        for answer in answers:
+            if not isinstance(answer, Exception):
+                continue
+            if is_missing(answer):
+                self.load()
+                raise ConnectionError("the store had no functions")
+            if is_for_now(answer):
+                raise answer
+            if is_denial(answer):
+                raise NoPermissionError(str(answer))
+        return answers
+
+    def run_all(self, calls):
+        """Runs functions with one message. Returns their answers, errors among them. The client's own pipeline packs each word by itself,
+        which takes as long as all else that a worker does for an entry."""
+        words = b"".join([packed([as_bytes(word) for word in call]) for call in calls])
+
+        def once():
+            connection = self.connection_pool.get_connection("FCALL")
+            try:
+                connection.send_packed_command([words])
+                answers = [answer_of(connection) for _ in calls]
+            except BaseException:
+                drop(self.connection_pool, connection)
+                raise
+            self.connection_pool.release(connection)
+            return self.sound(answers)
+
+        return self.patiently(once) if calls else []
 
     def read_streams(self, count, streams, patience=0):
         """Returns what came in streams, as [[stream, [[id, [field, value, ..]], ..]], ..], with {stream: the last id}. With patience it

@@ -116,6 +116,8 @@ class Page:
         self.gallery = Gallery(store, self.changed)
         self.loop, self.events = None, set()
         self.threads = ThreadPoolExecutor(16)  # typing waits for the store
+        self.connections = self.sent = self.received = 0  # of browsers; and bytes
+        self.refused = {"token": 0, "origin": 0}
 
     def changed(self):
         if self.loop:
@@ -125,6 +127,7 @@ class Page:
         """Refuses a request without the token."""
         given = request.query.get("token", "")
         if not hmac.compare_digest(given.encode(), self.token.encode()):
+            self.refused["token"] += 1
             raise web.HTTPForbidden(text="The address of this page has a token: use the one that fleet web prints.\n")
 
     async def index(self, request):
@@ -136,6 +139,7 @@ class Page:
             "X-Content-Type-Options": "nosniff",
             "X-Frame-Options": "DENY",
         }
+        self.sent += len(self.text.encode())
         return web.Response(text=self.text, content_type="text/html", headers=headers)
 
     async def health(self, _):
@@ -155,10 +159,11 @@ class Page:
         self.demand(request)
         origin = request.headers.get("Origin")
         if origin and urlsplit(origin).netloc != request.host:
+            self.refused["origin"] += 1
             raise web.HTTPForbidden(text="Another page's.\n")
         socket = web.WebSocketResponse(heartbeat=20, max_msg_size=65536)
         await socket.prepare(request)
-        event, self.gallery.clients = asyncio.Event(), self.gallery.clients + 1
+        event, self.gallery.clients, self.connections = asyncio.Event(), self.gallery.clients + 1, self.connections + 1
         self.events.add(event)
         event.set()
         sender = asyncio.ensure_future(self.send(socket, event))
@@ -180,8 +185,9 @@ class Page:
                 del news["order"]
             order = news.get("order", order)
             if news.get("news") or "order" in news or first:
-                await socket.send_str(json.dumps(news | first))
-                first = {}
+                text = json.dumps(news | first)
+                await socket.send_str(text)
+                self.sent, first = self.sent + len(text), {}
             await asyncio.sleep(PAUSE)
 
     async def receive(self, socket):
@@ -190,6 +196,7 @@ class Page:
             async for message in socket:
                 if message.type != WSMsgType.TEXT:
                     break
+                self.received += len(message.data.encode())
                 try:
                     self.hear(json.loads(message.data), socket, typed)
                 except Exception as error:
@@ -226,6 +233,10 @@ class Page:
 def serve(store, asked, settings):
     """Serves the page until Ctrl-C."""
     page = Page(store, asked, settings)
+    if settings.metrics:
+        from .metrics import PageMetrics, serve as serve_metrics
+
+        serve_metrics(PageMetrics(page), settings.metrics)
     where = f"[{settings.address}]" if ":" in settings.address else settings.address
     # What a service prints is in the journal, which others may read. So a token of a file is never printed.
     token = f"TOKEN, with the one in {settings.token_file}" if settings.token_file else page.token

@@ -21,6 +21,7 @@ from .store import GONE, AnotherRun, AuthenticationError, NoPermissionError, Res
 log = logging.getLogger("fleet.worker")
 
 GATHER = 0.010  # seconds between the starts of two turns: what comes meanwhile is read together
+BURST = 0.002  # seconds that a worker waits for more if something comes after a quiet time: what comes at once is one turn
 READ = 16  # entries of a session that are read at once
 FEW = 2  # or so many, if more than MANY sessions are due: each entry may have 16 KiB, and what isn't played yet takes memory
 MANY = 64
@@ -67,11 +68,10 @@ class Kept(Session):
             budget -= played
             self.is_dirty = self.is_dirty or played > 0
             if played == len(data):
-                self.queue.pop(0)
-        number = max(number, self.needed)
-        if self.at - self.checked >= (1 if self.is_over() else every):
-            self.check(number)
-        else:
+                del self.queue[0]
+        if self.at - self.checked >= (every if self.status is None or self.queue else 1):
+            self.check(max(number, self.needed))
+        elif self.newest > number:
             self.check_again(number)
         return budget
 
@@ -94,7 +94,7 @@ class Kept(Session):
 
     def has_news(self, every):
         """Returns whether the store is to be told something now."""
-        return bool(self.reports or self.checkpoint or self.is_over() or self.at - max(0, self.told) >= every)
+        return bool(self.reports or self.checkpoint or self.at - (self.told if self.told > 0 else 0) >= every or self.is_over())
 
 
 class Worker:
@@ -319,7 +319,8 @@ class Worker:
         for session in due:
             self.guarded(session.incarnation, self.play, session, budget)
             self.look_after_claims()
-        self.tell([session for session in due if session.has_news(self.settings.every) or self.has_passed(session)])
+        every = self.settings.every
+        self.tell([session for session in due if session.has_news(every) or session.is_on_trial and self.has_passed(session)])
         self.note()
         self.frames.show(self.kept, self.claims.me)
         if self.is_leaving:
@@ -328,8 +329,8 @@ class Worker:
     def listen(self, patience):
         """Collects which sessions have something, for at most so long, and for what is left of a turn's least time."""
         patience = min(patience, self.settings.lease / 16)  # the next beat isn't late
-        self.inbox.wait(patience if not self.frames.is_due() else min(patience, 0.02))
-        rest = self.begun + GATHER - time.monotonic()
+        has_come = self.inbox.wait(patience if not self.frames.is_due() else min(patience, 0.02))
+        rest = max(self.begun + GATHER - time.monotonic(), BURST if has_come and not self.due else 0.0)
         if rest > 0 and not self.is_behind:
             time.sleep(rest)
         if not self.inbox.collect():
@@ -377,11 +378,12 @@ class Worker:
         streams = {session.stream: session for session in sessions}
         for session in sessions:
             session.is_read_out = True
-        for stream, entries in self.store.read_streams(count, {session.stream: session.last for session in sessions}):
+        came = self.store.read_streams(count, {session.stream: session.last for session in sessions})
+        now = time.monotonic()
+        for stream, entries in came:
             session = streams[stream]
-            session.read_at = time.monotonic()
-            session.queue = [(entry_id, dict(zip(fields[::2], fields[1::2]))) for entry_id, fields in entries]
-            session.is_read_out, session.last = len(entries) < count, entries[-1][0]
+            session.queue = [(entry_id, dict(zip(words := iter(fields), words))) for entry_id, fields in entries]
+            session.read_at, session.is_read_out, session.last = now, len(entries) < count, entries[-1][0]
 
     def play(self, session, budget):
         """Plays a session's share of this turn. It stays due while there may be more."""
@@ -405,11 +407,7 @@ class Worker:
         """Tells the store what playing led to, for all sessions at once."""
         for at in range(0, len(sessions), 64):
             some = [session for session in sessions[at : at + 64] if self.kept.get(session.incarnation) is session]
-            with self.store.pipeline(transaction=False) as together:
-                for session in some:
-                    together.execute_command(*self.words_of(session))
-                answers = self.store.all_of(together)
-            for session, answer in zip(some, answers):
+            for session, answer in zip(some, self.store.run_all([self.words_of(session) for session in some])):
                 self.guarded(session.incarnation, self.hear, session, answer)
             self.look_after_claims()
 

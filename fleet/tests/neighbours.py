@@ -295,6 +295,7 @@ def a_wrong_field_is_one_session_s_fault(url, _):
     check("bad: Wrong: " in said and "many" in said, name, f"with the fault of the one: {said}")
     store.hset(keys.WORKERS, b"\xff\xfe", "x")
     store.zadd(keys.WAITING, {b"\xff\xfd": 0})
+    store.hset(b"fleet:\xff\xfd:about", mapping={"name": "none", "end": 0})
     one = worker(url)
     check(until(lambda: good.incarnation in one.kept, one), name, "a worker minds no wrong member of a shared key")
     check(fleet(url, "workers")[0] == 0, name, "nor does the list of workers")

@@ -11,6 +11,7 @@ import struct
 import subprocess
 import tempfile
 import threading
+import types
 import urllib.error
 import urllib.request
 
@@ -35,9 +36,10 @@ from harness import (
     with_machine,
     worker,
 )
-from fleet import claims, host
+from fleet import claims, config, host
 from fleet.config import Settings, Unclear
-from fleet.metrics import WholeFleet, server
+from fleet.metrics import HostMetrics, PageMetrics, WholeFleet, WorkerMetrics, server
+from fleet.web import Page
 from safety import conf, fleet, free_port
 from stores_faults import program
 
@@ -412,16 +414,12 @@ def metrics_and_logs(machine, data):
     source = Source(machine.url, name).send(data)
     wait_for(lambda: int(source.store.hget(source.part("about"), "played") or 0) > 4000)
 
-    def metrics():
-        text = urllib.request.urlopen(f"http://127.0.0.1:{port}/metrics", timeout=PATIENCE).read().decode()
-        return dict(line.rsplit(" ", 1) for line in text.splitlines() if not line.startswith("#"))
-
-    check(wait_for(lambda: metrics()["fleet_bytes_total"] == f"{float(len(data))}"), name, f"bytes: {metrics()}")
-    found = metrics()
+    check(wait_for(lambda: metrics_at(port)["fleet_bytes_total"] == len(data)), name, f"bytes: {metrics_at(port)}")
+    found = metrics_at(port)
     reports, entries = wanted("reports", data)[1].count(b"\033["), 1 + -(-len(data) // 700)
-    check(float(found["fleet_reports_total"]) == reports and float(found["fleet_entries_total"]) == entries, name, str(found))
-    check(found["fleet_sessions"] == "1.0" and found["fleet_faults_total"] == "0.0", name, str(found))
-    check(float(found["fleet_report_seconds_count"]) > 0 == float(found['fleet_report_seconds_bucket{le="+Inf"}']) - float(found["fleet_report_seconds_count"]), name, "latencies")
+    check(found["fleet_reports_total"] == reports and found["fleet_entries_total"] == entries, name, str(found))
+    check(found["fleet_sessions"] == 1 and found["fleet_faults_total"] == 0 < found["fleet_store_connections_total"], name, str(found))
+    check(found["fleet_report_seconds_count"] > 0 == found['fleet_report_seconds_bucket{le="+Inf"}'] - found["fleet_report_seconds_count"], name, "latencies")
     check(asked(port, "healthz") == (200, "ok\n"), name, "it is well")
     check(
         all(re.match(r"\d{4}-\d\d-\d\d \d\d:\d\d:\d\d,\d{3} (INFO|WARNING|ERROR) ", line) for line in workers.said()),
@@ -440,6 +438,71 @@ def asked(port, what):
         return refused.code, refused.read().decode()
 
 
+def metrics_at(port):
+    """Returns the metrics of a process, by their names with labels."""
+    lines = (line.rsplit(" ", 1) for line in asked(port, "metrics")[1].splitlines() if not line.startswith("#"))
+    return {name: float(value) for name, value in lines}
+
+
+@with_machine
+def a_host_has_metrics(machine, _):
+    name, port, steps = "host metrics", free_port(), [os.path.join(machine.folder, each) for each in ("first", "second")]
+    waits = ["while [ ! -e %s ]; do sleep 0.05; done" % step for step in steps]
+    script = f"printf begins; {waits[0]}; printf ' and on'; {waits[1]}; exit 3"
+    host = program(machine, name, ["sh", "-c", script], "--metrics", f"127.0.0.1:{port}")
+    store, now = stores.connect(machine.url), lambda: metrics_at(port)
+    wait_for(lambda: written(store, name) == b"begins")
+    check(wait_for(lambda: now()["fleet_host_bytes_total"] == 6), name, f"bytes: {now()}")
+    before = now()
+    wanted = {'fleet_host_program{state="running"}': 1, 'fleet_host_program{state="slowed"}': 0, 'fleet_host_program{state="ended"}': 0}
+    wanted |= {"fleet_host_lag_bytes": 0, "fleet_host_unplayed_bytes": 6, "fleet_store_is_away": 0, "fleet_store_outages_total": 0}
+    check(wanted.items() <= before.items() and before["fleet_store_connections_total"] > 0, name, str(before))
+    check(asked(port, "healthz") == (200, "ok\n"), name, "it is well")
+    machine.kill()
+    open(steps[0], "w").close()
+    wanted = {'fleet_host_program{state="slowed"}': 1, "fleet_host_lag_bytes": 7, "fleet_host_bytes_total": 6, "fleet_store_is_away": 1}
+    check(wait_for(lambda: wanted.items() <= now().items()), name, f"without a store: {now()}")
+    check(now()["fleet_host_lag_seconds"] > 0 and asked(port, "healthz") == (503, "the store is away\n"), name, "it is behind, and not well")
+    machine.start()
+    wanted = {'fleet_host_program{state="running"}': 1, "fleet_host_lag_bytes": 0, "fleet_host_lag_seconds": 0, "fleet_host_bytes_total": 13}
+    check(wait_for(lambda: wanted.items() <= now().items()), name, f"it goes on: {now()}")
+    after = now()
+    check(all(after[each] > before[each] for each in ("fleet_store_outages_total", "fleet_store_connections_total")), name, f"over a new connection: {after}")
+    machine.kill()
+    open(steps[1], "w").close()
+    check(wait_for(lambda: now()['fleet_host_program{state="ended"}'] == 1), name, f"its program has ended: {now()}")
+    machine.start()
+    check(host.wait(PATIENCE) == 3, name, f"and so does it: {host.returncode}")
+    taken = program(machine, "other", ["true"], "--metrics", "127.0.0.1:99999")
+    check(taken.wait(PATIENCE) == 2 and not store.hexists(keys.NAMES, "other"), name, "if there is no such address, nothing begins")
+
+
+def names_of(collector):
+    """Returns the names of what a collector serves, with the endings of counters alone."""
+    found = ((family, [sample.name for sample in family.samples] or [family.name]) for family in collector.collect())
+    return {family.name if family.type == "histogram" else each for family, names in found for each in names}
+
+
+def alerts_and_documents_name_the_metrics_that_there_are(url, _):
+    name, store, source = "alerts", stores.connect(url), Source(url, "one")
+    of_host = HostMetrics(source.host)
+    of_host.program = types.SimpleNamespace(end=0, is_ended=False, sends_since=None, given=0)
+    known = set().union(*map(names_of, (WorkerMetrics(worker(url)), of_host, PageMetrics(Page(store, store, config.Web())), WholeFleet(store))))
+    texts = {}
+    for file in ("alerts.yml", "README.md", "RUNBOOK.md"):
+        with open(os.path.join(HERE, "..", file)) as read:
+            texts[file] = read.read()
+    used = {re.sub(r"_bucket$", "", each) for each in re.findall(r"\bfleet_\w+", texts["alerts.yml"])}
+    check(len(used) > 8 and used <= known, name, f"the alerts are of metrics that there are: {used - known}")
+    listed = set(re.findall(r"`(fleet_\w+)`", texts["README.md"]))
+    check(listed == known, name, f"README lists each metric: {listed ^ known}")
+    alerts = re.findall(r"- alert: (\w+)", texts["alerts.yml"])
+    check(len(alerts) == len(set(alerts)) == texts["alerts.yml"].count("summary:"), name, f"each alert has a summary: {alerts}")
+    pages = set(re.findall(r"^## (\w+)", texts["RUNBOOK.md"], re.MULTILINE))
+    faults = {each.__name__ for each in keys.Fault.__subclasses__()} | {host.Taken.__name__, "Poison", *alerts}
+    check(faults <= pages, name, f"the runbook has a page for each fault and each alert: {faults - pages}")
+
+
 @with_machine
 def metrics_of_the_whole_fleet(machine, _):
     name = "fleet metrics"
@@ -455,21 +518,11 @@ def metrics_of_the_whole_fleet(machine, _):
     claims.Claims(stores.connect(machine.url), 60)
     whole.read = -1e9
     check(asked(port, "healthz") == (200, "ok\n"), name, "with one it is")
-    found = dict(line.rsplit(" ", 1) for line in asked(port, "metrics")[1].splitlines() if not line.startswith("#"))
+    found = metrics_at(port)
     wanted = {'fleet_states{state="waiting"}': 1, 'fleet_states{state="no host"}': 1, 'fleet_states{state="fault"}': 1, "fleet_workers": 1}
     wanted |= {'fleet_session_faults{fault="Poison"}': 1, "fleet_lag_bytes": 3, "fleet_lag_most_bytes": 3, "fleet_store_up": 1}
-    check(all(float(found.get(each, -1)) == value for each, value in wanted.items()), name, str(found))
-    check(float(found["fleet_waiting_seconds"]) >= 0 < float(found["fleet_store_round_trip_seconds"]), name, str(found))
-    with open(os.path.join(HERE, "..", "alerts.yml")) as rules:
-        text = rules.read()
-    names = {re.sub(r"_(bucket|total)$", "", each) for each in re.findall(r"\bfleet_\w+", text)}
-    known = {re.sub(r"\{.*|_(bucket|sum|count|total)$", "", each) for each in found} | {"fleet_report_seconds"}
-    check(names <= known, name, f"the alerts are of metrics that there are: {names - known}")
-    check(text.count("- alert:") == 5, name, "five alerts")
-    with open(os.path.join(HERE, "..", "RUNBOOK.md")) as book:
-        pages = set(re.findall(r"^## (\w+)", book.read(), re.MULTILINE))
-    faults = {each.__name__ for each in keys.Fault.__subclasses__()} | {host.Taken.__name__} | {"Poison"} | set(re.findall(r"- alert: (\w+)", text))
-    check(faults <= pages, name, f"the runbook has a page for each fault and each alert: {faults - pages}")
+    check(wanted.items() <= found.items(), name, str(found))
+    check(found["fleet_waiting_seconds"] >= 0 < found["fleet_store_round_trip_seconds"], name, str(found))
     machine.kill()
     whole.read, whole.store.patience = -1e9, 0.1
     check(asked(port, "healthz")[0] == 503 and "fleet_store_up 0.0" in asked(port, "metrics")[1], name, "without a store")
@@ -514,7 +567,10 @@ def the_configuration_is_read_and_checked(machine, _):
         check("ExecStart=" in text and "[Service]" in text, name, unit)
         check("StartLimitIntervalSec=0" in text and "Restart=" in text, name, f"{unit} is started again for ever")
         check(all(f"{word}=" in text for word in ("SystemCallFilter", "UMask", "NoNewPrivileges", "ProtectSystem")), name, f"{unit} is hardened")
-        check("MemoryMax=" in text or "-host@" in unit, name, f"{unit} has a bound of memory, unless a user's program runs in it")
+        if "-host@" in unit:
+            check("\nOOMPolicy=continue\n" in text and "\nMemoryMax=" not in text, name, f"{unit} bounds no program, and outlives one that the kernel ends")
+        else:
+            check("\nMemoryMax=" in text, name, f"{unit} has a bound of memory")
 
 
 CASES = [
@@ -529,6 +585,8 @@ CASES = [
     a_viewer_follows_and_types_on_a_terminal,
     sessions_are_looked_at_and_exported,
     metrics_and_logs,
+    a_host_has_metrics,
+    alerts_and_documents_name_the_metrics_that_there_are,
     metrics_of_the_whole_fleet,
     the_configuration_is_read_and_checked,
 ]

@@ -3,12 +3,14 @@ import os
 import signal
 import socket
 import subprocess
+import sys
 import tempfile
 import threading
 
 import redis
 
 from harness import PATIENCE, Source, check, key, keys, played, raises, session, stores, until, wanted, worker, compare
+import load
 import vt220
 from fleet import frames
 from fleet.cli import on_end
@@ -266,6 +268,9 @@ def a_store_that_resets_a_connection_is_away(_url, _):
         listener.close()
 
 
+MOST_CALLS, MOST_CALLS_TOLD = 50, 120  # for an entry, and for a session that the store is told of
+
+
 def commands(store):
     """Returns how often each command was called, also inside functions, without the call that asks."""
     return {name[8:]: each["calls"] for name, each in store.info("commandstats").items() if name != "cmdstat_info"}
@@ -300,7 +305,43 @@ def an_idle_host_costs_the_store_one_message_a_beat(url, _):
     check(source.store.ping() and not host.receive_entries(0.01), name, "and no answer is left on a connection")
 
 
+def calls_of(work):
+    """Returns how many functions Python calls meanwhile, those in C among them."""
+    count = 0
+
+    def note(_frame, event, _what):
+        nonlocal count
+        count += event in ("call", "c_call")
+
+    sys.setprofile(note)
+    try:
+        work()
+    finally:
+        sys.setprofile(None)
+    return count
+
+
+def an_entry_costs_a_worker_few_calls(url, _):
+    """A turn with an entry of each of many typists, and what the store is told of them. Calls are counted, and no time."""
+    name, count, one = "calls", 100, worker(url, lease=3600, every=10**6)
+    sessions = load.Sessions(url, count)
+    until(lambda: len(one.kept) == count and not one.due, one)
+    one.noted = one.swept = float("inf")  # nothing but these entries is due
+
+    def play():
+        played = one.counts["entries"] + count
+        until(lambda: one.counts["entries"] == played, one)
+
+    for _ in range(2):  # the first time other things happen, too
+        sessions.send(sessions.incarnations, b"x" * 70)
+        made = calls_of(play) / count
+    check(made <= MOST_CALLS, name, f"an entry: {made}")
+    told = calls_of(lambda: one.tell(list(one.kept.values()))) / count
+    check(told <= MOST_CALLS_TOLD, name, f"what the store is told: {told}")
+
+
 CASES = [
+    an_entry_costs_a_worker_few_calls,
     an_idle_host_costs_the_store_one_message_a_beat,
     a_worker_ends_a_session,
     reports_are_at_what_they_answer,

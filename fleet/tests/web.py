@@ -10,6 +10,7 @@ import aiohttp
 
 from browser import Browser
 from harness import PATIENCE, Processes, Source, check, key, keys, local, stores, wait_for, wanted, with_machine
+from operators import asked, metrics_at
 from safety import conf, free_port
 from stores_faults import program
 from fleet import claims
@@ -310,6 +311,41 @@ def clients_are_led_where_a_session_is(_, data):
 
 
 @with_machine
+def the_page_has_metrics(machine, _):
+    name, port = "page metrics", free_port()
+    served = Served(machine, "--typing", "--metrics", f"127.0.0.1:{port}")
+    source, now = Source(machine.url, "one", takes_input=True, lease=600).listen(), lambda: metrics_at(port)
+    live, keys_sent = served.url.replace("/?", "/live?"), json.dumps({"session": source.incarnation, "text": "typed"})
+
+    async def ask():
+        async with aiohttp.ClientSession() as client:
+            wrong = f"http://127.0.0.1:{served.port}/"
+            statuses = [(await client.get(each, headers=headers)).status for each, headers in
+                        ((wrong, {}), (wrong + "?token=x", {}), (wrong + "live?token=x", {}), (live, {"Origin": "http://evil.example"}))]
+            check(statuses == [403] * 4, name, f"requests are refused: {statuses}")
+            check(now()['fleet_page_refused_total{why="token"}'] == 3 and now()['fleet_page_refused_total{why="origin"}'] == 1, name, f"and counted: {now()}")
+            check((now()["fleet_page_clients"], now()["fleet_page_connections_total"], now()["fleet_page_sent_bytes_total"]) == (0, 0, 0), name, "nobody is let in")
+            page = await (await client.get(served.url)).read()
+            check(now()["fleet_page_sent_bytes_total"] == len(page), name, "the page's bytes")
+            async with client.ws_connect(live) as socket:
+                known, got = set(), 0
+                while source.incarnation not in known:
+                    message = (await socket.receive(PATIENCE)).data
+                    known, got = known | {each["session"] for each in json.loads(message).get("news", [])}, got + len(message)
+                await socket.send_str(keys_sent)
+                check(wait_for(lambda: source.got == [("keys", b"typed")]), name, "keys arrive")
+                found = now()
+                wanted = {"fleet_page_clients": 1, "fleet_page_connections_total": 1, "fleet_page_sessions": 1, "fleet_page_received_bytes_total": len(keys_sent)}
+                check(wanted.items() <= found.items() and found["fleet_page_sent_bytes_total"] >= len(page) + got, name, str(found))
+            check(wait_for(lambda: now()["fleet_page_clients"] == 0), name, "it has left")
+
+    asyncio.run(ask())
+    check(asked(port, "healthz") == (503, "no worker lives\n"), name, "its health is served there, too")
+    source.stop()
+    served.stop()
+
+
+@with_machine
 def the_page_sends_the_keys_of_a_vt220(machine, _):
     """Under LNM, DECCKM and S8C1T. The bytes are those of the VT220's manual, chapter 3."""
     name, workers, served = "keys", Processes(machine, 1), Served(machine, "--typing")
@@ -453,6 +489,7 @@ CASES = [
     real_sessions_in_the_browser,
     ended_and_faulty_sessions_are_shown,
     clients_are_led_where_a_session_is,
+    the_page_has_metrics,
     the_page_sends_the_keys_of_a_vt220,
     only_the_token_opens_the_page,
     a_token_of_a_file_is_not_printed,

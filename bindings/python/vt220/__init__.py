@@ -583,17 +583,16 @@ class Terminal:
 
         Returns the number of bytes played, and the report. Without a report all bytes are played, and the report is empty.
         """
-        play, data = self._playing("vt220_feed", self._opened()), _whole(data)
-        room, written = _work.reports, ctypes.c_size_t()
-        start = ctypes.cast(ctypes.c_char_p(data), ctypes.c_void_p).value or 0
-        at = 0
-        while at < len(data) and not written.value:
+        play, data = self._playing("vt220_feed", self._handle if data else self._opened()), _whole(data)
+        room, written, length, at = _work.reports, ctypes.c_size_t(), len(data), 0
+        while at < length and not written.value:
             # With capacity for one report alone the call ends after the byte that asked for it.
-            played = play(start + at, min(len(data) - at, _PIECE), room, REPORT_LIMIT, written)
-            if not played:  # another thread has closed the terminal
+            piece = data[at : at + _PIECE]
+            played = play(piece, len(piece), room, REPORT_LIMIT, written)
+            if not played:  # the terminal is closed
                 raise Closed()
             at += played
-        return at, ctypes.string_at(room, written.value)
+        return at, ctypes.string_at(room, written.value) if written.value else b""
 
     def _written(self, function: Callable[..., int], *handles: _Handle) -> bytes:
         written = ctypes.c_size_t()

@@ -22,12 +22,28 @@ function recording(bytes, list) {
   return { bytes, times: lines.map(([micros]) => micros / 1e6), ends: lines.map(([, size]) => (end += size)) };
 }
 
+const WAYS = ["as a similar one", "as \u2426", "not at all"];
+
+/** Returns a sentence on the characters of bytes in UTF-8 that a VT220 lacks, or "". */
+function lacking(core, bytes) {
+  const counts = [0, 0, 0];
+  for (const [character] of new TextDecoder().decode(bytes).matchAll(/[^\0-\x9f]/gu)) {
+    const [shown = ""] = core.shown(character);
+    if (shown !== character) counts[shown === "\u2426" ? 1 : shown === "" ? 2 : 0] += 1;
+  }
+  const parts = WAYS.map((way, i) => `${counts[i]} ${way}`).filter((_, i) => counts[i] > 0);
+  return parts.length === 0 ? "" : `Characters that a VT220 lacks are shown otherwise: ${parts.join(", ")}.`;
+}
+
 /** Returns a time as hours, minutes and seconds with a tenth. */
 function clock(time) {
   const tenths = Math.floor(time * 10 + 1e-6), hours = Math.floor(tenths / 36000), minutes = Math.floor(tenths / 600) % 60;
   const seconds = ((tenths % 600) / 10).toFixed(1).padStart(4, "0");
   return hours > 0 ? `${hours}:${String(minutes).padStart(2, "0")}:${seconds}` : `${minutes}:${seconds}`;
 }
+
+/** Reads a time in seconds, or in minutes or hours with colons. */
+const seconds = (text) => text.split(":").reduce((sum, part) => 60 * sum + Number(part), 0);
 
 const rounded = (time) => String(Math.round(time * 1e6) / 1e6);
 
@@ -45,8 +61,9 @@ class Page {
     this.options = options;
     this.screen = new Screen(core, $("screen"));
     this.player = new Player(line, { changed: () => this.draw(), told: (event, time) => this.tell(event, time) });
-    Object.assign(this.player, { loops: options.loop, longestPause: options.pause, stops: options.stops, markers: options.markers.map(([time]) => time) });
+    Object.assign(this.player, { loops: options.loop === true ? Infinity : Number(options.loop), longestPause: options.pause, stops: options.stops, markers: options.markers.map(([time]) => time) });
     $("full").hidden = !document.fullscreenEnabled;
+    document.documentElement.classList.toggle("bare", !options.controls);
     for (const speed of SPEEDS) $("speed").add(new Option(`${speed}×`, speed));
     this.setSpeed(options.speed);
     $("time").max = line.duration;
@@ -84,7 +101,7 @@ class Page {
 
   follow() {
     const [, name, value] = /^#([tq])=(.*)$/.exec(location.hash) ?? [];
-    if (name === "t") this.player.go(value);
+    if (name === "t") this.player.go(seconds(value));
     if (name === "q") this.search(decodeURIComponent(value));
     return name !== undefined;
   }
@@ -157,7 +174,7 @@ class Page {
       " ": () => this.toggle(), ArrowLeft: () => player.go(player.now - far), ArrowRight: () => player.go(player.now + far), ",": () => player.step(-1),
       ".": () => player.step(1), Home: () => player.go(0), End: () => player.go(this.line.duration), "/": () => $("needle").focus(), n: () => this.hit(1),
       N: () => this.hit(-1), "[": () => this.marker(-1), "]": () => this.marker(1), "<": () => this.faster(-1), ">": () => this.faster(1), s: () => $("skip").click(),
-      f: () => this.fill(), Escape: () => $("screen").focus(),
+      f: () => this.fill(), "?": () => $("keys").toggleAttribute("open"), Escape: () => $("screen").focus(),
     };
     const act = /^[0-9]$/.test(event.key) ? () => player.go((this.line.duration * Number(event.key)) / 10) : acts[event.key];
     if (act === undefined) return;
@@ -197,6 +214,13 @@ class Page {
     save(`vt220-${rounded(this.player.now)}.svg`, "image/svg+xml", this.line.terminal.picture());
   }
 
+  /** Shows the notes, if there are any, with one on characters that a VT220 lacks. */
+  note(text) {
+    const list = $("notes").querySelector("ul");
+    if (text !== "") list.append(Object.assign(document.createElement("li"), { textContent: text }));
+    $("notes").hidden = list.children.length === 0;
+  }
+
   say(text) {
     $("said").textContent = text;
   }
@@ -222,6 +246,8 @@ class Page {
     if (asked?.vt220 === "pause") this.player.pause();
     if (asked?.vt220 === "seek") this.player.go(asked.time);
     if (asked?.vt220 === "search") this.search(String(asked.text));
+    if (asked?.vt220 === "marker") this.marker(asked.by);
+    if (asked?.vt220 === "time") this.tell("time", this.player.now);
   }
 
   draw() {
@@ -249,6 +275,7 @@ async function begin() {
   const [wasm, bytes, list] = await Promise.all(["wasm", "bytes", "chunks"].map(unpacked));
   const core = await load(wasm), options = JSON.parse($("options").textContent);
   const page = new Page(core, new Timeline(core, recording(bytes, list), { encoding: options.encoding, terminal: options.terminal }), options);
+  page.note(page.line.terminal.encoding === "utf-8" ? lacking(core, bytes) : "");
   page.start();
   page.drawMarks();
   globalThis.page = page;

@@ -10,7 +10,8 @@ export class Player {
     this.skips = true;
     /** In seconds: the longest pause that is played if pauses are skipped. */
     this.longestPause = 1;
-    this.loops = false;
+    /** How many times it still plays again at its end. */
+    this.loops = 0;
     /** The times of the markers, and whether it stops at each. */
     this.markers = [];
     this.stops = false;
@@ -66,7 +67,8 @@ export class Player {
 
   finish() {
     this.tell("ended");
-    if (this.loops && this.line.duration > 0) {
+    if (this.loops > 0 && this.line.duration > 0) {
+      this.loops -= 1;
       this.now = 0;
       return;
     }

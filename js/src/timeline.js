@@ -56,7 +56,7 @@ export class Timeline {
   }
 
   get duration() {
-    return this.#times.at(-1) ?? 0;
+    return this.#times[this.#times.length - 1] ?? 0;
   }
 
   get chunks() {
@@ -108,7 +108,7 @@ export class Timeline {
   /** Plays up to a position. Sets a checkpoint at the first place between sequences that is far enough from the last one. */
   #play(to) {
     while (this.position < to) {
-      const due = this.#checkpoints.at(-1).position + this.#every;
+      const due = this.#checkpoints[this.#checkpoints.length - 1].position + this.#every;
       const next = Math.min(to, Math.max(due, this.position + 1));
       this.terminal.feed(this.#bytes.subarray(this.position, next));
       this.position = next;

@@ -19,8 +19,8 @@ __all__ = ["FIELDS", "NoTemplate", "page", "template"]
 # The fields that a template leaves open.
 FIELDS = ("TITLE", "NOTES", "OPTIONS", "BYTES", "CHUNKS")
 # How a page plays, if its options don't name it. Times are in seconds; a marker is a time and a label.
-OPTIONS: Mapping[str, object] = {"start": 0, "poster": None, "speed": 1, "pause": 1, "autoplay": False, "loop": False, "stops": False, "encoding": "dec",
-                                "terminal": "vt220", "markers": ()}
+OPTIONS: Mapping[str, object] = {"start": 0, "poster": None, "speed": 1, "pause": 1, "autoplay": False, "loop": False, "stops": False, "controls": True,
+                                "encoding": "dec", "terminal": "vt220", "markers": ()}
 
 
 class NoTemplate(OSError):
@@ -50,8 +50,7 @@ def hashed(text: str) -> str:
 
 
 def _noted(notes: Sequence[str]) -> str:
-    items = "".join(f"<li>{html.escape(note)}</li>" for note in notes)
-    return f'<div class="notes" role="note" aria-label="What a VT220 can\'t show">What this page can\'t show:<ul>{items}</ul></div>' if notes else ""
+    return "".join(f"<li>{html.escape(note)}</li>" for note in notes)
 
 
 def page(content: bytes, chunks: Iterable[Tuple[int, int]], title: str, notes: Sequence[str] = (), **options: object) -> str:

@@ -1,5 +1,5 @@
-// Writes which points of a module a run reached, if the module is one that tests/tracing.py traces.
-//   TRACE=FILE node --import tests/trace.mjs ..      FILE is JSON: the offset of each point, and 1 if an instance of the main thread reached it
+// Writes how often a run reached each point of a module, if the module is one that tests/tracing.py traces.
+//   TRACE=FILE node --import tests/trace.mjs ..      FILE is JSON: the offset of each point, and how often instances of the main thread reached it
 import { writeFileSync } from "node:fs";
 import { isMainThread } from "node:worker_threads";
 
@@ -11,7 +11,7 @@ WebAssembly.instantiate = async (...words) => {
 };
 const reached = () => {
   const found = {};
-  for (const [name, point] of points.flat()) found[name] = found[name] || point.value;
+  for (const [name, point] of points.flat()) found[name] = (found[name] ?? 0) + Number(point.value);
   return JSON.stringify(found);
 };
 if (isMainThread) process.on("exit", () => writeFileSync(process.env.TRACE, reached()));

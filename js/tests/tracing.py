@@ -1,4 +1,4 @@
-"""Reads the code of a module of WebAssembly: its functions, their instructions, and which of these a run of the tests reaches."""
+"""Reads the code of a module of WebAssembly: its functions, their instructions, and how often a run of the tests reaches these."""
 import bisect
 import pathlib
 import sys
@@ -17,8 +17,8 @@ BR_TABLE, BULK = 0x0E, 0xFC
 BULK_NUMBERS = {8: 2, 9: 1, 10: 2, 11: 1}
 # Blocks and branches. A run may go another way after one of these.
 FORKS = {0x02, 0x03, 0x04, 0x05, 0x0B, 0x0C, 0x0D, 0x0E, 0x0F}
-# The type of a global that code writes, and 0 as its first value.
-CLEARED = b"\x7f\x01\x41\x00\x0b"
+# A global that counts: its type, that code writes it, and its first value. Code reads it, adds 1, and writes it.
+CLEARED, READ, ADD_ONE_AND_WRITE = b"\x7e\x01\x42\x00\x0b", b"\x23", b"\x42\x01\x7c\x24"
 
 
 class Function(NamedTuple):
@@ -111,7 +111,7 @@ def points(data, function):
 
 
 def traced(data, all_functions):
-    """Returns a module that sets a global to 1 at each point of its functions. The exports of these are named by the offset of the point."""
+    """Returns a module that adds 1 to a global at each point of its functions. The exports of these are named by the offset of the point."""
     parts = {kind: content for kind, content, _ in sections(data)}
     count, at = number(parts[GLOBALS], 0)
     marks, bodies = [], []
@@ -119,7 +119,8 @@ def traced(data, all_functions):
         places = points(data, function)
         pieces = [data[function.locals : function.start]]
         for place, end in zip(places, [*places[1:], function.end]):
-            pieces += [b"\x41\x01\x24", encoded(count + len(marks)), data[place:end]]
+            index = encoded(count + len(marks))
+            pieces += [READ, index, ADD_ONE_AND_WRITE, index, data[place:end]]
             marks.append(place)
         bodies.append(sized(b"".join(pieces)))
     parts[CODE] = encoded(len(bodies)) + b"".join(bodies)
@@ -131,11 +132,12 @@ def traced(data, all_functions):
 
 
 class Reached:
-    """Which points of a module were reached, as the values by their offsets that tests/trace.mjs writes."""
+    """How often the points of a module were reached, as the counts by their offsets that tests/trace.mjs writes."""
 
-    def __init__(self, values):
-        self.points = sorted(map(int, values))
-        self.is_reached = [bool(values[str(place)]) for place in self.points]
+    def __init__(self, counts):
+        self.counts = {int(place): count for place, count in counts.items()}
+        self.points = sorted(self.counts)
+        self.is_reached = [self.counts[place] > 0 for place in self.points]
 
     def has(self, offset):
         """Returns whether the instruction at an offset was reached."""

@@ -209,12 +209,13 @@ uint8_t *wire_ask_log(int socket, const char *name, size_t *len, uint64_t *lost)
     struct gathered log = {0};
     size_t frame_len, screen_len = 0;
     char letter;
+    bool has_come;
     if (wire_greet(socket, name, ASK_LOG, 0).version < PROTOCOL_LOG) fail(1, "%s is kept by an older vt220-keep, which keeps no log", name);
-    while (wire_receive(socket, &letter, bytes, sizeof bytes, &frame_len) && (letter == FRAME_SCREEN || letter == FRAME_LINES)) {
+    while ((has_come = wire_receive(socket, &letter, bytes, sizeof bytes, &frame_len)) && (letter == FRAME_SCREEN || letter == FRAME_LINES)) {
         if (letter == FRAME_LINES) gather(&log, bytes, frame_len);
         if (letter == FRAME_SCREEN) memcpy(screen, bytes, screen_len = frame_len);
     }
-    if (letter != FRAME_LOGGED) fail_silent(name, ASK_LOG);
+    if (!has_come || letter != FRAME_LOGGED) fail_silent(name, ASK_LOG);
     *lost = 0;
     if (frame_len == sizeof *lost) memcpy(lost, bytes, sizeof *lost);
     gather(&log, screen, screen_len);

@@ -19,6 +19,11 @@ bool is_sent(const struct client *c) {
     return c->at == c->len;
 }
 
+/* Returns whether it waits for room in its socket: for the rest of `out`, or for more of the log after all of `out` was sent. */
+bool waits_for_room(const struct client *c) {
+    return !is_sent(c) || c->wants_log || c->is_reading;
+}
+
 /* Returns the address for the bytes of a frame. When all was sent, it first moves to the front, so that a whole update fits. */
 static uint8_t *frame_room(struct client *c) {
     if (is_sent(c)) c->at = c->len = 0;

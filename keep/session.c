@@ -117,7 +117,7 @@ static void wait_for_event(struct pollfd *polled, const size_t *place, const sig
     for (size_t i = 0; i < CLIENT_LIMIT; i++) {
         struct client *c = the.clients[i];
         if (c == NULL) continue;
-        polled[place[i]] = (struct pollfd){c->socket, (short)((hears(c) ? POLLIN : 0) | (is_sent(c) ? 0 : POLLOUT)), 0};
+        polled[place[i]] = (struct pollfd){c->socket, (short)((hears(c) ? POLLIN : 0) | (waits_for_room(c) ? POLLOUT : 0)), 0};
         earlier(&until, next_time(c));
         count = place[i] + 1;
     }

@@ -88,6 +88,7 @@ void serve(struct client *c, long long time);
 void hear(struct client *c);
 bool hears(const struct client *c);
 bool is_sent(const struct client *c);
+bool waits_for_room(const struct client *c);
 long long next_time(const struct client *c);
 void ring_clients(void);
 void tell_end(void);

@@ -1,8 +1,8 @@
 -- The bytes at the front of a chunk, and their events.
 use Rattle.std.proofs.Common.{◌≡◌, ℕ, List, [], ◌∷◌, None, ◌≤◌, inl, inr, All, get_or, arith, map, refl, sym, ap}
-use Rattle.std.proofs.Common.{◌∙◌, ◌+◌, ◌-◌, take, drop, length, length-drop}
+use Rattle.std.proofs.Common.{◌∙◌, ◌+◌, ◌-◌, take, drop, length, length-drop, length-take}
 use Rattle.std.specs.Prelude.{slice_index}
-use Rattle.std.proofs.Math.Seq.{take-length}
+use Rattle.std.proofs.Math.Seq.{take-length, take-take}
 use Rattle.std.proofs.lemmas.List.{drop-drop, get_or-drop}
 use Rattle.std.proofs.lemmas.List.Elements.{All-map}
 use Rattle.vt_syntax.specs.declared.event.Event.TheVariants.{Print, Control}
@@ -26,6 +26,12 @@ nothing-held = record { rest = None; is_rest = tt; of_rest = refl }
 pub rest-of : (piece : List ℕ) (at : ℕ) → take (length piece - at) (drop at piece) ≡ drop at piece
 rest-of piece at = let e : length piece - at ≡ length (drop at piece) = sym (length-drop at piece) in
     rw e (take-length (drop at piece))
+
+-- all but the last of the bytes at the front
+pub but-last : (n : ℕ) (xs : List ℕ) → 1 ≤ n → n ≤ length xs → take (length (take n xs) - 1) (take n xs) ≡ take (n - 1) xs
+but-last n xs some within =
+    let len : length (take n xs) ≡ n = length-take n xs ∙ omega (arith, within) in
+    ap (λ k. take (k - 1) (take n xs)) len ∙ take-take (n - 1) n xs (omega arith)
 
 -- how many bytes of a piece are taken where this rest is left
 abbrev pub taken : List ℕ → List ℕ → ℕ

@@ -1,5 +1,5 @@
 -- What playing the front of a chunk leaves.
-use Rattle.std.proofs.Common.{◌≡◌, ℕ, ◌+◌, ◌≤◌, arith, List, [], ◌∷◌, ◌++◌, take, drop, length, map, refl, sym, ap, ◌∙◌}
+use Rattle.std.proofs.Common.{◌≡◌, ℕ, ◌+◌, ◌-◌, ◌≤◌, arith, List, [], ◌∷◌, ◌++◌, take, drop, length, map, refl, sym, ap, ◌∙◌}
 use Rattle.std.proofs.Common.{subst, append_assoc, append-nil, length-take}
 use Rattle.std.proofs.Math.Seq.{take-add}
 use Rattle.vt_syntax.specs.declared.event.Event.{Event}
@@ -16,7 +16,7 @@ use Rattle.vt_term.specs.Reports.{report}
 use Rattle.vt_term.specs.Play.{play, after_events, reports_of}
 use Rattle.vt_term.specs.Observing.{Feeds, AreCut}
 use Rattle.vt_term.proofs.Cuts.{play-append, play-nothing}
-use Rattle.vt_term.proofs.Bytes.{taken, behind, taken-more}
+use Rattle.vt_term.proofs.Bytes.{taken, behind, taken-more, but-last}
 
 -- bytes that are these events
 pub feeds-events : (s : State) (bytes : List ℕ) (events : List Event) (d : Display) (h : Held)
@@ -43,6 +43,12 @@ pub front-events : (s : State) (piece : List ℕ) (n : ℕ) (event : Event) → 
     → events_from s.held (take n piece) ≡ event ∷ []
 front-events s piece n event between front =
     ap (λ (h : Held). events_from h (take n piece)) between ∙ front.events
+
+pub front-last : (s : State) (piece : List ℕ) (n : ℕ) (event : Event) → s.held ≡ Nothing → IsFront piece n event
+    → events_from s.held (take (length (take n piece) - 1) (take n piece)) ≡ []
+front-last s piece n event between front =
+    ap (λ (h : Held). events_from h (take (length (take n piece) - 1) (take n piece))) between
+    ∙ ap (λ (l : List ℕ). events_from Nothing l) (but-last n piece front.some front.within) ∙ front.last
 
 pub feeds-front : (s : State) (piece : List ℕ) (n : ℕ) (event : Event) (d : Display) (before after : List ℕ)
     → IsFront piece n event → s.held ≡ Nothing → d ≡ effect event s.display → after ≡ before ++ report event s.display

@@ -1,4 +1,4 @@
-//! The function or report that an event asks for.
+//! The function that an event asks for.
 ghost use Rattle.std.specs.Prelude.{◌≡◌, ◌<◌, ◌≤◌, ◌+◌, ◌++◌, vec_len, vec_capacity, Some, None};
 ghost use Rattle.vt_syntax.specs.Spelling.{IsEvent};
 ghost use Rattle.vt_syntax.specs.declared.event.Event.TheVariants.{Sequence};
@@ -10,7 +10,7 @@ ghost use Rattle.vt_term.specs.Parameters.{first, second, count};
 ghost use Rattle.vt_term.specs.Functions.{effect, control, plain_escape, escape_with, designate, lock_left, lock_right};
 ghost use Rattle.vt_term.specs.Functions.{shift_once, sequence, sequence_in, plain_sequences, private_sequences};
 ghost use Rattle.vt_term.specs.Functions.{quote_sequences, exclamation_sequences};
-ghost use Rattle.vt_term.specs.Reports.{report, sequence_report};
+ghost use Rattle.vt_term.specs.Reports.{report};
 
 use crate::codes::{BS, CR, FF, HT, HTS, IND, LF, NEL, RI, SI, SO, SS2, SS3, SUB, VT};
 use crate::display::Display;
@@ -50,12 +50,10 @@ impl Display {
         ensures bounded { vec_len out.new ≤ vec_len out.old + 10 }
         ensures capacity { vec_capacity out.old ≤ vec_capacity out.new }
     {
+        self.report(kind, values, out);
         match kind {
             EventKind::Print(b) => self.print(b),
-            EventKind::Control(b) => {
-                self.report_control(b, out);
-                self.control(b);
-            }
+            EventKind::Control(b) => self.control(b),
             EventKind::Escape { inter: None, last } => self.plain_escape(last),
             EventKind::Escape {
                 inter: Some(inter),
@@ -65,7 +63,7 @@ impl Display {
                 marker,
                 inter,
                 last,
-            } => self.sequence(marker, values, inter, last, out),
+            } => self.sequence(marker, values, inter, last),
         }
     }
 
@@ -91,7 +89,8 @@ impl Display {
             return self.select_front_rendition(front);
         }
         let list = [front.first, front.second, front.third];
-        self.plain_sequence(front.last, &list[..front.count], out);
+        self.report_sequence(None, None, front.last, front.first, out);
+        self.plain_sequence(front.last, &list[..front.count]);
     }
 
     /// Carries out a C0 or C1 control. (It is inlined in each caller, so CR and LF cost no dispatch.)
@@ -215,41 +214,24 @@ impl Display {
 
     /// Carries out a control sequence.
     #[inline(always)]
-    #[tactic(auto, unfolding(crate::specs::Functions::sequences_of, crate::specs::Functions::sequence_in, crate::specs::Reports::sequence_report))]
-    fn sequence(
-        &mut self,
-        marker: Option<u8>,
-        params: &[u16],
-        inter: Option<u8>,
-        last: u8,
-        out: &mut Vec<u8>,
-    )
-        requires room { vec_len out.old + 10 ≤ vec_capacity out.old }
-        ensures state { self.new ≡ sequence marker inter last params.now self.old }
-        ensures items { out.new.items ≡ out.old.items ++ sequence_report marker inter last (first params.now) self.old }
-        ensures bounded { vec_len out.new ≤ vec_len out.old + 10 }
-        ensures capacity { vec_capacity out.old ≤ vec_capacity out.new }
+    #[tactic(auto, unfolding(crate::specs::Functions::sequences_of, crate::specs::Functions::sequence_in))]
+    fn sequence(&mut self, marker: Option<u8>, params: &[u16], inter: Option<u8>, last: u8)
+        ensures { self.new ≡ sequence marker inter last params.now self.old }
     {
         match (marker, inter) {
-            (None, None) => self.plain_sequence(last, params, out),
-            (Some(b'?'), None) => self.private_sequence(last, params, out),
-            (Some(b'>'), None) => self.greater_sequence(last, params, out),
+            (None, None) => self.plain_sequence(last, params),
+            (Some(b'?'), None) => self.private_sequence(last, params),
             (None, Some(b'"')) => self.quote_sequence(last, params),
             (None, Some(b'!')) => self.exclamation_sequence(last, params),
             _ => {}
         }
     }
 
-    /// Carries out a control sequence without marker and intermediate: DA and DSR report, and the others change the
-    /// display.
+    /// Carries out a control sequence without marker and intermediate. DA and DSR only report.
     #[inline(never)]
-    #[tactic(auto, unfolding(crate::specs::Functions::sequences_of, crate::specs::Functions::sequence_in, crate::specs::Reports::sequence_report))]
-    fn plain_sequence(&mut self, last: u8, params: &[u16], out: &mut Vec<u8>)
-        requires room { vec_len out.old + 10 ≤ vec_capacity out.old }
-        ensures state { self.new ≡ sequence_in plain_sequences last params.now self.old }
-        ensures items { out.new.items ≡ out.old.items ++ sequence_report None None last (first params.now) self.old }
-        ensures bounded { vec_len out.new ≤ vec_len out.old + 10 }
-        ensures capacity { vec_capacity out.old ≤ vec_capacity out.new }
+    #[tactic(auto, unfolding(crate::specs::Functions::sequence_in))]
+    fn plain_sequence(&mut self, last: u8, params: &[u16])
+        ensures { self.new ≡ sequence_in plain_sequences last params.now self.old }
     {
         match last {
             b'@' => self.insert_character(count(params)),
@@ -264,49 +246,30 @@ impl Display {
             b'M' => self.delete_line(count(params)),
             b'P' => self.delete_character(count(params)),
             b'X' => self.erase_character(count(params)),
-            b'c' => self.report_attributes(first(params), out),
+            b'c' => {}
             b'f' => self.cursor_position(first(params), second(params)),
             b'g' => self.clear_tabs(first(params)),
             b'h' => self.change_ansi_modes(params, true),
             b'l' => self.change_ansi_modes(params, false),
             b'm' => self.select_graphic_rendition(params),
-            b'n' => self.report_status(first(params), out),
+            b'n' => {}
             b'r' => self.set_margins(first(params), second(params)),
             _ => {}
         }
     }
 
-    /// Carries out a private control sequence, with the marker `?`.
-    #[tactic(auto, unfolding(crate::specs::Functions::sequences_of, crate::specs::Functions::sequence_in, crate::specs::Reports::sequence_report))]
-    fn private_sequence(&mut self, last: u8, params: &[u16], out: &mut Vec<u8>)
-        requires room { vec_len out.old + 10 ≤ vec_capacity out.old }
-        ensures state { self.new ≡ sequence_in private_sequences last params.now self.old }
-        ensures items { out.new.items
-            ≡ out.old.items ++ sequence_report (Some 0x3F) None last (first params.now) self.old }
-        ensures bounded { vec_len out.new ≤ vec_len out.old + 10 }
-        ensures capacity { vec_capacity out.old ≤ vec_capacity out.new }
+    /// Carries out a private control sequence, with the marker `?`. DSR only reports.
+    #[tactic(auto, unfolding(crate::specs::Functions::sequence_in))]
+    fn private_sequence(&mut self, last: u8, params: &[u16])
+        ensures { self.new ≡ sequence_in private_sequences last params.now self.old }
     {
         match last {
             b'J' => self.erase_in_display(true, first(params)),
             b'K' => self.erase_in_line(true, first(params)),
             b'h' => self.change_private_modes(params, true),
             b'l' => self.change_private_modes(params, false),
-            b'n' => self.report_private_status(first(params), out),
+            b'n' => {}
             _ => {}
-        }
-    }
-
-    /// Carries out a control sequence with the marker `>`: secondary DA.
-    #[tactic(auto, unfolding(crate::specs::Functions::sequences_of, crate::specs::Reports::sequence_report))]
-    fn greater_sequence(&self, last: u8, params: &[u16], out: &mut Vec<u8>)
-        requires room { vec_len out.old + 10 ≤ vec_capacity out.old }
-        ensures items { out.new.items
-            ≡ out.old.items ++ sequence_report (Some 0x3E) None last (first params.now) self.now }
-        ensures bounded { vec_len out.new ≤ vec_len out.old + 10 }
-        ensures capacity { vec_capacity out.old ≤ vec_capacity out.new }
-    {
-        if last == b'c' && first(params) == 0 {
-            self.answer(b">1;10;0c", out);
         }
     }
 

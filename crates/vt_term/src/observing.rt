@@ -1,5 +1,5 @@
 //! Observers: types that a feed tells of its events.
-ghost use Rattle.std.specs.Prelude.{◌≡◌, ◌≤◌, ◌∷◌, [], ℕ, List, Bool, All, true, false, length};
+ghost use Rattle.std.specs.Prelude.{◌≡◌, ◌≤◌, ◌-◌, ◌∷◌, [], ℕ, List, Bool, All, true, false, length, take};
 ghost use Rattle.std.specs.Bool.{OnTrue, OnFalse};
 ghost use Rattle.vt_glyph.specs.Invocation.{HasGlyph};
 ghost use Rattle.vt_syntax.specs.declared.held.Held.TheVariants.{Nothing};
@@ -45,14 +45,15 @@ pub trait Observer {
         ensures stops { OnFalse result (Stops ≡ true) }
         ensures stopped { OnFalse result (Stopped self.now) };
 
-    /// Is told of the next event, which these bytes complete. `terminal` has the display before the event.
+    /// Is told of the next event, which the last of these bytes completes. `terminal` has the display before the event.
     fn event(&mut self, terminal: &Terminal, bytes: &[u8], kind: EventKind, values: &[u16])
         requires some { 1 ≤ length bytes.now }
         requires event { IsEvent (event_of kind values.now) }
         requires lets { Lets self.old terminal.now.display (event_of kind values.now) }
         requires takes { Takes self.old (length bytes.now) }
         ensures { (s : State) → s.display ≡ terminal.now.display
-            → events_from s.held bytes.now ≡ event_of kind values.now ∷ [] → Saw self.old s bytes.now self.new };
+            → events_from s.held bytes.now ≡ event_of kind values.now ∷ []
+            → events_from s.held (take (length bytes.now - 1) bytes.now) ≡ [] → Saw self.old s bytes.now self.new };
 
     /// Returns how many graphic bytes it lets be written at once. If it is none, the feed stops before the first one.
     fn limit(&self, terminal: &Terminal) -> usize

@@ -1,17 +1,55 @@
 //! The terminal's reports.
-ghost use Rattle.std.specs.Prelude.{◌≡◌, ◌+◌, ◌≤◌, ◌<◌, ◌++◌, length, decimal, vec_len, vec_capacity};
-ghost use Rattle.vt_term.specs.Answers.{answer, cursor_report, reported, primary_reports, status_reports, private_reports};
-ghost use Rattle.vt_term.specs.Reports.{control_report};
+ghost use Rattle.std.specs.Prelude.{◌≡◌, ◌+◌, ◌≤◌, ◌<◌, ◌++◌, Some, None, length, decimal, vec_len, vec_capacity};
+ghost use Rattle.vt_syntax.specs.Event.{event_of};
+ghost use Rattle.vt_term.specs.Answers.{answer, cursor_report};
+ghost use Rattle.vt_term.specs.Reports.{report, control_report, sequence_report};
 
 use crate::codes::{CSI, DECID};
 use crate::display::Display;
+use crate::functions::first;
+use crate::terminal::Terminal;
 use itoa::Buffer;
+use vt_syntax::EventKind;
+
+impl Terminal {
+    /// Appends the report of an event in the present display: at most ten bytes, for which `out` has capacity. The event
+    /// isn't carried out.
+    #[inline(always)]
+    pub fn report_reserved(&self, kind: EventKind, values: &[u16], out: &mut Vec<u8>)
+        requires { vec_len out.old + 10 ≤ vec_capacity out.old }
+        ensures items { out.new.items ≡ out.old.items ++ report (event_of kind values.now) self.now.display }
+        ensures bounded { vec_len out.new ≤ vec_len out.old + 10 }
+        ensures capacity { vec_capacity out.old ≤ vec_capacity out.new }
+    {
+        self.display.report(kind, values, out);
+    }
+}
 
 impl Display {
+    /// Appends the report of an event in this display.
+    #[inline(always)]
+    pub(crate) fn report(&self, kind: EventKind, values: &[u16], out: &mut Vec<u8>)
+        requires { vec_len out.old + 10 ≤ vec_capacity out.old }
+        ensures items { out.new.items ≡ out.old.items ++ report (event_of kind values.now) self.now }
+        ensures bounded { vec_len out.new ≤ vec_len out.old + 10 }
+        ensures capacity { vec_capacity out.old ≤ vec_capacity out.new }
+    {
+        match kind {
+            EventKind::Print(_) => {}
+            EventKind::Control(b) => self.report_control(b, out),
+            EventKind::Escape { .. } => {}
+            EventKind::Sequence {
+                marker,
+                inter,
+                last,
+            } => self.report_sequence(marker, inter, last, first(values), out),
+        }
+    }
+
     /// Appends the report to DECID.
     #[inline(always)]
     #[tactic(auto, unfolding(crate::specs::Reports::control_report))]
-    pub(crate) fn report_control(&self, b: u8, out: &mut Vec<u8>)
+    fn report_control(&self, b: u8, out: &mut Vec<u8>)
         requires { vec_len out.old + 10 ≤ vec_capacity out.old }
         ensures items { out.new.items ≡ out.old.items ++ control_report b self.now }
         ensures bounded { vec_len out.new ≤ vec_len out.old + 10 }
@@ -22,52 +60,66 @@ impl Display {
         }
     }
 
-    /// Appends the report to DA, by the first parameter.
-    #[inline(never)]
-    pub(crate) fn report_attributes(&self, p: u16, out: &mut Vec<u8>)
+    /// Appends the report to a control sequence, by its first parameter. Only those that end with `c` or `n` have one.
+    #[inline(always)]
+    pub(crate) fn report_sequence(
+        &self,
+        marker: Option<u8>,
+        inter: Option<u8>,
+        last: u8,
+        p: u16,
+        out: &mut Vec<u8>,
+    )
         requires { vec_len out.old + 10 ≤ vec_capacity out.old }
-        ensures items { out.new.items ≡ out.old.items ++ reported primary_reports p self.now }
+        ensures items { out.new.items ≡ out.old.items ++ sequence_report marker inter last p self.now }
         ensures bounded { vec_len out.new ≤ vec_len out.old + 10 }
         ensures capacity { vec_capacity out.old ≤ vec_capacity out.new }
     {
-        match p {
-            0 => self.answer(b"?62;1;6c", out),
+        if last == b'c' {
+            return self.report_attributes(marker, inter, p, out);
+        }
+        if last == b'n' {
+            self.report_status(marker, inter, p, out);
+        }
+    }
+
+    /// Appends the report to DA, primary or secondary.
+    #[inline(never)]
+    #[tactic(auto, unfolding(crate::specs::Functions::sequences_of, crate::specs::Reports::sequence_report))]
+    fn report_attributes(&self, marker: Option<u8>, inter: Option<u8>, p: u16, out: &mut Vec<u8>)
+        requires { vec_len out.old + 10 ≤ vec_capacity out.old }
+        ensures items { out.new.items ≡ out.old.items ++ sequence_report marker inter 0x63 p self.now }
+        ensures bounded { vec_len out.new ≤ vec_len out.old + 10 }
+        ensures capacity { vec_capacity out.old ≤ vec_capacity out.new }
+    {
+        match (marker, inter, p) {
+            (None, None, 0) => self.answer(b"?62;1;6c", out),
+            (Some(b'>'), None, 0) => self.answer(b">1;10;0c", out),
             _ => {}
         }
     }
 
-    /// Appends the report to DSR: the operating status, or the cursor's position.
+    /// Appends the report to DSR: the operating status, the cursor's position, and with the marker `?` the printer or the
+    /// keyboard's language.
     #[inline(never)]
-    pub(crate) fn report_status(&self, p: u16, out: &mut Vec<u8>)
+    #[tactic(auto, unfolding(crate::specs::Functions::sequences_of, crate::specs::Reports::sequence_report))]
+    fn report_status(&self, marker: Option<u8>, inter: Option<u8>, p: u16, out: &mut Vec<u8>)
         requires { vec_len out.old + 10 ≤ vec_capacity out.old }
-        ensures items { out.new.items ≡ out.old.items ++ reported status_reports p self.now }
+        ensures items { out.new.items ≡ out.old.items ++ sequence_report marker inter 0x6E p self.now }
         ensures bounded { vec_len out.new ≤ vec_len out.old + 10 }
         ensures capacity { vec_capacity out.old ≤ vec_capacity out.new }
     {
-        match p {
-            5 => self.answer(b"0n", out),
-            6 => self.report_cursor(out),
-            _ => {}
-        }
-    }
-
-    /// Appends the report to DSR with the marker `?`: the printer, or the keyboard's language.
-    #[inline(never)]
-    pub(crate) fn report_private_status(&self, p: u16, out: &mut Vec<u8>)
-        requires { vec_len out.old + 10 ≤ vec_capacity out.old }
-        ensures items { out.new.items ≡ out.old.items ++ reported private_reports p self.now }
-        ensures bounded { vec_len out.new ≤ vec_len out.old + 10 }
-        ensures capacity { vec_capacity out.old ≤ vec_capacity out.new }
-    {
-        match p {
-            15 => self.answer(b"?13n", out),
-            26 => self.answer(b"?27;1n", out),
+        match (marker, inter, p) {
+            (None, None, 5) => self.answer(b"0n", out),
+            (None, None, 6) => self.report_cursor(out),
+            (Some(b'?'), None, 15) => self.answer(b"?13n", out),
+            (Some(b'?'), None, 26) => self.answer(b"?27;1n", out),
             _ => {}
         }
     }
 
     /// Appends a report: the introducer in its 7-bit or 8-bit form, and a text.
-    pub(crate) fn answer(&self, text: &[u8], out: &mut Vec<u8>)
+    fn answer(&self, text: &[u8], out: &mut Vec<u8>)
         requires { vec_len out.old + length text.now + 2 ≤ vec_capacity out.old }
         ensures items { out.new.items ≡ out.old.items ++ answer text.now self.now }
         ensures bounded { vec_len out.new ≤ vec_len out.old + length text.now + 2 }

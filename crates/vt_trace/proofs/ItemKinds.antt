@@ -31,7 +31,7 @@ use Rattle.vt_trace.proofs.Counts.{not_equal}
 use Rattle.vt_trace.specs.Trace.{is_nothing, is_string, cuts_off, ends_silent, open_kind, ended_kind, code_after}
 use Rattle.vt_trace.specs.Runs.{is_graphic, step_kind, byte_kind, IsItem}
 use Rattle.vt_trace.proofs.Runs.{tail_of_plain, not_between, not_cut, not_ended, event_ends, first_quiet, rest_quiet, rest_event}
-use Rattle.vt_trace.proofs.Runs.{last_apart}
+use Rattle.vt_trace.proofs.Runs.{last_apart, no_one}
 
 string_code : (code : ℕ) → opens_string code ≡ true → eqb code 0 ≡ false
 unfolding opens_string
@@ -275,14 +275,7 @@ module _ (law : SpellingLaw) (split : SplitLaw) where
   one_item [] last e bytes nothing is none events =
       same_kinds bytes last (ap (λ (h : Held). cuts_off h last) nothing)
       (event_ends (held_after bytes) last e (ap (λ (h : Held). events_from h (last ∷ [])) nothing ∙ events))
-  one_item (b ∷ front) last e bytes nothing (inl one) none events = absurd (two (front ++ last ∷ []) (more front) one)
-    where
-      more : (front : List ℕ) → 1 ≤ length (front ++ last ∷ [])
-      more [] = omega arith
-      more (x ∷ front) = omega arith
-
-      two : (rest : List ℕ) → 1 ≤ length rest → length (b ∷ rest) ≡ 1 → ⊥
-      two rest some one = omega (arith, some, one)
+  one_item (b ∷ front) last e bytes nothing (inl one) none events = absurd (no_one b front last one)
   one_item (b ∷ front) last e bytes nothing (inr is) none events =
       let h = held_after bytes in
       let silent = ap (λ (k : Held). events_from k (b ∷ front)) nothing ∙ none in

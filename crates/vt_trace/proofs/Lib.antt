@@ -7,6 +7,7 @@ mod Counts
 pub mod Coming
 mod Sums
 mod KindLines
+mod Leaves
 mod Runs
 mod Digits
 mod ItemKinds

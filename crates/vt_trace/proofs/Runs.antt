@@ -1,35 +1,33 @@
 -- The trace of bytes that are taken at once.
-use Rattle.std.proofs.Common.{◌≡◌, ◌≢◌, inl, ℕ, suc, ◌+◌, ◌-◌, cond, ◌≤◌, ◌<◌, List, [], ◌∷◌, ◌++◌, Bool, true, false, not, ◌||◌}
-use Rattle.std.proofs.Common.{refl, sym, ap, ◌∙◌, arith, length, map, append-nil, append_assoc, drop, take, add-zero, eqb, length-take}
+use Rattle.std.proofs.Common.{◌≡◌, ◌≢◌, inl, inr, ℕ, suc, ◌+◌, ◌-◌, cond, ◌≤◌, List, [], ◌∷◌, ◌++◌, Bool, true, false, not, ◌||◌}
+use Rattle.std.proofs.Common.{refl, sym, ap, ◌∙◌, arith, length, map, append-nil, append_assoc, take, eqb}
 use Rattle.std.proofs.lemmas.List.{take_more}
-use Rattle.std.proofs.Math.Seq.{take-length, take-take, take-add}
+use Rattle.std.proofs.Math.Seq.{take-length}
 use Rattle.std.specs.Prelude.{All, slice_index, ◌&&◌}
 use Rattle.std.proofs.lemmas.Bool.Decides.{nat_tests}
-use Rattle.std.proofs.lemmas.List.Elements.{All-cons, All-append}
 use Rattle.vt_syntax.specs.declared.event.Event.{Event}
-use Rattle.vt_syntax.specs.declared.event.Event.TheVariants.{Print, Control, Escape, Sequence}
+use Rattle.vt_syntax.specs.declared.event.Event.TheVariants.{Print}
 use Rattle.vt_syntax.specs.declared.held.Held.{Held}
 use Rattle.vt_syntax.specs.declared.held.Held.TheVariants.{Nothing}
 use Rattle.vt_syntax.specs.declared.held.Held.TheVariants as held
 use Rattle.vt_syntax.specs.Class.{IsPlain, is_opener, opens_string}
 use Rattle.vt_syntax.specs.Reading.{single_function}
-use Rattle.vt_syntax.specs.Held.{events_from, held_from}
+use Rattle.vt_syntax.specs.Held.{events_from, held_from, spell, IsHeldPart}
 use Rattle.vt_syntax.specs.Laws.{SplitLaw, SpellingLaw}
 use Rattle.vt_glyph.specs.Invocation.{has_no_glyph, HasGlyph}
 use Rattle.vt_term.specs.State.{Display, State}
 use Rattle.vt_term.specs.Reports.{report}
-use Rattle.vt_term.proofs.Silent.{silent-control, silent-sequence}
-use Rattle.vt_term.specs.Parameters.{first}
-use Rattle.vt_term.specs.Play.{play, Played, after_events}
+use Rattle.vt_term.specs.Play.{play, after_events}
+use Rattle.vt_term.proofs.Bytes.{nothing-held}
 use Rattle.vt_trace.specs.declared.tracing.Tracer.{Tracer}
-use Rattle.vt_trace.specs.Lines.{shown_byte, event_line}
+use Rattle.vt_trace.specs.Lines.{shown_byte, shown, event_line}
 use Rattle.vt_trace.specs.Skipped.{is_empty}
 use Rattle.vt_trace.specs.Trace.{begins, item_place, place_of, is_text, text_of, text_begin, text_end, written, written_all, text_after}
 use Rattle.vt_trace.specs.Trace.{between, is_nothing, is_string, cuts_off, ends_silent, item_first, code_after, ended_kind, skipped_lines}
 use Rattle.vt_trace.specs.Trace.{skipped, goes_on, traced, tracer_after, trace, tracer_all}
-use Rattle.vt_trace.proofs.Counts.{nothing-held}
-use Rattle.vt_trace.proofs.Traces.{Plays, Keeps, Lines, Tracers, more-lines, more-tracer}
-use Rattle.vt_trace.specs.Runs.{IsShown, IsOne, Traces, is_graphic, is_request}
+use Rattle.vt_trace.specs.Runs.{IsShown, IsItem, is_graphic}
+use Rattle.vt_trace.specs.Observed.{AreRead, Completes, IsTold, skim, skimmed, skipped_all, held_all}
+use Rattle.vt_trace.proofs.Leaves.{single_leaves, plain_leaves}
 
 abbrev made : ℕ → ℕ → Bool → Tracer
 made n m v = between m n v
@@ -37,7 +35,7 @@ made n m v = between m n v
 same_tracer : (a b c d : ℕ) (v : Bool) → a ≡ b → c ≡ d → made a c v ≡ made b d v
 same_tracer a b c d v e f = ap (λ n. made n c v) e ∙ ap (λ m. made b m v) f
 
-tail_of_all : (b : ℕ) (run : List ℕ) → All IsShown (b ∷ run) → All IsShown run
+tail_of_all : (b : ℕ) (run : List ℕ) → All HasGlyph (b ∷ run) → All HasGlyph run
 tail_of_all b run all = λ k d low. all (suc k) d (omega (arith, low))
 
 pub tail_of_plain : (b : ℕ) (run : List ℕ) → All IsPlain (b ∷ run) → All IsPlain run
@@ -68,40 +66,66 @@ still_on t h b whole inner =
     ap (λ (v : Bool). t.in_text && not (v || ends_silent h b)) whole
     ∙ ap (λ (v : Bool). t.in_text && not v) inner ∙ and_true t.in_text
 
--- what is written of such a byte, and the tracer after it
-event_traced : (s : State) (t : Tracer) (b : ℕ) → cuts_off s.held b ≡ false → ends_silent s.held b ≡ false
-    → traced s t b
-    ≡ written_all t.in_text (place_of t.place (item_place t s.held b) b) (events_from s.held (b ∷ [])) s.display
+-- the tracer after the last byte of an item, but for its event
+skim_between : (h : Held) (t : Tracer) (b : ℕ) → cuts_off h b ≡ false → ends_silent h b ≡ false
+    → held_from h (b ∷ []) ≡ Nothing → skim h t b ≡ made (item_place t h b) (t.place + 1) t.in_text
+skim_between h t b whole inner none =
+    let n = item_place t h b in
+    let first = item_first t h b in
+    ap (λ (k : Held). record { place = t.place + 1; begin = n; in_text = goes_on t h b; code = code_after t.code (is_string h) k b; first = record { items = cond (is_nothing k) [] first } }) none
+    ∙ ap (λ (v : Bool). made n (t.place + 1) v) (still_on t h b whole inner)
+
+-- ---- a byte and its event
+
+quiet_line : (s : State) (t : Tracer) (b : ℕ) → events_from s.held (b ∷ []) ≡ [] → traced s t b ≡ skipped t s.held b
 unfolding traced
-event_traced s t b whole inner =
-    let at = place_of t.place (item_place t s.held b) b in
-    let events = events_from s.held (b ∷ []) in
-    ap (λ (l : List ℕ). l ++ written_all (goes_on t s.held b) at events s.display) (none_skipped t s.held b whole inner)
-    ∙ ap (λ (v : Bool). written_all v at events s.display) (still_on t s.held b whole inner)
+quiet_line s t b none =
+    ap (λ (es : List Event). skipped t s.held b
+    ++ written_all (goes_on t s.held b) (place_of t.place (item_place t s.held b) b) es s.display) none
+    ∙ append-nil (skipped t s.held b)
 
-event_text : (s : State) (t : Tracer) (b : ℕ) → cuts_off s.held b ≡ false → ends_silent s.held b ≡ false
-    → (tracer_after s t b).in_text ≡ text_after t.in_text (events_from s.held (b ∷ []))
-unfolding tracer_after
-event_text s t b whole inner =
-    ap (λ (v : Bool). text_after v (events_from s.held (b ∷ []))) (still_on t s.held b whole inner)
+-- the tracer after a byte with these events
+unfoldable pub with_text : Bool → Tracer → Tracer
+with_text v t = record t { in_text = v }
 
--- after the last byte of an item
-tracer_between : (s : State) (t : Tracer) (b : ℕ) → cuts_off s.held b ≡ false → ends_silent s.held b ≡ false
-    → held_from s.held (b ∷ []) ≡ Nothing
-    → tracer_after s t b ≡ made (item_place t s.held b) (t.place + 1) (text_after t.in_text (events_from s.held (b ∷ [])))
-unfolding tracer_after
-tracer_between s t b whole inner none =
-    let n = item_place t s.held b in
-    let events = events_from s.held (b ∷ []) in
-    let first = item_first t s.held b in
-    ap (λ (h : Held). record { place = t.place + 1; begin = n; in_text = text_after (goes_on t s.held b) events; code = code_after t.code (is_string s.held) h b; first = record { items = cond (is_nothing h) [] first } }) none
-    ∙ ap (λ (v : Bool). made n (t.place + 1) (text_after v events)) (still_on t s.held b whole inner)
+quiet_skim : (s : State) (t : Tracer) (b : ℕ) → events_from s.held (b ∷ []) ≡ [] → tracer_after s t b ≡ skim s.held t b
+unfolding tracer_after with_text
+quiet_skim s t b none =
+    ap (λ (es : List Event). with_text (text_after (goes_on t s.held b) es) (skim s.held t b)) none
+
+event_skim : (s : State) (t : Tracer) (b : ℕ) (e : Event) → events_from s.held (b ∷ []) ≡ e ∷ []
+    → tracer_after s t b ≡ with_text (is_text e) (skim s.held t b)
+unfolding tracer_after with_text
+event_skim s t b e events =
+    ap (λ (es : List Event). with_text (text_after (goes_on t s.held b) es) (skim s.held t b)) events
+
+-- what is written of an event whose bytes led to a tracer
+unfoldable pub told_at : Display → Tracer → ℕ → Event → List ℕ
+told_at d t last e = written t.in_text (place_of (t.place - 1) t.begin last e) e (report e d)
+
+event_line_of : (s : State) (t : Tracer) (b : ℕ) (e : Event) → events_from s.held (b ∷ []) ≡ e ∷ []
+    → traced s t b ≡ skipped t s.held b ++ told_at s.display (skim s.held t b) b e
+unfolding traced told_at
+event_line_of s t b e events =
+    let here : t.place ≡ t.place + 1 - 1 = omega arith in
+    let begin = item_place t s.held b in
+    let on = goes_on t s.held b in
+    ap (λ (es : List Event). skipped t s.held b ++ written_all on (place_of t.place begin b) es s.display) events
+    ∙ ap (λ (l : List ℕ). skipped t s.held b ++ l) (append-nil (written on (place_of t.place begin b e) e (report e s.display)))
+    ∙ ap (λ n. skipped t s.held b ++ written on (place_of n begin b e) e (report e s.display)) here
 
 -- ---- texts
 
 pub shown-itself : (b : ℕ) → IsShown b → shown_byte b ≡ b ∷ []
 unfolding shown_byte
 shown-itself b i = grind (arith, nat_tests)
+
+-- a run that is shown as itself
+pub shown-run : (run : List ℕ) → All IsShown run → shown run ≡ run
+shown-run [] all = refl
+shown-run (b ∷ run) all =
+    ap (λ (l : List ℕ). l ++ shown run) (shown-itself b (all 0 0 (omega arith)))
+    ∙ ap (λ (l : List ℕ). b ∷ l) (shown-run run (λ k d low. all (suc k) d (omega (arith, low))))
 
 has-glyph : (b : ℕ) → HasGlyph b → has_no_glyph b ≡ false
 has-glyph b i = grind (arith, nat_tests, i)
@@ -113,22 +137,6 @@ opens-nothing b i = grind (arith, nat_tests, i)
 printed : (b : ℕ) → HasGlyph b → single_function b ≡ Print b ∷ []
 printed b i = grind (arith, nat_tests, i)
 
-shown-glyph : (b : ℕ) → IsShown b → HasGlyph b
-shown-glyph b i = inl (i.0, i.1)
-
-none_plain : All IsPlain []
-none_plain k d low = absurd (omega (arith, low))
-
-one_plain : (b : ℕ) → IsPlain b → All IsPlain (b ∷ [])
-one_plain b i = All-cons IsPlain b [] i none_plain
-
--- plain bytes between sequences
-pub plain_events : SpellingLaw → (b : ℕ) → IsPlain b → events_from Nothing (b ∷ []) ≡ Print b ∷ []
-plain_events law b i = law.all_plain (b ∷ []) (one_plain b i)
-
-pub plain_held : SpellingLaw → (b : ℕ) → IsPlain b → held_from Nothing (b ∷ []) ≡ Nothing
-plain_held law b i = law.all_plain_held (b ∷ []) (one_plain b i)
-
 -- a character between sequences, and the state after it
 glyph_events : SpellingLaw → (b : ℕ) → HasGlyph b → events_from Nothing (b ∷ []) ≡ Print b ∷ []
 glyph_events law b i = law.single b (opens-nothing b i) ∙ printed b i
@@ -136,13 +144,13 @@ glyph_events law b i = law.single b (opens-nothing b i) ∙ printed b i
 glyph_held : SpellingLaw → (b : ℕ) → HasGlyph b → held_from Nothing (b ∷ []) ≡ Nothing
 glyph_held law b i = law.single_held b (opens-nothing b i)
 
-still_nothing : SpellingLaw → (s : State) (b : ℕ) → s.held ≡ Nothing → IsShown b → (play s (b ∷ [])).state.held ≡ Nothing
-unfolding play
-still_nothing law s b nothing i =
-    ap (λ (h : Held). held_from h (b ∷ [])) nothing ∙ glyph_held law b (shown-glyph b i)
-
-glyph-text : (in_text : Bool) (b : ℕ) → HasGlyph b → text_after in_text (Print b ∷ []) ≡ true
-glyph-text in_text b i = ap not (has-glyph b i)
+-- characters between sequences
+glyphs_held : SpellingLaw → SplitLaw → (run : List ℕ) → All HasGlyph run → held_from Nothing run ≡ Nothing
+glyphs_held law split [] all = split.held_nil Nothing nothing-held
+glyphs_held law split (b ∷ run) all =
+    split.held_append Nothing (b ∷ []) run
+    ∙ ap (λ (h : Held). held_from h run) (glyph_held law b (all 0 0 (omega arith)))
+    ∙ glyphs_held law split run (tail_of_all b run all)
 
 text_written : (in_text : Bool) (place b : ℕ) (s : Display) (at : Event → ℕ) → HasGlyph b → at (Print b) ≡ place
     → written_all in_text at (Print b ∷ []) s ≡ text_of in_text place b
@@ -151,84 +159,85 @@ text_written in_text place b s at i here =
     ∙ append-nil (written in_text place (Print b) (report (Print b) s))
     ∙ ap (λ (v : Bool). cond v (text_end in_text ++ event_line place (Print b)) (text_of in_text place b)) (has-glyph b i)
 
-module _ (law : SpellingLaw) where
-  character_events : (s : State) (b : ℕ) → s.held ≡ Nothing → HasGlyph b → events_from s.held (b ∷ []) ≡ Print b ∷ []
-  character_events s b nothing i = ap (λ (h : Held). events_from h (b ∷ [])) nothing ∙ glyph_events law b i
+module _ (law : SpellingLaw) (s : State) (t : Tracer) (b : ℕ) (nothing : s.held ≡ Nothing) (i : HasGlyph b) where
+  character : events_from s.held (b ∷ []) ≡ Print b ∷ []
+  character = ap (λ (h : Held). events_from h (b ∷ [])) nothing ∙ glyph_events law b i
 
-  whole_character : (s : State) (b : ℕ) → s.held ≡ Nothing → cuts_off s.held b ≡ false
-  whole_character s b nothing = ap (λ (h : Held). cuts_off h b) nothing
+  still : held_from s.held (b ∷ []) ≡ Nothing
+  still = ap (λ (h : Held). held_from h (b ∷ [])) nothing ∙ glyph_held law b i
 
-  has_event : (s : State) (b : ℕ) → s.held ≡ Nothing → HasGlyph b → ends_silent s.held b ≡ false
-  has_event s b nothing i =
-      ap (λ (es : List Event). is_empty es && is_nothing (held_from s.held (b ∷ []))) (character_events s b nothing i)
+  whole_character : cuts_off s.held b ≡ false
+  whole_character = ap (λ (h : Held). cuts_off h b) nothing
 
-  pub traced_character : (s : State) (t : Tracer) (b : ℕ) → s.held ≡ Nothing → HasGlyph b
-      → traced s t b ≡ text_of t.in_text t.place b
-  traced_character s t b nothing i =
-      event_traced s t b (whole_character s b nothing) (has_event s b nothing i)
-      ∙ ap (λ (es : List Event). written_all t.in_text (place_of t.place (item_place t s.held b) b) es s.display)
-      (character_events s b nothing i)
+  has_event : ends_silent s.held b ≡ false
+  has_event = ap (λ (es : List Event). is_empty es && is_nothing (held_from s.held (b ∷ []))) character
+
+  pub traced_character : traced s t b ≡ text_of t.in_text t.place b
+  unfolding traced
+  traced_character =
+      ap (λ (l : List ℕ). l ++ written_all (goes_on t s.held b) (place_of t.place (item_place t s.held b) b) (events_from s.held (b ∷ [])) s.display)
+      (none_skipped t s.held b whole_character has_event)
+      ∙ ap (λ (v : Bool). written_all v (place_of t.place (item_place t s.held b) b) (events_from s.held (b ∷ [])) s.display)
+      (still_on t s.held b whole_character has_event)
+      ∙ ap (λ (es : List Event). written_all t.in_text (place_of t.place (item_place t s.held b) b) es s.display) character
       ∙ text_written t.in_text t.place b s.display (place_of t.place (item_place t s.held b) b) i refl
 
-  pub tracer_character : (s : State) (t : Tracer) (b : ℕ) → s.held ≡ Nothing → HasGlyph b
-      → tracer_after s t b ≡ made t.place (t.place + 1) true
-  tracer_character s t b nothing i =
-      tracer_between s t b (whole_character s b nothing) (has_event s b nothing i)
-      (ap (λ (h : Held). held_from h (b ∷ [])) nothing ∙ glyph_held law b i)
-      ∙ ap (λ (h : Held). made (item_place t h b) (t.place + 1) (text_after t.in_text (events_from s.held (b ∷ [])))) nothing
-      ∙ ap (λ (es : List Event). made t.place (t.place + 1) (text_after t.in_text es)) (character_events s b nothing i)
-      ∙ ap (λ (v : Bool). made t.place (t.place + 1) v) (glyph-text t.in_text b i)
+  pub tracer_character : tracer_after s t b ≡ made t.place (t.place + 1) true
+  unfolding with_text
+  tracer_character =
+      event_skim s t b (Print b) character
+      ∙ ap (λ (u : Tracer). with_text (not (has_no_glyph b)) u)
+      (skim_between s.held t b whole_character has_event still
+      ∙ ap (λ (h : Held). made (item_place t h b) (t.place + 1) t.in_text) nothing)
+      ∙ ap (λ (v : Bool). made t.place (t.place + 1) v) (ap not (has-glyph b i))
 
-  traced_shown : (s : State) (t : Tracer) (b : ℕ) → s.held ≡ Nothing → IsShown b
-      → traced s t b ≡ text_of t.in_text t.place b
-  traced_shown s t b nothing i = traced_character s t b nothing (shown-glyph b i)
+  pub next_nothing : (play s (b ∷ [])).state.held ≡ Nothing
+  unfolding play
+  next_nothing = still
 
-  tracer_shown : (s : State) (t : Tracer) (b : ℕ) → s.held ≡ Nothing → IsShown b
-      → tracer_after s t b ≡ made t.place (t.place + 1) true
-  tracer_shown s t b nothing i = tracer_character s t b nothing (shown-glyph b i)
-
+module _ (law : SpellingLaw) where
   -- a text
-  pub tracer_text : (s : State) (t : Tracer) (b : ℕ) (run : List ℕ) → s.held ≡ Nothing → All IsShown (b ∷ run)
+  pub tracer_text : (s : State) (t : Tracer) (b : ℕ) (run : List ℕ) → s.held ≡ Nothing → All HasGlyph (b ∷ run)
       → tracer_all s t (b ∷ run) ≡ made (t.place + length run) (t.place + length run + 1) true
   unfolding tracer_all
   tracer_text s t b [] nothing all =
-      tracer_shown s t b nothing (all 0 0 (omega arith)) ∙ same_tracer t.place (t.place + 0) (t.place + 1) (t.place + 0 + 1) true
-      (omega arith) (omega arith)
+      tracer_character law s t b nothing (all 0 0 (omega arith))
+      ∙ same_tracer t.place (t.place + 0) (t.place + 1) (t.place + 0 + 1) true (omega arith) (omega arith)
   tracer_text s t b (c ∷ run) nothing all =
-      let first : IsShown b = all 0 0 (omega arith) in
+      let first : HasGlyph b = all 0 0 (omega arith) in
       let u : Tracer = made t.place (t.place + 1) true in
-      ap (λ (u : Tracer). tracer_all (play s (b ∷ [])).state u (c ∷ run)) (tracer_shown s t b nothing first)
-      ∙ tracer_text (play s (b ∷ [])).state u c run (still_nothing law s b nothing first) (tail_of_all b (c ∷ run) all)
+      ap (λ (u : Tracer). tracer_all (play s (b ∷ [])).state u (c ∷ run)) (tracer_character law s t b nothing first)
+      ∙ tracer_text (play s (b ∷ [])).state u c run (next_nothing law s t b nothing first) (tail_of_all b (c ∷ run) all)
       ∙ same_tracer (t.place + 1 + length run) (t.place + length (c ∷ run)) (t.place + 1 + length run + 1)
       (t.place + length (c ∷ run) + 1) true (omega arith) (omega arith)
 
   -- on a text that goes on
-  trace_on : (s : State) (t : Tracer) (run : List ℕ) → s.held ≡ Nothing → t.in_text ≡ true → All IsShown run
-      → trace s t run ≡ run
+  trace_on : (s : State) (t : Tracer) (run : List ℕ) → s.held ≡ Nothing → t.in_text ≡ true → All HasGlyph run
+      → trace s t run ≡ shown run
   unfolding trace
   trace_on s t [] nothing text all = refl
   trace_on s t (b ∷ run) nothing text all =
-      let first : IsShown b = all 0 0 (omega arith) in
+      let first : HasGlyph b = all 0 0 (omega arith) in
       let u : Tracer = made t.place (t.place + 1) true in
       ap (λ (l : List ℕ). l ++ trace (play s (b ∷ [])).state (tracer_after s t b) run)
-      (traced_shown s t b nothing first ∙ ap (λ (v : Bool). text_of v t.place b) text ∙ shown-itself b first)
-      ∙ ap (λ (u : Tracer). b ∷ trace (play s (b ∷ [])).state u run) (tracer_shown s t b nothing first)
-      ∙ ap (λ (l : List ℕ). b ∷ l)
-      (trace_on (play s (b ∷ [])).state u run (still_nothing law s b nothing first) refl (tail_of_all b run all))
+      (traced_character law s t b nothing first ∙ ap (λ (v : Bool). text_of v t.place b) text)
+      ∙ ap (λ (u : Tracer). shown_byte b ++ trace (play s (b ∷ [])).state u run) (tracer_character law s t b nothing first)
+      ∙ ap (λ (l : List ℕ). shown_byte b ++ l)
+      (trace_on (play s (b ∷ [])).state u run (next_nothing law s t b nothing first) refl (tail_of_all b run all))
 
-  pub trace_text : (s : State) (t : Tracer) (b : ℕ) (run : List ℕ) → s.held ≡ Nothing → All IsShown (b ∷ run)
-      → trace s t (b ∷ run) ≡ text_begin t.in_text t.place ++ b ∷ run
+  pub trace_text : (s : State) (t : Tracer) (b : ℕ) (run : List ℕ) → s.held ≡ Nothing → All HasGlyph (b ∷ run)
+      → trace s t (b ∷ run) ≡ text_begin t.in_text t.place ++ shown (b ∷ run)
   unfolding trace
   trace_text s t b run nothing all =
-      let first : IsShown b = all 0 0 (omega arith) in
+      let first : HasGlyph b = all 0 0 (omega arith) in
       let u : Tracer = made t.place (t.place + 1) true in
       ap (λ (l : List ℕ). l ++ trace (play s (b ∷ [])).state (tracer_after s t b) run)
-      (traced_shown s t b nothing first ∙ ap (λ (l : List ℕ). text_begin t.in_text t.place ++ l) (shown-itself b first))
-      ∙ ap (λ (u : Tracer). (text_begin t.in_text t.place ++ b ∷ []) ++ trace (play s (b ∷ [])).state u run)
-      (tracer_shown s t b nothing first)
-      ∙ ap (λ (l : List ℕ). (text_begin t.in_text t.place ++ b ∷ []) ++ l)
-      (trace_on (play s (b ∷ [])).state u run (still_nothing law s b nothing first) refl (tail_of_all b run all))
-      ∙ append_assoc (text_begin t.in_text t.place) (b ∷ []) run
+      (traced_character law s t b nothing first)
+      ∙ ap (λ (u : Tracer). text_of t.in_text t.place b ++ trace (play s (b ∷ [])).state u run)
+      (tracer_character law s t b nothing first)
+      ∙ ap (λ (l : List ℕ). text_of t.in_text t.place b ++ l)
+      (trace_on (play s (b ∷ [])).state u run (next_nothing law s t b nothing first) refl (tail_of_all b run all))
+      ∙ append_assoc (text_begin t.in_text t.place) (shown_byte b) (shown run)
 
 -- ---- events
 
@@ -285,8 +294,19 @@ not_ended h b other =
 pub event_ends : (h : Held) (b : ℕ) (e : Event) → events_from h (b ∷ []) ≡ e ∷ [] → ends_silent h b ≡ false
 event_ends h b e is = ap (λ (es : List Event). is_empty es && is_nothing (held_from h (b ∷ []))) is
 
-abbrev one_written : State → Tracer → ℕ → ℕ → ℕ → Event → List ℕ
-one_written s t place begin last e = written t.in_text (place_of place begin last e) e (report e s.display)
+one_on : (b place : ℕ) (rest : List ℕ) → place + 1 + length rest ≡ place + length (b ∷ rest)
+one_on b place rest = omega arith
+
+some_more : (front : List ℕ) (last : ℕ) → 1 ≤ length (front ++ last ∷ [])
+some_more [] last = omega arith
+some_more (x ∷ front) last = omega arith
+
+pub no_one : (b : ℕ) (front : List ℕ) (last : ℕ) → length (b ∷ (front ++ last ∷ [])) ≡ 1 → ⊥
+no_one b front last one = let some = some_more front last in omega (arith, some, one)
+
+last_plain : (front : List ℕ) (last : ℕ) → All IsPlain (front ++ last ∷ []) → IsPlain last
+last_plain [] last all = all 0 0 (omega arith)
+last_plain (x ∷ front) last all = last_plain front last (tail_of_plain x (front ++ last ∷ []) all)
 
 module _ (law : SpellingLaw) (split : SplitLaw) where
   -- plain bytes that give another event than a character aren't read between sequences
@@ -299,67 +319,9 @@ module _ (law : SpellingLaw) (split : SplitLaw) where
       ap first_graphic (sym printed ∙ ap (λ (k : Held). events_from k (front ++ last ∷ [])) (sym is) ∙ events) in
       no_true (sym (graphic_first front last) ∙ first ∙ other)
 
-  -- a byte without an event, inside an item
-  quiet_traced : (s : State) (t : Tracer) (b : ℕ) → cuts_off s.held b ≡ false → ends_silent s.held b ≡ false
-      → events_from s.held (b ∷ []) ≡ [] → traced s t b ≡ []
-  quiet_traced s t b whole inner none =
-      event_traced s t b whole inner
-      ∙ ap (λ (es : List Event). written_all t.in_text (place_of t.place (item_place t s.held b) b) es s.display) none
-
-  quiet_text : (s : State) (t : Tracer) (b : ℕ) → cuts_off s.held b ≡ false → ends_silent s.held b ≡ false
-      → events_from s.held (b ∷ []) ≡ [] → (tracer_after s t b).in_text ≡ t.in_text
-  quiet_text s t b whole inner none =
-      event_text s t b whole inner ∙ ap (λ (es : List Event). text_after t.in_text es) none
-
-  quiet_begin : (s : State) (t : Tracer) (b : ℕ) → (tracer_after s t b).begin ≡ item_place t s.held b
-  unfolding tracer_after
-  quiet_begin s t b = refl
-
-  quiet_place : (s : State) (t : Tracer) (b n : ℕ) → (tracer_after s t b).place + n ≡ t.place + suc n
-  unfolding tracer_after
-  quiet_place s t b n = omega arith
-
   quiet_display : (s : State) (b : ℕ) → events_from s.held (b ∷ []) ≡ [] → (play s (b ∷ [])).state.display ≡ s.display
   unfolding play
   quiet_display s b none = ap (λ (es : List Event). after_events es s.display) none
-
-  -- the byte that completes an event
-  last_traced : (s : State) (t : Tracer) (b begin : ℕ) (e : Event) → cuts_off s.held b ≡ false
-      → events_from s.held (b ∷ []) ≡ e ∷ [] → item_place t s.held b ≡ begin
-      → trace s t (b ∷ []) ≡ one_written s t t.place begin b e
-  unfolding trace
-  last_traced s t b begin e whole events at =
-      append-nil (traced s t b) ∙ event_traced s t b whole (event_ends s.held b e events)
-      ∙ ap (λ n. written_all t.in_text (place_of t.place n b) (events_from s.held (b ∷ [])) s.display) at
-      ∙ ap (λ (es : List Event). written_all t.in_text (place_of t.place begin b) es s.display) events
-      ∙ append-nil (one_written s t t.place begin b e)
-
-  last_tracer : (s : State) (t : Tracer) (b begin : ℕ) (e : Event) → cuts_off s.held b ≡ false
-      → events_from s.held (b ∷ []) ≡ e ∷ [] → held_from s.held (b ∷ []) ≡ Nothing → item_place t s.held b ≡ begin
-      → tracer_all s t (b ∷ []) ≡ made begin (t.place + 1) (is_text e)
-  unfolding tracer_all
-  last_tracer s t b begin e whole events none at =
-      tracer_between s t b whole (event_ends s.held b e events) none
-      ∙ ap (λ n. made n (t.place + 1) (text_after t.in_text (events_from s.held (b ∷ [])))) at
-      ∙ ap (λ (es : List Event). made begin (t.place + 1) (text_after t.in_text es)) events
-
-  -- what is written of the rest of an item, after a byte without an event
-  after_quiet : (s : State) (t : Tracer) (b begin last : ℕ) (n : ℕ) (e : Event) → cuts_off s.held b ≡ false
-      → ends_silent s.held b ≡ false → events_from s.held (b ∷ []) ≡ [] → item_place t s.held b ≡ begin
-      → one_written (play s (b ∷ [])).state (tracer_after s t b) ((tracer_after s t b).place + n) (tracer_after s t b).begin last e
-      ≡ one_written s t (t.place + suc n) begin last e
-  after_quiet s t b begin last n e whole inner none at =
-      let u : Tracer = tracer_after s t b in
-      ap (λ (d : Display). written u.in_text (place_of (u.place + n) u.begin last e) e (report e d)) (quiet_display s b none)
-      ∙ ap (λ (v : Bool). written v (place_of (u.place + n) u.begin last e) e (report e s.display)) (quiet_text s t b whole inner none)
-      ∙ ap (λ m. written t.in_text (place_of (u.place + n) m last e) e (report e s.display)) (quiet_begin s t b ∙ at)
-      ∙ ap (λ m. one_written s t m begin last e) (quiet_place s t b n)
-
-  tracer_after_quiet : (s : State) (t : Tracer) (b begin n : ℕ) (v : Bool) → item_place t s.held b ≡ begin
-      → made (tracer_after s t b).begin ((tracer_after s t b).place + n + 1) v ≡ made begin (t.place + suc n + 1) v
-  tracer_after_quiet s t b begin n v at =
-      ap (λ m. made m ((tracer_after s t b).place + n + 1) v) (quiet_begin s t b ∙ at)
-      ∙ ap (λ m. made begin (m + 1) v) (quiet_place s t b n)
 
   -- the parts of bytes that have one event, at their last byte
   pub first_quiet : (h : Held) (b : ℕ) (front : List ℕ) → events_from h (b ∷ front) ≡ [] → events_from h (b ∷ []) ≡ []
@@ -383,268 +345,260 @@ module _ (law : SpellingLaw) (split : SplitLaw) where
       → held_from (held_from h (b ∷ [])) rest ≡ Nothing
   rest_held h b rest none = sym (split.held_append h (b ∷ []) rest) ∙ none
 
-  -- bytes inside a sequence, up to its last
-  pub inside_traced : (front : List ℕ) (last : ℕ) (e : Event) (s : State) (t : Tracer) → All IsPlain (front ++ last ∷ [])
-      → is_graphic e ≡ false → events_from s.held front ≡ [] → events_from s.held (front ++ last ∷ []) ≡ e ∷ []
-      → trace s t (front ++ last ∷ []) ≡ one_written s t (t.place + length front) t.begin last e
+  -- bytes without an event
+  pub quiet_lines : (s : State) (t : Tracer) (bytes : List ℕ) → events_from s.held bytes ≡ []
+      → trace s t bytes ≡ skipped_all s.held t bytes
   unfolding trace play
-  inside_traced [] last e s t all other none events =
-      let inside = not_between [] last e s.held all other events in
-      let plain = all 0 0 (omega arith) in
-      last_traced s t last t.begin e (not_cut s.held last inside plain) events
-      (ap (λ (v : Bool). cond v t.place t.begin) (not_begins s.held last inside plain))
-      ∙ ap (λ n. one_written s t n t.begin last e) (sym (add-zero t.place))
-  inside_traced (b ∷ front) last e s t all other none events =
+  quiet_lines s t [] none = refl
+  quiet_lines s t (b ∷ bytes) none =
       let next : State = (play s (b ∷ [])).state in
-      let here = first_quiet s.held b front none in
-      let whole = rest_event s.held b (front ++ last ∷ []) e here events in
-      let rest = tail_of_plain b (front ++ last ∷ []) all in
-      let inside = not_between (b ∷ front) last e s.held all other events in
-      let plain = all 0 0 (omega arith) in
-      let uncut = not_cut s.held b inside plain in
-      let inner = not_ended s.held b (not_between front last e next.held rest other whole) in
-      let u : Tracer = tracer_after s t b in
-      ap (λ (l : List ℕ). l ++ trace next u (front ++ last ∷ [])) (quiet_traced s t b uncut inner here)
-      ∙ inside_traced front last e next u rest other (rest_quiet s.held b front none) whole
-      ∙ after_quiet s t b t.begin last (length front) e uncut inner here
-      (ap (λ (v : Bool). cond v t.place t.begin) (not_begins s.held b inside plain))
+      let here = first_quiet s.held b bytes none in
+      ap (λ (l : List ℕ). l ++ trace next (tracer_after s t b) bytes) (quiet_line s t b here)
+      ∙ ap (λ (u : Tracer). skipped t s.held b ++ trace next u bytes) (quiet_skim s t b here)
+      ∙ ap (λ (l : List ℕ). skipped t s.held b ++ l)
+      (quiet_lines next (skim s.held t b) bytes (rest_quiet s.held b bytes none))
 
-  pub inside_tracer : (front : List ℕ) (last : ℕ) (e : Event) (s : State) (t : Tracer) → All IsPlain (front ++ last ∷ [])
-      → is_graphic e ≡ false → events_from s.held front ≡ [] → events_from s.held (front ++ last ∷ []) ≡ e ∷ []
-      → held_from s.held (front ++ last ∷ []) ≡ Nothing
-      → tracer_all s t (front ++ last ∷ []) ≡ made t.begin (t.place + length front + 1) (is_text e)
+  pub quiet_tracer : (s : State) (t : Tracer) (bytes : List ℕ) → events_from s.held bytes ≡ []
+      → tracer_all s t bytes ≡ skimmed s.held t bytes
   unfolding tracer_all play
-  inside_tracer [] last e s t all other none events ends =
-      let inside = not_between [] last e s.held all other events in
-      let plain = all 0 0 (omega arith) in
-      last_tracer s t last t.begin e (not_cut s.held last inside plain) events ends
-      (ap (λ (v : Bool). cond v t.place t.begin) (not_begins s.held last inside plain))
-      ∙ ap (λ n. made t.begin (n + 1) (is_text e)) (sym (add-zero t.place))
-  inside_tracer (b ∷ front) last e s t all other none events ends =
+  quiet_tracer s t [] none = refl
+  quiet_tracer s t (b ∷ bytes) none =
       let next : State = (play s (b ∷ [])).state in
-      let here = first_quiet s.held b front none in
-      let whole = rest_event s.held b (front ++ last ∷ []) e here events in
-      let rest = tail_of_plain b (front ++ last ∷ []) all in
-      let inside = not_between (b ∷ front) last e s.held all other events in
-      let plain = all 0 0 (omega arith) in
-      inside_tracer front last e next (tracer_after s t b) rest other (rest_quiet s.held b front none) whole
-      (rest_held s.held b (front ++ last ∷ []) ends)
-      ∙ tracer_after_quiet s t b t.begin (length front) (is_text e)
-      (ap (λ (v : Bool). cond v t.place t.begin) (not_begins s.held b inside plain))
+      let here = first_quiet s.held b bytes none in
+      ap (λ (u : Tracer). tracer_all next u bytes) (quiet_skim s t b here)
+      ∙ quiet_tracer next (skim s.held t b) bytes (rest_quiet s.held b bytes none)
 
-  -- an event between sequences: its first byte, and plain ones
-  pub one_traced : (front : List ℕ) (last : ℕ) (e : Event) (s : State) (t : Tracer) → s.held ≡ Nothing
-      → All IsPlain (drop 1 (front ++ last ∷ [])) → IsOne front last e
-      → trace s t (front ++ last ∷ []) ≡ one_written s t (t.place + length front) t.place last e
+  -- bytes of which the last completes an event
+  one_lines : (front : List ℕ) (last : ℕ) (e : Event) (s : State) (t : Tracer) → events_from s.held front ≡ []
+      → events_from s.held (front ++ last ∷ []) ≡ e ∷ []
+      → trace s t (front ++ last ∷ []) ≡ skipped_all s.held t (front ++ last ∷ [])
+      ++ told_at s.display (skimmed s.held t (front ++ last ∷ [])) last e
   unfolding trace play
-  one_traced [] last e s t nothing all one =
-      last_traced s t last t.place e (ap (λ (h : Held). cuts_off h last) nothing)
-      (ap (λ (h : Held). events_from h (last ∷ [])) nothing ∙ one.events) (ap (λ (h : Held). item_place t h last) nothing)
-      ∙ ap (λ n. one_written s t n t.place last e) (sym (add-zero t.place))
-  one_traced (b ∷ front) last e s t nothing all one =
+  one_lines [] last e s t none events =
+      append-nil (traced s t last) ∙ event_line_of s t last e events
+      ∙ ap (λ (l : List ℕ). l ++ told_at s.display (skim s.held t last) last e) (sym (append-nil (skipped t s.held last)))
+  one_lines (b ∷ front) last e s t none events =
       let next : State = (play s (b ∷ [])).state in
-      let none = ap (λ (h : Held). events_from h (b ∷ front)) nothing ∙ one.silent in
-      let events = ap (λ (h : Held). events_from h (b ∷ (front ++ last ∷ []))) nothing ∙ one.events in
+      let u : Tracer = skim s.held t b in
+      let rest : List ℕ = front ++ last ∷ [] in
       let here = first_quiet s.held b front none in
-      let whole = rest_event s.held b (front ++ last ∷ []) e here events in
-      let uncut = ap (λ (h : Held). cuts_off h b) nothing in
-      let inner = not_ended s.held b (not_between front last e next.held all one.other whole) in
-      let u : Tracer = tracer_after s t b in
-      ap (λ (l : List ℕ). l ++ trace next u (front ++ last ∷ [])) (quiet_traced s t b uncut inner here)
-      ∙ inside_traced front last e next u all one.other (rest_quiet s.held b front none) whole
-      ∙ after_quiet s t b t.place last (length front) e uncut inner here (ap (λ (h : Held). item_place t h b) nothing)
+      ap (λ (l : List ℕ). l ++ trace next (tracer_after s t b) rest) (quiet_line s t b here)
+      ∙ ap (λ (w : Tracer). skipped t s.held b ++ trace next w rest) (quiet_skim s t b here)
+      ∙ ap (λ (l : List ℕ). skipped t s.held b ++ l)
+      (one_lines front last e next u (rest_quiet s.held b front none) (rest_event s.held b rest e here events)
+      ∙ ap (λ (d : Display). skipped_all next.held u rest ++ told_at d (skimmed next.held u rest) last e) (quiet_display s b here))
+      ∙ sym (append_assoc (skipped t s.held b) (skipped_all next.held u rest)
+      (told_at s.display (skimmed next.held u rest) last e))
 
-  pub one_tracer : (front : List ℕ) (last : ℕ) (e : Event) (s : State) (t : Tracer) → s.held ≡ Nothing
-      → All IsPlain (drop 1 (front ++ last ∷ [])) → IsOne front last e → held_from Nothing (front ++ last ∷ []) ≡ Nothing
-      → tracer_all s t (front ++ last ∷ []) ≡ made t.place (t.place + length front + 1) (is_text e)
+  one_tracer : (front : List ℕ) (last : ℕ) (e : Event) (s : State) (t : Tracer) → events_from s.held front ≡ []
+      → events_from s.held (front ++ last ∷ []) ≡ e ∷ []
+      → tracer_all s t (front ++ last ∷ []) ≡ with_text (is_text e) (skimmed s.held t (front ++ last ∷ []))
   unfolding tracer_all play
-  one_tracer [] last e s t nothing all one ends =
-      last_tracer s t last t.place e (ap (λ (h : Held). cuts_off h last) nothing)
-      (ap (λ (h : Held). events_from h (last ∷ [])) nothing ∙ one.events)
-      (ap (λ (h : Held). held_from h (last ∷ [])) nothing ∙ ends) (ap (λ (h : Held). item_place t h last) nothing)
-      ∙ ap (λ n. made t.place (n + 1) (is_text e)) (sym (add-zero t.place))
-  one_tracer (b ∷ front) last e s t nothing all one ends =
+  one_tracer [] last e s t none events = event_skim s t last e events
+  one_tracer (b ∷ front) last e s t none events =
       let next : State = (play s (b ∷ [])).state in
-      let none = ap (λ (h : Held). events_from h (b ∷ front)) nothing ∙ one.silent in
-      let events = ap (λ (h : Held). events_from h (b ∷ (front ++ last ∷ []))) nothing ∙ one.events in
+      let rest : List ℕ = front ++ last ∷ [] in
       let here = first_quiet s.held b front none in
-      let whole = rest_event s.held b (front ++ last ∷ []) e here events in
-      inside_tracer front last e next (tracer_after s t b) all one.other (rest_quiet s.held b front none) whole
-      (rest_held s.held b (front ++ last ∷ []) (ap (λ (h : Held). held_from h (b ∷ (front ++ last ∷ []))) nothing ∙ ends))
-      ∙ tracer_after_quiet s t b t.place (length front) (is_text e) (ap (λ (h : Held). item_place t h b) nothing)
+      ap (λ (w : Tracer). tracer_all next w rest) (quiet_skim s t b here)
+      ∙ one_tracer front last e next (skim s.held t b) (rest_quiet s.held b front none) (rest_event s.held b rest e here events)
 
--- ---- requests
+  -- inside a sequence nothing is skipped
+  inside_skipped : (front : List ℕ) (last : ℕ) (e : Event) (h : Held) (t : Tracer) → All IsPlain (front ++ last ∷ [])
+      → is_graphic e ≡ false → events_from h front ≡ [] → events_from h (front ++ last ∷ []) ≡ e ∷ []
+      → skipped_all h t (front ++ last ∷ []) ≡ []
+  inside_skipped [] last e h t all other none events =
+      let inside = not_between [] last e h all other events in
+      append-nil (skipped t h last)
+      ∙ none_skipped t h last (not_cut h last inside (all 0 0 (omega arith))) (event_ends h last e events)
+  inside_skipped (b ∷ front) last e h t all other none events =
+      let next = held_from h (b ∷ []) in
+      let rest : List ℕ = front ++ last ∷ [] in
+      let here = first_quiet h b front none in
+      let whole = rest_event h b rest e here events in
+      let after = tail_of_plain b rest all in
+      let inside = not_between (b ∷ front) last e h all other events in
+      let inner = not_ended h b (not_between front last e next after other whole) in
+      ap (λ (l : List ℕ). l ++ skipped_all next (skim h t b) rest)
+      (none_skipped t h b (not_cut h b inside (all 0 0 (omega arith))) inner)
+      ∙ inside_skipped front last e next (skim h t b) after other (rest_quiet h b front none) whole
 
-neither : (a b : Bool) → a || b ≡ false → (a ≡ false) × (b ≡ false)
-neither true b h = absurd cc
-neither false b h = (refl, h)
+  inside_skimmed : (front : List ℕ) (last : ℕ) (e : Event) (h : Held) (t : Tracer) → All IsPlain (front ++ last ∷ [])
+      → is_graphic e ≡ false → events_from h front ≡ [] → events_from h (front ++ last ∷ []) ≡ e ∷ []
+      → held_from h (front ++ last ∷ []) ≡ Nothing
+      → skimmed h t (front ++ last ∷ []) ≡ made t.begin (t.place + length (front ++ last ∷ [])) t.in_text
+  inside_skimmed [] last e h t all other none events ends =
+      let inside = not_between [] last e h all other events in
+      let plain = all 0 0 (omega arith) in
+      skim_between h t last (not_cut h last inside plain) (event_ends h last e events) ends
+      ∙ ap (λ (v : Bool). made (cond v t.place t.begin) (t.place + 1) t.in_text) (not_begins h last inside plain)
+  inside_skimmed (b ∷ front) last e h t all other none events ends =
+      let next = held_from h (b ∷ []) in
+      let rest : List ℕ = front ++ last ∷ [] in
+      let here = first_quiet h b front none in
+      let whole = rest_event h b rest e here events in
+      let after = tail_of_plain b rest all in
+      let inside = not_between (b ∷ front) last e h all other events in
+      let plain = all 0 0 (omega arith) in
+      let inner = not_ended h b (not_between front last e next after other whole) in
+      inside_skimmed front last e next (skim h t b) after other (rest_quiet h b front none) whole (rest_held h b rest ends)
+      ∙ ap (λ (v : Bool). made (item_place t h b) (t.place + 1 + length rest) v) (still_on t h b (not_cut h b inside plain) inner)
+      ∙ ap (λ (v : Bool). made (cond v t.place t.begin) (t.place + 1 + length rest) t.in_text) (not_begins h b inside plain)
+      ∙ ap (λ n. made t.begin n t.in_text) (one_on b t.place rest)
 
-pub quiet_event : (e : Event) (s : Display) → is_request e ≡ false → report e s ≡ []
-quiet_event (Print b) s h = refl
-quiet_event (Control b) s h = silent-control b s h
-quiet_event (Escape inter last) s h = refl
-quiet_event (Sequence marker params inter last) s h =
-    let both = neither (eqb last 0x63) (eqb last 0x6E) h in
-    silent-sequence marker inter last (first params.items) s both.0 both.1
+  -- an event that is an item by itself, between sequences
+  item_skipped : (front : List ℕ) (last : ℕ) (e : Event) (t : Tracer) → IsItem (front ++ last ∷ []) e
+      → events_from Nothing front ≡ [] → events_from Nothing (front ++ last ∷ []) ≡ e ∷ []
+      → skipped_all Nothing t (front ++ last ∷ []) ≡ []
+  item_skipped [] last e t is none events =
+      append-nil (skipped t Nothing last) ∙ none_skipped t Nothing last refl (event_ends Nothing last e events)
+  item_skipped (b ∷ front) last e t (inl one) none events = absurd (no_one b front last one)
+  item_skipped (b ∷ front) last e t (inr is) none events =
+      let next = held_from Nothing (b ∷ []) in
+      let rest : List ℕ = front ++ last ∷ [] in
+      let here = first_quiet Nothing b front none in
+      let whole = rest_event Nothing b rest e here events in
+      let inner = not_ended Nothing b (not_between front last e next is.1 is.0 whole) in
+      ap (λ (l : List ℕ). l ++ skipped_all next (skim Nothing t b) rest) (none_skipped t Nothing b refl inner)
+      ∙ inside_skipped front last e next (skim Nothing t b) is.1 is.0 (rest_quiet Nothing b front none) whole
+
+  item_skimmed : (front : List ℕ) (last : ℕ) (e : Event) (t : Tracer) → IsItem (front ++ last ∷ []) e
+      → events_from Nothing front ≡ [] → events_from Nothing (front ++ last ∷ []) ≡ e ∷ []
+      → held_from Nothing (front ++ last ∷ []) ≡ Nothing
+      → skimmed Nothing t (front ++ last ∷ []) ≡ made t.place (t.place + length (front ++ last ∷ [])) t.in_text
+  item_skimmed [] last e t is none events ends =
+      skim_between Nothing t last refl (event_ends Nothing last e events) ends
+  item_skimmed (b ∷ front) last e t (inl one) none events ends = absurd (no_one b front last one)
+  item_skimmed (b ∷ front) last e t (inr is) none events ends =
+      let next = held_from Nothing (b ∷ []) in
+      let rest : List ℕ = front ++ last ∷ [] in
+      let here = first_quiet Nothing b front none in
+      let whole = rest_event Nothing b rest e here events in
+      let inner = not_ended Nothing b (not_between front last e next is.1 is.0 whole) in
+      inside_skimmed front last e next (skim Nothing t b) is.1 is.0 (rest_quiet Nothing b front none) whole
+      (rest_held Nothing b rest ends)
+      ∙ ap (λ (v : Bool). made t.place (t.place + 1 + length rest) v) (still_on t Nothing b refl inner)
+      ∙ ap (λ n. made t.place n t.in_text) (one_on b t.place rest)
+
+  -- its last byte leaves nothing held
+  item_ends : (front : List ℕ) (last : ℕ) (e : Event) → IsItem (front ++ last ∷ []) e
+      → events_from Nothing front ≡ [] → events_from Nothing (front ++ last ∷ []) ≡ e ∷ []
+      → held_from Nothing (front ++ last ∷ []) ≡ Nothing
+  item_ends [] last e is none events = single_leaves last e events
+  item_ends (b ∷ front) last e (inl one) none events = absurd (no_one b front last one)
+  item_ends (b ∷ front) last e (inr is) none events =
+      let h = held_from Nothing (b ∷ front) in
+      let there = split.held_append Nothing (b ∷ front) (last ∷ []) in
+      let asked : events_from h (last ∷ []) ≡ e ∷ [] =
+      ap (λ (es : List Event). es ++ events_from h (last ∷ [])) (sym none)
+      ∙ sym (split.events_append Nothing (b ∷ front) (last ∷ [])) ∙ events in
+      there ∙ plain_leaves h last e (split.held_part (b ∷ front)) (last_plain front last is.1) asked
 
 -- ---- slices
-
-pub all_more : (xs : List ℕ) (n : ℕ) → n < length xs → IsShown (slice_index xs n) → All IsShown (take n xs)
-    → All IsShown (take (n + 1) xs)
-all_more xs n low here all =
-    rw (take_more xs n 0 low) (All-append IsShown (take n xs) (slice_index xs n ∷ []) all
-    (All-cons IsShown (slice_index xs n) [] here none_shown))
-  where
-    none_shown : All IsShown []
-    none_shown k d low = absurd (omega (arith, low))
 
 pub last_apart : (xs : List ℕ) → 1 ≤ length xs → take (length xs - 1) xs ++ slice_index xs (length xs - 1) ∷ [] ≡ xs
 last_apart xs some =
     let n : length xs - 1 + 1 ≡ length xs = omega (arith, some) in
     sym (take_more xs (length xs - 1) 0 (omega (arith, some))) ∙ ap (λ k. take k xs) n ∙ take-length xs
 
-pub front_long : (xs : List ℕ) → 1 ≤ length xs → length (take (length xs - 1) xs) ≡ length xs - 1
-front_long xs some = length-take (length xs - 1) xs ∙ omega (arith, some)
-
-pub part_of : (n : ℕ) (xs : List ℕ) → 1 ≤ n → n ≤ length xs → take (length (take n xs) - 1) (take n xs) ≡ take (n - 1) xs
-part_of n xs some within =
-    let len : length (take n xs) ≡ n = length-take n xs ∙ omega (arith, within) in
-    ap (λ k. take (k - 1) (take n xs)) len ∙ take-take (n - 1) n xs (omega arith)
-
 -- ---- functions
 
-pub text_lines : SpellingLaw → (s : State) (t : Tracer) (run old one two : List ℕ) → s.held ≡ Nothing → 1 ≤ length run
-    → All IsShown run → one ≡ old ++ text_begin t.in_text t.place → two ≡ one ++ run → two ≡ old ++ trace s t run
-text_lines law s t [] old one two nothing some all is then = absurd (omega (arith, some))
-text_lines law s t (b ∷ run) old one two nothing some all is then =
-    then ∙ ap (λ (l : List ℕ). l ++ b ∷ run) is ∙ append_assoc old (text_begin t.in_text t.place) (b ∷ run)
-    ∙ ap (λ (l : List ℕ). old ++ l) (sym (trace_text law s t b run nothing all))
-
-pub text_tracer : SpellingLaw → (s : State) (t : Tracer) (run : List ℕ) → s.held ≡ Nothing → 1 ≤ length run → All IsShown run
-    → made (t.place + (length run - 1)) (t.place + (length run - 1) + 1) true ≡ tracer_all s t run
-text_tracer law s t [] nothing some all = absurd (omega (arith, some))
-text_tracer law s t (b ∷ run) nothing some all =
-    same_tracer (t.place + (length (b ∷ run) - 1)) (t.place + length run) (t.place + (length (b ∷ run) - 1) + 1)
-    (t.place + length run + 1) true (omega arith) (omega arith)
-    ∙ sym (tracer_text law s t b run nothing all)
-
-module _ (law : SpellingLaw) (split : SplitLaw) (s : State) (t : Tracer) (item : List ℕ) (e : Event)
-    (nothing : s.held ≡ Nothing) (some : 1 ≤ length item) (events : events_from Nothing item ≡ e ∷ [])
-    (silent : events_from Nothing (take (length item - 1) item) ≡ []) (other : is_graphic e ≡ false)
-    (plain : All IsPlain (drop 1 item)) where
+module _ (law : SpellingLaw) (split : SplitLaw) (bytes : List ℕ) (e : Event) (some : 1 ≤ length bytes) where
   abbrev front : List ℕ
-  front = take (length item - 1) item
+  front = take (length bytes - 1) bytes
 
   abbrev last : ℕ
-  last = slice_index item (length item - 1)
+  last = slice_index bytes (length bytes - 1)
 
-  one_item : IsOne front last e
-  one_item = record {
-    other = other;
-    events = ap (λ (l : List ℕ). events_from Nothing l) (last_apart item some) ∙ events;
-    silent = silent;
-  }
+  whole : front ++ last ∷ [] ≡ bytes
+  whole = last_apart bytes some
 
-  plain_item : All IsPlain (drop 1 (front ++ last ∷ []))
-  plain_item = rw (last_apart item some) plain
+  -- an event that is an item by itself is passed
+  pub item_read : (t : Tracer) (h : Held) (old : List ℕ) → h ≡ Nothing → IsItem bytes e → Completes h bytes e
+      → AreRead h h t (made t.place (t.place + length bytes) t.in_text) bytes old old
+  item_read t h old nothing is one =
+      let events : events_from Nothing (front ++ last ∷ []) ≡ e ∷ [] =
+      ap (λ (l : List ℕ). events_from Nothing l) whole ∙ ap (λ (k : Held). events_from k bytes) (sym nothing) ∙ one.events in
+      let silent : events_from Nothing front ≡ [] = ap (λ (k : Held). events_from k front) (sym nothing) ∙ one.silent in
+      let item : IsItem (front ++ last ∷ []) e = rw whole is in
+      let ends = item_ends law split front last e item silent events in
+      record {
+        lines = sym (ap (λ (k : Held). old ++ skipped_all k t bytes) nothing
+            ∙ ap (λ (l : List ℕ). old ++ skipped_all Nothing t l) (sym whole)
+            ∙ ap (λ (l : List ℕ). old ++ l) (item_skipped law split front last e t item silent events) ∙ append-nil old);
+        tracer = sym (ap (λ (k : Held). skimmed k t bytes) nothing ∙ ap (λ (l : List ℕ). skimmed Nothing t l) (sym whole)
+            ∙ item_skimmed law split front last e t item silent events ends
+            ∙ ap (λ (l : List ℕ). made t.place (t.place + length l) t.in_text) whole);
+        held = nothing ∙ sym (ap (λ (k : Held). held_from k bytes) nothing
+            ∙ ap (λ (l : List ℕ). held_from Nothing l) (sym whole) ∙ ends);
+      }
 
-  pub event_lines : (place : ℕ) (old more : List ℕ) → is_request e ≡ false
-      → place ≡ place_of (t.place + (length item - 1)) t.place last e → more ≡ old ++ written t.in_text place e []
-      → more ≡ old ++ trace s t item
-  event_lines place old more quiet at then =
-      then ∙ ap (λ n. old ++ written t.in_text n e []) at
-      ∙ ap (λ n. old ++ written t.in_text (place_of (t.place + n) t.place last e) e []) (sym (front_long item some))
-      ∙ ap (λ (r : List ℕ). old ++ written t.in_text (place_of (t.place + length front) t.place last e) e r)
-      (sym (quiet_event e s.display quiet))
-      ∙ ap (λ (l : List ℕ). old ++ l) (sym (one_traced law split front last e s t nothing plain_item one_item))
-      ∙ ap (λ (l : List ℕ). old ++ trace s t l) (last_apart item some)
+  -- bytes that were read, and then the event
+  pub event_told : (s : State) (h k : Held) (t u : Tracer) (old mid new : List ℕ) (v : Bool)
+      → Completes h bytes e → (Completes h bytes e → AreRead h k t u bytes old mid)
+      → new ≡ mid ++ told_at s.display u last e → v ≡ is_text e
+      → h ≡ s.held → IsTold s bytes k t (with_text v u) old new
+  unfolding with_text play
+  event_told s h k t u old mid new v one reads told text is =
+      let read = reads one in
+      let events : events_from s.held (front ++ last ∷ []) ≡ e ∷ [] =
+      ap (λ (l : List ℕ). events_from s.held l) whole ∙ ap (λ (k : Held). events_from k bytes) (sym is) ∙ one.events in
+      let silent : events_from s.held front ≡ [] = ap (λ (k : Held). events_from k front) (sym is) ∙ one.silent in
+      let skips : skipped_all h t bytes ≡ skipped_all s.held t (front ++ last ∷ []) =
+      ap (λ (k : Held). skipped_all k t bytes) is ∙ ap (λ (l : List ℕ). skipped_all s.held t l) (sym whole) in
+      let skims : u ≡ skimmed s.held t (front ++ last ∷ []) =
+      read.tracer ∙ ap (λ (k : Held). skimmed k t bytes) is ∙ ap (λ (l : List ℕ). skimmed s.held t l) (sym whole) in
+      record {
+        held = read.held ∙ ap (λ (k : Held). held_from k bytes) is;
+        lines = told ∙ ap (λ (l : List ℕ). l ++ told_at s.display u last e) (read.lines ∙ ap (λ (l : List ℕ). old ++ l) skips)
+            ∙ append_assoc old (skipped_all s.held t (front ++ last ∷ [])) (told_at s.display u last e)
+            ∙ ap (λ (w : Tracer). old ++ (skipped_all s.held t (front ++ last ∷ []) ++ told_at s.display w last e)) skims
+            ∙ ap (λ (l : List ℕ). old ++ l) (sym (one_lines law split front last e s t silent events))
+            ∙ ap (λ (l : List ℕ). old ++ trace s t l) whole;
+        tracer = ap (λ (w : Bool). with_text w u) text ∙ ap (λ (w : Tracer). with_text (is_text e) w) skims
+            ∙ sym (one_tracer law split front last e s t silent events) ∙ ap (λ (l : List ℕ). tracer_all s t l) whole;
+      }
 
-  pub event_tracer : (v : Bool) → held_from Nothing item ≡ Nothing → v ≡ is_text e
-      → made t.place (t.place + (length item - 1) + 1) v ≡ tracer_all s t item
-  event_tracer v ends text =
-      ap (λ (w : Bool). made t.place (t.place + (length item - 1) + 1) w) text
-      ∙ ap (λ n. made t.place (t.place + n + 1) (is_text e)) (sym (front_long item some))
-      ∙ sym (one_tracer law split front last e s t nothing plain_item one_item
-      (ap (λ (l : List ℕ). held_from Nothing l) (last_apart item some) ∙ ends))
-      ∙ ap (λ (l : List ℕ). tracer_all s t l) (last_apart item some)
+-- what is held after bytes, one after another
+held_is : SplitLaw → (h : Held) (bytes : List ℕ) → IsHeldPart h → held_all h bytes ≡ held_from h bytes
+held_is split h [] part = sym (split.held_nil h part)
+held_is split h (b ∷ bytes) part =
+    held_is split (held_from h (b ∷ [])) bytes (split.held_part (spell h ++ b ∷ []))
+    ∙ sym (split.held_append h (b ∷ []) bytes)
 
--- ---- what is appended of a run and of an event
+-- bytes that were read one after another
+pub all_read : SplitLaw → (h k : Held) (t u : Tracer) (bytes rest old new : List ℕ) → rest ≡ [] → IsHeldPart h
+    → new ++ skipped_all k u rest ≡ old ++ skipped_all h t bytes → skimmed k u rest ≡ skimmed h t bytes
+    → held_all k rest ≡ held_all h bytes → AreRead h k t u bytes old new
+all_read split h k t u bytes rest old new none part lines tracer were = record {
+  lines = sym (append-nil new) ∙ ap (λ (l : List ℕ). new ++ skipped_all k u l) (sym none) ∙ lines;
+  tracer = ap (λ (l : List ℕ). skimmed k u l) (sym none) ∙ tracer;
+  held = ap (λ (l : List ℕ). held_all k l) (sym none) ∙ were ∙ held_is split h bytes part;
+}
 
-pub held_leads : (bytes : List ℕ) → held_from Nothing bytes ≡ Nothing → (s : State) → s.held ≡ Nothing
-    → (play s bytes).state.held ≡ Nothing
+-- bytes without an event
+pub part_told : SpellingLaw → SplitLaw → (s : State) (h k : Held) (t u : Tracer) (bytes old new : List ℕ)
+    → events_from s.held bytes ≡ [] → AreRead h k t u bytes old new → h ≡ s.held → IsTold s bytes k t u old new
 unfolding play
-held_leads bytes between s nothing = ap (λ (h : Held). held_from h bytes) nothing ∙ between
-
-plain_of : (run : List ℕ) → All IsShown run → All IsPlain run
-plain_of run all = λ k d low. let i = all k d low in (i.0, i.1)
-
-pub run_traces : SpellingLaw → (t : Tracer) (run old one two : List ℕ) → 1 ≤ length run → All IsShown run
-    → one ≡ old ++ text_begin t.in_text t.place → two ≡ one ++ run
-    → Traces t (made (t.place + (length run - 1)) (t.place + (length run - 1) + 1) true) run old two
-run_traces law t run old one two some all is then = record {
-  lines = λ s sound nothing. text_lines law s t run old one two nothing some all is then;
-  tracer = λ s sound nothing. text_tracer law s t run nothing some all;
-  between = held_leads run (law.all_plain_held run (plain_of run all));
+part_told law split s h k t u bytes old new none read is = record {
+  held = read.held ∙ ap (λ (k : Held). held_from k bytes) is;
+  lines = read.lines ∙ ap (λ (k : Held). old ++ skipped_all k t bytes) is
+      ∙ ap (λ (l : List ℕ). old ++ l) (sym (quiet_lines law split s t bytes none));
+  tracer = read.tracer ∙ ap (λ (k : Held). skimmed k t bytes) is ∙ sym (quiet_tracer law split s t bytes none);
 }
 
--- a character that a text may not show as itself
-pub character_traces : SpellingLaw → (t : Tracer) (b : ℕ) (old one two : List ℕ) → HasGlyph b
-    → one ≡ old ++ text_begin t.in_text t.place → two ≡ one ++ shown_byte b
-    → Traces t (made t.place (t.place + 1) true) (b ∷ []) old two
-unfolding trace tracer_all
-character_traces law t b old one two i is then = record {
-  lines = λ s sound nothing.
-      then ∙ ap (λ (l : List ℕ). l ++ shown_byte b) is ∙ append_assoc old (text_begin t.in_text t.place) (shown_byte b)
-      ∙ ap (λ (l : List ℕ). old ++ l)
-      (sym (append-nil (traced s t b) ∙ traced_character law s t b nothing i));
-  tracer = λ s sound nothing. sym (tracer_character law s t b nothing i);
-  between = held_leads (b ∷ []) (glyph_held law b i);
+-- characters
+pub run_told : SpellingLaw → SplitLaw → (s : State) (h : Held) (t : Tracer) (run old mid new : List ℕ) → 1 ≤ length run
+    → All HasGlyph run → s.held ≡ Nothing → mid ≡ old ++ text_begin t.in_text t.place → new ≡ mid ++ shown run
+    → h ≡ s.held
+    → IsTold s run h t (made (t.place + (length run - 1)) (t.place + (length run - 1) + 1) true) old new
+unfolding play
+run_told law split s h t [] old mid new some all nothing is then_so same = absurd (omega (arith, some))
+run_told law split s h t (b ∷ run) old mid new some all nothing is then_so same = record {
+  held = same ∙ nothing ∙ sym (ap (λ (h : Held). held_from h (b ∷ run)) nothing ∙ glyphs_held law split (b ∷ run) all);
+  lines = then_so ∙ ap (λ (l : List ℕ). l ++ shown (b ∷ run)) is
+      ∙ append_assoc old (text_begin t.in_text t.place) (shown (b ∷ run))
+      ∙ ap (λ (l : List ℕ). old ++ l) (sym (trace_text law s t b run nothing all));
+  tracer = same_tracer (t.place + (length (b ∷ run) - 1)) (t.place + length run) (t.place + (length (b ∷ run) - 1) + 1)
+      (t.place + length run + 1) true (omega arith) (omega arith)
+      ∙ sym (tracer_text law s t b run nothing all);
 }
-
-pub nothing_traced : SplitLaw → (t : Tracer) (old : List ℕ) → Traces t t [] old old
-unfolding trace tracer_all
-nothing_traced split t old = record {
-  lines = λ s sound nothing. sym (append-nil old);
-  tracer = λ s sound nothing. refl;
-  between = held_leads [] (split.held_nil Nothing nothing-held);
-}
-
-pub traces_more : Plays → Keeps → Lines → Tracers → (t u v : Tracer) (piece old out more : List ℕ) (at n : ℕ)
-    → Traces t u (take at piece) old out → Traces u v (take n (drop at piece)) out more
-    → Traces t v (take (at + n) piece) old more
-traces_more plays keeps lines tracers t u v piece old out more at n first second =
-    let front = take at piece in
-    let part = take n (drop at piece) in
-    rw (take-add at n piece) (record {
-      lines = λ s sound nothing. more-lines lines s (play s front).state t u front part old out more sound refl
-          (first.tracer s sound nothing) (first.lines s sound nothing)
-          (second.lines (play s front).state (keeps s front sound) (first.between s nothing));
-      tracer = λ s sound nothing. more-tracer tracers s (play s front).state t u v front part sound refl
-          (first.tracer s sound nothing) (second.tracer (play s front).state (keeps s front sound) (first.between s nothing));
-      between = λ s nothing. ap (λ (p : Played). p.state.held) (plays s front part)
-          ∙ second.between (play s front).state (first.between s nothing);
-    })
-
-pub traces_appended : (t u : Tracer) (bytes made old more : List ℕ) → Traces t u bytes [] made → more ≡ old ++ made
-    → Traces t u bytes old more
-traces_appended t u bytes made old more of then = record {
-  lines = λ s sound nothing. then ∙ ap (λ (l : List ℕ). old ++ l) (of.lines s sound nothing);
-  tracer = of.tracer;
-  between = of.between;
-}
-
--- an event that isn't a graphic byte has its line alone behind the end of a text
-written_other : (v : Bool) (place : ℕ) (e : Event) → is_graphic e ≡ false
-    → text_end v ++ event_line place e ≡ written v place e []
-written_other v place (Print b) other = absurd cc
-written_other v place (Control b) other = ap (λ (l : List ℕ). text_end v ++ l) (sym (append-nil (event_line place (Control b))))
-written_other v place (Escape inter final) other =
-    ap (λ (l : List ℕ). text_end v ++ l) (sym (append-nil (event_line place (Escape inter final))))
-written_other v place (Sequence marker params inter final) other =
-    ap (λ (l : List ℕ). text_end v ++ l) (sym (append-nil (event_line place (Sequence marker params inter final))))
-
-pub put_other : (v : Bool) (place : ℕ) (e : Event) (old one two : List ℕ) → is_graphic e ≡ false
-    → one ≡ old ++ text_end v → two ≡ one ++ event_line place e → two ≡ old ++ written v place e []
-put_other v place e old one two other is then =
-    then ∙ ap (λ (l : List ℕ). l ++ event_line place e) is ∙ append_assoc old (text_end v) (event_line place e)
-    ∙ ap (λ (l : List ℕ). old ++ l) (written_other v place e other)

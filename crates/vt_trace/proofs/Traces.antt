@@ -1,5 +1,5 @@
 -- The trace of bytes in chunks.
-use Rattle.std.proofs.Common.{◌≡◌, ℕ, List, [], ◌∷◌, ◌++◌, sym, ap, ◌∙◌, append_assoc, append-nil, ◌+◌, ◌-◌, add-zero, length, take, drop, length-drop, refl, slice_index, ◌≤◌, arith}
+use Rattle.std.proofs.Common.{◌≡◌, ℕ, List, [], ◌∷◌, ◌++◌, sym, ap, ◌∙◌, append_assoc, ◌+◌, ◌-◌, ◌≤◌, ◌<◌, add-zero, length, take, drop, length-drop, slice_index, arith}
 use Rattle.std.proofs.lemmas.List.{take_more}
 use Rattle.std.proofs.Math.Seq.{take-length}
 use Rattle.vt_term.specs.State.{State}
@@ -90,20 +90,11 @@ more-tracer tracers s u t v w front part i is was then =
     ∙ ap (λ (x : Tracer). tracer_all (play s front).state x part) was
     ∙ sym (tracers s t front part i)
 
--- ---- one byte
-
-pub byte_lines : (s : State) (t : Tracer) (b : ℕ) → traced s t b ≡ trace s t (b ∷ [])
-unfolding trace
-byte_lines s t b = sym (append-nil (traced s t b))
-
-pub byte_tracer : (s : State) (t : Tracer) (b : ℕ) → tracer_after s t b ≡ tracer_all s t (b ∷ [])
-unfolding tracer_all
-byte_tracer s t b = refl
-
--- no byte
-pub untouched : (s : State) (t u : Tracer) (bytes : List ℕ) (n : ℕ) → u ≡ tracer_all s t (take n bytes) → n ≡ 0 → u ≡ t
-unfolding tracer_all
-untouched s t u bytes n is none = is ∙ ap (λ k. tracer_all s t (take k bytes)) none
+-- all of a front is taken
+pub all_taken : (n k : ℕ) (piece : List ℕ) → n ≤ length (take k piece) → (n < length (take k piece) → ⊥)
+    → take n (take k piece) ≡ take k piece
+all_taken n k piece within all =
+    let e : n ≡ length (take k piece) = omega (arith, within, all) in rw e (take-length (take k piece))
 
 -- ---- the places
 

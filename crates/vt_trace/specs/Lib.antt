@@ -6,3 +6,4 @@ pub mod Trace
 pub mod Summary
 pub mod Counted
 pub mod Runs
+pub mod Observed

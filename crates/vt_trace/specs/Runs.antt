@@ -1,18 +1,12 @@
 -- Bytes that are traced at once. Contracts of private functions cite this, and no public clause does.
-use Rattle.std.specs.Prelude.{◌≡◌, ◌≢◌, ◌≤◌, ℕ, List, [], ◌∷◌, ◌++◌, Bool, true, false, ◌==◌, ◌||◌}
+use Rattle.std.specs.Prelude.{◌≡◌, ◌≢◌, ◌≤◌, ℕ, List, [], ◌∷◌, Bool, true, false, ◌==◌}
 use Rattle.std.specs.Prelude.{if◌then◌else◌, ◌+◌, ◌⊎◌, Option, Some, None, All, get_or, length, drop}
 use Rattle.vt_syntax.specs.Class.{IsPlain}
 use Rattle.vt_trace.specs.Summary.{counted}
 use Rattle.vt_syntax.specs.declared.event.Event.{Event}
 use Rattle.vt_syntax.specs.declared.event.Event.TheVariants.{Print, Control, Escape, Sequence}
 use Rattle.vt_syntax.specs.declared.held.Held.{Held}
-use Rattle.vt_syntax.specs.declared.held.Held.TheVariants.{Nothing}
-use Rattle.vt_syntax.specs.Held.{events_from}
-use Rattle.vt_term.specs.State.{State}
-use Rattle.vt_term.specs.Sound.{IsSound}
-use Rattle.vt_term.specs.Play.{play}
-use Rattle.vt_trace.specs.declared.tracing.Tracer.{Tracer}
-use Rattle.vt_trace.specs.Trace.{cuts_off, ends_silent, open_kind, ended_kind, trace, tracer_all}
+use Rattle.vt_trace.specs.Trace.{cuts_off, ends_silent, open_kind, ended_kind}
 
 -- a plain byte that a text shows as itself
 abbrev pub IsShown : ℕ → Type 0
@@ -23,29 +17,6 @@ is_graphic (Print b) = true
 is_graphic (Control b) = false
 is_graphic (Escape inter last) = false
 is_graphic (Sequence marker params inter last) = false
-
--- an event that can be a request for a report: DECID, DA and DSR
-abbrev pub is_request : Event → Bool
-is_request (Print b) = false
-is_request (Control b) = b == 0x9A
-is_request (Escape inter last) = false
-is_request (Sequence marker params inter last) = last == 0x63 || last == 0x6E
-
--- between sequences the bytes are this one event, which isn't a graphic byte and which the last of them completes
-pub record IsOne (front : List ℕ) (last : ℕ) (event : Event) : Type 0 where
-  pub other : is_graphic event ≡ false
-  pub events : events_from Nothing (front ++ last ∷ []) ≡ event ∷ []
-  pub silent : events_from Nothing front ≡ []
-
--- the tracer keeps nothing of an item
-abbrev pub IsIdle : Tracer → Type 0
-IsIdle t = (t.code ≡ 0) × (length t.first.items ≡ 0)
-
--- between sequences the bytes lead from a tracer to another, with what is appended, whatever the display is
-pub record Traces (before after : Tracer) (bytes old new : List ℕ) : Type 0 where
-  pub lines : (s : State) → IsSound s → s.held ≡ Nothing → new ≡ old ++ trace s before bytes
-  pub tracer : (s : State) → IsSound s → s.held ≡ Nothing → after ≡ tracer_all s before bytes
-  pub between : (s : State) → s.held ≡ Nothing → (play s bytes).state.held ≡ Nothing
 
 -- the kind of an item without a function: of one that is cut off, or of one that has ended
 abbrev pub step_kind : ℕ → (cut ended : Bool) → ℕ → List ℕ

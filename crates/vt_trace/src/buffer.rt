@@ -7,8 +7,8 @@ ghost use Rattle.vt_trace.specs.Lines.{shown_byte, shown, joined};
 use crate::bytes::hex_digit;
 use itoa::write_digits;
 
-/// The capacity for bytes that aren't appended yet.
-pub(crate) const BUFFER: usize = 2048;
+/// The capacity for a line and what its writers may write past its end.
+pub(crate) const BUFFER: usize = 256;
 
 /// The most digits of a number.
 const DIGITS: usize = 20;

@@ -3,11 +3,12 @@
 
 mod buffer;
 mod bytes;
-mod fronts;
 mod functions;
+mod items;
 pub mod laws;
 mod lines;
 mod names;
+mod observer;
 mod sequences;
 mod skipped;
 mod summary;
@@ -17,4 +18,4 @@ pub use lines::{LINE_LIMIT, push_line};
 pub use names::{is_ignored, name};
 pub use skipped::{First, SKIPPED_LIMIT};
 pub use summary::{SUMMARY_LIMIT, Summary};
-pub use tracing::{TRACE_LIMIT, Tracer, trace_byte, trace_end, trace_reserved};
+pub use tracing::{TRACE_LIMIT, Tracer, trace_end, trace_reserved};

@@ -1,18 +1,20 @@
 //! What is no event: the lines of items without a function.
-ghost use Rattle.std.specs.Prelude.{◌≡◌, ◌+◌, ◌≤◌, ◌++◌, [], ◌∷◌, ◌&&◌, ◌||◌, not, ℕ, List, length, take, if◌then◌else◌, IfSome};
-ghost use Rattle.std.specs.Prelude.{option_copied, vec_len, vec_capacity};
+ghost use Rattle.std.specs.Prelude.{◌≡◌, ◌+◌, ◌*◌, ◌^◌, ◌≤◌, ◌<◌, ◌++◌, [], ◌∷◌, ◌&&◌, ◌||◌, not, ℕ, List, length, take};
+ghost use Rattle.std.specs.Prelude.{if◌then◌else◌, IfSome, option_copied, vec_len, vec_capacity};
 ghost use Rattle.std.specs.Option.{option_to_list};
 ghost use Rattle.vt_syntax.specs.Event.{event_in, event_of};
 ghost use Rattle.vt_syntax.specs.Spelling.{IsEvent};
-ghost use Rattle.vt_trace.specs.Runs.{step_kind};
 ghost use Rattle.vt_syntax.specs.Held.{events_from, held_from};
+ghost use Rattle.vt_trace.specs.Runs.{step_kind};
+ghost use Rattle.vt_trace.specs.Observed.{AreRead, skim};
 ghost use Rattle.vt_trace.specs.Skipped.{kind_name, kind_column, first_column, skipped_line, is_empty};
-ghost use Rattle.vt_trace.specs.Trace.{item_place, is_nothing, is_string, cuts_off, ends_silent, item_first, code_after};
-ghost use Rattle.vt_trace.specs.Trace.{open_kind, ended_kind, open_lines, skipped_lines};
+ghost use Rattle.vt_trace.specs.Trace.{is_nothing, is_string, cuts_off, ends_silent, code_after, text_end};
+ghost use Rattle.vt_trace.specs.Trace.{open_kind, ended_kind, open_lines, skipped};
 
 use crate::bytes::{push_all_shown, push_bytes, push_number};
-use crate::tracing::{Tracer, begins, item_place, push_end};
+use crate::tracing::{Tracer, begins, push_end};
 use arrayvec::ArrayVec;
+use vt_syntax::laws::one_split;
 use vt_syntax::{EventKind, Held, Parser, Values};
 
 /// The kind of a sequence that is cut off.
@@ -54,15 +56,15 @@ pub(crate) struct Step {
     /// The event that the byte completes.
     pub(crate) event: Option<EventKind>,
     /// Whether the byte cuts off what was held.
-    cut: bool,
+    pub(crate) cut: bool,
     /// Whether the byte ends an item that has no function.
-    ended: bool,
+    pub(crate) ended: bool,
     /// The kind of that item.
     kind: u8,
     /// The C1 control that opened the string which is held after the byte, and 0 if none is.
     pub(crate) code: u8,
     /// Whether nothing is held after the byte.
-    is_between: bool,
+    pub(crate) is_between: bool,
 }
 
 impl Step {
@@ -108,54 +110,45 @@ pub(crate) fn read(code: u8, parser: &mut Parser, b: u8, values: &mut Values) ->
     }
 }
 
-/// The step of a byte in a trace, and the item that the byte belongs to.
-#[derive(Drop)]
-pub(crate) struct Found {
-    /// The step of the byte.
-    pub(crate) step: Step,
-    /// Where the item began.
-    pub(crate) begin: u64,
-    /// The first bytes of the item.
-    first: First,
-}
-
-impl Found {
-    /// Returns whether a text that is open before the byte may go on at its event.
-    pub(crate) fn goes_on(&self, in_text: bool) -> bool
-        ensures { result ≡ in_text && not (self.now.step.cut || self.now.step.ended) }
-    {
-        in_text && !(self.step.cut || self.step.ended)
-    }
-
-    /// Returns the first bytes of what is held after the byte.
-    pub(crate) fn kept(self) -> First
-        ensures { result.items ≡ if self.step.is_between then [] else self.first.items }
-    {
-        if self.step.is_between {
-            ArrayVec::new()
-        } else {
-            self.first
-        }
-    }
-}
-
-/// Reads a byte with a parser, and returns what is found of it.
-pub(crate) fn find(tracer: &Tracer, parser: &mut Parser, b: u8, values: &mut Values) -> Found
-    ensures event { event_in result.step.event values.new ≡ events_from parser.old (b ∷ []) }
-    ensures cut { result.step.cut ≡ cuts_off parser.old b }
-    ensures ended { result.step.ended ≡ ends_silent parser.old b }
-    ensures kind { result.step.kind ≡ ended_kind tracer.now.code parser.old b }
-    ensures code { result.step.code ≡ code_after tracer.now.code (is_string parser.old) (held_from parser.old (b ∷ [])) b }
-    ensures is_between { result.step.is_between ≡ is_nothing (held_from parser.old (b ∷ [])) }
-    ensures begin { result.begin ≡ item_place tracer.now parser.old b }
-    ensures first { result.first.items ≡ item_first tracer.now parser.old b }
+/// Reads a byte with a parser, and appends the line of the item without a function that the byte cuts off or ends. The
+/// event that the byte completes is left out.
+fn skip(tracer: &mut Tracer, parser: &mut Parser, b: u8, values: &mut Values, out: &mut Vec<u8>)
+    requires place { tracer.old.place + 1 < 2 ^ 64 }
+    requires room { vec_len out.old + SKIPPED_LIMIT ≤ vec_capacity out.old }
+    ensures lines { out.new.items ≡ out.old.items ++ skipped tracer.old parser.old b }
+    ensures tracer { tracer.new ≡ skim parser.old tracer.old b }
+    ensures held { parser.new ≡ held_from parser.old (b ∷ []) }
+    ensures bounded { vec_len out.new ≤ vec_len out.old + SKIPPED_LIMIT }
+    ensures capacity { vec_capacity out.old ≤ vec_capacity out.new }
 {
-    let begin = item_place(tracer, parser.held(), b);
-    let first = item_first(tracer, parser.held(), b);
-    Found {
-        step: read(tracer.code, parser, b, values),
-        begin,
-        first,
+    let begins = begins(parser.held(), b);
+    let step = read(tracer.code, parser, b, values);
+    push_cut(tracer, step.cut, out);
+    tracer.add(begins, b);
+    push_ended(tracer, &step, out);
+    tracer.step(&step);
+}
+
+/// Reads bytes with a parser, and appends the lines of the items without a function that they cut off or end. The events
+/// that they complete are left out.
+pub(crate) fn skip_all(
+    tracer: &mut Tracer,
+    parser: &mut Parser,
+    bytes: &[u8],
+    values: &mut Values,
+    out: &mut Vec<u8>,
+)
+    requires place { tracer.old.place + length bytes.now < 2 ^ 64 }
+    requires room { vec_len out.old + SKIPPED_LIMIT * length bytes.now ≤ vec_capacity out.old }
+    ensures read { AreRead parser.old parser.new tracer.old tracer.new bytes.now out.old.items out.new.items }
+    ensures place { tracer.new.place ≡ tracer.old.place + length bytes.now }
+    ensures bounded { vec_len out.new ≤ vec_len out.old + SKIPPED_LIMIT * length bytes.now }
+    ensures capacity { vec_capacity out.old ≤ vec_capacity out.new }
+{
+    one_split();
+    let _ = parser.held();
+    for b in bytes.iter() {
+        skip(tracer, parser, *b, values, out);
     }
 }
 
@@ -199,30 +192,6 @@ fn cuts_off(held: &Held, b: u8) -> bool
     !is_nothing(held) && (begins(held, b) || b == 0x1A)
 }
 
-/// Returns the first bytes of an item up to a byte of it.
-fn item_first(tracer: &Tracer, held: &Held, b: u8) -> First
-    ensures { result.items ≡ item_first tracer.now held.now b }
-{
-    if begins(held, b) {
-        with_one(&[], b)
-    } else {
-        with_one(tracer.first.as_slice(), b)
-    }
-}
-
-/// Returns bytes and one more, unless they are all that are kept.
-fn with_one(bytes: &[u8], b: u8) -> First
-    requires { length bytes.now ≤ 33 }
-    ensures { result.items ≡ take 33 (bytes.now ++ b ∷ []) }
-{
-    let mut first = ArrayVec::new();
-    let _ = first.try_extend_from_slice(bytes);
-    if bytes.len() < 33 {
-        first.push(b);
-    }
-    first
-}
-
 /// Returns the C1 control that opens the string which is held after a byte, and 0 if none is. `code` is that of a string
 /// that was held before.
 fn code_after(code: u8, in_string: bool, held: &Held, b: u8) -> u8
@@ -259,19 +228,31 @@ pub(crate) fn open_kind(code: u8) -> u8
     if code == 0 { CUT_SEQUENCE } else { code }
 }
 
-/// Appends what is written of the item that a byte cuts off or ends, if it has no function.
-pub(crate) fn push_skipped(tracer: &Tracer, found: &Found, out: &mut Vec<u8>)
+/// Appends what is written of what is held, if it is cut off.
+#[inline(always)]
+fn push_cut(tracer: &Tracer, cut: bool, out: &mut Vec<u8>)
     requires { vec_len out.old + SKIPPED_LIMIT ≤ vec_capacity out.old }
-    ensures items { out.new.items ≡ out.old.items
-        ++ skipped_lines tracer.now found.now.step.cut found.now.step.ended found.now.begin found.now.step.kind found.now.first.items }
-    ensures bounded { vec_len out.new ≤ vec_len out.old + SKIPPED_LIMIT }
+    ensures items { out.new.items ≡ out.old.items ++ (if cut then open_lines tracer.now else []) }
+    ensures bounded { vec_len out.new ≤ vec_len out.old + (if cut then 180 else 0) }
     ensures capacity { vec_capacity out.old ≤ vec_capacity out.new }
 {
-    if found.step.cut {
+    if cut {
         push_open(tracer, out);
-    } else if found.step.ended {
+    }
+}
+
+/// Appends what is written of the item without a function that a byte ends. The byte was added to it.
+#[inline(always)]
+fn push_ended(tracer: &Tracer, step: &Step, out: &mut Vec<u8>)
+    requires { vec_len out.old + (if step.now.cut then 0 else 180) ≤ vec_capacity out.old }
+    ensures items { out.new.items ≡ out.old.items ++ (if step.now.cut then [] else (if step.now.ended
+        then text_end tracer.now.in_text ++ skipped_line tracer.now.begin step.now.kind tracer.now.first.items else [])) }
+    ensures bounded { vec_len out.new ≤ vec_len out.old + (if step.now.cut then 0 else 180) }
+    ensures capacity { vec_capacity out.old ≤ vec_capacity out.new }
+{
+    if !step.cut && step.ended {
         push_end(tracer.in_text, out);
-        push_skipped_line(found.begin, found.step.kind, found.first.as_slice(), out);
+        push_skipped_line(tracer.begin, step.kind, tracer.first.as_slice(), out);
     }
 }
 

@@ -12,12 +12,12 @@ ghost use Rattle.vt_trace.specs.Summary.{optionally, intermediates, markers, ign
 ghost use Rattle.vt_trace.specs.Summary.{ignored_lines, named_lines};
 ghost use Rattle.vt_syntax.specs.Spelling.{IsEvent};
 ghost use Rattle.vt_trace.specs.Trace.{is_nothing, open_kind};
-ghost use Rattle.vt_trace.specs.Runs.{IsItem, times_at};
+ghost use Rattle.vt_trace.specs.Runs.{times_at};
 ghost use Rattle.vt_trace.specs.Counted.{AreCounts, HasCounted};
 
 use crate::bytes::{push_bytes, push_number, push_shown};
-use crate::fronts::{are_plain, is_print};
 use crate::functions::{FUNCTIONS, word_at};
+use crate::items::is_item;
 use crate::lines::push_kind;
 use crate::names::index;
 use crate::skipped::{kind_name, open_kind, read};
@@ -150,20 +150,6 @@ impl Summary {
             Some(open_kind(self.code))
         }
     }
-}
-
-/// Returns whether an event at the end of these bytes is one item with them: the event is a single byte, or it is no
-/// graphic byte and the bytes after the first are plain.
-#[inline(always)]
-fn is_item(kind: EventKind, item: &[u8]) -> bool
-    requires { 1 ≤ length item.now }
-    ensures { OnTrue result ((values : List ℕ) → IsItem item.now (event_of kind values)) }
-{
-    if item.len() == 1 {
-        return true;
-    }
-    let after = &item[1..];
-    !is_print(kind) && are_plain(after)
 }
 
 /// Counts an item without a function, if there is one.

@@ -1,27 +1,23 @@
 //! The trace of bytes that come in pieces.
-ghost use Rattle.std.specs.Prelude.{◌≡◌, ℕ, List, false, not, ◌+◌, ◌*◌, ◌^◌, ◌≤◌, ◌<◌, ◌++◌, [], ◌∷◌, length, take, vec_len, vec_capacity};
+ghost use Rattle.std.specs.Prelude.{◌≡◌, ℕ, List, not, ◌+◌, ◌-◌, ◌*◌, ◌^◌, ◌≤◌, ◌<◌, ◌++◌, [], ◌∷◌, ◌&&◌, ◌||◌, length, take, drop, vec_len, vec_capacity};
+ghost use Rattle.std.specs.Prelude.{if◌then◌else◌};
 ghost use Rattle.vt_syntax.specs.Event.{event_of};
-ghost use Rattle.vt_term.specs.Play.{play};
-ghost use Rattle.vt_glyph.specs.Invocation.{has_no_glyph};
-ghost use Rattle.vt_trace.specs.Lines.{shown};
-ghost use Rattle.vt_trace.specs.Trace.{begins, item_place, place_of, is_text, text_end, text_of, report_line, written, written_all};
-ghost use Rattle.vt_trace.specs.Trace.{text_after, tracer_at_start, between, traced, tracer_after, trace, tracer_all, end_lines};
-ghost use Rattle.vt_trace.specs.Lines.{event_line};
-ghost use Rattle.std.specs.Bool.{OnTrue};
-ghost use Rattle.vt_trace.specs.Runs.{IsIdle};
-ghost use Rattle.vt_syntax.specs.Event.{event_in};
+ghost use Rattle.vt_syntax.specs.Spelling.{IsEvent};
 ghost use Rattle.vt_syntax.specs.declared.event.Event.TheVariants.{Print};
-ghost use Rattle.vt_term.specs.State.{Display};
-ghost use Rattle.vt_term.specs.Play.{reports_of};
+ghost use Rattle.vt_glyph.specs.Invocation.{has_no_glyph};
+ghost use Rattle.vt_term.specs.Play.{play};
+ghost use Rattle.vt_term.specs.Reports.{report};
+ghost use Rattle.vt_trace.specs.Trace.{begins, place_of, is_text, text_begin, text_end, text_of, report_line, written};
+ghost use Rattle.vt_trace.specs.Trace.{tracer_at_start, between, trace, tracer_all, end_lines};
+ghost use Rattle.vt_trace.specs.Lines.{shown, event_line};
 
-use crate::buffer::BUFFER;
 use crate::bytes::{push_all_shown, push_bytes, push_number, push_shown};
-use crate::fronts::trace_front;
 use crate::laws::cuts;
 use crate::lines::push_line;
-use crate::skipped::{First, SKIPPED_LIMIT, find, push_open, push_skipped};
+use crate::observer::trace_front;
+use crate::skipped::{First, SKIPPED_LIMIT, Step, push_open};
 use arrayvec::ArrayVec;
-use vt_syntax::{EventKind, Held, Values};
+use vt_syntax::{EventKind, Held};
 use vt_term::Terminal;
 use vt_term::laws::cuts as play_cuts;
 
@@ -54,23 +50,61 @@ impl Tracer {
         }
     }
 
-    /// Returns whether it keeps nothing of an item.
-    pub(crate) fn is_idle(&self) -> bool
-        ensures { OnTrue result (IsIdle self.now) }
-    {
-        self.code == 0 && self.first.is_empty()
-    }
-
-    /// Goes on to a place after an item that has an event.
+    /// Goes on to a place, between items.
     #[inline(always)]
     pub(crate) fn pass(&mut self, place: u64, begin: u64, in_text: bool)
-        requires { IsIdle self.old }
-        ensures made { self.new ≡ between place begin in_text }
-        ensures idle { IsIdle self.new }
+        ensures { self.new ≡ between place begin in_text }
     {
         self.place = place;
         self.begin = begin;
         self.in_text = in_text;
+        self.code = 0;
+        self.first.clear();
+    }
+
+    /// Adds a byte to the item that it begins or goes on.
+    #[inline(always)]
+    pub(crate) fn add(&mut self, begins: bool, b: u8)
+        ensures { self.new ≡ record self.old {
+          begin = if begins then self.old.place else self.old.begin;
+          first = record { items = take 33 ((if begins then [] else self.old.first.items) ++ b ∷ []) };
+        } }
+    {
+        if begins {
+            self.begin = self.place;
+            self.first.clear();
+        }
+        add_byte(&mut self.first, b);
+    }
+
+    /// Goes on behind a byte that was added.
+    #[inline(always)]
+    pub(crate) fn step(&mut self, step: &Step)
+        requires { self.old.place + 1 < 2 ^ 64 }
+        ensures { self.new ≡ record {
+          place = self.old.place + 1;
+          begin = self.old.begin;
+          in_text = self.old.in_text && not (step.now.cut || step.now.ended);
+          code = step.now.code;
+          first = record { items = if step.now.is_between then [] else self.old.first.items };
+        } }
+    {
+        self.place += 1;
+        self.in_text = self.in_text && !(step.cut || step.ended);
+        self.code = step.code;
+        if step.is_between {
+            self.first.clear();
+        }
+    }
+}
+
+/// Appends a byte, unless there are all that are kept.
+#[inline(always)]
+fn add_byte(first: &mut First, b: u8)
+    ensures { first.new.items ≡ take 33 (first.old.items ++ b ∷ []) }
+{
+    if !first.is_full() {
+        first.push(b);
     }
 }
 
@@ -108,56 +142,6 @@ pub const TRACE_LIMIT: usize = SKIPPED_LIMIT + EVENT_LIMIT;
 
 const _: () = prove!(TRACE_LIMIT == 420);
 
-/// Plays a byte of the host, and appends its report to `reports` and its trace to `out`, in existing capacity.
-///
-/// The trace is the line of the event that the byte completes, with the place at which the event began. A report has a line
-/// after it. Characters one after another are one line with their text, which stays open until another event comes. If the
-/// byte ends a sequence or string that has no function, or cuts it off, the line of that comes first. `reports` has
-/// capacity for ten more bytes, and `out` for `TRACE_LIMIT`. Fewer than 2^64 - 1 bytes came before. It never fails, and it
-/// allocates nothing.
-pub fn trace_byte(
-    terminal: &mut Terminal,
-    tracer: &mut Tracer,
-    b: u8,
-    values: &mut Values,
-    reports: &mut Vec<u8>,
-    out: &mut Vec<u8>,
-)
-    requires place { tracer.old.place + 1 < 2 ^ 64 }
-    requires reports_room { vec_len reports.old + 10 ≤ vec_capacity reports.old }
-    requires room { vec_len out.old + TRACE_LIMIT ≤ vec_capacity out.old }
-    ensures state { terminal.new ≡ (play terminal.old (b ∷ [])).state }
-    ensures reports { reports.new.items ≡ reports.old.items ++ (play terminal.old (b ∷ [])).reports }
-    ensures lines { out.new.items ≡ out.old.items ++ traced terminal.old tracer.old b }
-    ensures tracer { tracer.new ≡ tracer_after terminal.old tracer.old b }
-    ensures reports_bounded { vec_len reports.new ≤ vec_len reports.old + 10 }
-    ensures bounded { vec_len out.new ≤ vec_len out.old + TRACE_LIMIT }
-    ensures reports_capacity { vec_capacity reports.old ≤ vec_capacity reports.new }
-    ensures capacity { vec_capacity out.old ≤ vec_capacity out.new }
-{
-    let found = find(tracer, &mut terminal.parser(), b, values);
-    push_skipped(tracer, &found, out);
-    let before = reports.len();
-    terminal.feed_reserved(&[b], reports);
-    let in_text = push_events(
-        tracer.place,
-        found.goes_on(tracer.in_text),
-        found.begin,
-        b,
-        found.step.event,
-        values.as_slice(),
-        &reports[before..],
-        out,
-    );
-    *tracer = Tracer {
-        place: tracer.place + 1,
-        begin: found.begin,
-        in_text,
-        code: found.step.code,
-        first: found.kept(),
-    };
-}
-
 /// Plays the front of a chunk of the host's bytes, and appends the reports to `reports` and the trace to `out`. Returns how
 /// many bytes it played.
 ///
@@ -186,20 +170,9 @@ pub fn trace_reserved(
     let _ = terminal.width();
     play_cuts();
     cuts();
-    let mut values = Values::new();
-    let mut buffer = [0; BUFFER];
     let mut at = 0;
     while at < chunk.len() && out.capacity() - out.len() >= TRACE_LIMIT {
-        let piece = &chunk[at..];
-        at += trace_front(
-            terminal,
-            tracer,
-            piece,
-            &mut values,
-            &mut buffer,
-            reports,
-            out,
-        );
+        at += trace_front(terminal, tracer, &chunk[at..], reports, out);
     }
     at
 }
@@ -218,53 +191,6 @@ pub fn trace_end(tracer: &Tracer, out: &mut Vec<u8>)
     } else {
         push_open(tracer, out);
     }
-}
-
-/// Returns the place at which the item of a byte began.
-pub(crate) fn item_place(tracer: &Tracer, held: &Held, b: u8) -> u64
-    ensures { result ≡ item_place tracer.now held.now b }
-{
-    if begins(held, b) {
-        tracer.place
-    } else {
-        tracer.begin
-    }
-}
-
-/// Appends what is to be written of the event that a byte completes, if it completes one. Returns whether the last line is then
-/// a text that may go on.
-fn push_events(
-    place: u64,
-    in_text: bool,
-    begin: u64,
-    b: u8,
-    event: Option<EventKind>,
-    values: &[u16],
-    report: &[u8],
-    out: &mut Vec<u8>,
-) -> bool
-    requires few { length values.now ≤ 16 }
-    requires short { length report.now ≤ 10 }
-    requires room { vec_len out.old + EVENT_LIMIT ≤ vec_capacity out.old }
-    ensures lines { (s : Display) → report.now ≡ reports_of (event_in event values.now) s
-        → out.new.items ≡ out.old.items
-        ++ written_all in_text (place_of place begin b) (event_in event values.now) s }
-    ensures text { result ≡ text_after in_text (event_in event values.now) }
-    ensures bounded { vec_len out.new ≤ vec_len out.old + EVENT_LIMIT }
-    ensures capacity { vec_capacity out.old ≤ vec_capacity out.new }
-{
-    let Some(kind) = event else {
-        return in_text;
-    };
-    push_event(
-        in_text,
-        place_of(place, begin, b, kind),
-        kind,
-        values,
-        report,
-        out,
-    );
-    is_text(kind)
 }
 
 /// Returns whether an event is a character.
@@ -287,28 +213,27 @@ fn has_glyph(b: u8) -> bool
     !(b != 0x20 && (b % 0x80 < 0x21 || b % 0x80 > 0x7E))
 }
 
-/// Appends what is to be written of an event with its report.
-#[inline(always)]
+/// Appends what is to be written of an event in the present display.
 pub(crate) fn push_event(
+    terminal: &Terminal,
     in_text: bool,
     place: u64,
     kind: EventKind,
     values: &[u16],
-    report: &[u8],
     out: &mut Vec<u8>,
 )
-    requires few { length values.now ≤ 16 }
-    requires short { length report.now ≤ 10 }
+    requires event { IsEvent (event_of kind values.now) }
     requires room { vec_len out.old + EVENT_LIMIT ≤ vec_capacity out.old }
-    ensures items { out.new.items ≡ out.old.items ++ written in_text place (event_of kind values.now) report.now }
+    ensures items { out.new.items ≡ out.old.items
+        ++ written in_text place (event_of kind values.now) (report (event_of kind values.now) terminal.now.display) }
     ensures bounded { vec_len out.new ≤ vec_len out.old + EVENT_LIMIT }
     ensures capacity { vec_capacity out.old ≤ vec_capacity out.new }
 {
     match kind {
         EventKind::Print(b) => push_print(in_text, place, b, out),
-        EventKind::Control(_) => push_other(in_text, place, kind, values, report, out),
-        EventKind::Escape { .. } => push_other(in_text, place, kind, values, report, out),
-        EventKind::Sequence { .. } => push_other(in_text, place, kind, values, report, out),
+        EventKind::Control(_) => push_other(terminal, in_text, place, kind, &[], out),
+        EventKind::Escape { .. } => push_other(terminal, in_text, place, kind, &[], out),
+        EventKind::Sequence { .. } => push_other(terminal, in_text, place, kind, values, out),
     }
 }
 
@@ -328,27 +253,27 @@ fn push_print(in_text: bool, place: u64, b: u8, out: &mut Vec<u8>)
     }
 }
 
-/// Appends the end of a text, the line of an event and that of its report.
+/// Appends the end of a text, the line of an event and that of its report in the present display.
 #[inline(always)]
 fn push_other(
+    terminal: &Terminal,
     in_text: bool,
     place: u64,
     kind: EventKind,
     values: &[u16],
-    report: &[u8],
     out: &mut Vec<u8>,
 )
     requires few { length values.now ≤ 16 }
-    requires short { length report.now ≤ 10 }
     requires room { vec_len out.old + EVENT_LIMIT ≤ vec_capacity out.old }
-    ensures items { out.new.items ≡ out.old.items
-        ++ (text_end in_text ++ (event_line place (event_of kind values.now) ++ report_line place report.now)) }
+    ensures items { out.new.items ≡ out.old.items ++ (text_end in_text
+        ++ (event_line place (event_of kind values.now)
+        ++ report_line place (report (event_of kind values.now) terminal.now.display))) }
     ensures bounded { vec_len out.new ≤ vec_len out.old + EVENT_LIMIT }
     ensures capacity { vec_capacity out.old ≤ vec_capacity out.new }
 {
     push_end(in_text, out);
     push_line(place, kind, values, out);
-    push_report(place, report, out);
+    push_report(terminal, place, kind, values, out);
 }
 
 /// Appends the end of a text, if the last line is one.
@@ -371,25 +296,66 @@ fn push_text(in_text: bool, place: u64, b: u8, out: &mut Vec<u8>)
     ensures bounded { vec_len out.new ≤ vec_len out.old + 30 }
     ensures capacity { vec_capacity out.old ≤ vec_capacity out.new }
 {
+    push_text_begin(in_text, place, out);
+    push_shown(b, out);
+}
+
+/// Appends the beginning of a text's line, unless the text goes on.
+#[inline(always)]
+pub(crate) fn push_text_begin(in_text: bool, place: u64, out: &mut Vec<u8>)
+    requires room { vec_len out.old + 26 ≤ vec_capacity out.old }
+    ensures items { out.new.items ≡ out.old.items ++ text_begin in_text place }
+    ensures bounded { vec_len out.new ≤ vec_len out.old + 26 }
+    ensures capacity { vec_capacity out.old ≤ vec_capacity out.new }
+{
     if !in_text {
         push_number(place, out);
         push_bytes(b"\ttext\t", out);
     }
-    push_shown(b, out);
 }
 
-/// Appends the line of a report, if there is one.
+/// Appends the line of an event's report in the present display, if it has one.
 #[inline(always)]
-fn push_report(place: u64, report: &[u8], out: &mut Vec<u8>)
+fn push_report(terminal: &Terminal, place: u64, kind: EventKind, values: &[u16], out: &mut Vec<u8>)
+    requires room { vec_len out.old + 70 ≤ vec_capacity out.old }
+    ensures items { out.new.items ≡ out.old.items
+        ++ report_line place (report (event_of kind values.now) terminal.now.display) }
+    ensures bounded { vec_len out.new ≤ vec_len out.old + 70 }
+    ensures capacity { vec_capacity out.old ≤ vec_capacity out.new }
+{
+    let before = out.len();
+    terminal.report_reserved(kind, values, out);
+    if out.len() > before {
+        show_report(place, before, out);
+    }
+}
+
+/// Writes the line of a report in the place of its bytes, which begin at a position.
+#[inline(never)]
+fn show_report(place: u64, before: usize, out: &mut Vec<u8>)
+    requires some { before < vec_len out.old }
+    requires short { vec_len out.old ≤ before + 10 }
+    requires room { before + 70 ≤ vec_capacity out.old }
+    ensures items { out.new.items ≡ take before out.old.items ++ report_line place (drop before out.old.items) }
+    ensures bounded { vec_len out.new ≤ before + 70 }
+    ensures capacity { vec_capacity out.old ≤ vec_capacity out.new }
+{
+    let mut bytes = [0; 10];
+    let count = out.len() - before;
+    bytes[..count].copy_from_slice(&out[before..]);
+    out.truncate(before);
+    push_report_line(place, &bytes[..count], out);
+}
+
+/// Appends the line of a report.
+fn push_report_line(place: u64, report: &[u8], out: &mut Vec<u8>)
+    requires some { 1 ≤ length report.now }
     requires short { length report.now ≤ 10 }
     requires room { vec_len out.old + 70 ≤ vec_capacity out.old }
     ensures items { out.new.items ≡ out.old.items ++ report_line place report.now }
     ensures bounded { vec_len out.new ≤ vec_len out.old + 70 }
     ensures capacity { vec_capacity out.old ≤ vec_capacity out.new }
 {
-    if report.is_empty() {
-        return;
-    }
     push_number(place, out);
     push_bytes(b"\treport\t", out);
     push_all_shown(report, out);

@@ -4,9 +4,8 @@ ghost use Rattle.std.specs.Prelude.{◌≤◌};
 use std::alloc::Global;
 use std::process::Abort;
 use std::test::Fail;
-use vt_syntax::Values;
 use vt_term::Terminal;
-use vt_trace::{SKIPPED_LIMIT, TRACE_LIMIT, Tracer, trace_byte, trace_end, trace_reserved};
+use vt_trace::{SKIPPED_LIMIT, TRACE_LIMIT, Tracer, trace_end, trace_reserved};
 
 /// Bytes, their trace from power-up, and what is written at their end.
 type Row = (&'static [u8], &'static [u8], &'static [u8]);
@@ -150,30 +149,6 @@ const TRACES: [Row; 25] = [
 /// The most bytes of a row, and no place is behind so many.
 const MOST: usize = 64;
 
-/// Returns whether the bytes have this trace, byte by byte.
-fn has_trace(alloc: Global, row: &Row) -> Result<bool, Fail> {
-    let mut terminal = Terminal::new(alloc)?;
-    let mut tracer = Tracer::new();
-    let mut values = Values::new();
-    let mut out = Vec::new(alloc);
-    for b in row.0.iter() {
-        if tracer.place > MOST as u64 {
-            return Ok(false);
-        }
-        let mut reports = Vec::with_capacity(alloc, 10)?;
-        out.reserve(TRACE_LIMIT)?;
-        trace_byte(
-            &mut terminal,
-            &mut tracer,
-            *b,
-            &mut values,
-            &mut reports,
-            &mut out,
-        );
-    }
-    Ok(out.as_slice() == row.1)
-}
-
 /// Returns whether the bytes have this trace with its end, in chunks of a size.
 fn has_trace_in_chunks(alloc: Global, row: &Row, size: usize) -> Result<bool, Fail>
     requires { 1 ≤ size }
@@ -200,14 +175,6 @@ fn has_trace_in_chunks(alloc: Global, row: &Row, size: usize) -> Result<bool, Fa
 /// Asserts what a test has found of the row with these bytes.
 fn holds(rt: &impl Abort, row: &Row, found: bool) {
     assert!(rt; found, "{:?}", row.0);
-}
-
-#[test]
-fn traces_of_bytes(rt: HostRuntime) -> Result<(), Fail> {
-    for row in &TRACES {
-        holds(&rt, row, has_trace(rt.alloc(), row)?);
-    }
-    Ok(())
 }
 
 #[test]

@@ -5,7 +5,7 @@ use Rattle.vt_replay.proofs.PageLines.{one-page, paged-one}
 use Rattle.vt_replay.proofs.pages.PagesObserver.event.Goals as goal
 
 pub returns : goal.returns
-returns c = λ s same is.
+returns c = λ s same is last.
     let few = c.keep.ensures.bounded in
     let event = event_of c.args.kind c.args.values.now in (
       c.keep.ensures.same_reference,

@@ -5,7 +5,7 @@ use Rattle.vt_term.proofs.Scrolled.{one-line, logs-one, line-fits}
 use Rattle.vt_term.proofs.scrolling.LinesObserver.event.Goals as goal
 
 pub returns : goal.returns
-returns g c = λ s same is.
+returns g c = λ s same is last.
     let few = c.line_off_reserved.ensures.bounded in
     let event = event_of c.args.kind c.args.values.now in (
       (
@@ -18,5 +18,5 @@ returns g c = λ s same is.
         λ fits. line-fits (scrolls_off event c.args.terminal.now.display) _ _ _ fits c.line_off_reserved.ensures.bounded
             (λ off. (c.requires.lets.0 off).1) (c.line_off_reserved.ensures.none c.args.values.now),
       ),
-      c.event.ensures s same is,
+      c.event.ensures s same is last,
     )

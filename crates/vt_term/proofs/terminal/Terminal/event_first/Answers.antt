@@ -2,7 +2,7 @@
 use Rattle.std.proofs.Common.{◌∙◌, [], ap, refl}
 use Rattle.vt_syntax.specs.Event.{event_of}
 use Rattle.vt_term.specs.State.{State}
-use Rattle.vt_term.proofs.Playing.{takes-front, feeds-nothing, feeds-front, front-events}
+use Rattle.vt_term.proofs.Playing.{takes-front, feeds-nothing, feeds-front, front-events, front-last}
 use Rattle.vt_term.proofs.terminal.Terminal.event_first.Goals as goal
 
 pub returns-then-not-lets-clause-fed : goal.returns-then-not-lets-clause-fed
@@ -24,6 +24,7 @@ pub returns-clause-saw : goal.returns-clause-saw
 returns-clause-saw g c =
     c.event.ensures c.args.self.now refl
     (front-events c.args.self.now c.args.piece.now c.args.bytes (event_of c.args.kind []) c.requires.between c.requires.front)
+    (front-last c.args.self.now c.args.piece.now c.args.bytes (event_of c.args.kind []) c.requires.between c.requires.front)
 
 pub event-requires-clause-takes : goal.event-requires-clause-takes
 event-requires-clause-takes g c = takes-front g.O.Observer.Saw g.O.Observer.Takes g.met.O.Observer.cut _ c.args.piece.now _ c.requires.takes

@@ -1,7 +1,9 @@
 -- The first event, by the parser, if the observer doesn't stop before it.
-use Rattle.std.proofs.Common.{◌∙◌, [], Option, take, ap, sym, refl, append-nil}
+use Rattle.std.proofs.Common.{rules, ◌≡◌, ◌-◌, ◌∙◌, ℕ, [], List, Option, take, length, ap, sym, refl, append-nil}
 use Rattle.vt_syntax.specs.declared.event.EventKind.{EventKind}
 use Rattle.vt_syntax.specs.Event.{event_of, event_in}
+use Rattle.vt_syntax.specs.Held.{events_from}
+use Rattle.vt_term.proofs.Bytes.{but-last}
 use Rattle.vt_term.proofs.Playing.{takes-front, feeds-nothing, feeds-event, feeds-events}
 use Rattle.vt_term.proofs.terminal.Terminal.feed_by_parser.Goals as goal
 
@@ -18,6 +20,17 @@ returns-clause-fed g c =
     (event_of c.in-Some.kind values) c.carry_out.new.self c.next-bytes.new.self c.args.out.now.items
     c.carry_out.new.out.items events c.next-bytes.ensures.held (rw c.as_slice-3.ensures.value at c.carry_out.ensures.state)
     (rw c.as_slice-3.ensures.value at c.carry_out.ensures.items))
+
+pub returns-clause-saw : goal.returns-clause-saw
+returns-clause-saw g c =
+    let n = c.next-bytes.result.bytes in
+    let piece = c.args.piece.now in
+    let held = c.self.inside.parser in
+    let silent : events_from held (take (length (take n piece) - 1) (take n piece)) ≡ [] =
+    ap (λ (l : List ℕ). events_from held l)
+    (but-last n piece (c.next-bytes.ensures.some c.requires.some) c.next-bytes.ensures.within)
+    ∙ rw c.in-Some.is at c.next-bytes.ensures.last in
+    search (rules, silent)
 
 pub returns-in_default-clause-fed : goal.returns-in_default-clause-fed
 returns-in_default-clause-fed g c =

@@ -3,7 +3,7 @@ use Rattle.std.proofs.Common.{◌∙◌, None, ap, refl}
 use Rattle.vt_syntax.specs.declared.event.Event.TheVariants.{Sequence}
 use Rattle.vt_syntax.specs.Front.{front_list}
 use Rattle.vt_term.specs.State.{State}
-use Rattle.vt_term.proofs.Playing.{takes-front, feeds-nothing, feeds-front, front-events}
+use Rattle.vt_term.proofs.Playing.{takes-front, feeds-nothing, feeds-front, front-events, front-last}
 use Rattle.vt_term.proofs.terminal.Terminal.values_first.Goals as goal
 
 pub returns-then-not-lets-clause-fed : goal.returns-then-not-lets-clause-fed
@@ -29,6 +29,8 @@ returns-clause-saw g c =
     let front = c.args.front.now in
     c.event.ensures c.args.self.now refl
     (front-events c.args.self.now c.args.piece.now front.bytes
+    (Sequence None (record { items = front_list front }) None front.last) c.requires.between c.requires.front)
+    (front-last c.args.self.now c.args.piece.now front.bytes
     (Sequence None (record { items = front_list front }) None front.last) c.requires.between c.requires.front)
 
 pub event-requires-clause-takes : goal.event-requires-clause-takes

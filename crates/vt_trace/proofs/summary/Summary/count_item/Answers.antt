@@ -7,7 +7,7 @@ use Rattle.vt_syntax.specs.Reading.{events_of}
 use Rattle.vt_syntax.specs.Held.{held_after, held_from, events_from}
 use Rattle.vt_trace.specs.Skipped.{item_kinds}
 use Rattle.vt_trace.proofs.Counts.{events_more, held_more}
-use Rattle.vt_trace.proofs.Runs.{part_of}
+use Rattle.vt_term.proofs.Bytes.{but-last}
 use Rattle.vt_trace.proofs.ItemKinds.{kinds_of_item, code_of_item}
 use Rattle.vt_trace.proofs.summary.Summary.count_item.Goals as goal
 
@@ -29,7 +29,7 @@ returns-then-is_item-clause-counted c = λ some bytes was.
     ap (λ (h : Held). events_from h item) (sym c.new-parser.ensures) ∙ sym (rw c.in-Some.is at made.event)
     ∙ ap (λ (vs : List ℕ). event_of c.in-Some.kind vs ∷ []) (sym c.as_slice.ensures.value) in
     let silent : events_from Nothing (take (length item - 1) item) ≡ [] =
-    ap (events_from Nothing) (part_of n piece some made.within)
+    ap (events_from Nothing) (but-last n piece some made.within)
     ∙ ap (λ (h : Held). events_from h (take (n - 1) piece)) (sym c.new-parser.ensures) ∙ rw c.in-Some.is at made.last in
     let ends : held_from Nothing item ≡ Nothing =
     ap (λ (h : Held). held_from h item) (sym c.new-parser.ensures) ∙ sym made.held ∙ c.if-is_between.ensures.0 refl in

@@ -4,5 +4,5 @@ use Rattle.vt_xterm.proofs.Terminals.{terminals-one}
 use Rattle.vt_xterm.proofs.finder.FinderObserver.event.Goals as goal
 
 pub returns : goal.returns
-returns c = λ s same is.
+returns c = λ s same is last.
     terminals-one (events_from s.held c.args.bytes.now) (event_of c.args.kind c.args.values.now) is c.requires.lets

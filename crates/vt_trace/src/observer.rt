@@ -1,0 +1,193 @@
+//! The trace as an observer of the terminal's feed.
+ghost use Rattle.std.specs.Prelude.{◌≡◌, ℕ, List, All, ◌+◌, ◌-◌, ◌*◌, ◌^◌, ◌≤◌, ◌<◌, ◌++◌, length, take, vec_len, vec_capacity};
+ghost use Rattle.vt_glyph.specs.Invocation.{HasGlyph};
+ghost use Rattle.vt_syntax.specs.Event.{event_of};
+ghost use Rattle.vt_term.specs.Play.{play};
+ghost use Rattle.vt_trace.specs.Lines.{shown};
+ghost use Rattle.vt_trace.specs.Trace.{trace, tracer_all};
+ghost use Rattle.vt_trace.specs.Observed.{AreRead, Completes};
+
+use crate::bytes::{push_all_shown, push_bytes};
+use crate::items::{are_shown, is_item};
+use crate::laws::cuts;
+use crate::skipped::skip_all;
+use crate::tracing::{TRACE_LIMIT, Tracer, is_text, place_of, push_event, push_text_begin};
+use vt_syntax::laws::{one_split, spelled};
+use vt_syntax::{EventKind, Parser, Values};
+use vt_term::laws::soundness;
+use vt_term::{Observer, Terminal};
+
+/// Plays the front of a chunk that isn't empty, and appends its reports and its trace: as many bytes as `out` has capacity
+/// for. Returns how many bytes it played.
+pub(crate) fn trace_front(
+    terminal: &mut Terminal,
+    tracer: &mut Tracer,
+    piece: &[u8],
+    reports: &mut Vec<u8>,
+    out: &mut Vec<u8>,
+) -> usize
+    requires some { 1 ≤ length piece.now }
+    requires place { tracer.old.place + length piece.now < 2 ^ 64 }
+    requires reports_room { vec_len reports.old + 10 * length piece.now ≤ vec_capacity reports.old }
+    requires room { vec_len out.old + TRACE_LIMIT ≤ vec_capacity out.old }
+    ensures some { 1 ≤ result }
+    ensures within { result ≤ length piece.now }
+    ensures state { terminal.new ≡ (play terminal.old (take result piece.now)).state }
+    ensures reports { reports.new.items ≡ reports.old.items ++ (play terminal.old (take result piece.now)).reports }
+    ensures lines { out.new.items ≡ out.old.items ++ trace terminal.old tracer.old (take result piece.now) }
+    ensures tracer { tracer.new ≡ tracer_all terminal.old tracer.old (take result piece.now) }
+    ensures reports_bounded { vec_len reports.new ≤ vec_len reports.old + 10 * result }
+    ensures bounded { vec_len out.new ≤ vec_len out.old + TRACE_LIMIT * result }
+    ensures reports_capacity { vec_capacity reports.old ≤ vec_capacity reports.new }
+    ensures capacity { vec_capacity out.old ≤ vec_capacity out.new }
+{
+    let _ = terminal.width();
+    soundness();
+    cuts();
+    let count = piece.len().min((out.capacity() - out.len()) / TRACE_LIMIT);
+    let mut observer = Tracing {
+        tracer,
+        out,
+        parser: terminal.parser(),
+        values: Values::new(),
+    };
+    let _ = terminal.feed_observed(&piece[..count], &mut observer, reports);
+    count
+}
+
+/// The observer that writes the trace. It never stops the feed.
+#[derive(Drop)]
+struct Tracing<'a> {
+    tracer: &'a mut Tracer,
+    out: &'a mut Vec<u8>,
+    /// A copy of what the terminal holds before the next byte.
+    parser: Parser,
+    values: Values,
+}
+
+/// Reads the bytes of an event, and appends the lines of the items without a function that they cut off or end.
+///
+/// Speed: an event that is an item by itself is passed at once.
+#[inline(always)]
+fn read_event(
+    tracer: &mut Tracer,
+    parser: &mut Parser,
+    bytes: &[u8],
+    kind: EventKind,
+    values: &mut Values,
+    out: &mut Vec<u8>,
+)
+    requires some { 1 ≤ length bytes.now }
+    requires place { tracer.old.place + length bytes.now < 2 ^ 64 }
+    requires room { vec_len out.old + 180 * length bytes.now ≤ vec_capacity out.old }
+    ensures read { (list : List ℕ) → Completes parser.old bytes.now (event_of kind list)
+        → AreRead parser.old parser.new tracer.old tracer.new bytes.now out.old.items out.new.items }
+    ensures place { tracer.new.place ≡ tracer.old.place + length bytes.now }
+    ensures bounded { vec_len out.new ≤ vec_len out.old + 180 * length bytes.now }
+    ensures capacity { vec_capacity out.old ≤ vec_capacity out.new }
+{
+    one_split();
+    spelled();
+    if parser.is_between() && is_item(kind, bytes) {
+        let begin = tracer.place;
+        tracer.pass(begin + bytes.len() as u64, begin, tracer.in_text);
+    } else {
+        skip_all(tracer, parser, bytes, values, out);
+    }
+}
+
+/// Appends characters.
+///
+/// Speed: they are one copy if a text shows all of them as themselves.
+#[inline(always)]
+fn push_run(run: &[u8], out: &mut Vec<u8>)
+    requires { vec_len out.old + 4 * length run.now ≤ vec_capacity out.old }
+    ensures items { out.new.items ≡ out.old.items ++ shown run.now }
+    ensures bounded { vec_len out.new ≤ vec_len out.old + 4 * length run.now }
+    ensures capacity { vec_capacity out.old ≤ vec_capacity out.new }
+{
+    if are_shown(run) {
+        push_bytes(run, out);
+    } else {
+        push_all_shown(run, out);
+    }
+}
+
+impl Observer for Tracing<'_> {
+    ghost use Rattle.std.specs.Prelude.{◌≡◌, ◌<◌, ◌≤◌, ◌+◌, ◌*◌, ◌^◌, length, vec_len, vec_capacity, false, ⊤};
+    ghost use Rattle.vt_trace.specs.Observed.{Told, AreCounted, trace_cut};
+
+    ghost Saw = { λ o s bytes p. (p.tracer.ghost_name ≡ o.tracer.ghost_name) × (p.out.ghost_name ≡ o.out.ghost_name)
+        × Told s bytes o.parser p.parser o.tracer.now p.tracer.now o.out.now.items p.out.now.items
+        × AreCounted (length bytes) o.tracer.now.place p.tracer.now.place (vec_len o.out.now) (vec_len p.out.now)
+        (vec_capacity o.out.now) (vec_capacity p.out.now) };
+
+    ghost Takes = { λ o n. (o.tracer.now.place + n < 2 ^ 64) × (vec_len o.out.now + 420 * n ≤ vec_capacity o.out.now) };
+
+    ghost Lets = { λ o s event. ⊤ };
+
+    ghost Fits = { λ o s n. ⊤ };
+
+    ghost Stopped = { λ o. ⊥ };
+
+    ghost Stops = { false };
+
+    ghost cut = { trace_cut (λ o. o.tracer.ghost_name) (λ o. o.out.ghost_name) (λ o. o.parser) (λ o. o.tracer.now)
+        (λ o. o.out.now.items) (λ o. vec_len o.out.now) (λ o. vec_capacity o.out.now) };
+
+    #[inline(always)]
+    fn stops(&self) -> bool {
+        false
+    }
+
+    #[inline(always)]
+    fn lets(&self, terminal: &Terminal, kind: EventKind, values: &[u16]) -> bool {
+        true
+    }
+
+    #[inline(always)]
+    fn event(&mut self, terminal: &Terminal, bytes: &[u8], kind: EventKind, values: &[u16]) {
+        one_split();
+        spelled();
+        let last = bytes[bytes.len() - 1];
+        read_event(
+            self.tracer,
+            &mut self.parser,
+            bytes,
+            kind,
+            &mut self.values,
+            self.out,
+        );
+        let place = place_of(self.tracer.place - 1, self.tracer.begin, last, kind);
+        push_event(terminal, self.tracer.in_text, place, kind, values, self.out);
+        self.tracer.in_text = is_text(kind);
+    }
+
+    #[inline(always)]
+    fn limit(&self, terminal: &Terminal) -> usize {
+        usize::MAX
+    }
+
+    #[inline(always)]
+    fn run(&mut self, terminal: &Terminal, bytes: &[u8]) {
+        one_split();
+        spelled();
+        let begin = self.tracer.place + (bytes.len() as u64 - 1);
+        push_text_begin(self.tracer.in_text, self.tracer.place, self.out);
+        push_run(bytes, self.out);
+        self.tracer.pass(begin + 1, begin, true);
+    }
+
+    #[inline(always)]
+    fn part(&mut self, bytes: &[u8]) {
+        one_split();
+        spelled();
+        skip_all(
+            self.tracer,
+            &mut self.parser,
+            bytes,
+            &mut self.values,
+            self.out,
+        );
+    }
+}

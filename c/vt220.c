@@ -59,14 +59,15 @@ bool core_is_between(handle *t);
 uint32_t core_held_kind(handle *t);
 bool core_same_state(handle *a, handle *b);
 
-/* A terminal of the caller begins with its handle. So the call with one byte makes no copy. */
+/* A terminal of the caller begins with its handle. So vt220_feed makes no copy. */
 _Static_assert(offsetof(vt220, terminal) == offsetof(handle, at) && offsetof(vt220, is_open) == offsetof(handle, is_open), "one form");
 _Static_assert(sizeof(handle) <= offsetof(vt220, bells), "a handle ends before the bells");
 
 /* Stands for a null pointer of length 0. */
 static uint8_t nothing;
 
-/* The most bytes that are searched for BEL and then processed: few enough to stay in the nearest cache. A test has smaller blocks. */
+/* The most bytes of UTF-8 that are searched for BEL and then processed: few enough to stay in the nearest cache. A test has smaller
+ * blocks. */
 #ifndef BLOCK
 #define BLOCK 16384
 #endif
@@ -206,8 +207,8 @@ typedef struct part {
     bool rings;
 } part;
 
-/* Returns the bytes before the next BEL, or the BELs at the front. So no byte is searched twice, and the core, which searches what may
- * ring for the next BEL, finds it at once. The first bytes are searched here, since a call of memchr costs more. */
+/* Returns the bytes of UTF-8 before the next BEL, or the BELs at the front: the core plays bytes one by one if it counts their bells.
+ * The first bytes are searched here, since a call of memchr costs more. */
 INLINED part next_part(const uint8_t *bytes, size_t len) {
     size_t most = len < BLOCK ? len : BLOCK, at = 0;
     bool rings = bytes[0] == BEL;
@@ -251,11 +252,13 @@ INLINED size_t process_part(player by, const uint8_t *bytes, part next, buffer *
     return now;
 }
 
-/* Processes input as far as the buffers have capacity. With a scratch buffer it writes the lines that scroll off to `lines`. */
+/* Processes input as far as the buffers have capacity. With a scratch buffer it writes the lines that scroll off to `lines`. The core
+ * counts the bells of a VT220's bytes at no cost, so these aren't searched. */
 INLINED size_t process(player by, const uint8_t *bytes, size_t len, buffer *replies, buffer *lines) {
     size_t taken = 0;
     while (taken < len) {
-        part next = next_part(bytes + taken, len - taken);
+        bool is_utf8 = by.u != NULL || by.x != NULL;
+        part next = is_utf8 ? next_part(bytes + taken, len - taken) : (part){len - taken, true};
         size_t now = process_part(by, bytes + taken, next, replies, lines);
         taken += now;
         if (now < next.len) break;
@@ -285,16 +288,24 @@ INLINED size_t feed(player by, const uint8_t *bytes, size_t len, uint8_t *report
     return taken;
 }
 
-/* Does what vt220_feed does, for any number of bytes. It isn't inlined, so that a call with one byte saves no registers for it. */
-__attribute__((noinline)) static size_t feed_many(vt220 *t, const uint8_t *bytes, size_t len, uint8_t *reports, size_t size,
-                                                  size_t *written) {
+/* Does what vt220_feed does, in any case. It isn't inlined, so that the frequent cases save no registers for it. */
+__attribute__((noinline)) static size_t feed_any(vt220 *t, const uint8_t *bytes, size_t len, uint8_t *reports, size_t size, size_t *written) {
     return feed((player){t, NULL, NULL, NULL}, bytes, len, reports, size, written, NULL);
 }
 
+/* Does it for an open terminal and input that isn't empty, if the replies are wanted. */
+__attribute__((noinline)) static size_t feed_counting(vt220 *t, const uint8_t *bytes, size_t len, uint8_t *reports, size_t size,
+                                                      size_t *written) {
+    size_t rung, taken = core_feed((handle *)t, bytes, len, true, reports, size, written, &rung);
+    t->bells += rung;
+    return taken;
+}
+
 size_t vt220_feed(vt220 *t, const uint8_t *bytes, size_t len, uint8_t *reports, size_t size, size_t *written) {
-    if (len != 1 || *bytes == BEL || !t->is_open || reports == NULL || written == NULL)
-        return feed_many(t, bytes, len, reports, size, written);
-    return core_feed_byte((handle *)t, *bytes, reports, size, written);
+    bool is_any = !t->is_open || reports == NULL || written == NULL;
+    if (len == 1 && *bytes != BEL && !is_any) return core_feed_byte((handle *)t, *bytes, reports, size, written);
+    if (len == 0 || is_any) return feed_any(t, bytes, len, reports, size, written);
+    return feed_counting(t, bytes, len, reports, size, written);
 }
 
 size_t vt220_feed_utf8(vt220 *t, vt220_utf8 *u, const uint8_t *bytes, size_t len, uint8_t *reports, size_t size, size_t *written) {

@@ -5,6 +5,7 @@ enum { LEN = 40000, BLOCK = 16384 };
 
 static vt220 t = VT220_INIT;
 static vt220_scratch s = VT220_INIT;
+static vt220_utf8 u;
 static uint8_t reports[VT220_REPORT_LIMIT];
 static size_t written, logged;
 
@@ -24,6 +25,7 @@ static void bells(uint8_t *input) {
         uint64_t before = vt220_bells(&t);
         CHECK(vt220_feed(&t, input, LEN, reports, sizeof reports, &written) == LEN && vt220_bells(&t) - before == 2);
         CHECK(vt220_feed_log(&t, &s, input, LEN, reports, sizeof reports, &written, lines, 2 * LEN, &logged) == LEN && vt220_bells(&t) - before == 4);
+        CHECK(vt220_feed_utf8(&t, &u, input, LEN, reports, sizeof reports, &written) == LEN && vt220_bells(&t) - before == 6);
     }
     free(lines);
 }

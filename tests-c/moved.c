@@ -55,7 +55,7 @@ static void closes(handle *h) {
     *h = (handle){NULL, false};
 }
 
-/* The bytes that the core is asked to search for BEL, and those of them that are one. */
+/* The bytes whose bells the core is asked to count, and those of them that are one. */
 static size_t asked, bells;
 
 static size_t feeds(const uint8_t *bytes, size_t len, bool counts, size_t *rung) {
@@ -187,28 +187,48 @@ static void handles_have_the_new_blocks(void) {
     }
 }
 
-/* Bells in every place of a block, in runs and alone, so that each byte is read once or twice and each bell is counted. */
-static void no_byte_is_searched_again(void) {
-    enum { LEN = 3 * BLOCK + 100 };
-    static const size_t at[] = {0, 1, 2, 5000, BLOCK - 1, BLOCK, BLOCK + 1, 2 * BLOCK - 1, 2 * BLOCK + 7, LEN - 1};
-    enum { COUNT = sizeof at / sizeof at[0] };
+enum { LEN = 3 * BLOCK + 100, COUNT = 10 };
+
+/* Bells in every place of a block, in runs and alone. */
+static const uint8_t *with_bells(void) {
+    static const size_t at[COUNT] = {0, 1, 2, 5000, BLOCK - 1, BLOCK, BLOCK + 1, 2 * BLOCK - 1, 2 * BLOCK + 7, LEN - 1};
     static uint8_t input[LEN];
     memset(input, 'x', sizeof input);
     for (size_t i = 0; i < COUNT; i++) input[at[i]] = BEL;
+    return input;
+}
+
+/* UTF-8 is searched once, or twice at a bell. The core counts the bells of the BELs alone. */
+static void no_byte_is_searched_again(void) {
+    const uint8_t *input = with_bells();
     for (int with_log = 0; with_log < 2; with_log++) {
         uint64_t before = vt220_bells(&t);
         asked = bells = searched = 0;
-        size_t taken = with_log ? vt220_feed_log(&t, &s, input, LEN, out, sizeof out, &written, lines, sizeof lines, &logged)
-                                : vt220_feed(&t, input, LEN, out, sizeof out, &written);
+        size_t taken = with_log ? vt220_feed_log_utf8(&t, &s, &pending, input, LEN, out, sizeof out, &written, lines, sizeof lines, &logged)
+                                : vt220_feed_utf8(&t, &pending, input, LEN, out, sizeof out, &written);
         CHECK(taken == LEN && vt220_bells(&t) - before == COUNT);
         CHECK(asked == bells && bells == COUNT);
         CHECK(searched <= 2 * LEN);
     }
 }
 
+/* A VT220's bytes aren't searched. The core counts the bells of all. */
+static void no_byte_of_a_vt220_is_searched(void) {
+    const uint8_t *input = with_bells();
+    for (int with_log = 0; with_log < 2; with_log++) {
+        uint64_t before = vt220_bells(&t);
+        asked = bells = searched = 0;
+        size_t taken = with_log ? vt220_feed_log(&t, &s, input, LEN, out, sizeof out, &written, lines, sizeof lines, &logged)
+                                : vt220_feed(&t, input, LEN, out, sizeof out, &written);
+        CHECK(taken == LEN && vt220_bells(&t) - before == COUNT);
+        CHECK(asked == LEN && bells == COUNT && searched == 0);
+    }
+}
+
 int main(void) {
     handles_have_the_new_blocks();
     no_byte_is_searched_again();
+    no_byte_of_a_vt220_is_searched();
     vt220_close(&t);
     vt220_close(&u);
     vt220_scratch_close(&s);

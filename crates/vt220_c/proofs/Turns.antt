@@ -1,121 +1,92 @@
--- What is played under TERM=xterm in turns, behind what is in a buffer, and how often the bell rings in it.
-use Rattle.std.proofs.Common.{◌≡◌, ◌∙◌, ap, sym, refl, List, ℕ, zero, suc, [], ◌∷◌, ◌++◌, ◌+◌, ◌≤◌, length, take, drop}
-use Rattle.std.proofs.Common.{get_or, arith, Bool, true, false, subst}
+-- What a player plays in turns, behind what is in two buffers, and how often the bell rings in it.
+use Rattle.std.proofs.Common.{◌≡◌, ◌∙◌, ap, refl, List, ℕ, zero, suc, [], ◌∷◌, ◌++◌, ◌+◌, ◌≤◌, length, take, drop}
+use Rattle.std.proofs.Common.{get_or, arith, Bool, true, false, ◌<◌, ◌⊎◌, inl, inr}
 use Rattle.std.proofs.Math.Seq.{take-add}
 use Rattle.vt_term.specs.State.{State}
-use Rattle.vt_utf8.specs.Decoding.{pending_after}
-use Rattle.vt_xterm.specs.Play.{Whole, WholePlayed, FrontState, both, play_xterm, xterm_log}
-use Rattle.vt220_c.specs.Bells.{bells}
-use Rattle.vt220_c.specs.Feeding.{WritesAt}
-use Rattle.vt220_c.specs.Xterm.{xterm_played, xterm_front, xterm_bells, xterm_lines_if, FeedsXterm}
-use Rattle.vt220_c.proofs.Feeding.{writes-nothing, writes-more}
+use Rattle.vt_term.specs.Sound.{IsSound}
+use Rattle.vt220_c.specs.Told.{WritesAt, Told, both, AreTold, lines_if, Rings, Plays}
+use Rattle.vt220_c.proofs.Writing.{writes-nothing, writes-more}
 
--- no bytes leave all as it is
-pub xterm-nothing : (s : State) (front : FrontState) (out : List ℕ) → FeedsXterm s front [] s front out 0 out 0
-unfolding play_xterm
-xterm-nothing s front out = record {
-  state = refl;
-  kept = refl;
-  sent = writes-nothing out 0 (omega arith);
+no-lines : (logs : Bool) (lines : List ℕ) → WritesAt (lines_if logs []) lines 0 lines 0
+no-lines true lines = writes-nothing lines 0 (omega arith)
+no-lines false lines = writes-nothing lines 0 (omega arith)
+
+lines-two : (logs : Bool) (x y : List ℕ) → lines_if logs (x ++ y) ≡ lines_if logs x ++ lines_if logs y
+lines-two true x y = refl
+lines-two false x y = refl
+
+rings-two : (counts : Bool) (x y m n : ℕ) → Rings counts x m → Rings counts y n → Rings counts (x + y) (m + n)
+rings-two counts x y m n first second = record {
+  none = λ off. omega (arith, first.none off, second.none off);
+  all = λ on. omega (arith, first.all on, second.all on);
 }
 
-module _ (two : (w : Whole) (pending a b : List ℕ) → play_xterm w pending (a ++ b)
-    ≡ both (play_xterm w pending a) (play_xterm (play_xterm w pending a).whole (pending_after pending a) b))
-    (append : (pending a b : List ℕ) → pending_after pending (a ++ b) ≡ pending_after (pending_after pending a) b) where
-  played-two : (s : State) (front : FrontState) (a b : List ℕ) → xterm_played s front (a ++ b)
-      ≡ both (xterm_played s front a) (xterm_played (xterm_played s front a).whole.state (xterm_front s front a) b)
-  played-two s front a b = two (record { state = s; pages = front.pages }) front.pending a b
+module _ {P : Type 0} (told : State → P → List ℕ → Told P) where
+  -- a turn of one byte, whose bells are counted
+  pub one-rings : (s : State) (p : P) (piece : List ℕ) (rung : ℕ) → 1 ≤ length piece
+      → rung ≡ (told s p (get_or piece 0 0 ∷ [])).rung → (n : ℕ) → 1 ≤ n → n ≤ 1
+      → Rings true (told s p (take n piece)).rung rung
+  one-rings s p [] rung some is n one within = absurd (omega (arith, some))
+  one-rings s p (b ∷ piece) rung some is zero one within = absurd (omega (arith, one))
+  one-rings s p (b ∷ piece) rung some is (suc zero) one within = record { none = λ off. absurd cc; all = λ on. is }
+  one-rings s p (b ∷ piece) rung some is (suc (suc n)) one within = absurd (omega (arith, within))
 
-  state-two : (s : State) (front : FrontState) (a b : List ℕ) → (xterm_played s front (a ++ b)).whole.state
-      ≡ (xterm_played (xterm_played s front a).whole.state (xterm_front s front a) b).whole.state
-  state-two s front a b = ap (λ (p : WholePlayed). p.whole.state) (played-two s front a b)
+  -- a turn whose bells aren't counted
+  pub none-rings : (s : State) (p : P) (piece : List ℕ) (n : ℕ) → Rings false (told s p (take n piece)).rung 0
+  none-rings s p piece n = record { none = λ off. refl; all = λ on. absurd cc }
 
-  front-two : (s : State) (front : FrontState) (a b : List ℕ) → xterm_front s front (a ++ b)
-      ≡ xterm_front (xterm_played s front a).whole.state (xterm_front s front a) b
-  front-two s front a b =
-      let pages : (xterm_played s front (a ++ b)).whole.pages
-      ≡ (xterm_played (xterm_played s front a).whole.state (xterm_front s front a) b).whole.pages =
-      ap (λ (p : WholePlayed). p.whole.pages) (played-two s front a b) in
-      rw (pages, append front.pending a b) refl
+module _ {P : Type 0} (told : State → P → List ℕ → Told P) (are : AreTold told) where
+  pub plays-nothing : (logs counts : Bool) (s : State) (p : P) (out lines : List ℕ) → IsSound s
+      → Plays logs counts (told s p []) s p out 0 out lines 0 lines 0 0 0
+  plays-nothing logs counts s p out lines sound = rw (are.nothing s p sound) (record {
+    state = refl;
+    kept = refl;
+    sent = writes-nothing out 0 (omega arith);
+    off = no-lines logs lines;
+    rings = record { none = λ off. refl; all = λ on. refl };
+  })
 
-  pub bells-two : (s : State) (front : FrontState) (a b : List ℕ) → xterm_bells s front (a ++ b)
-      ≡ xterm_bells s front a + xterm_bells (xterm_played s front a).whole.state (xterm_front s front a) b
-  unfolding play_xterm
-  bells-two s front [] b = omega arith
-  bells-two s front (x ∷ a) b =
-      let t = (xterm_played s front (x ∷ [])).whole.state in
-      let next = xterm_front s front (x ∷ []) in
-      let rest : xterm_bells t next (a ++ b)
-      ≡ xterm_bells t next a + xterm_bells (xterm_played t next a).whole.state (xterm_front t next a) b =
-      bells-two t next a b in
-      rw (state-two s front (x ∷ []) a, front-two s front (x ∷ []) a) (omega (arith, rest))
+  -- no bytes scroll nothing off
+  pub none-off : (s : State) (p : P) (piece before after : List ℕ) (n : ℕ) → IsSound s → n ≡ 0 → before ≡ []
+      → after ≡ before ++ (told s p (take n piece)).lines → length after ≡ 0
+  none-off s p piece before after n sound none empty is =
+      let bytes : (told s p (take n piece)).lines ≡ [] =
+      ap (λ (k : ℕ). (told s p (take k piece)).lines) none ∙ ap (λ (t : Told P). t.lines) (are.nothing s p sound) in
+      ap (λ (xs : List ℕ). length xs) (is ∙ ap (λ (b : List ℕ). b ++ (told s p (take n piece)).lines) empty ∙ bytes)
+
+  told-two : (s t : State) (p q : P) (piece : List ℕ) (taken k : ℕ) → IsSound s
+      → t ≡ (told s p (take taken piece)).state → q ≡ (told s p (take taken piece)).kept
+      → told s p (take (taken + k) piece) ≡ both (told s p (take taken piece)) (told t q (take k (drop taken piece)))
+  told-two s t p q piece taken k sound state kept =
+      ap (λ (bytes : List ℕ). told s p bytes) (take-add taken k piece)
+      ∙ are.two s p (take taken piece) (take k (drop taken piece)) sound ∙ rw (state, kept) refl
 
   -- a turn after those before it
-  pub feeds-turn : (s t u : State) (front mid new : FrontState) (piece : List ℕ) (taken k : ℕ) (out out' out'' : List ℕ)
-      (m n : ℕ) → FeedsXterm s front (take taken piece) t mid out 0 out' m
-      → FeedsXterm t mid (take k (drop taken piece)) u new out' m out'' n
-      → FeedsXterm s front (take (taken + k) piece) u new out 0 out'' (m + n)
-  feeds-turn s t u front mid new piece taken k out out' out'' m n first second =
-      let a = take taken piece in
-      let b = take k (drop taken piece) in
-      let none : 0 + m ≡ m = omega arith in
-      let played : xterm_played s front (a ++ b) ≡ both (xterm_played s front a) (xterm_played t mid b) =
-      played-two s front a b ∙ rw (first.state, first.kept) refl in
-      rw (take-add taken k piece) (record {
-        state = second.state ∙ sym (ap (λ (p : WholePlayed). p.whole.state) played);
-        kept = second.kept ∙ rw (first.state, first.kept) (sym (front-two s front a b));
-        sent = rw (ap (λ (p : WholePlayed). p.reports) played)
-            (writes-more (xterm_played s front a).reports (xterm_played t mid b).reports out out' out'' 0 m n first.sent
-            (rw none second.sent));
+  pub plays-turn : (logs counts : Bool) (s t u : State) (p q r : P) (piece : List ℕ) (taken k : ℕ)
+      (out out' out'' lines lines' lines'' : List ℕ) (m n lm ln b d : ℕ) → IsSound s
+      → Plays logs counts (told s p (take taken piece)) t q out 0 out' lines 0 lines' m lm b
+      → Plays logs counts (told t q (take k (drop taken piece))) u r out' m out'' lines' lm lines'' n ln d
+      → Plays logs counts (told s p (take (taken + k) piece)) u r out 0 out'' lines 0 lines'' (m + n) (lm + ln) (b + d)
+  plays-turn logs counts s t u p q r piece taken k out out' out'' lines lines' lines'' m n lm ln b d sound first second =
+      let x = told s p (take taken piece) in
+      let y = told t q (take k (drop taken piece)) in
+      let sent : 0 + m ≡ m = omega arith in
+      let off : 0 + lm ≡ lm = omega arith in
+      rw (told-two s t p q piece taken k sound first.state first.kept) (record {
+        state = second.state;
+        kept = second.kept;
+        sent = writes-more x.reports y.reports out out' out'' 0 m n first.sent (rw sent second.sent);
+        off = rw (lines-two logs x.lines y.lines) (writes-more (lines_if logs x.lines) (lines_if logs y.lines) lines lines'
+            lines'' 0 lm ln first.off (rw off second.off));
+        rings = rings-two counts x.rung y.rung b d first.rings second.rings;
       })
 
-  pub rings-turn : (s t : State) (front mid : FrontState) (piece : List ℕ) (taken k so_far rung : ℕ) (out out' : List ℕ)
-      (m : ℕ) → FeedsXterm s front (take taken piece) t mid out 0 out' m → so_far ≡ xterm_bells s front (take taken piece)
-      → xterm_bells t mid (take k (drop taken piece)) ≡ rung → so_far + rung ≡ xterm_bells s front (take (taken + k) piece)
-  rings-turn s t front mid piece taken k so_far rung out out' m first before now =
-      let all = bells-two s front (take taken piece) (take k (drop taken piece)) in
-      let then : xterm_bells (xterm_played s front (take taken piece)).whole.state (xterm_front s front (take taken piece))
-      (take k (drop taken piece)) ≡ rung = rw (← first.state, ← first.kept) now in
-      rw (take-add taken k piece) (omega (arith, all, before, then))
-
--- no lines
-pub no-lines : ((w : Whole) (pending : List ℕ) → xterm_log w pending [] ≡ []) → (logs : Bool) (s : State) (front : FrontState)
-    (lines : List ℕ) → WritesAt (xterm_lines_if logs s front []) lines 0 lines 0
-no-lines none true s front lines =
-    rw (none (record { state = s; pages = front.pages }) front.pending) (writes-nothing lines 0 (omega arith))
-no-lines none false s front lines = writes-nothing lines 0 (omega arith)
-
--- the lines of a turn after those before it
-module _ (two : (w : Whole) (pending a b : List ℕ) → xterm_log w pending (a ++ b)
-    ≡ xterm_log w pending a ++ xterm_log (play_xterm w pending a).whole (pending_after pending a) b) where
-  pub lines-two : (logs : Bool) (s : State) (front : FrontState) (a b : List ℕ) → xterm_lines_if logs s front (a ++ b)
-      ≡ xterm_lines_if logs s front a
-      ++ xterm_lines_if logs (xterm_played s front a).whole.state (xterm_front s front a) b
-  lines-two true s front a b = two (record { state = s; pages = front.pages }) front.pending a b
-  lines-two false s front a b = refl
-
-  pub lines-turn : (logs : Bool) (s t : State) (front mid : FrontState) (piece : List ℕ) (taken k : ℕ)
-      (lines lines' lines'' : List ℕ) (m n : ℕ) → t ≡ (xterm_played s front (take taken piece)).whole.state
-      → mid ≡ xterm_front s front (take taken piece)
-      → WritesAt (xterm_lines_if logs s front (take taken piece)) lines 0 lines' m
-      → WritesAt (xterm_lines_if logs t mid (take k (drop taken piece))) lines' m lines'' n
-      → WritesAt (xterm_lines_if logs s front (take (taken + k) piece)) lines 0 lines'' (m + n)
-  lines-turn logs s t front mid piece taken k lines lines' lines'' m n is kept first second =
-      let a = take taken piece in
-      let b = take k (drop taken piece) in
-      let none : 0 + m ≡ m = omega arith in
-      let all : xterm_lines_if logs s front (take (taken + k) piece) ≡ xterm_lines_if logs s front a ++ xterm_lines_if logs t mid b =
-      ap (λ (bytes : List ℕ). xterm_lines_if logs s front bytes) (take-add taken k piece) ∙ lines-two logs s front a b
-      ∙ ap (λ (v : State). xterm_lines_if logs s front a ++ xterm_lines_if logs v (xterm_front s front a) b) (sym is)
-      ∙ ap (λ (f : FrontState). xterm_lines_if logs s front a ++ xterm_lines_if logs t f b) (sym kept) in
-      subst (λ (bytes : List ℕ). WritesAt bytes lines 0 lines'' (m + n)) (sym all)
-      (writes-more (xterm_lines_if logs s front a) (xterm_lines_if logs t mid b) lines lines' lines'' 0 m n first
-      (rw none second))
-
--- a turn of one byte
-pub one_rings : (s : State) (piece : List ℕ) (rung : ℕ) → 1 ≤ length piece → rung ≡ bells s.held (get_or piece 0 0 ∷ [])
-    → (front : FrontState) (n : ℕ) → 1 ≤ n → n ≤ 1 → xterm_bells s front (take n piece) ≡ rung
-one_rings s [] rung some is front n one within = absurd (omega (arith, some))
-one_rings s (b ∷ piece) rung some is front zero one within = absurd (omega (arith, one))
-one_rings s (b ∷ piece) rung some is front (suc zero) one within = omega (arith, is)
-one_rings s (b ∷ piece) rung some is front (suc (suc n)) one within = absurd (omega (arith, within))
+-- what stopped it early isn't there
+pub some-taken : (n len cap room was off most need : ℕ) → (n < len → (room < off + need) ⊎ (was + most < off + need))
+    → (n ≡ 0 → off ≡ 0) → 1 ≤ len → need ≤ cap → cap ≤ room → need ≤ most → 1 ≤ n
+some-taken zero len cap room was off most need stop none some enough more free = by (none refl) (stop (omega (arith, some)))
+  where
+    by : off ≡ 0 → (room < off + need) ⊎ (was + most < off + need) → 1 ≤ zero
+    by empty (inl full) = absurd (omega (arith, full, empty, enough, more))
+    by empty (inr full) = absurd (omega (arith, full, empty, free))
+some-taken (suc n) len cap room was off most need stop none some enough more free = omega arith

@@ -1,8 +1,13 @@
 -- UTF-8 as C sees it: what is pending, in a struct, and how a character is shown. (this profile)
 use Rattle.std.specs.Prelude.{ℕ, List, [], ◌∷◌, length, take, ◌&&◌, ◌||◌, nat_lt, nat_le, unwrap_or, if◌then◌else◌}
-use Rattle.vt_utf8.specs.Decoding.{pending_of}
+use Rattle.vt_term.specs.State.{State}
+use Rattle.vt_term.specs.Scrolling.{log}
+use Rattle.vt_utf8.specs.Decoding.{pending_of, pending_after}
+use Rattle.vt_utf8.specs.Play.{translated, play_utf8}
 use Rattle.vt_utf8.specs.Cells.{cells}
 use Rattle.vt_utf8.specs.Showing.{shown_as}
+use Rattle.vt220_c.specs.Bells.{bells}
+use Rattle.vt220_c.specs.Told.{Told}
 use Rattle.vt220_c.specs.Written.{written_over}
 use Rattle.vt220_c.specs.declared.utf8.Vt220Utf8.{Vt220Utf8}
 
@@ -26,3 +31,13 @@ cells_of_character c = if nat_lt c 0x80 then (if nat_le 0x20 c && nat_le c 0x7E 
 
 abbrev pub cells_for : ℕ → ℕ
 cells_for n = cells_of_character (character_of n)
+
+-- what bytes leave after what is pending; for private contracts
+abbrev pub utf8_told : State → List ℕ → List ℕ → Told (List ℕ)
+utf8_told s pending bytes = record {
+  state = (play_utf8 s pending bytes).state;
+  kept = pending_after pending bytes;
+  reports = (play_utf8 s pending bytes).reports;
+  lines = log s (translated s pending bytes);
+  rung = bells s.held (translated s pending bytes);
+}

@@ -1,10 +1,10 @@
 -- What a host sends under TERM=xterm, played on a terminal and the front that a handle keeps for it.
-use Rattle.std.specs.Prelude.{◌≡◌, ◌+◌, ℕ, List, [], ◌∷◌, Bool, if◌then◌else◌}
+use Rattle.std.specs.Prelude.{◌+◌, ℕ, List, [], ◌∷◌}
 use Rattle.vt_term.specs.State.{State}
 use Rattle.vt_utf8.specs.Decoding.{pending_after}
 use Rattle.vt_xterm.specs.Play.{FrontState, WholePlayed, behind, play_xterm, xterm_log}
 use Rattle.vt220_c.specs.Bells.{bells}
-use Rattle.vt220_c.specs.Feeding.{WritesAt}
+use Rattle.vt220_c.specs.Told.{Told}
 
 -- the state, the pages and the reports that bytes leave
 abbrev pub xterm_played : State → FrontState → List ℕ → WholePlayed
@@ -28,12 +28,12 @@ xterm_bells s front (b ∷ bytes) =
     bells s.held (b ∷ [])
     + xterm_bells (xterm_played s front (b ∷ [])).whole.state (xterm_front s front (b ∷ [])) bytes
 
--- no lines without a log
-abbrev pub xterm_lines_if : Bool → State → FrontState → List ℕ → List ℕ
-xterm_lines_if logs s front bytes = if logs then xterm_lines s front bytes else []
-
--- the state, the front, and the reports behind what is there. Contracts of private functions cite this, and no public clause does.
-pub record FeedsXterm (s : State) (front : FrontState) (bytes : List ℕ) (t : State) (new : FrontState) (out : List ℕ) (at : ℕ) (out_after : List ℕ) (written : ℕ) : Type 0 where
-  pub state : t ≡ (xterm_played s front bytes).whole.state
-  pub kept : new ≡ xterm_front s front bytes
-  pub sent : WritesAt (xterm_played s front bytes).reports out at out_after written
+-- what bytes leave after a front; for private contracts
+abbrev pub xterm_told : State → FrontState → List ℕ → Told FrontState
+xterm_told s front bytes = record {
+  state = (xterm_played s front bytes).whole.state;
+  kept = xterm_front s front bytes;
+  reports = (xterm_played s front bytes).reports;
+  lines = xterm_lines s front bytes;
+  rung = xterm_bells s front bytes;
+}

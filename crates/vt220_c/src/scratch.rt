@@ -6,27 +6,23 @@ ghost use Rattle.vt_term.specs.Play.{play};
 ghost use Rattle.vt_term.specs.Scrolling.{log};
 ghost use Rattle.vt_paint.specs.Changes.{differing};
 ghost use Rattle.vt_controls.specs.Spoken.{Speaks};
-ghost use Rattle.vt_utf8.specs.Decoding.{pending_after};
-ghost use Rattle.vt_utf8.specs.Play.{translated};
 ghost use Rattle.vt220_c.specs.Bells.{bells};
-ghost use Rattle.vt220_c.specs.Feeding.{Feeds, WritesAt};
 ghost use Rattle.vt220_c.specs.Forms.{written_as, CanBe};
+ghost use Rattle.vt220_c.specs.Told.{Plays};
 ghost use Rattle.vt220_c.specs.Written.{written_over, IsRepaint, UpdatedOver};
-ghost use Rattle.vt220_c.specs.Xterm.{FeedsXterm, xterm_bells, xterm_lines};
 
-use crate::behind::feed_xterm;
 use crate::bytes::{Copied, copy_out};
 use crate::form::Form;
 use crate::inner::{CHUNK, Inner, Logged};
-use crate::translating::feed_utf8;
+use crate::player::Player;
+use crate::playing::play;
 use std::alloc::{AllocError, Global};
 use std::marker::Model;
 use vt_paint::repaint_reserved;
 use vt_picture::{PICTURE_LIMIT, picture_reserved, show_reserved};
 use vt_term::{REPORT_LIMIT, ROW_TEXT_LIMIT, Terminal};
 use vt_update::{UPDATE_LIMIT, update_reserved};
-use vt_utf8::{Decoder, UTF8_LINES_LIMIT};
-use vt_xterm::{Front, LINES_LIMIT};
+use vt_xterm::LINES_LIMIT;
 
 const _: () = prove!(ROW_TEXT_LIMIT * CHUNK <= PICTURE_LIMIT && LINES_LIMIT <= PICTURE_LIMIT);
 
@@ -81,7 +77,6 @@ impl Scratch {
         &mut self,
         inner: &mut Inner,
         piece: &[u8],
-        counts: bool,
         out: &mut [u8],
         lines: &mut [u8],
     ) -> Logged
@@ -93,64 +88,31 @@ impl Scratch {
         ensures lines { lines.new ≡ written_over (log inner.old (take result.taken piece.now)) lines.old }
         ensures all { (result.taken ≡ length piece.now) ⊎ (length out.old < result.written + REPORT_LIMIT)
             ⊎ (length lines.old < result.lines_written + ROW_TEXT_LIMIT) }
-        ensures none { counts ≡ false → result.bells ≡ 0 }
-        ensures bells { counts ≡ true → result.bells ≡ bells inner.old.held (take result.taken piece.now) }
+        ensures bells { result.bells ≡ bells inner.old.held (take result.taken piece.now) }
     {
-        inner.feed_log(piece, counts, out, lines, &mut self.room)
+        inner.feed_log(piece, out, lines, &mut self.room)
     }
 
-    /// Plays UTF-8 on a terminal with its log, as `translating::feed_utf8` does.
-    pub(crate) fn feed_utf8(
+    /// Plays what a host sends by a player with its log, as `playing::play` does.
+    pub(crate) fn play<P: Player>(
         &mut self,
         inner: &mut Inner,
-        decoder: &mut Decoder,
+        player: &mut P,
         piece: &[u8],
         counts: bool,
         out: &mut [u8],
         lines: &mut [u8],
     ) -> Logged
+        requires { P.room ≤ PICTURE_LIMIT }
         ensures within { result.taken ≤ length piece.now }
-        ensures fed { Feeds true counts inner.old (translated inner.old decoder.old (take result.taken piece.now)) inner.new
+        ensures fed { Plays true counts (P.told inner.old player.old (take result.taken piece.now)) inner.new player.new
             out.old 0 out.new lines.old 0 lines.new result.written result.lines_written result.bells }
-        ensures pending { decoder.new ≡ pending_after decoder.old (take result.taken piece.now) }
         ensures all { (result.taken ≡ length piece.now) ⊎ (length out.old < result.written + REPORT_LIMIT)
-            ⊎ (length lines.old < result.lines_written + UTF8_LINES_LIMIT) }
+            ⊎ (length lines.old < result.lines_written + P.room) }
     {
-        feed_utf8(
+        play(
             inner,
-            decoder,
-            piece,
-            counts,
-            true,
-            out,
-            lines,
-            &mut self.room,
-        )
-    }
-
-    /// Plays what a host sends under TERM=xterm on a terminal with its log, as `behind::feed_xterm` does.
-    pub(crate) fn feed_xterm(
-        &mut self,
-        inner: &mut Inner,
-        front: &mut Front,
-        piece: &[u8],
-        counts: bool,
-        out: &mut [u8],
-        lines: &mut [u8],
-    ) -> Logged
-        ensures within { result.taken ≤ length piece.now }
-        ensures fed { FeedsXterm inner.old front.old (take result.taken piece.now) inner.new front.new out.old 0 out.new
-            result.written }
-        ensures off { WritesAt (xterm_lines inner.old front.old (take result.taken piece.now)) lines.old 0 lines.new
-            result.lines_written }
-        ensures all { (result.taken ≡ length piece.now) ⊎ (length out.old < result.written + REPORT_LIMIT)
-            ⊎ (length lines.old < result.lines_written + LINES_LIMIT) }
-        ensures none { counts ≡ false → result.bells ≡ 0 }
-        ensures bells { counts ≡ true → result.bells ≡ xterm_bells inner.old front.old (take result.taken piece.now) }
-    {
-        feed_xterm(
-            inner,
-            front,
+            player,
             piece,
             counts,
             true,

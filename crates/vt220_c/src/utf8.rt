@@ -9,8 +9,8 @@ ghost use Rattle.vt220_c.specs.Utf8.{pending_in, c_utf8, cells_of_character, gly
 ghost use Rattle.vt220_c.specs.Written.{written_over};
 
 use crate::handle::Vt220;
+use crate::playing::play;
 use crate::scratch_handle::Vt220Scratch;
-use crate::translating::feed_utf8;
 use std::alloc::Global;
 use vt_term::REPORT_LIMIT;
 use vt_utf8::{Decoder, UTF8_LINES_LIMIT, cells, shown_as};
@@ -114,7 +114,7 @@ pub extern "C" fn core_feed_utf8(
     };
     let mut decoder = decoder_of(u);
     let mut room = Vec::new(alloc);
-    let played = feed_utf8(
+    let played = play(
         &mut inner,
         &mut decoder,
         piece,
@@ -174,7 +174,7 @@ pub extern "C" fn core_feed_log_utf8(
         return 0;
     };
     let mut decoder = decoder_of(u);
-    let logged = scratch.feed_utf8(&mut inner, &mut decoder, piece, counts, out, lines);
+    let logged = scratch.play(&mut inner, &mut decoder, piece, counts, out, lines);
     t.put(inner);
     s.put(scratch);
     *u = c_utf8(&decoder);

@@ -7,8 +7,8 @@ ghost use Rattle.vt220_c.specs.Utf8.{c_utf8};
 ghost use Rattle.vt220_c.specs.Written.{written_over};
 ghost use Rattle.vt220_c.specs.Xterm.{xterm_played, xterm_front, xterm_lines, xterm_bells};
 
-use crate::behind::feed_xterm;
 use crate::handle::Vt220;
+use crate::playing::play;
 use crate::scratch_handle::Vt220Scratch;
 use crate::status::{CLOSED, IN_USE, MEMORY, OK};
 use crate::utf8::{Vt220Utf8, c_pending};
@@ -117,9 +117,9 @@ pub extern "C" fn core_feed_xterm(
         return 0;
     };
     let mut room = Vec::new(alloc);
-    let played = feed_xterm(
+    let played = play(
         &mut inner,
-        &mut front,
+        &mut *front,
         piece,
         counts,
         false,
@@ -189,7 +189,7 @@ pub extern "C" fn core_feed_log_xterm(
         s.put(scratch);
         return 0;
     };
-    let logged = scratch.feed_xterm(&mut inner, &mut front, piece, counts, out, lines);
+    let logged = scratch.play(&mut inner, &mut *front, piece, counts, out, lines);
     t.put(inner);
     s.put(scratch);
     x.put(front);

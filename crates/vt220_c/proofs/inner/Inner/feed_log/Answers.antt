@@ -7,14 +7,13 @@ pub loop-taken-preserved : goal.loop-taken-preserved
 loop-taken-preserved c =
     let rest = rest-of c.args.piece.now c.loop-taken.taken in
     let front = rw rest at c.feed_log_front-front.ensures in
-    let part = rw rest at c.next_part-part.ensures in
-    let inside = simp length-drop at part.within in
+    let inside = simp length-drop at front.within in
     let before = c.loop-taken.invariant in
     let n = c.feed_log_front-front.result.taken in
     let reports = more-reports c.cuts.ensures.two _ _ _ _ n before.state in
     let lines = more-lines c.log_cuts.ensures.two _ _ _ _ n before.state in
     record {
-      within = omega (arith, inside, front.within);
+      within = omega (arith, inside);
       state = more-state c.cuts.ensures.two _ _ _ _ n before.state _ front.state;
       written = rw (before.written, front.written) (sym (length-append _ _) ∙ ap (λ (xs : List ℕ). length xs) reports);
       out = write-more _ _ _ _ _ _ _ reports before.written before.out front.out;
@@ -24,10 +23,8 @@ loop-taken-preserved c =
       lines = write-more _ _ _ _ _ _ _ lines before.lines_written before.lines front.lines;
       lines_fit = omega (arith, front.lines_fit, c.loop-taken.auto.lines);
       capacity = omega (arith, before.capacity, front.capacity);
-      few = omega (arith, before.few, part.few, front.some);
+      few = omega (arith, before.few, front.few_bells);
       few_reports = omega (arith, before.few_reports, front.few);
       few_lines = omega (arith, before.few_lines, front.few_lines);
-      none = λ off. omega (arith, before.none off, part.none off);
-      bells = λ on. more-bells c.one_split.ensures _ _ _ _ n _ _ before.state (before.bells on)
-          (part.bells on n front.some front.within);
+      bells = more-bells c.one_split.ensures _ _ _ _ n _ _ before.state before.bells (sym front.bells);
     }

@@ -1,4 +1,4 @@
-use Rattle.std.proofs.Common.{◌≡◌, ◌*◌, ◌-◌, ◌≤◌, true, false, length, take}
+use Rattle.std.proofs.Common.{◌≡◌, ◌*◌, ◌-◌, ◌≤◌, length, take}
 use Rattle.std.specs.Prelude.{vec_capacity}
 use Rattle.vt_term.specs.Play.{play}
 use Rattle.vt_term.specs.Scrolling.{log}
@@ -20,8 +20,7 @@ invariant-loop-taken l = record {
   few : l.bells ≤ l.taken;
   few_reports : l.written ≤ 10 * l.taken;
   few_lines : l.lines_written ≤ 397 * l.taken;
-  none : l.counts ≡ false → l.bells ≡ 0;
-  bells : l.counts ≡ true → l.bells ≡ bells l.initial.self.held (take l.taken l.piece);
+  bells : l.bells ≡ bells l.initial.self.held (take l.taken l.piece);
 }
 
 abbrev pub decreases-loop-taken : goal.decreases-loop-taken

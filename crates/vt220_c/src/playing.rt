@@ -1,17 +1,12 @@
-//! Playing what a host sends under TERM=xterm on the terminal of a handle.
-ghost use Rattle.std.specs.Prelude.{◌≡◌, ◌+◌, ◌≤◌, ◌<◌, ◌⊎◌, ℕ, true, false, length, take, vec_capacity};
+//! Playing what a host sends on the terminal of a handle by a player, with its log if there is a buffer for it.
+ghost use Rattle.std.specs.Prelude.{◌≡◌, ◌+◌, ◌≤◌, ◌<◌, ◌⊎◌, ℕ, true, length, take, vec_capacity};
 ghost use Rattle.std.specs.Bool.{OnTrue, OnFalse};
-ghost use Rattle.vt_xterm.specs.Play.{FrontState};
-ghost use Rattle.vt220_c.specs.Feeding.{WritesAt};
-ghost use Rattle.vt220_c.specs.Xterm.{FeedsXterm, xterm_bells, xterm_lines, xterm_lines_if};
+ghost use Rattle.vt220_c.specs.Told.{WritesAt, Plays, Rings, lines_if};
 
-use crate::bells::rings;
 use crate::bytes::put;
 use crate::inner::{CHUNK, Inner, Logged};
+use crate::player::Player;
 use vt_term::REPORT_LIMIT;
-use vt_utf8::laws::cuts as utf8_cuts;
-use vt_xterm::laws::{cuts, log_cuts};
-use vt_xterm::{Front, LINES_LIMIT, feed_xterm_log_reserved, feed_xterm_reserved};
 
 /// The number of bytes at the front of a chunk that may be played at once, and the number of bells in them.
 #[derive(Drop)]
@@ -30,20 +25,18 @@ struct Sent {
 }
 
 /// Returns the part of a chunk that is played next: a byte if bells are counted, otherwise the whole chunk.
-#[tactic(auto, using(crate::proofs::Turns::one_rings))]
-fn next_turn(inner: &Inner, piece: &[u8], counts: bool) -> Turn
+fn next_turn<P: Player>(inner: &Inner, player: &P, piece: &[u8], counts: bool) -> Turn
     requires { 1 ≤ length piece.now }
     ensures some { 1 ≤ result.len }
     ensures within { result.len ≤ length piece.now }
     ensures few { result.bells ≤ 1 }
-    ensures none { counts ≡ false → result.bells ≡ 0 }
-    ensures bells { counts ≡ true → (front : FrontState) (n : ℕ) → 1 ≤ n → n ≤ result.len
-        → xterm_bells inner.now front (take n piece.now) ≡ result.bells }
+    ensures rings { (n : ℕ) → 1 ≤ n → n ≤ result.len
+        → Rings counts (P.told inner.now player.now (take n piece.now)).rung result.bells }
 {
     if counts {
         Turn {
             len: 1,
-            bells: rings(inner.terminal.held(), piece[0]),
+            bells: player.rings(&inner.terminal, piece[0]),
         }
     } else {
         Turn {
@@ -54,9 +47,9 @@ fn next_turn(inner: &Inner, piece: &[u8], counts: bool) -> Turn
 }
 
 /// Plays at most `limit` bytes of a chunk, and at most those for whose reports `out` has capacity after `written`.
-fn feed_turn(
+fn feed_turn<P: Player>(
     inner: &mut Inner,
-    front: &mut Front,
+    player: &mut P,
     piece: &[u8],
     limit: usize,
     out: &mut [u8],
@@ -67,7 +60,9 @@ fn feed_turn(
     requires room { written + REPORT_LIMIT ≤ length out.old }
     ensures some { 1 ≤ result.taken }
     ensures within { result.taken ≤ limit }
-    ensures fed { FeedsXterm inner.old front.old (take result.taken piece.now) inner.new front.new out.old written out.new
+    ensures state { inner.new ≡ (P.told inner.old player.old (take result.taken piece.now)).state }
+    ensures kept { player.new ≡ (P.told inner.old player.old (take result.taken piece.now)).kept }
+    ensures sent { WritesAt (P.told inner.old player.old (take result.taken piece.now)).reports out.old written out.new
         result.written }
     ensures no_lines { result.lines_written ≡ 0 }
     ensures fits { written + result.written ≤ length out.old }
@@ -75,12 +70,7 @@ fn feed_turn(
     let most = ((out.len() - written) / REPORT_LIMIT).min(CHUNK);
     let taken = limit.min(most);
     inner.reports.clear();
-    feed_xterm_reserved(
-        &mut inner.terminal,
-        front,
-        &piece[..taken],
-        &mut inner.reports,
-    );
+    player.feed(&mut inner.terminal, &piece[..taken], &mut inner.reports);
     put(out, written, inner.reports.as_slice());
     Sent {
         taken,
@@ -90,10 +80,10 @@ fn feed_turn(
 }
 
 /// Plays at most `limit` bytes of a chunk with their log, and at most those for whose reports and lines the two buffers have
-/// capacity. `room` has capacity for the lines of two screens.
-fn log_turn(
+/// capacity. `room` has capacity for the lines of a turn.
+fn log_turn<P: Player>(
     inner: &mut Inner,
-    front: &mut Front,
+    player: &mut P,
     piece: &[u8],
     limit: usize,
     out: &mut [u8],
@@ -105,24 +95,26 @@ fn log_turn(
     requires some { 1 ≤ limit }
     requires limit { limit ≤ length piece.now }
     requires out_room { written + REPORT_LIMIT ≤ length out.old }
-    requires lines_room { lines_written + LINES_LIMIT ≤ length lines.old }
-    requires capacity { LINES_LIMIT ≤ vec_capacity room.old }
+    requires lines_room { lines_written + P.room ≤ length lines.old }
+    requires capacity { P.room ≤ vec_capacity room.old }
     ensures some { 1 ≤ result.taken }
     ensures within { result.taken ≤ limit }
-    ensures fed { FeedsXterm inner.old front.old (take result.taken piece.now) inner.new front.new out.old written out.new
+    ensures state { inner.new ≡ (P.told inner.old player.old (take result.taken piece.now)).state }
+    ensures kept { player.new ≡ (P.told inner.old player.old (take result.taken piece.now)).kept }
+    ensures sent { WritesAt (P.told inner.old player.old (take result.taken piece.now)).reports out.old written out.new
         result.written }
-    ensures off { WritesAt (xterm_lines inner.old front.old (take result.taken piece.now)) lines.old lines_written lines.new
-        result.lines_written }
+    ensures off { WritesAt (P.told inner.old player.old (take result.taken piece.now)).lines lines.old lines_written
+        lines.new result.lines_written }
     ensures fits { written + result.written ≤ length out.old }
     ensures capacity { vec_capacity room.old ≤ vec_capacity room.new }
 {
-    log_cuts();
+    let _ = inner.terminal.width();
+    player.cuts();
     let most = ((out.len() - written) / REPORT_LIMIT).min(CHUNK);
     inner.reports.clear();
     room.clear();
-    let taken = feed_xterm_log_reserved(
+    let taken = player.feed_log(
         &mut inner.terminal,
-        front,
         &piece[..limit.min(most)],
         &mut inner.reports,
         room,
@@ -138,9 +130,9 @@ fn log_turn(
 }
 
 /// Plays a turn, with its log if `logs` is true.
-fn any_turn(
+fn any_turn<P: Player>(
     inner: &mut Inner,
-    front: &mut Front,
+    player: &mut P,
     piece: &[u8],
     limit: usize,
     logs: bool,
@@ -154,21 +146,23 @@ fn any_turn(
     requires limit { limit ≤ length piece.now }
     requires out_room { written + REPORT_LIMIT ≤ length out.old }
     requires lines { lines_written ≤ length lines.old }
-    requires lines_room { logs ≡ true → lines_written + LINES_LIMIT ≤ length lines.old }
-    requires capacity { logs ≡ true → LINES_LIMIT ≤ vec_capacity room.old }
+    requires lines_room { logs ≡ true → lines_written + P.room ≤ length lines.old }
+    requires capacity { logs ≡ true → P.room ≤ vec_capacity room.old }
     ensures some { 1 ≤ result.taken }
     ensures within { result.taken ≤ limit }
-    ensures fed { FeedsXterm inner.old front.old (take result.taken piece.now) inner.new front.new out.old written out.new
+    ensures state { inner.new ≡ (P.told inner.old player.old (take result.taken piece.now)).state }
+    ensures kept { player.new ≡ (P.told inner.old player.old (take result.taken piece.now)).kept }
+    ensures sent { WritesAt (P.told inner.old player.old (take result.taken piece.now)).reports out.old written out.new
         result.written }
-    ensures off { WritesAt (xterm_lines_if logs inner.old front.old (take result.taken piece.now)) lines.old lines_written
-        lines.new result.lines_written }
+    ensures off { WritesAt (lines_if logs (P.told inner.old player.old (take result.taken piece.now)).lines) lines.old
+        lines_written lines.new result.lines_written }
     ensures fits { written + result.written ≤ length out.old }
     ensures capacity { vec_capacity room.old ≤ vec_capacity room.new }
 {
     if logs {
         log_turn(
             inner,
-            front,
+            player,
             piece,
             limit,
             out,
@@ -178,24 +172,24 @@ fn any_turn(
             room,
         )
     } else {
-        feed_turn(inner, front, piece, limit, out, written)
+        feed_turn(inner, player, piece, limit, out, written)
     }
 }
 
-/// Returns whether there is capacity for the lines of two screens, or there is no log.
-fn has_room(lines: &[u8], lines_written: usize, logs: bool) -> bool
+/// Returns whether there is capacity for the lines of a turn, or there is no log.
+fn has_room<P: Player>(player: &P, lines: &[u8], lines_written: usize, logs: bool) -> bool
     requires { lines_written ≤ length lines.now }
-    ensures room { OnTrue result (logs ≡ true → lines_written + LINES_LIMIT ≤ length lines.now) }
-    ensures full { OnFalse result ((logs ≡ true) × (length lines.now < lines_written + LINES_LIMIT)) }
+    ensures room { OnTrue result (logs ≡ true → lines_written + P.room ≤ length lines.now) }
+    ensures full { OnFalse result ((logs ≡ true) × (length lines.now < lines_written + P.room)) }
 {
-    !logs || lines.len() - lines_written >= LINES_LIMIT
+    !logs || lines.len() - lines_written >= player.lines_limit()
 }
 
-/// Plays as many bytes of a chunk as the buffers have capacity for: a byte can cause ten bytes of reports, and with a log two
-/// screens of lines. Counts the bells if `counts` is true. There is a log if `logs` is true.
-pub(crate) fn feed_xterm(
+/// Plays as many bytes of a chunk as the buffers have capacity for: a byte can cause ten bytes of reports, and a turn with a log
+/// needs capacity for its lines. Counts the bells if `counts` is true. There is a log if `logs` is true.
+pub(crate) fn play<P: Player>(
     inner: &mut Inner,
-    front: &mut Front,
+    player: &mut P,
     piece: &[u8],
     counts: bool,
     logs: bool,
@@ -203,21 +197,16 @@ pub(crate) fn feed_xterm(
     lines: &mut [u8],
     room: &mut Vec<u8>,
 ) -> Logged
-    requires { logs ≡ true → LINES_LIMIT ≤ vec_capacity room.old }
+    requires { logs ≡ true → P.room ≤ vec_capacity room.old }
     ensures within { result.taken ≤ length piece.now }
-    ensures fed { FeedsXterm inner.old front.old (take result.taken piece.now) inner.new front.new out.old 0 out.new
-        result.written }
-    ensures off { WritesAt (xterm_lines_if logs inner.old front.old (take result.taken piece.now)) lines.old 0 lines.new
-        result.lines_written }
+    ensures fed { Plays logs counts (P.told inner.old player.old (take result.taken piece.now)) inner.new player.new out.old 0
+        out.new lines.old 0 lines.new result.written result.lines_written result.bells }
     ensures all { (result.taken ≡ length piece.now) ⊎ (length out.old < result.written + REPORT_LIMIT)
-        ⊎ ((logs ≡ true) × (length lines.old < result.lines_written + LINES_LIMIT)) }
-    ensures none { counts ≡ false → result.bells ≡ 0 }
-    ensures bells { counts ≡ true → result.bells ≡ xterm_bells inner.old front.old (take result.taken piece.now) }
+        ⊎ ((logs ≡ true) × (length lines.old < result.lines_written + P.room)) }
     ensures capacity { vec_capacity room.old ≤ vec_capacity room.new }
 {
-    cuts();
-    log_cuts();
-    utf8_cuts();
+    let _ = inner.terminal.width();
+    player.cuts();
     let mut done = Logged {
         taken: 0,
         written: 0,
@@ -226,13 +215,13 @@ pub(crate) fn feed_xterm(
     };
     while done.taken < piece.len()
         && out.len() - done.written >= REPORT_LIMIT
-        && has_room(lines, done.lines_written, logs)
+        && has_room(player, lines, done.lines_written, logs)
     {
         let rest = &piece[done.taken..];
-        let turn = next_turn(inner, rest, counts);
+        let turn = next_turn(inner, player, rest, counts);
         let sent = any_turn(
             inner,
-            front,
+            player,
             rest,
             turn.len,
             logs,

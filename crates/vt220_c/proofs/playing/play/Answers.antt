@@ -1,0 +1,41 @@
+use Rattle.std.proofs.Common.{arith, length-drop}
+use Rattle.vt220_c.proofs.Pieces.{rest-of}
+use Rattle.vt220_c.proofs.Turns.{plays-nothing, plays-turn}
+use Rattle.vt220_c.proofs.playing.play.Goals as goal
+
+pub loop-done-init : goal.loop-done-init
+loop-done-init g c = record {
+  within = omega arith;
+  fed = plays-nothing g.P.Player.told c.cuts.ensures c.args.logs c.args.counts c.args.inner.now c.args.player.now
+      c.args.out.now c.args.lines.now (rw c.inner.view_is at c.width.ensures.sound);
+  fits = omega arith;
+  few = omega arith;
+  capacity = omega arith;
+}
+
+pub loop-done-preserved : goal.loop-done-preserved
+loop-done-preserved g c =
+    let piece = c.args.piece.now in
+    let rest = rest-of piece c.loop-done.done.taken in
+    let turn = rw rest at c.next_turn-turn.ensures in
+    let sent = rw rest at c.any_turn-sent.ensures in
+    let inside = simp length-drop at turn.within in
+    let before = c.loop-done.invariant in
+    let taken = c.loop-done.done.taken in
+    let n = c.any_turn-sent.result.taken in
+    record {
+      within = omega (arith, inside, sent.within);
+      fed = plays-turn g.P.Player.told c.cuts.ensures c.args.logs c.args.counts c.args.inner.now c.loop-done.inner
+          c.any_turn-sent.new.inner c.args.player.now c.loop-done.player c.any_turn-sent.new.player piece taken n
+          c.args.out.now c.loop-done.out c.any_turn-sent.new.out c.args.lines.now c.loop-done.lines
+          c.any_turn-sent.new.lines _ _ _ _ _ _ (rw c.inner.view_is at c.width.ensures.sound) before.fed (record {
+            state = sent.state;
+            kept = sent.kept;
+            sent = sent.sent;
+            off = sent.off;
+            rings = turn.rings n sent.some sent.within;
+          });
+      fits = omega (arith, sent.fits, c.loop-done.auto.out);
+      few = omega (arith, before.few, turn.few, sent.some);
+      capacity = omega (arith, before.capacity, sent.capacity);
+    }

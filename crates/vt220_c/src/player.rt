@@ -1,0 +1,153 @@
+//! Players: how what a host sends is played on a terminal, if it isn't a VT220's bytes.
+ghost use Rattle.std.specs.Prelude.{◌≡◌, ◌+◌, ◌*◌, ◌≤◌, ◌<◌, ◌⊎◌, ◌++◌, ◌∷◌, [], ℕ, List, length, take, vec_len, vec_capacity};
+ghost use Rattle.vt_term.specs.State.{State};
+ghost use Rattle.vt220_c.specs.Told.{Told, AreTold};
+
+use crate::bells::{rings, rings_in_character};
+use vt_syntax::laws::{controls, one_split, spelled};
+use vt_term::Terminal;
+use vt_term::laws::{log_cuts as vt220_log_cuts, soundness};
+use vt_utf8::laws::{cuts as utf8_cuts, one_byte, silence, writes};
+use vt_utf8::{Decoder, UTF8_LINES_LIMIT, feed_utf8_log_reserved, feed_utf8_reserved};
+use vt_xterm::laws::{cuts as xterm_cuts, log_cuts as xterm_log_cuts};
+use vt_xterm::{Front, LINES_LIMIT, feed_xterm_log_reserved, feed_xterm_reserved};
+
+/// How what a host sends is played on a terminal.
+pub(crate) trait Player: Drop {
+    /// What bytes leave.
+    ghost told: { State → Self → List ℕ → Told Self };
+
+    /// The capacity for lines without which a feed with a log stops.
+    ghost room: { ℕ };
+
+    /// Returns the capacity for lines without which a feed with a log stops.
+    fn lines_limit(&self) -> usize
+        ensures { result ≡ room };
+
+    /// Returns how often a byte rings.
+    fn rings(&self, terminal: &Terminal, b: u8) -> usize
+        ensures bells { result ≡ (told terminal.now self.now (b ∷ [])).rung }
+        ensures few { result ≤ 1 };
+
+    /// Plays a chunk, and appends the reports. `reports` has capacity for ten more bytes for each byte of the chunk.
+    fn feed(&mut self, terminal: &mut Terminal, piece: &[u8], reports: &mut Vec<u8>)
+        requires { vec_len reports.old + 10 * length piece.now ≤ vec_capacity reports.old }
+        ensures state { terminal.new ≡ (told terminal.old self.old piece.now).state }
+        ensures kept { self.new ≡ (told terminal.old self.old piece.now).kept }
+        ensures reports { reports.new.items ≡ reports.old.items ++ (told terminal.old self.old piece.now).reports }
+        ensures bounded { vec_len reports.new ≤ vec_len reports.old + 10 * length piece.now }
+        ensures capacity { vec_capacity reports.old ≤ vec_capacity reports.new };
+
+    /// Plays the front of a chunk, and appends the reports and at most `most` bytes of the lines that scroll off. Returns how
+    /// many bytes it played. If it stops early, `lines` has too few bytes free, or too few of `most` are left.
+    fn feed_log(
+        &mut self,
+        terminal: &mut Terminal,
+        piece: &[u8],
+        reports: &mut Vec<u8>,
+        lines: &mut Vec<u8>,
+        most: usize,
+    ) -> usize
+        requires { vec_len reports.old + 10 * length piece.now ≤ vec_capacity reports.old }
+        ensures within { result ≤ length piece.now }
+        ensures all { result < length piece.now → (vec_capacity lines.new < vec_len lines.new + room)
+            ⊎ (vec_len lines.old + most < vec_len lines.new + room) }
+        ensures state { terminal.new ≡ (told terminal.old self.old (take result piece.now)).state }
+        ensures kept { self.new ≡ (told terminal.old self.old (take result piece.now)).kept }
+        ensures reports { reports.new.items
+            ≡ reports.old.items ++ (told terminal.old self.old (take result piece.now)).reports }
+        ensures lines { lines.new.items ≡ lines.old.items ++ (told terminal.old self.old (take result piece.now)).lines }
+        ensures reports_bounded { vec_len reports.new ≤ vec_len reports.old + 10 * result }
+        ensures lines_bounded { vec_len lines.new ≤ vec_len lines.old + most }
+        ensures reports_capacity { vec_capacity reports.old ≤ vec_capacity reports.new }
+        ensures lines_capacity { vec_capacity lines.old ≤ vec_capacity lines.new };
+
+    /// States that bytes may be cut anywhere.
+    fn cuts(&self)
+        ensures { AreTold told };
+}
+
+/// The host sends UTF-8. What is pending of a character is kept.
+impl Player for Decoder {
+    ghost use Rattle.vt220_c.specs.Utf8.{utf8_told};
+
+    ghost told = { utf8_told };
+
+    ghost room = { 17468 };
+
+    fn lines_limit(&self) -> usize {
+        UTF8_LINES_LIMIT
+    }
+
+    fn rings(&self, terminal: &Terminal, b: u8) -> usize {
+        let _ = terminal.width();
+        soundness();
+        controls();
+        one_split();
+        spelled();
+        one_byte();
+        silence();
+        writes();
+        let (_, character) = self.copied().push(b);
+        rings_in_character(terminal.held(), character)
+    }
+
+    fn feed(&mut self, terminal: &mut Terminal, piece: &[u8], reports: &mut Vec<u8>) {
+        feed_utf8_reserved(terminal, self, piece, reports);
+    }
+
+    fn feed_log(
+        &mut self,
+        terminal: &mut Terminal,
+        piece: &[u8],
+        reports: &mut Vec<u8>,
+        lines: &mut Vec<u8>,
+        most: usize,
+    ) -> usize {
+        feed_utf8_log_reserved(terminal, self, piece, reports, lines, most)
+    }
+
+    fn cuts(&self) {
+        utf8_cuts();
+        vt220_log_cuts();
+        one_split();
+    }
+}
+
+/// The host sends for an xterm. What a terminal needs under TERM=xterm is kept.
+impl Player for Front {
+    ghost use Rattle.vt220_c.specs.Xterm.{xterm_told};
+
+    ghost told = { xterm_told };
+
+    ghost room = { 19056 };
+
+    fn lines_limit(&self) -> usize {
+        LINES_LIMIT
+    }
+
+    fn rings(&self, terminal: &Terminal, b: u8) -> usize {
+        rings(terminal.held(), b)
+    }
+
+    fn feed(&mut self, terminal: &mut Terminal, piece: &[u8], reports: &mut Vec<u8>) {
+        feed_xterm_reserved(terminal, self, piece, reports);
+    }
+
+    fn feed_log(
+        &mut self,
+        terminal: &mut Terminal,
+        piece: &[u8],
+        reports: &mut Vec<u8>,
+        lines: &mut Vec<u8>,
+        most: usize,
+    ) -> usize {
+        feed_xterm_log_reserved(terminal, self, piece, reports, lines, most)
+    }
+
+    fn cuts(&self) {
+        xterm_cuts();
+        xterm_log_cuts();
+        utf8_cuts();
+    }
+}

@@ -16,13 +16,14 @@ use Rattle.std.proofs.lemmas.List.Folds.{list_all-append}
 use Rattle.std.proofs.lemmas.Str.Ascii.{IsAscii-nil, IsAscii-cons}
 use Rattle.std.proofs.lemmas.Str.Parse.{digit_from_value}
 use Rattle.vt_glyph.proofs.Lists.{both, either, all_taken}
+use Rattle.vt_glyph.proofs.EachSet.{passes}
 use Rattle.vt_glyph.specs.declared.set.Set.{Set}
 use Rattle.vt_glyph.specs.Designation.{final_of}
 use Rattle.vt_syntax.specs.declared.event.Event.{Event}
 use Rattle.vt_syntax.specs.declared.event.Event.TheVariants.{Print}
 use Rattle.vt_syntax.specs.declared.event.Event.TheVariants as event
 use Rattle.vt_syntax.specs.Spelling.{spell_event}
-use Rattle.vt_controls.proofs.Tests.{at_set, is_event, is_fine, element_of}
+use Rattle.vt_controls.proofs.Tests.{is_event, is_fine, element_of}
 use Rattle.vt_controls.specs.Spoken.{Element, Character, Control, Escape, Sequence, element_bytes, is_one_of, is_among}
 use Rattle.vt_controls.specs.Spoken.{are_numbers, are_attributes, is_designation, mode_numbers, spoken_controls}
 use Rattle.vt_controls.specs.Spoken.{spoken_escapes, spoken_sequences, is_spoken, AreElements, Speaks}
@@ -195,7 +196,7 @@ pub designation_speaks : (inter : ℕ) (set : Set) → is_one_of (codes "()*+") 
 designation_speaks inter set h =
     speaks-one (Escape (inter ∷ final_of set ∷ [])) (all_taken (λ inter. is_spoken (Escape (inter ∷ final_of set ∷ [])))
     (λ b. b) (codes "()*+") inter
-    (at_set (λ set. list_all (λ inter. is_spoken (Escape (inter ∷ final_of set ∷ []))) (codes "()*+")) refl set) h)
+    (passes (λ set. list_all (λ inter. is_spoken (Escape (inter ∷ final_of set ∷ []))) (codes "()*+")) refl set) h)
 
 -- ---- events
 

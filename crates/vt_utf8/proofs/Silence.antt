@@ -2,7 +2,7 @@
 use Rattle.std.proofs.Common.{◌≡◌, ℕ, zero, suc, take, drop, ◌+◌, ◌-◌, ◌≤◌, Bool, true, false, not, List, [], ◌∷◌, ◌++◌, All, length, Some, inl, inr, refl, sym, ap, ◌∙◌, arith, append_assoc, append-nil}
 use Rattle.std.specs.Prelude.{nat_lt, nat_le, ◌==◌, ◌&&◌, slice_index_or, if◌then◌else◌}
 use Rattle.std.specs.List.{list_all}
-use Rattle.std.proofs.lemmas.Bool.{and_parts}
+use Rattle.std.proofs.lemmas.Bool.{and_parts, leb-true}
 use Rattle.std.proofs.lemmas.List.{take-append-drop}
 use Rattle.std.proofs.Math.Seq.{take-add, take-length}
 use Rattle.std.proofs.lemmas.Bool.Decides.{nat_tests}
@@ -18,7 +18,7 @@ use Rattle.vt_syntax.specs.Reading.{events_of}
 use Rattle.vt_syntax.specs.Spelling.{IsEvent, spell_event, spell_events}
 use Rattle.vt_syntax.specs.Laws.{SpellingLaw}
 use Rattle.vt_glyph.specs.declared.set.Set.{Set}
-use Rattle.vt_glyph.specs.declared.set.Set.TheVariants.{Ascii, British, German, Special, Supplemental}
+use Rattle.vt_glyph.specs.declared.set.Set.TheVariants.{Ascii, Special, Supplemental}
 use Rattle.vt_glyph.specs.declared.glyph.Spelling.{Spelling}
 use Rattle.vt_glyph.specs.declared.glyph.Spelling.TheVariants.{Plain, Second, Third}
 use Rattle.vt_glyph.specs.Tables.{IsGlyph, is_glyph, glyph_of, space, substitute_glyph}
@@ -27,6 +27,7 @@ use Rattle.vt_glyph.specs.GraphicSets.{GraphicSets}
 use Rattle.vt_glyph.specs.Invocation.{set_at}
 use Rattle.vt_glyph.specs.Spell.{spelling_of, code_of}
 use Rattle.vt_glyph.specs.Laws.{GlyphLaws, SpellingLaws}
+use Rattle.vt_glyph.proofs.EachSet as each_set
 use Rattle.vt_term.specs.Scrolling.{log}
 use Rattle.vt_term.specs.State.{Display, State}
 use Rattle.vt_term.specs.Sound.{IsSound}
@@ -99,11 +100,10 @@ unfolding opens_string control_report
 spell-ss3 = spell-control 0x8F 0x4F refl (inr (omega arith, omega arith, refl)) (λ s. refl)
 
 pub final : (set : Set) → (0x30 ≤ final_of set) × (final_of set ≤ 0x7E)
-final Ascii = (omega arith, omega arith)
-final British = (omega arith, omega arith)
-final German = (omega arith, omega arith)
-final Special = (omega arith, omega arith)
-final Supplemental = (omega arith, omega arith)
+final set =
+    let two = and_parts (nat_le 0x30 (final_of set)) (nat_le (final_of set) 0x7E)
+    (each_set.passes (λ set. nat_le 0x30 (final_of set) && nat_le (final_of set) 0x7E) refl set) in
+    (leb-true 0x30 (final_of set) two.0, leb-true (final_of set) 0x7E two.1)
 
 pub spell-designation : (inter : ℕ) (set : Set) → 0x20 ≤ inter → inter ≤ 0x2F
     → SpellQuietly (Escape (Some inter) (final_of set) ∷ []) (designation inter set)

@@ -12,7 +12,7 @@ use Rattle.vt_syntax.specs.Held.{held_after}
 use Rattle.vt_syntax.specs.Reading.{events_of}
 use Rattle.vt_syntax.specs.Laws.{SpellingLaw}
 use Rattle.vt_glyph.specs.declared.set.Set.{Set}
-use Rattle.vt_glyph.specs.declared.set.Set.TheVariants.{Ascii, British, German, Special, Supplemental}
+use Rattle.vt_glyph.specs.declared.set.Set.TheVariants.{Ascii, Special, Supplemental}
 use Rattle.vt_glyph.specs.declared.glyph.Spelling.{Spelling}
 use Rattle.vt_glyph.specs.declared.glyph.Spelling.TheVariants.{Plain, Second, Third}
 use Rattle.vt_glyph.specs.Tables.{IsGlyph, glyph_of, space}
@@ -21,6 +21,8 @@ use Rattle.vt_glyph.specs.GraphicSets.{GraphicSets}
 use Rattle.vt_glyph.specs.Invocation.{set_at, invoked, has_no_glyph, glyph_read, after_read, shifted_once, designated}
 use Rattle.vt_glyph.specs.Spell.{spelling_of, code_of, shifted_for, AreSpellingSets}
 use Rattle.vt_glyph.specs.Laws.{GlyphLaws, SpellingLaws}
+use Rattle.vt_glyph.proofs.EachSet.{same_for}
+use Rattle.vt_glyph.proofs.Designations.{set_of_final-final_of}
 use Rattle.vt_screen.specs.declared.cell.Cell.{Cell}
 use Rattle.vt_screen.specs.Grid.{row_of}
 use Rattle.vt_term.specs.Scrolling.{is_at_end, line_off, lines_off, scrolled_off}
@@ -93,11 +95,8 @@ record IsShift (slot last inter : ℕ) : Type 0 where
 
 effect-g2 : (set : Set) (d : Display) → effect (Escape (Some 0x2A) (final_of set)) d ≡ record d { sets = designated 2 set d.sets }
 unfolding escape_with
-effect-g2 Ascii d = refl
-effect-g2 British d = refl
-effect-g2 German d = refl
-effect-g2 Special d = refl
-effect-g2 Supplemental d = refl
+effect-g2 set d =
+    same_for (λ set. effect (Escape (Some 0x2A) (final_of set)) d) (λ set. record d { sets = designated 2 set d.sets }) refl set
 
 to-g2 : IsShift 2 0x4E 0x2A
 unfolding control
@@ -111,11 +110,8 @@ to-g2 = record {
 
 effect-g3 : (set : Set) (d : Display) → effect (Escape (Some 0x2B) (final_of set)) d ≡ record d { sets = designated 3 set d.sets }
 unfolding escape_with
-effect-g3 Ascii d = refl
-effect-g3 British d = refl
-effect-g3 German d = refl
-effect-g3 Special d = refl
-effect-g3 Supplemental d = refl
+effect-g3 set d =
+    same_for (λ set. effect (Escape (Some 0x2B) (final_of set)) d) (λ set. record d { sets = designated 3 set d.sets }) refl set
 
 to-g3 : IsShift 3 0x4F 0x2B
 unfolding control
@@ -175,19 +171,11 @@ pub prints : (d : Display) (code n : ℕ) → 0x20 ≤ code → code ≤ 0x7E �
     → print code d ≡ write_glyph n (unshifted d)
 prints d code n low high read = rw (read, after-graphic d.sets code low high) refl
 
--- a set is known by its final byte
-final-back : (set : Set) → set_of_final (final_of set) ≡ Some set
-final-back Ascii = refl
-final-back British = refl
-final-back German = refl
-final-back Special = refl
-final-back Supplemental = refl
-
 some-same : (a b : Set) → Some a ≡ Some b → a ≡ b
 some-same a b h = cc
 
 same-final : (a b : Set) → final_of a ≡ final_of b → a ≡ b
-same-final a b e = some-same a b (sym (final-back a) ∙ ap set_of_final e ∙ final-back b)
+same-final a b e = some-same a b (sym (set_of_final-final_of a) ∙ ap set_of_final e ∙ set_of_final-final_of b)
 
 module _ (slot last inter : ℕ) (is : IsShift slot last inter) (code n : ℕ) (low : 0x20 ≤ code) (high : code ≤ 0x7E) where
   does-designated : (set : Set) (d : Display) → Does (designation inter set) d (record d { sets = designated slot set d.sets }) []

@@ -25,7 +25,7 @@ use Rattle.vt_syntax.specs.declared.event.Event.TheVariants as event
 use Rattle.vt_syntax.specs.Spelling.{spell_event}
 use Rattle.vt_controls.proofs.Tests.{is_event, is_fine, element_of}
 use Rattle.vt_controls.specs.Spoken.{Element, Character, Control, Escape, Sequence, element_bytes, is_one_of, is_among}
-use Rattle.vt_controls.specs.Spoken.{are_numbers, are_attributes, is_designation, mode_numbers, spoken_controls}
+use Rattle.vt_controls.specs.Spoken.{are_numbers, are_attributes, is_designation, set_finals, mode_numbers, spoken_controls}
 use Rattle.vt_controls.specs.Spoken.{spoken_escapes, spoken_sequences, is_spoken, AreElements, Speaks}
 
 pub speaks-none : Speaks []
@@ -93,8 +93,8 @@ designation_small : (ending : List ℕ) → is_designation ending ≡ true → a
 designation_small [] h = absurd cc
 designation_small (slot ∷ []) h = absurd cc
 designation_small (slot ∷ set ∷ []) h =
-    let two = both (is_one_of (codes "()*+") slot) (is_one_of (codes "BAK0<") set) h in
-    rw (one_small (codes "()*+") slot refl two.0, one_small (codes "BAK0<") set refl two.1) refl
+    let two = both (is_one_of (codes "()*+") slot) (is_one_of set_finals set) h in
+    rw (one_small (codes "()*+") slot refl two.0, one_small set_finals set refl two.1) refl
 designation_small (slot ∷ set ∷ more ∷ rest) h = absurd cc
 
 -- a row's test

@@ -164,7 +164,7 @@ typedef struct vt220_brush_look {
 
 /* The graphic sets. */
 typedef struct vt220_graphic_sets {
-    uint8_t g0, g1, g2, g3; /* the final byte of the set in G0 to G3: 'B', 'A', 'K', '0' or '<' */
+    uint8_t g0, g1, g2, g3; /* the final byte of the set in G0 to G3, as vt220(7) lists them: 'B' for ASCII */
     uint8_t gl;             /* which of these is in GL, 0 to 3 */
     uint8_t gr;             /* which of these is in GR, 1 to 3 */
     uint8_t single_shift;   /* 2 or 3 if a single shift to G2 or G3 is pending, otherwise 0 */

@@ -88,7 +88,7 @@ export interface Modes {
   reports8bit: boolean;
 }
 
-/** The final byte of the sequence that designates a set: ASCII, British, German, DEC Special Graphics or DEC Supplemental. */
+/** The final byte of the sequence that designates a set, as docs/SPECIFICATION.md lists them. */
 export type SetName = "B" | "A" | "K" | "0" | "<";
 
 interface Designations {

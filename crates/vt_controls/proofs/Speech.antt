@@ -16,15 +16,16 @@ use Rattle.std.proofs.lemmas.List.Folds.{list_all-append}
 use Rattle.std.proofs.lemmas.Str.Ascii.{IsAscii-nil, IsAscii-cons}
 use Rattle.std.proofs.lemmas.Str.Parse.{digit_from_value}
 use Rattle.vt_glyph.proofs.Lists.{both, either, all_taken}
+use Rattle.vt_glyph.proofs.EachSet.{passes}
 use Rattle.vt_glyph.specs.declared.set.Set.{Set}
 use Rattle.vt_glyph.specs.Designation.{final_of}
 use Rattle.vt_syntax.specs.declared.event.Event.{Event}
 use Rattle.vt_syntax.specs.declared.event.Event.TheVariants.{Print}
 use Rattle.vt_syntax.specs.declared.event.Event.TheVariants as event
 use Rattle.vt_syntax.specs.Spelling.{spell_event}
-use Rattle.vt_controls.proofs.Tests.{at_set, is_event, is_fine, element_of}
+use Rattle.vt_controls.proofs.Tests.{is_event, is_fine, element_of}
 use Rattle.vt_controls.specs.Spoken.{Element, Character, Control, Escape, Sequence, element_bytes, is_one_of, is_among}
-use Rattle.vt_controls.specs.Spoken.{are_numbers, are_attributes, is_designation, mode_numbers, spoken_controls}
+use Rattle.vt_controls.specs.Spoken.{are_numbers, are_attributes, is_designation, set_finals, mode_numbers, spoken_controls}
 use Rattle.vt_controls.specs.Spoken.{spoken_escapes, spoken_sequences, is_spoken, AreElements, Speaks}
 
 pub speaks-none : Speaks []
@@ -92,8 +93,8 @@ designation_small : (ending : List ℕ) → is_designation ending ≡ true → a
 designation_small [] h = absurd cc
 designation_small (slot ∷ []) h = absurd cc
 designation_small (slot ∷ set ∷ []) h =
-    let two = both (is_one_of (codes "()*+") slot) (is_one_of (codes "BAK0<") set) h in
-    rw (one_small (codes "()*+") slot refl two.0, one_small (codes "BAK0<") set refl two.1) refl
+    let two = both (is_one_of (codes "()*+") slot) (is_one_of set_finals set) h in
+    rw (one_small (codes "()*+") slot refl two.0, one_small set_finals set refl two.1) refl
 designation_small (slot ∷ set ∷ more ∷ rest) h = absurd cc
 
 -- a row's test
@@ -195,7 +196,7 @@ pub designation_speaks : (inter : ℕ) (set : Set) → is_one_of (codes "()*+") 
 designation_speaks inter set h =
     speaks-one (Escape (inter ∷ final_of set ∷ [])) (all_taken (λ inter. is_spoken (Escape (inter ∷ final_of set ∷ [])))
     (λ b. b) (codes "()*+") inter
-    (at_set (λ set. list_all (λ inter. is_spoken (Escape (inter ∷ final_of set ∷ []))) (codes "()*+")) refl set) h)
+    (passes (λ set. list_all (λ inter. is_spoken (Escape (inter ∷ final_of set ∷ []))) (codes "()*+")) refl set) h)
 
 -- ---- events
 

@@ -1,4 +1,4 @@
--- Tests that compute: of each truth value, brush and set, and of events.
+-- Tests that compute: of each truth value and brush, and of events.
 use Rattle.std.proofs.Common.{suc, ◌≡◌, inl, inr, Bool, true, false, not, cond, ◌&&◌, ◌||◌, ℕ, ◌-◌, ◌≤◌, List, []}
 use Rattle.std.proofs.Common.{◌∷◌, ◌++◌, length, Option, Some, None, refl, arith, eqb, leb, ltb}
 use Rattle.std.specs.Prelude.{IfSome}
@@ -12,8 +12,6 @@ use Rattle.vt_syntax.specs.Class.{opens}
 use Rattle.vt_syntax.specs.Held.{spell_values}
 use Rattle.vt_syntax.specs.Spelling.{IsEvent}
 use Rattle.vt_glyph.proofs.Lists.{either}
-use Rattle.vt_glyph.specs.declared.set.Set.{Set}
-use Rattle.vt_glyph.specs.declared.set.Set.TheVariants.{Ascii, British, German, Special, Supplemental}
 use Rattle.vt_screen.specs.declared.cell.Brush.{Brush}
 use Rattle.vt_term.specs.State.{Display}
 use Rattle.vt_term.specs.Parameters.{first}
@@ -52,19 +50,6 @@ unfolding all_brushes
 at_brush p h brush =
     let r = brush.rendition in
     at_bool _ (at_bool _ (at_bool _ (at_bool _ (at_bool _ h r.bold) r.underline) r.blink) r.reverse) brush.protected
-
-abbrev sets : List Set
-sets = Ascii ∷ British ∷ German ∷ Special ∷ Supplemental ∷ []
-
-abbrev pub all_sets : (Set → Bool) → Bool
-all_sets p = list_all p sets
-
-pub at_set : (p : Set → Bool) → all_sets p ≡ true → (set : Set) → p set ≡ true
-at_set p h Ascii = AllPass-from_list_all p sets h 0 Ascii (omega arith)
-at_set p h British = AllPass-from_list_all p sets h 1 Ascii (omega arith)
-at_set p h German = AllPass-from_list_all p sets h 2 Ascii (omega arith)
-at_set p h Special = AllPass-from_list_all p sets h 3 Ascii (omega arith)
-at_set p h Supplemental = AllPass-from_list_all p sets h 4 Ascii (omega arith)
 
 pub not_true : (a : Bool) → not a ≡ true → a ≡ false
 not_true true h = absurd cc

@@ -3,6 +3,7 @@
 use Rattle.std.specs.Prelude.{◌≡◌, ℕ, List, [], ◌∷◌, ◌++◌, Bool, true, false, ◌==◌, ◌&&◌, ◌||◌, nat_le, codes, bytes_eq}
 use Rattle.std.specs.Prelude.{decimal, map}
 use Rattle.std.specs.List.{flat_map, list_all, list_any}
+use Rattle.vt_glyph.specs.Designation.{finals}
 use Rattle.vt_term.specs.Modes.{ansi_modes, private_modes}
 
 -- a graphic character; a control of one byte; ESC and what follows it; CSI, the parameters, and what ends it
@@ -40,9 +41,13 @@ are_attributes text = list_all (is_one_of (codes "01457;")) text && are_apart te
     are_apart (b ∷ []) = true
     are_apart (b ∷ c ∷ more) = (b == 0x3B || c == 0x3B) && are_apart (c ∷ more)
 
+-- the final bytes of the sets
+abbrev pub set_finals : List ℕ
+set_finals = map (λ row. row.0) finals
+
 -- SCS: G0, G1, G2 or G3, and the final byte of a set
 abbrev pub is_designation : List ℕ → Bool
-is_designation (slot ∷ set ∷ []) = is_one_of (codes "()*+") slot && is_one_of (codes "BAK0<") set
+is_designation (slot ∷ set ∷ []) = is_one_of (codes "()*+") slot && is_one_of set_finals set
 is_designation _ = false
 
 -- the modes of the terminal, by their numbers: after `?` that of a private one

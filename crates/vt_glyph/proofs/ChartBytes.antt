@@ -7,10 +7,10 @@ use Rattle.std.proofs.Math.ListN.{get_or-append}
 use Rattle.std.proofs.lemmas.List.{get_or-append_right}
 use Rattle.std.proofs.lemmas.Bool.Decides.{nat_tests}
 use Rattle.vt_glyph.specs.declared.set.Set.{Set}
-use Rattle.vt_glyph.specs.declared.set.Set.TheVariants.{Ascii, British, German, Special, Supplemental}
 use Rattle.vt_glyph.specs.Tables.{glyph_of, space, IsGlyph}
 use Rattle.vt_glyph.specs.Encoding.{encoded_glyph, encodings, IsEncoding}
 use Rattle.vt_glyph.specs.Invocation.{InUseTable, HasGlyph, glyph_in_use}
+use Rattle.vt_glyph.proofs.EachSet.{same_for}
 use Rattle.vt_glyph.proofs.Charts.{table_space}
 use Rattle.vt_glyph.proofs.Glyphs.{IsEncoding-table_entry, encoded_glyph-table_entry, IsEncoding-ascii}
 use Rattle.vt_glyph.proofs.Glyphs.{encoded_glyph-ascii}
@@ -21,11 +21,7 @@ chart_byte set code = slice_index (encodings set) code
 
 -- a byte in the chart of two sets
 half_length : (set : Set) → length (encodings set) ≡ 0x80
-half_length Ascii = refl
-half_length British = refl
-half_length German = refl
-half_length Special = refl
-half_length Supplemental = refl
+half_length = same_for (λ set. length (encodings set)) (λ set. 0x80) refl
 
 pub both_halves : (left right : Set) (b : ℕ) → HasGlyph b
     → slice_index (encodings left ++ (encodings right ++ [])) b ≡ chart_byte (if ltb b 0x80 then left else right)

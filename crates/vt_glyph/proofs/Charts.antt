@@ -3,13 +3,13 @@ use Rattle.std.proofs.Common.{◌≡◌, ℕ, Bool, true, false, not, refl, ◌=
 use Rattle.std.specs.Prelude.{nat_le, slice_index}
 use Rattle.std.specs.List.{range_with_len, list_all}
 use Rattle.vt_glyph.specs.declared.set.Set.{Set}
-use Rattle.vt_glyph.specs.declared.set.Set.TheVariants.{Ascii, British, German, Special, Supplemental}
 use Rattle.vt_glyph.specs.declared.glyph.TheConstants.{CHARACTERS}
 use Rattle.vt_glyph.specs.declared.glyph.Spelling.{Spelling}
 use Rattle.vt_glyph.specs.declared.glyph.Spelling.TheVariants.{Plain, Second, Third}
 use Rattle.vt_glyph.specs.Tables.{glyph_of, is_glyph, set_codes}
 use Rattle.vt_glyph.specs.Spell.{spelling_of, spelled_glyph, code_of}
 use Rattle.vt_glyph.specs.Encoding.{encoded_spelling, encoded_glyph, encoding_of, encodings}
+use Rattle.vt_glyph.proofs.EachSet.{EachPasses, all_shown, same_for, passes}
 
 abbrev pub same_spelling : Spelling → Spelling → Bool
 same_spelling (Plain a) (Plain b) = a == b
@@ -34,39 +34,24 @@ pub spells_space : spells_back 0x20 ≡ true
 unfolding glyph_of spelling_of encoding_of spells_back
 spells_space = refl
 
-pub spells : (set : Set) → list_all (λ code. spells_back (glyph_of set code)) set_codes ≡ true
+pub spells : EachPasses (all_shown spells_back)
 unfolding glyph_of spelling_of encoding_of spells_back
-spells Ascii = refl
-spells British = refl
-spells German = refl
-spells Special = refl
-spells Supplemental = refl
+spells = refl
 
 -- the code's tables encode the glyphs of the charts
 pub tables : (set : Set) → list_all (λ code. slice_index (encodings set) code == encoding_of (glyph_of set code))
     set_codes ≡ true
 unfolding glyph_of spelling_of encoding_of
-tables Ascii = refl
-tables British = refl
-tables German = refl
-tables Special = refl
-tables Supplemental = refl
+tables = passes (λ set. list_all (λ code. slice_index (encodings set) code == encoding_of (glyph_of set code)) set_codes)
+    refl
 
 -- and the space before them
 pub table_space : (set : Set) → slice_index (encodings set) 0x20 ≡ 0x20
-table_space Ascii = refl
-table_space British = refl
-table_space German = refl
-table_space Special = refl
-table_space Supplemental = refl
+table_space = same_for (λ set. slice_index (encodings set) 0x20) (λ set. 0x20) refl
 
-pub glyphs : (set : Set) → list_all (λ code. is_glyph (glyph_of set code)) set_codes ≡ true
+pub glyphs : (set : Set) → all_shown is_glyph set ≡ true
 unfolding glyph_of is_glyph
-glyphs Ascii = refl
-glyphs British = refl
-glyphs German = refl
-glyphs Special = refl
-glyphs Supplemental = refl
+glyphs = passes (all_shown is_glyph) refl
 
 pub space_is_glyph : is_glyph 0x20 ≡ true
 unfolding is_glyph

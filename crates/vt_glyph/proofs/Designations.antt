@@ -5,17 +5,13 @@ use Rattle.std.specs.Bool.{Decides}
 use Rattle.std.specs.Cmp.Lexicographic.{pointwise, bytes_decides}
 use Rattle.std.proofs.lemmas.Bool.Decides.{Decides-like}
 use Rattle.vt_glyph.specs.declared.set.Set.{Set}
-use Rattle.vt_glyph.specs.declared.set.Set.TheVariants.{Ascii, British, German, Special, Supplemental}
 use Rattle.vt_glyph.specs.Designation.{set_of_final, final_of}
 use Rattle.vt_glyph.specs.GraphicSets.{GraphicSets, pending_number, parts}
+use Rattle.vt_glyph.proofs.EachSet.{same_for}
 
 -- a set's final byte designates it
 pub set_of_final-final_of : (set : Set) → set_of_final (final_of set) ≡ Some set
-set_of_final-final_of Ascii = refl
-set_of_final-final_of British = refl
-set_of_final-final_of German = refl
-set_of_final-final_of Special = refl
-set_of_final-final_of Supplemental = refl
+set_of_final-final_of = same_for (λ set. set_of_final (final_of set)) (λ set. Some set) refl
 
 final_of_injective : (a b : Set) → final_of a ≡ final_of b → a ≡ b
 final_of_injective a b e =

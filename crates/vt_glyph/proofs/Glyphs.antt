@@ -1,18 +1,17 @@
 -- Each glyph, its spelling and its encoding.
 use Rattle.std.proofs.Common.{◌≡◌, ℕ, ◌≤◌, ◌<◌, Bool, true, false, ◌&&◌, ◌||◌, not, arith, sym, ap, subst, ◌∙◌}
 use Rattle.std.specs.Prelude.{nat_le, slice_index, ◌==◌}
-use Rattle.std.specs.List.{list_all}
 use Rattle.std.proofs.lemmas.Bool.{eqb-true}
 use Rattle.std.proofs.lemmas.Bool.Decides.{nat_tests}
 use Rattle.vt_glyph.specs.declared.set.Set.{Set}
-use Rattle.vt_glyph.specs.declared.set.Set.TheVariants.{Ascii, British, German, Special, Supplemental}
 use Rattle.vt_glyph.specs.declared.glyph.TheConstants.{CHARACTERS}
 use Rattle.vt_glyph.specs.declared.glyph.Spelling.{Spelling}
 use Rattle.vt_glyph.specs.declared.glyph.Spelling.TheVariants.{Plain, Second, Third}
-use Rattle.vt_glyph.specs.Tables.{glyph_of, is_glyph, IsGlyph, set_codes, shows, space}
+use Rattle.vt_glyph.specs.Tables.{glyph_of, is_glyph, IsGlyph}
 use Rattle.vt_glyph.specs.Spell.{spelling_of, spelled_glyph, code_of}
 use Rattle.vt_glyph.specs.Encoding.{encoded_spelling, encoded_glyph, encoding_of, encodings, IsEncoding}
-use Rattle.vt_glyph.proofs.Lists.{both, either, all_in_range, all_taken}
+use Rattle.vt_glyph.proofs.Lists.{both, all_in_range}
+use Rattle.vt_glyph.proofs.EachSet.{glyph_passes}
 use Rattle.vt_glyph.proofs.Charts as charts
 use Rattle.vt_glyph.proofs.Charts.{lowest, same_spelling, spells_back}
 
@@ -27,22 +26,8 @@ same_spelling-true (Third a) (Plain b) h = absurd cc
 same_spelling-true (Third a) (Second b) h = absurd cc
 same_spelling-true (Third a) (Third b) h = ap Third (eqb-true a b h)
 
--- a test that all sets' glyphs and the space pass is passed by every glyph
-glyph_passes : (p : ℕ → Bool) (n : ℕ) → p space ≡ true
-    → ((set : Set) → list_all (λ code. p (glyph_of set code)) set_codes ≡ true) → IsGlyph n → p n ≡ true
-unfolding is_glyph
-glyph_passes p n blank shown h =
-    let Goal : Type 0 = p n ≡ true in
-    let by : (set : Set) → shows set n ≡ true → Goal =
-    λ set e. all_taken p (glyph_of set) set_codes n (shown set) e in
-    either Goal _ _ h (λ e. ap p (eqb-true n space e) ∙ blank) (λ h1.
-    either Goal _ _ h1 (by Ascii) (λ h2.
-    either Goal _ _ h2 (by British) (λ h3.
-    either Goal _ _ h3 (by German) (λ h4.
-    either Goal _ _ h4 (by Special) (by Supplemental)))))
-
 spells_glyph : (n : ℕ) → IsGlyph n → spells_back n ≡ true
-spells_glyph n h = glyph_passes spells_back n charts.spells_space charts.spells h
+spells_glyph = glyph_passes spells_back charts.spells_space charts.spells
 
 -- what the test of a glyph's spelling says
 pub record Spells (n : ℕ) : Type 0 where

@@ -1,4 +1,5 @@
 pub mod Lists
+pub mod EachSet
 pub mod Charts
 pub mod Glyphs
 pub mod ChartBytes

@@ -1,13 +1,13 @@
 -- The brush and the sets are made.
-use Rattle.std.proofs.Common.{◌≡◌, ◌≤◌, ◌<◌, Bool, true, false, ℕ, zero, suc, List, [], ◌∷◌, length, Some, None, refl}
+use Rattle.std.proofs.Common.{◌≡◌, ◌≤◌, ◌<◌, Bool, true, false, ℕ, zero, suc, List, [], ◌∷◌, length, None, refl}
 use Rattle.std.proofs.Common.{sym, ap, ◌∙◌, arith}
 use Rattle.vt_glyph.specs.declared.set.Set.{Set}
-use Rattle.vt_glyph.specs.declared.set.Set.TheVariants.{Ascii, British, German, Special, Supplemental}
-use Rattle.vt_glyph.specs.Designation.{final_of, set_of_final}
+use Rattle.vt_glyph.specs.declared.set.Set.TheVariants.{Ascii, Special, Supplemental}
 use Rattle.vt_glyph.specs.GraphicSets.{GraphicSets, AreSoundSets}
 use Rattle.vt_glyph.specs.Invocation.{set_at, designated}
 use Rattle.std.specs.Prelude.{slice_set, slice_index_or}
 use Rattle.vt_glyph.specs.Spell.{AreSpellingSets}
+use Rattle.vt_glyph.proofs.Designations.{set_of_final-final_of}
 use Rattle.vt_screen.specs.declared.cell.Rendition.{Rendition}
 use Rattle.vt_screen.specs.declared.cell.Brush.{Brush}
 use Rattle.vt_term.specs.State.{Display}
@@ -43,13 +43,6 @@ brush_leaves x brush = record { is = go brush.protected refl }
         ∙ ap (λ p. made brush.rendition p) (sym e)
 
 -- ---- the sets
-
-final_names : (set : Set) → set_of_final (final_of set) ≡ Some set
-final_names Ascii = refl
-final_names British = refl
-final_names German = refl
-final_names Special = refl
-final_names Supplemental = refl
 
 -- the four sets of a list of four
 record AreFour (g : List Set) : Type 0 where
@@ -109,7 +102,7 @@ sets_leaves x t four sound =
     let x4 = put 3 y3 in
     record {
       is =
-          rw (final_names (set_at t 0), final_names (set_at t 1), final_names (set_at t 2), final_names (set_at t 3))
+          rw (set_of_final-final_of (set_at t 0), set_of_final-final_of (set_at t 1), set_of_final-final_of (set_at t 2), set_of_final-final_of (set_at t 3))
           (ap (λ y. effect (right_event t.right) y) (left_leaves x4 t.left sound.left)
           ∙ right_leaves (with_sets x x4.sets.g t.left x.sets.right) t.right sound.right.0 sound.right.1
           ∙ ap (λ g. with_sets x g t.left t.right) (four_designated x.sets.g t.g four sound.four));

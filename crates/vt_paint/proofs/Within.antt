@@ -38,8 +38,9 @@ use Rattle.vt_paint.specs.Same.{same_saved, is_blank}
 use Rattle.vt_term.specs.declared.state.Margins.{Margins}
 use Rattle.vt_glyph.specs.Designation.{final_of}
 use Rattle.vt_glyph.proofs.Lists.{all_taken}
+use Rattle.vt_glyph.proofs.EachSet.{passes}
 use Rattle.vt_controls.proofs.Speech.{speaks-none, speaks-append, two_numbers_are, fine_speaks}
-use Rattle.vt_controls.proofs.Tests.{all_sets, all_three, at_three, both_pass, at_bool, all_brushes, at_brush, at_set}
+use Rattle.vt_controls.proofs.Tests.{all_three, at_three, both_pass, at_bool, all_brushes, at_brush}
 use Rattle.vt_controls.proofs.Tests.{is_fine, fine_is, fine_silent}
 use Rattle.vt_syntax.specs.Class.{opens_string}
 use Rattle.vt_syntax.specs.Held.{spell_values}
@@ -187,7 +188,8 @@ designation_within : (inter : ℕ) (set : Set) → is_one_of (codes "()*+") inte
     → AreSpelledWithin 3 (Escape (Some inter) (final_of set) ∷ [])
 designation_within inter set h =
     let test : ℕ → Set → Bool = λ inter set. are_within 3 (Escape (Some inter) (final_of set) ∷ []) in
-    computed 3 _ (at_set (test inter) (all_taken (λ inter. all_sets (test inter)) (λ i. i) (codes "()*+") inter refl h) set)
+    computed 3 _ (all_taken (λ inter. test inter set) (λ i. i) (codes "()*+") inter
+    (passes (λ set. list_all (λ inter. test inter set) (codes "()*+")) refl set) h)
 
 left_within : (slot : ℕ) → AreSpelledWithin 2 (left_event slot ∷ [])
 unfolding all_three both_pass

@@ -20,13 +20,12 @@ use Rattle.vt_syntax.specs.Held.{held_after}
 use Rattle.vt_syntax.specs.Reading.{events_of}
 use Rattle.vt_syntax.specs.Spelling.{IsEvent, spell_event}
 use Rattle.vt_syntax.specs.Laws.{SpellingLaw}
-use Rattle.vt_glyph.specs.declared.set.Set.{Set}
-use Rattle.vt_glyph.specs.declared.set.Set.TheVariants.{Ascii, British, German, Special, Supplemental}
 use Rattle.vt_glyph.specs.declared.glyph.Spelling.TheVariants.{Plain}
-use Rattle.vt_glyph.specs.Tables.{IsGlyph, is_glyph, glyph_of, set_codes, shows, space}
+use Rattle.vt_glyph.specs.Tables.{IsGlyph, is_glyph, glyph_of, space}
 use Rattle.vt_glyph.specs.Spell.{spelling_of}
 use Rattle.vt_glyph.specs.Laws.{SpellingLaws}
-use Rattle.vt_glyph.proofs.Lists.{either, all_taken, all_in_range}
+use Rattle.vt_glyph.proofs.Lists.{all_in_range}
+use Rattle.vt_glyph.proofs.EachSet.{glyph_passes}
 use Rattle.vt_screen.specs.declared.cell.Cell.{Cell}
 use Rattle.vt_screen.specs.Cells.{blank, cell_of, cell_like}
 use Rattle.vt_screen.specs.Grid.{Grid, IsGrid, IsSoundGrid, AllCells, cell_at, row_of, last_row, put_run}
@@ -63,23 +62,9 @@ is_own n =
     nat_lt n 0xD800
     && (if nat_lt n 0x80 then nat_le 0x20 n && nat_le n 0x7E else (nat_le 0xA0 n && (cells n == 1)))
 
-own-in : (set : Set) (n : ℕ) → shows set n ≡ true → is_own n ≡ true
-unfolding glyph_of unicode_width cells
-own-in Ascii n = all_taken is_own (glyph_of Ascii) set_codes n refl
-own-in British n = all_taken is_own (glyph_of British) set_codes n refl
-own-in German n = all_taken is_own (glyph_of German) set_codes n refl
-own-in Special n = all_taken is_own (glyph_of Special) set_codes n refl
-own-in Supplemental n = all_taken is_own (glyph_of Supplemental) set_codes n refl
-
 own : (n : ℕ) → IsGlyph n → is_own n ≡ true
-unfolding is_glyph
-own n is =
-    let Goal : Type 0 = is_own n ≡ true in
-    either Goal (n == space) _ is (λ e. rw (eqb-true n space e) refl) (λ a.
-    either Goal _ _ a (own-in Ascii n) (λ b.
-    either Goal _ _ b (own-in British n) (λ c.
-    either Goal _ _ c (own-in German n) (λ d.
-    either Goal _ _ d (own-in Special n) (own-in Supplemental n)))))
+unfolding glyph_of unicode_width cells
+own = glyph_passes is_own refl refl
 
 own-scalar : (n : ℕ) → is_own n ≡ true → n < 0xD800
 own-scalar n h = grind (arith, nat_tests)

@@ -1,8 +1,8 @@
 -- A character beyond ASCII causes no report.
-use Rattle.std.proofs.Common.{◌≡◌, ℕ, zero, suc, take, drop, ◌+◌, ◌-◌, ◌≤◌, Bool, true, false, not, List, [], ◌∷◌, ◌++◌, All, length, Some, inl, inr, refl, sym, ap, ◌∙◌, arith, append_assoc}
+use Rattle.std.proofs.Common.{◌≡◌, ℕ, zero, suc, take, drop, ◌+◌, ◌-◌, ◌≤◌, Bool, true, false, not, List, [], ◌∷◌, ◌++◌, All, length, Some, inl, inr, refl, sym, ap, ◌∙◌, arith, append_assoc, append-nil}
 use Rattle.std.specs.Prelude.{nat_lt, nat_le, ◌==◌, ◌&&◌, slice_index_or, if◌then◌else◌}
 use Rattle.std.specs.List.{list_all}
-use Rattle.std.proofs.lemmas.Bool.{and_parts}
+use Rattle.std.proofs.lemmas.Bool.{and_parts, leb-true}
 use Rattle.std.proofs.lemmas.List.{take-append-drop}
 use Rattle.std.proofs.Math.Seq.{take-add, take-length}
 use Rattle.std.proofs.lemmas.Bool.Decides.{nat_tests}
@@ -18,7 +18,7 @@ use Rattle.vt_syntax.specs.Reading.{events_of}
 use Rattle.vt_syntax.specs.Spelling.{IsEvent, spell_event, spell_events}
 use Rattle.vt_syntax.specs.Laws.{SpellingLaw}
 use Rattle.vt_glyph.specs.declared.set.Set.{Set}
-use Rattle.vt_glyph.specs.declared.set.Set.TheVariants.{Ascii, British, German, Special, Supplemental}
+use Rattle.vt_glyph.specs.declared.set.Set.TheVariants.{Ascii, Special, Supplemental}
 use Rattle.vt_glyph.specs.declared.glyph.Spelling.{Spelling}
 use Rattle.vt_glyph.specs.declared.glyph.Spelling.TheVariants.{Plain, Second, Third}
 use Rattle.vt_glyph.specs.Tables.{IsGlyph, is_glyph, glyph_of, space, substitute_glyph}
@@ -27,6 +27,7 @@ use Rattle.vt_glyph.specs.GraphicSets.{GraphicSets}
 use Rattle.vt_glyph.specs.Invocation.{set_at}
 use Rattle.vt_glyph.specs.Spell.{spelling_of, code_of}
 use Rattle.vt_glyph.specs.Laws.{GlyphLaws, SpellingLaws}
+use Rattle.vt_glyph.proofs.EachSet as each_set
 use Rattle.vt_term.specs.Scrolling.{log}
 use Rattle.vt_term.specs.State.{Display, State}
 use Rattle.vt_term.specs.Sound.{IsSound}
@@ -45,7 +46,7 @@ abbrev pub AreSilent : List Event → Type 0
 AreSilent [] = Unit {0}
 AreSilent (event ∷ events) = ((s : Display) → report event s ≡ []) × AreSilent events
 
-silent-reports : (events : List Event) → AreSilent events → (s : Display) → reports_of events s ≡ []
+pub silent-reports : (events : List Event) → AreSilent events → (s : Display) → reports_of events s ≡ []
 silent-reports [] h s = refl
 silent-reports (event ∷ events) (first, others) s = rw (first s) (silent-reports events others (effect event s))
 
@@ -53,22 +54,80 @@ silent-append : (xs ys : List Event) → AreSilent xs → AreSilent ys → AreSi
 silent-append [] ys first second = second
 silent-append (x ∷ xs) ys (first, others) second = (first, silent-append xs ys others second)
 
-pub record AreQuiet (bytes : List ℕ) : Type 0 where
-  pub events : List Event
+-- events that make no report, and the bytes that spell them
+pub record SpellQuietly (events : List Event) (bytes : List ℕ) : Type 0 where
   pub spelled : spell_events events ≡ bytes
   pub are_events : All IsEvent events
   pub silent : AreSilent events
 
+pub spell-append : (xs ys : List Event) (a b : List ℕ) → SpellQuietly xs a → SpellQuietly ys b → SpellQuietly (xs ++ ys) (a ++ b)
+spell-append xs ys a b x y = record {
+  spelled = flat_map-append spell_event xs ys ∙ rw (x.spelled, y.spelled) refl;
+  are_events = All-append IsEvent xs ys x.are_events y.are_events;
+  silent = silent-append xs ys x.silent y.silent;
+}
+
+pub spell-printed : (code : ℕ) → 0x20 ≤ code → code ≤ 0x7E → SpellQuietly (Print code ∷ []) (code ∷ [])
+spell-printed code low high = record {
+  spelled = refl;
+  are_events = All-from_recursion IsEvent (Print code ∷ []) (inl (low, high), tt);
+  silent = (λ s. refl, tt);
+}
+
+-- a control of C1, by ESC
+spell-control : (control last : ℕ) → spell_event (Control control) ≡ 0x1B ∷ last ∷ [] → IsEvent (Control control)
+    → ((s : Display) → report (Control control) s ≡ []) → SpellQuietly (Control control ∷ []) (0x1B ∷ last ∷ [])
+spell-control control last spelled is silent = record {
+  spelled = append-nil (spell_event (Control control)) ∙ spelled;
+  are_events = All-from_recursion IsEvent (Control control ∷ []) (is, tt);
+  silent = (silent, tt);
+}
+
+spell-st : SpellQuietly (Control 0x9C ∷ []) (0x1B ∷ 0x5C ∷ [])
+unfolding opens_string control_report
+spell-st = spell-control 0x9C 0x5C refl (inr (omega arith, omega arith, refl)) (λ s. refl)
+
+spell-nel : SpellQuietly (Control 0x85 ∷ []) (0x1B ∷ 0x45 ∷ [])
+unfolding opens_string control_report
+spell-nel = spell-control 0x85 0x45 refl (inr (omega arith, omega arith, refl)) (λ s. refl)
+
+pub spell-ss2 : SpellQuietly (Control 0x8E ∷ []) (0x1B ∷ 0x4E ∷ [])
+unfolding opens_string control_report
+spell-ss2 = spell-control 0x8E 0x4E refl (inr (omega arith, omega arith, refl)) (λ s. refl)
+
+pub spell-ss3 : SpellQuietly (Control 0x8F ∷ []) (0x1B ∷ 0x4F ∷ [])
+unfolding opens_string control_report
+spell-ss3 = spell-control 0x8F 0x4F refl (inr (omega arith, omega arith, refl)) (λ s. refl)
+
+pub final : (set : Set) → (0x30 ≤ final_of set) × (final_of set ≤ 0x7E)
+final set =
+    let two = and_parts (nat_le 0x30 (final_of set)) (nat_le (final_of set) 0x7E)
+    (each_set.passes (λ set. nat_le 0x30 (final_of set) && nat_le (final_of set) 0x7E) refl set) in
+    (leb-true 0x30 (final_of set) two.0, leb-true (final_of set) 0x7E two.1)
+
+pub spell-designation : (inter : ℕ) (set : Set) → 0x20 ≤ inter → inter ≤ 0x2F
+    → SpellQuietly (Escape (Some inter) (final_of set) ∷ []) (designation inter set)
+spell-designation inter set low high = record {
+  spelled = refl;
+  are_events = All-from_recursion IsEvent (Escape (Some inter) (final_of set) ∷ []) (((low, high), final set), tt);
+  silent = (λ s. refl, tt);
+}
+
+-- ---- bytes that spell some such events
+
+pub record AreQuiet (bytes : List ℕ) : Type 0 where
+  pub events : List Event
+  pub spell : SpellQuietly events bytes
+
+quietly : (events : List Event) (bytes : List ℕ) → SpellQuietly events bytes → AreQuiet bytes
+quietly events bytes spell = record { events = events; spell = spell }
+
 quiet-nothing : AreQuiet []
-quiet-nothing = record { events = []; spelled = refl; are_events = All-from_recursion IsEvent [] tt; silent = tt }
+quiet-nothing =
+    quietly [] [] (record { spelled = refl; are_events = All-from_recursion IsEvent [] tt; silent = tt })
 
 quiet-append : (a b : List ℕ) → AreQuiet a → AreQuiet b → AreQuiet (a ++ b)
-quiet-append a b x y = record {
-  events = x.events ++ y.events;
-  spelled = flat_map-append spell_event x.events y.events ∙ rw (x.spelled, y.spelled) refl;
-  are_events = All-append IsEvent x.events y.events x.are_events y.are_events;
-  silent = silent-append x.events y.events x.silent y.silent;
-}
+quiet-append a b x y = quietly (x.events ++ y.events) (a ++ b) (spell-append x.events y.events a b x.spell y.spell)
 
 quiet-if : (b : Bool) (x y : List ℕ) → AreQuiet x → AreQuiet y → AreQuiet (if b then x else y)
 quiet-if true x y first second = first
@@ -77,64 +136,10 @@ quiet-if false x y first second = second
 -- ---- the bytes of a translation
 
 quiet-printed : (code : ℕ) → 0x20 ≤ code → code ≤ 0x7E → AreQuiet (code ∷ [])
-quiet-printed code low high = record {
-  events = Print code ∷ [];
-  spelled = refl;
-  are_events = All-from_recursion IsEvent (Print code ∷ []) (inl (low, high), tt);
-  silent = (λ s. refl, tt);
-}
-
--- ST, NEL, SS2 and SS3
-quiet-st : AreQuiet (0x1B ∷ 0x5C ∷ [])
-unfolding opens_string control_report
-quiet-st = record {
-  events = Control 0x9C ∷ [];
-  spelled = refl;
-  are_events = All-from_recursion IsEvent (Control 0x9C ∷ []) (inr (omega arith, omega arith, refl), tt);
-  silent = (λ s. refl, tt);
-}
-
-quiet-nel : AreQuiet (0x1B ∷ 0x45 ∷ [])
-unfolding opens_string control_report
-quiet-nel = record {
-  events = Control 0x85 ∷ [];
-  spelled = refl;
-  are_events = All-from_recursion IsEvent (Control 0x85 ∷ []) (inr (omega arith, omega arith, refl), tt);
-  silent = (λ s. refl, tt);
-}
-
-quiet-ss2 : AreQuiet (0x1B ∷ 0x4E ∷ [])
-unfolding opens_string control_report
-quiet-ss2 = record {
-  events = Control 0x8E ∷ [];
-  spelled = refl;
-  are_events = All-from_recursion IsEvent (Control 0x8E ∷ []) (inr (omega arith, omega arith, refl), tt);
-  silent = (λ s. refl, tt);
-}
-
-quiet-ss3 : AreQuiet (0x1B ∷ 0x4F ∷ [])
-unfolding opens_string control_report
-quiet-ss3 = record {
-  events = Control 0x8F ∷ [];
-  spelled = refl;
-  are_events = All-from_recursion IsEvent (Control 0x8F ∷ []) (inr (omega arith, omega arith, refl), tt);
-  silent = (λ s. refl, tt);
-}
-
-pub final : (set : Set) → (0x30 ≤ final_of set) × (final_of set ≤ 0x7E)
-final Ascii = (omega arith, omega arith)
-final British = (omega arith, omega arith)
-final German = (omega arith, omega arith)
-final Special = (omega arith, omega arith)
-final Supplemental = (omega arith, omega arith)
+quiet-printed code low high = quietly (Print code ∷ []) (code ∷ []) (spell-printed code low high)
 
 quiet-designation : (inter : ℕ) (set : Set) → 0x20 ≤ inter → inter ≤ 0x2F → AreQuiet (designation inter set)
-quiet-designation inter set low high = record {
-  events = Escape (Some inter) (final_of set) ∷ [];
-  spelled = refl;
-  are_events = All-from_recursion IsEvent (Escape (Some inter) (final_of set) ∷ []) (((low, high), final set), tt);
-  silent = (λ s. refl, tt);
-}
+quiet-designation inter set low high = quietly _ (designation inter set) (spell-designation inter set low high)
 
 quiet-while : (inter : ℕ) (set before : Set) (bytes : List ℕ) → 0x20 ≤ inter → inter ≤ 0x2F → AreQuiet bytes
     → AreQuiet (while_designated inter set before bytes)
@@ -144,15 +149,18 @@ quiet-while inter set before bytes low high quiet =
     (quiet-append bytes (designation inter before) quiet (quiet-designation inter before low high)))
 
 module _ (sets : GraphicSets) (code : ℕ) (low : 0x20 ≤ code) (high : code ≤ 0x7E) where
+  -- by a single shift, whatever set it shifts to
+  quiet-shifted : (event : Event) (last inter : ℕ) (set before : Set) → 0x20 ≤ inter → inter ≤ 0x2F
+      → SpellQuietly (event ∷ []) (0x1B ∷ last ∷ []) → AreQuiet (while_designated inter set before (shifted last code))
+  quiet-shifted event last inter set before from to shift =
+      quiet-while inter set before (shifted last code) from to
+      (quiet-append (0x1B ∷ last ∷ []) (code ∷ []) (quietly (event ∷ []) _ shift) (quiet-printed code low high))
+
   quiet-g2 : (set : Set) → AreQuiet (through_g2 sets set code)
-  quiet-g2 set =
-      quiet-while 0x2A set (set_at sets 2) (shifted 0x4E code) (omega arith) (omega arith)
-      (quiet-append (0x1B ∷ 0x4E ∷ []) (code ∷ []) quiet-ss2 (quiet-printed code low high))
+  quiet-g2 set = quiet-shifted (Control 0x8E) 0x4E 0x2A set (set_at sets 2) (omega arith) (omega arith) spell-ss2
 
   quiet-g3 : (set : Set) → AreQuiet (through_g3 sets set code)
-  quiet-g3 set =
-      quiet-while 0x2B set (set_at sets 3) (shifted 0x4F code) (omega arith) (omega arith)
-      (quiet-append (0x1B ∷ 0x4F ∷ []) (code ∷ []) quiet-ss3 (quiet-printed code low high))
+  quiet-g3 set = quiet-shifted (Control 0x8F) 0x4F 0x2B set (set_at sets 3) (omega arith) (omega arith) spell-ss3
 
 quiet-spelled : (sets : GraphicSets) (s : Spelling) → 0x20 ≤ code_of s → code_of s ≤ 0x7E → AreQuiet (spelled_in sets s)
 quiet-spelled sets (Plain code) low high =
@@ -234,7 +242,7 @@ module _ (glyphs : GlyphLaws) (spelling : SpellingLaws) where
   quiet-wide glyph s is =
       quiet-if (not (is_at_end s)) _ _ (quiet-both glyph s.sets is)
       (quiet-if s.modes.decawm _ _
-      (quiet-append (0x1B ∷ 0x45 ∷ []) (both_halves glyph s.sets) quiet-nel (quiet-both glyph s.sets is)) quiet-nothing)
+      (quiet-append (0x1B ∷ 0x45 ∷ []) (both_halves glyph s.sets) (quietly _ _ spell-nel) (quiet-both glyph s.sets is)) quiet-nothing)
 
   pub quiet-put : (c : ℕ) (s : Display) → AreQuiet (put c s)
   quiet-put c s =
@@ -249,8 +257,8 @@ module _ (none : (s : State) → IsSound s → play s [] ≡ record { state = s;
   unfolding play
   silent-between d bytes quiet =
       let are : events_of bytes ≡ quiet.events =
-      ap events_of (sym quiet.spelled) ∙ spelled.all_events quiet.events quiet.are_events in
-      rw are (silent-reports quiet.events quiet.silent d)
+      ap events_of (sym quiet.spell.spelled) ∙ spelled.all_events quiet.events quiet.spell.are_events in
+      rw are (silent-reports quiet.events quiet.spell.silent d)
 
   -- quiet bytes that begin with ESC, after anything
   silent-escape : (d : Display) (h : Held) (more : List ℕ) → IsHeldPart h → AreQuiet (0x1B ∷ more)
@@ -258,14 +266,14 @@ module _ (none : (s : State) → IsSound s → play s [] ≡ record { state = s;
   unfolding play
   silent-escape d h more is quiet =
       let are : events_from h (0x1B ∷ more) ≡ quiet.events =
-      spelled.escape h more is ∙ ap events_of (sym quiet.spelled)
-      ∙ spelled.all_events quiet.events quiet.are_events in
-      rw are (silent-reports quiet.events quiet.silent d)
+      spelled.escape h more is ∙ ap events_of (sym quiet.spell.spelled)
+      ∙ spelled.all_events quiet.events quiet.spell.are_events in
+      rw are (silent-reports quiet.events quiet.spell.silent d)
 
   silent-cut : (d : Display) (h : Held) (bytes : List ℕ) → IsHeldPart h → AreQuiet bytes
       → (play (record { display = d; held = h }) (0x1B ∷ 0x5C ∷ bytes)).reports ≡ []
   silent-cut d h bytes is quiet =
-      silent-escape d h (0x5C ∷ bytes) is (quiet-append (0x1B ∷ 0x5C ∷ []) bytes quiet-st quiet)
+      silent-escape d h (0x5C ∷ bytes) is (quiet-append (0x1B ∷ 0x5C ∷ []) bytes (quietly _ _ spell-st) quiet)
 
   silent-beyond : (d : Display) (h : Held) (bytes : List ℕ) → IsSound (record { display = d; held = h }) → AreQuiet bytes
       → (play (record { display = d; held = h }) (beyond_ascii h bytes)).reports ≡ []

@@ -1,21 +1,18 @@
 -- The bytes that write a glyph write it, and leave the sets with no single shift pending.
-use Rattle.std.proofs.Common.{◌≡◌, ℕ, ◌%◌, ◌≤◌, Bool, true, false, List, [], ◌∷◌, ◌++◌, All, length, Option, Some, None, inl, inr, refl, sym, ap, subst, ◌∙◌, arith, append_assoc, append-nil}
-use Rattle.std.specs.Prelude.{nat_lt, ◌==◌, ◌&&◌, if◌then◌else◌, is_none, slice_set, slice_index_or}
+use Rattle.std.proofs.Common.{◌≡◌, ℕ, ◌%◌, ◌<◌, ◌≤◌, Bool, true, false, List, [], ◌∷◌, ◌++◌, length, Option, Some, None, refl, sym, ap, subst, ◌∙◌, arith, append_assoc, append-nil}
+use Rattle.std.specs.Prelude.{nat_lt, ◌==◌, ◌&&◌, if◌then◌else◌, is_none}
 use Rattle.std.proofs.lemmas.Bool.{and_parts, eqb-true}
 use Rattle.std.proofs.lemmas.Bool.Decides.{nat_tests}
-use Rattle.std.proofs.lemmas.List.Elements.{All-append, All-from_recursion}
+use Rattle.std.proofs.lemmas.List.{set-set, set-get_or, get_or-set_same}
 use Rattle.std.proofs.lemmas.List.Sums.{fold-append}
-use Rattle.std.proofs.lemmas.Grind.{flat_map-append}
 use Rattle.vt_syntax.specs.declared.event.Event.{Event}
 use Rattle.vt_syntax.specs.declared.event.Event.TheVariants.{Print, Control, Escape}
 use Rattle.vt_syntax.specs.declared.held.Held.TheVariants.{Nothing}
-use Rattle.vt_syntax.specs.Class.{opens_string}
 use Rattle.vt_syntax.specs.Held.{held_after}
 use Rattle.vt_syntax.specs.Reading.{events_of}
-use Rattle.vt_syntax.specs.Spelling.{IsEvent, spell_event, spell_events}
 use Rattle.vt_syntax.specs.Laws.{SpellingLaw}
 use Rattle.vt_glyph.specs.declared.set.Set.{Set}
-use Rattle.vt_glyph.specs.declared.set.Set.TheVariants.{Ascii, British, German, Special, Supplemental}
+use Rattle.vt_glyph.specs.declared.set.Set.TheVariants.{Ascii, Special, Supplemental}
 use Rattle.vt_glyph.specs.declared.glyph.Spelling.{Spelling}
 use Rattle.vt_glyph.specs.declared.glyph.Spelling.TheVariants.{Plain, Second, Third}
 use Rattle.vt_glyph.specs.Tables.{IsGlyph, glyph_of, space}
@@ -24,6 +21,8 @@ use Rattle.vt_glyph.specs.GraphicSets.{GraphicSets}
 use Rattle.vt_glyph.specs.Invocation.{set_at, invoked, has_no_glyph, glyph_read, after_read, shifted_once, designated}
 use Rattle.vt_glyph.specs.Spell.{spelling_of, code_of, shifted_for, AreSpellingSets}
 use Rattle.vt_glyph.specs.Laws.{GlyphLaws, SpellingLaws}
+use Rattle.vt_glyph.proofs.EachSet.{same_for}
+use Rattle.vt_glyph.proofs.Designations.{set_of_final-final_of}
 use Rattle.vt_screen.specs.declared.cell.Cell.{Cell}
 use Rattle.vt_screen.specs.Grid.{row_of}
 use Rattle.vt_term.specs.Scrolling.{is_at_end, line_off, lines_off, scrolled_off}
@@ -32,21 +31,18 @@ use Rattle.vt_term.specs.Sound.{IsSound}
 use Rattle.vt_term.specs.Moving.{next_line}
 use Rattle.vt_term.specs.Writing.{write_glyph, put_glyph, print}
 use Rattle.vt_term.specs.Functions.{effect, control, escape_with, shift_once}
-use Rattle.vt_term.specs.Reports.{report, control_report}
-use Rattle.vt_term.specs.Play.{Played, play, after_events, reports_of}
-use Rattle.vt_utf8.specs.Translation.{shifted, designation, through_g2, through_g3, reads_ascii}
+use Rattle.vt_term.specs.Play.{Played, play, after_events}
+use Rattle.vt_utf8.specs.Translation.{shifted, designation, while_designated, through_g2, reads_ascii}
 use Rattle.vt_utf8.specs.Translation.{spelled_in, written, unshifted, translation, glyph_off}
 use Rattle.vt_utf8.specs.Similar.{shown}
 use Rattle.vt_utf8.specs.Cells.{cells}
-use Rattle.vt_utf8.proofs.Silence.{final, shown-glyph}
+use Rattle.vt_utf8.proofs.Silence.{silent-reports, SpellQuietly, spell-append, spell-printed, spell-ss2, spell-ss3, spell-designation, shown-glyph}
 
 -- ---- bytes that make one display of another, without a report, and the lines that they scroll off
 
 pub record Does (bytes : List ℕ) (d e : Display) (off : List (List Cell)) : Type 0 where
   pub events : List Event
-  pub spelled : spell_events events ≡ bytes
-  pub are_events : All IsEvent events
-  pub silent : reports_of events d ≡ []
+  pub spell : SpellQuietly events bytes
   pub after : after_events events d ≡ e
   pub lines : lines_off events d ≡ off
 
@@ -57,20 +53,11 @@ lines-append (x ∷ xs) ys d =
     ap (λ (t : List (List Cell)). line_off x d ++ t) (lines-append xs ys (effect x d))
     ∙ sym (append_assoc (line_off x d) (lines_off xs (effect x d)) (lines_off ys (after_events xs (effect x d))))
 
-reports-append : (xs ys : List Event) (d : Display)
-    → reports_of (xs ++ ys) d ≡ reports_of xs d ++ reports_of ys (after_events xs d)
-reports-append [] ys d = refl
-reports-append (x ∷ xs) ys d =
-    ap (λ (t : List ℕ). report x d ++ t) (reports-append xs ys (effect x d))
-    ∙ sym (append_assoc (report x d) (reports_of xs (effect x d)) (reports_of ys (after_events xs (effect x d))))
-
 does-append : (a b : List ℕ) (d e f : Display) (p q : List (List Cell)) → Does a d e p → Does b e f q
     → Does (a ++ b) d f (p ++ q)
 does-append a b d e f p q x y = record {
   events = x.events ++ y.events;
-  spelled = flat_map-append spell_event x.events y.events ∙ rw (x.spelled, y.spelled) refl;
-  are_events = All-append IsEvent x.events y.events x.are_events y.are_events;
-  silent = reports-append x.events y.events d ∙ rw (x.silent, x.after) y.silent;
+  spell = spell-append x.events y.events a b x.spell y.spell;
   after = fold-append (λ t event. effect event t) d x.events y.events ∙ rw x.after y.after;
   lines = lines-append x.events y.events d ∙ rw (x.lines, x.after, y.lines) refl;
 }
@@ -87,76 +74,54 @@ print-off d code low high = rw (has-glyph code low high) (go d.cursor.wrap)
     go true = append-nil (if is_at_end d then row_of d.grid 1 ∷ [] else [])
     go false = refl
 
-module _ (d : Display) where
-  pub does-printed : (code : ℕ) → 0x20 ≤ code → code ≤ 0x7E → Does (code ∷ []) d (print code d) (glyph_off d)
-  does-printed code low high = record {
-    events = Print code ∷ [];
-    spelled = refl;
-    are_events = All-from_recursion IsEvent (Print code ∷ []) (inl (low, high), tt);
-    silent = refl;
-    after = refl;
-    lines = print-off d code low high;
-  }
+pub does-printed : (d : Display) (code : ℕ) → 0x20 ≤ code → code ≤ 0x7E → Does (code ∷ []) d (print code d) (glyph_off d)
+does-printed d code low high = record {
+  events = Print code ∷ [];
+  spell = spell-printed code low high;
+  after = refl;
+  lines = print-off d code low high;
+}
 
-  does-ss2 : Does (0x1B ∷ 0x4E ∷ []) d (shift_once 2 d) []
-  unfolding opens_string control_report control
-  does-ss2 = record {
-    events = Control 0x8E ∷ [];
-    spelled = refl;
-    are_events = All-from_recursion IsEvent (Control 0x8E ∷ []) (inr (omega arith, omega arith, refl), tt);
-    silent = refl;
-    after = refl;
-    lines = refl;
-  }
+-- ---- G2 by SS2, and G3 by SS3
 
-  does-ss3 : Does (0x1B ∷ 0x4F ∷ []) d (shift_once 3 d) []
-  unfolding opens_string control_report control
-  does-ss3 = record {
-    events = Control 0x8F ∷ [];
-    spelled = refl;
-    are_events = All-from_recursion IsEvent (Control 0x8F ∷ []) (inr (omega arith, omega arith, refl), tt);
-    silent = refl;
-    after = refl;
-    lines = refl;
-  }
+-- a single shift to a slot, `ESC last`, and the designation of a set there by `ESC inter`
+record IsShift (slot last inter : ℕ) : Type 0 where
+  few : slot < 4
+  low : 0x20 ≤ inter
+  high : inter ≤ 0x2F
+  shifts : (d : Display) → Does (0x1B ∷ last ∷ []) d (shift_once slot d) []
+  designates : (set : Set) (d : Display) → effect (Escape (Some inter) (final_of set)) d
+      ≡ record d { sets = designated slot set d.sets }
 
-  effect-g2 : (set : Set) → effect (Escape (Some 0x2A) (final_of set)) d ≡ record d { sets = designated 2 set d.sets }
-  unfolding escape_with
-  effect-g2 Ascii = refl
-  effect-g2 British = refl
-  effect-g2 German = refl
-  effect-g2 Special = refl
-  effect-g2 Supplemental = refl
+effect-g2 : (set : Set) (d : Display) → effect (Escape (Some 0x2A) (final_of set)) d ≡ record d { sets = designated 2 set d.sets }
+unfolding escape_with
+effect-g2 set d =
+    same_for (λ set. effect (Escape (Some 0x2A) (final_of set)) d) (λ set. record d { sets = designated 2 set d.sets }) refl set
 
-  effect-g3 : (set : Set) → effect (Escape (Some 0x2B) (final_of set)) d ≡ record d { sets = designated 3 set d.sets }
-  unfolding escape_with
-  effect-g3 Ascii = refl
-  effect-g3 British = refl
-  effect-g3 German = refl
-  effect-g3 Special = refl
-  effect-g3 Supplemental = refl
+to-g2 : IsShift 2 0x4E 0x2A
+unfolding control
+to-g2 = record {
+  few = omega arith;
+  low = omega arith;
+  high = omega arith;
+  shifts = λ d. record { events = Control 0x8E ∷ []; spell = spell-ss2; after = refl; lines = refl };
+  designates = effect-g2;
+}
 
-  does-g2 : (set : Set) → Does (designation 0x2A set) d (record d { sets = designated 2 set d.sets }) []
-  does-g2 set = record {
-    events = Escape (Some 0x2A) (final_of set) ∷ [];
-    spelled = refl;
-    are_events = All-from_recursion IsEvent (Escape (Some 0x2A) (final_of set) ∷ [])
-        (((omega arith, omega arith), final set), tt);
-    silent = refl;
-    after = effect-g2 set;
-    lines = refl;
-  }
+effect-g3 : (set : Set) (d : Display) → effect (Escape (Some 0x2B) (final_of set)) d ≡ record d { sets = designated 3 set d.sets }
+unfolding escape_with
+effect-g3 set d =
+    same_for (λ set. effect (Escape (Some 0x2B) (final_of set)) d) (λ set. record d { sets = designated 3 set d.sets }) refl set
 
-  does-g3 : (set : Set) → Does (designation 0x2B set) d (record d { sets = designated 3 set d.sets }) []
-  does-g3 set = record {
-    events = Escape (Some 0x2B) (final_of set) ∷ [];
-    spelled = refl;
-    are_events = All-from_recursion IsEvent (Escape (Some 0x2B) (final_of set) ∷ [])
-        (((omega arith, omega arith), final set), tt);
-    silent = refl;
-    after = effect-g3 set;
-    lines = refl;
-  }
+to-g3 : IsShift 3 0x4F 0x2B
+unfolding control
+to-g3 = record {
+  few = omega arith;
+  low = omega arith;
+  high = omega arith;
+  shifts = λ d. record { events = Control 0x8F ∷ []; spell = spell-ss3; after = refl; lines = refl };
+  designates = effect-g3;
+}
 
 -- ---- a glyph doesn't look at the sets, and leaves them
 
@@ -206,131 +171,64 @@ pub prints : (d : Display) (code n : ℕ) → 0x20 ≤ code → code ≤ 0x7E �
     → print code d ≡ write_glyph n (unshifted d)
 prints d code n low high read = rw (read, after-graphic d.sets code low high) refl
 
--- the lists of four sets
-slot2 : (g : List Set) (set : Set) → length g ≡ 4 → slice_set (slice_set g 2 set) 2 (slice_index_or g 2 Ascii) ≡ g
-slot2 [] set four = absurd (omega arith)
-slot2 (a ∷ []) set four = absurd (omega arith)
-slot2 (a ∷ b ∷ []) set four = absurd (omega arith)
-slot2 (a ∷ b ∷ c ∷ rest) set four = refl
-
-slot3 : (g : List Set) (set : Set) → length g ≡ 4 → slice_set (slice_set g 3 set) 3 (slice_index_or g 3 Ascii) ≡ g
-slot3 [] set four = absurd (omega arith)
-slot3 (a ∷ []) set four = absurd (omega arith)
-slot3 (a ∷ b ∷ []) set four = absurd (omega arith)
-slot3 (a ∷ b ∷ c ∷ []) set four = absurd (omega arith)
-slot3 (a ∷ b ∷ c ∷ d ∷ rest) set four = refl
-
-at2 : (g : List Set) (set : Set) → length g ≡ 4 → slice_index_or (slice_set g 2 set) 2 Ascii ≡ set
-at2 [] set four = absurd (omega arith)
-at2 (a ∷ []) set four = absurd (omega arith)
-at2 (a ∷ b ∷ []) set four = absurd (omega arith)
-at2 (a ∷ b ∷ c ∷ rest) set four = refl
-
-at3 : (g : List Set) (set : Set) → length g ≡ 4 → slice_index_or (slice_set g 3 set) 3 Ascii ≡ set
-at3 [] set four = absurd (omega arith)
-at3 (a ∷ []) set four = absurd (omega arith)
-at3 (a ∷ b ∷ []) set four = absurd (omega arith)
-at3 (a ∷ b ∷ c ∷ []) set four = absurd (omega arith)
-at3 (a ∷ b ∷ c ∷ d ∷ rest) set four = refl
-
--- a set is known by its final byte
-final-back : (set : Set) → set_of_final (final_of set) ≡ Some set
-final-back Ascii = refl
-final-back British = refl
-final-back German = refl
-final-back Special = refl
-final-back Supplemental = refl
-
 some-same : (a b : Set) → Some a ≡ Some b → a ≡ b
 some-same a b h = cc
 
 same-final : (a b : Set) → final_of a ≡ final_of b → a ≡ b
-same-final a b e = some-same a b (sym (final-back a) ∙ ap set_of_final e ∙ final-back b)
+same-final a b e = some-same a b (sym (set_of_final-final_of a) ∙ ap set_of_final e ∙ set_of_final-final_of b)
 
-module _ (code n : ℕ) (low : 0x20 ≤ code) (high : code ≤ 0x7E) where
-  does-shifted2 : (d : Display) → glyph_read (shifted_once 2 d.sets) code ≡ Some n
-      → Does (shifted 0x4E code) d (write_glyph n (unshifted d)) (glyph_off d)
-  does-shifted2 d read =
-      let e = shift_once 2 d in
-      subst (λ (f : Display). Does (shifted 0x4E code) d f (glyph_off d)) (prints e code n low high read)
-      (does-append (0x1B ∷ 0x4E ∷ []) (code ∷ []) d e (print code e) [] (glyph_off e) (does-ss2 d) (does-printed e code low high))
+module _ (slot last inter : ℕ) (is : IsShift slot last inter) (code n : ℕ) (low : 0x20 ≤ code) (high : code ≤ 0x7E) where
+  does-designated : (set : Set) (d : Display) → Does (designation inter set) d (record d { sets = designated slot set d.sets }) []
+  does-designated set d = record {
+    events = Escape (Some inter) (final_of set) ∷ [];
+    spell = spell-designation inter set is.low is.high;
+    after = is.designates set d;
+    lines = refl;
+  }
 
-  does-shifted3 : (d : Display) → glyph_read (shifted_once 3 d.sets) code ≡ Some n
-      → Does (shifted 0x4F code) d (write_glyph n (unshifted d)) (glyph_off d)
-  does-shifted3 d read =
-      let e = shift_once 3 d in
-      subst (λ (f : Display). Does (shifted 0x4F code) d f (glyph_off d)) (prints e code n low high read)
-      (does-append (0x1B ∷ 0x4F ∷ []) (code ∷ []) d e (print code e) [] (glyph_off e) (does-ss3 d) (does-printed e code low high))
+  does-shifted : (d : Display) → glyph_read (shifted_once slot d.sets) code ≡ Some n
+      → Does (shifted last code) d (write_glyph n (unshifted d)) (glyph_off d)
+  does-shifted d read =
+      let e = shift_once slot d in
+      subst (λ (f : Display). Does (shifted last code) d f (glyph_off d)) (prints e code n low high read)
+      (does-append (0x1B ∷ last ∷ []) (code ∷ []) d e (print code e) [] (glyph_off e) (is.shifts d) (does-printed e code low high))
 
-  module _ (d : Display) (four : length d.sets.g ≡ 4) (set : Set)
-      (reads : (sets : GraphicSets) → invoked sets code ≡ set → glyph_read sets code ≡ Some n) where
-    does-through2 : Does (through_g2 d.sets set code) d (write_glyph n (unshifted d)) (glyph_off d)
-    does-through2 = go (final_of before == final_of set) refl
-      where
-        before : Set
-        before = set_at d.sets 2
+  does-through : (d : Display) → length d.sets.g ≡ 4 → (set : Set)
+      → ((sets : GraphicSets) → invoked sets code ≡ set → glyph_read sets code ≡ Some n)
+      → Does (while_designated inter set (set_at d.sets slot) (shifted last code)) d (write_glyph n (unshifted d)) (glyph_off d)
+  does-through d four set reads = go (final_of before == final_of set) refl
+    where
+      before : Set
+      before = set_at d.sets slot
 
-        d1 : Display
-        d1 = record d { sets = designated 2 set d.sets }
+      d1 : Display
+      d1 = record d { sets = designated slot set d.sets }
 
-        d3 : Display
-        d3 = write_glyph n (unshifted d1)
+      d3 : Display
+      d3 = write_glyph n (unshifted d1)
 
-        back : record d3 { sets = designated 2 before d3.sets } ≡ write_glyph n (unshifted d)
-        back =
-            ap (λ (x : GraphicSets). record d3 { sets = designated 2 before x }) (leaves-sets n (unshifted d1))
-            ∙ with-sets n (unshifted d1) (designated 2 before (unshifted d1).sets)
-            ∙ ap (λ (g : List Set). write_glyph n (record d { sets = record d.sets { g = g; pending = None } }))
-            (slot2 d.sets.g set four)
+      back : record d3 { sets = designated slot before d3.sets } ≡ write_glyph n (unshifted d)
+      back =
+          ap (λ (x : GraphicSets). record d3 { sets = designated slot before x }) (leaves-sets n (unshifted d1))
+          ∙ with-sets n (unshifted d1) (designated slot before (unshifted d1).sets)
+          ∙ ap (λ (g : List Set). write_glyph n (record d { sets = record d.sets { g = g; pending = None } }))
+          (set-set d.sets.g slot set before ∙ set-get_or d.sets.g slot Ascii)
 
-        go : (b : Bool) → (final_of before == final_of set) ≡ b
-            → Does (if b then shifted 0x4E code
-            else designation 0x2A set ++ (shifted 0x4E code ++ designation 0x2A before)) d (write_glyph n (unshifted d))
-            (glyph_off d)
-        go true e = does-shifted2 d (reads (shifted_once 2 d.sets) (same-final before set (eqb-true _ _ e)))
-        go false e =
-            let bytes = designation 0x2A set ++ (shifted 0x4E code ++ designation 0x2A before) in
-            let last = record d3 { sets = designated 2 before d3.sets } in
-            subst (λ (rows : List (List Cell)). Does bytes d (write_glyph n (unshifted d)) rows) (append-nil (glyph_off d))
-            (subst (λ (f : Display). Does bytes d f (glyph_off d ++ [])) back
-            (does-append (designation 0x2A set) (shifted 0x4E code ++ designation 0x2A before) d d1 last []
-            (glyph_off d1 ++ []) (does-g2 d set)
-            (does-append (shifted 0x4E code) (designation 0x2A before) d1 d3 last (glyph_off d1) []
-            (does-shifted2 d1 (reads (shifted_once 2 d1.sets) (at2 d.sets.g set four))) (does-g2 d3 before))))
-
-    does-through3 : Does (through_g3 d.sets set code) d (write_glyph n (unshifted d)) (glyph_off d)
-    does-through3 = go (final_of before == final_of set) refl
-      where
-        before : Set
-        before = set_at d.sets 3
-
-        d1 : Display
-        d1 = record d { sets = designated 3 set d.sets }
-
-        d3 : Display
-        d3 = write_glyph n (unshifted d1)
-
-        back : record d3 { sets = designated 3 before d3.sets } ≡ write_glyph n (unshifted d)
-        back =
-            ap (λ (x : GraphicSets). record d3 { sets = designated 3 before x }) (leaves-sets n (unshifted d1))
-            ∙ with-sets n (unshifted d1) (designated 3 before (unshifted d1).sets)
-            ∙ ap (λ (g : List Set). write_glyph n (record d { sets = record d.sets { g = g; pending = None } }))
-            (slot3 d.sets.g set four)
-
-        go : (b : Bool) → (final_of before == final_of set) ≡ b
-            → Does (if b then shifted 0x4F code
-            else designation 0x2B set ++ (shifted 0x4F code ++ designation 0x2B before)) d (write_glyph n (unshifted d))
-            (glyph_off d)
-        go true e = does-shifted3 d (reads (shifted_once 3 d.sets) (same-final before set (eqb-true _ _ e)))
-        go false e =
-            let bytes = designation 0x2B set ++ (shifted 0x4F code ++ designation 0x2B before) in
-            let last = record d3 { sets = designated 3 before d3.sets } in
-            subst (λ (rows : List (List Cell)). Does bytes d (write_glyph n (unshifted d)) rows) (append-nil (glyph_off d))
-            (subst (λ (f : Display). Does bytes d f (glyph_off d ++ [])) back
-            (does-append (designation 0x2B set) (shifted 0x4F code ++ designation 0x2B before) d d1 last []
-            (glyph_off d1 ++ []) (does-g3 d set)
-            (does-append (shifted 0x4F code) (designation 0x2B before) d1 d3 last (glyph_off d1) []
-            (does-shifted3 d1 (reads (shifted_once 3 d1.sets) (at3 d.sets.g set four))) (does-g3 d3 before))))
+      go : (b : Bool) → (final_of before == final_of set) ≡ b
+          → Does (if b then shifted last code
+          else designation inter set ++ (shifted last code ++ designation inter before)) d (write_glyph n (unshifted d))
+          (glyph_off d)
+      go true e = does-shifted d (reads (shifted_once slot d.sets) (same-final before set (eqb-true _ _ e)))
+      go false e =
+          let bytes = designation inter set ++ (shifted last code ++ designation inter before) in
+          let end = record d3 { sets = designated slot before d3.sets } in
+          let designates = get_or-set_same d.sets.g slot set Ascii (omega (arith, four, is.few)) in
+          subst (λ (rows : List (List Cell)). Does bytes d (write_glyph n (unshifted d)) rows) (append-nil (glyph_off d))
+          (subst (λ (f : Display). Does bytes d f (glyph_off d ++ [])) back
+          (does-append (designation inter set) (shifted last code ++ designation inter before) d d1 end []
+          (glyph_off d1 ++ []) (does-designated set d)
+          (does-append (shifted last code) (designation inter before) d1 d3 end (glyph_off d1) []
+          (does-shifted d1 (reads (shifted_once slot d1.sets) designates)) (does-designated before d3))))
 
 -- ---- a glyph by its spelling
 
@@ -359,33 +257,34 @@ does-spelled d (Plain code) n four low high law = go (reads_ascii d.sets) refl
     go true e =
         subst (λ (f : Display). Does (code ∷ []) d f (glyph_off d))
         (prints d code n low high (reads d.sets (invokes-ascii d.sets code high e))) (does-printed d code low high)
-    go false e = does-through2 code n low high d four Ascii reads
+    go false e = does-through 2 0x4E 0x2A to-g2 code n low high d four Ascii reads
 does-spelled d (Second code) n four low high law =
-    does-through2 code n low high d four Supplemental
+    does-through 2 0x4E 0x2A to-g2 code n low high d four Supplemental
     (λ sets e. same-read sets (shifted_once 2 spelling_sets) code e ∙ law)
 does-spelled d (Third code) n four low high law =
-    does-through3 code n low high d four Special
+    does-through 3 0x4F 0x2B to-g3 code n low high d four Special
     (λ sets e. same-read sets (shifted_once 3 spelling_sets) code e ∙ law)
 
 module _ (spelled : SpellingLaw) (spelling : SpellingLaws) where
+  -- the bytes between sequences are those events
+  reads : (d e : Display) (bytes : List ℕ) (off : List (List Cell)) (does : Does bytes d e off)
+      → events_of bytes ≡ does.events
+  reads d e bytes off does =
+      ap events_of (sym does.spell.spelled) ∙ spelled.all_events does.events does.spell.are_events
+
   pub plays : (d e : Display) (bytes : List ℕ) (off : List (List Cell)) → Does bytes d e off
       → play (record { display = d; held = Nothing }) bytes
       ≡ record { state = record { display = e; held = Nothing }; reports = [] }
   unfolding play
   plays d e bytes off does =
-      let are : events_of bytes ≡ does.events =
-      ap events_of (sym does.spelled) ∙ spelled.all_events does.events does.are_events in
       let left : held_after bytes ≡ Nothing =
-      ap held_after (sym does.spelled) ∙ spelled.all_held does.events does.are_events in
-      rw (are, left, does.after, does.silent) refl
+      ap held_after (sym does.spell.spelled) ∙ spelled.all_held does.events does.spell.are_events in
+      rw (reads d e bytes off does, left, does.after, silent-reports does.events does.spell.silent d) refl
 
   scrolls : (d e : Display) (bytes : List ℕ) (off : List (List Cell)) → Does bytes d e off
       → scrolled_off (record { display = d; held = Nothing }) bytes ≡ off
   unfolding scrolled_off
-  scrolls d e bytes off does =
-      let are : events_of bytes ≡ does.events =
-      ap events_of (sym does.spelled) ∙ spelled.all_events does.events does.are_events in
-      rw are does.lines
+  scrolls d e bytes off does = rw (reads d e bytes off does) does.lines
 
   written-does : (s : State) (n : ℕ) → IsSound s → IsGlyph n
       → Does (written n s.display.sets) s.display (write_glyph n (unshifted s.display)) (glyph_off s.display)

@@ -113,8 +113,8 @@ pub fn writes()
 }
 
 /// States how a character beyond ASCII moves the cursor between sequences, if no single shift is pending. It moves right by
-/// as many columns as the character has cells, if the row has so many to the right of the cursor. The cursor is where as
-/// many x would leave it, unless a character of two cells finds only one left in the row.
+/// as many columns as the character has cells, if the row has so many to the right of the cursor. As many x move the cursor
+/// to the same position, unless a character of two cells finds only one left in the row.
 pub fn moves()
     ensures fits { (s : State) (c : ℕ) → IsSound s → s.held ≡ Nothing → s.display.sets.pending ≡ None → 0x80 ≤ c
         → s.display.cursor.wrap ≡ false → s.display.cursor.col + cells c ≤ last_column s.display

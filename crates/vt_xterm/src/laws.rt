@@ -97,7 +97,7 @@ pub fn pages()
 {}
 
 /// States what comes back after ?1049h on the main page, bytes without a function of the pages, and ?1049l. The cells are those of
-/// before. The cursor is restored that was saved: if DECOM was reset, it is where it was.
+/// before. The saved cursor is restored. If DECOM was reset, its position is that of before.
 pub fn comes_back()
     ensures display { (w : Whole) (bytes : List ℕ) → IsSoundWhole w → w.pages.alternate ≡ false
         → list_any is_page_function (events_of bytes) ≡ false

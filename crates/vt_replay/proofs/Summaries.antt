@@ -1,12 +1,8 @@
 -- The summary as an output: what is written at the end of bytes that come.
-use Rattle.std.proofs.Common.{◌≡◌, ℕ, List, [], ◌++◌, Option, Result, sym, ap, subst, ◌∙◌, append_assoc, append-nil}
+use Rattle.std.proofs.Common.{◌≡◌, ℕ, List, [], ◌++◌, sym, ap, ◌∙◌, append_assoc, append-nil}
 use Rattle.std.proofs.Math.Logic.{∥∥₁_elim, ∥∥₁_map}
 use Rattle.std.proofs.Props.{props}
 use Rattle.vt_syntax.specs.Laws.{SplitLaw}
-use Rattle.vt_device.specs.Runs.{Flags, Moves}
-use Rattle.vt_recording.specs.declared.format.Encoding.{Encoding}
-use Rattle.vt_recording.specs.declared.fault.Fault.{Fault}
-use Rattle.vt_replay.specs.Output.{EncodedTable, always, nothing}
 use Rattle.vt_trace.specs.declared.summary.Summary.{Summary}
 use Rattle.vt_trace.specs.Counted.{HasCounted, HasCountedSome, AreSome, summary_after}
 use Rattle.vt_trace.specs.Summary.{summary}
@@ -15,15 +11,6 @@ use Rattle.vt_trace.proofs.Coming.{goes_on}
 -- of a summary that has counted nothing
 pub begins_so : (s : Summary) → SplitLaw → HasCounted [] s → (λ (bytes : List ℕ). summary_after s bytes) ≡ summary
 begins_so s law was i bytes = goes_on s [] bytes law was i
-
--- what is written at the end by another name
-pub ended_by : (encoding : Encoding) (ending other : List ℕ → List ℕ) (left left_after held held_after : Option (List ℕ))
-    (result : Result (Unit {0}) Fault) (piece : ℕ) (f : Flags) (limit : ℕ) → ending ≡ other
-    → Moves left left_after held held_after (λ b w. EncodedTable encoding nothing ending always result piece b w f limit)
-    → Moves left left_after held held_after (λ b w. EncodedTable encoding nothing other always result piece b w f limit)
-ended_by encoding ending other left left_after held held_after result piece f limit is moves =
-    subst (λ (g : List ℕ → List ℕ). Moves left left_after held held_after (λ b w. EncodedTable encoding nothing g always result piece b w f limit))
-    is moves
 
 -- a chunk more is counted
 pub counts_on : (s t : Summary) (chunk : List ℕ) → ((bytes : List ℕ) → HasCounted bytes s → HasCounted (bytes ++ chunk) t)

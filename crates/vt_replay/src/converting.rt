@@ -1,5 +1,5 @@
 //! What a host sends under TERM=xterm, as updates of a VT220.
-ghost use Rattle.std.specs.Prelude.{◌≡◌, ◌*◌, ◌/◌, ◌≤◌, [], min, vec_capacity, IfOk};
+ghost use Rattle.std.specs.Prelude.{◌≡◌, ◌*◌, ◌/◌, ◌≤◌, [], min, vec_capacity};
 ghost use Rattle.vt_syntax.specs.declared.held.Held.TheVariants.{Nothing};
 ghost use Rattle.vt_term.specs.State.{power_up};
 ghost use Rattle.vt_update.specs.declared.updating.TheConstants.{UPDATE_LIMIT};
@@ -46,26 +46,6 @@ fn first_shown()
     soundness();
 }
 
-impl Converter {
-    /// Returns the converter of a new terminal, with memory for chunks of so many bytes. `Err` means that allocation failed.
-    pub(crate) fn new(alloc: Global, piece: usize) -> Result<Converter, AllocError>
-        requires { piece ≤ 65536 }
-        ensures came { IfOk result (λ d. AreShown
-            (λ more. on_terminal (play_xterm (behind d.player.terminal d.player.front) d.player.front.pending more))
-            d.shown [] []) }
-        ensures reports { IfOk result (λ d. 10 * piece ≤ vec_capacity d.reports) }
-    {
-        first_shown();
-        Ok(Converter {
-            player: XtermPlayer::new(alloc)?,
-            shown: Terminal::new(alloc)?,
-            target: Terminal::new(alloc)?,
-            reports: Vec::with_capacity(alloc, REPORT_LIMIT * piece)?,
-            update: Vec::with_capacity(alloc, UPDATE_LIMIT)?,
-        })
-    }
-}
-
 /// Makes a terminal show what another one shows, with no sequence begun.
 fn copy_between(terminal: &Terminal, target: &mut Terminal, reports: &mut Vec<u8>)
     requires { 10 ≤ vec_capacity reports.old }
@@ -86,6 +66,19 @@ impl Decoding for Converter {
     ghost held = { λ d chunk. d.update.items };
 
     ghost most = { λ d. min 65536 (vec_capacity d.reports / 10) };
+
+    fn new(alloc: Global, piece: usize) -> Result<Converter, AllocError> {
+        first_shown();
+        leading();
+        soundness();
+        Ok(Converter {
+            player: XtermPlayer::new(alloc)?,
+            shown: Terminal::new(alloc)?,
+            target: Terminal::new(alloc)?,
+            reports: Vec::with_capacity(alloc, REPORT_LIMIT * piece)?,
+            update: Vec::with_capacity(alloc, UPDATE_LIMIT)?,
+        })
+    }
 
     fn decode(&mut self, chunk: &[u8]) {
         cuts();

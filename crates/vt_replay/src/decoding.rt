@@ -26,6 +26,14 @@ pub(crate) trait Decoding: Drop {
     /// The most bytes of a chunk.
     ghost most: { Self → ℕ };
 
+    /// Returns the decoding before any byte came, with memory for chunks of so many bytes. `Err` means that allocation
+    /// failed.
+    fn new(alloc: Global, piece: usize) -> Result<Self, AllocError>
+        requires { (1 ≤ piece) × (piece ≤ 65536) }
+        ensures came { IfOk result (λ d. Came d [] []) }
+        ensures translates { IfOk result (λ d. Translates [] []) }
+        ensures most { IfOk result (λ d. piece ≤ most d) };
+
     /// Decodes a chunk that isn't empty. It allocates nothing.
     fn decode(&mut self, chunk: &[u8])
         requires some { 1 ≤ length chunk.now }
@@ -54,6 +62,11 @@ impl Decoding for Plain {
 
     ghost most = { λ d. 65536 };
 
+    fn new(alloc: Global, piece: usize) -> Result<Plain, AllocError> {
+        let _ = (alloc, piece);
+        Ok(Plain)
+    }
+
     fn decode(&mut self, _chunk: &[u8]) {}
 
     fn bytes<'a>(&'a self, chunk: &'a [u8]) -> &'a [u8] {
@@ -73,24 +86,6 @@ pub(crate) struct Utf8 {
     bytes: Vec<u8>,
 }
 
-impl Utf8 {
-    /// Returns the decoding of a new terminal, with memory for chunks of so many bytes. `Err` means that allocation failed.
-    pub(crate) fn new(alloc: Global, piece: usize) -> Result<Utf8, AllocError>
-        requires { piece ≤ 65536 }
-        ensures terminal { IfOk result (λ d. d.terminal ≡ power_up) }
-        ensures decoder { IfOk result (λ d. d.decoder ≡ []) }
-        ensures reports { IfOk result (λ d. 10 * piece ≤ vec_capacity d.reports) }
-        ensures bytes { IfOk result (λ d. 44 * piece ≤ vec_capacity d.bytes) }
-    {
-        Ok(Utf8 {
-            terminal: Terminal::new(alloc)?,
-            decoder: Decoder::new(),
-            reports: Vec::with_capacity(alloc, REPORT_LIMIT * piece)?,
-            bytes: Vec::with_capacity(alloc, BYTE_LIMIT * piece)?,
-        })
-    }
-}
-
 impl Decoding for Utf8 {
     ghost Translates = { λ b x. x ≡ translated power_up [] b };
 
@@ -99,6 +94,15 @@ impl Decoding for Utf8 {
     ghost held = { λ d chunk. d.bytes.items };
 
     ghost most = { λ d. min (vec_capacity d.reports / 10) (vec_capacity d.bytes / 44) };
+
+    fn new(alloc: Global, piece: usize) -> Result<Utf8, AllocError> {
+        Ok(Utf8 {
+            terminal: Terminal::new(alloc)?,
+            decoder: Decoder::new(),
+            reports: Vec::with_capacity(alloc, REPORT_LIMIT * piece)?,
+            bytes: Vec::with_capacity(alloc, BYTE_LIMIT * piece)?,
+        })
+    }
 
     fn decode(&mut self, chunk: &[u8]) {
         utf8_cuts();

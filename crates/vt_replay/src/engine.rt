@@ -80,25 +80,15 @@ pub fn run_from<S: Source, W: Write>(
     ensures whole { S.ended reader.new ≡ true → IsAtEnd (S.remaining reader.new) }
 {
     match language {
-        Language::Dec => {
-            let player = PlainPlayer::new(alloc)?;
-            run_by(alloc, player, reader, writer, what, piece, limit)
-        }
-        Language::Utf8 => {
-            let player = Utf8Player::new(alloc)?;
-            run_by(alloc, player, reader, writer, what, piece, limit)
-        }
-        Language::Xterm => {
-            let player = XtermPlayer::new(alloc)?;
-            run_by(alloc, player, reader, writer, what, piece, limit)
-        }
+        Language::Dec => run_by::<PlainPlayer, S, W>(alloc, reader, writer, what, piece, limit),
+        Language::Utf8 => run_by::<Utf8Player, S, W>(alloc, reader, writer, what, piece, limit),
+        Language::Xterm => run_by::<XtermPlayer, S, W>(alloc, reader, writer, what, piece, limit),
     }
 }
 
-/// Plays a source's bytes by a player, and writes what is due.
+/// Plays a source's bytes by a new player, and writes what is due.
 fn run_by<P: Player, S: Source, W: Write>(
     alloc: Global,
-    player: P,
     reader: &mut S,
     writer: &mut Watched<W>,
     what: What,
@@ -112,10 +102,10 @@ fn run_by<P: Player, S: Source, W: Write>(
     requires limit_in_range { limit ≤ 1099511627776 }
     ensures answer { Moves (S.remaining reader.old) (S.remaining reader.new) (W.contents writer.old.device)
         (W.contents writer.new.device)
-        (λ b w. PlayedTable (P.played player) what result piece b w (record { reader_failed = S.failed reader.new; reader_ended = S.ended reader.new; writer_failed = writer.new.failed }) limit) }
+        (λ b w. PlayedTable P.plays what result piece b w (record { reader_failed = S.failed reader.new; reader_ended = S.ended reader.new; writer_failed = writer.new.failed }) limit) }
     ensures whole { S.ended reader.new ≡ true → IsAtEnd (S.remaining reader.new) }
 {
-    let mut output = DueOutput::new(player, what, piece);
+    let mut output = DueOutput::new(P::new(alloc)?, what, piece);
     let dec = Encoding::Dec;
     write_output_from(alloc, &mut output, dec, reader, writer, piece, limit)
 }

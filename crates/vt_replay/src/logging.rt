@@ -1,18 +1,18 @@
 //! The log of an input: its lines are written as they scroll off, and its screen at the end.
-ghost use Rattle.std.specs.Prelude.{◌≡◌, ⊤, ◌*◌, ◌/◌, ◌≤◌, true, false, vec_capacity, IfOk};
+ghost use Rattle.std.specs.Prelude.{◌≡◌, ⊤, ◌*◌, ◌/◌, ◌≤◌, true, false, vec_capacity};
 ghost use Rattle.std.specs.Io.KnownBytes.{IsAtEnd};
-ghost use Rattle.vt_term.specs.State.{power_up};
 ghost use Rattle.vt_term.specs.Play.{play};
 ghost use Rattle.vt_term.specs.Text.{text};
 ghost use Rattle.vt_term.specs.Scrolling.{log};
 ghost use Rattle.vt_device.specs.Runs.{Moves};
-ghost use Rattle.vt_xterm.specs.Play.{play_xterm, xterm_log, behind, front_at_power_up};
+ghost use Rattle.vt_xterm.specs.Play.{play_xterm, xterm_log, behind};
 ghost use Rattle.vt_replay.specs.declared.language.Language.TheVariants.{Xterm};
 ghost use Rattle.vt_replay.specs.Log.{lines, screen, lines_in, screen_in};
-ghost use Rattle.vt_replay.specs.Output.{OutputTable, EncodedTable, always};
+ghost use Rattle.vt_replay.specs.Output.{OutputTable, always};
 
 use crate::language::Language;
-use crate::output::{Output, front_for, write_output_from};
+use crate::output::{Output, front_for};
+use crate::outputs::{WordOutput, write_word};
 use std::alloc::{AllocError, Global};
 use std::io::{Read, Write};
 use vt_cli::Encoding;
@@ -55,7 +55,8 @@ pub fn write_log<R: Read, W: Write>(
         (λ b w. OutputTable lines screen always result piece b w (record { reader_failed = reader.new.failed; reader_ended = reader.new.ended; writer_failed = writer.new.failed }) limit) }
     ensures whole { reader.new.ended ≡ true → IsAtEnd (R.remaining reader.new.device) }
 {
-    write_vt220_log(alloc, reader, writer, Encoding::Dec, piece, limit)
+    let dec = Encoding::Dec;
+    write_word::<LogOutput, Watched<R>, W>(alloc, reader, writer, dec, piece, limit)
 }
 
 /// Writes the log of a source's bytes in a language, as `write_log` does of a reader's. The source hasn't failed or ended
@@ -81,60 +82,14 @@ pub fn write_log_from<S: Source, W: Write>(
         (λ b w. OutputTable (lines_in language) (screen_in language) always result piece b w (record { reader_failed = S.failed reader.new; reader_ended = S.ended reader.new; writer_failed = writer.new.failed }) limit) }
     ensures whole { S.ended reader.new ≡ true → IsAtEnd (S.remaining reader.new) }
 {
+    let (dec, utf8) = (Encoding::Dec, Encoding::Utf8);
     match language {
-        Language::Dec => write_vt220_log(alloc, reader, writer, Encoding::Dec, piece, limit),
-        Language::Utf8 => write_vt220_log(alloc, reader, writer, Encoding::Utf8, piece, limit),
-        Language::Xterm => write_xterm_log(alloc, reader, writer, piece, limit),
+        Language::Dec => write_word::<LogOutput, S, W>(alloc, reader, writer, dec, piece, limit),
+        Language::Utf8 => write_word::<LogOutput, S, W>(alloc, reader, writer, utf8, piece, limit),
+        Language::Xterm => {
+            write_word::<XtermLogOutput, S, W>(alloc, reader, writer, dec, piece, limit)
+        }
     }
-}
-
-/// Writes the log of a VT220.
-fn write_vt220_log<S: Source, W: Write>(
-    alloc: Global,
-    reader: &mut S,
-    writer: &mut Watched<W>,
-    encoding: Encoding,
-    piece: usize,
-    limit: u64,
-) -> Result<(), Fault>
-    requires reader_works { S.failed reader.old ≡ false }
-    requires reader_goes_on { S.ended reader.old ≡ false }
-    requires writer_works { writer.old.failed ≡ false }
-    requires piece_in_range { (1 ≤ piece) × (piece ≤ 65536) }
-    requires limit_in_range { limit ≤ 1099511627776 }
-    ensures answer { Moves (S.remaining reader.old) (S.remaining reader.new) (W.contents writer.old.device)
-        (W.contents writer.new.device)
-        (λ b w. EncodedTable encoding lines screen always result piece b w (record { reader_failed = S.failed reader.new; reader_ended = S.ended reader.new; writer_failed = writer.new.failed }) limit) }
-    ensures whole { S.ended reader.new ≡ true → IsAtEnd (S.remaining reader.new) }
-{
-    log_cuts();
-    soundness();
-    let mut output = LogOutput::new(alloc, piece)?;
-    write_output_from(alloc, &mut output, encoding, reader, writer, piece, limit)
-}
-
-/// Writes the log of a terminal under TERM=xterm.
-fn write_xterm_log<S: Source, W: Write>(
-    alloc: Global,
-    reader: &mut S,
-    writer: &mut Watched<W>,
-    piece: usize,
-    limit: u64,
-) -> Result<(), Fault>
-    requires reader_works { S.failed reader.old ≡ false }
-    requires reader_goes_on { S.ended reader.old ≡ false }
-    requires writer_works { writer.old.failed ≡ false }
-    requires piece_in_range { (1 ≤ piece) × (piece ≤ 65536) }
-    requires limit_in_range { limit ≤ 1099511627776 }
-    ensures answer { Moves (S.remaining reader.old) (S.remaining reader.new) (W.contents writer.old.device)
-        (W.contents writer.new.device)
-        (λ b w. OutputTable (lines_in Xterm) (screen_in Xterm) always result piece b w (record { reader_failed = S.failed reader.new; reader_ended = S.ended reader.new; writer_failed = writer.new.failed }) limit) }
-    ensures whole { S.ended reader.new ≡ true → IsAtEnd (S.remaining reader.new) }
-{
-    xterm_log_cuts();
-    let mut output = XtermLogOutput::new(alloc, piece)?;
-    let dec = Encoding::Dec;
-    write_output_from(alloc, &mut output, dec, reader, writer, piece, limit)
 }
 
 /// The lines that scroll off, and at the end the screen.
@@ -143,20 +98,6 @@ struct LogOutput {
     terminal: Terminal,
     /// The reports of a chunk, which are dropped.
     reports: Vec<u8>,
-}
-
-impl LogOutput {
-    /// Returns the output of a new terminal, with memory for chunks of so many bytes. `Err` means that allocation failed.
-    fn new(alloc: Global, piece: usize) -> Result<LogOutput, AllocError>
-        requires { piece ≤ 65536 }
-        ensures terminal { IfOk result (λ o. o.terminal ≡ power_up) }
-        ensures reports { IfOk result (λ o. 10 * piece ≤ vec_capacity o.reports) }
-    {
-        Ok(LogOutput {
-            terminal: Terminal::new(alloc)?,
-            reports: Vec::with_capacity(alloc, REPORT_LIMIT * piece)?,
-        })
-    }
 }
 
 impl Output for LogOutput {
@@ -198,6 +139,21 @@ impl Output for LogOutput {
     }
 }
 
+impl WordOutput for LogOutput {
+    ghost writes = { lines };
+
+    ghost ends = { screen };
+
+    fn new(alloc: Global, piece: usize) -> Result<LogOutput, AllocError> {
+        log_cuts();
+        soundness();
+        Ok(LogOutput {
+            terminal: Terminal::new(alloc)?,
+            reports: Vec::with_capacity(alloc, REPORT_LIMIT * piece)?,
+        })
+    }
+}
+
 /// The lines that scroll off under TERM=xterm, and at the end the screen.
 #[derive(Drop)]
 struct XtermLogOutput {
@@ -205,23 +161,6 @@ struct XtermLogOutput {
     front: Front,
     /// The reports of a chunk, which are dropped.
     reports: Vec<u8>,
-}
-
-impl XtermLogOutput {
-    /// Returns the output of a new terminal and its front, with memory for chunks of so many bytes. `Err` means that
-    /// allocation failed.
-    fn new(alloc: Global, piece: usize) -> Result<XtermLogOutput, AllocError>
-        requires { piece ≤ 65536 }
-        ensures terminal { IfOk result (λ o. o.terminal ≡ power_up) }
-        ensures front { IfOk result (λ o. o.front ≡ front_at_power_up) }
-        ensures reports { IfOk result (λ o. 10 * piece ≤ vec_capacity o.reports) }
-    {
-        Ok(XtermLogOutput {
-            terminal: Terminal::new(alloc)?,
-            front: Front::new(alloc)?,
-            reports: Vec::with_capacity(alloc, REPORT_LIMIT * piece)?,
-        })
-    }
 }
 
 impl Output for XtermLogOutput {
@@ -263,5 +202,20 @@ impl Output for XtermLogOutput {
     fn end(&self, out: &mut Vec<u8>) {
         xterm_cuts();
         self.terminal.text_reserved(out)
+    }
+}
+
+impl WordOutput for XtermLogOutput {
+    ghost writes = { lines_in Xterm };
+
+    ghost ends = { screen_in Xterm };
+
+    fn new(alloc: Global, piece: usize) -> Result<XtermLogOutput, AllocError> {
+        xterm_log_cuts();
+        Ok(XtermLogOutput {
+            terminal: Terminal::new(alloc)?,
+            front: Front::new(alloc)?,
+            reports: Vec::with_capacity(alloc, REPORT_LIMIT * piece)?,
+        })
     }
 }

@@ -107,7 +107,7 @@ pub fn write_output<O: Output, R: Read, W: Write>(
         (λ b w. OutputTable (O.written output.old) (O.ending output.old) (O.there output.old) result piece b w (record { reader_failed = reader.new.failed; reader_ended = reader.new.ended; writer_failed = writer.new.failed }) limit) }
     ensures whole { reader.new.ended ≡ true → IsAtEnd (R.remaining reader.new.device) }
 {
-    write_by(alloc, output, &mut Plain, reader, writer, piece, limit)
+    write_by::<O, Plain, Watched<R>, W>(alloc, output, reader, writer, piece, limit)
 }
 
 /// Gives a source's bytes in an encoding to an output, and writes what it makes of them, as `write_output` does of a
@@ -138,19 +138,15 @@ pub fn write_output_from<O: Output, S: Source, W: Write>(
     ensures whole { S.ended reader.new ≡ true → IsAtEnd (S.remaining reader.new) }
 {
     match encoding {
-        Encoding::Dec => write_by(alloc, output, &mut Plain, reader, writer, piece, limit),
-        Encoding::Utf8 => {
-            let mut decoding = Utf8::new(alloc, piece)?;
-            write_by(alloc, output, &mut decoding, reader, writer, piece, limit)
-        }
+        Encoding::Dec => write_by::<O, Plain, S, W>(alloc, output, reader, writer, piece, limit),
+        Encoding::Utf8 => write_by::<O, Utf8, S, W>(alloc, output, reader, writer, piece, limit),
     }
 }
 
-/// Gives a source's bytes, decoded, to an output, and writes what it makes of them.
+/// Gives a source's bytes to an output by a new decoding, and writes what it makes of them.
 pub(crate) fn write_by<O: Output, D: Decoding, S: Source, W: Write>(
     alloc: Global,
     output: &mut O,
-    decoding: &mut D,
     reader: &mut S,
     writer: &mut Watched<W>,
     piece: usize,
@@ -159,9 +155,6 @@ pub(crate) fn write_by<O: Output, D: Decoding, S: Source, W: Write>(
     requires takes { 1 ≤ O.most output.old }
     requires counts { O.counted output.old ≡ 0 }
     requires none { O.written output.old [] ≡ [] }
-    requires decodes { piece ≤ D.most decoding.old }
-    requires none_came { D.Came decoding.old [] [] }
-    requires none_translated { D.Translates [] [] }
     requires reader_works { S.failed reader.old ≡ false }
     requires reader_goes_on { S.ended reader.old ≡ false }
     requires writer_works { writer.old.failed ≡ false }
@@ -172,10 +165,11 @@ pub(crate) fn write_by<O: Output, D: Decoding, S: Source, W: Write>(
         (λ b w. TranslatedTable D.Translates (O.written output.old) (O.ending output.old) (O.there output.old) result piece b w (record { reader_failed = S.failed reader.new; reader_ended = S.ended reader.new; writer_failed = writer.new.failed }) limit) }
     ensures whole { S.ended reader.new ≡ true → IsAtEnd (S.remaining reader.new) }
 {
+    let mut decoding = D::new(alloc, piece)?;
     let mut room = Room::new(alloc, piece, output.capacity())?;
     write_in_room(
         output,
-        decoding,
+        &mut decoding,
         reader,
         writer,
         limit,

@@ -1,21 +1,72 @@
 //! The outputs: what each word writes of the host's bytes as they come, and at their end.
-ghost use Rattle.std.specs.Prelude.{◌≡◌, ⊤, ◌+◌, ◌*◌, ◌/◌, ◌^◌, ◌≤◌, ◌<◌, ◌++◌, [], true, length, take, vec_capacity, IfOk, List, ℕ};
-ghost use Rattle.vt_term.specs.State.{power_up};
+ghost use Rattle.std.specs.Prelude.{◌≡◌, ⊤, ◌+◌, ◌*◌, ◌/◌, ◌^◌, ◌≤◌, ◌<◌, ◌++◌, [], true, false, length, take, vec_capacity, IfOk, List, ℕ};
+ghost use Rattle.std.specs.Io.KnownBytes.{IsAtEnd};
 ghost use Rattle.vt_term.specs.Play.{play};
 ghost use Rattle.vt_term.specs.Text.{text};
+ghost use Rattle.vt_device.specs.Runs.{Moves};
+ghost use Rattle.vt_replay.specs.Output.{EncodedTable, always, all, nothing};
+ghost use Rattle.vt_replay.specs.Log.{screen};
 ghost use Rattle.vt_replay.specs.Pages.{pages};
-ghost use Rattle.vt_trace.specs.Trace.{trace, tracer_all, tracer_at_start, end_lines};
-ghost use Rattle.vt_trace.specs.Counted.{HasCounted, HasCountedSome, summary_after};
+ghost use Rattle.vt_replay.specs.Words.{pages_written, trace_written, trace_ending};
+ghost use Rattle.vt_trace.specs.Trace.{trace, tracer_all, end_lines};
+ghost use Rattle.vt_trace.specs.Summary.{summary};
+ghost use Rattle.vt_trace.specs.Counted.{HasCountedSome, summary_after};
 
 use crate::laws::pages_cut;
-use crate::output::{Output, front_for};
+use crate::output::{Output, front_for, write_output_from};
 use crate::pages::{PAGE_LIMIT, feed_pages_reserved};
 use std::alloc::{AllocError, Global};
+use std::io::Write;
+use vt_cli::Encoding;
+use vt_device::{Source, Watched};
+use vt_recording::Fault;
 use vt_syntax::laws::one_split;
 use vt_term::laws::{cuts, soundness};
 use vt_term::{REPORT_LIMIT, Terminal};
 use vt_trace::laws::cuts as trace_cuts;
 use vt_trace::{SUMMARY_LIMIT, Summary, TRACE_LIMIT, Tracer, trace_end, trace_reserved};
+
+/// The output of a word of the command line.
+pub(crate) trait WordOutput: Output {
+    /// What the word writes of bytes that come.
+    ghost writes: { List ℕ → List ℕ };
+
+    /// What the word writes at the end of bytes that come.
+    ghost ends: { List ℕ → List ℕ };
+
+    /// Returns the output before any byte came, with memory for chunks of so many bytes. `Err` means that allocation failed.
+    fn new(alloc: Global, piece: usize) -> Result<Self, AllocError>
+        requires { (1 ≤ piece) × (piece ≤ 65536) }
+        ensures written { IfOk result (λ o. Self.written o ≡ writes) }
+        ensures ending { IfOk result (λ o. Self.ending o ≡ ends) }
+        ensures there { IfOk result (λ o. Self.there o ≡ always) }
+        ensures none { IfOk result (λ o. Self.written o [] ≡ []) }
+        ensures takes { IfOk result (λ o. 1 ≤ Self.most o) }
+        ensures counts { IfOk result (λ o. Self.counted o ≡ 0) };
+}
+
+/// Gives a source's bytes in an encoding to the output of a word, and writes what it makes of them.
+pub(crate) fn write_word<O: WordOutput, S: Source, W: Write>(
+    alloc: Global,
+    reader: &mut S,
+    writer: &mut Watched<W>,
+    encoding: Encoding,
+    piece: usize,
+    limit: u64,
+) -> Result<(), Fault>
+    requires reader_works { S.failed reader.old ≡ false }
+    requires reader_goes_on { S.ended reader.old ≡ false }
+    requires writer_works { writer.old.failed ≡ false }
+    requires piece_in_range { (1 ≤ piece) × (piece ≤ 65536) }
+    requires limit_in_range { limit ≤ 1099511627776 }
+    ensures answer { Moves (S.remaining reader.old) (S.remaining reader.new) (W.contents writer.old.device)
+        (W.contents writer.new.device)
+        (λ b w. EncodedTable encoding O.writes O.ends always result piece b w (record { reader_failed = S.failed reader.new; reader_ended = S.ended reader.new; writer_failed = writer.new.failed }) limit) }
+    ensures whole { S.ended reader.new ≡ true → IsAtEnd (S.remaining reader.new) }
+{
+    let mut output = O::new(alloc, piece)?;
+    write_output_from(alloc, &mut output, encoding, reader, writer, piece, limit)
+}
 
 /// The log with pages.
 #[derive(Drop)]
@@ -23,20 +74,6 @@ pub(crate) struct PageOutput {
     terminal: Terminal,
     /// The reports of a chunk, which are dropped.
     reports: Vec<u8>,
-}
-
-impl PageOutput {
-    /// Returns the output of a new terminal, with memory for chunks of so many bytes. `Err` means that allocation failed.
-    pub(crate) fn new(alloc: Global, piece: usize) -> Result<PageOutput, AllocError>
-        requires { piece ≤ 65536 }
-        ensures terminal { IfOk result (λ o. o.terminal ≡ power_up) }
-        ensures reports { IfOk result (λ o. 10 * piece ≤ vec_capacity o.reports) }
-    {
-        Ok(PageOutput {
-            terminal: Terminal::new(alloc)?,
-            reports: Vec::with_capacity(alloc, REPORT_LIMIT * piece)?,
-        })
-    }
 }
 
 impl Output for PageOutput {
@@ -77,6 +114,21 @@ impl Output for PageOutput {
     }
 }
 
+impl WordOutput for PageOutput {
+    ghost writes = { pages_written };
+
+    ghost ends = { screen };
+
+    fn new(alloc: Global, piece: usize) -> Result<PageOutput, AllocError> {
+        pages_cut();
+        soundness();
+        Ok(PageOutput {
+            terminal: Terminal::new(alloc)?,
+            reports: Vec::with_capacity(alloc, REPORT_LIMIT * piece)?,
+        })
+    }
+}
+
 /// The trace.
 #[derive(Drop)]
 pub(crate) struct TraceOutput {
@@ -84,22 +136,6 @@ pub(crate) struct TraceOutput {
     tracer: Tracer,
     /// The reports of a chunk, which are dropped: the trace has them.
     reports: Vec<u8>,
-}
-
-impl TraceOutput {
-    /// Returns the output of a new terminal, with memory for chunks of so many bytes. `Err` means that allocation failed.
-    pub(crate) fn new(alloc: Global, piece: usize) -> Result<TraceOutput, AllocError>
-        requires { piece ≤ 65536 }
-        ensures terminal { IfOk result (λ o. o.terminal ≡ power_up) }
-        ensures tracer { IfOk result (λ o. o.tracer ≡ tracer_at_start) }
-        ensures reports { IfOk result (λ o. 10 * piece ≤ vec_capacity o.reports) }
-    {
-        Ok(TraceOutput {
-            terminal: Terminal::new(alloc)?,
-            tracer: Tracer::new(),
-            reports: Vec::with_capacity(alloc, REPORT_LIMIT * piece)?,
-        })
-    }
 }
 
 impl Output for TraceOutput {
@@ -142,22 +178,25 @@ impl Output for TraceOutput {
     }
 }
 
+impl WordOutput for TraceOutput {
+    ghost writes = { trace_written };
+
+    ghost ends = { trace_ending };
+
+    fn new(alloc: Global, piece: usize) -> Result<TraceOutput, AllocError> {
+        Ok(TraceOutput {
+            terminal: Terminal::new(alloc)?,
+            tracer: Tracer::new(),
+            reports: Vec::with_capacity(alloc, REPORT_LIMIT * piece)?,
+        })
+    }
+}
+
 /// The summary.
 #[derive(Drop)]
 pub(crate) struct SummaryOutput {
     counts: Summary,
     ghost some: { HasCountedSome counts },
-}
-
-impl SummaryOutput {
-    /// Returns the output that has counted nothing. `Err` means that allocation failed.
-    pub(crate) fn new(alloc: Global) -> Result<SummaryOutput, AllocError>
-        ensures { IfOk result (λ o. HasCounted [] o.counts) }
-    {
-        Ok(SummaryOutput {
-            counts: Summary::new(alloc)?,
-        })
-    }
 }
 
 impl Output for SummaryOutput {
@@ -196,6 +235,20 @@ impl Output for SummaryOutput {
     }
 }
 
+impl WordOutput for SummaryOutput {
+    ghost writes = { nothing };
+
+    ghost ends = { summary };
+
+    fn new(alloc: Global, piece: usize) -> Result<SummaryOutput, AllocError> {
+        let _ = piece;
+        one_split();
+        Ok(SummaryOutput {
+            counts: Summary::new(alloc)?,
+        })
+    }
+}
+
 /// The most bytes of the content that are written at once.
 const CONTENT_LIMIT: usize = 65536;
 
@@ -231,4 +284,15 @@ impl Output for ContentOutput {
     }
 
     fn end(&self, _out: &mut Vec<u8>) {}
+}
+
+impl WordOutput for ContentOutput {
+    ghost writes = { all };
+
+    ghost ends = { nothing };
+
+    fn new(alloc: Global, piece: usize) -> Result<ContentOutput, AllocError> {
+        let _ = (alloc, piece);
+        Ok(ContentOutput)
+    }
 }

@@ -1,10 +1,10 @@
 //! A player: how a host's bytes are played on a terminal.
 ghost use Rattle.std.specs.Prelude.{◌≡◌, ◌+◌, ◌*◌, ◌≤◌, ◌++◌, [], ℕ, List, length, vec_len, vec_capacity, IfOk};
-ghost use Rattle.vt_term.specs.State.{power_up};
 ghost use Rattle.vt_term.specs.Play.{Played, play, both};
 ghost use Rattle.vt_utf8.specs.Play.{play_utf8};
-ghost use Rattle.vt_xterm.specs.Play.{play_xterm, behind, front_at_power_up};
-ghost use Rattle.vt_replay.specs.Playing.{on_terminal};
+ghost use Rattle.vt_xterm.specs.Play.{play_xterm, behind};
+ghost use Rattle.vt_replay.specs.declared.language.Language.TheVariants.{Dec, Utf8, Xterm};
+ghost use Rattle.vt_replay.specs.Playing.{on_terminal, played_as};
 
 use std::alloc::{AllocError, Global};
 use vt_term::Terminal;
@@ -18,6 +18,13 @@ use vt_xterm::{Front, feed_xterm_reserved};
 pub(crate) trait Player: Drop {
     /// What bytes that come leave and report.
     ghost played: { Self → List ℕ → Played };
+
+    /// What all bytes of a host leave and report.
+    ghost plays: { List ℕ → Played };
+
+    /// Returns the player of a new terminal. `Err` means that allocation failed.
+    fn new(alloc: Global) -> Result<Self, AllocError>
+        ensures { IfOk result (λ p. played p ≡ plays) };
 
     /// Plays a chunk, and appends the reports. `out` has capacity for ten more bytes for each byte of the chunk. It allocates
     /// nothing.
@@ -40,19 +47,16 @@ pub(crate) struct PlainPlayer {
     terminal: Terminal,
 }
 
-impl PlainPlayer {
-    /// Returns the player of a new terminal. `Err` means that allocation failed.
-    pub(crate) fn new(alloc: Global) -> Result<PlainPlayer, AllocError>
-        ensures { IfOk result (λ p. p.terminal ≡ power_up) }
-    {
+impl Player for PlainPlayer {
+    ghost played = { λ p bytes. play p.terminal bytes };
+
+    ghost plays = { played_as Dec };
+
+    fn new(alloc: Global) -> Result<PlainPlayer, AllocError> {
         Ok(PlainPlayer {
             terminal: Terminal::new(alloc)?,
         })
     }
-}
-
-impl Player for PlainPlayer {
-    ghost played = { λ p bytes. play p.terminal bytes };
 
     fn feed(&mut self, chunk: &[u8], out: &mut Vec<u8>) {
         cuts();
@@ -73,21 +77,17 @@ pub(crate) struct Utf8Player {
     decoder: Decoder,
 }
 
-impl Utf8Player {
-    /// Returns the player of a new terminal. `Err` means that allocation failed.
-    pub(crate) fn new(alloc: Global) -> Result<Utf8Player, AllocError>
-        ensures terminal { IfOk result (λ p. p.terminal ≡ power_up) }
-        ensures decoder { IfOk result (λ p. p.decoder ≡ []) }
-    {
+impl Player for Utf8Player {
+    ghost played = { λ p bytes. play_utf8 p.terminal p.decoder bytes };
+
+    ghost plays = { played_as Utf8 };
+
+    fn new(alloc: Global) -> Result<Utf8Player, AllocError> {
         Ok(Utf8Player {
             terminal: Terminal::new(alloc)?,
             decoder: Decoder::new(),
         })
     }
-}
-
-impl Player for Utf8Player {
-    ghost played = { λ p bytes. play_utf8 p.terminal p.decoder bytes };
 
     fn feed(&mut self, chunk: &[u8], out: &mut Vec<u8>) {
         let _ = self.terminal.width();
@@ -109,21 +109,17 @@ pub(crate) struct XtermPlayer {
     pub(crate) front: Front,
 }
 
-impl XtermPlayer {
-    /// Returns the player of a new terminal and its front. `Err` means that allocation failed.
-    pub(crate) fn new(alloc: Global) -> Result<XtermPlayer, AllocError>
-        ensures terminal { IfOk result (λ p. p.terminal ≡ power_up) }
-        ensures front { IfOk result (λ p. p.front ≡ front_at_power_up) }
-    {
+impl Player for XtermPlayer {
+    ghost played = { λ p bytes. on_terminal (play_xterm (behind p.terminal p.front) p.front.pending bytes) };
+
+    ghost plays = { played_as Xterm };
+
+    fn new(alloc: Global) -> Result<XtermPlayer, AllocError> {
         Ok(XtermPlayer {
             terminal: Terminal::new(alloc)?,
             front: Front::new(alloc)?,
         })
     }
-}
-
-impl Player for XtermPlayer {
-    ghost played = { λ p bytes. on_terminal (play_xterm (behind p.terminal p.front) p.front.pending bytes) };
 
     fn feed(&mut self, chunk: &[u8], out: &mut Vec<u8>) {
         xterm_cuts();

@@ -3,156 +3,20 @@ ghost use Rattle.std.specs.Prelude.{◌≡◌, ◌≤◌, true, false, Err, opti
 ghost use Rattle.std.specs.Io.KnownBytes.{IsAtEnd};
 ghost use Rattle.vt_device.specs.Runs.{Moves};
 ghost use Rattle.vt_device.specs.Writing.{Gives};
-ghost use Rattle.vt_replay.specs.Output.{EncodedTable, always, all, nothing};
-ghost use Rattle.vt_trace.specs.Summary.{summary};
-ghost use Rattle.vt_replay.specs.Words.{WordTable, pages_written, trace_written, trace_ending};
-ghost use Rattle.vt_replay.specs.Log.{screen};
-ghost use Rattle.vt_replay.specs.Showing.{ShownTable};
+ghost use Rattle.vt_replay.specs.Words.{WordTable};
 ghost use Rattle.vt_replay.specs.Request.{encoding_wanted, encoding_of, is_streamed, format_of, lacks_times, ended_of, IsStreamed, IsPlayed, OutcomeTable};
 
 use crate::converting::Converter;
 use crate::engine::run_from;
 use crate::language::Language;
-use crate::laws::pages_cut;
 use crate::logging::write_log_from;
-use crate::output::{write_by, write_output_from};
-use crate::outputs::{ContentOutput, PageOutput, SummaryOutput, TraceOutput};
+use crate::output::write_by;
+use crate::outputs::{ContentOutput, PageOutput, SummaryOutput, TraceOutput, write_word};
 use std::alloc::{AllocError, Global};
 use std::io::{Read, Write};
 use vt_cli::{Encoding, Format, Moment, Request, TerminalType, Word};
 use vt_device::{Source, Watched};
 use vt_recording::{Break, Content, Detected, Fault, Taken, detect, read_recording, take_apart};
-use vt_syntax::laws::one_split;
-use vt_term::laws::soundness;
-use vt_update::laws::leading;
-
-/// Plays the reader's bytes on a new terminal, and writes its log with pages.
-fn write_pages<S: Source, W: Write>(
-    alloc: Global,
-    reader: &mut S,
-    writer: &mut Watched<W>,
-    encoding: Encoding,
-    piece: usize,
-    limit: u64,
-) -> Result<(), Fault>
-    requires reader_works { S.failed reader.old ≡ false }
-    requires reader_goes_on { S.ended reader.old ≡ false }
-    requires writer_works { writer.old.failed ≡ false }
-    requires piece_in_range { (1 ≤ piece) × (piece ≤ 65536) }
-    requires limit_in_range { limit ≤ 1099511627776 }
-    ensures answer { Moves (S.remaining reader.old) (S.remaining reader.new) (W.contents writer.old.device)
-        (W.contents writer.new.device)
-        (λ b w. EncodedTable encoding pages_written screen always result piece b w (record { reader_failed = S.failed reader.new; reader_ended = S.ended reader.new; writer_failed = writer.new.failed }) limit) }
-    ensures whole { S.ended reader.new ≡ true → IsAtEnd (S.remaining reader.new) }
-{
-    pages_cut();
-    soundness();
-    let mut output = PageOutput::new(alloc, piece)?;
-    write_output_from(alloc, &mut output, encoding, reader, writer, piece, limit)
-}
-
-/// Plays the reader's bytes on a new terminal, and writes the trace.
-fn write_trace<S: Source, W: Write>(
-    alloc: Global,
-    reader: &mut S,
-    writer: &mut Watched<W>,
-    encoding: Encoding,
-    piece: usize,
-    limit: u64,
-) -> Result<(), Fault>
-    requires reader_works { S.failed reader.old ≡ false }
-    requires reader_goes_on { S.ended reader.old ≡ false }
-    requires writer_works { writer.old.failed ≡ false }
-    requires piece_in_range { (1 ≤ piece) × (piece ≤ 65536) }
-    requires limit_in_range { limit ≤ 1099511627776 }
-    ensures answer { Moves (S.remaining reader.old) (S.remaining reader.new) (W.contents writer.old.device)
-        (W.contents writer.new.device)
-        (λ b w. EncodedTable encoding trace_written trace_ending always result piece b w (record { reader_failed = S.failed reader.new; reader_ended = S.ended reader.new; writer_failed = writer.new.failed }) limit) }
-    ensures whole { S.ended reader.new ≡ true → IsAtEnd (S.remaining reader.new) }
-{
-    let mut output = TraceOutput::new(alloc, piece)?;
-    write_output_from(alloc, &mut output, encoding, reader, writer, piece, limit)
-}
-
-/// Counts the events of the reader's bytes, and writes their summary at the end.
-fn write_summary<S: Source, W: Write>(
-    alloc: Global,
-    reader: &mut S,
-    writer: &mut Watched<W>,
-    encoding: Encoding,
-    piece: usize,
-    limit: u64,
-) -> Result<(), Fault>
-    requires reader_works { S.failed reader.old ≡ false }
-    requires reader_goes_on { S.ended reader.old ≡ false }
-    requires writer_works { writer.old.failed ≡ false }
-    requires piece_in_range { (1 ≤ piece) × (piece ≤ 65536) }
-    requires limit_in_range { limit ≤ 1099511627776 }
-    ensures answer { Moves (S.remaining reader.old) (S.remaining reader.new) (W.contents writer.old.device)
-        (W.contents writer.new.device)
-        (λ b w. EncodedTable encoding nothing summary always result piece b w (record { reader_failed = S.failed reader.new; reader_ended = S.ended reader.new; writer_failed = writer.new.failed }) limit) }
-    ensures whole { S.ended reader.new ≡ true → IsAtEnd (S.remaining reader.new) }
-{
-    one_split();
-    let mut output = SummaryOutput::new(alloc)?;
-    write_output_from(alloc, &mut output, encoding, reader, writer, piece, limit)
-}
-
-/// Writes the reader's bytes.
-fn write_content<S: Source, W: Write>(
-    alloc: Global,
-    reader: &mut S,
-    writer: &mut Watched<W>,
-    encoding: Encoding,
-    piece: usize,
-    limit: u64,
-) -> Result<(), Fault>
-    requires reader_works { S.failed reader.old ≡ false }
-    requires reader_goes_on { S.ended reader.old ≡ false }
-    requires writer_works { writer.old.failed ≡ false }
-    requires piece_in_range { (1 ≤ piece) × (piece ≤ 65536) }
-    requires limit_in_range { limit ≤ 1099511627776 }
-    ensures answer { Moves (S.remaining reader.old) (S.remaining reader.new) (W.contents writer.old.device)
-        (W.contents writer.new.device)
-        (λ b w. EncodedTable encoding all nothing always result piece b w (record { reader_failed = S.failed reader.new; reader_ended = S.ended reader.new; writer_failed = writer.new.failed }) limit) }
-    ensures whole { S.ended reader.new ≡ true → IsAtEnd (S.remaining reader.new) }
-{
-    let mut output = ContentOutput;
-    write_output_from(alloc, &mut output, encoding, reader, writer, piece, limit)
-}
-
-/// Writes bytes with which a VT220 shows what the reader's bytes leave under TERM=xterm.
-fn write_shown<S: Source, W: Write>(
-    alloc: Global,
-    reader: &mut S,
-    writer: &mut Watched<W>,
-    piece: usize,
-    limit: u64,
-) -> Result<(), Fault>
-    requires reader_works { S.failed reader.old ≡ false }
-    requires reader_goes_on { S.ended reader.old ≡ false }
-    requires writer_works { writer.old.failed ≡ false }
-    requires piece_in_range { (1 ≤ piece) × (piece ≤ 65536) }
-    requires limit_in_range { limit ≤ 1099511627776 }
-    ensures answer { Moves (S.remaining reader.old) (S.remaining reader.new) (W.contents writer.old.device)
-        (W.contents writer.new.device)
-        (λ b w. ShownTable result piece b w (record { reader_failed = S.failed reader.new; reader_ended = S.ended reader.new; writer_failed = writer.new.failed }) limit) }
-    ensures whole { S.ended reader.new ≡ true → IsAtEnd (S.remaining reader.new) }
-{
-    leading();
-    soundness();
-    let mut output = ContentOutput;
-    let mut converter = Converter::new(alloc, piece)?;
-    write_by(
-        alloc,
-        &mut output,
-        &mut converter,
-        reader,
-        writer,
-        piece,
-        limit,
-    )
-}
 
 /// Carries out a request's word on the reader's bytes, in an encoding. Neither device has failed before, and the reader hasn't
 /// ended.
@@ -176,12 +40,25 @@ fn carry_out_word<S: Source, W: Write>(
     match request.word {
         Word::Replay(what) => run_from(alloc, reader, writer, what, language, piece, limit),
         Word::Log => write_log_from(alloc, reader, writer, language, piece, limit),
-        Word::Pages => write_pages(alloc, reader, writer, encoding, piece, limit),
-        Word::Trace => write_trace(alloc, reader, writer, encoding, piece, limit),
-        Word::Summary => write_summary(alloc, reader, writer, encoding, piece, limit),
+        Word::Pages => {
+            write_word::<PageOutput, S, W>(alloc, reader, writer, encoding, piece, limit)
+        }
+        Word::Trace => {
+            write_word::<TraceOutput, S, W>(alloc, reader, writer, encoding, piece, limit)
+        }
+        Word::Summary => {
+            write_word::<SummaryOutput, S, W>(alloc, reader, writer, encoding, piece, limit)
+        }
         Word::Content => match request.terminal {
-            TerminalType::Vt220 => write_content(alloc, reader, writer, encoding, piece, limit),
-            TerminalType::Xterm => write_shown(alloc, reader, writer, piece, limit),
+            TerminalType::Vt220 => {
+                write_word::<ContentOutput, S, W>(alloc, reader, writer, encoding, piece, limit)
+            }
+            TerminalType::Xterm => {
+                let output = &mut ContentOutput;
+                write_by::<ContentOutput, Converter, S, W>(
+                    alloc, output, reader, writer, piece, limit,
+                )
+            }
         },
     }
 }

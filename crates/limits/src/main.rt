@@ -7,12 +7,9 @@ use vt_picture::{PICTURE_LIMIT, SHOW_LIMIT};
 use vt_screen::{COLUMNS, ROWS};
 use vt_term::{REPORT_LIMIT, ROW_TEXT_LIMIT, TEXT_LIMIT};
 use vt_update::UPDATE_LIMIT;
-use vt_utf8::BYTE_LIMIT;
+use vt_utf8::UTF8_LINES_LIMIT;
 use vt_xterm::LINES_LIMIT as XTERM_LINES_LIMIT;
 use vt_xterm_paint::XTERM_PAINT_LIMIT;
-
-/// A byte of UTF-8 is translated to so many bytes, of which each may scroll a line off.
-const UTF8_LINES_LIMIT: usize = BYTE_LIMIT * ROW_TEXT_LIMIT;
 
 fn main(rt: HostRuntime) -> io::Result<()> {
     println!(rt; "VT220_ROWS {ROWS}")?;

@@ -6,6 +6,10 @@ use Rattle.vt_syntax.specs.Class.{IsPlain}
 use Rattle.vt_term.proofs.RowTexts.{plain-line, trimmed-glyphs}
 use Rattle.vt_term.proofs.line.push_line.Goals as goal
 
+-- a front that is the whole list
+all-plain : (xs : List ℕ) (n : ℕ) → n ≡ length xs → All IsPlain (take n xs) → All IsPlain xs
+all-plain xs n is plain = subst (All IsPlain) (ap (λ k. take k xs) is ∙ take-length xs) plain
+
 pub returns-then-plain_run-end-clause-items : goal.returns-then-plain_run-end-clause-items
 returns-then-plain_run-end-clause-items c =
     let codes : List ℕ = c.put_codes.new.codes in
@@ -17,8 +21,7 @@ returns-then-plain_run-end-clause-items c =
     let inside : length (take end codes) ≡ end =
     length-take-le end codes (omega (arith, long, short, within, c.requires.few)) in
     let plain : All IsPlain (take end codes) =
-    subst (All IsPlain) (ap (λ n. take n (take end codes)) (c.if-plain_run-end.true ∙ sym inside) ∙ take-length (take end codes))
-    c.plain_run.ensures.plain in
+    all-plain (take end codes) c.plain_run.result (c.if-plain_run-end.true ∙ sym inside) c.plain_run.ensures.plain in
     rw c.unwrap.ensures at c.extend_from_slice.ensures.items
     ∙ ap (λ (t : List ℕ). c.args.out.now.items ++ t)
     (plain-line c.args.cells.now codes end (omega (arith, long, c.requires.few)) (omega (arith, short, within))

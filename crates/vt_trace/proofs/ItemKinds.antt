@@ -6,11 +6,11 @@ use Rattle.std.proofs.lemmas.Bool.Decides.{nat_tests}
 use Rattle.vt_syntax.specs.declared.event.Event.{Event}
 use Rattle.vt_syntax.specs.declared.held.Held.{Held}
 use Rattle.vt_syntax.specs.declared.held.Held.TheVariants.{Nothing}
-use Rattle.vt_syntax.specs.Class.{IsPlain, class_of, opens_string}
+use Rattle.vt_syntax.specs.Class.{IsPlain, is_cancel, class_of, opens_string}
 use Rattle.vt_syntax.specs.Items.{Opening, Beginning, OfEscape, OfControl, OfString, Item, Single, Ended, Cut, ends_string}
 use Rattle.vt_syntax.specs.Items.{IsBeginning, IsItemBefore, IsRest}
 use Rattle.vt_syntax.specs.Split.{Parts, AreItems, bytes_of, items_before, split_one, split_after, split_of}
-use Rattle.vt_syntax.specs.Reading.{function, is_cancel, is_spoilt, without_quiet, marker_of, params_of, values_of}
+use Rattle.vt_syntax.specs.Reading.{function, is_spoilt, without_quiet, marker_of, params_of, values_of}
 use Rattle.vt_syntax.specs.declared.class.Class.{Class}
 use Rattle.vt_syntax.specs.declared.class.Class.TheVariants.{Quiet, Cancel, Esc, Intermediate, Parameter, Final, High}
 use Rattle.vt_syntax.specs.declared.held.Phase.{Phase}

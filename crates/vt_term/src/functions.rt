@@ -7,8 +7,9 @@ ghost use Rattle.vt_syntax.specs.Front.{AreFirst, front_list};
 ghost use Rattle.vt_glyph.specs.Tables.{substitute_glyph};
 ghost use Rattle.vt_term.specs.Writing.{write_glyph};
 ghost use Rattle.vt_term.specs.Parameters.{first, second, count};
-ghost use Rattle.vt_term.specs.Functions.{effect, control, plain_escape, escape_with, designate, lock_left, lock_right};
-ghost use Rattle.vt_term.specs.Functions.{shift_once, sequence, sequence_in, plain_sequences, private_sequences};
+ghost use Rattle.vt_glyph.specs.Invocation.{locked_left, locked_right, shifted_once};
+ghost use Rattle.vt_term.specs.Functions.{effect, control, plain_escape, escape_with, designate, with_sets};
+ghost use Rattle.vt_term.specs.Functions.{sequences_of, sequence_in, plain_sequences, private_sequences};
 ghost use Rattle.vt_term.specs.Functions.{quote_sequences, exclamation_sequences};
 ghost use Rattle.vt_term.specs.Reports.{report};
 
@@ -191,7 +192,7 @@ impl Display {
     /// Carries out LS0 to LS3.
     fn lock_left(&mut self, slot: u8)
         requires { slot < 4 }
-        ensures { self.new ≡ lock_left slot self.old }
+        ensures { self.new ≡ with_sets (locked_left slot) self.old }
     {
         self.sets.lock_left(slot);
     }
@@ -199,7 +200,7 @@ impl Display {
     /// Carries out LS1R to LS3R.
     fn lock_right(&mut self, slot: u8)
         requires { (1 ≤ slot) × (slot < 4) }
-        ensures { self.new ≡ lock_right slot self.old }
+        ensures { self.new ≡ with_sets (locked_right slot) self.old }
     {
         self.sets.lock_right(slot);
     }
@@ -207,7 +208,7 @@ impl Display {
     /// Carries out SS2 and SS3.
     fn shift_once(&mut self, slot: u8)
         requires { (2 ≤ slot) × (slot < 4) }
-        ensures { self.new ≡ shift_once slot self.old }
+        ensures { self.new ≡ with_sets (shifted_once slot) self.old }
     {
         self.sets.shift_once(slot);
     }
@@ -216,7 +217,7 @@ impl Display {
     #[inline(always)]
     #[tactic(auto, unfolding(crate::specs::Functions::sequences_of, crate::specs::Functions::sequence_in))]
     fn sequence(&mut self, marker: Option<u8>, params: &[u16], inter: Option<u8>, last: u8)
-        ensures { self.new ≡ sequence marker inter last params.now self.old }
+        ensures { self.new ≡ sequence_in (sequences_of marker inter) last params.now self.old }
     {
         match (marker, inter) {
             (None, None) => self.plain_sequence(last, params),

@@ -30,7 +30,7 @@ use Rattle.vt_term.specs.State.{Display, State}
 use Rattle.vt_term.specs.Sound.{IsSound}
 use Rattle.vt_term.specs.Moving.{next_line}
 use Rattle.vt_term.specs.Writing.{write_glyph, put_glyph, print}
-use Rattle.vt_term.specs.Functions.{effect, control, escape_with, shift_once}
+use Rattle.vt_term.specs.Functions.{effect, control, escape_with, with_sets}
 use Rattle.vt_term.specs.Play.{Played, play, after_events}
 use Rattle.vt_utf8.specs.Translation.{shifted, designation, while_designated, through_g2, reads_ascii}
 use Rattle.vt_utf8.specs.Translation.{spelled_in, written, unshifted, translation, glyph_off}
@@ -89,7 +89,7 @@ record IsShift (slot last inter : ℕ) : Type 0 where
   few : slot < 4
   low : 0x20 ≤ inter
   high : inter ≤ 0x2F
-  shifts : (d : Display) → Does (0x1B ∷ last ∷ []) d (shift_once slot d) []
+  shifts : (d : Display) → Does (0x1B ∷ last ∷ []) d (with_sets (shifted_once slot) d) []
   designates : (set : Set) (d : Display) → effect (Escape (Some inter) (final_of set)) d
       ≡ record d { sets = designated slot set d.sets }
 
@@ -189,7 +189,7 @@ module _ (slot last inter : ℕ) (is : IsShift slot last inter) (code n : ℕ) (
   does-shifted : (d : Display) → glyph_read (shifted_once slot d.sets) code ≡ Some n
       → Does (shifted last code) d (write_glyph n (unshifted d)) (glyph_off d)
   does-shifted d read =
-      let e = shift_once slot d in
+      let e = with_sets (shifted_once slot) d in
       subst (λ (f : Display). Does (shifted last code) d f (glyph_off d)) (prints e code n low high read)
       (does-append (0x1B ∷ last ∷ []) (code ∷ []) d e (print code e) [] (glyph_off e) (is.shifts d) (does-printed e code low high))
 

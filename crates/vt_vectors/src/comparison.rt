@@ -9,7 +9,7 @@ ghost use Rattle.vt_vectors.specs.Comparison.{Compares, expected_of};
 use crate::expectation::Vector;
 use crate::mismatch::Mismatch;
 use std::alloc::{AllocError, Global};
-use vt_paint::laws::rebuilds;
+use vt_paint::laws::{reached, rebuilds};
 use vt_paint::{PAINT_LIMIT, repaint_reserved};
 use vt_term::laws::{cuts, soundness};
 use vt_term::{REPORT_LIMIT, Terminal};
@@ -97,6 +97,7 @@ impl Bench {
         ensures capacity { vec_capacity self.old.reports ≤ vec_capacity self.new.reports }
     {
         rebuilds();
+        reached();
         soundness();
         cuts();
         self.reports.clear();

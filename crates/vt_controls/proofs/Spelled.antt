@@ -12,6 +12,7 @@ use Rattle.vt_syntax.specs.Spelling.{spell_event}
 use Rattle.vt_screen.specs.declared.cell.Rendition.{Rendition}
 use Rattle.vt_controls.specs.declared.modes.TheConstants.{FRONTS, LENGTHS, ALL_MODES}
 use Rattle.vt_controls.specs.Controls.{mode_event}
+use Rattle.vt_controls.specs.Named.{byte_named, resets, newly_set, rendition_text, rendition_change}
 use Rattle.vt_controls.specs.Spoken.{are_attributes, Speaks}
 use Rattle.vt_controls.specs.Private.Attributes.{attributes}
 use Rattle.vt_controls.specs.Private.Tables.{mode_last}
@@ -60,6 +61,21 @@ at_rendition p h r = at_brush (λ brush. p brush.rendition) h (record { renditio
 pub attributes_behind : (r : Rendition) → are_attributes (drop 1 (attributes r)) ≡ true
 unfolding all_brushes both_pass
 attributes_behind r = at_rendition (λ r. are_attributes (drop 1 (attributes r))) refl r
+
+-- the parameters of a change are the attributes, each after `;`: after a reset all of these bytes, otherwise all but the first
+pub text_after_reset : (r : Rendition) → attributes r ≡ rendition_text true r
+unfolding all_brushes both_pass digits
+text_after_reset r = same_bytes-is _ _ (at_rendition (λ r. same_bytes (attributes r) (rendition_text true r)) refl r)
+
+pub text_alone : (r : Rendition) → drop 1 (attributes r) ≡ rendition_text false r
+unfolding all_brushes both_pass digits
+text_alone r = same_bytes-is _ _ (at_rendition (λ r. same_bytes (drop 1 (attributes r)) (rendition_text false r)) refl r)
+
+pub change_is : (reset : Bool) (r old new : Rendition) (text result : List ℕ) → reset ≡ resets old new
+    → r ≡ newly_set reset old new → text ≡ rendition_text reset r → result ≡ 0x1B ∷ 0x5B ∷ (text ++ 0x6D ∷ [])
+    → result ≡ rendition_change old new
+unfolding rendition_change byte_named
+change_is reset r old new text result is newly are spelled = rw (spelled, are, newly, is) refl
 
 -- ---- modes
 

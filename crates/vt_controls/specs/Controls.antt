@@ -74,19 +74,13 @@ soft_reset = Sequence None (record { items = 0 ∷ [] }) (Some (byte (codes "!")
 
 -- ---- controls and escape sequences
 
--- HTS, SS2 and SS3, in their 7-bit forms ESC H, ESC N and ESC O
+-- HTS
 abbrev pub set_tab : Event
 set_tab = Control 0x88
 
-abbrev pub shift_to_2 : Event
-shift_to_2 = Control 0x8E
-
-abbrev pub shift_to_3 : Event
-shift_to_3 = Control 0x8F
-
 -- SS2 and SS3, by their slots
 abbrev pub shift_to : ℕ → Event
-shift_to slot = if slot == 2 then shift_to_2 else shift_to_3
+shift_to slot = if slot == 2 then Control 0x8E else Control 0x8F
 
 -- RIS
 abbrev pub reset_to_initial_state : Event
@@ -170,5 +164,5 @@ mode_event index =
 -- a glyph's spelling: its code, after a single shift to G2 or G3
 abbrev pub spelling_events : Spelling → List Event
 spelling_events (Plain code) = Print code ∷ []
-spelling_events (Second code) = shift_to_2 ∷ Print code ∷ []
-spelling_events (Third code) = shift_to_3 ∷ Print code ∷ []
+spelling_events (Second code) = shift_to 2 ∷ Print code ∷ []
+spelling_events (Third code) = shift_to 3 ∷ Print code ∷ []

@@ -1,3 +1,4 @@
 pub mod Controls
+pub mod Named
 pub mod Spoken
 pub mod Private

@@ -4,6 +4,8 @@ ghost use Rattle.vt_syntax.specs.Spelling.{spell_event};
 ghost use Rattle.vt_controls.specs.Controls.{sequence_of, cursor_position, margins_to, clear_all_tabs, all_attributes};
 ghost use Rattle.vt_controls.specs.Controls.{protection_to, set_tab, shift_to, reset_to_initial_state, soft_reset, save_cursor};
 ghost use Rattle.vt_controls.specs.Controls.{designation_of, left_event, right_event, mode_event};
+ghost use Rattle.vt_controls.specs.Named.{control_named, sequence_named, unless_one, no_protection, resets, newly_set};
+ghost use Rattle.vt_controls.specs.Named.{rendition_change};
 ghost use Rattle.vt_controls.specs.Spoken.{Control, Escape, Sequence, is_spoken, is_one_of, Speaks};
 ghost use Rattle.vt_controls.specs.Private.Attributes.{attribute, attributes};
 
@@ -120,6 +122,7 @@ impl Function {
     #[inline]
     fn numbered(n: u8, last: u8) -> Function
         requires { is_one_of (codes "CDHLMr") last ≡ true }
+        ensures { result ≡ spell_event (sequence_of (unless_one n) last) }
     {
         if n == 1 {
             return Function::sequence(b"", &[last]);
@@ -163,37 +166,55 @@ impl Function {
 
     /// Returns CUP to column 1.
     #[inline(always)]
-    pub fn cursor_to_line(line: u8) -> Function {
+    #[tactic(auto, unfolding(crate::specs::Named::byte_named))]
+    pub fn cursor_to_line(line: u8) -> Function
+        ensures { result ≡ spell_event (sequence_named (unless_one line) (codes "CUP")) }
+    {
         Function::numbered(line, b'H')
     }
 
     /// Returns CUF.
     #[inline(always)]
-    pub fn forward(columns: u8) -> Function {
+    #[tactic(auto, unfolding(crate::specs::Named::byte_named))]
+    pub fn forward(columns: u8) -> Function
+        ensures { result ≡ spell_event (sequence_named (unless_one columns) (codes "CUF")) }
+    {
         Function::numbered(columns, b'C')
     }
 
     /// Returns CUB.
     #[inline(always)]
-    pub fn backward(columns: u8) -> Function {
+    #[tactic(auto, unfolding(crate::specs::Named::byte_named))]
+    pub fn backward(columns: u8) -> Function
+        ensures { result ≡ spell_event (sequence_named (unless_one columns) (codes "CUB")) }
+    {
         Function::numbered(columns, b'D')
     }
 
     /// Returns BS.
     #[inline(always)]
-    pub fn backspace() -> Function {
+    #[tactic(auto, unfolding(crate::specs::Named::byte_named))]
+    pub fn backspace() -> Function
+        ensures { result ≡ spell_event (control_named (codes "BS")) }
+    {
         Function::control(0x08)
     }
 
     /// Returns LF.
     #[inline(always)]
-    pub fn line_feed() -> Function {
+    #[tactic(auto, unfolding(crate::specs::Named::byte_named))]
+    pub fn line_feed() -> Function
+        ensures { result ≡ spell_event (control_named (codes "LF")) }
+    {
         Function::control(b'\n')
     }
 
     /// Returns CR.
     #[inline(always)]
-    pub fn carriage_return() -> Function {
+    #[tactic(auto, unfolding(crate::specs::Named::byte_named))]
+    pub fn carriage_return() -> Function
+        ensures { result ≡ spell_event (control_named (codes "CR")) }
+    {
         Function::control(b'\r')
     }
 
@@ -228,25 +249,37 @@ impl Function {
 
     /// Returns IL.
     #[inline(always)]
-    pub fn insert_lines(lines: u8) -> Function {
+    #[tactic(auto, unfolding(crate::specs::Named::byte_named))]
+    pub fn insert_lines(lines: u8) -> Function
+        ensures { result ≡ spell_event (sequence_named (unless_one lines) (codes "IL")) }
+    {
         Function::numbered(lines, b'L')
     }
 
     /// Returns DL.
     #[inline(always)]
-    pub fn delete_lines(lines: u8) -> Function {
+    #[tactic(auto, unfolding(crate::specs::Named::byte_named))]
+    pub fn delete_lines(lines: u8) -> Function
+        ensures { result ≡ spell_event (sequence_named (unless_one lines) (codes "DL")) }
+    {
         Function::numbered(lines, b'M')
     }
 
     /// Returns ED from the cursor to the end of the screen.
     #[inline(always)]
-    pub fn erase_below() -> Function {
+    #[tactic(auto, unfolding(crate::specs::Named::byte_named))]
+    pub fn erase_below() -> Function
+        ensures { result ≡ spell_event (sequence_named [] (codes "ED")) }
+    {
         Function::sequence(b"", b"J")
     }
 
     /// Returns EL from the cursor to the end of the row.
     #[inline(always)]
-    pub fn erase_right() -> Function {
+    #[tactic(auto, unfolding(crate::specs::Named::byte_named))]
+    pub fn erase_right() -> Function
+        ensures { result ≡ spell_event (sequence_named [] (codes "EL")) }
+    {
         Function::sequence(b"", b"K")
     }
 
@@ -255,24 +288,19 @@ impl Function {
     /// Returns SGR that changes attributes: those that are newly set. If one is reset, all are reset first, by an empty
     /// parameter.
     #[inline]
-    pub fn rendition_change(old: Rendition, new: Rendition) -> Function {
-        let reset = old.bold && !new.bold
-            || old.underline && !new.underline
-            || old.blink && !new.blink
-            || old.reverse && !new.reverse;
-        let newly = Rendition {
-            bold: new.bold && (reset || !old.bold),
-            underline: new.underline && (reset || !old.underline),
-            blink: new.blink && (reset || !old.blink),
-            reverse: new.reverse && (reset || !old.reverse),
-        };
+    pub fn rendition_change(old: Rendition, new: Rendition) -> Function
+        ensures { result ≡ rendition_change old new }
+    {
+        let reset = resets(old, new);
         let mut text = [0; 8];
-        let at = put_attributes(newly, &mut text);
-        if reset || at == 0 {
-            Function::sequence(&text[..at], b"m")
-        } else {
-            Function::sequence(&text[1..at], b"m")
+        let at = put_attributes(newly_set(reset, old, new), &mut text);
+        if reset {
+            return Function::sequence(&text[..at], b"m");
         }
+        if at == 0 {
+            return Function::sequence(b"", b"m");
+        }
+        Function::sequence(&text[1..at], b"m")
     }
 
     /// Returns DECSCA.
@@ -290,7 +318,10 @@ impl Function {
 
     /// Returns DECSCA without protection, in its shortest form.
     #[inline(always)]
-    pub fn no_protection() -> Function {
+    #[tactic(auto, unfolding(crate::specs::Named::byte_named))]
+    pub fn no_protection() -> Function
+        ensures { result ≡ spell_event no_protection }
+    {
         Function::sequence(b"", b"\"q")
     }
 
@@ -394,6 +425,30 @@ impl Function {
     {
         let front = &FRONTS[index][..LENGTHS[index]];
         Function::of(front, &[last_of(index, on)], b"")
+    }
+}
+
+/// Returns whether an attribute is reset.
+#[inline(always)]
+fn resets(old: Rendition, new: Rendition) -> bool
+    ensures { result ≡ resets old new }
+{
+    old.bold && !new.bold
+        || old.underline && !new.underline
+        || old.blink && !new.blink
+        || old.reverse && !new.reverse
+}
+
+/// Returns the attributes to be set: after a reset all of them, otherwise those that are new.
+#[inline(always)]
+fn newly_set(reset: bool, old: Rendition, new: Rendition) -> Rendition
+    ensures { result ≡ newly_set reset old new }
+{
+    Rendition {
+        bold: new.bold && (reset || !old.bold),
+        underline: new.underline && (reset || !old.underline),
+        blink: new.blink && (reset || !old.blink),
+        reverse: new.reverse && (reset || !old.reverse),
     }
 }
 

@@ -24,7 +24,8 @@ use Rattle.vt_glyph.specs.GraphicSets.{GraphicSets}
 use Rattle.vt_paint.specs.Same.{is_blank}
 use Rattle.vt_screen.specs.Same.{when}
 use Rattle.vt_controls.specs.Controls.{sets_events}
-use Rattle.vt_paint.specs.Pieces.{left_of, piece_of, pieces_from, row_pieces, rows_from}
+use Rattle.vt_paint.specs.Pieces.{left_of, piece_of}
+use Rattle.vt_paint.specs.Private.Parts.{pieces_from, row_pieces, rows_from}
 use Rattle.vt_screen.specs.declared.cell.Cell.{Cell}
 use Rattle.vt_screen.specs.Grid.{Grid, cell_at, row_of}
 

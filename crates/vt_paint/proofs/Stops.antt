@@ -16,7 +16,8 @@ use Rattle.vt_term.specs.Modes.{with_mode}
 use Rattle.vt_term.specs.Functions.{control, plain_escape, sequence_in, sequences_of}
 use Rattle.vt_screen.specs.Same.{same_bool, when}
 use Rattle.vt_controls.specs.Controls.{private_mode, reset_to_initial_state, cursor_position, clear_all_tabs, set_tab}
-use Rattle.vt_paint.specs.Items.{stop_events, stops_from, is_wide, made_stops, stops_item}
+use Rattle.vt_paint.specs.Items.{stop_events, is_wide, made_stops, stops_item}
+use Rattle.vt_paint.specs.Private.Parts.{stops_from}
 use Rattle.vt_paint.proofs.AfterEvents.{display_after, Makes, MakesSome, then_makes, range_leaves}
 use Rattle.vt_paint.proofs.Equality.{same_bool-decides}
 

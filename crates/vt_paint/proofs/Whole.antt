@@ -31,10 +31,10 @@ use Rattle.vt_syntax.proofs.Spelled.{events_steps}
 use Rattle.vt_syntax.proofs.Cutting.{read, escape}
 use Rattle.vt_term.specs.Play.{after_events, play}
 use Rattle.vt_paint.specs.Items.{stops_item, cells_item}
-use Rattle.vt_paint.specs.Repaint.{made_events, repaint_events, paint}
+use Rattle.vt_paint.specs.Repaint.{made_events, paint}
 use Rattle.vt_controls.specs.Spoken.{Speaks}
 use Rattle.vt_controls.proofs.Speech.{speaks-ascii}
-use Rattle.vt_paint.proofs.Within.{AreSpelledWithin, sound_glyphs, repaint_within, changes_within}
+use Rattle.vt_paint.proofs.Within.{AreSpelledWithin, sound_glyphs, repaint_events, repaint_within, changes_within}
 use Rattle.vt_paint.proofs.Stops.{with_stops, reset_leaves, stops_leaves}
 
 -- the modes after the first item: those that DECSTR leaves, with DECAWM set
@@ -113,7 +113,6 @@ made_leaves s i =
     w3.four w3.none w3.spells)))
 
 repaint_leaves : (s t : Display) → IsSoundDisplay s → Makes (repaint_events s) t s
-unfolding repaint_events
 repaint_leaves s t i = then_makes (reset_leaves t) (made_leaves s i)
 
 pub short : (s : State) → IsSound s → length (paint s) ≤ 93512
@@ -129,7 +128,7 @@ ascii s i = speaks-ascii (paint s) (speaks s i)
 
 pub rebuilds_all : (s : State) → IsSound s → s.held ≡ Nothing → (t : State) → IsSound t
     → play t (paint s) ≡ record { state = s; reports = [] }
-unfolding paint repaint_events
+unfolding paint
 rebuilds_all s i between t j =
     played 93512 (repaint_events s.display) _ s t (repaint_within s.display i.display) refl j.held
     between (repaint_leaves s.display t.display i.display)

@@ -1,13 +1,14 @@
 -- What a repaint and changes ask for are events, none of which is answered, and their spelling is short.
-use Rattle.vt_controls.specs.Controls.{reset_to_initial_state, shift_to_2, clear_all_tabs, shift_to_3, sequence_of}
+use Rattle.vt_controls.specs.Controls.{reset_to_initial_state, clear_all_tabs, sequence_of}
 use Rattle.vt_controls.specs.Controls.{private_mode, cursor_position, brush_events, set_tab, left_event, right_event}
 use Rattle.vt_controls.specs.Controls.{sets_events, spelling_sets_events, spelling_events, save_cursor}
 use Rattle.vt_screen.proofs.Composed.{test-at}
 use Rattle.vt_screen.proofs.Places.{width-bounds}
 use Rattle.vt_glyph.proofs.Charts.{space_is_glyph}
 use Rattle.vt_glyph.proofs.Spelled.{spelling_code}
-use Rattle.vt_paint.specs.Pieces.{is_blank_grid, piece, needs_header, row_pieces, left_of, header, glyph_events}
+use Rattle.vt_paint.specs.Pieces.{is_blank_grid, piece, needs_header, left_of, header, glyph_events}
 use Rattle.vt_paint.specs.Pieces.{piece_of, pieces}
+use Rattle.vt_paint.specs.Private.Parts.{row_pieces}
 use Rattle.vt_paint.specs.Private.ChangeEvents.{changed_row, change, short_brush_events, change_of, changed_cells}
 use Rattle.vt_paint.specs.Private.ChangeEvents.{start_item, saved_cursor, record_item, change_events}
 use Rattle.vt_controls.specs.Spoken.{are_numbers, is_one_of, Speaks}
@@ -61,7 +62,7 @@ use Rattle.vt_term.specs.Sound.{IsSoundDisplay}
 use Rattle.vt_term.specs.Answers.{line_of_cursor}
 use Rattle.vt_term.specs.Reports.{report}
 use Rattle.vt_term.specs.Play.{reports_of, after_events}
-use Rattle.vt_paint.specs.Repaint.{made_events, repaint_events}
+use Rattle.vt_paint.specs.Repaint.{made_events}
 use Rattle.vt_paint.specs.Changes.{differs_at, differing_from, differing, is_marked, AreMarked, AreChanges}
 use Rattle.vt_paint.proofs.Painting.{AreGlyphs}
 
@@ -292,7 +293,7 @@ shift_within : (pending : Option ℕ) → AreSpelledWithin 2 (shift_item pending
 unfolding shift_item both_pass opens_string
 shift_within None = none_within 2
 shift_within (Some slot) =
-    computed 2 _ (at_bool (λ b. are_within 2 (cond b shift_to_2 shift_to_3 ∷ [])) refl (eqb slot 2))
+    computed 2 _ (at_bool (λ b. are_within 2 (cond b (Control 0x8E) (Control 0x8F) ∷ [])) refl (eqb slot 2))
 
 start_within : AreSpelledWithin 10 start_item
 unfolding start_item digits
@@ -384,8 +385,11 @@ made_within s i =
     (then_within (saved_within s.saved i.saved.row_24 saved_col)
     (then_within (cells_within s.grid s.cursor.wrap (sound_glyphs s i) w) (last_within true s i))))
 
+-- the events of a repaint
+abbrev pub repaint_events : Display → List Event
+repaint_events s = reset_to_initial_state ∷ made_events s
+
 pub repaint_within : (s : Display) → IsSoundDisplay s → AreSpelledWithin 93512 (repaint_events s)
-unfolding repaint_events
 repaint_within s i = then_within (computed 2 (reset_to_initial_state ∷ []) refl) (made_within s i)
 
 pub changes_within : (marks : List (List Bool)) (s t : Display) → IsSoundDisplay s → AreChanges marks t s

@@ -28,10 +28,6 @@ use Rattle.vt_paint.specs.Pieces.{glyph_events, pieces, is_blank_grid}
 unfoldable pub stop_events : List Bool → ℕ → List Event
 stop_events stops c = when (has_stop_at stops c) (cursor_position 1 c ∷ set_tab ∷ [])
 
--- the stops of n columns from c on
-abbrev pub stops_from : List Bool → ℕ → ℕ → List Event
-stops_from stops c n = flat_map (λ c. stop_events stops c) (range_with_len c n)
-
 abbrev pub is_wide : ℕ → Bool
 is_wide width = width == columns true
 
@@ -39,7 +35,8 @@ unfoldable pub made_stops : Bool → List Bool → List Event
 made_stops wide stops =
     private_mode 3 true
     ∷ clear_all_tabs
-    ∷ (stops_from stops 1 (columns true) ++ when (not wide) (private_mode 3 false ∷ []))
+    ∷ (flat_map (λ c. stop_events stops c) (range_with_len 1 (columns true))
+    ++ when (not wide) (private_mode 3 false ∷ []))
 
 unfoldable pub stops_item : ℕ → List Bool → List Event
 stops_item width stops =

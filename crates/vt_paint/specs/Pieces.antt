@@ -33,20 +33,9 @@ piece_of r c left cell = when (not (is_blank cell)) (header r c left cell ++ gly
 abbrev pub piece : Grid → ℕ → ℕ → List Event
 piece g r c = piece_of r c (left_of g r c) (cell_at g r c)
 
--- the pieces of n cells of a row, starting at a column
-abbrev pub pieces_from : Grid → ℕ → ℕ → ℕ → List Event
-pieces_from g r c n = flat_map (λ c. piece g r c) (range_with_len c n)
-
-abbrev pub row_pieces : Grid → ℕ → List Event
-row_pieces g r = pieces_from g r 1 g.width
-
--- the pieces of n rows
-abbrev pub rows_from : Grid → ℕ → ℕ → List Event
-rows_from g r n = flat_map (λ r. row_pieces g r) (range_with_len r n)
-
 -- the pieces of all cells, by row and column
 unfoldable pub pieces : Grid → List Event
-pieces g = rows_from g 1 last_row
+pieces g = flat_map (λ r. flat_map (λ c. piece g r c) (range_with_len 1 g.width)) (range_with_len 1 last_row)
 
 -- every cell of every row is blank
 unfoldable pub is_blank_grid : Grid → Bool

@@ -2,3 +2,4 @@
 pub mod HeaderParts
 pub mod Room
 pub mod ChangeEvents
+pub mod Parts

@@ -2,8 +2,7 @@
 use Rattle.std.specs.Prelude.{◌≡◌, ◌≤◌, true, ℕ, List, [], ◌∷◌, ◌++◌, All}
 use Rattle.vt_syntax.specs.declared.event.Event.{Event}
 use Rattle.vt_syntax.specs.Spelling.{spell_events}
-use Rattle.vt_term.specs.State.{Display, State, last_column}
-use Rattle.vt_term.specs.Sound.{IsSound}
+use Rattle.vt_term.specs.State.{Display, State, last_column, power_up}
 use Rattle.vt_term.specs.Play.{play}
 use Rattle.vt_controls.specs.Controls.{reset_to_initial_state}
 use Rattle.vt_paint.specs.Items.{stops_item, saved_item, cells_item, last_items}
@@ -16,18 +15,14 @@ made_events s =
     ++ (cells_item s.grid s.cursor.wrap
     ++ last_items true s))
 
--- the events of a repaint: RIS, and the items
-unfoldable pub repaint_events : Display → List Event
-repaint_events s = reset_to_initial_state ∷ made_events s
-
--- in 7-bit form
+-- a repaint: RIS, and the items, in 7-bit form
 unfoldable pub paint : State → List ℕ
-paint s = spell_events (repaint_events s.display)
+paint s = spell_events (reset_to_initial_state ∷ made_events s.display)
+
+-- some bytes lead to the state from power-up
+abbrev pub IsReached : State → Type 0
+IsReached s = (bytes : List ℕ) × All (λ b. b ≤ 0xFF) bytes × ((play power_up bytes).state ≡ s)
 
 -- played on any terminal, whatever it shows and holds, the repaint leaves this state, and asks for no report
 abbrev pub IsRebuilt : State → Type 0
-IsRebuilt s = (t : State) → IsSound t → play t (paint s) ≡ record { state = s; reports = [] }
-
--- each number is a byte
-abbrev pub AreBytes : List ℕ → Type 0
-AreBytes bytes = All (λ b. b ≤ 0xFF) bytes
+IsRebuilt s = (t : State) → IsReached t → play t (paint s) ≡ record { state = s; reports = [] }

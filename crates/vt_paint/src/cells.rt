@@ -11,7 +11,7 @@ ghost use Rattle.vt_screen.specs.Grid.{Grid, cell_at, row_of, last_row};
 ghost use Rattle.vt_screen.specs.Same.{same_brush, when};
 ghost use Rattle.vt_paint.specs.Same.{is_blank as is_blank_cell};
 ghost use Rattle.vt_controls.specs.Controls.{spelling_sets_events, spelling_events};
-ghost use Rattle.vt_paint.specs.Pieces.{row_pieces};
+ghost use Rattle.vt_paint.specs.Private.Parts.{row_pieces};
 ghost use Rattle.vt_paint.specs.Items.{cells_item};
 ghost use Rattle.vt_paint.specs.Private.Room.{head_room};
 ghost use Rattle.vt_paint.specs.Private.HeaderParts.{brush_number, lowest_word};

@@ -6,7 +6,8 @@ ghost use Rattle.vt_screen.specs.Cells.{brush_of};
 ghost use Rattle.vt_screen.specs.Same.{when};
 ghost use Rattle.vt_controls.specs.Controls.{mode_event, cursor_position, set_tab, brush_events};
 ghost use Rattle.vt_paint.specs.Pieces.{glyph_events};
-ghost use Rattle.vt_paint.specs.Items.{stops_from, made_stops, stops_item, saved_item, saved_events, margins_item};
+ghost use Rattle.vt_paint.specs.Private.Parts.{stops_from};
+ghost use Rattle.vt_paint.specs.Items.{made_stops, stops_item, saved_item, saved_events, margins_item};
 ghost use Rattle.vt_paint.specs.Items.{mode_item, modes_item, shift_item};
 
 use crate::controls::{push_brush, push_glyph, push_sets};

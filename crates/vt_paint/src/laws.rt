@@ -1,34 +1,43 @@
 //! Laws over the definitions alone. A caller cites a law by a call of its function.
 ghost use Rattle.std.specs.Prelude.{◌≡◌, ◌↔◌, ◌≤◌, ℕ, List, length};
 ghost use Rattle.vt_syntax.specs.declared.held.Held.TheVariants.{Nothing};
-ghost use Rattle.vt_term.specs.State.{State, power_up};
+ghost use Rattle.vt_term.specs.State.{State};
 ghost use Rattle.vt_term.specs.Sound.{IsSound};
 ghost use Rattle.vt_term.specs.Play.{play};
 ghost use Rattle.std.specs.Str.{IsAscii};
-ghost use Rattle.vt_paint.specs.Repaint.{paint, IsRebuilt, AreBytes};
+ghost use Rattle.vt_paint.specs.Repaint.{paint, IsReached, IsRebuilt};
 ghost use Rattle.vt_controls.specs.Spoken.{Speaks};
 
 use crate::PAINT_LIMIT;
-use vt_term::laws::soundness;
+use vt_syntax::laws::one_split;
+use vt_term::laws::{cuts, soundness};
 
 /// States that the repaint of a state between sequences rebuilds that state on every terminal, and gives no report. The
-/// terminal may be in any state.
+/// terminal may be in any state that some bytes reach from power-up.
 pub fn rebuilds()
-    ensures { (s : State) → IsSound s → s.held ≡ Nothing → IsRebuilt s }
-{}
+    ensures { (s : State) → IsReached s → s.held ≡ Nothing → IsRebuilt s }
+{
+    reached();
+}
 
 /// States that states between sequences are equal if and only if their repaints are. After a repaint is played, the new
 /// state has the same repaint.
-///
-/// The sound states between sequences are exactly those that some bytes reach from power-up.
 pub fn canonical()
-    ensures same { (s u : State) → IsSound s → IsSound u → s.held ≡ Nothing → u.held ≡ Nothing
+    ensures same { (s u : State) → IsReached s → IsReached u → s.held ≡ Nothing → u.held ≡ Nothing
         → (s ≡ u) ↔ (paint s ≡ paint u) }
-    ensures again { (s t : State) → IsSound s → IsSound t → s.held ≡ Nothing → paint (play t (paint s)).state ≡ paint s }
-    ensures reached { (s : State) → s.held ≡ Nothing
-        → IsSound s ↔ ((bytes : List ℕ) × AreBytes bytes × ((play power_up bytes).state ≡ s)) }
+    ensures again { (s t : State) → IsReached s → IsReached t → s.held ≡ Nothing → paint (play t (paint s)).state ≡ paint s }
 {
     rebuilds();
+    reached();
+    soundness();
+}
+
+/// States that the sound states are exactly those that some bytes reach from power-up.
+pub fn reached()
+    ensures { (s : State) → IsSound s ↔ IsReached s }
+{
+    one_split();
+    cuts();
     bounded();
     soundness();
 }

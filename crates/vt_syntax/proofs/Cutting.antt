@@ -1,5 +1,5 @@
 -- What the split reads is what one step after another does; so the laws of the syntax are laws of steps.
-use Rattle.std.proofs.Common.{◌≡◌, ℕ, List, [], ◌∷◌, ◌++◌, Option, Some, None, false, refl, sym, ap, ◌∙◌, append_assoc}
+use Rattle.std.proofs.Common.{◌≤◌, ◌≡◌, ℕ, List, [], ◌∷◌, ◌++◌, Option, Some, None, false, refl, sym, ap, ◌∙◌, append_assoc}
 use Rattle.std.proofs.Common.{append-nil, arith, flat_map, All, IfSome, option_to_list}
 use Rattle.std.proofs.lemmas.Bool.Decides.{nat_tests}
 use Rattle.std.proofs.lemmas.List.Concat.{flat_map-append}
@@ -20,7 +20,7 @@ use Rattle.vt_syntax.proofs.Splits.{last_is_rest, split_only}
 use Rattle.vt_syntax.proofs.Steps.{steps_append, steps_one, same_events}
 use Rattle.vt_syntax.proofs.OneByte.{Matches, byte_matches}
 use Rattle.vt_syntax.proofs.Ranges.{InRange, steps_range}
-use Rattle.vt_syntax.proofs.Spelled.{spelled_steps, escape_step}
+use Rattle.vt_syntax.proofs.Spelled.{spelled_steps, spelled_bytes, escape_step}
 
 runs : (bytes : List ℕ) (rest : Option Beginning)
     → Matches (rest_reading rest) (split_after rest bytes) (steps (held_of rest) bytes)
@@ -67,6 +67,10 @@ is_kind bytes (Some k) values e = is_event bytes (Some (event_of k values)) e
 part_range : (held : Held) → IsHeldPart held → InRange held
 part_range held i =
     rw (← i.of_rest) (rw (rest_steps i.rest i.is_rest) at (steps_range (rest_bytes i.rest) Nothing tt)).held
+
+-- its spelling consists of bytes
+pub held_bytes : (held : Held) → IsHeldPart held → All (λ b. b ≤ 0xFF) (spell held)
+held_bytes held i = spelled_bytes held (part_range held i)
 
 pub read_from : (held : Held) (bytes : List ℕ) → IsHeldPart held
     → step_to (held_from held bytes) (events_from held bytes) ≡ steps held bytes

@@ -1,7 +1,7 @@
 -- What the split reads is what one step after another does from what is held.
 use Rattle.std.proofs.Common.{◌≡◌, ℕ, ◌<◌, ◌≤◌, Bool, true, false, cond, eqb, ltb, ◌||◌, ◌&&◌, List, [], ◌∷◌, ◌++◌}
 use Rattle.std.proofs.Common.{length, take, Option, refl, append-nil, arith, filter, inl, inr, append_assoc, ◌⊎◌, not}
-use Rattle.std.proofs.Common.{Some, None}
+use Rattle.std.proofs.Common.{Some, None, ◌∙◌}
 use Rattle.std.specs.List.{list_any, slice_split}
 use Rattle.std.proofs.lemmas.Bool.{cases_Bool}
 use Rattle.std.proofs.lemmas.Bool.Decides.{nat_tests}
@@ -16,8 +16,8 @@ use Rattle.vt_syntax.specs.declared.held.Held.TheVariants.{Control}
 use Rattle.vt_syntax.specs.declared.held.Inters.{Inters}
 use Rattle.vt_syntax.specs.declared.held.Inters.TheVariants.{Zero}
 use Rattle.vt_syntax.specs.declared.held.Phase.TheVariants.{Values}
-use Rattle.vt_syntax.specs.Class.{class_of, is_intermediate, is_parameter, is_quiet, opens_string}
-use Rattle.vt_syntax.specs.Items.{inters_of, Opening, Beginning, OfEscape, OfControl, OfString, ends_string}
+use Rattle.vt_syntax.specs.Class.{class_of, is_cancel, is_quiet, is_intermediate, is_parameter, is_final, opens_string}
+use Rattle.vt_syntax.specs.Items.{inters_of, cuts_sequence, Opening, Beginning, OfEscape, OfControl, OfString, ends_string}
 use Rattle.vt_syntax.specs.Reading.{is_marker, marker_of, after_marker, value_of, values_of, is_many}
 use Rattle.vt_syntax.specs.Reading.{has_late_parameter, has_late_marker, is_spoilt, inter_of, quiet_control}
 use Rattle.vt_syntax.specs.Reading.{beginning_controls, without_quiet, rest_reading, parts_reading}
@@ -134,9 +134,10 @@ values_of-push : (xs : List ℕ) (b : ℕ) → class_of b ≡ Parameter → is_m
     → values_of (xs ++ b ∷ []) ≡ cond (eqb b 59) (values_of xs ++ 0 ∷ []) (change_last (with_digit b) (values_of xs))
 unfolding class_of
 values_of-push xs b k m c =
+    let is : is_parameter b ≡ true = grind (arith, nat_tests) in
     let s = pieces (λ c. eqb c 59) (filter is_parameter (after_marker xs)) in
     let kept = filter-append is_parameter (after_marker xs) (b ∷ []) in
-    rw (after_marker-push xs b m, kept, k, s.3 b, s.2)
+    rw (after_marker-push xs b m, kept, is, s.3 b, s.2)
     (simp map-append (grind (arith, nat_tests, append_assoc, change_last-push, value_of-push, value_of-nil)))
 
 -- the first 16 values, and whether there are more, after one more byte
@@ -176,34 +177,148 @@ begin_matches b = grind (arith, nat_tests, append-nil)
 
 -- ---- after CSI
 
-more_held : (xs : List ℕ) (b : ℕ) → (class_of b ≡ Parameter) ⊎ (class_of b ≡ Intermediate)
-    → held_control (xs ++ b ∷ []) ≡ (step_of (held_control xs) b).held
+-- a parameter byte adds no intermediate, and an intermediate no value
+parameter_inters : (xs : List ℕ) (b : ℕ) → class_of b ≡ Parameter → inters_of (xs ++ b ∷ []) ≡ inters_of xs
+unfolding class_of
+parameter_inters xs b k =
+    let is : is_intermediate b ≡ false = grind (arith, nat_tests) in inters_of-push xs b ∙ rw is refl
+
+intermediate_inters : (xs : List ℕ) (b : ℕ) → class_of b ≡ Intermediate
+    → inters_of (xs ++ b ∷ []) ≡ one_more (inters_of xs) b
+unfolding class_of
+intermediate_inters xs b k =
+    let is : is_intermediate b ≡ true = grind (arith, nat_tests) in inters_of-push xs b ∙ rw is refl
+
+intermediate_values : (xs : List ℕ) (b : ℕ) → class_of b ≡ Intermediate → values_of (xs ++ b ∷ []) ≡ values_of xs
+unfolding class_of
+intermediate_values xs b k =
+    let marker : is_marker b ≡ false = grind (arith, nat_tests) in
+    let value : is_parameter b ≡ false = grind (arith, nat_tests) in
+    values_of-push_no xs b marker value
+
+-- the faults of one more parameter byte
+parameter_faults : (xs : List ℕ) (b : ℕ) → class_of b ≡ Parameter → is_spoilt (xs ++ b ∷ [])
+    ≡ (is_spoilt xs || (((eqb b 58 || late xs b) || (has_inters (inters_of xs) && true)) || is_many (inters_of xs)))
+unfolding class_of
+parameter_faults xs b k =
+    let is : is_parameter b ≡ true = grind (arith, nat_tests) in
+    is_spoilt-push xs b ∙ rw (is, parameter_inters xs b k) refl
+
+-- a parameter byte after bytes that aren't spoilt: it is `:`, a marker, or a digit or `;`
+parameter_held : (xs : List ℕ) (b : ℕ) → class_of b ≡ Parameter → is_spoilt xs ≡ false → (colon marker : Bool)
+    → eqb b 58 ≡ colon → is_marker b ≡ marker → held_control (xs ++ b ∷ []) ≡ (step_of (held_control xs) b).held
 unfolding step_of
-more_held xs b k =
-    let range = range_of b (class_of b) refl in
-    let fault = is_spoilt-push xs b in
-    let many = not_many xs in
-    let inters = inters_of-push xs b in
-    let same = values_of-push_no xs b in
-    let values = λ (k : class_of b ≡ Parameter) (m : is_marker b ≡ false) (c : eqb b 58 ≡ false).
+parameter_held xs b k sound true marker c m =
+    let fault = parameter_faults xs b k in
+    let many = not_many xs sound in
+    grind (arith, nat_tests)
+parameter_held xs b k sound false true c m =
+    let fault = parameter_faults xs b k in
+    let many = not_many xs sound in
+    let inters = parameter_inters xs b k in
+    grind (arith, nat_tests)
+parameter_held xs b k sound false false c m =
+    let fault = parameter_faults xs b k in
+    let many = not_many xs sound in
+    let inters = parameter_inters xs b k in
+    let value =
     value_more 16 b (values_of xs) (values_of (xs ++ b ∷ [])) (marker_of xs) refl (values_of-push xs b k m c) in
     grind (arith, nat_tests)
 
-control_matches : (opening : Opening) (inside : List ℕ) (b : ℕ)
+more_held : (xs : List ℕ) (b : ℕ) → (class_of b ≡ Parameter) ⊎ (class_of b ≡ Intermediate)
+    → held_control (xs ++ b ∷ []) ≡ (step_of (held_control xs) b).held
+unfolding step_of
+more_held xs b (inl k) =
+    let fault = parameter_faults xs b k in
+    elim (cases_Bool (is_spoilt xs)) [
+      | inl spoilt ↦ rw (fault, spoilt, k) refl
+      | inr sound ↦ parameter_held xs b k sound (eqb b 58) (is_marker b) refl refl
+    ]
+more_held xs b (inr k) =
+    let range = range_of b Intermediate k in
+    let fault = is_spoilt-push xs b in
+    let many = not_many xs in
+    let inters = intermediate_inters xs b k in
+    let same = intermediate_values xs b k in
+    grind (arith, nat_tests)
+
+-- the tests of a byte of a class, inside a control sequence
+abbrev AreTests : Class → ℕ → Type 0
+AreTests Quiet b = (is_quiet b ≡ true) × ((is_cancel b || is_final b) ≡ false) × (cuts_sequence b ≡ false)
+AreTests Cancel b = is_cancel b ≡ true
+AreTests Esc b = ((is_cancel b || is_final b) ≡ false) × (cuts_sequence b ≡ true)
+AreTests Intermediate b = (is_quiet b ≡ false) × ((is_cancel b || is_final b) ≡ false) × (cuts_sequence b ≡ false)
+AreTests Parameter b = (is_quiet b ≡ false) × ((is_cancel b || is_final b) ≡ false) × (cuts_sequence b ≡ false)
+AreTests Final b = (is_cancel b ≡ false) × (is_final b ≡ true)
+AreTests High b = ((is_cancel b || is_final b) ≡ false) × (cuts_sequence b ≡ true)
+
+tests_of : (b : ℕ) (k : Class) → class_of b ≡ k → AreTests k b
+unfolding class_of
+tests_of b Quiet is = (grind (arith, nat_tests), grind (arith, nat_tests), grind (arith, nat_tests))
+tests_of b Cancel is = grind (arith, nat_tests)
+tests_of b Esc is = (grind (arith, nat_tests), grind (arith, nat_tests))
+tests_of b Intermediate is = (grind (arith, nat_tests), grind (arith, nat_tests), grind (arith, nat_tests))
+tests_of b Parameter is = (grind (arith, nat_tests), grind (arith, nat_tests), grind (arith, nat_tests))
+tests_of b Final is = (grind (arith, nat_tests), grind (arith, nat_tests))
+tests_of b High is = (grind (arith, nat_tests), grind (arith, nat_tests))
+
+control_as : (opening : Opening) (inside : List ℕ) (b : ℕ) (k : Class) → class_of b ≡ k
     → Matches (beginning_controls (OfControl opening inside)) (split_one (Some (OfControl opening inside)) b)
     (step_of (held_control (without_quiet inside)) b)
 unfolding step_of
-control_matches opening inside b =
-    let range = range_of b (class_of b) refl in
+control_as opening inside b Quiet is =
+    let t = tests_of b Quiet is in
     let kept = filter-append (λ c. not (is_quiet c)) inside (b ∷ []) in
     let carried_out = flat_map-append quiet_control inside (b ∷ []) in
-    let held = more_held (without_quiet inside) b in
-    let inter = inter_of-phase (without_quiet inside) in
-    let alone = begin_matches b in
-    record {
+    rw (t.1, t.2) (record {
       held = grind (arith, nat_tests, append_assoc, append-nil);
       events = grind (arith, nat_tests, append_assoc, append-nil);
-    }
+    })
+control_as opening inside b Cancel is =
+    let t = tests_of b Cancel is in
+    rw (t) (record {
+      held = grind (arith, nat_tests, append_assoc, append-nil);
+      events = grind (arith, nat_tests, append_assoc, append-nil);
+    })
+control_as opening inside b Esc is =
+    let t = tests_of b Esc is in
+    let alone = begin_matches b in
+    rw (t.0, t.1) (record {
+      held = grind (arith, nat_tests, append_assoc, append-nil);
+      events = grind (arith, nat_tests, append_assoc, append-nil);
+    })
+control_as opening inside b Intermediate is =
+    let t = tests_of b Intermediate is in
+    let kept = filter-append (λ c. not (is_quiet c)) inside (b ∷ []) in
+    let carried_out = flat_map-append quiet_control inside (b ∷ []) in
+    let held = more_held (without_quiet inside) b (inr is) in
+    rw (t.1, t.2) (record {
+      held = grind (arith, nat_tests, append_assoc, append-nil);
+      events = grind (arith, nat_tests, append_assoc, append-nil);
+    })
+control_as opening inside b Parameter is =
+    let t = tests_of b Parameter is in
+    let kept = filter-append (λ c. not (is_quiet c)) inside (b ∷ []) in
+    let carried_out = flat_map-append quiet_control inside (b ∷ []) in
+    let held = more_held (without_quiet inside) b (inl is) in
+    rw (t.1, t.2) (record {
+      held = grind (arith, nat_tests, append_assoc, append-nil);
+      events = grind (arith, nat_tests, append_assoc, append-nil);
+    })
+control_as opening inside b Final is =
+    let t = tests_of b Final is in
+    let inter = inter_of-phase (without_quiet inside) in
+    rw (t.0, t.1) (record {
+      held = grind (arith, nat_tests, append_assoc, append-nil);
+      events = grind (arith, nat_tests, append_assoc, append-nil);
+    })
+control_as opening inside b High is =
+    let t = tests_of b High is in
+    let alone = begin_matches b in
+    rw (t.0, t.1) (record {
+      held = grind (arith, nat_tests, append_assoc, append-nil);
+      events = grind (arith, nat_tests, append_assoc, append-nil);
+    })
 
 pub byte_matches : (rest : Option Beginning) (b : ℕ)
     → Matches (rest_reading rest) (split_one rest b) (step_of (held_of rest) b)
@@ -216,5 +331,5 @@ byte_matches (Some (OfEscape inside)) b =
       held = grind (arith, nat_tests, append-nil);
       events = grind (arith, nat_tests, append-nil, append_assoc);
     }
-byte_matches (Some (OfControl opening inside)) b = control_matches opening inside b
+byte_matches (Some (OfControl opening inside)) b = control_as opening inside b (class_of b) refl
 byte_matches (Some (OfString opening code content)) b = grind (arith, nat_tests, append-nil, append_assoc)

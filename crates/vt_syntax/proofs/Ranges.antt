@@ -59,7 +59,7 @@ step_range : (held : Held) (b : ℕ) → InRange held → Ranged (step_of held b
 unfolding step_of class_of opens_string ends_string
 step_range (Control marker params full phase) b h =
     let value = value_range marker params.items full b h.is_marker h.are_values h.all_there in
-    grind (arith, nat_tests, All-nil, All-cons)
+    record { held = grind (arith, nat_tests); events = grind (arith, nat_tests, All-nil, All-cons) }
 step_range held b h =
     record { held = grind (arith, nat_tests); events = grind (arith, nat_tests, All-nil, All-cons) }
 

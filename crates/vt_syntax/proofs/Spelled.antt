@@ -3,15 +3,20 @@ use Rattle.std.proofs.Common.{◌≡◌, ℕ, ◌+◌, ◌*◌, ◌/◌, ◌%◌
 use Rattle.std.proofs.Common.{length, map, Option, Some, None, refl, ◌∙◌, append_assoc, arith, length-append, All}
 use Rattle.std.proofs.Common.{IfSome, decimal, option_to_list}
 use Rattle.std.specs.List.{join_with_byte}
+use Rattle.std.specs.Str.{IsAscii}
 use Rattle.std.proofs.lemmas.Bool.Decides.{nat_tests}
-use Rattle.std.proofs.lemmas.Fmt.{decimal_by_steps}
-use Rattle.std.proofs.lemmas.List.Elements.{All-head, All-tail}
+use Rattle.std.proofs.lemmas.Fmt.{decimal_by_steps, IsAscii-decimal}
+use Rattle.std.proofs.lemmas.List.{get_or_default}
+use Rattle.std.proofs.lemmas.List.Elements.{All-nil, All-cons, All-head, All-tail}
+use Rattle.std.proofs.lemmas.Str.{IsAscii-append}
+use Rattle.std.proofs.lemmas.Str.Ascii.{IsAscii-nil, IsAscii-cons}
 use Rattle.vt_syntax.specs.declared.event.Event.{Event}
 use Rattle.vt_syntax.specs.declared.event.Event.TheVariants as event
 use Rattle.vt_syntax.specs.declared.held.Held.{Held}
-use Rattle.vt_syntax.specs.declared.held.Held.TheVariants.{Nothing, Control}
+use Rattle.vt_syntax.specs.declared.held.Held.TheVariants.{Nothing, Escape, Control, Spoilt, Text}
+use Rattle.vt_syntax.specs.declared.held.Inters.TheVariants.{Zero, One, Many}
 use Rattle.vt_syntax.specs.declared.held.Phase.{Phase}
-use Rattle.vt_syntax.specs.declared.held.Phase.TheVariants.{Values, Inter}
+use Rattle.vt_syntax.specs.declared.held.Phase.TheVariants.{Start, Values, Inter}
 use Rattle.vt_syntax.specs.Class.{class_of, opens_string, IsPlain}
 use Rattle.vt_syntax.specs.Items.{ends_string}
 use Rattle.vt_syntax.specs.Held.{spell_values, spell}
@@ -101,6 +106,61 @@ spelled_steps (Control marker params full (Inter i)) h =
     steps_append (opened_by 0x9B) (spell_values marker params.items full) (i ∷ [])
     ∙ rw values (grind (arith, nat_tests))
 spelled_steps held h = grind (arith, nat_tests)
+
+-- the spelling of a held part consists of bytes: a control that opens something, and ASCII
+abbrev IsByte : ℕ → Type 0
+IsByte b = b ≤ 0xFF
+
+pub ascii_bytes : (bytes : List ℕ) → IsAscii bytes → All (λ b. b ≤ 0xFF) bytes
+ascii_bytes bytes h k d l = let e = get_or_default bytes k d 0 l in let small = h k in omega (arith, e, small)
+
+first_and : (b : ℕ) (bytes : List ℕ) → b ≤ 0xFF → IsAscii bytes → All (λ b. b ≤ 0xFF) (b ∷ bytes)
+first_and b bytes small h = All-cons IsByte b bytes small (ascii_bytes bytes h)
+
+one_ascii : (b : ℕ) → b < 128 → IsAscii (b ∷ [])
+one_ascii b small = IsAscii-cons b [] small IsAscii-nil
+
+marker_ascii : (marker : Option ℕ) → IfSome marker IsMarker → IsAscii (option_to_list marker)
+marker_ascii None h = IsAscii-nil
+marker_ascii (Some m) h = one_ascii m (omega (arith, h))
+
+joined_ascii : (values : List ℕ) → All (λ v. v ≤ 9999) values → IsAscii (join_with_byte 0x3B (map decimal values))
+joined_ascii [] h = IsAscii-nil
+joined_ascii (v ∷ []) h =
+    let small = All-head (λ v. v ≤ 9999) v [] h in IsAscii-decimal v (omega (arith, small))
+joined_ascii (v ∷ w ∷ vs) h =
+    let small = All-head (λ v. v ≤ 9999) v (w ∷ vs) h in
+    IsAscii-append (decimal v) (0x3B ∷ join_with_byte 0x3B (map decimal (w ∷ vs))) (IsAscii-decimal v (omega (arith, small)))
+    (IsAscii-cons 0x3B _ (omega arith) (joined_ascii (w ∷ vs) (All-tail (λ v. v ≤ 9999) v (w ∷ vs) h)))
+
+full_ascii : (full : Bool) → IsAscii (cond full (0x3B ∷ []) [])
+full_ascii true = one_ascii 0x3B (omega arith)
+full_ascii false = IsAscii-nil
+
+values_ascii : (marker : Option ℕ) (values : List ℕ) (full : Bool) → IfSome marker IsMarker → AreValues values
+    → IsAscii (spell_values marker values full)
+values_ascii marker values full m are =
+    IsAscii-append (option_to_list marker ++ join_with_byte 0x3B (map decimal values)) (cond full (0x3B ∷ []) [])
+    (IsAscii-append (option_to_list marker) (join_with_byte 0x3B (map decimal values)) (marker_ascii marker m)
+    (joined_ascii values are.small)) (full_ascii full)
+
+pub spelled_bytes : (held : Held) → InRange held → All (λ b. b ≤ 0xFF) (spell held)
+spelled_bytes Nothing h = All-nil IsByte
+spelled_bytes (Escape Zero) h = first_and 0x1B [] (omega arith) IsAscii-nil
+spelled_bytes (Escape (One i)) h = first_and 0x1B (i ∷ []) (omega arith) (one_ascii i (omega (arith, h)))
+spelled_bytes (Escape Many) h =
+    first_and 0x1B (0x20 ∷ 0x20 ∷ []) (omega arith) (IsAscii-cons 0x20 (0x20 ∷ []) (omega arith) (one_ascii 0x20 (omega arith)))
+spelled_bytes (Control marker params full Start) h = first_and 0x9B [] (omega arith) IsAscii-nil
+spelled_bytes (Control marker params full Values) h =
+    first_and 0x9B _ (omega arith) (values_ascii marker params.items full h.is_marker h.are_values)
+spelled_bytes (Control marker params full (Inter i)) h =
+    let inter = h.in_phase in
+    first_and 0x9B _ (omega arith)
+    (IsAscii-append (spell_values marker params.items full) (i ∷ [])
+    (values_ascii marker params.items full h.is_marker h.are_values) (one_ascii i (omega (arith, inter))))
+spelled_bytes Spoilt h = first_and 0x9B (0x3A ∷ []) (omega arith) (one_ascii 0x3A (omega arith))
+spelled_bytes (Text true) h = first_and 0x9D [] (omega arith) IsAscii-nil
+spelled_bytes (Text false) h = first_and 0x90 [] (omega arith) IsAscii-nil
 
 -- ---- events
 

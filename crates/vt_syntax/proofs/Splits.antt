@@ -19,7 +19,7 @@ Each-push p [] b h e = (e, tt)
 Each-push p (x ∷ xs) b h e = (h.0, Each-push p xs b h.1 e)
 
 -- with no intermediate all the bytes are quiet
-quiets_inside : (inside : List ℕ) → Each (λ b. continues_escape (class_of b)) inside → inters_of inside ≡ Zero
+quiets_inside : (inside : List ℕ) → Each continues_escape inside → inters_of inside ≡ Zero
     → Each is_quiet inside
 quiets_inside [] h e = tt
 quiets_inside (b ∷ inside) h e =
@@ -27,7 +27,7 @@ quiets_inside (b ∷ inside) h e =
 
 -- and the other way round
 only_quiets : (quiets : List ℕ) → Each is_quiet quiets
-    → Each (λ b. continues_escape (class_of b)) quiets × (inters_of quiets ≡ Zero)
+    → Each continues_escape quiets × (inters_of quiets ≡ Zero)
 only_quiets [] h = (tt, refl)
 only_quiets (b ∷ quiets) h =
     let ih = only_quiets quiets h.1 in
@@ -59,10 +59,10 @@ extended_beginning : (beginning : Beginning) (b : ℕ) → IsBeginning beginning
 unfolding opens_string
 extended_beginning (OfEscape inside) b h e f =
     let quiets = quiets_inside inside h in
-    let pushed = Each-push (λ c. continues_escape (class_of c)) inside b h in
+    let pushed = Each-push continues_escape inside b h in
     grind (arith, nat_tests)
 extended_beginning (OfControl opening inside) b h e f =
-    (h.0, Each-push (λ c. continues_control (class_of c)) inside b h.1 (grind (arith, nat_tests)))
+    (h.0, Each-push continues_control inside b h.1 (grind (arith, nat_tests)))
 extended_beginning (OfString opening code content) b h e f =
     (h.0, h.1, Each-push (λ c. not (ends_string (is_osc code) c || eqb c 27)) content b h.2 (rw (e, f) refl))
 
@@ -117,11 +117,11 @@ longer make p on [] so_far more h = rw append-nil refl
 longer make p on (b ∷ inside) so_far more h =
     rw (on so_far b h.0, longer make p on inside (so_far ++ b ∷ []) more h.1, append_assoc) refl
 
-escape_reads : (inside more : List ℕ) → Each (λ b. continues_escape (class_of b)) inside
+escape_reads : (inside more : List ℕ) → Each continues_escape inside
     → split_after None (27 ∷ (inside ++ more)) ≡ split_after (Some (OfEscape inside)) more
 unfolding split_after class_of opens_string
 escape_reads inside more h =
-    longer OfEscape (λ b. continues_escape (class_of b)) (λ so_far b h. grind (arith, nat_tests)) inside [] more h
+    longer OfEscape continues_escape (λ so_far b h. grind (arith, nat_tests)) inside [] more h
 
 -- what a C1 control that opens something begins
 abbrev opened : Opening → ℕ → Beginning
@@ -148,7 +148,7 @@ unfolding opens_string
 beginning_reads (OfEscape inside) more h = escape_reads inside more h
 beginning_reads (OfControl opening inside) more h =
     rw append_assoc (opening_reads opening 155 (inside ++ more) h.0 refl
-    ∙ longer (OfControl opening) (λ b. continues_control (class_of b)) (λ so_far b h. grind (arith, nat_tests))
+    ∙ longer (OfControl opening) continues_control (λ so_far b h. grind (arith, nat_tests))
     inside [] more h.1)
 beginning_reads (OfString opening code content) more h =
     let opens = h.1 in

@@ -1,39 +1,35 @@
 -- The classes of bytes (ECMA-48 5.4, ECMA-35 13; which bytes are quiet is this profile). A byte is at most 0xFF.
 use Rattle.std.specs.Prelude.{◌≡◌, ◌≤◌, ℕ, List, [], ◌∷◌, Bool, true, false, nat_lt, nat_le, ◌==◌, ◌||◌, ◌&&◌}
-use Rattle.std.specs.Prelude.{if◌then◌else◌, ◌⊎◌}
+use Rattle.std.specs.Prelude.{not, if◌then◌else◌, ◌⊎◌}
 use Rattle.vt_syntax.specs.declared.class.Class.{Class}
 use Rattle.vt_syntax.specs.declared.class.Class.TheVariants.{Quiet, Cancel, Esc, Intermediate, Parameter, Final, High}
 
--- 18 and 1A cancel, 1B is ESC, the others below 20 and 7F are quiet; then 20..2F, 30..3F, 40..7E, and from 80 on
-unfoldable pub class_of : ℕ → Class
-class_of b =
-    if b == 0x18 || b == 0x1A then Cancel else (
-    if b == 0x1B then Esc else (
-    if nat_lt b 0x20 || b == 0x7F then Quiet else (
-    if nat_lt b 0x30 then Intermediate else (
-    if nat_lt b 0x40 then Parameter else (
-    if nat_lt b 0x7F then Final else High)))))
+-- CAN and SUB
+abbrev pub is_cancel : ℕ → Bool
+is_cancel b = b == 0x18 || b == 0x1A
 
-abbrev pub is_quiet_class : Class → Bool
-is_quiet_class Quiet = true
-is_quiet_class _ = false
-
-abbrev pub is_intermediate_class : Class → Bool
-is_intermediate_class Intermediate = true
-is_intermediate_class _ = false
-
-abbrev pub is_parameter_class : Class → Bool
-is_parameter_class Parameter = true
-is_parameter_class _ = false
-
+-- the other C0 controls but ESC, and DEL
 abbrev pub is_quiet : ℕ → Bool
-is_quiet b = is_quiet_class (class_of b)
+is_quiet b = nat_lt b 0x20 && not (is_cancel b || b == 0x1B) || b == 0x7F
 
 abbrev pub is_intermediate : ℕ → Bool
-is_intermediate b = is_intermediate_class (class_of b)
+is_intermediate b = nat_le 0x20 b && nat_lt b 0x30
 
 abbrev pub is_parameter : ℕ → Bool
-is_parameter b = is_parameter_class (class_of b)
+is_parameter b = nat_le 0x30 b && nat_lt b 0x40
+
+abbrev pub is_final : ℕ → Bool
+is_final b = nat_le 0x40 b && nat_lt b 0x7F
+
+-- the class of a byte, for the code
+unfoldable pub class_of : ℕ → Class
+class_of b =
+    if is_cancel b then Cancel else (
+    if b == 0x1B then Esc else (
+    if is_quiet b then Quiet else (
+    if is_intermediate b then Intermediate else (
+    if is_parameter b then Parameter else (
+    if is_final b then Final else High)))))
 
 -- the C1 controls that open a string: DCS, SOS, OSC, PM and APC (ECMA-48 5.6)
 unfoldable pub opens_string : ℕ → Bool

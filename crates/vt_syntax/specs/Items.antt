@@ -1,12 +1,11 @@
 -- What bytes are cut into: single bytes, escape sequences (ECMA-35 13), control sequences (ECMA-48 5.4) and
 -- control strings (ECMA-48 5.6), whole or cut off. Quiet bytes inside a sequence are part of it (this profile).
 use Rattle.std.specs.Prelude.{◌≡◌, ℕ, ◌+◌, ◌-◌, List, [], ◌∷◌, ◌++◌, Bool, true, false, Option, Some, None, ◌==◌, ◌||◌}
-use Rattle.std.specs.Prelude.{◌&&◌, not, filter}
-use Rattle.vt_syntax.specs.declared.class.Class.{Class}
-use Rattle.vt_syntax.specs.declared.class.Class.TheVariants.{Quiet, Cancel, Esc, Intermediate, Parameter, Final, High}
+use Rattle.std.specs.Prelude.{◌&&◌, not, nat_le, filter}
 use Rattle.vt_syntax.specs.declared.held.Inters.{Inters}
 use Rattle.vt_syntax.specs.declared.held.Inters.TheVariants.{Zero, One, Many}
-use Rattle.vt_syntax.specs.Class.{class_of, is_quiet, is_intermediate, opens_string, opens, is_opener, Each}
+use Rattle.vt_syntax.specs.Class.{is_cancel, is_quiet, is_intermediate, is_parameter, is_final, opens_string, opens}
+use Rattle.vt_syntax.specs.Class.{is_opener, Each}
 
 -- how a control sequence or string is opened: by the C1 control itself, or by its 7-bit form, which is ESC, here with
 -- quiet bytes after it, and the byte that is 40 lower (ECMA-48 5.3)
@@ -59,54 +58,34 @@ abbrev pub introduces : Inters → ℕ → Bool
 introduces Zero b = opens (b + 0x40)
 introduces _ b = false
 
--- a final 30..7E, CAN or SUB
-abbrev pub ends_escape : Class → Bool → Bool
-ends_escape Cancel _ = true
-ends_escape Parameter _ = true
-ends_escape Final introducing = not introducing
-ends_escape _ _ = false
-
--- a final 40..7E, CAN or SUB
-abbrev pub ends_control : Class → Bool
-ends_control Cancel = true
-ends_control Final = true
-ends_control _ = false
-
 -- CAN, SUB, ST (9C) and, of OSC alone, BEL (this profile)
 unfoldable pub ends_string : Bool → ℕ → Bool
-ends_string osc b = b == 0x18 || b == 0x1A || b == 0x9C || osc && b == 0x07
+ends_string osc b = is_cancel b || b == 0x9C || osc && b == 0x07
 
 abbrev pub is_osc : ℕ → Bool
 is_osc code = code == 0x9D
 
--- the byte ends it, as its last byte
+-- the byte ends it, as its last byte: an escape sequence CAN, SUB or 30..7E, a control sequence CAN, SUB or 40..7E
 abbrev pub ends : Beginning → ℕ → Bool
-ends (OfEscape inside) b = ends_escape (class_of b) (introduces (inters_of inside) b)
-ends (OfControl opening inside) b = ends_control (class_of b)
+ends (OfEscape inside) b = is_cancel b || is_parameter b || is_final b && not (introduces (inters_of inside) b)
+ends (OfControl opening inside) b = is_cancel b || is_final b
 ends (OfString opening code content) b = ends_string (is_osc code) b
 
 -- ESC, or a byte 80..FF (this profile)
-abbrev pub cuts_sequence : Class → Bool
-cuts_sequence Esc = true
-cuts_sequence High = true
-cuts_sequence _ = false
+abbrev pub cuts_sequence : ℕ → Bool
+cuts_sequence b = b == 0x1B || nat_le 0x80 b
 
 -- the byte cuts it off, and is no part of it; a string is cut by ESC alone
 abbrev pub cuts : Beginning → ℕ → Bool
-cuts (OfEscape inside) b = cuts_sequence (class_of b)
-cuts (OfControl opening inside) b = cuts_sequence (class_of b)
+cuts (OfEscape inside) b = cuts_sequence b
+cuts (OfControl opening inside) b = cuts_sequence b
 cuts (OfString opening code content) b = b == 0x1B
 
-abbrev pub continues_escape : Class → Bool
-continues_escape Quiet = true
-continues_escape Intermediate = true
-continues_escape _ = false
+abbrev pub continues_escape : ℕ → Bool
+continues_escape b = is_quiet b || is_intermediate b
 
-abbrev pub continues_control : Class → Bool
-continues_control Quiet = true
-continues_control Intermediate = true
-continues_control Parameter = true
-continues_control _ = false
+abbrev pub continues_control : ℕ → Bool
+continues_control b = continues_escape b || is_parameter b
 
 abbrev pub IsOpening : Opening → Type 0
 IsOpening EightBit = Unit {0}
@@ -115,8 +94,8 @@ IsOpening (SevenBit quiets) = Each is_quiet quiets
 -- after ESC quiet and intermediate bytes; after CSI quiet bytes and 20..3F, in any order; in a string every byte that
 -- neither ends nor cuts it
 abbrev pub IsBeginning : Beginning → Type 0
-IsBeginning (OfEscape inside) = Each (λ b. continues_escape (class_of b)) inside
-IsBeginning (OfControl opening inside) = IsOpening opening × Each (λ b. continues_control (class_of b)) inside
+IsBeginning (OfEscape inside) = Each continues_escape inside
+IsBeginning (OfControl opening inside) = IsOpening opening × Each continues_control inside
 IsBeginning (OfString opening code content) =
     IsOpening opening × (opens_string code ≡ true) × Each (λ b. not (ends_string (is_osc code) b || b == 0x1B)) content
 

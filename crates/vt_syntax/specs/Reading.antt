@@ -1,5 +1,5 @@
 -- The reading of items and of a rest: the events that they ask for.
-use Rattle.std.specs.Prelude.{ℕ, ◌+◌, List, [], ◌∷◌, ◌++◌, map, filter, take, min, Bool, true, false, Option, Some}
+use Rattle.std.specs.Prelude.{ℕ, ◌+◌, List, [], ◌∷◌, ◌++◌, map, filter, take, drop, min, Bool, true, false, Option, Some}
 use Rattle.std.specs.Prelude.{None, ◌==◌, ◌||◌, ◌&&◌, not, nat_lt, nat_le, if◌then◌else◌}
 use Rattle.std.specs.List.{flat_map, slice_split, list_any}
 use Rattle.std.specs.Str.Parse.{digits_value}
@@ -8,7 +8,7 @@ use Rattle.vt_syntax.specs.declared.event.Event.{Event}
 use Rattle.vt_syntax.specs.declared.event.Event.TheVariants.{Print, Control, Escape, Sequence}
 use Rattle.vt_syntax.specs.declared.held.Inters.{Inters}
 use Rattle.vt_syntax.specs.declared.held.Inters.TheVariants.{Zero, One, Many}
-use Rattle.vt_syntax.specs.Class.{is_quiet, is_intermediate, is_parameter, is_plain}
+use Rattle.vt_syntax.specs.Class.{is_cancel, is_quiet, is_intermediate, is_parameter, is_plain}
 use Rattle.vt_syntax.specs.Items.{Opening, EightBit, SevenBit, Beginning, OfEscape, OfControl, OfString, Item, Single}
 use Rattle.vt_syntax.specs.Items.{Ended, Cut, inters_of}
 use Rattle.vt_syntax.specs.Split.{Parts, split_of}
@@ -81,8 +81,7 @@ has_late_parameter (b ∷ bytes) =
 
 -- whether a 3C..3F comes after the first byte
 abbrev pub has_late_marker : List ℕ → Bool
-has_late_marker [] = false
-has_late_marker (b ∷ bytes) = list_any is_marker bytes
+has_late_marker bytes = list_any is_marker (drop 1 bytes)
 
 -- a sequence with a byte 3A, a 3C..3F that isn't first, a parameter byte after an intermediate or two intermediates
 -- has no function (this profile)
@@ -95,9 +94,6 @@ is_spoilt bytes =
 -- of CAN none, of SUB itself
 abbrev pub cancel_function : ℕ → List Event
 cancel_function b = if b == 0x1A then Control 0x1A ∷ [] else []
-
-abbrev pub is_cancel : ℕ → Bool
-is_cancel b = b == 0x18 || b == 0x1A
 
 -- of a single byte: CAN and DEL have none, 20..7E and A0..FF are graphic, the others are controls
 abbrev pub single_function : ℕ → List Event

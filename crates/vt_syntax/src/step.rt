@@ -139,7 +139,7 @@ fn single_function(b: u8) -> Option<EventKind>
 }
 
 /// Returns the event of a quiet byte in a sequence. DEL has none.
-#[tactic(auto, using(std::proofs::lemmas::Bool::Decides::nat_tests))]
+#[tactic(auto, using(std::proofs::lemmas::Bool::Decides::nat_tests), unfolding(crate::specs::Class::class_of))]
 fn quiet_control(b: u8) -> Option<EventKind>
     requires { byte_class b ≡ Class.Quiet }
     ensures { (values : List ℕ) → event_in result values ≡ control_of_quiet b }

@@ -5,7 +5,7 @@ use Rattle.vt_syntax.specs.declared.event.Event.{Event}
 use Rattle.vt_syntax.specs.declared.event.Event.TheVariants.{Print, Control, Escape, Sequence}
 use Rattle.vt_syntax.specs.Held.{IsHeldPart, events_from, held_after}
 use Rattle.vt_glyph.specs.Tables.{IsGlyph, substitute_glyph}
-use Rattle.vt_glyph.specs.Invocation.{glyph_read, after_read}
+use Rattle.vt_glyph.specs.Invocation.{glyph_read, after_read, locked_left, locked_right, shifted_once}
 use Rattle.vt_glyph.specs.Designation.{set_of_final}
 use Rattle.vt_glyph.specs.GraphicSets.{GraphicSets, AreSoundSets}
 use Rattle.vt_glyph.specs.declared.set.Set.{Set}
@@ -14,10 +14,10 @@ use Rattle.vt_term.specs.State.{Display, State}
 use Rattle.vt_term.specs.Sound.{IsSoundDisplay, IsSound}
 use Rattle.vt_term.specs.Writing.{print, write_if_read, write_glyph}
 use Rattle.vt_term.specs.Modes.{with_mode, change_modes, ansi_modes, private_modes}
-use Rattle.vt_term.specs.Functions.{Function, FunctionTable, function_in, no_function, unchanged}
+use Rattle.vt_term.specs.Functions.{Function, FunctionTable, function_in, no_function}
 use Rattle.vt_term.specs.Functions.{controls, control, plain_escapes, plain_escape, space_escapes, number_sign_escapes}
-use Rattle.vt_term.specs.Functions.{escape_tables, escape_with, designate, designate_to, shift_once}
-use Rattle.vt_term.specs.Functions.{marker_tables, intermediate_tables, sequence_in, sequences_of, effect, lock_left, lock_right}
+use Rattle.vt_term.specs.Functions.{escape_tables, escape_with, designate, designate_to, with_sets}
+use Rattle.vt_term.specs.Functions.{marker_tables, intermediate_tables, sequence_in, sequences_of, effect}
 use Rattle.vt_term.specs.Play.{play, after_events}
 use Rattle.vt_term.proofs.Tables.{AllRows, looked_up-holds}
 use Rattle.vt_term.proofs.SoundEffects.{Keeps, keeping, write_glyph-keeps}
@@ -31,7 +31,7 @@ ModeKeeps key f = (on : Bool) → Keeps (f on)
 abbrev FunctionKeeps : List ℕ → ℕ → Function → Type 0
 FunctionKeeps values key f = Keeps (f.effect values)
 
-unchanged-keeps : Keeps unchanged
+unchanged-keeps : Keeps (λ s. s)
 unchanged-keeps s i = i
 
 function-keeps : (values : List ℕ) (table : FunctionTable) (b : ℕ) → AllRows (FunctionKeeps values) table
@@ -74,13 +74,13 @@ module _ (glyphs : GlyphLaws) (sets : SetsLaws) where
       go None h = after
       go (Some g) h = write_glyph-keeps g h _ after
 
-  lock_left-keeps : (slot : ℕ) → slot < 4 → Keeps (lock_left slot)
+  lock_left-keeps : (slot : ℕ) → slot < 4 → Keeps (with_sets (locked_left slot))
   lock_left-keeps slot h s i = with-sets s _ i (sets.locked_left s.sets slot h i.sets)
 
-  lock_right-keeps : (slot : ℕ) → 1 ≤ slot → slot < 4 → Keeps (lock_right slot)
+  lock_right-keeps : (slot : ℕ) → 1 ≤ slot → slot < 4 → Keeps (with_sets (locked_right slot))
   lock_right-keeps slot k h s i = with-sets s _ i (sets.locked_right s.sets slot k h i.sets)
 
-  shift_once-keeps : (slot : ℕ) → 2 ≤ slot → slot < 4 → Keeps (shift_once slot)
+  shift_once-keeps : (slot : ℕ) → 2 ≤ slot → slot < 4 → Keeps (with_sets (shifted_once slot))
   shift_once-keeps slot k h s i = with-sets s _ i (sets.shifted_once s.sets slot k h i.sets)
 
   designate-keeps : (slot last : ℕ) → Keeps (designate slot last)
@@ -93,10 +93,10 @@ module _ (glyphs : GlyphLaws) (sets : SetsLaws) where
   control-keeps : (b : ℕ) → Keeps (control b)
   unfolding control AllRows
   control-keeps b =
-      let left0 : Keeps (lock_left 0) = lock_left-keeps 0 (omega arith) in
-      let left1 : Keeps (lock_left 1) = lock_left-keeps 1 (omega arith) in
-      let once2 : Keeps (shift_once 2) = shift_once-keeps 2 (omega arith) (omega arith) in
-      let once3 : Keeps (shift_once 3) = shift_once-keeps 3 (omega arith) (omega arith) in
+      let left0 : Keeps (with_sets (locked_left 0)) = lock_left-keeps 0 (omega arith) in
+      let left1 : Keeps (with_sets (locked_left 1)) = lock_left-keeps 1 (omega arith) in
+      let once2 : Keeps (with_sets (shifted_once 2)) = shift_once-keeps 2 (omega arith) (omega arith) in
+      let once3 : Keeps (with_sets (shifted_once 3)) = shift_once-keeps 3 (omega arith) (omega arith) in
       let substitute : Keeps (write_glyph substitute_glyph) = write_glyph-keeps substitute_glyph glyphs.substitute in
       function-keeps [] controls b (search (keeping, left0, left1, once2, once3, substitute, unchanged-keeps))
 

@@ -13,14 +13,6 @@ introducer s = if s.modes.reports_8bit then 0x9B ∷ [] else 0x1B ∷ 0x5B ∷ [
 abbrev pub answer : List ℕ → Display → List ℕ
 answer text s = introducer s ++ text
 
--- DA: a VT220 with 132 columns and selective erase
-abbrev pub primary_attributes : Display → List ℕ
-primary_attributes = answer (codes "?62;1;6c")
-
--- secondary DA
-abbrev pub secondary_attributes : Display → List ℕ
-secondary_attributes = answer (codes ">1;10;0c")
-
 -- the cursor's row, under DECOM counted from the top margin
 abbrev pub line_of_cursor : Display → ℕ
 line_of_cursor s = if s.modes.decom then s.cursor.row - s.margins.top + 1 else s.cursor.row
@@ -38,12 +30,13 @@ Reports = List (ℕ × (Display → List ℕ))
 abbrev pub reported : Reports → ℕ → Display → List ℕ
 reported reports p = unwrap_or (look_up reports p) silent
 
--- DA, and DECID
+-- DA, and DECID: a VT220 with 132 columns and selective erase
 abbrev pub primary_reports : Reports
-primary_reports = (0, primary_attributes) ∷ []
+primary_reports = (0, answer (codes "?62;1;6c")) ∷ []
 
+-- secondary DA
 abbrev pub secondary_reports : Reports
-secondary_reports = (0, secondary_attributes) ∷ []
+secondary_reports = (0, answer (codes ">1;10;0c")) ∷ []
 
 -- DSR: the operating status, and the cursor's position
 abbrev pub status_reports : Reports

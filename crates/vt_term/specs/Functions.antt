@@ -9,6 +9,7 @@ use Rattle.vt_glyph.specs.declared.set.Set.TheVariants.{Ascii, British, German, 
 use Rattle.vt_glyph.specs.LookUp.{look_up, contains}
 use Rattle.vt_glyph.specs.Tables.{substitute_glyph}
 use Rattle.vt_glyph.specs.Designation.{set_of_final}
+use Rattle.vt_glyph.specs.GraphicSets.{GraphicSets}
 use Rattle.vt_glyph.specs.Invocation.{designated, locked_left, locked_right, shifted_once}
 use Rattle.vt_term.specs.State.{Display}
 use Rattle.vt_term.specs.Parameters.{first, second, count}
@@ -40,9 +41,6 @@ pub record Function : Type 0 where
 -- by the byte that ends their sequences, or by the control
 abbrev pub FunctionTable : Type 0
 FunctionTable = List (ℕ × Function)
-
-abbrev pub unchanged : Display → Display
-unchanged s = s
 
 -- ---- kinds of rows
 
@@ -95,7 +93,7 @@ abbrev pub reporting : List ℕ → Reports → Function
 reporting name reports = record {
   name = name;
   takes = λ values. contains (numbers_of reports) (first values);
-  effect = λ values. unchanged;
+  effect = λ values s. s;
   report = reported reports;
 }
 
@@ -105,7 +103,7 @@ modal name modes on = of_any (numbers_of modes) (changing name (change_modes mod
 
 -- no function
 abbrev pub no_function : Function
-no_function = record { name = []; takes = λ values. false; effect = λ values. unchanged; report = λ p. silent }
+no_function = record { name = []; takes = λ values. false; effect = λ values s. s; report = λ p. silent }
 
 -- what the table has for the byte
 abbrev pub function_in : FunctionTable → ℕ → Function
@@ -113,17 +111,9 @@ function_in table b = unwrap_or (look_up table b) no_function
 
 -- ---- graphic bytes and controls
 
--- LS0 to LS3
-abbrev pub lock_left : ℕ → Display → Display
-lock_left slot s = record s { sets = locked_left slot s.sets }
-
--- LS1R to LS3R
-abbrev pub lock_right : ℕ → Display → Display
-lock_right slot s = record s { sets = locked_right slot s.sets }
-
--- SS2 and SS3
-abbrev pub shift_once : ℕ → Display → Display
-shift_once slot s = record s { sets = shifted_once slot s.sets }
+-- a change of the sets alone
+abbrev pub with_sets : (GraphicSets → GraphicSets) → Display → Display
+with_sets change s = record s { sets = change s.sets }
 
 -- by the control
 abbrev pub controls : FunctionTable
@@ -134,15 +124,15 @@ controls =
     ∷ (0x0B, plain (codes "VT") line_feed)
     ∷ (0x0C, plain (codes "FF") line_feed)
     ∷ (0x0D, plain (codes "CR") carriage_return)
-    ∷ (0x0E, plain (codes "SO") (lock_left 1))
-    ∷ (0x0F, plain (codes "SI") (lock_left 0))
+    ∷ (0x0E, plain (codes "SO") (with_sets (locked_left 1)))
+    ∷ (0x0F, plain (codes "SI") (with_sets (locked_left 0)))
     ∷ (0x1A, plain (codes "SUB") (write_glyph substitute_glyph))
     ∷ (0x84, plain (codes "IND") index)
     ∷ (0x85, plain (codes "NEL") next_line)
     ∷ (0x88, plain (codes "HTS") set_tab)
     ∷ (0x8D, plain (codes "RI") reverse_index)
-    ∷ (0x8E, plain (codes "SS2") (shift_once 2))
-    ∷ (0x8F, plain (codes "SS3") (shift_once 3))
+    ∷ (0x8E, plain (codes "SS2") (with_sets (shifted_once 2)))
+    ∷ (0x8F, plain (codes "SS3") (with_sets (shifted_once 3)))
     ∷ (0x9A, reporting (codes "DECID") primary_reports)
     ∷ []
 
@@ -159,11 +149,11 @@ plain_escapes =
     ∷ (byte (codes "="), plain (codes "DECKPAM") (keypad_mode true))
     ∷ (byte (codes ">"), plain (codes "DECKPNM") (keypad_mode false))
     ∷ (byte (codes "c"), plain (codes "RIS") reset_to_initial_state)
-    ∷ (byte (codes "n"), plain (codes "LS2") (lock_left 2))
-    ∷ (byte (codes "o"), plain (codes "LS3") (lock_left 3))
-    ∷ (byte (codes "~"), plain (codes "LS1R") (lock_right 1))
-    ∷ (byte (codes "}"), plain (codes "LS2R") (lock_right 2))
-    ∷ (byte (codes "|"), plain (codes "LS3R") (lock_right 3))
+    ∷ (byte (codes "n"), plain (codes "LS2") (with_sets (locked_left 2)))
+    ∷ (byte (codes "o"), plain (codes "LS3") (with_sets (locked_left 3)))
+    ∷ (byte (codes "~"), plain (codes "LS1R") (with_sets (locked_right 1)))
+    ∷ (byte (codes "}"), plain (codes "LS2R") (with_sets (locked_right 2)))
+    ∷ (byte (codes "|"), plain (codes "LS3R") (with_sets (locked_right 3)))
     ∷ []
 
 -- after a space
@@ -186,7 +176,7 @@ set_name Supplemental = codes "Supplemental"
 
 abbrev pub designate_to : ℕ → Option Set → Display → Display
 designate_to slot None s = s
-designate_to slot (Some set) s = record s { sets = designated slot set s.sets }
+designate_to slot (Some set) s = with_sets (designated slot set) s
 
 abbrev pub designate : ℕ → ℕ → Display → Display
 designate slot last = designate_to slot (set_of_final last)
@@ -219,10 +209,6 @@ plain_escape last = (function_in plain_escapes last).effect []
 
 unfoldable pub escape_with : ℕ → ℕ → Display → Display
 escape_with inter last = (escape_function inter last).effect []
-
-abbrev pub escape : Option ℕ → ℕ → Display → Display
-escape None last = plain_escape last
-escape (Some inter) last = escape_with inter last
 
 -- ---- control sequences
 
@@ -298,13 +284,11 @@ sequences_of (Some marker) (Some inter) = []
 unfoldable pub sequence_in : FunctionTable → ℕ → List ℕ → Display → Display
 sequence_in table last params = (function_in table last).effect params
 
-abbrev pub sequence : Option ℕ → Option ℕ → ℕ → List ℕ → Display → Display
-sequence marker inter last params = sequence_in (sequences_of marker inter) last params
-
 -- ---- the effect of an event
 
 abbrev pub effect : Event → Display → Display
 effect (Print b) = print b
 effect (Control b) = control b
-effect (Escape inter last) = escape inter last
-effect (Sequence marker params inter last) = sequence marker inter last params.items
+effect (Escape None last) = plain_escape last
+effect (Escape (Some inter) last) = escape_with inter last
+effect (Sequence marker params inter last) = sequence_in (sequences_of marker inter) last params.items

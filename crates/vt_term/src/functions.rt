@@ -7,8 +7,9 @@ ghost use Rattle.vt_syntax.specs.Front.{AreFirst, front_list};
 ghost use Rattle.vt_glyph.specs.Tables.{substitute_glyph};
 ghost use Rattle.vt_term.specs.Writing.{write_glyph};
 ghost use Rattle.vt_term.specs.Parameters.{first, second, count};
-ghost use Rattle.vt_term.specs.Functions.{effect, control, plain_escape, escape_with, designate, lock_left, lock_right};
-ghost use Rattle.vt_term.specs.Functions.{shift_once, sequence, sequence_in, plain_sequences, private_sequences};
+ghost use Rattle.vt_glyph.specs.Invocation.{locked_left, locked_right, shifted_once};
+ghost use Rattle.vt_term.specs.Functions.{effect, control, plain_escape, escape_with, designate, with_sets};
+ghost use Rattle.vt_term.specs.Functions.{sequences_of, sequence_in, plain_sequences, private_sequences};
 ghost use Rattle.vt_term.specs.Functions.{quote_sequences, exclamation_sequences};
 ghost use Rattle.vt_term.specs.Reports.{report, sequence_report};
 
@@ -192,7 +193,7 @@ impl Display {
     /// Carries out LS0 to LS3.
     fn lock_left(&mut self, slot: u8)
         requires { slot < 4 }
-        ensures { self.new ≡ lock_left slot self.old }
+        ensures { self.new ≡ with_sets (locked_left slot) self.old }
     {
         self.sets.lock_left(slot);
     }
@@ -200,7 +201,7 @@ impl Display {
     /// Carries out LS1R to LS3R.
     fn lock_right(&mut self, slot: u8)
         requires { (1 ≤ slot) × (slot < 4) }
-        ensures { self.new ≡ lock_right slot self.old }
+        ensures { self.new ≡ with_sets (locked_right slot) self.old }
     {
         self.sets.lock_right(slot);
     }
@@ -208,7 +209,7 @@ impl Display {
     /// Carries out SS2 and SS3.
     fn shift_once(&mut self, slot: u8)
         requires { (2 ≤ slot) × (slot < 4) }
-        ensures { self.new ≡ shift_once slot self.old }
+        ensures { self.new ≡ with_sets (shifted_once slot) self.old }
     {
         self.sets.shift_once(slot);
     }
@@ -225,7 +226,7 @@ impl Display {
         out: &mut Vec<u8>,
     )
         requires room { vec_len out.old + 10 ≤ vec_capacity out.old }
-        ensures state { self.new ≡ sequence marker inter last params.now self.old }
+        ensures state { self.new ≡ sequence_in (sequences_of marker inter) last params.now self.old }
         ensures items { out.new.items ≡ out.old.items ++ sequence_report marker inter last (first params.now) self.old }
         ensures bounded { vec_len out.new ≤ vec_len out.old + 10 }
         ensures capacity { vec_capacity out.old ≤ vec_capacity out.new }

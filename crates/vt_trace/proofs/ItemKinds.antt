@@ -6,11 +6,11 @@ use Rattle.std.proofs.lemmas.Bool.Decides.{nat_tests}
 use Rattle.vt_syntax.specs.declared.event.Event.{Event}
 use Rattle.vt_syntax.specs.declared.held.Held.{Held}
 use Rattle.vt_syntax.specs.declared.held.Held.TheVariants.{Nothing}
-use Rattle.vt_syntax.specs.Class.{IsPlain, class_of, opens_string}
+use Rattle.vt_syntax.specs.Class.{IsPlain, is_cancel, class_of, opens_string}
 use Rattle.vt_syntax.specs.Items.{Opening, Beginning, OfEscape, OfControl, OfString, Item, Single, Ended, Cut, ends_string}
 use Rattle.vt_syntax.specs.Items.{IsBeginning, IsItemBefore, IsRest}
 use Rattle.vt_syntax.specs.Split.{Parts, AreItems, bytes_of, items_before, split_one, split_after, split_of}
-use Rattle.vt_syntax.specs.Reading.{function, is_cancel, is_spoilt, without_quiet, marker_of, params_of, values_of}
+use Rattle.vt_syntax.specs.Reading.{function, is_spoilt, without_quiet, marker_of, params_of, values_of}
 use Rattle.vt_syntax.specs.declared.class.Class.{Class}
 use Rattle.vt_syntax.specs.declared.class.Class.TheVariants.{Quiet, Cancel, Esc, Intermediate, Parameter, Final, High}
 use Rattle.vt_syntax.specs.declared.held.Phase.{Phase}
@@ -137,12 +137,26 @@ one_kind (Some (OfString opening code content)) b is =
 held_string : (inside : List ℕ) → is_string (held_control (without_quiet inside)) ≡ false
 held_string inside = grind (arith, nat_tests)
 
+-- after ESC, by the class of the byte
+escape_code : (inside : List ℕ) (b : ℕ) (k : Class) → class_of b ≡ k
+    → code_of (split_one (Some (OfEscape inside)) b).rest
+    ≡ code_after (code_of (Some (OfEscape inside))) (is_string (held_of (Some (OfEscape inside))))
+    (step_of (held_of (Some (OfEscape inside))) b).held b
+unfolding class_of opens_string step_of
+escape_code inside b Quiet is = grind (arith, nat_tests)
+escape_code inside b Cancel is = grind (arith, nat_tests)
+escape_code inside b Esc is = grind (arith, nat_tests)
+escape_code inside b Intermediate is = grind (arith, nat_tests)
+escape_code inside b Parameter is = grind (arith, nat_tests)
+escape_code inside b Final is = grind (arith, nat_tests)
+escape_code inside b High is = grind (arith, nat_tests)
+
 one_code : (rest : Option Beginning) (b : ℕ)
     → code_of (split_one rest b).rest
     ≡ code_after (code_of rest) (is_string (held_of rest)) (step_of (held_of rest) b).held b
 unfolding class_of opens_string ends_string step_of
 one_code None b = grind (arith, nat_tests)
-one_code (Some (OfEscape inside)) b = grind (arith, nat_tests)
+one_code (Some (OfEscape inside)) b = escape_code inside b (class_of b) refl
 one_code (Some (OfControl opening inside)) b =
     control_code opening inside b (is_spoilt (without_quiet inside)) refl
     ∙ ap (λ (v : Bool). code_after 0 v (step_of (held_control (without_quiet inside)) b).held b) (sym (held_string inside))

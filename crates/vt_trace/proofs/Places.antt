@@ -37,11 +37,11 @@ abbrev LeftAfter : Option Beginning → ℕ → Type 0
 LeftAfter rest b =
     rest_bytes (split_one rest b).rest ≡ cond (is_nothing (held_of (split_one rest b).rest)) [] (grown rest b)
 
-control_begins : (bytes : List ℕ) (b : ℕ) → begins (held_control bytes) b ≡ cuts_sequence (class_of b)
+control_begins : (bytes : List ℕ) (b : ℕ) → begins (held_control bytes) b ≡ cuts_sequence b
 unfolding class_of
 control_begins bytes b = go (is_spoilt bytes) refl
   where
-    go : (v : Bool) → is_spoilt bytes ≡ v → begins (held_control bytes) b ≡ cuts_sequence (class_of b)
+    go : (v : Bool) → is_spoilt bytes ≡ v → begins (held_control bytes) b ≡ cuts_sequence b
     go true is = rw is (grind (arith, nat_tests))
     go false is = rw is (grind (arith, nat_tests))
 

@@ -5,7 +5,8 @@ use Rattle.std.specs.List.{flat_map}
 use Rattle.vt_syntax.specs.declared.event.Event.{Event}
 use Rattle.vt_syntax.specs.Items.{Beginning, OfEscape, OfControl, OfString, Item, Single, Ended, Cut}
 use Rattle.vt_syntax.specs.Split.{split_of}
-use Rattle.vt_syntax.specs.Reading.{single_function, function, is_cancel}
+use Rattle.vt_syntax.specs.Class.{is_cancel}
+use Rattle.vt_syntax.specs.Reading.{single_function, function}
 use Rattle.vt_glyph.specs.LookUp.{look_up}
 use Rattle.vt_trace.specs.Lines.{shown, line}
 

@@ -31,7 +31,7 @@ use Rattle.vt_term.specs.State.{Display, State}
 use Rattle.vt_term.specs.Sound.{IsSound}
 use Rattle.vt_term.specs.Moving.{next_line}
 use Rattle.vt_term.specs.Writing.{write_glyph, put_glyph, print}
-use Rattle.vt_term.specs.Functions.{effect, control, escape_with, shift_once}
+use Rattle.vt_term.specs.Functions.{effect, control, escape_with, with_sets}
 use Rattle.vt_term.specs.Reports.{report, control_report}
 use Rattle.vt_term.specs.Play.{Played, play, after_events, reports_of}
 use Rattle.vt_utf8.specs.Translation.{shifted, designation, through_g2, through_g3, reads_ascii}
@@ -98,7 +98,7 @@ module _ (d : Display) where
     lines = print-off d code low high;
   }
 
-  does-ss2 : Does (0x1B ∷ 0x4E ∷ []) d (shift_once 2 d) []
+  does-ss2 : Does (0x1B ∷ 0x4E ∷ []) d (with_sets (shifted_once 2) d) []
   unfolding opens_string control_report control
   does-ss2 = record {
     events = Control 0x8E ∷ [];
@@ -109,7 +109,7 @@ module _ (d : Display) where
     lines = refl;
   }
 
-  does-ss3 : Does (0x1B ∷ 0x4F ∷ []) d (shift_once 3 d) []
+  does-ss3 : Does (0x1B ∷ 0x4F ∷ []) d (with_sets (shifted_once 3) d) []
   unfolding opens_string control_report control
   does-ss3 = record {
     events = Control 0x8F ∷ [];
@@ -251,14 +251,14 @@ module _ (code n : ℕ) (low : 0x20 ≤ code) (high : code ≤ 0x7E) where
   does-shifted2 : (d : Display) → glyph_read (shifted_once 2 d.sets) code ≡ Some n
       → Does (shifted 0x4E code) d (write_glyph n (unshifted d)) (glyph_off d)
   does-shifted2 d read =
-      let e = shift_once 2 d in
+      let e = with_sets (shifted_once 2) d in
       subst (λ (f : Display). Does (shifted 0x4E code) d f (glyph_off d)) (prints e code n low high read)
       (does-append (0x1B ∷ 0x4E ∷ []) (code ∷ []) d e (print code e) [] (glyph_off e) (does-ss2 d) (does-printed e code low high))
 
   does-shifted3 : (d : Display) → glyph_read (shifted_once 3 d.sets) code ≡ Some n
       → Does (shifted 0x4F code) d (write_glyph n (unshifted d)) (glyph_off d)
   does-shifted3 d read =
-      let e = shift_once 3 d in
+      let e = with_sets (shifted_once 3) d in
       subst (λ (f : Display). Does (shifted 0x4F code) d f (glyph_off d)) (prints e code n low high read)
       (does-append (0x1B ∷ 0x4F ∷ []) (code ∷ []) d e (print code e) [] (glyph_off e) (does-ss3 d) (does-printed e code low high))
 

@@ -24,11 +24,11 @@ use Rattle.vt_term.specs.Modes.{with_mode}
 use Rattle.vt_term.specs.Rendition.{select_graphic_rendition}
 use Rattle.vt_term.specs.Functions.{effect, sequence_in, sequences_of}
 use Rattle.vt_controls.specs.Controls.{private_mode, ansi_mode, cursor_position, rendition_to, rendition_values, protection_to}
-use Rattle.vt_controls.specs.Controls.{brush_events, sets_events, left_event, right_event, shift_to_2, shift_to_3, keypad}
+use Rattle.vt_controls.specs.Controls.{brush_events, sets_events, left_event, right_event, keypad}
 use Rattle.vt_controls.specs.Controls.{sequence_of, ModeRow, mode_rows, spelling_events, spelling_sets_events, save_cursor}
 use Rattle.vt_controls.proofs.Tests.{at_brush, all_brushes, both_pass, not_true}
 use Rattle.vt_paint.specs.Same.{is_blank, same_saved}
-use Rattle.vt_paint.specs.Pieces.{left_of, needs_header, header, glyph_events, piece_of, piece, row_pieces, pieces, is_blank_grid}
+use Rattle.vt_paint.specs.Pieces.{left_of, needs_header, header, glyph_events, piece_of, piece, pieces, is_blank_grid}
 use Rattle.vt_paint.specs.Items.{is_wide, stop_events, made_stops, stops_item, saved_events, saved_item, cells_item}
 use Rattle.vt_paint.specs.Items.{margins_item, origin_item, position_item, wrap_item, row_item, modes_item, shift_item, last_items}
 use Rattle.vt_paint.specs.Repaint.{made_events}
@@ -263,7 +263,7 @@ cells-painted : (g : Grid) (wrap : Bool) → ArePainted (cells_item g wrap)
 unfolding cells_item pieces
 cells-painted g wrap =
     painted-unless (is_blank_grid g && not wrap) _ (painted-append spelling_sets_events _ spelling-sets-painted
-    (painted-each (λ r. row_pieces g r) (range_with_len 1 24)
+    (painted-each (λ r. flat_map (λ c. piece g r c) (range_with_len 1 g.width)) (range_with_len 1 24)
     (λ r. painted-each (λ c. piece g r c) (range_with_len 1 g.width) (piece-painted g r))))
 
 margins-painted : (m : Margins) → ArePainted (margins_item m)
@@ -286,7 +286,7 @@ shift-painted : (pending : Option ℕ) → ArePainted (shift_item pending)
 unfolding shift_item
 shift-painted None = painted-none
 shift-painted (Some slot) =
-    painted-one _ (either-painted (eqb slot 2) shift_to_2 shift_to_3 (λ s on. refl) (λ s on. refl))
+    painted-one _ (either-painted (eqb slot 2) (Control 0x8E) (Control 0x8F) (λ s on. refl) (λ s on. refl))
 
 last-painted : (known : Bool) (s : Display) → ArePainted (last_items known s)
 unfolding last_items

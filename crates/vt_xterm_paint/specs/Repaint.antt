@@ -1,15 +1,14 @@
 -- The repaint under TERM=xterm: one byte string for each session, which rebuilds it on any terminal and front. (this profile)
-use Rattle.std.specs.Prelude.{◌≡◌, ℕ, List, [], ◌∷◌, ◌++◌, true, false, not}
+use Rattle.std.specs.Prelude.{◌≡◌, ◌≤◌, ℕ, List, [], ◌∷◌, ◌++◌, true, false, not, All}
 use Rattle.vt_syntax.specs.declared.event.Event.{Event}
 use Rattle.vt_syntax.specs.Spelling.{spell_events}
-use Rattle.vt_term.specs.State.{Display, display_at_power_up}
-use Rattle.vt_term.specs.Sound.{IsSound}
+use Rattle.vt_term.specs.State.{Display, display_at_power_up, power_up}
 use Rattle.vt_term.specs.Pages.{with_page}
 use Rattle.vt_controls.specs.Controls.{reset_to_initial_state, private_mode}
-use Rattle.vt_paint.specs.Repaint.{made_events}
+use Rattle.vt_paint.specs.Repaint.{made_events, IsReached}
 use Rattle.vt_utf8.specs.Decoding.{pending_of, pending_after}
 use Rattle.vt_xterm.specs.Pages.{PagesState}
-use Rattle.vt_xterm.specs.Play.{Whole, play_xterm}
+use Rattle.vt_xterm.specs.Play.{Whole, play_xterm, behind, front_at_power_up}
 
 -- as at power-up, but with the page that isn't shown
 abbrev pub other_shown : PagesState → Display
@@ -43,6 +42,11 @@ pub record Rebuilds (bytes : List ℕ) (w : Whole) (left : List ℕ) (u : Whole)
 abbrev pub IsPart : List ℕ → Type 0
 IsPart bytes = pending_of bytes ≡ bytes
 
+-- some bytes lead to the session from power-up
+abbrev pub IsReachedWhole : Whole → Type 0
+IsReachedWhole w =
+    (bytes : List ℕ) × All (λ b. b ≤ 0xFF) bytes × ((play_xterm (behind power_up front_at_power_up) [] bytes).whole ≡ w)
+
 -- the repaint does so with nothing pending, on any terminal, whatever it shows and holds, with any pages, and after any pending part
 abbrev pub IsRebuilt : Whole → Type 0
-IsRebuilt w = (u : Whole) (part : List ℕ) → IsSound u.state → IsPart part → Rebuilds (xterm_repaint w) w [] u part
+IsRebuilt w = (u : Whole) (part : List ℕ) → IsReached u.state → IsPart part → Rebuilds (xterm_repaint w) w [] u part

@@ -2,30 +2,34 @@
 ghost use Rattle.std.specs.Prelude.{◌≡◌, ◌↔◌, ◌≤◌, ◌++◌, ℕ, List, length};
 ghost use Rattle.std.specs.Str.{IsAscii};
 ghost use Rattle.vt_syntax.specs.declared.held.Held.TheVariants.{Nothing};
-ghost use Rattle.vt_term.specs.Sound.{IsSound};
+ghost use Rattle.vt_paint.specs.Repaint.{IsReached};
 ghost use Rattle.vt_xterm.specs.Play.{Whole, IsSoundWhole};
-ghost use Rattle.vt_xterm_paint.specs.Repaint.{xterm_repaint, IsPart, Rebuilds, IsRebuilt};
+ghost use Rattle.vt_xterm_paint.specs.Repaint.{xterm_repaint, IsPart, Rebuilds, IsReachedWhole, IsRebuilt};
 
 use crate::XTERM_PAINT_LIMIT;
+use vt_paint::laws::reached as state_reached;
 use vt_syntax::laws::one_split;
 use vt_term::laws::soundness;
 use vt_utf8::laws::silence;
+use vt_xterm::laws::soundness as session_soundness;
 
 /// States that the repaint of a session between sequences rebuilds it on every terminal and front, and gives no report.
 ///
 /// A session is a terminal, the page that isn't shown, which page is shown, and whether DECCOLM has an effect. The repaint leaves
-/// exactly these, and nothing is pending.
+/// exactly these, and nothing is pending. It may be any session, and any state of the terminal, that some bytes reach from power-up.
 pub fn rebuilds()
-    ensures { (w : Whole) → IsSoundWhole w → w.state.held ≡ Nothing → IsRebuilt w }
+    ensures { (w : Whole) → IsReachedWhole w → w.state.held ≡ Nothing → IsRebuilt w }
 {
     one_split();
     soundness();
     silence();
+    session_soundness();
+    state_reached();
 }
 
 /// States that the pending bytes of UTF-8, sent after the repaint, are pending again and change nothing else.
 pub fn pending()
-    ensures { (w u : Whole) (part left : List ℕ) → IsSoundWhole w → w.state.held ≡ Nothing → IsSound u.state → IsPart part
+    ensures { (w u : Whole) (part left : List ℕ) → IsReachedWhole w → w.state.held ≡ Nothing → IsReached u.state → IsPart part
         → IsPart left → Rebuilds (xterm_repaint w ++ left) w left u part }
 {
     rebuilds();
@@ -33,11 +37,23 @@ pub fn pending()
 
 /// States that sessions between sequences are equal if and only if their repaints are.
 pub fn canonical()
-    ensures { (w v : Whole) → IsSoundWhole w → IsSoundWhole v → w.state.held ≡ Nothing → v.state.held ≡ Nothing
+    ensures { (w v : Whole) → IsReachedWhole w → IsReachedWhole v → w.state.held ≡ Nothing → v.state.held ≡ Nothing
         → (w ≡ v) ↔ (xterm_repaint w ≡ xterm_repaint v) }
 {
     rebuilds();
     soundness();
+    state_reached();
+}
+
+/// States that the sound sessions between sequences are exactly those that some bytes reach from power-up.
+pub fn reached()
+    ensures { (w : Whole) → w.state.held ≡ Nothing → IsSoundWhole w ↔ IsReachedWhole w }
+{
+    bounded();
+    one_split();
+    soundness();
+    silence();
+    session_soundness();
 }
 
 /// States that no repaint is longer than `XTERM_PAINT_LIMIT`, and that its bytes are ASCII.

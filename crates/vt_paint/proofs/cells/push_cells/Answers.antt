@@ -2,7 +2,8 @@ use Rattle.std.proofs.Common.{◌≡◌, ◌+◌, ◌-◌, ◌++◌, ◌||◌, n
 use Rattle.std.specs.List.{list_all}
 use Rattle.vt_paint.specs.Same.{is_blank}
 use Rattle.vt_controls.specs.Controls.{spelling_sets_events}
-use Rattle.vt_paint.specs.Pieces.{rows_from, pieces, is_blank_grid}
+use Rattle.vt_paint.specs.Pieces.{pieces, is_blank_grid}
+use Rattle.vt_paint.specs.Private.Parts.{rows_from}
 use Rattle.vt_paint.specs.Items.{cells_item}
 use Rattle.vt_paint.proofs.Pushing.{are_blank, shown-more, rows_shown, shown-unless}
 use Rattle.vt_paint.proofs.cells.push_cells.Goals as goal

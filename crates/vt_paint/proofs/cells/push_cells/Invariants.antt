@@ -5,7 +5,7 @@ use Rattle.vt_screen.specs.Grid.{row_of}
 use Rattle.vt_paint.specs.Same.{is_blank}
 use Rattle.vt_screen.specs.Same.{when}
 use Rattle.vt_controls.specs.Controls.{spelling_sets_events}
-use Rattle.vt_paint.specs.Pieces.{rows_from}
+use Rattle.vt_paint.specs.Private.Parts.{rows_from}
 use Rattle.vt_paint.specs.Private.Room.{head_room}
 use Rattle.vt_paint.proofs.cells.push_cells.Given as goal
 

@@ -3,7 +3,7 @@ use Rattle.vt_syntax.specs.Spelling.{spell_events}
 use Rattle.vt_screen.specs.Cells.{brush_of}
 use Rattle.vt_screen.specs.Grid.{Grid, row_of, cell_at}
 use Rattle.vt_paint.specs.Same.{is_blank}
-use Rattle.vt_paint.specs.Pieces.{pieces_from}
+use Rattle.vt_paint.specs.Private.Parts.{pieces_from}
 use Rattle.vt_paint.specs.Private.HeaderParts.{brush_number}
 use Rattle.vt_paint.proofs.RowRuns.{IsFresh}
 use Rattle.vt_paint.proofs.cells.put_row.Given as goal

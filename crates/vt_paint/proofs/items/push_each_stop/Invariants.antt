@@ -1,6 +1,6 @@
 use Rattle.std.proofs.Common.{◌≡◌, ◌+◌, ◌*◌, ◌≤◌, ◌++◌, vec_len, vec_capacity}
 use Rattle.vt_syntax.specs.Spelling.{spell_events}
-use Rattle.vt_paint.specs.Items.{stops_from}
+use Rattle.vt_paint.specs.Private.Parts.{stops_from}
 use Rattle.vt_paint.proofs.items.push_each_stop.Given as goal
 
 abbrev pub invariant-loop-i : goal.invariant-loop-i

@@ -1,7 +1,8 @@
 use Rattle.std.proofs.Common.{◌∷◌, [], true, false, not}
 use Rattle.vt_screen.specs.Same.{when}
 use Rattle.vt_controls.specs.Controls.{private_mode, clear_all_tabs}
-use Rattle.vt_paint.specs.Items.{stops_from, made_stops}
+use Rattle.vt_paint.specs.Items.{made_stops}
+use Rattle.vt_paint.specs.Private.Parts.{stops_from}
 use Rattle.vt_paint.proofs.Pushing.{then_events, events, function}
 use Rattle.vt_paint.proofs.items.push_made_stops.Goals as goal
 

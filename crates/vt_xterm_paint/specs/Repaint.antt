@@ -2,7 +2,7 @@
 use Rattle.std.specs.Prelude.{◌≡◌, ◌≤◌, ℕ, List, [], ◌∷◌, ◌++◌, true, false, not, All}
 use Rattle.vt_syntax.specs.declared.event.Event.{Event}
 use Rattle.vt_syntax.specs.Spelling.{spell_events}
-use Rattle.vt_term.specs.State.{Display, display_at_power_up, power_up}
+use Rattle.vt_term.specs.State.{Display, State, display_at_power_up, power_up}
 use Rattle.vt_term.specs.Pages.{with_page}
 use Rattle.vt_controls.specs.Controls.{reset_to_initial_state, private_mode}
 use Rattle.vt_paint.specs.Repaint.{made_events, IsReached}
@@ -13,6 +13,10 @@ use Rattle.vt_xterm.specs.Play.{Whole, play_xterm, behind, front_at_power_up}
 -- as at power-up, but with the page that isn't shown
 abbrev pub other_shown : PagesState → Display
 other_shown pages = with_page pages.other display_at_power_up
+
+-- a terminal that shows that page
+abbrev pub showing_other : PagesState → State
+showing_other pages = record power_up { display = other_shown pages }
 
 -- After RIS the main page is shown. The items of the page that isn't shown come first, on that page: ?47 chooses it. ?40 is set, so
 -- that DECCOLM has an effect. Then ?47 exchanges the pages, and ?3 makes the display as at power-up. The items of the display that

@@ -6,7 +6,7 @@ ghost use Rattle.vt_syntax.specs.Spelling.{spell_events};
 ghost use Rattle.vt_term.specs.Sound.{IsSound};
 ghost use Rattle.vt_controls.specs.Controls.{private_mode};
 ghost use Rattle.vt_xterm.specs.Play.{IsSoundWhole, behind};
-ghost use Rattle.vt_xterm_paint.specs.Repaint.{other_shown, xterm_repaint, IsRebuilt};
+ghost use Rattle.vt_xterm_paint.specs.Repaint.{other_shown, showing_other, xterm_repaint, IsRebuilt};
 
 use crate::laws::{reached, rebuilds};
 use vt_controls::{DECCOLM, Function, push_bytes};
@@ -64,7 +64,7 @@ fn soundness(t: &Terminal, front: &Front, scratch: &Terminal)
 /// # Errors
 ///
 /// Returns `Partial` if the terminal is inside a sequence or the front inside a character, which is checked first. Returns `Memory`
-/// if allocation fails. The contents of `out` are then unchanged.
+/// if allocation fails. `scratch` and the contents of `out` are then unchanged.
 pub fn repaint_xterm(
     t: &Terminal,
     front: &Front,
@@ -75,7 +75,9 @@ pub fn repaint_xterm(
     ensures rebuilds { OnOk result (IsRebuilt (behind t.now front.now)) }
     ensures partial { IsErrOf result PaintError.Partial ↔ ((t.now.held ≢ Nothing) ⊎ (front.now.pending ≢ [])) }
     ensures memory { IsErrOf result PaintError.Memory → vec_capacity out.old < vec_len out.old + XTERM_PAINT_LIMIT }
+    ensures scratch { OnOk result (scratch.new ≡ showing_other front.now.pages) }
     ensures unchanged { OnErr result (out.new.items ≡ out.old.items) }
+    ensures same_scratch { OnErr result (scratch.new ≡ scratch.old) }
     ensures bounded { vec_len out.new ≤ vec_len out.old + XTERM_PAINT_LIMIT }
     ensures capacity { vec_capacity out.old ≤ vec_capacity out.new }
 {
@@ -103,6 +105,7 @@ pub fn repaint_xterm_reserved(
     requires room { vec_len out.old + XTERM_PAINT_LIMIT ≤ vec_capacity out.old }
     ensures items { out.new.items ≡ out.old.items ++ xterm_repaint (behind t.now front.now) }
     ensures rebuilds { IsRebuilt (behind t.now front.now) }
+    ensures scratch { scratch.new ≡ showing_other front.now.pages }
     ensures bounded { vec_len out.new ≤ vec_len out.old + XTERM_PAINT_LIMIT }
     ensures capacity { vec_capacity out.old ≤ vec_capacity out.new }
 {

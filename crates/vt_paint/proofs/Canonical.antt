@@ -41,20 +41,16 @@ module _ (split : SplitLaw) (two : (s : State) (a b : List ℕ) → play s (a ++
   pub reached : (s : State) → IsSound s ↔ IsReached s
   reached s = (reach s, λ w. subst (λ (x : State). IsSound x) w.2 (kept power_up w.0 start))
 
-pub rebuilt : ((s : State) → IsSound s ↔ IsReached s) → (s : State) → IsReached s → s.held ≡ Nothing → IsRebuilt s
-rebuilt reached s i between t j = rebuilds_all s ((reached s).1 i) between t ((reached t).1 j)
-
--- repaints rebuild
-module _ (rebuilds : (s : State) → IsReached s → s.held ≡ Nothing → IsRebuilt s) (start : IsReached power_up) where
-  same_paint : (s u : State) → IsReached s → IsReached u → s.held ≡ Nothing → u.held ≡ Nothing → paint s ≡ paint u → s ≡ u
+-- repaints rebuild, and the state at power-up is sound
+module _ (rebuilds : (s : State) → IsSound s → s.held ≡ Nothing → IsRebuilt s) (start : IsSound power_up) where
+  same_paint : (s u : State) → IsSound s → IsSound u → s.held ≡ Nothing → u.held ≡ Nothing → paint s ≡ paint u → s ≡ u
   same_paint s u i j h k e =
       sym (ap (λ (p : Played). p.state) (rebuilds s i h power_up start))
       ∙ ap (λ (bytes : List ℕ). (play power_up bytes).state) e
       ∙ ap (λ (p : Played). p.state) (rebuilds u j k power_up start)
 
-  pub same : (s u : State) → IsReached s → IsReached u → s.held ≡ Nothing → u.held ≡ Nothing
-      → (s ≡ u) ↔ (paint s ≡ paint u)
+  pub same : (s u : State) → IsSound s → IsSound u → s.held ≡ Nothing → u.held ≡ Nothing → (s ≡ u) ↔ (paint s ≡ paint u)
   same s u i j h k = (λ e. ap (λ x. paint x) e, same_paint s u i j h k)
 
-  pub again : (s t : State) → IsReached s → IsReached t → s.held ≡ Nothing → paint (play t (paint s)).state ≡ paint s
+  pub again : (s t : State) → IsSound s → IsSound t → s.held ≡ Nothing → paint (play t (paint s)).state ≡ paint s
   again s t i j h = ap (λ (p : Played). paint p.state) (rebuilds s i h t j)

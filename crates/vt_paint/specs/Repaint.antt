@@ -3,6 +3,7 @@ use Rattle.std.specs.Prelude.{◌≡◌, ◌≤◌, true, ℕ, List, [], ◌∷�
 use Rattle.vt_syntax.specs.declared.event.Event.{Event}
 use Rattle.vt_syntax.specs.Spelling.{spell_events}
 use Rattle.vt_term.specs.State.{Display, State, last_column, power_up}
+use Rattle.vt_term.specs.Sound.{IsSound}
 use Rattle.vt_term.specs.Play.{play}
 use Rattle.vt_controls.specs.Controls.{reset_to_initial_state}
 use Rattle.vt_paint.specs.Items.{stops_item, saved_item, cells_item, last_items}
@@ -25,4 +26,4 @@ IsReached s = (bytes : List ℕ) × All (λ b. b ≤ 0xFF) bytes × ((play power
 
 -- played on any terminal, whatever it shows and holds, the repaint leaves this state, and asks for no report
 abbrev pub IsRebuilt : State → Type 0
-IsRebuilt s = (t : State) → IsReached t → play t (paint s) ≡ record { state = s; reports = [] }
+IsRebuilt s = (t : State) → IsSound t → play t (paint s) ≡ record { state = s; reports = [] }

@@ -11,7 +11,7 @@ use crate::controls::{push_brush, push_sets};
 use crate::items::{
     push_cell, push_margins, push_mode_item, push_modes, push_saved, push_shift, push_stops,
 };
-use crate::laws::{reached, rebuilds};
+use crate::laws::rebuilds;
 use thiserror::Error;
 use vt_controls::{DECOM, Function};
 use vt_screen::{COLUMNS, ROWS};
@@ -124,7 +124,6 @@ pub fn repaint_reserved(t: &Terminal, out: &mut Vec<u8>)
     ensures capacity { vec_capacity out.old ≤ vec_capacity out.new }
 {
     rebuilds();
-    reached();
     // The width's contract gives the soundness of the state.
     let _ = t.width();
     Function::reset().push(out);

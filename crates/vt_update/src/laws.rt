@@ -7,7 +7,7 @@ ghost use Rattle.vt_term.specs.Play.{play, joined};
 ghost use Rattle.vt_paint.specs.Repaint.{paint};
 ghost use Rattle.vt_update.specs.Leads.{silently, Leads, LeadsAlong, last_state};
 
-use vt_paint::laws::{reached, rebuilds};
+use vt_paint::laws::rebuilds;
 use vt_term::laws::{cuts, soundness};
 
 /// States that bytes lead to a state if and only if playing them reaches it without a report. The bytes may be whole or
@@ -28,5 +28,4 @@ pub fn leading()
     cuts();
     soundness();
     rebuilds();
-    reached();
 }

@@ -15,7 +15,7 @@ ghost use Rattle.vt_update.specs.Leads.{Leads, Updates, HasOtherColumns};
 use crate::choice::push_choice;
 use crate::laws::leading;
 use thiserror::Error;
-use vt_paint::laws::{reached, spoken};
+use vt_paint::laws::spoken;
 use vt_paint::{PAINT_LIMIT, changed_places, repaint_changes_reserved, repaint_reserved};
 use vt_term::laws::cuts;
 use vt_term::{ROWS, STOPS, Terminal};
@@ -283,7 +283,6 @@ fn send_repaint(shown: &mut Terminal, to: &Terminal, out: &mut Vec<u8>)
     ensures capacity { vec_capacity out.old ≤ vec_capacity out.new }
 {
     leading();
-    reached();
     spoken();
     soundness(shown);
     soundness(to);

@@ -2,10 +2,6 @@
 ghost use Rattle.std.specs.Prelude.{◌≡◌, ◌↔◌, ◌≤◌, ◌+◌, ◌*◌, ◌++◌, ℕ, List, [], IsTrue, IsErrOf, IfOk, length, vec_len};
 ghost use Rattle.std.specs.Prelude.{vec_capacity};
 ghost use Rattle.std.specs.Option.{option_copied};
-ghost use Rattle.vt_paint.specs.Repaint.{paint};
-ghost use Rattle.vt_term.specs.Play.{play};
-ghost use Rattle.vt_term.specs.Sound.{IsSound};
-ghost use Rattle.vt_term.specs.State.{State, power_up};
 ghost use Rattle.vt_term.specs.Text.{text};
 ghost use Rattle.vt_vectors.specs.Outcome.{outcome_of, outcome_after, repaint_of};
 ghost use Rattle.vt_vectors.specs.Comparison.{Compares, expected_of};
@@ -13,7 +9,7 @@ ghost use Rattle.vt_vectors.specs.Comparison.{Compares, expected_of};
 use crate::expectation::Vector;
 use crate::mismatch::Mismatch;
 use std::alloc::{AllocError, Global};
-use vt_paint::laws::{reached, rebuilds};
+use vt_paint::laws::rebuilds;
 use vt_paint::{PAINT_LIMIT, repaint_reserved};
 use vt_term::laws::{cuts, soundness};
 use vt_term::{REPORT_LIMIT, Terminal};
@@ -100,7 +96,7 @@ impl Bench {
         ensures reports { vec_len self.new.reports ≡ 0 }
         ensures capacity { vec_capacity self.old.reports ≤ vec_capacity self.new.reports }
     {
-        restarts();
+        rebuilds();
         soundness();
         cuts();
         self.reports.clear();
@@ -169,13 +165,4 @@ impl Bench {
         repaint_reserved(&self.terminal, &mut self.output);
         self.output.as_slice() == expected
     }
-}
-
-/// States that the repaint of power-up leads every terminal there, and gives no report.
-fn restarts()
-    ensures { (t : State) → IsSound t → play t (paint power_up) ≡ record { state = power_up; reports = [] } }
-{
-    rebuilds();
-    reached();
-    soundness();
 }

@@ -23,7 +23,7 @@ use Rattle.vt_term.specs.Reports.{report, sequence_report}
 use Rattle.vt_term.specs.Play as vt220
 use Rattle.vt_term.specs.Play.{play}
 use Rattle.vt_controls.specs.Controls.{reset_to_initial_state, private_mode}
-use Rattle.vt_paint.specs.Repaint.{made_events, IsReached}
+use Rattle.vt_paint.specs.Repaint.{made_events}
 use Rattle.vt_paint.proofs.AfterEvents.{display_after-after_events}
 use Rattle.vt_paint.proofs.Within.{made_within}
 use Rattle.vt_paint.proofs.Whole.{made_leaves}
@@ -217,36 +217,26 @@ module _ (split : SplitLaw) (start : IsSound power_up)
         pending = ap (λ (t : List ℕ). pending_after part t) begins ∙ escape-pending part more is rest;
       }
 
-  rebuilds-sound : (w : Whole) → IsSoundWhole w → w.state.held ≡ Nothing → (u : Whole) (part : List ℕ) → IsSound u.state
-      → IsPart part → Rebuilds (xterm_repaint w) w [] u part
+  pub rebuilds : (w : Whole) → IsSoundWhole w → w.state.held ≡ Nothing → IsRebuilt w
   unfolding xterm_repaint xterm_repaint_events
-  rebuilds-sound w i between u part sound is =
+  rebuilds w i between u part sound is =
       let within = repaint-within w (other-sound w.pages.other i.other start.display) i.state.display in
       events-rebuild (xterm_repaint_events w) _ w u part within.events refl
       (All-from_ascii (spell_events (xterm_repaint_events w)) within.ascii) between (λ s. all-leads w s i start.display) sound is
 
-  -- the session at power-up, and what is played keeps sound
-  module _ (power : IsSoundWhole (behind power_up front_at_power_up))
-      (keeps : (w : Whole) (pending bytes : List ℕ) → IsSoundWhole w → IsSoundWhole (play_xterm w pending bytes).whole) where
-    sound-whole : (w : Whole) → IsReachedWhole w → IsSoundWhole w
-    sound-whole w i =
-        subst (λ (x : Whole). IsSoundWhole x) i.2 (keeps (behind power_up front_at_power_up) [] i.0 power)
-
-    pub rebuilds : ((s : State) → IsSound s ↔ IsReached s) → (w : Whole) → IsReachedWhole w → w.state.held ≡ Nothing
-        → IsRebuilt w
-    rebuilds reached w i between u part j is =
-        rebuilds-sound w (sound-whole w i) between u part ((reached u.state).1 j) is
-
-    pub reached : ((w : Whole) → IsSoundWhole w → IsAscii (xterm_repaint w)) → (w : Whole) → w.state.held ≡ Nothing
-        → IsSoundWhole w ↔ IsReachedWhole w
-    reached ascii w between = (
-      λ i. (
-        xterm_repaint w,
-        ascii_bytes (xterm_repaint w) (ascii w i),
-        (rebuilds-sound w i between (behind power_up front_at_power_up) [] start refl).whole,
-      ),
-      sound-whole w,
-    )
+  -- the session at power-up is sound, and what is played keeps it so
+  pub reached : IsSoundWhole (behind power_up front_at_power_up)
+      → ((w : Whole) (pending bytes : List ℕ) → IsSoundWhole w → IsSoundWhole (play_xterm w pending bytes).whole)
+      → ((w : Whole) → IsSoundWhole w → IsAscii (xterm_repaint w)) → (w : Whole) → w.state.held ≡ Nothing
+      → IsSoundWhole w ↔ IsReachedWhole w
+  reached power keeps ascii w between = (
+    λ i. (
+      xterm_repaint w,
+      ascii_bytes (xterm_repaint w) (ascii w i),
+      (rebuilds w i between (behind power_up front_at_power_up) [] start refl).whole,
+    ),
+    λ i. subst (λ (x : Whole). IsSoundWhole x) i.2 (keeps (behind power_up front_at_power_up) [] i.0 power),
+  )
 
 pub short : (w : Whole) → IsSound power_up → IsSoundWhole w → length (xterm_repaint w) ≤ 187052
 unfolding xterm_repaint
@@ -262,21 +252,21 @@ ascii w start i = (repaint-within w (other-sound w.pages.other i.other start.dis
 abbrev whole-power-up : Whole
 whole-power-up = record { state = power_up; pages = pages_at_power_up }
 
-module _ (start : IsReached power_up) (rebuilds : (w : Whole) → IsReachedWhole w → w.state.held ≡ Nothing → IsRebuilt w) where
-  same-repaint : (w v : Whole) → IsReachedWhole w → IsReachedWhole v → w.state.held ≡ Nothing → v.state.held ≡ Nothing
+module _ (start : IsSound power_up) (rebuilds : (w : Whole) → IsSoundWhole w → w.state.held ≡ Nothing → IsRebuilt w) where
+  same-repaint : (w v : Whole) → IsSoundWhole w → IsSoundWhole v → w.state.held ≡ Nothing → v.state.held ≡ Nothing
       → xterm_repaint w ≡ xterm_repaint v → w ≡ v
   same-repaint w v i j h k e =
       sym (rebuilds w i h whole-power-up [] start refl).whole
       ∙ ap (λ (bytes : List ℕ). (play_xterm whole-power-up [] bytes).whole) e
       ∙ (rebuilds v j k whole-power-up [] start refl).whole
 
-  pub same : (w v : Whole) → IsReachedWhole w → IsReachedWhole v → w.state.held ≡ Nothing → v.state.held ≡ Nothing
+  pub same : (w v : Whole) → IsSoundWhole w → IsSoundWhole v → w.state.held ≡ Nothing → v.state.held ≡ Nothing
       → (w ≡ v) ↔ (xterm_repaint w ≡ xterm_repaint v)
   same w v i j h k = (λ e. ap (λ (x : Whole). xterm_repaint x) e, same-repaint w v i j h k)
 
 -- what is pending, after the repaint
-pub rebuilds-pending : ((w : Whole) → IsReachedWhole w → w.state.held ≡ Nothing → IsRebuilt w) → (w u : Whole)
-    → (part left : List ℕ) → IsReachedWhole w → w.state.held ≡ Nothing → IsReached u.state → IsPart part → IsPart left
+pub rebuilds-pending : ((w : Whole) → IsSoundWhole w → w.state.held ≡ Nothing → IsRebuilt w) → (w u : Whole)
+    → (part left : List ℕ) → IsSoundWhole w → w.state.held ≡ Nothing → IsSound u.state → IsPart part → IsPart left
     → Rebuilds (xterm_repaint w ++ left) w left u part
 unfolding play_xterm
 rebuilds-pending rebuilds w u part left i between sound is rest =

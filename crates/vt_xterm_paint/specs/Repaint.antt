@@ -3,9 +3,10 @@ use Rattle.std.specs.Prelude.{◌≡◌, ◌≤◌, ℕ, List, [], ◌∷◌, �
 use Rattle.vt_syntax.specs.declared.event.Event.{Event}
 use Rattle.vt_syntax.specs.Spelling.{spell_events}
 use Rattle.vt_term.specs.State.{Display, State, display_at_power_up, power_up}
+use Rattle.vt_term.specs.Sound.{IsSound}
 use Rattle.vt_term.specs.Pages.{with_page}
 use Rattle.vt_controls.specs.Controls.{reset_to_initial_state, private_mode}
-use Rattle.vt_paint.specs.Repaint.{made_events, IsReached}
+use Rattle.vt_paint.specs.Repaint.{made_events}
 use Rattle.vt_utf8.specs.Decoding.{pending_of, pending_after}
 use Rattle.vt_xterm.specs.Pages.{PagesState}
 use Rattle.vt_xterm.specs.Play.{Whole, play_xterm, behind, front_at_power_up}
@@ -53,4 +54,4 @@ IsReachedWhole w =
 
 -- the repaint does so with nothing pending, on any terminal, whatever it shows and holds, with any pages, and after any pending part
 abbrev pub IsRebuilt : Whole → Type 0
-IsRebuilt w = (u : Whole) (part : List ℕ) → IsReached u.state → IsPart part → Rebuilds (xterm_repaint w) w [] u part
+IsRebuilt w = (u : Whole) (part : List ℕ) → IsSound u.state → IsPart part → Rebuilds (xterm_repaint w) w [] u part

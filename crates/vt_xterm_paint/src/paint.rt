@@ -8,7 +8,7 @@ ghost use Rattle.vt_controls.specs.Controls.{private_mode};
 ghost use Rattle.vt_xterm.specs.Play.{IsSoundWhole, behind};
 ghost use Rattle.vt_xterm_paint.specs.Repaint.{other_shown, showing_other, xterm_repaint, IsRebuilt};
 
-use crate::laws::{reached, rebuilds};
+use crate::laws::rebuilds;
 use vt_controls::{DECCOLM, Function, push_bytes};
 use vt_paint::{PAINT_LIMIT, PaintError, repaint_items_reserved};
 use vt_term::Terminal;
@@ -110,7 +110,6 @@ pub fn repaint_xterm_reserved(
     ensures capacity { vec_capacity out.old ≤ vec_capacity out.new }
 {
     rebuilds();
-    reached();
     let alternate = front.is_alternate();
     front.show_other(scratch);
     soundness(t, front, scratch);

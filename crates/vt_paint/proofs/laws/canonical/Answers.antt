@@ -1,8 +1,9 @@
-use Rattle.vt_term.specs.State.{power_up}
 use Rattle.vt_paint.proofs.Canonical.{same, again}
 use Rattle.vt_paint.proofs.laws.canonical.Goals as goal
 
 pub returns : goal.returns
-returns c =
-    let start = (c.reached.ensures power_up).0 c.soundness.ensures.power_up in
-    record { same = same c.rebuilds.ensures start; again = again c.rebuilds.ensures start }
+returns c = record {
+  same = same c.rebuilds.ensures c.soundness.ensures.power_up;
+  again = again c.rebuilds.ensures c.soundness.ensures.power_up;
+  reached = λ s between. c.reached.ensures s;
+}

@@ -1,5 +1,5 @@
-use Rattle.vt_paint.proofs.Canonical.{rebuilt}
+use Rattle.vt_paint.proofs.Whole.{rebuilds_all}
 use Rattle.vt_paint.proofs.laws.rebuilds.Goals as goal
 
 pub returns : goal.returns
-returns c = rebuilt c.reached.ensures
+returns c = rebuilds_all

@@ -7,5 +7,5 @@ returns-clause-leads c s sound = record {
   sent = paint c.args.to.now;
   appended = c.play_back.ensures.items ∙ c.repaint_reserved.ensures.items;
   leads = c.leading.ensures.played s c.args.to.now (paint c.args.to.now) sound
-      (c.repaint_reserved.ensures.rebuilds s ((c.reached.ensures s).0 sound));
+      (c.repaint_reserved.ensures.rebuilds s sound);
 }

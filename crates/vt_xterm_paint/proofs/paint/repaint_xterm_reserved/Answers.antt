@@ -42,9 +42,7 @@ push_resizes-requires-2 c =
     )
 
 pub returns-clause-rebuilds : goal.returns-clause-rebuilds
-returns-clause-rebuilds c =
-    let w = behind c.args.t.now c.args.front.now in
-    c.rebuilds.ensures w ((c.reached.ensures w c.requires.between).0 c.soundness.ensures) c.requires.between
+returns-clause-rebuilds c = c.rebuilds.ensures (behind c.args.t.now c.args.front.now) c.soundness.ensures c.requires.between
 
 pub returns-clause-bounded : goal.returns-clause-bounded
 returns-clause-bounded c =

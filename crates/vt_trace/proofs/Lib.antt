@@ -5,6 +5,7 @@ mod TracedBytes
 mod Traces
 mod Counts
 pub mod Coming
+pub mod Contents
 mod Sums
 mod KindLines
 mod Leaves

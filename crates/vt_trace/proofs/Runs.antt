@@ -47,11 +47,11 @@ and_true : (v : Bool) → v && true ≡ v
 and_true true = refl
 and_true false = refl
 
-and_false : (v : Bool) → v && false ≡ false
+pub and_false : (v : Bool) → v && false ≡ false
 and_false true = refl
 and_false false = refl
 
-none_skipped : (t : Tracer) (h : Held) (b : ℕ) → cuts_off h b ≡ false → ends_silent h b ≡ false → skipped t h b ≡ []
+pub none_skipped : (t : Tracer) (h : Held) (b : ℕ) → cuts_off h b ≡ false → ends_silent h b ≡ false → skipped t h b ≡ []
 unfolding skipped
 none_skipped t h b whole inner =
     let place = item_place t h b in
@@ -60,7 +60,7 @@ none_skipped t h b whole inner =
     ap (λ (v : Bool). skipped_lines t v (ends_silent h b) place kind first) whole
     ∙ ap (λ (v : Bool). skipped_lines t false v place kind first) inner
 
-still_on : (t : Tracer) (h : Held) (b : ℕ) → cuts_off h b ≡ false → ends_silent h b ≡ false → goes_on t h b ≡ t.in_text
+pub still_on : (t : Tracer) (h : Held) (b : ℕ) → cuts_off h b ≡ false → ends_silent h b ≡ false → goes_on t h b ≡ t.in_text
 unfolding goes_on
 still_on t h b whole inner =
     ap (λ (v : Bool). t.in_text && not (v || ends_silent h b)) whole
@@ -559,21 +559,11 @@ module _ (law : SpellingLaw) (split : SplitLaw) (bytes : List ℕ) (e : Event) (
       }
 
 -- what is held after bytes, one after another
-held_is : SplitLaw → (h : Held) (bytes : List ℕ) → IsHeldPart h → held_all h bytes ≡ held_from h bytes
+pub held_is : SplitLaw → (h : Held) (bytes : List ℕ) → IsHeldPart h → held_all h bytes ≡ held_from h bytes
 held_is split h [] part = sym (split.held_nil h part)
 held_is split h (b ∷ bytes) part =
     held_is split (held_from h (b ∷ [])) bytes (split.held_part (spell h ++ b ∷ []))
     ∙ sym (split.held_append h (b ∷ []) bytes)
-
--- bytes that were read one after another
-pub all_read : SplitLaw → (h k : Held) (t u : Tracer) (bytes rest old new : List ℕ) → rest ≡ [] → IsHeldPart h
-    → new ++ skipped_all k u rest ≡ old ++ skipped_all h t bytes → skimmed k u rest ≡ skimmed h t bytes
-    → held_all k rest ≡ held_all h bytes → AreRead h k t u bytes old new
-all_read split h k t u bytes rest old new none part lines tracer were = record {
-  lines = sym (append-nil new) ∙ ap (λ (l : List ℕ). new ++ skipped_all k u l) (sym none) ∙ lines;
-  tracer = ap (λ (l : List ℕ). skimmed k u l) (sym none) ∙ tracer;
-  held = ap (λ (l : List ℕ). held_all k l) (sym none) ∙ were ∙ held_is split h bytes part;
-}
 
 -- bytes without an event
 pub part_told : SpellingLaw → SplitLaw → (s : State) (h k : Held) (t u : Tracer) (bytes old new : List ℕ)

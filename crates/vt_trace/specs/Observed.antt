@@ -45,6 +45,12 @@ pub record AreRead (h k : Held) (t u : Tracer) (bytes old new : List ℕ) : Type
   pub tracer : u ≡ skimmed h t bytes
   pub held : k ≡ held_from h bytes
 
+-- bytes up to a rest leave the same held part, and the rest gives what all of them gave
+pub record ArePassed (h : Held) (t u : Tracer) (bytes rest : List ℕ) : Type 0 where
+  pub lines : skipped_all h u rest ≡ skipped_all h t bytes
+  pub tracer : skimmed h u rest ≡ skimmed h t bytes
+  pub held : held_all h rest ≡ held_all h bytes
+
 -- the bytes are this event, which the last of them completes
 pub record Completes (h : Held) (bytes : List ℕ) (event : Event) : Type 0 where
   pub events : events_from h bytes ≡ event ∷ []

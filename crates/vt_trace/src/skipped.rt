@@ -1,12 +1,13 @@
 //! What is no event: the lines of items without a function.
-ghost use Rattle.std.specs.Prelude.{◌≡◌, ◌+◌, ◌*◌, ◌^◌, ◌≤◌, ◌<◌, ◌++◌, [], ◌∷◌, ◌&&◌, ◌||◌, not, ℕ, List, length, take};
+ghost use Rattle.std.specs.Prelude.{◌≡◌, ◌+◌, ◌*◌, ◌^◌, ◌≤◌, ◌<◌, ◌++◌, [], ◌∷◌, ◌&&◌, ◌||◌, not, ℕ, List, All, length, take, drop, true};
 ghost use Rattle.std.specs.Prelude.{if◌then◌else◌, IfSome, option_copied, vec_len, vec_capacity};
 ghost use Rattle.std.specs.Option.{option_to_list};
 ghost use Rattle.vt_syntax.specs.Event.{event_in, event_of};
 ghost use Rattle.vt_syntax.specs.Spelling.{IsEvent};
-ghost use Rattle.vt_syntax.specs.Held.{events_from, held_from};
+ghost use Rattle.vt_syntax.specs.Held.{events_from, held_from, IsHeldPart};
+ghost use Rattle.vt_syntax.specs.Content.{goes_on};
 ghost use Rattle.vt_trace.specs.Runs.{step_kind};
-ghost use Rattle.vt_trace.specs.Observed.{AreRead, skim};
+ghost use Rattle.vt_trace.specs.Observed.{AreRead, ArePassed, skim};
 ghost use Rattle.vt_trace.specs.Skipped.{kind_name, kind_column, first_column, skipped_line, is_empty};
 ghost use Rattle.vt_trace.specs.Trace.{is_nothing, is_string, cuts_off, ends_silent, code_after, text_end};
 ghost use Rattle.vt_trace.specs.Trace.{open_kind, ended_kind, open_lines, skipped};
@@ -147,9 +148,52 @@ pub(crate) fn skip_all(
 {
     one_split();
     let _ = parser.held();
-    for b in bytes.iter() {
-        skip(tracer, parser, *b, values, out);
+    let mut at = 0;
+    while at < bytes.len() {
+        skip(tracer, parser, bytes[at], values, out);
+        at += 1;
+        at += pass_content(tracer, parser.held(), &bytes[at..]);
     }
+}
+
+/// Adds the bytes at the front of a chunk that surely go on a string, if one is held. Returns how many they are.
+///
+/// Speed: nothing is written of them, so they are added at once.
+#[inline(always)]
+fn pass_content(tracer: &mut Tracer, held: &Held, bytes: &[u8]) -> usize
+    requires held_part { IsHeldPart held.now }
+    requires place { tracer.old.place + length bytes.now < 2 ^ 64 }
+    ensures within { result ≤ length bytes.now }
+    ensures passed { ArePassed held.now tracer.old tracer.new bytes.now (drop result bytes.now) }
+    ensures place { tracer.new.place ≡ tracer.old.place + result }
+{
+    if !is_string(held) {
+        return 0;
+    }
+    let count = content_len(bytes);
+    tracer.hold(&bytes[..count]);
+    count
+}
+
+/// Returns how many bytes at the front of a chunk surely go on a string.
+fn content_len(bytes: &[u8]) -> usize
+    ensures within { result ≤ length bytes.now }
+    ensures content { All (λ b. goes_on b ≡ true) (take result bytes.now) }
+{
+    let mut at = 0;
+    while at < bytes.len() && is_content(bytes[at]) {
+        at += 1;
+    }
+    at
+}
+
+/// Returns whether a byte surely goes on a string, of whatever kind.
+#[inline(always)]
+#[tactic(auto, using(std::proofs::lemmas::Bool::Decides::nat_tests))]
+fn is_content(b: u8) -> bool
+    ensures { result ≡ goes_on b }
+{
+    !((0x18 <= b && b < 0x1C) || (b == 0x9C || b == 0x07))
 }
 
 /// Reads a byte.

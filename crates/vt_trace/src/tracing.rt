@@ -77,6 +77,19 @@ impl Tracer {
         add_byte(&mut self.first, b);
     }
 
+    /// Adds bytes that go on a string.
+    pub(crate) fn hold(&mut self, bytes: &[u8])
+        requires { self.old.place + length bytes.now < 2 ^ 64 }
+        ensures few { length self.old.first.items ≤ 33 }
+        ensures tracer { self.new ≡ record self.old {
+          place = self.old.place + length bytes.now;
+          first = record { items = take 33 (self.old.first.items ++ bytes.now) };
+        } }
+    {
+        self.place += bytes.len() as u64;
+        add_bytes(&mut self.first, bytes);
+    }
+
     /// Goes on behind a byte that was added.
     #[inline(always)]
     pub(crate) fn step(&mut self, step: &Step)
@@ -106,6 +119,15 @@ fn add_byte(first: &mut First, b: u8)
     if !first.is_full() {
         first.push(b);
     }
+}
+
+/// Appends bytes, up to all that are kept.
+fn add_bytes(first: &mut First, bytes: &[u8])
+    ensures few { length first.old.items ≤ 33 }
+    ensures items { first.new.items ≡ take 33 (first.old.items ++ bytes.now) }
+{
+    let count = bytes.len().min(33 - first.len());
+    let _ = first.try_extend_from_slice(&bytes[..count]);
 }
 
 /// Returns whether a byte is the first of an item.

@@ -149,10 +149,10 @@ impl Output for TraceOutput {
 
     ghost counted = { λ o. o.tracer.place };
 
-    ghost reserve = { λ o. 107520 };
+    ghost reserve = { λ o. 430080 };
 
     fn capacity(&self) -> usize {
-        256 * TRACE_LIMIT
+        1024 * TRACE_LIMIT
     }
 
     fn feed(&mut self, chunk: &[u8], out: &mut Vec<u8>) -> usize {

@@ -116,7 +116,7 @@ def keep_running(made, language, words, settings):
         host.resume()
     except Exception:
         if link:  # the session was closed, or its name is another's
-            link.sendall(wire.packed(wire.STOP) + wire.packed(wire.DONE))
+            wire.end(link)
         raise
     if link:
         program = Program(host, link, state)

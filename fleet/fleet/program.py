@@ -22,6 +22,7 @@ log = logging.getLogger("fleet.host")
 
 HOLDER = os.path.join(os.path.dirname(os.path.abspath(__file__)), "holder.py")
 GATHER = 0.003  # seconds that a host waits for more of the same output
+ENDING = 10.0  # seconds that a host waits for the end of its program's holder, at most
 PR_SET_DUMPABLE = 4
 
 
@@ -52,6 +53,14 @@ def start_holder(path, name, incarnation, command, user=None, orphan=None, langu
         raise OSError(5, f"the program's holder doesn't start: {answer}")
 
 
+def received(link):
+    """Returns what comes over a connection to a holder, and nothing if the holder has ended."""
+    try:
+        return link.recv(1 << 17)
+    except OSError:
+        return b""
+
+
 def held(path, command):
     """Returns a connection to the holder of a session's program and what it says, or None and None if there is none. Raises Taken if
     it has a host, or runs another command."""
@@ -59,7 +68,7 @@ def held(path, command):
     if not link:
         return None, None
     reader, found = wire.Reader(), []
-    while not found and (data := link.recv(65536)):
+    while not found and (data := received(link)):
         found = list(reader.feed(data))
     if not found:  # it has just ended
         return None, None
@@ -93,23 +102,18 @@ class Program:
         host.is_program_over = lambda: self.is_ended
         self.is_ended, self.status = False, None
         host.adopt(state["base"], state["end"], state["last"])
-        threading.Thread(target=self.listen, daemon=True).start()
+        self.listener = threading.Thread(target=self.listen, daemon=True)
+        self.listener.start()
 
     def listen(self):
         """Takes in what the holder says."""
         for message in self.early:
             self.hear(*message)
-        while data := self.received():
+        while data := received(self.link):
             for message in self.reader.feed(data):
                 self.hear(*message)
         self.is_gone = True
         self.came.put(None)
-
-    def received(self):
-        try:
-            return self.link.recv(1 << 17)
-        except OSError:
-            return b""
 
     def hear(self, letter, number, data):
         if letter == wire.BYTES:
@@ -225,5 +229,6 @@ class Program:
         self.came.put(None)
 
     def done(self):
-        """Ends the holder, whose session's end is in the store."""
+        """Ends the holder, whose session's end is in the store. Waits for its end, since the next host of the name must not meet it."""
         self.say(wire.DONE)
+        self.listener.join(ENDING)

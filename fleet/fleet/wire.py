@@ -2,6 +2,7 @@
 
 A holder sends STATE first. A host that isn't refused then gets BYTES and, once all are sent, ENDED.
 """
+import contextlib
 import hashlib
 import os
 import socket
@@ -81,10 +82,16 @@ def connected(path):
         return None
 
 
+def end(holder, number=0):
+    """Has a holder hang up on its program, or with 1 kill it, and then end. A holder that has just ended needs no word."""
+    with contextlib.suppress(OSError):
+        holder.sendall(packed(STOP, number) + packed(DONE))
+
+
 def end_all(path):
     """Ends all holders in a directory, with their programs."""
     for each in os.listdir(path) if os.path.isdir(path) else ():
         holder = connected(os.path.join(path, each))
         if holder:
-            holder.sendall(packed(STOP, 1) + packed(DONE))
+            end(holder, 1)
             holder.close()

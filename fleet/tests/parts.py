@@ -17,7 +17,7 @@ from fleet.cli import on_end
 from fleet.host import Host, Taken
 from fleet.operate import Typist
 from fleet import wire
-from fleet.program import started
+from fleet.program import held, started
 from fleet.store import has_come, packed
 from fleet.view import Viewer
 
@@ -195,6 +195,7 @@ def a_program_gets_its_answers(url, _):
     check(until(lambda: store.exists(key(host.incarnation, "ended")), one), name, "it ends")
     runs.join()
     program.done()
+    check(not os.path.exists(wire.path_of(url, name)), name, "its holder has ended before its host")
     ended = store.hgetall(key(host.incarnation, "ended"))
     check(ended[b"status"] == b"3", name, "its status")
     check(" ".join(ended[b"text"].decode().split()) == "ab 033 [ 1 ; 3 R", name, "the answer")
@@ -207,6 +208,25 @@ def a_killed_program_has_a_shell_s_status(url, _):
     check(program.run() == 137, "killed", "137, as a shell has it")
     host.end(137)
     program.done()
+
+
+def a_holder_that_has_just_ended_is_no_fault(_url, _):
+    """It ends before it lets in who has connected. The connection is reset then."""
+    name, before = "just ended", wire.connected
+
+    def connected(_path):
+        with socket.socket(socket.AF_UNIX) as listener:
+            listener.bind(os.path.join(place, str(len(os.listdir(place)))))
+            listener.listen()
+            return before(listener.getsockname())
+
+    with tempfile.TemporaryDirectory() as place:
+        wire.connected = connected
+        try:
+            check(held(place, ["true"]) == (None, None), name, "a new host finds none")
+            check(not raises(OSError, wire.end_all, place), name, "and there is none to be ended")
+        finally:
+            wire.connected = before
 
 
 class Interrupted:
@@ -353,6 +373,7 @@ CASES = [
     viewers_join_late,
     a_program_gets_its_answers,
     a_killed_program_has_a_shell_s_status,
+    a_holder_that_has_just_ended_is_no_fault,
     a_signal_comes_in_the_midst_of_a_message,
     a_store_that_resets_a_connection_is_away,
 ]

@@ -1,5 +1,4 @@
 """Who may do what: the socket, passwords, TLS, users, the program's environment, and reports that are none."""
-import contextlib
 import os
 import random
 import re
@@ -27,6 +26,8 @@ from harness import (
 )
 from fleet.host import REPORT, REPORT_LIMIT
 from fleet.view import Viewer
+
+held = []  # sockets that hold ports as long as this process lives
 
 
 def fleet(url, *words, config=None, data=None):
@@ -135,12 +136,13 @@ def every_report_of_the_terminal_has_the_form(_, __):
 
 
 def free_port():
-    """Returns a port that nobody has. It is none of those that the kernel gives to connections, so it stays free."""
-    while True:
-        port = random.randrange(10000, 32768)
-        with socket.socket() as free, contextlib.suppress(OSError):
-            free.bind(("127.0.0.1", port))
-            return port
+    """Returns a port of this process alone. A socket that doesn't listen holds it, so the kernel gives it to nobody else. Whoever is told
+    its number can listen there, as all servers here allow addresses to be used again."""
+    one = socket.socket()
+    one.setsockopt(socket.SOL_SOCKET, socket.SO_REUSEADDR, 1)
+    one.bind(("127.0.0.1", 0))
+    held.append(one)
+    return one.getsockname()[1]
 
 
 def conf(machine, name, *lines):
@@ -250,7 +252,7 @@ def tls_is_spoken(machine, data):
     source.receive()
     check(source.reports() == played(source.sent)[1], name, "reports")
     check(fleet(url, "text", name)[1] == played(source.sent)[0].text(), name, "the command")
-    quick = conf(machine, "quick", "[store]", "give-up = 1")
+    quick = conf(machine, "quick", "[store]", "timeout = 60", "give-up = 1")
     status, _, said = fleet(f"rediss://:pw@127.0.0.1:{port}", "check-store", config=quick)
     check(status == 69 and "certificate" in said.lower(), name, f"a certificate that nobody vouches for is refused: {said[:200]}")
 

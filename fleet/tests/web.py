@@ -9,7 +9,7 @@ import subprocess
 import aiohttp
 
 from browser import Browser
-from harness import PATIENCE, Processes, Source, check, key, keys, local, stores, wait_for, wanted, with_machine
+from harness import PATIENCE, PATIENT, Processes, Source, check, key, keys, local, stores, wait_for, wanted, with_machine
 from operators import asked, metrics_at
 from safety import conf, free_port
 from stores_faults import program
@@ -460,7 +460,7 @@ def a_token_of_a_file_is_not_printed(machine, _):
     """What a service prints is in the journal."""
     name, token = "token file", "0123456789abcdef-of-a-file"
     file = conf(machine, "token", token)
-    served = Served(machine, config=conf(machine, "web.conf", "[web]", f"token-file = {file}"))
+    served = Served(machine, config=conf(machine, "web.conf", *PATIENT, "[web]", f"token-file = {file}"))
     check(token not in served.url and file in served.url, name, f"the file is named: {served.url}")
     base = f"http://127.0.0.1:{served.port}"
 

@@ -74,13 +74,16 @@ def lines(name):
     return text(name).splitlines()
 
 
-def row(name):
-    """What `list --tsv` tells of a session, by name, or None."""
+def rows():
+    """What `list --tsv` tells of the sessions, by their names."""
     titles = ("name", "state", "rows", "columns", "attached", "pid", "began", "ended", "status", "words")
-    for line in keep("list", "--tsv").stdout.splitlines():
-        if line.split("\t")[0] == name:
-            return dict(zip(titles, line.split("\t")))
-    return None
+    found = (dict(zip(titles, line.split("\t"))) for line in keep("list", "--tsv").stdout.splitlines())
+    return {it["name"]: it for it in found}
+
+
+def row(name):
+    """What `list --tsv` tells of a session, or None."""
+    return rows().get(name)
 
 
 def listed(name):

@@ -14,6 +14,7 @@ log = logging.getLogger("fleet.claims")
 HANDFUL = 16  # sessions that are taken at once, at least
 TRIES = 10  # workers that may die of a session before it is given up
 LOOKS = 2  # at a worker's count, besides the lease, until it counts as dead
+PAUSE = 3.0  # times the usual time from one beat of this worker to its next: after so long it was stopped, and isn't only slow
 COMPARE = 10.0  # seconds between comparisons of all sessions with the store
 SHOWN = re.compile(rb"[0-9]+ ([0-9]+) [0-9,]+")  # what a worker shows: a count, its lease in milliseconds, formats
 
@@ -31,7 +32,7 @@ class Claims:
         """Begins as a worker with a name that no other ever had."""
         self.me = f"{os.uname().nodename}-{os.getpid()}-{secrets.token_hex(4)}"
         self.others = {}  # worker -> (what it shows, since when, how often it was looked at since)
-        self.due = self.beaten = 0.0
+        self.due = self.beaten = self.gap = 0.0
         self.compared = time.monotonic()
         self.outages, self.cursor = self.store.outages, b"0"
         self.is_anything_waiting, self.handful = True, HANDFUL
@@ -47,9 +48,8 @@ class Claims:
         if answer[0] == "dead":
             return News(is_dead=True)
         # While this worker was stopped or the store was away, others could not show that they live.
-        if time.monotonic() - self.beaten > self.lease or self.store.outages != self.outages:
+        if self.was_stopped() or self.store.outages != self.outages:
             self.others, self.outages = {}, self.store.outages
-        self.beaten = time.monotonic()
         self.due = self.beaten + self.lease / 4
         _, draining, count, waiting, share, said, workers = answer
         self.format = keys.agreed(said, self.formats)
@@ -59,6 +59,13 @@ class Claims:
         is_to_be_compared = count != have or now - self.compared > COMPARE
         self.compared = now if is_to_be_compared else self.compared
         return News(True, False, bool(draining), is_to_be_compared, count - share)
+
+    def was_stopped(self):
+        """Notes a beat. Returns whether this worker was stopped before it, for a lease at least. One that is slow at each beat wasn't: it
+        would never find another one dead."""
+        before, self.beaten = self.beaten, time.monotonic()
+        usual, self.gap = self.gap, self.beaten - before if before else 0.0
+        return self.gap > max(self.lease, PAUSE * usual)
 
     def watch_over(self, counts):
         """Buries the workers whose count stood still for a lease of theirs. All of their sessions wait then, however many these are."""

@@ -92,6 +92,29 @@ def a_pause_forgets_what_was_seen(url, _):
         claims.time = real
 
 
+def a_slow_worker_finds_the_dead(url, _):
+    """Each of its beats comes later than its lease. Whoever is silent all the time is dead all the same, and one that beats isn't."""
+    name, clock = "slow", Clock()
+    real, claims.time = claims.time, clock
+    try:
+        one, source = claims.Claims(Source(url, "slow").store, 1.0), Source(url, "other")
+        for other in ("still", "lives"):
+            source.store.run("enter", other, *SHOWN)
+        buried = []
+        one.bury = lambda other, count: buried.append(other)
+        for _ in range(8):
+            clock.now += 1.5
+            source.store.run("beat", "lives")
+            one.beat(0)
+        check(set(buried) == {"still"}, name, f"it buries the silent one: {buried}")
+        buried.clear()
+        clock.now += 60.0
+        one.beat(0)
+        check(buried == [], name, "but nobody at once after a pause")
+    finally:
+        claims.time = real
+
+
 def each_byte_of_a_checkpoint_counts(url, _):
     """Every byte of the session is still on its screen at the end: one that is played twice, or left out, shows."""
     name, one = "each byte", worker(url, every=100)
@@ -119,5 +142,6 @@ CASES = [
     tell_keeps_what_it_is_to_keep,
     take_gives_up_after_so_many,
     a_pause_forgets_what_was_seen,
+    a_slow_worker_finds_the_dead,
     each_byte_of_a_checkpoint_counts,
 ]

@@ -174,13 +174,17 @@ def what_nobody_needs_is_removed(url, _):
     check(not store.keys(lives.part("typed*")), name, "or when the typist leaves")
 
 
-# A program that writes a file in parts of so many bytes. Each part ends with a question; what comes up to its answer is written down.
+# A program that writes a file in parts of so many bytes. Each part ends with a question; what comes up to its answer is written down. If it
+# has gates, it waits before each twentieth part until there is the file of the next one.
 ASKER = r"""
-import os, sys, tty
+import os, sys, time, tty
 tty.setraw(0)
-data, size = open(sys.argv[1], "rb").read(), int(sys.argv[3])
+data, size, gate = open(sys.argv[1], "rb").read(), int(sys.argv[3]), sys.argv[4]
 got = open(sys.argv[2], "ab", buffering=0)
 for at in range(0, len(data), size):
+    number, rest = divmod(at // size, 20)
+    while gate and rest == 0 and not os.path.exists(f"{gate}-{number}"):
+        time.sleep(0.01)
     part, came = data[at : at + size], b""
     while part:
         part = part[os.write(1, part):]
@@ -194,18 +198,23 @@ sys.exit(3)
 class Run:
     """A host with a program that writes bytes and writes down the reports. It may be killed, and started again."""
 
-    def __init__(self, machine, name, parts, *words):
-        self.machine, self.name, self.data, self.words = machine, name, b"".join(parts), words
+    def __init__(self, machine, name, parts, has_gates=False):
+        self.machine, self.name, self.data = machine, name, b"".join(parts)
         self.store = stores.connect(machine.url)
         self.file, self.got = os.path.join(machine.folder, f"{name}.data"), os.path.join(machine.folder, f"{name}.got")
         with open(self.file, "wb") as file:
             file.write(self.data)
         self.reports = wanted("reports", self.data)[1]
-        self.command = [sys.executable, "-c", ASKER, self.file, self.got, str(len(parts[0]))]
+        self.gate = os.path.join(machine.folder, f"{name}.gate") if has_gates else ""
+        self.command = [sys.executable, "-c", ASKER, self.file, self.got, str(len(parts[0])), self.gate]
         self.start()
 
     def start(self):
-        self.host = program(self.machine, self.name, self.command, *self.words)
+        self.host = program(self.machine, self.name, self.command)
+
+    def open_gate(self, number):
+        """Lets the program go on up to the gate after this one."""
+        open(f"{self.gate}-{number}", "w").close()
 
     def kill(self):
         self.host.kill()
@@ -247,16 +256,20 @@ def asking(data, times, size=100):
 
 @with_machine
 def a_program_outlives_its_host(machine, data):
-    """The host is killed again and again, at no moment in particular, and started again."""
-    name, workers = "outlives", Processes(machine, 1)
-    run, kills = Run(machine, name, asking(data * 20, 200)), 8
+    """The host is killed again and again, at no moment in particular, and started again. However late a kill comes, the program goes on
+    after it."""
+    name, workers, gates = "outlives", Processes(machine, 1), 10
+    run, kills = Run(machine, name, asking(data * 20, 20 * gates), has_gates=True), gates - 2
+    run.open_gate(0)
     wait_for(run.end, 0)
     first = run.incarnation()
-    for _ in range(kills):
+    for number in range(1, kills + 1):
         before = run.end()
+        run.open_gate(number)
         wait_for(lambda: run.end() > before, 0)
         run.kill()
         run.start()
+    run.open_gate(gates - 1)
     check(run.host.wait(PATIENCE) == 3, name, f"the last host has the program's status: {run.host.returncode}")
     check(run.incarnation() == first, name, f"it is one session over {kills + 1} hosts")
     run.hold()

@@ -69,7 +69,7 @@ keeper: $(OUT)/vt220-keep
 
 # The time of what the toolchain builds is that of the beginning. So a source that changes meanwhile is newer.
 $(PROGRAM) $(CHUNKS): $$(call sources,$$(notdir $$@))
-	@begun=$$(mktemp); trap 'rm -f "$$begun"' EXIT; tools/prove $(notdir $@) rt run -- --help </dev/null >&2; touch -r "$$begun" $@
+	@begun=$$(mktemp); trap 'rm -f "$$begun"' EXIT; tools/prove $(notdir $@) run -- --help; touch -r "$$begun" $@
 $(NATIVE): $$(call sources,vt220_c)
 	@begun=$$(mktemp); trap 'rm -f "$$begun"' EXIT; tools/archive $(filter-out vt220_c,$(call chain,vt220_c)); touch -r "$$begun" $@
 

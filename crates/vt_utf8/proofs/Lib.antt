@@ -8,6 +8,7 @@ pub mod Logged
 mod Themselves
 mod Written
 mod Lanes
+mod Widths
 mod Narrow
 mod Whole
 mod Wide

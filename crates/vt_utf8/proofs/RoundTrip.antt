@@ -14,7 +14,6 @@ use Rattle.std.proofs.lemmas.Str.{encode_ascii}
 use lib.Utf8.{low_scalar}
 use Rattle.bstr.specs.Utf8.{Decoded, decoded, good}
 use Rattle.bstr.proofs.lemmas.EncodeLemmas.{decoded-encode}
-use Rattle.unicode_width.proofs.Computing.{unicode_width}
 use Rattle.vt_syntax.specs.declared.held.Held.TheVariants.{Nothing}
 use Rattle.vt_syntax.specs.Held.{held_after}
 use Rattle.vt_syntax.specs.Reading.{events_of}
@@ -51,6 +50,7 @@ use Rattle.vt_utf8.proofs.Cuts.{characters-append, pending-append, translation-a
 use Rattle.vt_utf8.proofs.Cuts.{utf8-nothing, utf8-append, utf8-sound}
 use Rattle.vt_utf8.proofs.Themselves.{shown-itself}
 use Rattle.vt_utf8.proofs.Whole.{decoded-whole}
+use Rattle.vt_utf8.proofs.Widths.{looked_up, cells-looked_up}
 use Rattle.vt_utf8.proofs.Written.{none-is}
 use Rattle.vt_utf8.proofs.Wide.{silently, plays-glyph}
 
@@ -60,10 +60,10 @@ use Rattle.vt_utf8.proofs.Wide.{silently, plays-glyph}
 abbrev is_own : ℕ → Bool
 is_own n =
     nat_lt n 0xD800
-    && (if nat_lt n 0x80 then nat_le 0x20 n && nat_le n 0x7E else (nat_le 0xA0 n && (cells n == 1)))
+    && (if nat_lt n 0x80 then nat_le 0x20 n && nat_le n 0x7E else (nat_le 0xA0 n && (looked_up n == 1)))
 
 own : (n : ℕ) → IsGlyph n → is_own n ≡ true
-unfolding glyph_of unicode_width cells
+unfolding glyph_of looked_up
 own = glyph_passes is_own refl refl
 
 own-scalar : (n : ℕ) → is_own n ≡ true → n < 0xD800
@@ -73,7 +73,11 @@ own-ascii : (n : ℕ) → is_own n ≡ true → n < 0x80 → (0x20 ≤ n) × (n 
 own-ascii n h low = grind (arith, nat_tests)
 
 own-beyond : (n : ℕ) → is_own n ≡ true → 0x80 ≤ n → (0xA0 ≤ n) × (cells n ≡ 1)
-own-beyond n h beyond = grind (arith, nat_tests)
+own-beyond n h beyond =
+    let low : 0xA0 ≤ n = grind (arith, nat_tests) in
+    let one : looked_up n ≡ 1 = grind (arith, nat_tests) in
+    let scalar : n < 0x11_0000 = omega (arith, own-scalar n h) in
+    (low, cells-looked_up n low scalar ∙ one)
 
 -- ---- their UTF-8
 

@@ -440,6 +440,13 @@ module _ (places : PlaceLaws) (h : Grid) (row : ℕ) (ns : List ℕ) (like : Cel
 
 -- ---- rows after one another
 
+-- rows apart: `grind` is fast here, where no other fact is in sight
+is-before : (r row : ℕ) → (r == row) ≡ false → r ≤ row → r < row
+is-before r row other up_to = grind (arith, nat_tests)
+
+is-after : (r row : ℕ) → row + 1 ≤ r → (r == row) ≡ false
+is-after r row above = grind (arith, nat_tests)
+
 -- each place of a screen shows the glyph of the grid there
 record IsPlaced (g : Grid) (p : Played) : Type 0 where
   silent : p.reports ≡ []
@@ -551,9 +558,8 @@ module _ (spelled : SpellingLaw) (spelling : SpellingLaws) (places : PlaceLaws) 
       wide (omega arith) (omega (arith, end)) (λ r c above below left right.
       go r c above (omega (arith, below, last)) left right (r == row) refl (omega (arith, below)))
       (λ r c above below left right.
-      let other : (r == row) ≡ false = grind (arith, nat_tests) in
       run-other places s.display.grid row ns (cell_of space s.display.brush) r c (omega (arith, above)) below left
-      (omega (arith, right, wide)) other
+      (omega (arith, right, wide)) (is-after r row above)
       ∙ after r c (omega (arith, above)) below left right) in
       subst (λ (p : Played). IsPlaced g p) (sym whole)
       (record { silent = rest.silent; wide = rest.wide; glyphs = rest.glyphs })
@@ -570,10 +576,9 @@ module _ (spelled : SpellingLaw) (spelling : SpellingLaws) (places : PlaceLaws) 
           ∙ row-glyph rows g row c space left right
           ∙ ap (λ (k : ℕ). glyph_at g k c) (sym same)
       go r c above below left right false e up_to =
-          let apart : r < row = grind (arith, nat_tests) in
           run-other places s.display.grid row (trimmed (glyphs_of (row_of g row))) (cell_of space s.display.brush) r c above
           below left (omega (arith, right, wide)) e
-          ∙ before r c above apart left right
+          ∙ before r c above (is-before r row e up_to) left right
 
   -- ---- a screen
 

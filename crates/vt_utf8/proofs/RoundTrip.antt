@@ -5,7 +5,7 @@ use Rattle.std.proofs.Common.{◌==◌, ◌&&◌, nat_lt, nat_le, slice_index, i
 use Rattle.std.specs.List.{range_with_len, list_all}
 use Rattle.std.specs.Fmt.{digits}
 use Rattle.std.proofs.Math.Seq.{take-length}
-use Rattle.std.proofs.lemmas.Bool.{and_parts, eqb-true}
+use Rattle.std.proofs.lemmas.Bool.{and_parts, eqb-true, le-leb}
 use Rattle.std.proofs.lemmas.Bool.Decides.{nat_tests, eqb_tells, leb_tells}
 use Rattle.std.proofs.lemmas.Grind.{same_number_lists}
 use Rattle.std.proofs.lemmas.List.{length-map, get_or-map, get_or_default, get_or_past}
@@ -472,7 +472,7 @@ module _ (spelled : SpellingLaw) (spelling : SpellingLaws) (places : PlaceLaws) 
       let d = s.display in
       let a = translation s n in
       let t : State = record s { display = with_run (n ∷ []) d } in
-      let inside : nat_le (d.cursor.col + 1) (last_column d) ≡ true = grind (arith, nat_tests) in
+      let inside = le-leb (d.cursor.col + 1) (last_column d) (omega (arith, fits)) in
       let first : play s a ≡ silently s (with_run (n ∷ []) d) =
       writes-itself spelled spelling s n sound takes (All-head IsGlyph n (m ∷ rest) are)
       ∙ ap (λ (e : Display). silently s e) (run-one runs d n takes.replaces off sound.display.cursor.col_last) in

@@ -1,5 +1,5 @@
--- Cells by the table that the code of unicode_width reads. A proof computes them a thousand times faster than by Unicode's
--- properties.
+-- Cells by the table that the code of unicode_width reads. A proof computes them some hundred times faster than by the
+-- properties of Unicode.
 use Rattle.std.proofs.Common.{◌≡◌, ℕ, ◌<◌, ◌≤◌, true, false, sym, ap, arith, min, if◌then◌else◌}
 use Rattle.std.specs.Prelude.{◌==◌, nat_lt, nat_le}
 use Rattle.std.proofs.lemmas.Bool.Decides.{nat_tests}

@@ -1,5 +1,5 @@
 -- The command line: its command in clap's terms, and what its answers say. (this profile)
-use Rattle.std.specs.Prelude.{◌≡◌, ◌⊎◌, ℕ, ◌≤◌, ◌&&◌, List, [], ◌∷◌, ◌++◌, codes, Bool, Option, Some, None, true, false, not, is_some, string_bytes, map, Ok}
+use Rattle.std.specs.Prelude.{◌≡◌, ◌⊎◌, ℕ, ◌≤◌, ◌&&◌, List, [], ◌∷◌, ◌++◌, codes, Bool, Option, Some, None, true, false, not, is_some, string_bytes, map, Ok, fold}
 use Rattle.std.specs.Str.{bytes_eq}
 use Rattle.std.specs.Option.{option_map}
 use Rattle.std.specs.Str.Parse.{ParsesUnsigned}
@@ -16,6 +16,8 @@ use Rattle.vt_cli.specs.declared.what.What.{What}
 use Rattle.vt_cli.specs.declared.what.What.TheVariants as what
 use Rattle.vt_cli.specs.declared.what.Word.{Word}
 use Rattle.vt_cli.specs.declared.what.Word.TheVariants.{Replay, Log, Pages, Trace, Summary, Content}
+use Rattle.vt_cli.specs.declared.command_line.Takes.{Takes}
+use Rattle.vt_cli.specs.declared.command_line.Takes.TheVariants as takes
 use Rattle.vt_cli.specs.declared.asked.Settings.{Settings}
 use Rattle.vt_cli.specs.declared.asked.Refused.{Refused}
 
@@ -39,10 +41,6 @@ limit_option = number_option (codes "limit") 0 1099511627776 (codes "268435456")
 abbrev pub file_argument : Rule
 file_argument = record (new_rule (codes "file")) { value_names = 1 }
 
--- with the options that have a number
-abbrev pub with_numbers : App → App
-with_numbers a = with_rule (with_rule a piece_option) limit_option
-
 -- the name of the subcommand for one kind of output
 abbrev pub name_of : What → Text
 name_of what.Text = codes "text"
@@ -65,26 +63,22 @@ word_name Content = codes "content"
 abbrev pub text_option : Text → Rule
 text_option name = record (new_rule name) { long = Some name; value_names = 1 }
 
--- with the options for the format and the timing file
-abbrev pub with_format : App → App
-with_format a = with_rule (with_rule a (text_option (codes "format"))) (text_option (codes "timing"))
-
 -- an option without a value
 abbrev pub flag_option : Text → Rule
 flag_option name = record (new_rule name) { long = Some name; action = Some SetTrue }
 
--- with the options for the encoding and the terminal
-abbrev pub with_host : App → App
-with_host a = with_rule (with_rule a (text_option (codes "encoding"))) (text_option (codes "terminal"))
-
--- with the options of a recording
-abbrev pub with_source : App → App
-with_source a =
-    with_rule (with_host (with_rule (with_format a) (text_option (codes "until")))) (flag_option (codes "quiet"))
+-- the rule of an argument, by what it takes; private contracts alone speak of this
+abbrev pub rule_for : Text → Takes → Rule
+rule_for name takes.File = record (new_rule name) { value_names = 1 }
+rule_for name (takes.Number low high default) = number_option name low high default.now
+rule_for name (takes.Text value) = text_option name
+rule_for name takes.Nothing = flag_option name
 
 -- a subcommand: the options with a number, the file, and the options of a recording
 abbrev pub subcommand : Text → App
-subcommand name = with_source (with_rule (with_numbers (new_app name)) file_argument)
+subcommand name = fold (λ a rule. with_rule a rule) (new_app name) (piece_option ∷ limit_option ∷ file_argument
+    ∷ text_option (codes "format") ∷ text_option (codes "timing") ∷ text_option (codes "until")
+    ∷ text_option (codes "encoding") ∷ text_option (codes "terminal") ∷ flag_option (codes "quiet") ∷ [])
 
 abbrev pub with_name : App → Text → App
 with_name a name = with_subcommand a (subcommand name).top

@@ -2,11 +2,10 @@
 ghost use Rattle.std.specs.Prelude.{◌≡◌, ◌≢◌, ◌⊎◌, ℕ, [], IfOk, IfErr, IfSome, IfNone, Some, is_some, option_map, string_bytes};
 ghost use Rattle.std.specs.Prelude.{codes, false, fold};
 ghost use Rattle.clap.specs.Words.{FailsBy, app_of, first_of, first_value, found_of, kind_of, new_app, rows_of, rule_of};
-ghost use Rattle.clap.specs.Words.{subcommand_rows_of};
+ghost use Rattle.clap.specs.Words.{subcommand_rows_of, with_rule};
 ghost use Rattle.clap.specs.declared.builder.command.Command.TheViews.{out-Command};
 ghost use Rattle.vt_cli.specs.declared.what.What.{What};
-ghost use Rattle.vt_cli.specs.CommandLine.{number_option, piece_option, limit_option, file_argument, with_numbers};
-ghost use Rattle.vt_cli.specs.CommandLine.{text_option, flag_option, with_format, with_host, with_source, subcommand, with_name, as_program};
+ghost use Rattle.vt_cli.specs.CommandLine.{rule_for, subcommand, with_name, as_program};
 ghost use Rattle.vt_cli.specs.CommandLine.{vt220, faults_in, found_in, name_of, status_for, is_true, is_set, is_plain};
 ghost use Rattle.vt_cli.specs.CommandLine.{IsNumberOf, AreSettings, IsMemory, IsFault, IsStray, IsRefusal};
 ghost use Rattle.vt_cli.specs.CommandLine.{HasNoSettings};
@@ -87,6 +86,68 @@ const SUBCOMMANDS: [(&str, &str); 11] = [
     ("content", CONTENT),
 ];
 
+/// What an argument of a subcommand takes.
+#[derive(Clone, Copy)]
+enum Takes<'a> {
+    /// The file.
+    File,
+    /// A number from the first to the second, with a default.
+    Number(u64, u64, &'a str),
+    /// A text, by the name of its value.
+    Text(&'a str),
+    /// Nothing.
+    Nothing,
+}
+
+/// The arguments of each subcommand, each by its name, what it takes, and its help.
+const ARGUMENTS: [(&str, Takes, &str); 9] = [
+    (
+        "piece",
+        Takes::Number(1, PIECE_MOST, "4096"),
+        "The most bytes of one read, 1 to 65536",
+    ),
+    (
+        "limit",
+        Takes::Number(0, LIMIT_MOST, "268435456"),
+        "The most bytes of the input, 0 to 1099511627776",
+    ),
+    (
+        "file",
+        Takes::File,
+        "What the host sent; standard input if no file is named",
+    ),
+    (
+        "format",
+        Takes::Text("FORMAT"),
+        "How FILE was recorded: raw, script, ttyrec, asciicast or auto [default: raw]",
+    ),
+    (
+        "timing",
+        Takes::Text("FILE"),
+        "The times of a recording by script(1)",
+    ),
+    (
+        "until",
+        Takes::Text("MOMENT"),
+        "Only what came before: seconds, as 12.5 or 12:31, or bytes, as 4096b",
+    ),
+    (
+        "encoding",
+        Takes::Text("NAME"),
+        "How the host's bytes are read: dec or utf-8 [default: dec, for asciicast utf-8]",
+    ),
+    (
+        "terminal",
+        Takes::Text("NAME"),
+        "The terminal for which the host sends: vt220 or xterm [default: vt220]",
+    ),
+    (
+        "quiet",
+        Takes::Nothing,
+        "No notes on standard error; faults are printed all the same",
+    ),
+];
+
 /// The text below the help.
 const AFTER_HELP: &str = "\
 Each command but help takes FILE, or standard input if no file is named, and these options:
@@ -118,168 +179,47 @@ Exit status:
   6  the input is longer than the limit
   7  the recording breaks its format; what came before that was written";
 
-/// Returns an option with a number from `low` to `high`.
-fn number<'a>(
+/// Returns an argument of a subcommand.
+fn argument<'a>(alloc: Global, name: &'a str, takes: Takes<'a>, help: &'a str) -> Arg<'a>
+    ensures rule { rule_of result ≡ rule_for name.entry.now takes.entry }
+    ensures local { result.global ≡ false }
+{
+    let arg = Arg::new(alloc, name).help(help);
+    match takes {
+        Takes::File => arg.value_name("FILE"),
+        Takes::Number(low, high, default) => arg
+            .long(name)
+            .value_name("N")
+            .value_parser(ValueParser::unsigned(low, high))
+            .default_value(default),
+        Takes::Text(value) => arg.long(name).value_name(value),
+        Takes::Nothing => arg.long(name).action(ArgAction::SetTrue),
+    }
+}
+
+/// Adds arguments, each by its name, what it takes, and its help.
+fn with_arguments<'a>(
     alloc: Global,
-    name: &'a str,
-    low: u64,
-    high: u64,
-    default: &'a str,
-    help: &'a str,
-) -> Arg<'a>
-    ensures rule { rule_of result ≡ number_option name.entry.now low high default.entry.now }
-    ensures local { result.global ≡ false }
-{
-    Arg::new(alloc, name)
-        .long(name)
-        .value_name("N")
-        .value_parser(ValueParser::unsigned(low, high))
-        .default_value(default)
-        .help(help)
-}
-
-/// Returns the option for the greatest number of bytes of one read.
-fn piece_option<'a>(alloc: Global) -> Arg<'a>
-    ensures rule { rule_of result ≡ piece_option }
-    ensures local { result.global ≡ false }
-{
-    let help = "The most bytes of one read, 1 to 65536";
-    number(alloc, "piece", 1, PIECE_MOST, "4096", help)
-}
-
-/// Returns the option for the greatest number of bytes of the input.
-fn limit_option<'a>(alloc: Global) -> Arg<'a>
-    ensures rule { rule_of result ≡ limit_option }
-    ensures local { result.global ≡ false }
-{
-    let help = "The most bytes of the input, 0 to 1099511627776";
-    number(alloc, "limit", 0, LIMIT_MOST, "268435456", help)
-}
-
-/// Returns the argument for the file.
-fn file_argument<'a>(alloc: Global) -> Arg<'a>
-    ensures rule { rule_of result ≡ file_argument }
-    ensures local { result.global ≡ false }
-{
-    Arg::new(alloc, "file")
-        .value_name("FILE")
-        .help("What the host sent; standard input if no file is named")
-}
-
-/// Adds the options with a number.
-fn with_numbers<'a>(alloc: Global, command: Command<'a>) -> Result<Command<'a>, AllocError>
+    command: Command<'a>,
+    rows: &[(&'a str, Takes<'a>, &'a str)],
+) -> Result<Command<'a>, AllocError>
     requires { (out-Command command).has_globals ≡ false }
-    ensures app { IfOk result (λ c. app_of c ≡ with_numbers (app_of command.entry)) }
+    ensures app { IfOk result (λ c. app_of c ≡ fold (λ a row. with_rule a (rule_for row.0.now row.1)) (app_of command.entry) rows.now) }
     ensures local { IfOk result (λ c. (out-Command c).has_globals ≡ false) }
 {
-    let command = command.arg(piece_option(alloc))?;
-    command.arg(limit_option(alloc))
+    let mut command = command;
+    for (name, takes, help) in rows {
+        command = command.arg(argument(alloc, name, *takes, help))?;
+    }
+    Ok(command)
 }
 
-/// Returns an option with a text.
-fn text_option<'a>(alloc: Global, name: &'a str, value: &'a str, help: &'a str) -> Arg<'a>
-    ensures rule { rule_of result ≡ text_option name.entry.now }
-    ensures local { result.global ≡ false }
-{
-    Arg::new(alloc, name)
-        .long(name)
-        .value_name(value)
-        .help(help)
-}
-
-/// Returns the option for the format.
-fn format_option<'a>(alloc: Global) -> Arg<'a>
-    ensures rule { rule_of result ≡ text_option (codes "format") }
-    ensures local { result.global ≡ false }
-{
-    let help = "How FILE was recorded: raw, script, ttyrec, asciicast or auto [default: raw]";
-    text_option(alloc, "format", "FORMAT", help)
-}
-
-/// Returns the option for the timing file.
-fn timing_option<'a>(alloc: Global) -> Arg<'a>
-    ensures rule { rule_of result ≡ text_option (codes "timing") }
-    ensures local { result.global ≡ false }
-{
-    let help = "The times of a recording by script(1)";
-    text_option(alloc, "timing", "FILE", help)
-}
-
-/// Returns the option for the moment.
-fn until_option<'a>(alloc: Global) -> Arg<'a>
-    ensures rule { rule_of result ≡ text_option (codes "until") }
-    ensures local { result.global ≡ false }
-{
-    let help = "Only what came before: seconds, as 12.5 or 12:31, or bytes, as 4096b";
-    text_option(alloc, "until", "MOMENT", help)
-}
-
-/// Returns the option for the encoding.
-fn encoding_option<'a>(alloc: Global) -> Arg<'a>
-    ensures rule { rule_of result ≡ text_option (codes "encoding") }
-    ensures local { result.global ≡ false }
-{
-    let help = "How the host's bytes are read: dec or utf-8 [default: dec, for asciicast utf-8]";
-    text_option(alloc, "encoding", "NAME", help)
-}
-
-/// Returns the option for the terminal.
-fn terminal_option<'a>(alloc: Global) -> Arg<'a>
-    ensures rule { rule_of result ≡ text_option (codes "terminal") }
-    ensures local { result.global ≡ false }
-{
-    let help = "The terminal for which the host sends: vt220 or xterm [default: vt220]";
-    text_option(alloc, "terminal", "NAME", help)
-}
-
-/// Returns the option that leaves out the notes.
-fn quiet_option<'a>(alloc: Global) -> Arg<'a>
-    ensures rule { rule_of result ≡ flag_option (codes "quiet") }
-    ensures local { result.global ≡ false }
-{
-    Arg::new(alloc, "quiet")
-        .long("quiet")
-        .action(ArgAction::SetTrue)
-        .help("No notes on standard error; faults are printed all the same")
-}
-
-/// Adds the options for the format and the timing file.
-fn with_format<'a>(alloc: Global, command: Command<'a>) -> Result<Command<'a>, AllocError>
-    requires { (out-Command command).has_globals ≡ false }
-    ensures app { IfOk result (λ c. app_of c ≡ with_format (app_of command.entry)) }
-    ensures local { IfOk result (λ c. (out-Command c).has_globals ≡ false) }
-{
-    let command = command.arg(format_option(alloc))?;
-    command.arg(timing_option(alloc))
-}
-
-/// Adds the options for the encoding and the terminal.
-fn with_host<'a>(alloc: Global, command: Command<'a>) -> Result<Command<'a>, AllocError>
-    requires { (out-Command command).has_globals ≡ false }
-    ensures app { IfOk result (λ c. app_of c ≡ with_host (app_of command.entry)) }
-    ensures local { IfOk result (λ c. (out-Command c).has_globals ≡ false) }
-{
-    let command = command.arg(encoding_option(alloc))?;
-    command.arg(terminal_option(alloc))
-}
-
-/// Adds the options of a recording.
-fn with_source<'a>(alloc: Global, command: Command<'a>) -> Result<Command<'a>, AllocError>
-    requires { (out-Command command).has_globals ≡ false }
-    ensures app { IfOk result (λ c. app_of c ≡ with_source (app_of command.entry)) }
-    ensures local { IfOk result (λ c. (out-Command c).has_globals ≡ false) }
-{
-    let command = with_format(alloc, command)?.arg(until_option(alloc))?;
-    with_host(alloc, command)?.arg(quiet_option(alloc))
-}
-
-/// Returns a subcommand with its options and the file.
+/// Returns a subcommand with its arguments.
 fn subcommand<'a>(alloc: Global, name: &'a str, about: &'a str) -> Result<Command<'a>, AllocError>
     ensures app { IfOk result (λ c. app_of c ≡ subcommand name.entry.now) }
     ensures local { IfOk result (λ c. (out-Command c).has_globals ≡ false) }
 {
-    let command = with_numbers(alloc, Command::new(alloc, name).about(about))?;
-    with_source(alloc, command.arg(file_argument(alloc))?)
+    with_arguments(alloc, Command::new(alloc, name).about(about), &ARGUMENTS)
 }
 
 /// Adds the subcommand of this name.

@@ -1,0 +1,12 @@
+use Rattle.std.proofs.Common.{rules, ap, ◌∙◌}
+use Rattle.clap.specs.Words.{app_of, with_rule}
+use Rattle.vt_cli.proofs.Words.{row_added}
+use Rattle.vt_cli.proofs.command_line.with_arguments.Goals as goal
+
+pub loop-name-preserved : goal.loop-name-preserved
+loop-name-preserved c =
+    let there = c.loop-name-test.true in
+    let so_far = c.loop-name.invariant.added in
+    let is = c.in_ok-command.ensures.shape c.argument.ensures.local
+    ∙ ap (λ r. with_rule (app_of c.loop-name.command) r) c.argument.ensures.rule in
+    record { added = search (row_added, there, so_far, is); local = search rules }

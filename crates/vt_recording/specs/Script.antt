@@ -2,6 +2,7 @@
 use Rattle.std.specs.Prelude.{◌≡◌, ℕ, ◌+◌, ◌≤◌, ◌<◌, ◌&&◌, ◌||◌, List, [], ◌∷◌, length, take, drop, codes, Bool, true, false, cond}
 use Rattle.std.specs.Prelude.{Option, Some, None, nat_eq}
 use Rattle.std.specs.List.{starts_with, position}
+use Rattle.vt_recording.specs.declared.script.Session.{Session}
 
 -- so the first line begins
 abbrev pub first_words : List ℕ
@@ -61,3 +62,13 @@ IsAfter None bytes content broken = (content ≡ []) × (broken ≡ Some 0)
 
 abbrev pub IsOfScript : (bytes content : List ℕ) → (broken : Option ℕ) → Type 0
 IsOfScript bytes content broken = IsAfter (first_line bytes) bytes content broken
+
+-- s is the first session; private contracts alone speak of this
+pub record IsSession (bytes : List ℕ) (s : Session) : Type 0 where
+  pub line : ℕ
+  pub first : first_line bytes ≡ Some line
+  pub end : ℕ
+  pub ends : EndsAt (drop (line + 1) bytes) end
+  pub output : s.output.now ≡ take end (drop (line + 1) bytes)
+  pub stop : s.stop ≡ line + 1 + end
+  pub joint : s.joint ≡ cond (is_joint (drop end (drop (line + 1) bytes))) (Some s.stop) None

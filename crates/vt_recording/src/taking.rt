@@ -8,7 +8,7 @@ ghost use Rattle.vt_recording.specs.Moment.{cut};
 use crate::casting::asciicast_content;
 use crate::format::{Break, Encoding, Format, Moment, Part, Taken};
 use crate::moment::{cut, micros_of};
-use crate::script::{end_of, first_line, is_joint};
+use crate::script::session_in;
 use crate::timing::timed_content;
 use crate::ttyrec::{HEADER, header_of, is_due, time_of};
 use std::alloc::{AllocError, Global};
@@ -97,25 +97,16 @@ pub(crate) fn in_recording(at: Option<usize>) -> Option<Break>
 fn script_content(alloc: Global, bytes: &[u8]) -> Result<Whole, AllocError>
     ensures { IfOk result (λ t. IsOfScript bytes.now t.content.items t.broken) }
 {
-    match first_line(bytes) {
-        Some(line) => {
-            let body = &bytes[line + 1..];
-            let end = end_of(body);
-            let broken = if is_joint(&body[end..]) {
-                Some(line + 1 + end)
-            } else {
-                None
-            };
-            Ok(Whole {
-                content: Vec::from_slice(alloc, &body[..end])?,
-                broken,
-            })
-        }
-        None => Ok(Whole {
+    let Some(session) = session_in(bytes) else {
+        return Ok(Whole {
             content: Vec::new(alloc),
             broken: Some(0),
-        }),
-    }
+        });
+    };
+    Ok(Whole {
+        content: Vec::from_slice(alloc, session.output)?,
+        broken: session.joint,
+    })
 }
 
 /// Returns the content of the frames up to `until`.

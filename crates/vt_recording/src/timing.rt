@@ -5,7 +5,7 @@ ghost use Rattle.vt_recording.specs.Script.{first_line};
 ghost use Rattle.vt_recording.specs.Lines.{lines_of};
 ghost use Rattle.vt_recording.specs.Moment.{micros_of};
 ghost use Rattle.vt_recording.specs.Timing.{space_in, chunk_in, note_in, input_in, step_in, break_in, spot_after, played_in};
-ghost use Rattle.vt_recording.specs.Timing.{is_empty, value_in, value_of, is_apart, replay, joint_at, first_break};
+ghost use Rattle.vt_recording.specs.Timing.{is_empty, value_in, value_of, is_apart, replay, first_break};
 ghost use Rattle.vt_recording.specs.Timing.{IsTimedAfter};
 ghost use Rattle.vt_recording.specs.Steps.{step_view, spot_of};
 
@@ -13,8 +13,9 @@ use crate::asciicast::in_time;
 use crate::format::{Break, Moment, Part, Taken};
 use crate::lines::front_line;
 use crate::moment::{cut, micros_of};
-use crate::script::{end_of, first_line, is_joint};
+use crate::script::session_in;
 use crate::seconds::{micros, number};
+use crate::taking::in_recording;
 use std::alloc::{AllocError, Global};
 
 /// A line of a timing file.
@@ -219,21 +220,6 @@ fn play_lines(
     Ok((replay.content, None))
 }
 
-/// Returns the place of a session that `script -a` appended after `end`.
-fn joint_at(body: &[u8], end: usize, stop: u64) -> Option<Break>
-    requires { end ≤ length body.now }
-    ensures { result ≡ joint_at body.now end stop }
-{
-    if is_joint(&body[end..]) {
-        Some(Break {
-            part: Part::Recording,
-            at: stop,
-        })
-    } else {
-        None
-    }
-}
-
 /// Returns the first of two breaks.
 fn first_break(first: Option<Break>, second: Option<Break>) -> Option<Break>
     ensures { result ≡ first_break first second }
@@ -254,24 +240,20 @@ pub(crate) fn timed_content(
     ensures taken { IfOk result (λ t. IsTimedAfter (first_line bytes.now) until bytes.now timing.now t.content.items t.broken) }
     ensures replaced { IfOk result (λ t. t.replaced ≡ 0) }
 {
-    let Some(line) = first_line(bytes) else {
+    let Some(session) = session_in(bytes) else {
         return Ok(Taken {
             content: Vec::new(alloc),
-            broken: Some(Break {
-                part: Part::Recording,
-                at: 0,
-            }),
+            broken: in_recording(Some(0)),
             replaced: 0,
         });
     };
-    let body = &bytes[line + 1..];
-    let end = end_of(body);
-    let stop = (line + 1 + end) as u64;
-    let content = Vec::with_capacity(alloc, end)?;
-    let (content, broken) = play_lines(timing, &body[..end], micros_of(until), stop, content)?;
+    let output = session.output;
+    let content = Vec::with_capacity(alloc, output.len())?;
+    let stop = session.stop as u64;
+    let (content, broken) = play_lines(timing, output, micros_of(until), stop, content)?;
     Ok(Taken {
         content: cut(until, content),
-        broken: first_break(broken, joint_at(body, end, stop)),
+        broken: first_break(broken, in_recording(session.joint)),
         replaced: 0,
     })
 }

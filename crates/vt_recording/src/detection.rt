@@ -1,10 +1,10 @@
 //! The format that the beginning of a file shows.
-ghost use Rattle.std.specs.Prelude.{◌≡◌, option_map};
+ghost use Rattle.std.specs.Prelude.{◌≡◌, ◌≤◌, length, option_map, true};
 ghost use Rattle.vt_recording.specs.Detection.{trimmed, after, is_version, begins_version, has_version};
-ghost use Rattle.vt_recording.specs.Detection.{without_mark, is_asciicast, is_header, is_ttyrec, is_bzip2, detected};
+ghost use Rattle.vt_recording.specs.Detection.{without_mark, is_asciicast, is_header, goes_on, is_ttyrec, is_bzip2, detected};
 
 use crate::format::Format;
-use crate::lines::front_line;
+use crate::lines::{behind, front_line, stripped};
 use crate::script::FIRST_WORDS;
 use crate::ttyrec::{HEADER, number_at, time_of};
 
@@ -50,11 +50,7 @@ fn trimmed(text: &[u8]) -> &[u8]
 fn after<'a>(token: &[u8], text: &'a [u8]) -> Option<&'a [u8]>
     ensures { option_map (λ s. s.now) result ≡ after token.now text.entry.now }
 {
-    if text.starts_with(token) {
-        Some(trimmed(&text[token.len()..]))
-    } else {
-        None
-    }
+    Some(trimmed(stripped(token, text)?))
 }
 
 /// Returns whether a value is there, a number that begins with 1, 2 or 3.
@@ -118,11 +114,20 @@ fn is_asciicast(bytes: &[u8]) -> bool
 
 /// Returns whether the bytes begin with a possible header of a ttyrec's frame.
 fn is_header(bytes: &[u8]) -> bool
-    ensures { result ≡ is_header bytes.now }
+    ensures value { result ≡ is_header bytes.now }
+    ensures whole { result ≡ true → 12 ≤ length bytes.now }
 {
     HEADER <= bytes.len()
         && number_at(4, bytes) < 1_000_000
         && number_at(8, bytes) <= LONGEST_FRAME as u64
+}
+
+/// Returns whether a frame's bytes go on with another one, or end before its header does.
+fn goes_on(bytes: &[u8], rest: &[u8]) -> bool
+    requires { 12 ≤ length bytes.now }
+    ensures { result ≡ goes_on bytes.now rest.now }
+{
+    rest.len() < HEADER || (is_header(rest) && time_of(bytes) <= time_of(rest))
 }
 
 /// Returns whether the bytes begin with a frame of a ttyrec, and go on with another one if they don't end before that.
@@ -133,15 +138,14 @@ fn is_ttyrec(bytes: &[u8]) -> bool
         return false;
     }
     let size = number_at(8, bytes) as usize;
-    let rest = &bytes[bytes.len().min(HEADER + size)..];
-    1 <= size && (rest.len() < HEADER || (is_header(rest) && time_of(bytes) <= time_of(rest)))
+    1 <= size && goes_on(bytes, behind(HEADER + size, bytes))
 }
 
 /// Returns whether the bytes begin a file by bzip2.
 fn is_bzip2(bytes: &[u8]) -> bool
     ensures { result ≡ is_bzip2 bytes.now }
 {
-    bytes.starts_with(b"BZh") && bytes[bytes.len().min(4)..].starts_with(b"1AY&SY")
+    bytes.starts_with(b"BZh") && behind(4, bytes).starts_with(b"1AY&SY")
 }
 
 /// Returns the format that the first bytes of a file show, however many they are. Bytes that show no other format are raw.

@@ -11,7 +11,7 @@ ghost use Rattle.vt_recording.specs.Steps.{step_view, spot_of};
 
 use crate::asciicast::in_time;
 use crate::format::{Break, Moment, Part, Taken};
-use crate::lines::front_line;
+use crate::lines::{behind, front_line, stripped};
 use crate::moment::{cut, micros_of};
 use crate::script::session_in;
 use crate::seconds::{micros, number};
@@ -79,14 +79,18 @@ fn input_in(is_apart: bool, text: &[u8]) -> Option<Step>
 fn step_in(is_apart: bool, line: &[u8]) -> Option<Step>
     ensures { option_map step_view result ≡ step_in is_apart line.now }
 {
-    if line.starts_with(b"O ") {
-        chunk_in(true, &line[2..])
-    } else if line.starts_with(b"I ") {
-        input_in(is_apart, &line[2..])
-    } else if line.starts_with(b"S ") || line.starts_with(b"H ") {
-        note_in(&line[2..])
-    } else {
-        chunk_in(true, line)
+    if let Some(text) = stripped(b"O ", line) {
+        return chunk_in(true, text);
+    }
+    if let Some(text) = stripped(b"I ", line) {
+        return input_in(is_apart, text);
+    }
+    if let Some(text) = stripped(b"S ", line) {
+        return note_in(text);
+    }
+    match stripped(b"H ", line) {
+        Some(text) => note_in(text),
+        None => chunk_in(true, line),
     }
 }
 
@@ -94,16 +98,8 @@ fn step_in(is_apart: bool, line: &[u8]) -> Option<Step>
 fn value_in<'a>(name: &[u8], line: &'a [u8]) -> Option<&'a [u8]>
     ensures { option_map (λ s. s.now) result ≡ value_in name.now line.now }
 {
-    if !line.starts_with(b"H ") {
-        return None;
-    }
-    let text = &line[2..];
-    let fact = &text[space_in(text)? + 1..];
-    if fact.starts_with(name) {
-        Some(&fact[name.len()..])
-    } else {
-        None
-    }
+    let text = stripped(b"H ", line)?;
+    stripped(name, behind(space_in(text)? + 1, text))
 }
 
 /// Returns the value of a fact in the first line that has it. The name ends with a space.

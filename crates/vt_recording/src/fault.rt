@@ -48,11 +48,11 @@ impl fmt::Display for Fault {
 
     fn fmt<W: fmt::Write>(&self, f: &mut fmt::Formatter<W>) -> fmt::Result {
         match self {
-            Fault::Memory => write!(f, "vt220: out of memory"),
-            Fault::Partial => write!(f, "vt220: input ends inside a sequence"),
-            Fault::Read => write!(f, "vt220: read failed"),
-            Fault::Write => write!(f, "vt220: write failed"),
-            Fault::TooLong => write!(f, "vt220: input is longer than the limit"),
+            Fault::Memory => f.write_str("vt220: out of memory"),
+            Fault::Partial => f.write_str("vt220: input ends inside a sequence"),
+            Fault::Read => f.write_str("vt220: read failed"),
+            Fault::Write => f.write_str("vt220: write failed"),
+            Fault::TooLong => f.write_str("vt220: input is longer than the limit"),
             Fault::Broken(place) => match place.part {
                 Part::Recording => {
                     write!(f, "vt220: the recording is broken at byte {}", place.at)
@@ -61,10 +61,9 @@ impl fmt::Display for Fault {
                     write!(f, "vt220: the timing file is broken at byte {}", place.at)
                 }
             },
-            Fault::NoTimes => write!(
-                f,
-                "vt220: the input has no times; give --until in bytes, as 4096b"
-            ),
+            Fault::NoTimes => {
+                f.write_str("vt220: the input has no times; give --until in bytes, as 4096b")
+            }
         }
     }
 }

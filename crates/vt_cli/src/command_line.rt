@@ -197,17 +197,17 @@ fn argument<'a>(alloc: Global, name: &'a str, takes: Takes<'a>, help: &'a str) -
     }
 }
 
-/// Adds arguments, each by its name, what it takes, and its help.
+/// Returns a subcommand with arguments, each by its name, what it takes, and its help.
 fn with_arguments<'a>(
     alloc: Global,
-    command: Command<'a>,
+    name: &'a str,
+    about: &'a str,
     rows: &[(&'a str, Takes<'a>, &'a str)],
 ) -> Result<Command<'a>, AllocError>
-    requires { (out-Command command).has_globals ≡ false }
-    ensures app { IfOk result (λ c. app_of c ≡ fold (λ a row. with_rule a (rule_for row.0.now row.1)) (app_of command.entry) rows.now) }
+    ensures app { IfOk result (λ c. app_of c ≡ fold (λ a row. with_rule a (rule_for row.0.now row.1)) (new_app name.entry.now) rows.now) }
     ensures local { IfOk result (λ c. (out-Command c).has_globals ≡ false) }
 {
-    let mut command = command;
+    let mut command = Command::new(alloc, name).about(about);
     for (name, takes, help) in rows {
         command = command.arg(argument(alloc, name, *takes, help))?;
     }
@@ -219,19 +219,7 @@ fn subcommand<'a>(alloc: Global, name: &'a str, about: &'a str) -> Result<Comman
     ensures app { IfOk result (λ c. app_of c ≡ subcommand name.entry.now) }
     ensures local { IfOk result (λ c. (out-Command c).has_globals ≡ false) }
 {
-    with_arguments(alloc, Command::new(alloc, name).about(about), &ARGUMENTS)
-}
-
-/// Adds the subcommand of this name.
-fn with_name<'a>(
-    alloc: Global,
-    command: Command<'a>,
-    name: &'a str,
-    about: &'a str,
-) -> Result<Command<'a>, AllocError>
-    ensures { IfOk result (λ c. app_of c ≡ with_name (app_of command.entry) name.entry.now) }
-{
-    command.subcommand(subcommand(alloc, name, about)?)
+    with_arguments(alloc, name, about, &ARGUMENTS)
 }
 
 /// Adds subcommands, each by its name and what it is for.
@@ -244,7 +232,7 @@ fn with_names<'a>(
 {
     let mut command = command;
     for (name, about) in rows {
-        command = with_name(alloc, command, name, about)?;
+        command = command.subcommand(subcommand(alloc, name, about)?)?;
     }
     Ok(command)
 }

@@ -11,7 +11,7 @@ use clap::ArgMatches;
 use vt_recording::{Encoding, Format, Moment};
 
 /// How the input was recorded, the moment up to which it is wanted, the encoding, and the terminal.
-#[derive(Clone, Copy, Debug, PartialEq, Eq)]
+#[derive(Clone, Copy)]
 pub(crate) struct Source {
     /// The format, or none if the beginning of the input decides.
     pub(crate) format: Option<Format>,
@@ -24,7 +24,7 @@ pub(crate) struct Source {
 }
 
 /// Why the options of a recording are refused.
-#[derive(Clone, Copy, Debug, PartialEq, Eq)]
+#[derive(Clone, Copy)]
 pub(crate) enum Complaint {
     /// `--format` names no format.
     NoFormat,

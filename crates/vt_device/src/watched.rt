@@ -9,7 +9,7 @@ use std::io::{Read, Write};
 use std::marker::Model;
 
 /// A reader or writer, two flags (whether it failed, and whether it reached its end), and the last error that it returned.
-#[derive(Debug, Drop)]
+#[derive(Drop)]
 pub struct Watched<D> {
     device: D,
     failed: bool,

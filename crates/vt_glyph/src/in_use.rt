@@ -7,7 +7,7 @@ use std::marker::Model;
 /// manual, chapter 4)
 ///
 /// It refers to one chart of both halves, so that a byte of a run is read by one look-up.
-#[derive(Debug, Drop)]
+#[derive(Drop)]
 pub struct InUse {
     left: Set,
     right: Set,

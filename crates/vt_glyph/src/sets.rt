@@ -8,7 +8,7 @@ use std::marker::Model;
 
 /// The sets designated as G0 to G3, those in GL and GR, and a pending single shift. A slot is the number of one of G0
 /// to G3. (VT220 manual, chapter 4; ECMA-35)
-#[derive(Clone, Copy, Debug)]
+#[derive(Clone, Copy)]
 pub struct Sets {
     g: [Set; 4],
     left: u8,

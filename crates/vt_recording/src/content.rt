@@ -10,7 +10,7 @@ use std::marker::Model;
 use vt_device::Source;
 
 /// A source of the content of a recording, whose `remaining` bytes are those not read yet. It never fails.
-#[derive(Debug, Drop)]
+#[derive(Drop)]
 pub struct Content {
     bytes: Vec<u8>,
     at: usize,

@@ -19,7 +19,7 @@ use crate::taking::in_recording;
 use std::alloc::{AllocError, Global};
 
 /// A line of a timing file.
-#[derive(Clone, Copy, Debug, PartialEq, Eq)]
+#[derive(Clone, Copy)]
 struct Step {
     /// The microseconds since the line before.
     micros: u64,

@@ -6,7 +6,7 @@ ghost use Rattle.vt_recording.specs.Ttyrec.{number_at, time_of, size_of, is_due,
 pub(crate) const HEADER: usize = 12;
 
 /// The contents of a header.
-#[derive(Clone, Copy, Debug, PartialEq, Eq)]
+#[derive(Clone, Copy)]
 pub(crate) struct Header {
     /// The time of the frame, in microseconds.
     pub(crate) time: u64,

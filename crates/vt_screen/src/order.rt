@@ -13,7 +13,7 @@ pub const ROWS: usize = 24;
 pub const COLUMNS: usize = 132;
 
 /// The index at which the cells of each row of the screen begin. Scrolling moves these starts, and no cell.
-#[derive(Debug, Drop)]
+#[derive(Drop)]
 pub struct RowOrder {
     rows: [u16; ROWS],
 }

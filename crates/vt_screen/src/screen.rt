@@ -21,7 +21,7 @@ const NARROW: usize = 80;
 /// A grid of 24 rows of 80 or 132 cells, initially blank. (VT220 manual, chapter 4: DECCOLM sets the width)
 ///
 /// Rows count from 1 to 24, and columns from 1 to the width. Only `new` allocates, and only `new` can fail.
-#[derive(Debug, Drop)]
+#[derive(Drop)]
 pub struct Screen {
     cells: Vec<Cell>,
     order: RowOrder,

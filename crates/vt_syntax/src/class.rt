@@ -3,7 +3,7 @@ ghost use Rattle.std.specs.Prelude.{◌≡◌};
 ghost use Rattle.vt_syntax.specs.Class.{class_of as byte_class};
 
 /// The class of a byte inside an escape or control sequence (ECMA-48 5.4, ECMA-35 13; this profile).
-#[derive(Clone, Copy, Debug, PartialEq, Eq)]
+#[derive(Clone, Copy)]
 pub enum Class {
     /// 00..17, 19 and 1C..1F, which are carried out at once, and 7F, which does nothing. The sequence goes on.
     Quiet,

@@ -2,7 +2,7 @@
 use arrayvec::ArrayVec;
 
 /// One thing that bytes ask for: a graphic byte, a control, or an escape or control sequence.
-#[derive(Clone, Debug, PartialEq, Eq, Drop)]
+#[derive(Debug, PartialEq, Eq, Drop)]
 pub enum Event {
     /// A graphic byte, 20..7E or A0..FF.
     Print(u8),

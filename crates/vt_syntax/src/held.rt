@@ -5,7 +5,7 @@ ghost use Rattle.vt_syntax.specs.Held.{phase_inter};
 use arrayvec::ArrayVec;
 
 /// The held part: the parts of an unfinished sequence or string that decide how it goes on.
-#[derive(Clone, Debug, PartialEq, Eq, Drop)]
+#[derive(Debug, PartialEq, Eq, Drop)]
 pub enum Held {
     /// Nothing is held: the parser is between sequences.
     Nothing,

@@ -15,7 +15,7 @@ use arrayvec::ArrayVec;
 use std::marker::Model;
 
 /// A parser. It keeps the held part: what decides how an unfinished sequence goes on.
-#[derive(Clone, Debug, PartialEq, Eq, Drop)]
+#[derive(Drop)]
 pub struct Parser {
     held: Held,
 }

@@ -15,7 +15,7 @@ use vt_screen::{COLUMNS, Cell, Screen};
 pub const STOPS: usize = COLUMNS;
 
 /// A terminal without its parser.
-#[derive(Debug, Drop)]
+#[derive(Drop)]
 pub(crate) struct Display {
     pub(crate) screen: Screen,
     pub(crate) cursor: Cursor,

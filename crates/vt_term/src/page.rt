@@ -13,7 +13,7 @@ use vt_screen::{COLUMNS, Screen};
 use vt_syntax::Parser;
 
 /// A page: the cells of a screen, and the state that DECSC saved on it. `new` allocates its memory, and nothing else does.
-#[derive(Debug, Drop)]
+#[derive(Drop)]
 pub struct Page {
     screen: Screen,
     saved: Saved,

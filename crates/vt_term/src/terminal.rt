@@ -25,7 +25,7 @@ const _: () = prove!(TEXT_LIMIT == 9528);
 pub const REPORT_LIMIT: usize = 10;
 
 /// A terminal. `new` allocates its memory. After that, only calls that reserve capacity in `out` allocate.
-#[derive(Debug, Drop)]
+#[derive(Drop)]
 pub struct Terminal {
     pub(crate) display: Display,
     pub(crate) parser: Parser,

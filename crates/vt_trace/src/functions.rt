@@ -5,7 +5,7 @@ ghost use Rattle.vt_trace.specs.Names.{names, numbered, word_of};
 use vt_glyph::Set;
 
 /// A graphic character, a control, or an escape sequence other than SCS, by its mnemonic.
-#[derive(Clone, Copy, Debug, PartialEq, Eq)]
+#[derive(Clone, Copy)]
 pub(crate) enum Basic {
     /// A graphic character.
     Text,
@@ -70,7 +70,7 @@ pub(crate) enum Basic {
 }
 
 /// A control sequence, by its mnemonic.
-#[derive(Clone, Copy, Debug, PartialEq, Eq)]
+#[derive(Clone, Copy)]
 pub(crate) enum Sequence {
     /// Insert character.
     ICH,
@@ -125,7 +125,7 @@ pub(crate) enum Sequence {
 }
 
 /// What a set is designated to.
-#[derive(Clone, Copy, Debug, PartialEq, Eq)]
+#[derive(Clone, Copy)]
 pub(crate) enum Slot {
     G0,
     G1,
@@ -134,7 +134,7 @@ pub(crate) enum Slot {
 }
 
 /// What a trace has a name for: a control function, or a graphic character.
-#[derive(Clone, Copy, Debug, PartialEq, Eq)]
+#[derive(Clone, Copy)]
 pub(crate) enum ControlFunction {
     Basic(Basic),
     /// SCS: designates a set to a slot.

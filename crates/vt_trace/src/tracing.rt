@@ -22,7 +22,7 @@ use vt_term::Terminal;
 use vt_term::laws::cuts as play_cuts;
 
 /// Where a trace is between two bytes.
-#[derive(Clone, Debug, PartialEq, Eq, Drop)]
+#[derive(Drop)]
 pub struct Tracer {
     /// How many bytes came before.
     pub place: u64,

@@ -10,7 +10,7 @@ use bstr::decode_utf8 as decode;
 use std::marker::Model;
 
 /// The pending part of UTF-8: the bytes, at most three, of a character that isn't complete yet.
-#[derive(Debug, Drop)]
+#[derive(Drop)]
 pub struct Decoder {
     pending: ArrayVec<u8, 4>,
 }

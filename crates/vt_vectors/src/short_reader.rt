@@ -9,7 +9,7 @@ use std::io::{ErrorKind, Read};
 use std::marker::Model;
 
 /// A reader over bytes. It returns at most a given number of bytes a call, and an error at one call.
-#[derive(Debug, Drop)]
+#[derive(Drop)]
 pub struct ShortReader<'a> {
     bytes: &'a [u8],
     most: usize,

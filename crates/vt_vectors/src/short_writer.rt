@@ -10,7 +10,7 @@ use std::io::{ErrorKind, Write};
 use std::marker::Model;
 
 /// A writer into memory. It writes at most a given number of bytes a call and in all, and returns an error at one call.
-#[derive(Debug, Drop)]
+#[derive(Drop)]
 pub struct ShortWriter {
     into: Vec<u8>,
     room: usize,

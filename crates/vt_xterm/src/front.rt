@@ -11,7 +11,7 @@ use vt_term::{Page, Terminal};
 use vt_utf8::Decoder;
 
 /// The page that isn't shown, and which page is.
-#[derive(Debug, Drop)]
+#[derive(Drop)]
 pub(crate) struct Pages {
     /// The page that isn't shown.
     pub(crate) other: Page,
@@ -59,7 +59,7 @@ impl Pages {
 
 /// What a front keeps beside its terminal: what is pending of UTF-8, the page that isn't shown, and two modes. `new` allocates
 /// its memory, and nothing else does.
-#[derive(Debug, Drop)]
+#[derive(Drop)]
 pub struct Front {
     pub(crate) decoder: Decoder,
     pub(crate) pages: Pages,

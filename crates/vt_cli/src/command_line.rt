@@ -440,19 +440,17 @@ pub fn settings(alloc: Global, words: Vec<String>) -> Result<Settings, Refused>
     ensures no_fault { IfOk result (λ _. faults_in words.items ≡ []) }
     ensures err { IfErr result (IsRefusal (faults_in words.items) (found_in words.items)) }
 {
-    settings_in(alloc, words.as_slice())
+    match matches_of(alloc, words.as_slice()) {
+        Ok(matches) => settings_among(alloc, &matches),
+        Err(error) => Err(refusal_of(alloc, error)),
+    }
 }
 
-/// Returns the settings that borrowed arguments ask for, as `settings` does.
-fn settings_in(alloc: Global, words: &[String]) -> Result<Settings, Refused>
-    ensures ok { IfOk result (AreSettings (found_in words.now)) }
-    ensures no_fault { IfOk result (λ _. faults_in words.now ≡ []) }
-    ensures err { IfErr result (IsRefusal (faults_in words.now) (found_in words.now)) }
+/// Returns the settings that the subcommand among matches asks for.
+fn settings_among(alloc: Global, matches: &ArgMatches<'_>) -> Result<Settings, Refused>
+    ensures ok { IfOk result (AreSettings (subcommand_rows_of matches.now)) }
+    ensures err { IfErr result (IsRefusal [] (subcommand_rows_of matches.now)) }
 {
-    let matches = match matches_of(alloc, words) {
-        Ok(matches) => matches,
-        Err(error) => return Err(refusal_of(alloc, error)),
-    };
     let Some((name, inner)) = matches.subcommand() else {
         return Err(refusal(alloc, 2, BAD_COMMAND_LINE));
     };

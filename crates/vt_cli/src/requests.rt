@@ -1,10 +1,10 @@
 //! What the arguments ask for: a word, its input, and how that was recorded.
-ghost use Rattle.std.specs.Prelude.{◌≡◌, ◌≢◌, IfOk, IfErr, IfSome, IfNone, Some, Ok};
-ghost use Rattle.clap.specs.Words.{found_of, rows_of};
+ghost use Rattle.std.specs.Prelude.{◌≡◌, ◌≢◌, [], IfOk, IfErr, IfSome, IfNone, Some, Ok};
+ghost use Rattle.clap.specs.Words.{found_of, rows_of, subcommand_rows_of};
 ghost use Rattle.vt_cli.specs.declared.what.Word.{Word};
 ghost use Rattle.vt_cli.specs.CommandLine.{word_name};
 ghost use Rattle.vt_cli.specs.Source.{source_in};
-ghost use Rattle.vt_cli.specs.Request.{IsFound, HasNoRequest, IsRequest, IsNoRequest};
+ghost use Rattle.vt_cli.specs.Request.{IsFound, HasNoRequest, IsRequest, IsNoRequest, IsRequestRefusal};
 
 use crate::asked::{Refused, Request};
 use crate::command_line::{
@@ -63,15 +63,11 @@ fn request_of(
     }))
 }
 
-/// Returns the request that borrowed arguments ask for, as `request` does.
-fn request_in(alloc: Global, words: &[String]) -> Result<Request, Refused>
-    ensures ok { IfOk result (IsRequest words.now) }
-    ensures err { IfErr result (IsNoRequest words.now) }
+/// Returns the request that the subcommand among matches asks for.
+fn request_among(alloc: Global, matches: &ArgMatches<'_>) -> Result<Request, Refused>
+    ensures ok { IfOk result (IsFound (subcommand_rows_of matches.now)) }
+    ensures err { IfErr result (IsRequestRefusal [] (subcommand_rows_of matches.now)) }
 {
-    let matches = match matches_of(alloc, words) {
-        Ok(matches) => matches,
-        Err(error) => return Err(refusal_of(alloc, error)),
-    };
     let Some((name, inner)) = matches.subcommand() else {
         return Err(refusal(alloc, 2, BAD_COMMAND_LINE));
     };
@@ -103,5 +99,8 @@ pub fn request(alloc: Global, words: Vec<String>) -> Result<Request, Refused>
     ensures ok { IfOk result (IsRequest words.items) }
     ensures err { IfErr result (IsNoRequest words.items) }
 {
-    request_in(alloc, words.as_slice())
+    match matches_of(alloc, words.as_slice()) {
+        Ok(matches) => request_among(alloc, &matches),
+        Err(error) => Err(refusal_of(alloc, error)),
+    }
 }

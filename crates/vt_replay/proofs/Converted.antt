@@ -6,7 +6,7 @@ use Rattle.vt_syntax.specs.Class.{class_of, opens_string}
 use Rattle.vt_syntax.specs.Held.{events_from, held_from, held_after}
 use Rattle.vt_syntax.specs.Reading.{events_of}
 use Rattle.vt_syntax.specs.Split.{split_after}
-use Rattle.vt_term.specs.State.{State, Display, power_up}
+use Rattle.vt_term.specs.State.{State, power_up}
 use Rattle.vt_term.specs.Sound.{IsSound}
 use Rattle.vt_term.specs.Play.{Played, play, both, joined}
 use Rattle.vt_update.specs.Leads.{silently, Leads, Updates}

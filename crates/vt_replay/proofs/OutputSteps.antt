@@ -10,7 +10,7 @@ use Rattle.vt_device.specs.Runs.{Flags, Moves}
 use Rattle.vt_recording.specs.declared.fault.Fault.{Fault}
 use Rattle.vt_recording.specs.declared.fault.Fault.TheVariants.{Memory, Partial, Read, Write, TooLong, Broken, NoTimes}
 use Rattle.vt_replay.specs.Output.{IsAfter, IsCutBefore, IsCutAtEnd, IsCutOutput, OutputTable}
-use Rattle.vt_replay.specs.Output.{Translation, IsWritten, IsStopped, IsStoppedAtEnd, IsStoppedOutput, TranslatedTable}
+use Rattle.vt_replay.specs.Output.{Translation, IsStopped, IsStoppedAtEnd, IsStoppedOutput, TranslatedTable}
 use Rattle.vt_replay.proofs.Steps.{behind}
 
 abbrev pub Writes : Type 0

@@ -72,11 +72,11 @@ impl Decoding for Converter {
         leading();
         soundness();
         Ok(Converter {
+            reports: Vec::with_capacity(alloc, REPORT_LIMIT * piece)?,
+            update: Vec::with_capacity(alloc, UPDATE_LIMIT)?,
             player: XtermPlayer::new(alloc)?,
             shown: Terminal::new(alloc)?,
             target: Terminal::new(alloc)?,
-            reports: Vec::with_capacity(alloc, REPORT_LIMIT * piece)?,
-            update: Vec::with_capacity(alloc, UPDATE_LIMIT)?,
         })
     }
 

@@ -97,10 +97,10 @@ impl Decoding for Utf8 {
 
     fn new(alloc: Global, piece: usize) -> Result<Utf8, AllocError> {
         Ok(Utf8 {
-            terminal: Terminal::new(alloc)?,
-            decoder: Decoder::new(),
             reports: Vec::with_capacity(alloc, REPORT_LIMIT * piece)?,
             bytes: Vec::with_capacity(alloc, BYTE_LIMIT * piece)?,
+            terminal: Terminal::new(alloc)?,
+            decoder: Decoder::new(),
         })
     }
 

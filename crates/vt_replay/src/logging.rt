@@ -148,8 +148,8 @@ impl WordOutput for LogOutput {
         log_cuts();
         soundness();
         Ok(LogOutput {
-            terminal: Terminal::new(alloc)?,
             reports: Vec::with_capacity(alloc, REPORT_LIMIT * piece)?,
+            terminal: Terminal::new(alloc)?,
         })
     }
 }
@@ -213,9 +213,9 @@ impl WordOutput for XtermLogOutput {
     fn new(alloc: Global, piece: usize) -> Result<XtermLogOutput, AllocError> {
         xterm_log_cuts();
         Ok(XtermLogOutput {
-            terminal: Terminal::new(alloc)?,
-            front: Front::new(alloc)?,
             reports: Vec::with_capacity(alloc, REPORT_LIMIT * piece)?,
+            front: Front::new(alloc)?,
+            terminal: Terminal::new(alloc)?,
         })
     }
 }

@@ -123,8 +123,8 @@ impl WordOutput for PageOutput {
         pages_cut();
         soundness();
         Ok(PageOutput {
-            terminal: Terminal::new(alloc)?,
             reports: Vec::with_capacity(alloc, REPORT_LIMIT * piece)?,
+            terminal: Terminal::new(alloc)?,
         })
     }
 }
@@ -185,9 +185,9 @@ impl WordOutput for TraceOutput {
 
     fn new(alloc: Global, piece: usize) -> Result<TraceOutput, AllocError> {
         Ok(TraceOutput {
+            reports: Vec::with_capacity(alloc, REPORT_LIMIT * piece)?,
             terminal: Terminal::new(alloc)?,
             tracer: Tracer::new(),
-            reports: Vec::with_capacity(alloc, REPORT_LIMIT * piece)?,
         })
     }
 }

@@ -1,4 +1,4 @@
-use Rattle.std.proofs.Common.{◌∙◌, subst}
+use Rattle.std.proofs.Common.{◌∙◌}
 use Rattle.vt_replay.proofs.Converted.{cancelled}
 use Rattle.vt_replay.proofs.converting.copy_between.Goals as goal
 

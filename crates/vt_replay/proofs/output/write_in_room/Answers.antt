@@ -1,4 +1,4 @@
-use Rattle.std.proofs.Common.{◌∙◌, ap, sym, inr, refl}
+use Rattle.std.proofs.Common.{◌∙◌, sym, inr, refl}
 use Rattle.vt_replay.proofs.OutputSteps.{ends_so, there_so}
 use Rattle.vt_replay.proofs.Steps.{Moves-write}
 use Rattle.vt_replay.proofs.output.write_in_room.Goals as goal

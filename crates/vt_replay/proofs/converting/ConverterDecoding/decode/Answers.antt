@@ -1,5 +1,4 @@
-use Rattle.std.proofs.Common.{arith, ap, ◌∙◌}
-use Rattle.vt_term.specs.State.{State}
+use Rattle.std.proofs.Common.{arith}
 use Rattle.vt_replay.proofs.Converted.{shown_next, shows}
 use Rattle.vt_replay.proofs.converting.ConverterDecoding.decode.Goals as goal
 

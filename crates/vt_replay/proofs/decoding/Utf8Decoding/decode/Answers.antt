@@ -1,4 +1,3 @@
-use Rattle.std.proofs.Common.{List, ℕ}
 use Rattle.vt_replay.proofs.Decoded.{decodes-next}
 use Rattle.vt_replay.proofs.decoding.Utf8Decoding.decode.Goals as goal
 

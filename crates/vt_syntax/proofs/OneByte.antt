@@ -12,15 +12,15 @@ use Rattle.std.proofs.lemmas.Int.Digits.{digits_value_push}
 use Rattle.std.proofs.lemmas.List.Concat.{flat_map-append}
 use Rattle.vt_syntax.specs.declared.class.Class.{Class}
 use Rattle.vt_syntax.specs.declared.class.Class.TheVariants.{Quiet, Cancel, Esc, Intermediate, Parameter, Final, High}
-use Rattle.vt_syntax.specs.declared.held.Held.TheVariants.{Control}
+use Rattle.vt_syntax.specs.declared.held.Held.TheVariants.{Escape, Control, Text}
 use Rattle.vt_syntax.specs.declared.held.Inters.{Inters}
 use Rattle.vt_syntax.specs.declared.held.Inters.TheVariants.{Zero}
 use Rattle.vt_syntax.specs.declared.held.Phase.TheVariants.{Values}
 use Rattle.vt_syntax.specs.Class.{class_of, is_cancel, is_quiet, is_intermediate, is_parameter, is_final, opens_string}
-use Rattle.vt_syntax.specs.Items.{inters_of, cuts_sequence, Opening, Beginning, OfEscape, OfControl, OfString, ends_string}
+use Rattle.vt_syntax.specs.Items.{inters_of, is_osc, cuts_sequence, Opening, Beginning, OfEscape, OfControl, OfString, ends_string}
 use Rattle.vt_syntax.specs.Reading.{is_marker, marker_of, after_marker, value_of, values_of, is_many}
 use Rattle.vt_syntax.specs.Reading.{has_late_parameter, has_late_marker, is_spoilt, inter_of, quiet_control}
-use Rattle.vt_syntax.specs.Reading.{beginning_controls, without_quiet, rest_reading, parts_reading}
+use Rattle.vt_syntax.specs.Reading.{controls, opening_controls, beginning_controls, without_quiet, rest_reading, parts_reading}
 use Rattle.vt_syntax.specs.Held.{phase_inter, phase_of, held_control, held_of}
 use Rattle.vt_syntax.specs.Steps.{one_more, change_last, with_digit, step_value, Step, step_between, step_of}
 use Rattle.vt_syntax.specs.declared.event.Event.{Event}
@@ -205,25 +205,40 @@ parameter_faults xs b k =
     is_spoilt-push xs b ∙ rw (is, parameter_inters xs b k) refl
 
 -- a parameter byte after bytes that aren't spoilt: it is `:`, a marker, or a digit or `;`
-parameter_held : (xs : List ℕ) (b : ℕ) → class_of b ≡ Parameter → is_spoilt xs ≡ false → (colon marker : Bool)
-    → eqb b 58 ≡ colon → is_marker b ≡ marker → held_control (xs ++ b ∷ []) ≡ (step_of (held_control xs) b).held
+colon_held : (xs : List ℕ) (b : ℕ) → class_of b ≡ Parameter → is_spoilt xs ≡ false → eqb b 58 ≡ true
+    → held_control (xs ++ b ∷ []) ≡ (step_of (held_control xs) b).held
 unfolding step_of
-parameter_held xs b k sound true marker c m =
+colon_held xs b k sound colon =
     let fault = parameter_faults xs b k in
     let many = not_many xs sound in
     grind (arith, nat_tests)
-parameter_held xs b k sound false true c m =
+
+marker_held : (xs : List ℕ) (b : ℕ) → class_of b ≡ Parameter → is_spoilt xs ≡ false → eqb b 58 ≡ false
+    → is_marker b ≡ true → held_control (xs ++ b ∷ []) ≡ (step_of (held_control xs) b).held
+unfolding step_of
+marker_held xs b k sound colon marker =
     let fault = parameter_faults xs b k in
     let many = not_many xs sound in
     let inters = parameter_inters xs b k in
     grind (arith, nat_tests)
-parameter_held xs b k sound false false c m =
+
+value_held : (xs : List ℕ) (b : ℕ) → class_of b ≡ Parameter → is_spoilt xs ≡ false → eqb b 58 ≡ false
+    → is_marker b ≡ false → held_control (xs ++ b ∷ []) ≡ (step_of (held_control xs) b).held
+unfolding step_of
+value_held xs b k sound colon marker =
     let fault = parameter_faults xs b k in
     let many = not_many xs sound in
     let inters = parameter_inters xs b k in
     let value =
-    value_more 16 b (values_of xs) (values_of (xs ++ b ∷ [])) (marker_of xs) refl (values_of-push xs b k m c) in
+    value_more 16 b (values_of xs) (values_of (xs ++ b ∷ [])) (marker_of xs) refl
+    (values_of-push xs b k marker colon) in
     grind (arith, nat_tests)
+
+parameter_held : (xs : List ℕ) (b : ℕ) → class_of b ≡ Parameter → is_spoilt xs ≡ false → (colon marker : Bool)
+    → eqb b 58 ≡ colon → is_marker b ≡ marker → held_control (xs ++ b ∷ []) ≡ (step_of (held_control xs) b).held
+parameter_held xs b k sound true marker c m = colon_held xs b k sound c
+parameter_held xs b k sound false true c m = marker_held xs b k sound c m
+parameter_held xs b k sound false false c m = value_held xs b k sound c m
 
 more_held : (xs : List ℕ) (b : ℕ) → (class_of b ≡ Parameter) ⊎ (class_of b ≡ Intermediate)
     → held_control (xs ++ b ∷ []) ≡ (step_of (held_control xs) b).held
@@ -253,14 +268,7 @@ AreTests Final b = (is_cancel b ≡ false) × (is_final b ≡ true)
 AreTests High b = ((is_cancel b || is_final b) ≡ false) × (cuts_sequence b ≡ true)
 
 tests_of : (b : ℕ) (k : Class) → class_of b ≡ k → AreTests k b
-unfolding class_of
-tests_of b Quiet is = (grind (arith, nat_tests), grind (arith, nat_tests), grind (arith, nat_tests))
-tests_of b Cancel is = grind (arith, nat_tests)
-tests_of b Esc is = (grind (arith, nat_tests), grind (arith, nat_tests))
-tests_of b Intermediate is = (grind (arith, nat_tests), grind (arith, nat_tests), grind (arith, nat_tests))
-tests_of b Parameter is = (grind (arith, nat_tests), grind (arith, nat_tests), grind (arith, nat_tests))
-tests_of b Final is = (grind (arith, nat_tests), grind (arith, nat_tests))
-tests_of b High is = (grind (arith, nat_tests), grind (arith, nat_tests))
+tests_of b k is = let range = range_of b k is in grind (arith, nat_tests)
 
 control_as : (opening : Opening) (inside : List ℕ) (b : ℕ) (k : Class) → class_of b ≡ k
     → Matches (beginning_controls (OfControl opening inside)) (split_one (Some (OfControl opening inside)) b)
@@ -320,16 +328,27 @@ control_as opening inside b High is =
       events = grind (arith, nat_tests, append_assoc, append-nil);
     })
 
-pub byte_matches : (rest : Option Beginning) (b : ℕ)
-    → Matches (rest_reading rest) (split_one rest b) (step_of (held_of rest) b)
-unfolding is_spoilt value_of class_of opens_string ends_string step_of
-byte_matches None b = begin_matches b
-byte_matches (Some (OfEscape inside)) b =
+escape_as : (inside : List ℕ) (b : ℕ)
+    → Matches (controls inside) (split_one (Some (OfEscape inside)) b) (step_of (Escape (inters_of inside)) b)
+unfolding is_spoilt value_of class_of opens_string step_of
+escape_as inside b =
     let inters = inters_of-push inside b in
     let carried_out = flat_map-append quiet_control inside (b ∷ []) in
     record {
       held = grind (arith, nat_tests, append-nil);
       events = grind (arith, nat_tests, append-nil, append_assoc);
     }
+
+string_as : (opening : Opening) (code : ℕ) (content : List ℕ) (b : ℕ)
+    → Matches (opening_controls opening) (split_one (Some (OfString opening code content)) b)
+    (step_of (Text (is_osc code)) b)
+unfolding ends_string step_of
+string_as opening code content b = grind (arith, nat_tests, append-nil, append_assoc)
+
+pub byte_matches : (rest : Option Beginning) (b : ℕ)
+    → Matches (rest_reading rest) (split_one rest b) (step_of (held_of rest) b)
+unfolding step_of
+byte_matches None b = begin_matches b
+byte_matches (Some (OfEscape inside)) b = escape_as inside b
 byte_matches (Some (OfControl opening inside)) b = control_as opening inside b (class_of b) refl
-byte_matches (Some (OfString opening code content)) b = grind (arith, nat_tests, append-nil, append_assoc)
+byte_matches (Some (OfString opening code content)) b = string_as opening code content b

@@ -3,15 +3,17 @@ use Rattle.std.proofs.Common.{◌≡◌, ℕ, ◌≤◌, Bool, true, false, List
 use Rattle.std.proofs.Common.{All, IfSome}
 use Rattle.std.proofs.lemmas.Bool.Decides.{nat_tests}
 use Rattle.std.proofs.lemmas.List.Elements.{All-nil, All-cons, All-push, All-append, All-head, All-tail}
+use Rattle.arrayvec.specs.ArrayVec.{ArrayVec}
 use Rattle.vt_syntax.specs.declared.held.Held.{Held}
-use Rattle.vt_syntax.specs.declared.held.Held.TheVariants.{Escape, Control}
+use Rattle.vt_syntax.specs.declared.held.Held.TheVariants.{Nothing, Escape, Control, Spoilt, Text}
+use Rattle.vt_syntax.specs.declared.held.Inters.{Inters}
 use Rattle.vt_syntax.specs.declared.held.Inters.TheVariants.{One}
 use Rattle.vt_syntax.specs.declared.held.Phase.{Phase}
 use Rattle.vt_syntax.specs.declared.held.Phase.TheVariants.{Start, Values, Inter}
 use Rattle.vt_syntax.specs.Class.{class_of, opens_string}
 use Rattle.vt_syntax.specs.Items.{ends_string}
 use Rattle.vt_syntax.specs.Spelling.{IsMarker, IsIntermediate, AreValues, IsEvent}
-use Rattle.vt_syntax.specs.Steps.{Step, change_last, with_digit, step_value, step_of, steps}
+use Rattle.vt_syntax.specs.Steps.{Step, change_last, with_digit, step_between, step_value, step_of, steps}
 use Rattle.vt_syntax.proofs.Steps.{length-change_last}
 
 -- ---- what is in range
@@ -55,13 +57,35 @@ value_range marker vs full b m v all =
     let small = change_last_small b vs v.small in
     grind (arith, nat_tests, length-append {A = ℕ}, length-change_last, All-push IsSmall)
 
-step_range : (held : Held) (b : ℕ) → InRange held → Ranged (step_of held b)
-unfolding step_of class_of opens_string ends_string
-step_range (Control marker params full phase) b h =
+between_range : (b : ℕ) → Ranged (step_between b)
+between_range b = record { held = grind (arith, nat_tests); events = grind (arith, nat_tests, All-nil, All-cons) }
+
+escape_range : (n : Inters) (b : ℕ) → InRange (Escape n) → Ranged (step_of (Escape n) b)
+unfolding step_of class_of opens_string
+escape_range n b h = record { held = grind (arith, nat_tests); events = grind (arith, nat_tests, All-nil, All-cons) }
+
+control_range : (marker : Option ℕ) (params : ArrayVec ℕ) (full : Bool) (phase : Phase) (b : ℕ)
+    → InRange (Control marker params full phase) → Ranged (step_of (Control marker params full phase) b)
+unfolding step_of class_of opens_string
+control_range marker params full phase b h =
     let value = value_range marker params.items full b h.is_marker h.are_values h.all_there in
     record { held = grind (arith, nat_tests); events = grind (arith, nat_tests, All-nil, All-cons) }
-step_range held b h =
-    record { held = grind (arith, nat_tests); events = grind (arith, nat_tests, All-nil, All-cons) }
+
+spoilt_range : (b : ℕ) → Ranged (step_of Spoilt b)
+unfolding step_of class_of opens_string
+spoilt_range b = record { held = grind (arith, nat_tests); events = grind (arith, nat_tests, All-nil, All-cons) }
+
+string_range : (osc : Bool) (b : ℕ) → Ranged (step_of (Text osc) b)
+unfolding step_of ends_string
+string_range osc b = record { held = grind (arith, nat_tests); events = grind (arith, nat_tests, All-nil, All-cons) }
+
+step_range : (held : Held) (b : ℕ) → InRange held → Ranged (step_of held b)
+unfolding step_of
+step_range Nothing b h = between_range b
+step_range (Escape n) b h = escape_range n b h
+step_range (Control marker params full phase) b h = control_range marker params full phase b h
+step_range Spoilt b h = spoilt_range b
+step_range (Text osc) b h = string_range osc b
 
 -- ---- any bytes
 

@@ -1,5 +1,5 @@
 -- The classes of bytes (ECMA-48 5.4, ECMA-35 13; which bytes are quiet is this profile). A byte is at most 0xFF.
-use Rattle.std.specs.Prelude.{◌≡◌, ◌≤◌, ℕ, List, [], ◌∷◌, Bool, true, false, nat_lt, nat_le, ◌==◌, ◌||◌, ◌&&◌}
+use Rattle.std.specs.Prelude.{◌≡◌, ◌≤◌, ℕ, List, [], ◌∷◌, Bool, true, nat_lt, nat_le, ◌==◌, ◌||◌, ◌&&◌}
 use Rattle.std.specs.Prelude.{not, if◌then◌else◌, ◌⊎◌}
 use Rattle.vt_syntax.specs.declared.class.Class.{Class}
 use Rattle.vt_syntax.specs.declared.class.Class.TheVariants.{Quiet, Cancel, Esc, Intermediate, Parameter, Final, High}

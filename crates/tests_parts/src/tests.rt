@@ -7,4 +7,5 @@ mod glyphs;
 mod recordings;
 mod screen;
 mod syntax;
+mod taking_apart;
 mod timings;

@@ -1,8 +1,7 @@
 //! Recordings by asciinema written by hand, with the content that they have.
 use super::common::holds;
-use std::alloc::Global;
-use std::test::Fail;
-use vt_recording::{Break, Encoding, Format, Moment, Part, take_apart};
+use super::taking_apart::{Row, are_taken_apart};
+use vt_recording::{Break, Encoding, Format, Moment, Part};
 
 /// Three events of version 2.
 const TWO: &[u8] = b"{\"version\":2}\n\
@@ -19,7 +18,7 @@ const THREE: &[u8] = b"{\"version\":3}\n\
 [0.4,\"o\",\"c\"]";
 
 /// Characters of ASCII, of the supplemental set, and of neither: U+20AC and U+2426.
-const CHARACTERS: &[u8] = b"{\"version\":2}\n\
+const MIXED: &[u8] = b"{\"version\":2}\n\
 [0,\"o\",\"e\xC3\xA9\xE2\x82\xAC\xC5\x93\xE2\x90\xA6\xC2\xA4\\u0178\"]\n";
 
 /// Characters of two, three and four bytes of UTF-8, some as JSON writes them in ASCII: U+00E9, U+2014, U+201C, U+2502,
@@ -38,227 +37,307 @@ const TWO_EVENTS: &[u8] =
 const ALL: &[u8] = b"\xC3\xA9\xE2\x80\x94\xE2\x80\x9C\xE2\x94\x82\xE6\xBC\xA2\xF0\x9F\x98\x80\
 \xC2\x9B\xE2\x90\xA6!";
 
-/// A recording, the moment up to which it is wanted, its content, the byte at which it breaks the format, and the number
-/// of characters that have no byte.
-type Row = (
-    &'static [u8],
-    Option<Moment>,
-    &'static [u8],
-    Option<u64>,
-    u64,
-);
+const EVENTS: &[Row] = &[
+    (TWO, None, None, b"a\r\nb", None, 0),
+    (TWO, None, Some(Moment::Micros(99_999)), b"", None, 0),
+    (TWO, None, Some(Moment::Micros(100_000)), b"a\r\n", None, 0),
+    (TWO, None, Some(Moment::Micros(299_999)), b"a\r\n", None, 0),
+    (TWO, None, Some(Moment::Micros(300_000)), b"a\r\nb", None, 0),
+    (TWO, None, Some(Moment::Bytes(2)), b"a\r", None, 0),
+    (TWO, None, Some(Moment::Bytes(9)), b"a\r\nb", None, 0),
+    (THREE, None, None, b"abc", None, 0),
+    (THREE, None, Some(Moment::Micros(299_999)), b"a", None, 0),
+    (THREE, None, Some(Moment::Micros(300_000)), b"ab", None, 0),
+    (THREE, None, Some(Moment::Micros(999_999)), b"ab", None, 0),
+    (
+        THREE,
+        None,
+        Some(Moment::Micros(1_000_000)),
+        b"abc",
+        None,
+        0,
+    ),
+    (MIXED, None, None, b"e\xE9\x1A\xF7\x1A\xA8\xDD", None, 2),
+    (MIXED, None, Some(Moment::Bytes(2)), b"e\xE9", None, 0),
+    (MIXED, None, Some(Moment::Bytes(3)), b"e\xE9\x1A", None, 1),
+];
 
-fn until(micros: u64) -> Option<Moment> {
-    Some(Moment::Micros(micros))
-}
+const LINES: &[Row] = &[
+    (b"{\"version\":2}", None, None, b"", None, 0),
+    (b"{\"version\":2}\n", None, None, b"", None, 0),
+    (
+        b"{\"width\": 80, \"version\": 3}\n[1,\"o\",\"z\"]",
+        None,
+        None,
+        b"z",
+        None,
+        0,
+    ),
+    (
+        b"{\"version\":2}\n\n[1,\"o\",\"a\"]\r\n\n",
+        None,
+        None,
+        b"a",
+        None,
+        0,
+    ),
+    // 0.00009 s
+    (
+        b"{\"version\":2}\n[9e-05,\"o\",\"a\"]",
+        None,
+        Some(Moment::Micros(90)),
+        b"a",
+        None,
+        0,
+    ),
+    (
+        b"{\"version\":2}\n[9e-05,\"o\",\"a\"]",
+        None,
+        Some(Moment::Micros(89)),
+        b"",
+        None,
+        0,
+    ),
+    // What is after the sixth decimal isn't counted.
+    (
+        b"{\"version\":2}\n[1.23456789,\"o\",\"a\"]",
+        None,
+        Some(Moment::Micros(1_234_567)),
+        b"a",
+        None,
+        0,
+    ),
+    (
+        b"{\"version\":2}\n[1.23456789,\"o\",\"a\"]",
+        None,
+        Some(Moment::Micros(1_234_566)),
+        b"",
+        None,
+        0,
+    ),
+];
 
-fn bytes(count: u64) -> Option<Moment> {
-    Some(Moment::Bytes(count))
-}
-
-fn events() -> [Row; 15] {
-    [
-        (TWO, None, b"a\r\nb", None, 0),
-        (TWO, until(99_999), b"", None, 0),
-        (TWO, until(100_000), b"a\r\n", None, 0),
-        (TWO, until(299_999), b"a\r\n", None, 0),
-        (TWO, until(300_000), b"a\r\nb", None, 0),
-        (TWO, bytes(2), b"a\r", None, 0),
-        (TWO, bytes(9), b"a\r\nb", None, 0),
-        (THREE, None, b"abc", None, 0),
-        (THREE, until(299_999), b"a", None, 0),
-        (THREE, until(300_000), b"ab", None, 0),
-        (THREE, until(999_999), b"ab", None, 0),
-        (THREE, until(1_000_000), b"abc", None, 0),
-        (CHARACTERS, None, b"e\xE9\x1A\xF7\x1A\xA8\xDD", None, 2),
-        (CHARACTERS, bytes(2), b"e\xE9", None, 0),
-        (CHARACTERS, bytes(3), b"e\xE9\x1A", None, 1),
-    ]
-}
-
-fn lines() -> [Row; 8] {
-    [
-        (b"{\"version\":2}", None, b"", None, 0),
-        (b"{\"version\":2}\n", None, b"", None, 0),
-        (
-            b"{\"width\": 80, \"version\": 3}\n[1,\"o\",\"z\"]",
-            None,
-            b"z",
-            None,
-            0,
-        ),
-        (
-            b"{\"version\":2}\n\n[1,\"o\",\"a\"]\r\n\n",
-            None,
-            b"a",
-            None,
-            0,
-        ),
-        // 0.00009 s
-        (
-            b"{\"version\":2}\n[9e-05,\"o\",\"a\"]",
-            until(90),
-            b"a",
-            None,
-            0,
-        ),
-        (
-            b"{\"version\":2}\n[9e-05,\"o\",\"a\"]",
-            until(89),
-            b"",
-            None,
-            0,
-        ),
-        // What is after the sixth decimal isn't counted.
-        (
-            b"{\"version\":2}\n[1.23456789,\"o\",\"a\"]",
-            until(1_234_567),
-            b"a",
-            None,
-            0,
-        ),
-        (
-            b"{\"version\":2}\n[1.23456789,\"o\",\"a\"]",
-            until(1_234_566),
-            b"",
-            None,
-            0,
-        ),
-    ]
-}
-
-fn breaks() -> [Row; 13] {
-    [
-        (b"", None, b"", Some(0), 0),
-        (b"\n[1,\"o\",\"a\"]\n", None, b"", Some(0), 0),
-        (b"{\"version\":1}\n", None, b"", Some(0), 0),
-        (b"{\"width\":2}\n", None, b"", Some(0), 0),
-        (b"Script started on x\n", None, b"", Some(0), 0),
-        // Too few parts, and a part of another kind.
-        (
-            b"{\"version\":2}\n[1,\"o\",\"a\"]\n[2,\"o\"]\n[3,\"o\",\"b\"]\n",
-            None,
-            b"a",
-            Some(26),
-            0,
-        ),
-        (
-            b"{\"version\":2}\n[1,\"o\",\"a\"]\n[2,\"o\",3]\n",
-            bytes(0),
-            b"",
-            Some(26),
-            0,
-        ),
-        // A comment of version 3.
-        (b"{\"version\":2}\n# c\n", None, b"", Some(14), 0),
-        // No time: a sign, and an exponent without one.
-        (b"{\"version\":2}\n[-1,\"o\",\"a\"]", None, b"", Some(14), 0),
-        (
-            b"{\"version\":2}\n[1e1,\"o\",\"a\"]",
-            None,
-            b"",
-            Some(14),
-            0,
-        ),
-        // No UTF-8.
-        (
-            b"{\"version\":2}\n[1,\"o\",\"\xFF\"]",
-            None,
-            b"",
-            Some(14),
-            0,
-        ),
-        // Something after the array.
-        (b"{\"version\":2}\n[1,\"o\",\"a\"],", None, b"", Some(14), 0),
-        (b"{\"version\":3}\n[1,\"o\",\"a\"", None, b"", Some(14), 0),
-    ]
-}
+const BREAKS: &[Row] = &[
+    (
+        b"",
+        None,
+        None,
+        b"",
+        Some(Break {
+            part: Part::Recording,
+            at: 0,
+        }),
+        0,
+    ),
+    (
+        b"\n[1,\"o\",\"a\"]\n",
+        None,
+        None,
+        b"",
+        Some(Break {
+            part: Part::Recording,
+            at: 0,
+        }),
+        0,
+    ),
+    (
+        b"{\"version\":1}\n",
+        None,
+        None,
+        b"",
+        Some(Break {
+            part: Part::Recording,
+            at: 0,
+        }),
+        0,
+    ),
+    (
+        b"{\"width\":2}\n",
+        None,
+        None,
+        b"",
+        Some(Break {
+            part: Part::Recording,
+            at: 0,
+        }),
+        0,
+    ),
+    (
+        b"Script started on x\n",
+        None,
+        None,
+        b"",
+        Some(Break {
+            part: Part::Recording,
+            at: 0,
+        }),
+        0,
+    ),
+    // Too few parts, and a part of another kind.
+    (
+        b"{\"version\":2}\n[1,\"o\",\"a\"]\n[2,\"o\"]\n[3,\"o\",\"b\"]\n",
+        None,
+        None,
+        b"a",
+        Some(Break {
+            part: Part::Recording,
+            at: 26,
+        }),
+        0,
+    ),
+    (
+        b"{\"version\":2}\n[1,\"o\",\"a\"]\n[2,\"o\",3]\n",
+        None,
+        Some(Moment::Bytes(0)),
+        b"",
+        Some(Break {
+            part: Part::Recording,
+            at: 26,
+        }),
+        0,
+    ),
+    // A comment of version 3.
+    (
+        b"{\"version\":2}\n# c\n",
+        None,
+        None,
+        b"",
+        Some(Break {
+            part: Part::Recording,
+            at: 14,
+        }),
+        0,
+    ),
+    // No time: a sign, and an exponent without one.
+    (
+        b"{\"version\":2}\n[-1,\"o\",\"a\"]",
+        None,
+        None,
+        b"",
+        Some(Break {
+            part: Part::Recording,
+            at: 14,
+        }),
+        0,
+    ),
+    (
+        b"{\"version\":2}\n[1e1,\"o\",\"a\"]",
+        None,
+        None,
+        b"",
+        Some(Break {
+            part: Part::Recording,
+            at: 14,
+        }),
+        0,
+    ),
+    // No UTF-8.
+    (
+        b"{\"version\":2}\n[1,\"o\",\"\xFF\"]",
+        None,
+        None,
+        b"",
+        Some(Break {
+            part: Part::Recording,
+            at: 14,
+        }),
+        0,
+    ),
+    // Something after the array.
+    (
+        b"{\"version\":2}\n[1,\"o\",\"a\"],",
+        None,
+        None,
+        b"",
+        Some(Break {
+            part: Part::Recording,
+            at: 14,
+        }),
+        0,
+    ),
+    (
+        b"{\"version\":3}\n[1,\"o\",\"a\"",
+        None,
+        None,
+        b"",
+        Some(Break {
+            part: Part::Recording,
+            at: 14,
+        }),
+        0,
+    ),
+];
 
 /// Recordings whose characters are wanted in UTF-8.
-fn characters() -> [Row; 10] {
-    [
-        (WRITTEN, None, ALL, None, 0),
-        (WRITTEN, until(999_999), FIRST, None, 0),
-        (WRITTEN, until(1_000_000), TWO_EVENTS, None, 0),
-        (WRITTEN, bytes(0), b"", None, 0),
-        (WRITTEN, bytes(8), FIRST, None, 0),
-        // In the middle of a character.
-        (
-            WRITTEN,
-            bytes(9),
-            b"\xC3\xA9\xE2\x80\x94\xE2\x80\x9C\xE2",
-            None,
-            0,
-        ),
-        (WRITTEN, bytes(99), ALL, None, 0),
-        (TWO, None, b"a\r\nb", None, 0),
-        // Surrogates that aren't in a pair: the first of one alone, and the second.
-        (
-            b"{\"version\":2}\n[0,\"o\",\"a\"]\n[1,\"o\",\"\\ud83d\"]\n",
-            None,
-            b"a",
-            Some(26),
-            0,
-        ),
-        (
-            b"{\"version\":2}\n[0,\"o\",\"\\ude00\"]\n",
-            None,
-            b"",
-            Some(14),
-            0,
-        ),
-    ]
-}
-
-/// Whether a recording is taken apart in an encoding as its row says.
-fn is_taken_apart(
-    alloc: Global,
-    encoding: Encoding,
-    (input, until, content, broken, replaced): &Row,
-) -> Result<bool, Fail> {
-    let format = Format::Asciicast;
-    let taken = take_apart(alloc, input, None, format, encoding, *until)?;
-    let place = broken.map(|at| Break {
-        part: Part::Recording,
-        at,
-    });
-    Ok(taken.content.as_slice() == *content && taken.broken == place && taken.replaced == *replaced)
-}
-
-/// Whether each of these is.
-fn are_taken_apart(alloc: Global, encoding: Encoding, rows: &[Row]) -> Result<bool, Fail> {
-    for row in rows {
-        if !is_taken_apart(alloc, encoding, row)? {
-            return Ok(false);
-        }
-    }
-    Ok(true)
-}
+const CHARACTERS: &[Row] = &[
+    (WRITTEN, None, None, ALL, None, 0),
+    (WRITTEN, None, Some(Moment::Micros(999_999)), FIRST, None, 0),
+    (
+        WRITTEN,
+        None,
+        Some(Moment::Micros(1_000_000)),
+        TWO_EVENTS,
+        None,
+        0,
+    ),
+    (WRITTEN, None, Some(Moment::Bytes(0)), b"", None, 0),
+    (WRITTEN, None, Some(Moment::Bytes(8)), FIRST, None, 0),
+    // In the middle of a character.
+    (
+        WRITTEN,
+        None,
+        Some(Moment::Bytes(9)),
+        b"\xC3\xA9\xE2\x80\x94\xE2\x80\x9C\xE2",
+        None,
+        0,
+    ),
+    (WRITTEN, None, Some(Moment::Bytes(99)), ALL, None, 0),
+    (TWO, None, None, b"a\r\nb", None, 0),
+    // Surrogates that aren't in a pair: the first of one alone, and the second.
+    (
+        b"{\"version\":2}\n[0,\"o\",\"a\"]\n[1,\"o\",\"\\ud83d\"]\n",
+        None,
+        None,
+        b"a",
+        Some(Break {
+            part: Part::Recording,
+            at: 26,
+        }),
+        0,
+    ),
+    (
+        b"{\"version\":2}\n[0,\"o\",\"\\ude00\"]\n",
+        None,
+        None,
+        b"",
+        Some(Break {
+            part: Part::Recording,
+            at: 14,
+        }),
+        0,
+    ),
+];
 
 #[test]
-fn events_by_hand(rt: HostRuntime) -> Result<(), Fail> {
-    let are = are_taken_apart(rt.alloc(), Encoding::Dec, &events())?;
+fn events_by_hand(rt: HostRuntime) {
+    let are = are_taken_apart(rt.alloc(), Format::Asciicast, Encoding::Dec, EVENTS);
     holds(&rt, "events", are);
-    Ok(())
 }
 
 #[test]
-fn characters_by_hand(rt: HostRuntime) -> Result<(), Fail> {
-    let are = are_taken_apart(rt.alloc(), Encoding::Utf8, &characters())?;
+fn characters_by_hand(rt: HostRuntime) {
+    let are = are_taken_apart(rt.alloc(), Format::Asciicast, Encoding::Utf8, CHARACTERS);
     holds(&rt, "characters", are);
-    Ok(())
 }
 
 #[test]
-fn lines_by_hand(rt: HostRuntime) -> Result<(), Fail> {
-    let are = are_taken_apart(rt.alloc(), Encoding::Dec, &lines())?;
+fn lines_by_hand(rt: HostRuntime) {
+    let are = are_taken_apart(rt.alloc(), Format::Asciicast, Encoding::Dec, LINES);
     holds(&rt, "lines", are);
-    Ok(())
 }
 
 #[test]
-fn breaks_by_hand(rt: HostRuntime) -> Result<(), Fail> {
-    let are = are_taken_apart(rt.alloc(), Encoding::Dec, &breaks())?;
+fn breaks_by_hand(rt: HostRuntime) {
+    let are = are_taken_apart(rt.alloc(), Format::Asciicast, Encoding::Dec, BREAKS);
     holds(&rt, "breaks", are);
-    Ok(())
 }

@@ -2,7 +2,7 @@
 use super::common::holds;
 use std::alloc::{AllocError, Global};
 use std::test::Fail;
-use vt_glyph::{Glyph, Set, Sets, Spelling};
+use vt_glyph::{Glyph, InUse, Set, Sets, Spelling};
 
 const SETS: [Set; 5] = [
     Set::Ascii,
@@ -12,17 +12,23 @@ const SETS: [Set; 5] = [
     Set::Supplemental,
 ];
 
+/// Appends the glyphs of a set that aren't there yet.
+fn push_glyphs(set: Set, glyphs: &mut Vec<Glyph>) -> Result<(), AllocError> {
+    for code in 0x21..0x7F {
+        let glyph = set.glyph(code);
+        if !glyphs.contains(&glyph) {
+            glyphs.push(glyph)?;
+        }
+    }
+    Ok(())
+}
+
 /// The glyphs of all sets, each once, and the space.
 fn all_glyphs(alloc: Global) -> Result<Vec<Glyph>, AllocError> {
     let mut glyphs = Vec::new(alloc);
     glyphs.push(Glyph::blank())?;
-    for set in SETS {
-        for code in 0x21..0x7F {
-            let glyph = set.glyph(code);
-            if !glyphs.contains(&glyph) {
-                glyphs.push(glyph)?;
-            }
-        }
+    for set in &SETS {
+        push_glyphs(*set, &mut glyphs)?;
     }
     Ok(glyphs)
 }
@@ -111,8 +117,8 @@ const FINALS: [(u8, Set); 5] = [
 
 /// Whether the final bytes designate the sets, and the sets tell them.
 fn finals_are_of_the_sets() -> bool {
-    for (last, set) in FINALS {
-        if Set::of_final(last) != Some(set) || set.last() != last {
+    for (last, set) in &FINALS {
+        if Set::of_final(*last) != Some(*set) || set.last() != *last {
             return false;
         }
     }
@@ -252,8 +258,8 @@ const SPELLINGS: [(Set, u8, Spelling); 6] = [
 
 /// Whether the glyphs of the sets have these spellings.
 fn glyphs_have_their_spellings() -> bool {
-    for (set, code, spelling) in SPELLINGS {
-        if set.glyph(code).spelling() != spelling {
+    for (set, code, spelling) in &SPELLINGS {
+        if set.glyph(*code).spelling() != *spelling {
             return false;
         }
     }
@@ -280,14 +286,19 @@ const HALVES: [(u8, char); 5] = [
     (0xE9, 'é'),
 ];
 
+/// Whether the sets in use show a graphic byte so.
+fn half_shows(in_use: &InUse, b: u8, c: char) -> bool {
+    let is_graphic = (0x20 <= b && b <= 0x7E) || (0xA1 <= b && b <= 0xFE);
+    is_graphic && in_use.glyph(b).to_char() == c
+}
+
 /// Whether the sets in use show these bytes so.
 fn both_halves_are_shown() -> bool {
     let mut sets = Sets::power_up();
     sets.designate(0, Set::German);
     let in_use = sets.in_use();
-    for (b, c) in HALVES {
-        let is_graphic = (0x20 <= b && b <= 0x7E) || (0xA1 <= b && b <= 0xFE);
-        if !is_graphic || in_use.glyph(b).to_char() != c {
+    for (b, c) in &HALVES {
+        if !half_shows(&in_use, *b, *c) {
             return false;
         }
     }

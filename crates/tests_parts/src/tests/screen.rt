@@ -1,10 +1,9 @@
 //! Worked rows, and the edges of the calls.
 ghost use Rattle.std.specs.Prelude.{◌≤◌};
 
-use super::common::holds;
-use std::alloc::Global;
+use super::common::{holds, is_met};
+use std::alloc::{AllocError, Global};
 use std::mem::size_of;
-use std::test::Fail;
 use vt_glyph::{Glyph, Set, Sets};
 use vt_screen::{Brush, Cell, Rendition, Screen};
 
@@ -60,17 +59,20 @@ fn shows_lines(screen: &Screen, lines: &[&str]) -> bool {
     true
 }
 
+/// Whether a new screen has 80 columns of spaces.
+fn new_is_blank(alloc: Global) -> Result<bool, AllocError> {
+    let screen = Screen::new(alloc)?;
+    Ok(screen.width() == 80 && shows_lines(&screen, &[]))
+}
+
 #[test]
-fn a_new_screen_is_narrow_and_blank(rt: HostRuntime) -> Result<(), Fail> {
-    let screen = Screen::new(rt.alloc())?;
-    holds(&rt, "80 columns", screen.width() == 80);
-    holds(&rt, "blank", shows_lines(&screen, &[]));
+fn a_new_screen_is_narrow_and_blank(rt: HostRuntime) {
+    is_met(&rt, "blank", new_is_blank(rt.alloc()));
     holds(&rt, "the size of a cell", size_of::<Cell>() <= 8);
-    Ok(())
 }
 
 /// Writes a thousand numbers in row 10, and scrolls the region from row 5 to 10 up behind each.
-fn scroll_numbers(alloc: Global, screen: &mut Screen) -> Result<(), Fail> {
+fn scroll_numbers(alloc: Global, screen: &mut Screen) -> Result<(), AllocError> {
     for k in 1..1001u16 {
         let line = format!(in alloc; "{k}")?;
         write(screen, 10, 1, line.as_bytes(), &Cell::blank());
@@ -82,12 +84,16 @@ fn scroll_numbers(alloc: Global, screen: &mut Screen) -> Result<(), Fail> {
 /// What the first rows show then.
 const SCROLLED: [&str; 9] = ["", "", "", "", "996", "997", "998", "999", "1000"];
 
+/// Whether the first rows show that.
+fn last_lines_are_kept(alloc: Global) -> Result<bool, AllocError> {
+    let mut screen = Screen::new(alloc)?;
+    scroll_numbers(alloc, &mut screen)?;
+    Ok(shows_lines(&screen, &SCROLLED))
+}
+
 #[test]
-fn a_scroll_region_keeps_its_last_lines(rt: HostRuntime) -> Result<(), Fail> {
-    let mut screen = Screen::new(rt.alloc())?;
-    scroll_numbers(rt.alloc(), &mut screen)?;
-    holds(&rt, "rows", shows_lines(&screen, &SCROLLED));
-    Ok(())
+fn a_scroll_region_keeps_its_last_lines(rt: HostRuntime) {
+    is_met(&rt, "rows", last_lines_are_kept(rt.alloc()));
 }
 
 /// Changes a row that shows `ABC`, in five ways.
@@ -104,13 +110,16 @@ fn change_cells(screen: &mut Screen) {
     }
 }
 
-#[test]
-fn cells_of_a_row_are_erased_inserted_and_deleted(rt: HostRuntime) -> Result<(), Fail> {
-    let mut screen = Screen::new(rt.alloc())?;
+/// Whether the rows are changed so.
+fn cells_are_changed(alloc: Global) -> Result<bool, AllocError> {
+    let mut screen = Screen::new(alloc)?;
     change_cells(&mut screen);
-    let changed = ["A C", "A  BC", "A", "AC", "XABC"];
-    holds(&rt, "rows", shows_lines(&screen, &changed));
-    Ok(())
+    Ok(shows_lines(&screen, &["A C", "A  BC", "A", "AC", "XABC"]))
+}
+
+#[test]
+fn cells_of_a_row_are_erased_inserted_and_deleted(rt: HostRuntime) {
+    is_met(&rt, "rows", cells_are_changed(rt.alloc()));
 }
 
 /// Writes a letter in each of the first three rows.
@@ -120,25 +129,26 @@ fn write_letters(screen: &mut Screen) {
     write(screen, 3, 1, b"C", &Cell::blank());
 }
 
-#[test]
-fn lines_are_inserted_and_deleted(rt: HostRuntime) -> Result<(), Fail> {
-    let mut screen = Screen::new(rt.alloc())?;
-    write_letters(&mut screen);
+/// Whether lines are moved down in a region, then all of them, and then up by more than there are.
+fn lines_are_moved(screen: &mut Screen) -> bool {
     screen.scroll_down(2, 3, 1);
-    holds(
-        &rt,
-        "down in a region",
-        shows_lines(&screen, &["A", "", "B"]),
-    );
+    let in_a_region = shows_lines(screen, &["A", "", "B"]);
     screen.scroll_down(1, 24, 1);
-    holds(&rt, "down", shows_lines(&screen, &["", "A", "", "B"]));
+    let all = shows_lines(screen, &["", "A", "", "B"]);
     screen.scroll_up(3, 24, 99);
-    holds(
-        &rt,
-        "up by more than there are",
-        shows_lines(&screen, &["", "A"]),
-    );
-    Ok(())
+    in_a_region && all && shows_lines(screen, &["", "A"])
+}
+
+/// Whether the letters are moved so.
+fn letters_are_moved(alloc: Global) -> Result<bool, AllocError> {
+    let mut screen = Screen::new(alloc)?;
+    write_letters(&mut screen);
+    Ok(lines_are_moved(&mut screen))
+}
+
+#[test]
+fn lines_are_inserted_and_deleted(rt: HostRuntime) {
+    is_met(&rt, "lines", letters_are_moved(rt.alloc()));
 }
 
 /// A space with this brush.
@@ -172,15 +182,18 @@ fn keeps_brushes(screen: &Screen) -> bool {
         && screen.cell(1, 3).rendition == reverse
 }
 
-#[test]
-fn a_selective_erase_keeps_attributes_and_protected_cells(rt: HostRuntime) -> Result<(), Fail> {
-    let mut screen = Screen::new(rt.alloc())?;
+/// Whether a selective erase keeps the protected cells and the brushes, and another erase keeps nothing.
+fn erase_is_selective(alloc: Global) -> Result<bool, AllocError> {
+    let mut screen = Screen::new(alloc)?;
     erase_first_row(&mut screen, true);
-    holds(&rt, "selective", shows_lines(&screen, &["AB"]));
-    holds(&rt, "brushes", keeps_brushes(&screen));
+    let is_kept = shows_lines(&screen, &["AB"]) && keeps_brushes(&screen);
     erase_first_row(&mut screen, false);
-    holds(&rt, "all", shows_lines(&screen, &[]));
-    Ok(())
+    Ok(is_kept && shows_lines(&screen, &[]))
+}
+
+#[test]
+fn a_selective_erase_keeps_attributes_and_protected_cells(rt: HostRuntime) {
+    is_met(&rt, "erase", erase_is_selective(rt.alloc()));
 }
 
 /// Writes letters in three corners of a wide screen.
@@ -227,16 +240,20 @@ fn clear_by_edges(screen: &mut Screen) {
     }
 }
 
-#[test]
-fn the_edges_hold(rt: HostRuntime) -> Result<(), Fail> {
-    let mut screen = Screen::new(rt.alloc())?;
+/// Whether the edges hold, and all is lost in the end.
+fn edges_hold(alloc: Global) -> Result<bool, AllocError> {
+    let mut screen = Screen::new(alloc)?;
     write_corners(&mut screen);
-    holds(&rt, "moves by 0", stays_by_nothing(&mut screen));
-    holds(&rt, "last column", loses_the_last_column(&mut screen));
-    holds(&rt, "first row", shows(&screen, 1, "A"));
+    let hold = stays_by_nothing(&mut screen)
+        && loses_the_last_column(&mut screen)
+        && shows(&screen, 1, "A");
     clear_by_edges(&mut screen);
-    holds(&rt, "blank", shows_lines(&screen, &[]));
-    Ok(())
+    Ok(hold && shows_lines(&screen, &[]))
+}
+
+#[test]
+fn the_edges_hold(rt: HostRuntime) {
+    is_met(&rt, "edges", edges_hold(rt.alloc()));
 }
 
 /// Whether each row has as many cells as this, and the last of them shows this letter.
@@ -253,31 +270,42 @@ fn is_filled(screen: &Screen, width: usize, letter: u8) -> bool
     true
 }
 
-#[test]
-fn a_width_blanks(rt: HostRuntime) -> Result<(), Fail> {
-    let mut screen = Screen::new(rt.alloc())?;
+/// Whether a change of the width blanks a screen that was filled.
+fn width_blanks(alloc: Global) -> Result<bool, AllocError> {
+    let mut screen = Screen::new(alloc)?;
     screen.fill(Cell::new(Glyph::ascii(b'E'), Brush::plain()));
-    holds(&rt, "filled", is_filled(&screen, 80, b'E'));
+    let was_filled = is_filled(&screen, 80, b'E');
     screen.set_width(true);
-    holds(&rt, "wide", is_filled(&screen, 132, b' '));
-    holds(&rt, "blank", shows_lines(&screen, &[]));
-    Ok(())
+    Ok(was_filled && is_filled(&screen, 132, b' ') && shows_lines(&screen, &[]))
 }
 
 #[test]
-fn screens_compare(rt: HostRuntime) -> Result<(), Fail> {
-    let mut screen = Screen::new(rt.alloc())?;
-    let other = Screen::new(rt.alloc())?;
-    holds(&rt, "new", screen.same(&other));
+fn a_width_blanks(rt: HostRuntime) {
+    is_met(&rt, "width", width_blanks(rt.alloc()));
+}
+
+/// Whether a screen differs from a new one when it is filled and when it is wide, and not when it is narrow again: rows that
+/// are kept elsewhere are the same rows.
+fn differs_while_changed(screen: &mut Screen, new: &Screen) -> bool {
     screen.fill(Cell::new(Glyph::ascii(b'E'), Brush::plain()));
-    holds(&rt, "filled", !screen.same(&other));
+    let is_same_filled = screen.same(new);
     screen.set_width(true);
-    holds(&rt, "wide", !screen.same(&other));
+    let is_same_wide = screen.same(new);
     screen.set_width(false);
-    // Rows that are kept elsewhere are the same rows.
     screen.scroll_up(1, 24, 7);
-    holds(&rt, "narrow again", screen.same(&other));
-    Ok(())
+    !is_same_filled && !is_same_wide && screen.same(new)
+}
+
+/// Whether two new screens are the same, and differ while one is changed.
+fn screens_differ(alloc: Global) -> Result<bool, AllocError> {
+    let mut screen = Screen::new(alloc)?;
+    let other = Screen::new(alloc)?;
+    Ok(screen.same(&other) && differs_while_changed(&mut screen, &other))
+}
+
+#[test]
+fn screens_compare(rt: HostRuntime) {
+    is_met(&rt, "screens", screens_differ(rt.alloc()));
 }
 
 /// Bold and protected.
@@ -321,10 +349,14 @@ fn graphics_are_written(screen: &Screen) -> bool {
     cells.len() == 80 && cells[74] == Cell::blank() && are_shown(&cells[75..], bold())
 }
 
-#[test]
-fn graphic_bytes_are_written_through_the_sets(rt: HostRuntime) -> Result<(), Fail> {
-    let mut screen = Screen::new(rt.alloc())?;
+/// Whether graphic bytes are written so on a new screen.
+fn graphics_are_put(alloc: Global) -> Result<bool, AllocError> {
+    let mut screen = Screen::new(alloc)?;
     write_graphics(&mut screen);
-    holds(&rt, "written", graphics_are_written(&screen));
-    Ok(())
+    Ok(graphics_are_written(&screen))
+}
+
+#[test]
+fn graphic_bytes_are_written_through_the_sets(rt: HostRuntime) {
+    is_met(&rt, "written", graphics_are_put(rt.alloc()));
 }

@@ -1,8 +1,7 @@
 //! Rows of held parts, events and plain runs.
-use super::common::holds;
+use super::common::{holds, is_met};
 use arrayvec::ArrayVec;
-use std::alloc::Global;
-use std::test::Fail;
+use std::alloc::{AllocError, Global};
 use vt_syntax::{
     Event, EventKind, Front, Held, Inters, Parser, Phase, Taken, Values, front_values, graphic_run,
     is_final, plain_run,
@@ -302,7 +301,7 @@ fn is_plain_for(piece: &[u8], length: usize) -> bool {
 }
 
 /// Whether all bytes from 20 to 7E are plain.
-fn all_are_plain(alloc: Global) -> Result<bool, Fail> {
+fn all_are_plain(alloc: Global) -> Result<bool, AllocError> {
     let mut each = Vec::new(alloc);
     for b in 0x20..0x7Fu8 {
         each.push(b)?;
@@ -310,19 +309,27 @@ fn all_are_plain(alloc: Global) -> Result<bool, Fail> {
     Ok(is_plain_for(&each, 95))
 }
 
+/// A letter 31 times, and an ESC.
+const LETTERS: &[u8] = b"aaaaaaaaaaaaaaaaaaaaaaaaaaaaaaa\x1Ba";
+
+/// A tilde 64 times, and a DEL.
+const TILDES: &[u8] = b"~~~~~~~~~~~~~~~~~~~~~~~~~~~~~~~~~~~~~~~~~~~~~~~~~~~~~~~~~~~~~~~~\x7F";
+
+/// A name, a piece, and the length of the run of plain bytes in front of it.
+const PLAIN: &[(&str, &[u8], usize)] = &[
+    ("none", b"", 0),
+    ("a control", b"\x1FA", 0),
+    ("the right half", b"\x80A", 0),
+    ("letters", LETTERS, 31),
+    ("tildes", TILDES, 64),
+];
+
 #[test]
-fn plain_runs(rt: HostRuntime) -> Result<(), Fail> {
-    let mut tildes = [b'~'; 65];
-    tildes[64] = 0x7F;
-    let mut letters = [b'a'; 33];
-    letters[31] = 0x1B;
-    holds(&rt, "all", all_are_plain(rt.alloc())?);
-    holds(&rt, "none", is_plain_for(b"", 0));
-    holds(&rt, "a control", is_plain_for(b"\x1FA", 0));
-    holds(&rt, "the right half", is_plain_for(b"\x80A", 0));
-    holds(&rt, "letters", is_plain_for(&letters, 31));
-    holds(&rt, "tildes", is_plain_for(&tildes, 64));
-    Ok(())
+fn plain_runs(rt: HostRuntime) {
+    for (name, piece, length) in PLAIN {
+        holds(&rt, name, is_plain_for(piece, *length));
+    }
+    is_met(&rt, "all", all_are_plain(rt.alloc()));
 }
 
 /// Whether the run of graphic bytes in front of a piece has this length.
@@ -349,35 +356,49 @@ fn begins(piece: &[u8], front: Front) -> bool {
     !piece.is_empty() && Front::of(piece) == front
 }
 
+/// A name, a piece, and how it begins.
+const FRONTS: &[(&str, &[u8], Front)] = &[
+    ("ESC", b"\x1B[H", Front::Escape),
+    ("CSI", b"\x9BH", Front::Introducer),
+    ("space", b" ", Front::Plain),
+    ("right", b"\xFE", Front::Right),
+    ("empty", b"\xA0", Front::Empty),
+    ("CR", b"\r\n", Front::CarriageReturn),
+    ("IND", b"\x84", Front::Control(0x84)),
+    ("DEL", b"\x7F", Front::Other),
+];
+
 #[test]
 fn fronts(rt: HostRuntime) {
-    holds(&rt, "ESC", begins(b"\x1B[H", Front::Escape));
-    holds(&rt, "CSI", begins(b"\x9BH", Front::Introducer));
-    holds(&rt, "space", begins(b" ", Front::Plain));
-    holds(&rt, "right", begins(b"\xFE", Front::Right));
-    holds(&rt, "empty", begins(b"\xA0", Front::Empty));
-    holds(&rt, "CR", begins(b"\r\n", Front::CarriageReturn));
-    holds(&rt, "IND", begins(b"\x84", Front::Control(0x84)));
-    holds(&rt, "DEL", begins(b"\x7F", Front::Other));
+    for (name, piece, front) in FRONTS {
+        holds(&rt, name, begins(piece, *front));
+    }
 }
 
-/// Whether the values at the front of a piece are so many, these two first, and this byte is after them.
-fn has_values(piece: &[u8], count: usize, first: u16, second: u16, last: u8) -> bool {
+/// A name, a piece, the number of values at its front, the first two of them, and the byte after them.
+type ValuesRow = (&'static str, &'static [u8], usize, u16, u16, u8);
+
+const VALUES: &[ValuesRow] = &[
+    ("one", b"\x1B[12Habcdef", 1, 12, 0, b'H'),
+    ("two", b"\x1B[;132Habcdef", 2, 0, 132, b'H'),
+    ("three", b"\x1B[0;1;7mabcdefgh", 3, 0, 1, b'm'),
+];
+
+/// Whether the values at the front of a row's piece are these.
+fn has_values((_name, piece, count, first, second, last): &ValuesRow) -> bool {
     match front_values(piece) {
-        Some(f) => { f.count == count && f.first == first && f.second == second && f.last == last }
+        Some(f) => {
+            f.count == *count && f.first == *first && f.second == *second && f.last == *last
+        }
         None => false,
     }
 }
 
 #[test]
 fn values_at_the_front(rt: HostRuntime) {
-    holds(&rt, "one", has_values(b"\x1B[12Habcdef", 1, 12, 0, b'H'));
-    holds(&rt, "two", has_values(b"\x1B[;132Habcdef", 2, 0, 132, b'H'));
-    holds(
-        &rt,
-        "three",
-        has_values(b"\x1B[0;1;7mabcdefgh", 3, 0, 1, b'm'),
-    );
+    for row in VALUES {
+        holds(&rt, row.0, has_values(row));
+    }
     holds(&rt, "few bytes", front_values(b"\x1B[12Ha").is_none());
     holds(&rt, "final", is_final(b'@') && !is_final(0x7F));
 }

@@ -1,8 +1,7 @@
 //! Recordings by script(1) with a timing file, written by hand, with the content that they have.
 use super::common::holds;
-use std::alloc::Global;
-use std::test::Fail;
-use vt_recording::{Break, Encoding, Format, Moment, Part, take_apart};
+use super::taking_apart::{Row, are_taken_apart};
+use vt_recording::{Break, Encoding, Format, Moment, Part};
 
 /// A session of ten bytes, which ends at byte 30.
 const SESSION: &[u8] = b"Script started on x\none\r\ntwo\r\n\nScript done on y\n";
@@ -74,141 +73,276 @@ H 0.000000 EXIT_CODE 0\n";
 const APPENDED: &[u8] =
     b"Script started on x\na\nScript done on y\nScript started on z\nb\nScript done on z\n";
 
-/// A recording, its timing file, the moment up to which it is wanted, its content, and the place at which it is broken.
-type Row = (
-    &'static [u8],
-    &'static [u8],
-    Option<Moment>,
-    &'static [u8],
-    Option<Break>,
-);
+const SESSIONS: &[Row] = &[
+    (SESSION, Some(CLASSIC), None, b"one\r\ntwo\r\n", None, 0),
+    (
+        SESSION,
+        Some(CLASSIC),
+        Some(Moment::Micros(99_999)),
+        b"",
+        None,
+        0,
+    ),
+    (
+        SESSION,
+        Some(CLASSIC),
+        Some(Moment::Micros(299_999)),
+        b"one\r\n",
+        None,
+        0,
+    ),
+    (
+        SESSION,
+        Some(CLASSIC),
+        Some(Moment::Micros(300_000)),
+        b"one\r\ntwo\r\n",
+        None,
+        0,
+    ),
+    (
+        SESSION,
+        Some(CLASSIC),
+        Some(Moment::Bytes(6)),
+        b"one\r\nt",
+        None,
+        0,
+    ),
+    (SESSION, Some(TYPES), None, b"one\r\ntwo\r\n", None, 0),
+    (
+        SESSION,
+        Some(TYPES),
+        Some(Moment::Micros(299_999)),
+        b"one\r\n",
+        None,
+        0,
+    ),
+    (
+        LOG_IO,
+        Some(LOG_IO_TIMING),
+        None,
+        b"hello\r\ngot hello\r\ntwo",
+        None,
+        0,
+    ),
+    // The time of the input counts.
+    (
+        LOG_IO,
+        Some(LOG_IO_TIMING),
+        Some(Moment::Micros(300_818)),
+        b"",
+        None,
+        0,
+    ),
+    (
+        LOG_IO,
+        Some(LOG_IO_TIMING),
+        Some(Moment::Micros(300_819)),
+        b"hello\r\n",
+        None,
+        0,
+    ),
+    (
+        APART,
+        Some(APART_TIMING),
+        None,
+        b"hi\r\ngot hi\r\n",
+        None,
+        0,
+    ),
+    (
+        APART,
+        Some(APART_TIMING),
+        Some(Moment::Micros(300_903)),
+        b"",
+        None,
+        0,
+    ),
+    (
+        TOGETHER,
+        Some(TOGETHER_TIMING),
+        None,
+        b"hi\r\ngot hi\r\n",
+        None,
+        0,
+    ),
+    // A fact about the output alone.
+    (
+        SESSION,
+        Some(b"H 0 OUTPUT_LOG a\nI 0.1 5\nO 0.1 5\n"),
+        None,
+        b"two\r\n",
+        None,
+        0,
+    ),
+    // Without the last LF, with an empty line, and with no lines.
+    (SESSION, Some(b"0.1 5"), None, b"one\r\n", None, 0),
+    (
+        SESSION,
+        Some(b"0.1 5\n\n0.1 5\n"),
+        None,
+        b"one\r\ntwo\r\n",
+        None,
+        0,
+    ),
+    (SESSION, Some(b""), None, b"", None, 0),
+];
 
-fn until(micros: u64) -> Option<Moment> {
-    Some(Moment::Micros(micros))
-}
-
-fn bytes(count: u64) -> Option<Moment> {
-    Some(Moment::Bytes(count))
-}
-
-fn recording(at: u64) -> Option<Break> {
-    Some(Break {
-        part: Part::Recording,
-        at,
-    })
-}
-
-fn timing(at: u64) -> Option<Break> {
-    Some(Break {
-        part: Part::Timing,
-        at,
-    })
-}
-
-fn sessions() -> [Row; 17] {
-    [
-        (SESSION, CLASSIC, None, b"one\r\ntwo\r\n", None),
-        (SESSION, CLASSIC, until(99_999), b"", None),
-        (SESSION, CLASSIC, until(299_999), b"one\r\n", None),
-        (SESSION, CLASSIC, until(300_000), b"one\r\ntwo\r\n", None),
-        (SESSION, CLASSIC, bytes(6), b"one\r\nt", None),
-        (SESSION, TYPES, None, b"one\r\ntwo\r\n", None),
-        (SESSION, TYPES, until(299_999), b"one\r\n", None),
-        (
-            LOG_IO,
-            LOG_IO_TIMING,
-            None,
-            b"hello\r\ngot hello\r\ntwo",
-            None,
-        ),
-        // The time of the input counts.
-        (LOG_IO, LOG_IO_TIMING, until(300_818), b"", None),
-        (LOG_IO, LOG_IO_TIMING, until(300_819), b"hello\r\n", None),
-        (APART, APART_TIMING, None, b"hi\r\ngot hi\r\n", None),
-        (APART, APART_TIMING, until(300_903), b"", None),
-        (TOGETHER, TOGETHER_TIMING, None, b"hi\r\ngot hi\r\n", None),
-        // A fact about the output alone.
-        (
-            SESSION,
-            b"H 0 OUTPUT_LOG a\nI 0.1 5\nO 0.1 5\n",
-            None,
-            b"two\r\n",
-            None,
-        ),
-        // Without the last LF, with an empty line, and with no lines.
-        (SESSION, b"0.1 5", None, b"one\r\n", None),
-        (SESSION, b"0.1 5\n\n0.1 5\n", None, b"one\r\ntwo\r\n", None),
-        (SESSION, b"", None, b"", None),
-    ]
-}
-
-fn breaks() -> [Row; 13] {
-    [
-        (SESSION, b"0.1 5\nx\n0.1 5\n", None, b"one\r\n", timing(6)),
-        (SESSION, b"0.1 5\nx\n0.1 5\n", bytes(1), b"o", timing(6)),
-        (SESSION, b"0.1\n", None, b"", timing(0)),
-        (SESSION, b"0.1 5 \n", None, b"", timing(0)),
-        (SESSION, b"-0.1 5\n", None, b"", timing(0)),
-        (SESSION, b"Q 0.1 5\n", None, b"", timing(0)),
-        // The count of input that is apart has to be a number.
-        (
-            SESSION,
-            b"H 0 OUTPUT_LOG a\nH 0 INPUT_LOG b\nI 0.1 x\n",
-            None,
-            b"",
-            timing(33),
-        ),
-        // More bytes than the session has, which hasn't the LF before its last line.
-        (SESSION, b"0.1 5\n0.1 6\n", None, b"one\r\n", recording(30)),
-        (
-            b"Script started on x\nabc",
-            b"0.1 2\n0.1 2",
-            None,
-            b"ab",
-            recording(23),
-        ),
-        (b"abc", b"0.1 1\n", None, b"", recording(0)),
-        (APPENDED, b"0.1 1\n", None, b"a", recording(21)),
-        (APPENDED, b"0.1 1\nx", None, b"a", timing(6)),
-        (APPENDED, b"0.1 1\n0.1 1\n", None, b"a", recording(21)),
-    ]
-}
-
-/// Whether a recording is taken apart as its row says.
-fn is_taken_apart(
-    alloc: Global,
-    (input, timing, until, content, broken): &Row,
-) -> Result<bool, Fail> {
-    let taken = take_apart(
-        alloc,
-        input,
-        Some(*timing),
-        Format::Script,
-        Encoding::Dec,
-        *until,
-    )?;
-    Ok(taken.content.as_slice() == *content && taken.broken == *broken && taken.replaced == 0)
-}
-
-/// Whether each of these is.
-fn are_taken_apart(alloc: Global, rows: &[Row]) -> Result<bool, Fail> {
-    for row in rows {
-        if !is_taken_apart(alloc, row)? {
-            return Ok(false);
-        }
-    }
-    Ok(true)
-}
+const BREAKS: &[Row] = &[
+    (
+        SESSION,
+        Some(b"0.1 5\nx\n0.1 5\n"),
+        None,
+        b"one\r\n",
+        Some(Break {
+            part: Part::Timing,
+            at: 6,
+        }),
+        0,
+    ),
+    (
+        SESSION,
+        Some(b"0.1 5\nx\n0.1 5\n"),
+        Some(Moment::Bytes(1)),
+        b"o",
+        Some(Break {
+            part: Part::Timing,
+            at: 6,
+        }),
+        0,
+    ),
+    (
+        SESSION,
+        Some(b"0.1\n"),
+        None,
+        b"",
+        Some(Break {
+            part: Part::Timing,
+            at: 0,
+        }),
+        0,
+    ),
+    (
+        SESSION,
+        Some(b"0.1 5 \n"),
+        None,
+        b"",
+        Some(Break {
+            part: Part::Timing,
+            at: 0,
+        }),
+        0,
+    ),
+    (
+        SESSION,
+        Some(b"-0.1 5\n"),
+        None,
+        b"",
+        Some(Break {
+            part: Part::Timing,
+            at: 0,
+        }),
+        0,
+    ),
+    (
+        SESSION,
+        Some(b"Q 0.1 5\n"),
+        None,
+        b"",
+        Some(Break {
+            part: Part::Timing,
+            at: 0,
+        }),
+        0,
+    ),
+    // The count of input that is apart has to be a number.
+    (
+        SESSION,
+        Some(b"H 0 OUTPUT_LOG a\nH 0 INPUT_LOG b\nI 0.1 x\n"),
+        None,
+        b"",
+        Some(Break {
+            part: Part::Timing,
+            at: 33,
+        }),
+        0,
+    ),
+    // More bytes than the session has, which hasn't the LF before its last line.
+    (
+        SESSION,
+        Some(b"0.1 5\n0.1 6\n"),
+        None,
+        b"one\r\n",
+        Some(Break {
+            part: Part::Recording,
+            at: 30,
+        }),
+        0,
+    ),
+    (
+        b"Script started on x\nabc",
+        Some(b"0.1 2\n0.1 2"),
+        None,
+        b"ab",
+        Some(Break {
+            part: Part::Recording,
+            at: 23,
+        }),
+        0,
+    ),
+    (
+        b"abc",
+        Some(b"0.1 1\n"),
+        None,
+        b"",
+        Some(Break {
+            part: Part::Recording,
+            at: 0,
+        }),
+        0,
+    ),
+    (
+        APPENDED,
+        Some(b"0.1 1\n"),
+        None,
+        b"a",
+        Some(Break {
+            part: Part::Recording,
+            at: 21,
+        }),
+        0,
+    ),
+    (
+        APPENDED,
+        Some(b"0.1 1\nx"),
+        None,
+        b"a",
+        Some(Break {
+            part: Part::Timing,
+            at: 6,
+        }),
+        0,
+    ),
+    (
+        APPENDED,
+        Some(b"0.1 1\n0.1 1\n"),
+        None,
+        b"a",
+        Some(Break {
+            part: Part::Recording,
+            at: 21,
+        }),
+        0,
+    ),
+];
 
 #[test]
-fn sessions_by_hand(rt: HostRuntime) -> Result<(), Fail> {
-    let are = are_taken_apart(rt.alloc(), &sessions())?;
+fn sessions_by_hand(rt: HostRuntime) {
+    let are = are_taken_apart(rt.alloc(), Format::Script, Encoding::Dec, SESSIONS);
     holds(&rt, "sessions", are);
-    Ok(())
 }
 
 #[test]
-fn broken_timings_by_hand(rt: HostRuntime) -> Result<(), Fail> {
-    holds(&rt, "breaks", are_taken_apart(rt.alloc(), &breaks())?);
-    Ok(())
+fn broken_timings_by_hand(rt: HostRuntime) {
+    let are = are_taken_apart(rt.alloc(), Format::Script, Encoding::Dec, BREAKS);
+    holds(&rt, "breaks", are);
 }

@@ -1,4 +1,5 @@
 //! What no clause says of names: that bytes have the name which the specification gives them.
+mod common;
 mod functions;
 mod ignored;
 mod lines;

@@ -1,6 +1,5 @@
 //! Each row of the tables 'Functions' and 'Reports' of the specification, with bytes and names by hand.
-use super::names::{Row, are_named, holds};
-use std::test::Fail;
+use super::names::{Row, are_all_named};
 
 const CONTROLS: [Row; 22] = [
     (b"\x08", b"BS "),
@@ -81,25 +80,16 @@ const SEQUENCES: [Row; 27] = [
 ];
 
 #[test]
-fn controls_and_escapes(rt: HostRuntime) -> Result<(), Fail> {
-    for row in &CONTROLS {
-        holds(&rt, row, are_named(rt.alloc(), row)?);
-    }
-    Ok(())
+fn controls_and_escapes(rt: HostRuntime) {
+    are_all_named(&rt, rt.alloc(), &CONTROLS);
 }
 
 #[test]
-fn designations(rt: HostRuntime) -> Result<(), Fail> {
-    for row in &DESIGNATIONS {
-        holds(&rt, row, are_named(rt.alloc(), row)?);
-    }
-    Ok(())
+fn designations(rt: HostRuntime) {
+    are_all_named(&rt, rt.alloc(), &DESIGNATIONS);
 }
 
 #[test]
-fn control_sequences(rt: HostRuntime) -> Result<(), Fail> {
-    for row in &SEQUENCES {
-        holds(&rt, row, are_named(rt.alloc(), row)?);
-    }
-    Ok(())
+fn control_sequences(rt: HostRuntime) {
+    are_all_named(&rt, rt.alloc(), &SEQUENCES);
 }

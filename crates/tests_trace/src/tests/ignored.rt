@@ -1,6 +1,5 @@
 //! Events that are ignored, by values and by bytes, and bytes that are no event.
-use super::names::{Row, are_named, holds};
-use std::test::Fail;
+use super::names::{Row, are_all_named};
 
 const BY_BYTES: [Row; 14] = [
     (
@@ -58,17 +57,11 @@ const BY_VALUES: [Row; 14] = [
 ];
 
 #[test]
-fn ignored_by_their_bytes(rt: HostRuntime) -> Result<(), Fail> {
-    for row in &BY_BYTES {
-        holds(&rt, row, are_named(rt.alloc(), row)?);
-    }
-    Ok(())
+fn ignored_by_their_bytes(rt: HostRuntime) {
+    are_all_named(&rt, rt.alloc(), &BY_BYTES);
 }
 
 #[test]
-fn ignored_by_their_values(rt: HostRuntime) -> Result<(), Fail> {
-    for row in &BY_VALUES {
-        holds(&rt, row, are_named(rt.alloc(), row)?);
-    }
-    Ok(())
+fn ignored_by_their_values(rt: HostRuntime) {
+    are_all_named(&rt, rt.alloc(), &BY_VALUES);
 }

@@ -1,7 +1,6 @@
 //! The lines of events, by hand. Each event is at place 1234.
-use std::alloc::Global;
-use std::process::Abort;
-use std::test::Fail;
+use super::common::holds;
+use std::alloc::{AllocError, Global};
 use vt_syntax::{Parser, Values};
 use vt_trace::{LINE_LIMIT, push_line};
 
@@ -29,7 +28,7 @@ const LINES: [Row; 17] = [
 ];
 
 /// Returns whether the first event of the bytes has this line.
-fn has_line(alloc: Global, row: &Row) -> Result<bool, Fail> {
+fn has_line(alloc: Global, row: &Row) -> Result<bool, AllocError> {
     let mut parser = Parser::new();
     let mut values = Values::new();
     let taken = parser.next(row.0, &mut values);
@@ -41,15 +40,9 @@ fn has_line(alloc: Global, row: &Row) -> Result<bool, Fail> {
     Ok(out.as_slice() == row.1)
 }
 
-/// Asserts what a test has found of the row with these bytes.
-fn holds(rt: &impl Abort, row: &Row, found: bool) {
-    assert!(rt; found, "{:?}", row.0);
-}
-
 #[test]
-fn lines_of_events(rt: HostRuntime) -> Result<(), Fail> {
+fn lines_of_events(rt: HostRuntime) {
     for row in &LINES {
-        holds(&rt, row, has_line(rt.alloc(), row)?);
+        holds(&rt, row.0, has_line(rt.alloc(), row));
     }
-    Ok(())
 }

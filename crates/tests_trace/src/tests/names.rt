@@ -1,7 +1,7 @@
 //! What the tests share: the names of the events of some bytes.
-use std::alloc::Global;
+use super::common::holds;
+use std::alloc::{AllocError, Global};
 use std::process::Abort;
-use std::test::Fail;
 use vt_syntax::{Parser, Values};
 use vt_trace::name;
 
@@ -9,7 +9,7 @@ use vt_trace::name;
 pub(super) type Row = (&'static [u8], &'static [u8]);
 
 /// Returns the names of the events of some bytes, each with a space after it.
-fn names(alloc: Global, input: &[u8]) -> Result<Vec<u8>, Fail> {
+fn names(alloc: Global, input: &[u8]) -> Result<Vec<u8>, AllocError> {
     let mut parser = Parser::new();
     let mut values = Values::new();
     let mut out = Vec::new(alloc);
@@ -27,11 +27,13 @@ fn names(alloc: Global, input: &[u8]) -> Result<Vec<u8>, Fail> {
 }
 
 /// Returns whether the events of the bytes have these names.
-pub(super) fn are_named(alloc: Global, row: &Row) -> Result<bool, Fail> {
+fn are_named(alloc: Global, row: &Row) -> Result<bool, AllocError> {
     Ok(names(alloc, row.0)?.as_slice() == row.1)
 }
 
-/// Asserts what a test has found of the row with these names.
-pub(super) fn holds(rt: &impl Abort, row: &Row, found: bool) {
-    assert!(rt; found, "{:?}", row.0);
+/// Asserts that the events of each row's bytes have the row's names.
+pub(super) fn are_all_named(rt: &impl Abort, alloc: Global, rows: &[Row]) {
+    for row in rows {
+        holds(rt, row.0, are_named(alloc, row));
+    }
 }

@@ -1,9 +1,8 @@
 //! Summaries of bytes, by hand.
 ghost use Rattle.std.specs.Prelude.{◌≤◌};
 
-use std::alloc::Global;
-use std::process::Abort;
-use std::test::Fail;
+use super::common::holds;
+use std::alloc::{AllocError, Global};
 use vt_trace::{SUMMARY_LIMIT, Summary};
 
 /// Bytes, and their summary.
@@ -42,7 +41,7 @@ const SUMMARIES: [Row; 7] = [
 ];
 
 /// Returns whether the bytes have this summary, in chunks of a size.
-fn has_summary(alloc: Global, row: &Row, size: usize) -> Result<bool, Fail>
+fn has_summary(alloc: Global, row: &Row, size: usize) -> Result<bool, AllocError>
     requires { 1 ≤ size }
 {
     let mut summary = Summary::new(alloc)?;
@@ -54,17 +53,11 @@ fn has_summary(alloc: Global, row: &Row, size: usize) -> Result<bool, Fail>
     Ok(out.as_slice() == row.1)
 }
 
-/// Asserts what a test has found of the row with these bytes.
-fn holds(rt: &impl Abort, row: &Row, found: bool) {
-    assert!(rt; found, "{:?}", row.0);
-}
-
 #[test]
-fn summaries_of_chunks(rt: HostRuntime) -> Result<(), Fail> {
+fn summaries_of_chunks(rt: HostRuntime) {
     for row in &SUMMARIES {
         for size in [1, 3, 4096] {
-            holds(&rt, row, has_summary(rt.alloc(), row, size)?);
+            holds(&rt, row.0, has_summary(rt.alloc(), row, size));
         }
     }
-    Ok(())
 }

@@ -1,9 +1,8 @@
 //! Traces of bytes, by hand.
 ghost use Rattle.std.specs.Prelude.{◌≤◌};
 
-use std::alloc::Global;
-use std::process::Abort;
-use std::test::Fail;
+use super::common::holds;
+use std::alloc::{AllocError, Global};
 use vt_term::Terminal;
 use vt_trace::{SKIPPED_LIMIT, TRACE_LIMIT, Tracer, trace_end, trace_reserved};
 
@@ -149,40 +148,64 @@ const TRACES: [Row; 25] = [
 /// The most bytes of a row, and no place is behind so many.
 const MOST: usize = 64;
 
-/// Returns whether the bytes have this trace with its end, in chunks of a size.
-fn has_trace_in_chunks(alloc: Global, row: &Row, size: usize) -> Result<bool, Fail>
-    requires { 1 ≤ size }
-{
-    let mut terminal = Terminal::new(alloc)?;
-    let mut tracer = Tracer::new();
-    let mut lines = Vec::new(alloc);
-    for chunk in row.0.chunks(size) {
-        if chunk.len() > MOST || tracer.place > MOST as u64 {
-            return Ok(false);
-        }
-        let mut reports = Vec::with_capacity(alloc, 10 * MOST)?;
-        let mut out = Vec::with_capacity(alloc, TRACE_LIMIT * MOST)?;
-        let _ = trace_reserved(&mut terminal, &mut tracer, chunk, &mut reports, &mut out);
-        lines.extend_from_slice(&out)?;
+/// Appends the trace of a chunk. Returns whether all of it was played.
+fn push_chunk(
+    terminal: &mut Terminal,
+    tracer: &mut Tracer,
+    chunk: &[u8],
+    lines: &mut Vec<u8>,
+    reports: &mut Vec<u8>,
+) -> Result<bool, AllocError> {
+    if chunk.len() > MOST || tracer.place > MOST as u64 {
+        return Ok(false);
     }
-    let mut wanted = Vec::from_slice(alloc, row.1)?;
-    wanted.extend_from_slice(row.2)?;
-    lines.reserve(SKIPPED_LIMIT)?;
-    trace_end(&tracer, &mut lines);
-    Ok(lines.as_slice() == wanted.as_slice())
+    reports.reserve(10 * MOST)?;
+    lines.reserve(TRACE_LIMIT * MOST)?;
+    Ok(trace_reserved(terminal, tracer, chunk, reports, lines) == chunk.len())
 }
 
-/// Asserts what a test has found of the row with these bytes.
-fn holds(rt: &impl Abort, row: &Row, found: bool) {
-    assert!(rt; found, "{:?}", row.0);
+/// Appends the trace of some bytes, in chunks of a size. Returns whether all of them were played.
+fn push_trace(
+    terminal: &mut Terminal,
+    bytes: &[u8],
+    size: usize,
+    lines: &mut Vec<u8>,
+    reports: &mut Vec<u8>,
+) -> Result<bool, AllocError>
+    requires { 1 ≤ size }
+{
+    let mut tracer = Tracer::new();
+    for chunk in bytes.chunks(size) {
+        if !push_chunk(terminal, &mut tracer, chunk, lines, reports)? {
+            return Ok(false);
+        }
+    }
+    lines.reserve(SKIPPED_LIMIT)?;
+    trace_end(&tracer, lines);
+    Ok(true)
+}
+
+/// Returns whether the bytes have this trace with its end, in chunks of a size.
+fn has_trace_in_chunks(alloc: Global, row: &Row, size: usize) -> Result<bool, AllocError>
+    requires { 1 ≤ size }
+{
+    let mut lines = Vec::new(alloc);
+    let mut reports = Vec::new(alloc);
+    let mut terminal = Terminal::new(alloc)?;
+    let is_played = push_trace(&mut terminal, row.0, size, &mut lines, &mut reports)?;
+    Ok(is_played && is_joined(&lines, row.1, row.2))
+}
+
+/// Returns whether some bytes are two parts, one after the other.
+fn is_joined(bytes: &[u8], front: &[u8], end: &[u8]) -> bool {
+    bytes.starts_with(front) && bytes.get(front.len()..) == Some(end)
 }
 
 #[test]
-fn traces_of_chunks(rt: HostRuntime) -> Result<(), Fail> {
+fn traces_of_chunks(rt: HostRuntime) {
     for row in &TRACES {
         for size in [1, 3, 4096] {
-            holds(&rt, row, has_trace_in_chunks(rt.alloc(), row, size)?);
+            holds(&rt, row.0, has_trace_in_chunks(rt.alloc(), row, size));
         }
     }
-    Ok(())
 }

@@ -1,7 +1,6 @@
 //! Worked rows of ill-formed UTF-8.
 use super::common::{fed, holds, shows};
-use std::alloc::Global;
-use std::test::Fail;
+use std::alloc::{AllocError, Global};
 
 /// A name, what is fed, the first lines of the screen, and the cursor's row and column.
 type Row = (&'static str, &'static [u8], &'static str, (u16, u16));
@@ -42,38 +41,30 @@ const ILL_FORMED: [Row; 10] = [
 ];
 
 #[test]
-fn ill_formed(rt: HostRuntime) -> Result<(), Fail> {
-    for (name, input, text, place) in ILL_FORMED {
-        holds(&rt, name, shows(rt.alloc(), input, text, place)?);
+fn ill_formed(rt: HostRuntime) {
+    for (name, input, text, place) in &ILL_FORMED {
+        holds(&rt, name, shows(rt.alloc(), input, text, *place));
     }
-    Ok(())
 }
 
 /// Returns whether these bytes are pending after the input.
-fn leaves(alloc: Global, input: &[u8], pending: &[u8]) -> Result<bool, Fail> {
+fn leaves(alloc: Global, input: &[u8], pending: &[u8]) -> Result<bool, AllocError> {
     let fed = fed(alloc, input, 1)?;
     Ok(fed.decoder.pending() == pending)
 }
 
+/// A name, what is fed, and the bytes that are then pending.
+const PENDING: [(&str, &[u8], &[u8]); 5] = [
+    ("nothing", b"ab", b""),
+    ("two of three", b"ab\xE2\x82", b"\xE2\x82"),
+    ("three of four", b"\xF0\x9F\x98", b"\xF0\x9F\x98"),
+    ("after a lost one", b"\xE2\x82\xC3", b"\xC3"),
+    ("a whole one", b"\xE2\x82\xAC", b""),
+];
+
 #[test]
-fn pending(rt: HostRuntime) -> Result<(), Fail> {
-    let alloc = rt.alloc();
-    holds(&rt, "nothing", leaves(alloc, b"ab", b"")?);
-    holds(
-        &rt,
-        "two of three",
-        leaves(alloc, b"ab\xE2\x82", b"\xE2\x82")?,
-    );
-    holds(
-        &rt,
-        "three of four",
-        leaves(alloc, b"\xF0\x9F\x98", b"\xF0\x9F\x98")?,
-    );
-    holds(
-        &rt,
-        "after a lost one",
-        leaves(alloc, b"\xE2\x82\xC3", b"\xC3")?,
-    );
-    holds(&rt, "a whole one", leaves(alloc, b"\xE2\x82\xAC", b"")?);
-    Ok(())
+fn pending(rt: HostRuntime) {
+    for (name, input, pending) in &PENDING {
+        holds(&rt, name, leaves(rt.alloc(), input, pending));
+    }
 }

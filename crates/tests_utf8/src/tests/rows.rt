@@ -1,6 +1,7 @@
 //! Worked rows of well-formed UTF-8.
 use super::common::{fed, holds, shows};
-use std::test::Fail;
+use std::alloc::{AllocError, Global};
+use std::process::Abort;
 use vt_utf8::{cells, shown_as};
 
 /// A name, what is fed, the first lines of the screen, and the cursor's row and column.
@@ -72,28 +73,26 @@ const SEQUENCES: [Row; 14] = [
     ("IRM", "ab\r\x1b[4hé", "éab\n", (1, 2)),
 ];
 
-#[test]
-fn glyphs(rt: HostRuntime) -> Result<(), Fail> {
-    for (name, input, text, place) in GLYPHS {
-        holds(&rt, name, shows(rt.alloc(), input.as_bytes(), text, place)?);
+/// Asserts that the screen shows what each row says.
+fn all_show(rt: &impl Abort, alloc: Global, rows: &[Row]) {
+    for (name, input, text, place) in rows {
+        holds(rt, name, shows(alloc, input.as_bytes(), text, *place));
     }
-    Ok(())
 }
 
 #[test]
-fn widths(rt: HostRuntime) -> Result<(), Fail> {
-    for (name, input, text, place) in WIDTHS {
-        holds(&rt, name, shows(rt.alloc(), input.as_bytes(), text, place)?);
-    }
-    Ok(())
+fn glyphs(rt: HostRuntime) {
+    all_show(&rt, rt.alloc(), &GLYPHS);
 }
 
 #[test]
-fn sequences(rt: HostRuntime) -> Result<(), Fail> {
-    for (name, input, text, place) in SEQUENCES {
-        holds(&rt, name, shows(rt.alloc(), input.as_bytes(), text, place)?);
-    }
-    Ok(())
+fn widths(rt: HostRuntime) {
+    all_show(&rt, rt.alloc(), &WIDTHS);
+}
+
+#[test]
+fn sequences(rt: HostRuntime) {
+    all_show(&rt, rt.alloc(), &SEQUENCES);
 }
 
 const CELLS: [(&str, char, usize); 10] = [
@@ -110,11 +109,10 @@ const CELLS: [(&str, char, usize); 10] = [
 ];
 
 #[test]
-fn cells_of_characters(rt: HostRuntime) -> Result<(), Fail> {
-    for (name, c, count) in CELLS {
-        holds(&rt, name, cells(c) == count);
+fn cells_of_characters(rt: HostRuntime) {
+    for (name, c, count) in &CELLS {
+        holds(&rt, name, Ok(cells(*c) == *count));
     }
-    Ok(())
 }
 
 /// A name, a character, and the glyph that is shown for it, or NUL if it has no cell.
@@ -140,21 +138,19 @@ fn is_shown_as(c: char, expected: char) -> bool {
 }
 
 #[test]
-fn glyphs_of_characters(rt: HostRuntime) -> Result<(), Fail> {
-    for (name, c, expected) in SHOWN {
-        holds(&rt, name, is_shown_as(c, expected));
+fn glyphs_of_characters(rt: HostRuntime) {
+    for (name, c, expected) in &SHOWN {
+        holds(&rt, name, Ok(is_shown_as(*c, *expected)));
     }
-    Ok(())
 }
 
-/// The cursor is reported after a wide character.
+/// Returns whether the cursor is reported after a wide character.
+fn is_reported_after_a_wide_character(alloc: Global) -> Result<bool, AllocError> {
+    let fed = fed(alloc, "日\x1b[6n".as_bytes(), 2)?;
+    Ok(fed.reports.as_slice() == b"\x1b[1;3R".as_slice())
+}
+
 #[test]
-fn reports(rt: HostRuntime) -> Result<(), Fail> {
-    let fed = fed(rt.alloc(), "日\x1b[6n".as_bytes(), 2)?;
-    holds(
-        &rt,
-        "CPR",
-        fed.reports.as_slice() == b"\x1b[1;3R".as_slice(),
-    );
-    Ok(())
+fn reports(rt: HostRuntime) {
+    holds(&rt, "CPR", is_reported_after_a_wide_character(rt.alloc()));
 }

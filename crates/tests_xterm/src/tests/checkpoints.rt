@@ -1,9 +1,8 @@
 //! Repaints of sessions: played on another terminal and front, they leave what is seen of the first ones.
 use super::common::{Reader, fed, holds};
-use std::alloc::Global;
-use std::test::Fail;
+use std::alloc::{AllocError, Global};
 use vt_term::Terminal;
-use vt_xterm::feed_xterm;
+use vt_xterm::Front;
 use vt_xterm_paint::repaint_xterm;
 
 /// What is there before a repaint: a page of 132 columns, the alternate page, a sequence and a character that aren't complete.
@@ -45,39 +44,68 @@ const SESSIONS: [(&str, &[u8]); 9] = [
     ("a pending single shift", b"\x1b[?1047h\x1b*0\x1bN"),
 ];
 
-/// Returns whether what is seen of two terminals and fronts is the same.
-fn is_same(alloc: Global, one: &Reader, two: &Reader) -> Result<bool, Fail> {
+/// Returns whether two fronts show the same of the two pages, and nothing is pending in the second one.
+fn fronts_agree(one: &Front, two: &Front) -> bool {
+    one.is_alternate() == two.is_alternate()
+        && one.resizes() == two.resizes()
+        && two.pending().is_empty()
+}
+
+/// Returns whether the pages that aren't shown are in the same state.
+fn other_pages_agree(alloc: Global, one: &Front, two: &Front) -> Result<bool, AllocError> {
     let mut page = Terminal::new(alloc)?;
     let mut other = Terminal::new(alloc)?;
-    one.front.show_other(&mut page);
-    two.front.show_other(&mut other);
-    let is_alike = one.front.is_alternate() == two.front.is_alternate()
-        && one.front.resizes() == two.front.resizes();
-    let is_empty = two.front.pending().is_empty();
-    Ok(is_alike && is_empty && one.terminal.same_state(&two.terminal) && page.same_state(&other))
+    one.show_other(&mut page);
+    two.show_other(&mut other);
+    Ok(page.same_state(&other))
+}
+
+/// Returns whether what is seen of two terminals and fronts is the same.
+fn is_same(alloc: Global, one: &Reader, two: &Reader) -> Result<bool, AllocError> {
+    let is_alike = fronts_agree(&one.front, &two.front) && one.terminal.same_state(&two.terminal);
+    Ok(is_alike && other_pages_agree(alloc, &one.front, &two.front)?)
+}
+
+/// Appends a session's repaint. Returns whether it has one.
+fn push_repaint(alloc: Global, session: &Reader, bytes: &mut Vec<u8>) -> Result<bool, AllocError> {
+    let mut scratch = Terminal::new(alloc)?;
+    Ok(repaint_xterm(&session.terminal, &session.front, &mut scratch, bytes).is_ok())
+}
+
+/// Returns whether bytes lead from what was there before to a session, and ask for no report.
+fn lead_to(
+    alloc: Global,
+    before: &[u8],
+    bytes: &[u8],
+    session: &Reader,
+) -> Result<bool, AllocError> {
+    let mut reader = fed(alloc, before, 4096)?;
+    let reports = reader.reports.len();
+    reader.feed(bytes, 65536)?;
+    Ok(reader.reports.len() == reports && is_same(alloc, session, &reader)?)
 }
 
 /// Returns whether a session's repaint leaves it, after what was there before.
-fn is_rebuilt(alloc: Global, session: &[u8], before: &[u8]) -> Result<bool, Fail> {
-    let one = fed(alloc, session, 4096)?;
-    let mut scratch = Terminal::new(alloc)?;
+fn is_rebuilt(alloc: Global, session: &[u8], before: &[u8]) -> Result<bool, AllocError> {
     let mut bytes = Vec::new(alloc);
-    if repaint_xterm(&one.terminal, &one.front, &mut scratch, &mut bytes).is_err() {
-        return Ok(false);
+    let reader = fed(alloc, session, 4096)?;
+    let is_painted = push_repaint(alloc, &reader, &mut bytes)?;
+    Ok(is_painted && lead_to(alloc, before, &bytes, &reader)?)
+}
+
+/// Returns whether it does after each of these.
+fn is_always_rebuilt(alloc: Global, session: &[u8]) -> Result<bool, AllocError> {
+    for before in &BEFORE {
+        if !is_rebuilt(alloc, session, before)? {
+            return Ok(false);
+        }
     }
-    let mut two = fed(alloc, before, 4096)?;
-    let reports = two.reports.len();
-    feed_xterm(&mut two.terminal, &mut two.front, &bytes, &mut two.reports)?;
-    Ok(two.reports.len() == reports && is_same(alloc, &one, &two)?)
+    Ok(true)
 }
 
 #[test]
-fn sessions_are_rebuilt(rt: HostRuntime) -> Result<(), Fail> {
-    for (name, session) in SESSIONS {
-        for before in BEFORE {
-            let found = is_rebuilt(rt.alloc(), session, before)?;
-            holds(&rt, name, found);
-        }
+fn sessions_are_rebuilt(rt: HostRuntime) {
+    for (name, session) in &SESSIONS {
+        holds(&rt, name, is_always_rebuilt(rt.alloc(), session));
     }
-    Ok(())
 }

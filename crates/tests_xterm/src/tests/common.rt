@@ -2,9 +2,8 @@
 //! function takes far more time than those of its parts.
 ghost use Rattle.std.specs.Prelude.{◌≤◌};
 
-use std::alloc::Global;
+use std::alloc::{AllocError, Global};
 use std::process::Abort;
-use std::test::Fail;
 use vt_term::Terminal;
 use vt_xterm::{Front, feed_xterm};
 
@@ -17,25 +16,39 @@ pub(super) struct Reader {
 }
 
 /// Asserts what a test has found of a row, which it names.
-pub(super) fn holds(rt: &impl Abort, row: &str, found: bool) {
+pub(super) fn holds(rt: &impl Abort, row: &str, found: Result<bool, AllocError>) {
+    let found = found.unwrap_or(false);
     assert!(rt; found, "{row}");
 }
 
+impl Reader {
+    /// Feeds the input, so many bytes at a time.
+    pub(super) fn feed(&mut self, input: &[u8], size: usize) -> Result<(), AllocError>
+        requires { 1 ≤ size }
+    {
+        for piece in input.chunks(size) {
+            feed_xterm(
+                &mut self.terminal,
+                &mut self.front,
+                piece,
+                &mut self.reports,
+            )?;
+        }
+        Ok(())
+    }
+}
+
 /// Returns a new terminal that was fed the input, so many bytes at a time.
-pub(super) fn fed(alloc: Global, input: &[u8], size: usize) -> Result<Reader, Fail>
+pub(super) fn fed(alloc: Global, input: &[u8], size: usize) -> Result<Reader, AllocError>
     requires { 1 ≤ size }
 {
-    let mut terminal = Terminal::new(alloc)?;
-    let mut front = Front::new(alloc)?;
-    let mut reports = Vec::new(alloc);
-    for piece in input.chunks(size) {
-        feed_xterm(&mut terminal, &mut front, piece, &mut reports)?;
-    }
-    Ok(Reader {
-        terminal,
-        front,
-        reports,
-    })
+    let mut reader = Reader {
+        terminal: Terminal::new(alloc)?,
+        front: Front::new(alloc)?,
+        reports: Vec::new(alloc),
+    };
+    reader.feed(input, size)?;
+    Ok(reader)
 }
 
 /// Returns whether the screen begins with this text, if the input is fed so many bytes at a time, and the cursor is here.
@@ -45,7 +58,7 @@ fn shows_in(
     size: usize,
     text: &str,
     place: (u16, u16),
-) -> Result<bool, Fail>
+) -> Result<bool, AllocError>
     requires { 1 ≤ size }
 {
     let fed = fed(alloc, input, size)?;
@@ -62,7 +75,7 @@ pub(super) fn shows(
     input: &[u8],
     text: &str,
     place: (u16, u16),
-) -> Result<bool, Fail> {
+) -> Result<bool, AllocError> {
     let is_right = shows_in(alloc, input, 1, text, place)?
         && shows_in(alloc, input, 3, text, place)?
         && shows_in(alloc, input, 4096, text, place)?;

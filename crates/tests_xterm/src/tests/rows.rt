@@ -1,7 +1,7 @@
 //! Worked rows: what the screen shows, and where the cursor is.
 use super::common::{fed, holds, shows};
-use std::alloc::Global;
-use std::test::Fail;
+use std::alloc::{AllocError, Global};
+use std::process::Abort;
 
 /// A name, what is fed, the first lines of the screen, and the cursor's row and column.
 type Row = (&'static str, &'static str, &'static str, (u16, u16));
@@ -178,32 +178,30 @@ const EDITS: [Row; 14] = [
     ("lines by SCS", "\x1b(0q\x1b(Bq", "─q\n", (1, 3)),
 ];
 
-#[test]
-fn columns(rt: HostRuntime) -> Result<(), Fail> {
-    for (name, input, text, place) in COLUMNS {
-        holds(&rt, name, shows(rt.alloc(), input.as_bytes(), text, place)?);
+/// Asserts that the screen shows what each row says.
+fn all_show(rt: &impl Abort, alloc: Global, rows: &[Row]) {
+    for (name, input, text, place) in rows {
+        holds(rt, name, shows(alloc, input.as_bytes(), text, *place));
     }
-    Ok(())
 }
 
 #[test]
-fn pages(rt: HostRuntime) -> Result<(), Fail> {
-    for (name, input, text, place) in PAGES {
-        holds(&rt, name, shows(rt.alloc(), input.as_bytes(), text, place)?);
-    }
-    Ok(())
+fn columns(rt: HostRuntime) {
+    all_show(&rt, rt.alloc(), &COLUMNS);
 }
 
 #[test]
-fn edits(rt: HostRuntime) -> Result<(), Fail> {
-    for (name, input, text, place) in EDITS {
-        holds(&rt, name, shows(rt.alloc(), input.as_bytes(), text, place)?);
-    }
-    Ok(())
+fn pages(rt: HostRuntime) {
+    all_show(&rt, rt.alloc(), &PAGES);
+}
+
+#[test]
+fn edits(rt: HostRuntime) {
+    all_show(&rt, rt.alloc(), &EDITS);
 }
 
 /// Returns whether the reports are those of a VT220, and the front is as the input says.
-fn reports_and_front(alloc: Global) -> Result<bool, Fail> {
+fn reports_and_front(alloc: Global) -> Result<bool, AllocError> {
     let fed = fed(alloc, b"\x1b[?1049h\x1b[c\x1b[?40h\x1b[6n\xE2", 1)?;
     let is_right = fed.reports.as_slice() == b"\x1b[?62;1;6c\x1b[1;1R".as_slice();
     Ok(
@@ -215,7 +213,6 @@ fn reports_and_front(alloc: Global) -> Result<bool, Fail> {
 }
 
 #[test]
-fn reports(rt: HostRuntime) -> Result<(), Fail> {
-    holds(&rt, "reports and front", reports_and_front(rt.alloc())?);
-    Ok(())
+fn reports(rt: HostRuntime) {
+    holds(&rt, "reports and front", reports_and_front(rt.alloc()));
 }

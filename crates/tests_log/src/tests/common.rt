@@ -2,14 +2,30 @@
 //! function takes far more time than those of its parts.
 ghost use Rattle.std.specs.Prelude.{◌≤◌};
 
-use std::alloc::Global;
+use std::alloc::{AllocError, Global};
 use std::process::Abort;
-use std::test::Fail;
 use vt_term::Terminal;
 
 /// Asserts what a test has found of a row, which it names.
-pub(super) fn holds(rt: &impl Abort, row: &str, found: bool) {
+pub(super) fn holds(rt: &impl Abort, row: &str, found: Result<bool, AllocError>) {
+    let found = found.unwrap_or(false);
     assert!(rt; found, "{row}");
+}
+
+/// Feeds the input, so many bytes at a time, and appends the lines that scroll off.
+fn feed_all(
+    terminal: &mut Terminal,
+    input: &[u8],
+    size: usize,
+    reports: &mut Vec<u8>,
+    lines: &mut Vec<u8>,
+) -> Result<(), AllocError>
+    requires { 1 ≤ size }
+{
+    for piece in input.chunks(size) {
+        terminal.feed_log(piece, reports, lines)?;
+    }
+    Ok(())
 }
 
 /// Returns the lines that scroll off a new terminal, fed so many bytes at a time, and behind them its screen if it is asked
@@ -19,25 +35,31 @@ pub(super) fn logged(
     input: &[u8],
     size: usize,
     with_screen: bool,
-) -> Result<Vec<u8>, Fail>
+) -> Result<Vec<u8>, AllocError>
     requires { 1 ≤ size }
 {
-    let mut terminal = Terminal::new(alloc)?;
     let mut reports = Vec::new(alloc);
     let mut lines = Vec::new(alloc);
-    for piece in input.chunks(size) {
-        terminal.feed_log(piece, &mut reports, &mut lines)?;
-    }
+    let mut terminal = Terminal::new(alloc)?;
+    feed_all(&mut terminal, input, size, &mut reports, &mut lines)?;
     if with_screen {
         terminal.text(&mut lines)?;
     }
     Ok(lines)
 }
 
+/// Returns whether these lines scroll off, fed so many bytes at a time.
+fn logs(alloc: Global, input: &[u8], size: usize, lines: &[u8]) -> Result<bool, AllocError>
+    requires { 1 ≤ size }
+{
+    Ok(logged(alloc, input, size, false)?.as_slice() == lines)
+}
+
 /// Returns whether these lines scroll off, byte by byte, seven at a time and all at once.
-pub(super) fn scrolls_off(alloc: Global, input: &[u8], lines: &[u8]) -> Result<bool, Fail> {
-    let is_right = logged(alloc, input, 1, false)?.as_slice() == lines
-        && logged(alloc, input, 7, false)?.as_slice() == lines
-        && logged(alloc, input, 4096, false)?.as_slice() == lines;
-    Ok(is_right)
+pub(super) fn scrolls_off(alloc: Global, input: &[u8], lines: &[u8]) -> Result<bool, AllocError> {
+    Ok(
+        logs(alloc, input, 1, lines)?
+            && logs(alloc, input, 7, lines)?
+            && logs(alloc, input, 4096, lines)?,
+    )
 }

@@ -1,14 +1,13 @@
 //! The log of a file that is shown is its text; and lines that have no room wait.
 ghost use Rattle.std.specs.Prelude.{◌≤◌};
 
-use super::common::{holds, logged};
-use std::alloc::Global;
-use std::test::Fail;
+use super::common::{holds, logged, scrolls_off};
+use std::alloc::{AllocError, Global};
 use vt_syntax::EventKind;
 use vt_term::{ROW_TEXT_LIMIT, Terminal};
 
 /// Numbered lines with an end each.
-fn numbered(alloc: Global, count: u32, end: &[u8]) -> Result<Vec<u8>, Fail> {
+fn numbered(alloc: Global, count: u32, end: &[u8]) -> Result<Vec<u8>, AllocError> {
     let mut text = Vec::new(alloc);
     for i in 0..count {
         let line = format!(in alloc; "line number {}", i)?;
@@ -19,7 +18,7 @@ fn numbered(alloc: Global, count: u32, end: &[u8]) -> Result<Vec<u8>, Fail> {
 }
 
 /// Returns whether the log of 200 lines and then the screen are these lines, and the line that the cursor is on.
-fn is_shown_again(alloc: Global, size: usize) -> Result<bool, Fail>
+fn is_shown_again(alloc: Global, size: usize) -> Result<bool, AllocError>
     requires { 1 ≤ size }
 {
     let mut text = numbered(alloc, 200, b"\n")?;
@@ -28,10 +27,9 @@ fn is_shown_again(alloc: Global, size: usize) -> Result<bool, Fail>
 }
 
 #[test]
-fn a_file_is_its_log(rt: HostRuntime) -> Result<(), Fail> {
-    holds(&rt, "by bytes", is_shown_again(rt.alloc(), 1)?);
-    holds(&rt, "by lines", is_shown_again(rt.alloc(), 4096)?);
-    Ok(())
+fn a_file_is_its_log(rt: HostRuntime) {
+    holds(&rt, "by bytes", is_shown_again(rt.alloc(), 1));
+    holds(&rt, "by lines", is_shown_again(rt.alloc(), 4096));
 }
 
 /// Feeds the front of some bytes, with room for one line, and appends the line that scrolls off. Returns how many bytes it
@@ -41,7 +39,7 @@ fn feed_to_a_line(
     terminal: &mut Terminal,
     bytes: &[u8],
     lines: &mut Vec<u8>,
-) -> Result<usize, Fail> {
+) -> Result<usize, AllocError> {
     let piece = &bytes[..bytes.len().min(4096)];
     let mut reports = Vec::with_capacity(alloc, 40960)?;
     let mut line = Vec::with_capacity(alloc, ROW_TEXT_LIMIT)?;
@@ -51,7 +49,7 @@ fn feed_to_a_line(
 }
 
 /// Returns the lines that scroll off where there is room for one at a time.
-fn logged_by_lines(alloc: Global, input: &[u8]) -> Result<Vec<u8>, Fail> {
+fn logged_by_lines(alloc: Global, input: &[u8]) -> Result<Vec<u8>, AllocError> {
     let mut terminal = Terminal::new(alloc)?;
     let mut lines = Vec::new(alloc);
     let mut at = 0;
@@ -66,19 +64,23 @@ fn logged_by_lines(alloc: Global, input: &[u8]) -> Result<Vec<u8>, Fail> {
 }
 
 /// Returns whether the lines are the same as with room for all of them.
-fn is_same_by_lines(alloc: Global) -> Result<bool, Fail> {
+fn is_same_by_lines(alloc: Global) -> Result<bool, AllocError> {
     let input = numbered(alloc, 100, b"\r\n")?;
-    Ok(logged_by_lines(alloc, &input)? == logged(alloc, &input, 4096, false)?)
+    let by_lines = logged_by_lines(alloc, &input)?;
+    scrolls_off(alloc, &input, &by_lines)
 }
 
 #[test]
-fn lines_wait_for_room(rt: HostRuntime) -> Result<(), Fail> {
-    holds(&rt, "one line at a time", is_same_by_lines(rt.alloc())?);
-    Ok(())
+fn lines_wait_for_room(rt: HostRuntime) {
+    holds(&rt, "one line at a time", is_same_by_lines(rt.alloc()));
 }
 
 /// Returns the lines that scroll off as far as they fit, and how many bytes were played.
-fn fitting_lines(alloc: Global, input: &[u8], capacity: usize) -> Result<(Vec<u8>, usize), Fail> {
+fn fitting_lines(
+    alloc: Global,
+    input: &[u8],
+    capacity: usize,
+) -> Result<(Vec<u8>, usize), AllocError> {
     let piece = &input[..input.len().min(4096)];
     let mut terminal = Terminal::new(alloc)?;
     let mut reports = Vec::with_capacity(alloc, 40960)?;
@@ -89,7 +91,7 @@ fn fitting_lines(alloc: Global, input: &[u8], capacity: usize) -> Result<(Vec<u8
 
 /// Returns whether the first of 30 lines scrolls off at the LF of the 24th, behind 373 bytes. Ten of these lines have 15 bytes
 /// each and the others 16, so the next one scrolls off 16 bytes later.
-fn is_read_in_time(alloc: Global) -> Result<bool, Fail> {
+fn is_read_in_time(alloc: Global) -> Result<bool, AllocError> {
     let input = numbered(alloc, 30, b"\r\n")?;
     let (none, first) = fitting_lines(alloc, &input, 0)?;
     let (line, second) = fitting_lines(alloc, &input, ROW_TEXT_LIMIT)?;
@@ -102,13 +104,12 @@ fn is_read_in_time(alloc: Global) -> Result<bool, Fail> {
 }
 
 #[test]
-fn a_line_is_read_before_it_scrolls_off(rt: HostRuntime) -> Result<(), Fail> {
-    holds(&rt, "the first line", is_read_in_time(rt.alloc())?);
-    Ok(())
+fn a_line_is_read_before_it_scrolls_off(rt: HostRuntime) {
+    holds(&rt, "the first line", is_read_in_time(rt.alloc()));
 }
 
 /// Returns whether LF scrolls a line off in the last row, and not in the first.
-fn is_told_by_the_row(alloc: Global) -> Result<bool, Fail> {
+fn is_told_by_the_row(alloc: Global) -> Result<bool, AllocError> {
     let mut terminal = Terminal::new(alloc)?;
     let mut reports = Vec::new(alloc);
     let first = terminal.scrolls_off(EventKind::Control(b'\n'));
@@ -117,7 +118,6 @@ fn is_told_by_the_row(alloc: Global) -> Result<bool, Fail> {
 }
 
 #[test]
-fn a_line_feed_scrolls_in_the_last_row(rt: HostRuntime) -> Result<(), Fail> {
-    holds(&rt, "LF", is_told_by_the_row(rt.alloc())?);
-    Ok(())
+fn a_line_feed_scrolls_in_the_last_row(rt: HostRuntime) {
+    holds(&rt, "LF", is_told_by_the_row(rt.alloc()));
 }

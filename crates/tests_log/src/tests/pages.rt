@@ -2,8 +2,8 @@
 ghost use Rattle.std.specs.Prelude.{◌≤◌};
 
 use super::common::holds;
-use std::alloc::Global;
-use std::test::Fail;
+use std::alloc::{AllocError, Global};
+use std::process::Abort;
 use vt_replay::feed_pages;
 use vt_term::Terminal;
 
@@ -81,47 +81,62 @@ const IN_ORDER: [Row; 3] = [
     ),
 ];
 
-/// Returns what is written of a new terminal, fed so many bytes at a time.
-fn paged(alloc: Global, input: &[u8], size: usize) -> Result<Vec<u8>, Fail>
+/// Feeds the input, so many bytes at a time, and appends what is written.
+fn feed_all(
+    terminal: &mut Terminal,
+    input: &[u8],
+    size: usize,
+    reports: &mut Vec<u8>,
+    lines: &mut Vec<u8>,
+) -> Result<(), AllocError>
     requires { 1 ≤ size }
 {
-    let mut terminal = Terminal::new(alloc)?;
-    let mut reports = Vec::new(alloc);
-    let mut lines = Vec::new(alloc);
     for piece in input.chunks(size) {
-        feed_pages(&mut terminal, piece, &mut reports, &mut lines)?;
+        feed_pages(terminal, piece, reports, lines)?;
     }
-    Ok(lines)
+    Ok(())
+}
+
+/// Returns whether this is written of a new terminal, fed so many bytes at a time.
+fn pages(alloc: Global, input: &[u8], size: usize, lines: &[u8]) -> Result<bool, AllocError>
+    requires { 1 ≤ size }
+{
+    let mut reports = Vec::new(alloc);
+    let mut written = Vec::new(alloc);
+    let mut terminal = Terminal::new(alloc)?;
+    feed_all(&mut terminal, input, size, &mut reports, &mut written)?;
+    Ok(written.as_slice() == lines)
 }
 
 /// Returns whether this is written, byte by byte, three at a time and all at once.
-fn writes(alloc: Global, input: &[u8], lines: &[u8]) -> Result<bool, Fail> {
-    let is_right = paged(alloc, input, 1)?.as_slice() == lines
-        && paged(alloc, input, 3)?.as_slice() == lines
-        && paged(alloc, input, 4096)?.as_slice() == lines;
-    Ok(is_right)
+fn writes(alloc: Global, input: &[u8], lines: &[u8]) -> Result<bool, AllocError> {
+    Ok(
+        pages(alloc, input, 1, lines)?
+            && pages(alloc, input, 3, lines)?
+            && pages(alloc, input, 4096, lines)?,
+    )
 }
 
-#[test]
-fn pages_are_written(rt: HostRuntime) -> Result<(), Fail> {
-    for (name, input) in &BLANKED {
-        holds(&rt, name, writes(rt.alloc(), input, A)?);
+/// Asserts that the same is written of each of these.
+fn all_write(rt: &impl Abort, alloc: Global, shown: &[Shown], lines: &[u8]) {
+    for (name, input) in shown {
+        holds(rt, name, writes(alloc, input, lines));
     }
-    Ok(())
 }
 
 #[test]
-fn no_page_is_written(rt: HostRuntime) -> Result<(), Fail> {
-    for (name, input) in &KEPT {
-        holds(&rt, name, writes(rt.alloc(), input, b"")?);
-    }
-    Ok(())
+fn pages_are_written(rt: HostRuntime) {
+    all_write(&rt, rt.alloc(), &BLANKED, A);
 }
 
 #[test]
-fn pages_and_lines_are_in_order(rt: HostRuntime) -> Result<(), Fail> {
+fn no_page_is_written(rt: HostRuntime) {
+    all_write(&rt, rt.alloc(), &KEPT, b"");
+}
+
+#[test]
+fn pages_and_lines_are_in_order(rt: HostRuntime) {
     for (name, input, lines) in &IN_ORDER {
-        holds(&rt, name, writes(rt.alloc(), input, lines)?);
+        holds(&rt, name, writes(rt.alloc(), input, lines));
     }
-    Ok(())
 }

@@ -1,6 +1,7 @@
 //! A worked row for each way in which a line scrolls off, and for each that doesn't. The lines follow from the rule.
 use super::common::{holds, scrolls_off};
-use std::test::Fail;
+use std::alloc::Global;
+use std::process::Abort;
 
 /// A name, what is fed, and the lines that scroll off.
 type Row = (&'static str, &'static [u8], &'static [u8]);
@@ -63,18 +64,19 @@ const KEPT: [Row; 22] = [
     ("LF behind a string", b"A\x1b[24H\x9d\n\x9c\x1b[H\n", b""),
 ];
 
-#[test]
-fn lines_scroll_off(rt: HostRuntime) -> Result<(), Fail> {
-    for (name, input, lines) in &SCROLLED {
-        holds(&rt, name, scrolls_off(rt.alloc(), input, lines)?);
+/// Asserts that the lines of each row scroll off.
+fn all_scroll_off(rt: &impl Abort, alloc: Global, rows: &[Row]) {
+    for (name, input, lines) in rows {
+        holds(rt, name, scrolls_off(alloc, input, lines));
     }
-    Ok(())
 }
 
 #[test]
-fn lines_stay(rt: HostRuntime) -> Result<(), Fail> {
-    for (name, input, lines) in &KEPT {
-        holds(&rt, name, scrolls_off(rt.alloc(), input, lines)?);
-    }
-    Ok(())
+fn lines_scroll_off(rt: HostRuntime) {
+    all_scroll_off(&rt, rt.alloc(), &SCROLLED);
+}
+
+#[test]
+fn lines_stay(rt: HostRuntime) {
+    all_scroll_off(&rt, rt.alloc(), &KEPT);
 }

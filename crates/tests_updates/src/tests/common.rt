@@ -2,36 +2,109 @@
 //! whether a row holds, since the proof of one long function takes far more time than those of its parts.
 ghost use Rattle.std.specs.Prelude.{◌≤◌};
 
-use std::alloc::Global;
+use std::alloc::{AllocError, Global};
 use std::process::Abort;
-use std::test::Fail;
-use vt_paint::repaint;
+use vt_paint::{PaintError, repaint};
 use vt_term::Terminal;
-use vt_update::update;
+use vt_update::{UpdateError, update};
+
+/// What a test needs has failed.
+#[derive(Drop)]
+pub(super) struct Failed;
+
+impl From<AllocError> for Failed {
+    fn from(_error: AllocError) -> Failed {
+        Failed
+    }
+}
+
+impl From<UpdateError> for Failed {
+    fn from(_error: UpdateError) -> Failed {
+        Failed
+    }
+}
+
+impl From<PaintError> for Failed {
+    fn from(_error: PaintError) -> Failed {
+        Failed
+    }
+}
 
 /// A terminal as at power-up that was fed these bytes.
-pub(super) fn terminal(alloc: Global, input: &[u8]) -> Result<Terminal, Fail> {
+pub(super) fn terminal(alloc: Global, input: &[u8]) -> Result<Terminal, AllocError> {
     let mut terminal = Terminal::new(alloc)?;
     let mut reports = Vec::new(alloc);
     terminal.feed(input, &mut reports)?;
     Ok(terminal)
 }
 
+/// What an update was asked for, and what it has left.
+#[derive(Drop)]
+pub(super) struct Asked {
+    pub(super) shown: Terminal,
+    pub(super) to: Terminal,
+    /// What was shown before.
+    pub(super) before: Terminal,
+    pub(super) out: Vec<u8>,
+}
+
+impl Asked {
+    /// Nothing has been asked yet.
+    pub(super) fn new(
+        alloc: Global,
+        (from, to): &(&[u8], &[u8]),
+        out: Vec<u8>,
+    ) -> Result<Asked, AllocError> {
+        Ok(Asked {
+            shown: terminal(alloc, from)?,
+            to: terminal(alloc, to)?,
+            before: terminal(alloc, from)?,
+            out,
+        })
+    }
+
+    /// What an update answers.
+    pub(super) fn update(&mut self) -> Result<(), UpdateError> {
+        update(&mut self.shown, &self.to, &mut self.out)
+    }
+
+    pub(super) fn is_unchanged(&self) -> bool {
+        self.shown.same_state(&self.before) && self.out.as_slice() == b"ok".as_slice()
+    }
+}
+
 /// The repaint of what this input leaves.
-pub(super) fn repainted(alloc: Global, input: &[u8]) -> Result<Vec<u8>, Fail> {
+pub(super) fn repainted(alloc: Global, input: &[u8]) -> Result<Vec<u8>, Failed> {
     let mut out = Vec::new(alloc);
     repaint(&terminal(alloc, input)?, &mut out)?;
     Ok(out)
 }
 
 /// Asserts what a test has found of a row, which it names.
-pub(super) fn holds(rt: &impl Abort, row: &str, found: bool) {
+pub(super) fn holds(rt: &impl Abort, row: &str, found: Result<bool, Failed>) {
+    let found = found.unwrap_or(false);
     assert!(rt; found, "{row}");
 }
 
 /// Asserts the same of a row that has a number.
-pub(super) fn holds_at(rt: &impl Abort, row: usize, found: bool) {
+pub(super) fn holds_at(rt: &impl Abort, row: usize, found: Result<bool, Failed>) {
+    let found = found.unwrap_or(false);
     assert!(rt; found, "row {row}");
+}
+
+/// Feeds bytes, so many at a time.
+fn feed(
+    terminal: &mut Terminal,
+    bytes: &[u8],
+    size: usize,
+    reports: &mut Vec<u8>,
+) -> Result<(), AllocError>
+    requires { 1 ≤ size }
+{
+    for piece in bytes.chunks(size) {
+        terminal.feed(piece, reports)?;
+    }
+    Ok(())
 }
 
 /// Whether bytes, so many at a time, lead from what an input leaves to a state, and ask for no report.
@@ -41,40 +114,47 @@ pub(super) fn lead(
     sent: &[u8],
     size: usize,
     to: &Terminal,
-) -> Result<bool, Fail>
+) -> Result<bool, Failed>
     requires { 1 ≤ size }
 {
-    let mut client = terminal(alloc, from)?;
     let mut reports = Vec::new(alloc);
-    for piece in sent.chunks(size) {
-        client.feed(piece, &mut reports)?;
-    }
+    let mut client = terminal(alloc, from)?;
+    feed(&mut client, sent, size, &mut reports)?;
     Ok(client.same_state(to) && reports.is_empty())
 }
 
-/// Whether an update sends nothing.
-fn is_silent(alloc: Global, shown: &mut Terminal, to: &Terminal) -> Result<bool, Fail> {
+/// Whether bytes lead there byte by byte, and cut in two.
+fn lead_in_parts(alloc: Global, from: &[u8], sent: &[u8], to: &Terminal) -> Result<bool, Failed> {
+    Ok(lead(alloc, from, sent, 1, to)? && lead(alloc, from, sent, sent.len() / 2 + 1, to)?)
+}
+
+/// Whether the shown terminal is the one that was asked for, and an update sends nothing.
+fn is_settled(alloc: Global, shown: &mut Terminal, to: &Terminal) -> Result<bool, Failed> {
     let mut sent = Vec::new(alloc);
+    let is_same = shown.same_state(to);
     update(shown, to, &mut sent)?;
-    Ok(sent.is_empty())
+    Ok(is_same && sent.is_empty())
 }
 
 /// What an update sends from what one input leaves to what another does. None unless it leads there, byte by byte and
 /// cut in two, the shown terminal is then the same, and an update after it is empty.
-pub(super) fn updated(alloc: Global, from: &[u8], to: &[u8]) -> Result<Option<Vec<u8>>, Fail> {
+pub(super) fn updated(alloc: Global, from: &[u8], to: &[u8]) -> Result<Option<Vec<u8>>, Failed> {
+    let mut sent = Vec::new(alloc);
     let asked_for = terminal(alloc, to)?;
     let mut shown = terminal(alloc, from)?;
-    let mut sent = Vec::new(alloc);
     update(&mut shown, &asked_for, &mut sent)?;
-    let is_right = shown.same_state(&asked_for)
-        && lead(alloc, from, &sent, 1, &asked_for)?
-        && lead(alloc, from, &sent, sent.len() / 2 + 1, &asked_for)?
-        && is_silent(alloc, &mut shown, &asked_for)?;
+    let is_right = is_settled(alloc, &mut shown, &asked_for)?
+        && lead_in_parts(alloc, from, &sent, &asked_for)?;
     Ok(if is_right { Some(sent) } else { None })
 }
 
 /// Whether an update sends these bytes.
-pub(super) fn sends(alloc: Global, from: &[u8], to: &[u8], expected: &[u8]) -> Result<bool, Fail> {
+pub(super) fn sends(
+    alloc: Global,
+    from: &[u8],
+    to: &[u8],
+    expected: &[u8],
+) -> Result<bool, Failed> {
     Ok(match updated(alloc, from, to)? {
         Some(sent) => sent.as_slice() == expected,
         None => false,
@@ -87,7 +167,7 @@ pub(super) fn sends_fewer(
     from: &[u8],
     to: &[u8],
     than: usize,
-) -> Result<bool, Fail> {
+) -> Result<bool, Failed> {
     Ok(match updated(alloc, from, to)? {
         Some(sent) => sent.len() < than,
         None => false,

@@ -1,7 +1,8 @@
 //! Worked examples. The bytes follow from the rule where nothing shorter does the same.
-use super::common::{holds, holds_at, lead, repainted, sends, sends_fewer, terminal};
+use super::common::{
+    Asked, Failed, holds, holds_at, lead, repainted, sends, sends_fewer, terminal,
+};
 use std::alloc::Global;
-use std::test::Fail;
 use vt_update::laws::leading;
 use vt_update::{UpdateError, update};
 
@@ -78,16 +79,15 @@ const EXAMPLES: [Example; 26] = [
 ];
 
 #[test]
-fn updates_are_these(rt: HostRuntime) -> Result<(), Fail> {
+fn updates_are_these(rt: HostRuntime) {
     leading();
     for (name, from, to, expected) in &EXAMPLES {
-        holds(&rt, name, sends(rt.alloc(), from, to, expected)?);
+        holds(&rt, name, sends(rt.alloc(), from, to, expected));
     }
-    Ok(())
 }
 
 /// A full screen of lines, the first of them numbered so.
-fn lines(alloc: Global, first: u32) -> Result<Vec<u8>, Fail> {
+fn lines(alloc: Global, first: u32) -> Result<Vec<u8>, Failed> {
     let mut input = Vec::new(alloc);
     for i in 0..24u32 {
         if i > 0 {
@@ -99,54 +99,72 @@ fn lines(alloc: Global, first: u32) -> Result<Vec<u8>, Fail> {
     Ok(input)
 }
 
+/// Whether a screen of lines whose first line goes is scrolled up.
+fn is_scrolled_up(alloc: Global) -> Result<bool, Failed> {
+    let from = lines(alloc, 10)?;
+    let to = lines(alloc, 11)?;
+    sends(alloc, &from, &to, b"\n\rline number 34")
+}
+
+/// Whether one that gets a line in front is scrolled down.
+fn is_scrolled_down(alloc: Global) -> Result<bool, Failed> {
+    let from = lines(alloc, 11)?;
+    let to = lines(alloc, 10)?;
+    sends(alloc, &from, &to, b"\x1b[H\x1b[Lline number 10\x1b[24;15H")
+}
+
+/// Whether one that gets a line in its middle is scrolled down from there on.
+fn is_scrolled_down_below(alloc: Global) -> Result<bool, Failed> {
+    let from = lines(alloc, 10)?;
+    let mut to = lines(alloc, 10)?;
+    to.extend_from_slice(b"\x1b[5;1H\x1b[Lnew")?;
+    sends(alloc, &from, &to, b"\x1b[5H\x1b[Lnew")
+}
+
 #[test]
-fn a_line_is_scrolled_in(rt: HostRuntime) -> Result<(), Fail> {
-    let from = lines(rt.alloc(), 10)?;
-    let to = lines(rt.alloc(), 11)?;
-    let up = sends(rt.alloc(), &from, &to, b"\n\rline number 34")?;
-    holds(&rt, "scrolled up", up);
-    let down = sends(
-        rt.alloc(),
-        &to,
-        &from,
-        b"\x1b[H\x1b[Lline number 10\x1b[24;15H",
-    )?;
-    holds(&rt, "scrolled down", down);
-    let mut below = lines(rt.alloc(), 10)?;
-    below.extend_from_slice(b"\x1b[5;1H\x1b[Lnew")?;
-    let part = sends(rt.alloc(), &from, &below, b"\x1b[5H\x1b[Lnew")?;
-    holds(&rt, "scrolled down from line 5", part);
-    Ok(())
+fn a_line_is_scrolled_in(rt: HostRuntime) {
+    holds(&rt, "scrolled up", is_scrolled_up(rt.alloc()));
+    holds(&rt, "scrolled down", is_scrolled_down(rt.alloc()));
+    let below = is_scrolled_down_below(rt.alloc());
+    holds(&rt, "scrolled down from line 5", below);
 }
 
 /// A full line, and then this.
-fn line_and(alloc: Global, end: &[u8]) -> Result<Vec<u8>, Fail> {
+fn line_and(alloc: Global, end: &[u8]) -> Result<Vec<u8>, Failed> {
     let mut input = Vec::from_slice(alloc, LINE)?;
     input.extend_from_slice(end)?;
     Ok(input)
 }
 
-#[test]
-fn a_saved_wrap_flag_is_kept(rt: HostRuntime) -> Result<(), Fail> {
-    let saved = line_and(rt.alloc(), b"\x1b7")?;
-    holds(
-        &rt,
-        "with the line",
-        sends(rt.alloc(), b"", &saved, &saved)?,
-    );
-    Ok(())
+/// Whether a saved wrap flag is sent with the line that sets it.
+fn is_kept_with_its_line(alloc: Global) -> Result<bool, Failed> {
+    let saved = line_and(alloc, b"\x1b7")?;
+    sends(alloc, b"", &saved, &saved)
+}
+
+/// Whether an update from a full line with one end to one with another end costs few bytes.
+fn costs_few_bytes(alloc: Global, from: &[u8], to: &[u8]) -> Result<bool, Failed> {
+    let from = line_and(alloc, from)?;
+    let to = line_and(alloc, to)?;
+    sends_fewer(alloc, &from, &to, 30)
 }
 
 #[test]
-fn a_saved_wrap_flag_costs_few_bytes(rt: HostRuntime) -> Result<(), Fail> {
-    // DECAWM is reset, under which no glyph sets the flag.
-    let without = line_and(rt.alloc(), b"\x1b[?7l")?;
-    let saved = line_and(rt.alloc(), b"\x1b7\x1b[?7l")?;
-    let there = sends_fewer(rt.alloc(), &without, &saved, 30)?;
+fn a_saved_wrap_flag_is_kept(rt: HostRuntime) {
+    holds(&rt, "with the line", is_kept_with_its_line(rt.alloc()));
+}
+
+/// DECAWM is reset, under which no glyph sets the flag.
+const WITHOUT: &[u8] = b"\x1b[?7l";
+
+const SAVED: &[u8] = b"\x1b7\x1b[?7l";
+
+#[test]
+fn a_saved_wrap_flag_costs_few_bytes(rt: HostRuntime) {
+    let there = costs_few_bytes(rt.alloc(), WITHOUT, SAVED);
     holds(&rt, "the flag under DECAWM reset", there);
-    let back = sends_fewer(rt.alloc(), &saved, &without, 30)?;
+    let back = costs_few_bytes(rt.alloc(), SAVED, WITHOUT);
     holds(&rt, "and back", back);
-    Ok(())
 }
 
 /// A name, what the client shows, and what is asked for.
@@ -156,18 +174,22 @@ const REPAINTED: [(&str, &[u8], &[u8]); 3] = [
     ("other tab stops", b"A", b"A\x1b[3g"),
 ];
 
+/// Whether an update sends what a repaint does.
+fn is_a_repaint(alloc: Global, from: &[u8], to: &[u8]) -> Result<bool, Failed> {
+    let expected = repainted(alloc, to)?;
+    sends(alloc, from, to, &expected)
+}
+
 /// What only a repaint can do: another width, and other tab stops.
 #[test]
-fn the_rest_are_repaints(rt: HostRuntime) -> Result<(), Fail> {
+fn the_rest_are_repaints(rt: HostRuntime) {
     for (name, from, to) in &REPAINTED {
-        let expected = repainted(rt.alloc(), to)?;
-        holds(&rt, name, sends(rt.alloc(), from, to, &expected)?);
+        holds(&rt, name, is_a_repaint(rt.alloc(), from, to));
     }
-    Ok(())
 }
 
 /// A full screen, and then this.
-fn full_screen_and(alloc: Global, end: &[u8]) -> Result<Vec<u8>, Fail> {
+fn full_screen_and(alloc: Global, end: &[u8]) -> Result<Vec<u8>, Failed> {
     let mut input = Vec::new(alloc);
     for _ in 0..24u8 {
         input.extend_from_slice(LINE)?;
@@ -176,16 +198,19 @@ fn full_screen_and(alloc: Global, end: &[u8]) -> Result<Vec<u8>, Fail> {
     Ok(input)
 }
 
-/// For a single shift that is pending where none is to be no bytes are chosen: of a full screen the one cell that
-/// differs is sent, and all but the cells.
+/// Whether an update away from a single shift sends the one cell of a full screen that differs, and all but the cells.
+fn sends_one_cell(alloc: Global) -> Result<bool, Failed> {
+    let from = full_screen_and(alloc, b"\x1b[H\x1bN")?;
+    let to = full_screen_and(alloc, b"\x1b[H\x1b[1;4;5;7mB")?;
+    let most = repainted(alloc, &to)?.len().min(28 + 230 + 1);
+    sends_fewer(alloc, &from, &to, most)
+}
+
+/// For a single shift that is pending where none is to be no bytes are chosen.
 #[test]
-fn a_single_shift_in_the_way_costs_few_bytes(rt: HostRuntime) -> Result<(), Fail> {
-    let from = full_screen_and(rt.alloc(), b"\x1b[H\x1bN")?;
-    let to = full_screen_and(rt.alloc(), b"\x1b[H\x1b[1;4;5;7mB")?;
-    let most = repainted(rt.alloc(), &to)?.len().min(28 + 230 + 1);
-    let few = sends_fewer(rt.alloc(), &from, &to, most)?;
+fn a_single_shift_in_the_way_costs_few_bytes(rt: HostRuntime) {
+    let few = sends_one_cell(rt.alloc());
     holds(&rt, "one cell of a full screen", few);
-    Ok(())
 }
 
 /// What a server has shown, and what it shows then.
@@ -194,56 +219,50 @@ const FIRST: &[u8] = b"\x1b[4mfirst\x1b7\r\n";
 const LATER: &[u8] = b"\x1b[4mfirst\x1b7\r\nsecond\x1b8";
 
 /// A repaint of the first state, and the update from it to the later one.
-fn sent_to_a_late_client(alloc: Global) -> Result<Vec<u8>, Fail> {
+fn sent_to_a_late_client(alloc: Global) -> Result<Vec<u8>, Failed> {
     let mut sent = repainted(alloc, FIRST)?;
     let mut shown = terminal(alloc, FIRST)?;
     update(&mut shown, &terminal(alloc, LATER)?, &mut sent)?;
     Ok(sent)
 }
 
+/// Whether these lead a client that shows something else.
+fn a_late_client_is_led(alloc: Global) -> Result<bool, Failed> {
+    let sent = sent_to_a_late_client(alloc)?;
+    let later = terminal(alloc, LATER)?;
+    lead(alloc, b"\x1b[?3hother\x1b[2;7r", &sent, 4096, &later)
+}
+
 #[test]
-fn a_client_that_joins_late_is_led_too(rt: HostRuntime) -> Result<(), Fail> {
-    let sent = sent_to_a_late_client(rt.alloc())?;
-    let later = terminal(rt.alloc(), LATER)?;
-    let led = lead(rt.alloc(), b"\x1b[?3hother\x1b[2;7r", &sent, 4096, &later)?;
-    holds(&rt, "a late client", led);
-    Ok(())
+fn a_client_that_joins_late_is_led_too(rt: HostRuntime) {
+    holds(&rt, "a late client", a_late_client_is_led(rt.alloc()));
 }
 
 /// Whether an update inside a sequence is refused, and leaves all as it was.
-fn is_partial(alloc: Global, from: &[u8], to: &[u8]) -> Result<bool, Fail> {
-    let mut shown = terminal(alloc, from)?;
-    let before = terminal(alloc, from)?;
-    let mut out = Vec::from_slice(alloc, b"ok")?;
-    let answered = update(&mut shown, &terminal(alloc, to)?, &mut out);
-    Ok(
-        answered == Err(UpdateError::Partial)
-            && shown.same_state(&before)
-            && out.as_slice() == b"ok".as_slice(),
-    )
+fn is_partial(alloc: Global, pair: &(&[u8], &[u8])) -> Result<bool, Failed> {
+    let mut asked = Asked::new(alloc, pair, Vec::from_slice(alloc, b"ok")?)?;
+    Ok(asked.update() == Err(UpdateError::Partial) && asked.is_unchanged())
 }
 
 const PARTIAL: [(&[u8], &[u8]); 3] = [(b"A\x1b[", b"A"), (b"A", b"A\x1b["), (b"A\x1b[", b"A\x1b[")];
 
 #[test]
-fn inside_a_sequence_it_is_partial(rt: HostRuntime) -> Result<(), Fail> {
-    for (i, (from, to)) in PARTIAL.iter().enumerate() {
-        holds_at(&rt, i, is_partial(rt.alloc(), from, to)?);
+fn inside_a_sequence_it_is_partial(rt: HostRuntime) {
+    for (i, pair) in PARTIAL.iter().enumerate() {
+        holds_at(&rt, i, is_partial(rt.alloc(), pair));
     }
-    Ok(())
 }
 
 /// Whether an error says this.
-fn says(alloc: Global, error: UpdateError, message: &str) -> Result<bool, Fail> {
+fn says(alloc: Global, error: UpdateError, message: &str) -> Result<bool, Failed> {
     let said = format!(in alloc; "{error}")?;
     Ok(said.as_str() == message)
 }
 
 #[test]
-fn messages_are_the_names_in_lower_case(rt: HostRuntime) -> Result<(), Fail> {
-    let partial = says(rt.alloc(), UpdateError::Partial, "partial")?;
+fn messages_are_the_names_in_lower_case(rt: HostRuntime) {
+    let partial = says(rt.alloc(), UpdateError::Partial, "partial");
     holds(&rt, "partial", partial);
-    let memory = says(rt.alloc(), UpdateError::Memory, "memory")?;
+    let memory = says(rt.alloc(), UpdateError::Memory, "memory");
     holds(&rt, "memory", memory);
-    Ok(())
 }

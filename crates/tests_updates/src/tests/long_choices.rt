@@ -1,14 +1,12 @@
 //! A choice that passes its room.
-use super::common::{holds, terminal, updated};
+use super::common::{Asked, Failed, holds, updated};
 use std::alloc::Global;
-use std::test::Fail;
-use vt_update::update;
 
 /// Two cells that share neither brush nor set, so that each is written behind all of these.
 const TWO_CELLS: &[u8] = b"\x1b[0;4;5;7m\x1b[0\"q\x1b(<i\x1b[0;1;4;5m\x1b[1\"q\x1b(0q";
 
 /// A wide screen, and 1200 such cells on it.
-fn many_cells(alloc: Global) -> Result<Vec<u8>, Fail> {
+fn many_cells(alloc: Global) -> Result<Vec<u8>, Failed> {
     let mut bytes = Vec::from_slice(alloc, b"\x1b[?3h")?;
     for _ in 0..600u16 {
         bytes.extend_from_slice(TWO_CELLS)?;
@@ -18,7 +16,7 @@ fn many_cells(alloc: Global) -> Result<Vec<u8>, Fail> {
 
 /// Whether an update sends more than the choice's room has, and no more than 28 bytes for each of these cells and 230,
 /// behind a soft reset.
-fn sends_the_marked_cells(alloc: Global) -> Result<bool, Fail> {
+fn sends_the_marked_cells(alloc: Global) -> Result<bool, Failed> {
     Ok(match updated(alloc, b"\x1b[?3h", &many_cells(alloc)?)? {
         Some(sent) => {
             sent.starts_with(b"\x1b[0!p") && sent.len() > 16384 && sent.len() <= 28 * 1200 + 230
@@ -30,26 +28,23 @@ fn sends_the_marked_cells(alloc: Global) -> Result<bool, Fail> {
 /// Some 14 bytes would be chosen for each cell, more than 16384 in all: so the cells that differ are sent behind a soft
 /// reset.
 #[test]
-fn sends_the_marked_cells_where_the_choice_passes_its_room(rt: HostRuntime) -> Result<(), Fail> {
-    holds(&rt, "many cells", sends_the_marked_cells(rt.alloc())?);
-    Ok(())
+fn sends_the_marked_cells_where_the_choice_passes_its_room(rt: HostRuntime) {
+    holds(&rt, "many cells", sends_the_marked_cells(rt.alloc()));
 }
 
 /// Whether an update sends the same behind many bytes that the output holds: a letter, and no more.
-fn sends_the_same_behind_others(alloc: Global) -> Result<bool, Fail> {
-    let asked_for = terminal(alloc, b"A")?;
-    let mut shown = terminal(alloc, b"")?;
-    let mut sent = vec![in alloc; b'x'; 20000]?;
-    update(&mut shown, &asked_for, &mut sent)?;
-    Ok(sent.len() == 20001 && sent.ends_with(b"xA"))
+fn sends_the_same_behind_others(alloc: Global) -> Result<bool, Failed> {
+    let others = vec![in alloc; b'x'; 20000]?;
+    let mut asked = Asked::new(alloc, &(b"", b"A"), others)?;
+    asked.update()?;
+    Ok(asked.out.len() == 20001 && asked.out.ends_with(b"xA"))
 }
 
 #[test]
-fn sends_the_same_whatever_the_output_holds(rt: HostRuntime) -> Result<(), Fail> {
+fn sends_the_same_whatever_the_output_holds(rt: HostRuntime) {
     holds(
         &rt,
         "behind others",
-        sends_the_same_behind_others(rt.alloc())?,
+        sends_the_same_behind_others(rt.alloc()),
     );
-    Ok(())
 }

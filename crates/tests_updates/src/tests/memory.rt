@@ -1,9 +1,7 @@
 //! Each growth refused; and with room no memory is asked for.
-use super::common::{holds_at, sends, terminal, updated};
+use super::common::{Asked, Failed, holds_at, sends, terminal, updated};
 use super::scarce::{BLOCKS, Scarce};
 use std::alloc::Global;
-use std::test::Fail;
-use vt_term::Terminal;
 use vt_update::{UPDATE_LIMIT, UpdateError, update, update_reserved};
 
 /// What is shown, and what is asked for: one letter, and what only a repaint does.
@@ -13,40 +11,9 @@ const PAIRS: [(&[u8], &[u8]); 3] = [
     (b"A\x1b7", b"\x1b[2;5r\x1b[?6hC\x1b(0"),
 ];
 
-/// What an update was asked for, and what it has left.
-#[derive(Drop)]
-struct Asked {
-    shown: Terminal,
-    to: Terminal,
-    /// What was shown before.
-    before: Terminal,
-    out: Vec<u8>,
-}
-
-impl Asked {
-    /// Nothing has been asked yet.
-    fn new(alloc: Global, (from, to): &(&[u8], &[u8]), out: Vec<u8>) -> Result<Asked, Fail> {
-        Ok(Asked {
-            shown: terminal(alloc, from)?,
-            to: terminal(alloc, to)?,
-            before: terminal(alloc, from)?,
-            out,
-        })
-    }
-
-    /// What an update answers.
-    fn update(&mut self) -> Result<(), UpdateError> {
-        update(&mut self.shown, &self.to, &mut self.out)
-    }
-
-    fn is_unchanged(&self) -> bool {
-        self.shown.same_state(&self.before) && self.out.as_slice() == b"ok".as_slice()
-    }
-}
-
 /// How often an update was refused, and how often that has changed something, until it had its memory: one growth more
 /// is granted each time.
-fn refusals(alloc: Global, asked: &mut Asked) -> Result<(u32, u32), Fail> {
+fn refusals(alloc: Global, asked: &mut Asked) -> Result<(u32, u32), Failed> {
     let mut scarce = Scarce::new(alloc)?;
     let mut refused = 0u32;
     let mut changed = 0u32;
@@ -73,7 +40,7 @@ fn is_behind_ok(out: &[u8], expected: &Option<Vec<u8>>) -> bool {
 }
 
 /// Whether an update that was refused, also more than once, is then made as if it never had been.
-fn is_refused(alloc: Global, pair: &(&[u8], &[u8])) -> Result<bool, Fail> {
+fn is_refused(alloc: Global, pair: &(&[u8], &[u8])) -> Result<bool, Failed> {
     let mut asked = Asked::new(alloc, pair, Vec::from_slice(alloc, b"ok")?)?;
     let (refused, changed) = refusals(alloc, &mut asked)?;
     let expected = updated(alloc, pair.0, pair.1)?;
@@ -86,15 +53,14 @@ fn is_refused(alloc: Global, pair: &(&[u8], &[u8])) -> Result<bool, Fail> {
 }
 
 #[test]
-fn each_growth_is_refused(rt: HostRuntime) -> Result<(), Fail> {
+fn each_growth_is_refused(rt: HostRuntime) {
     for (i, pair) in PAIRS.iter().enumerate() {
-        holds_at(&rt, i, is_refused(rt.alloc(), pair)?);
+        holds_at(&rt, i, is_refused(rt.alloc(), pair));
     }
-    Ok(())
 }
 
 /// Whether an update with room asks for no memory, and leads there.
-fn takes_no_memory(alloc: Global, pair: &(&[u8], &[u8])) -> Result<bool, Fail> {
+fn takes_no_memory(alloc: Global, pair: &(&[u8], &[u8])) -> Result<bool, Failed> {
     let mut asked = Asked::new(alloc, pair, Vec::with_capacity(alloc, UPDATE_LIMIT)?)?;
     let scarce = Scarce::new(alloc)?;
     let answered = asked.update();
@@ -103,7 +69,7 @@ fn takes_no_memory(alloc: Global, pair: &(&[u8], &[u8])) -> Result<bool, Fail> {
 }
 
 /// Whether one that can't be refused asks for none either, and leads there.
-fn reserved_takes_no_memory(alloc: Global, pair: &(&[u8], &[u8])) -> Result<bool, Fail> {
+fn reserved_takes_no_memory(alloc: Global, pair: &(&[u8], &[u8])) -> Result<bool, Failed> {
     let mut shown = terminal(alloc, pair.0)?;
     let to = terminal(alloc, pair.1)?;
     let mut out = Vec::with_capacity(alloc, UPDATE_LIMIT)?;
@@ -116,10 +82,9 @@ fn reserved_takes_no_memory(alloc: Global, pair: &(&[u8], &[u8])) -> Result<bool
 }
 
 #[test]
-fn with_room_no_memory_is_asked_for(rt: HostRuntime) -> Result<(), Fail> {
+fn with_room_no_memory_is_asked_for(rt: HostRuntime) {
     for (i, pair) in PAIRS.iter().enumerate() {
-        holds_at(&rt, i, takes_no_memory(rt.alloc(), pair)?);
-        holds_at(&rt, i, reserved_takes_no_memory(rt.alloc(), pair)?);
+        holds_at(&rt, i, takes_no_memory(rt.alloc(), pair));
+        holds_at(&rt, i, reserved_takes_no_memory(rt.alloc(), pair));
     }
-    Ok(())
 }

@@ -1,6 +1,7 @@
 //! From the state that each vector leaves to that of each other.
-use super::common::{holds_at, lead, terminal};
+use super::common::{Failed, holds_at, lead, terminal};
 use std::alloc::Global;
+use std::process::Abort;
 use std::test::Fail;
 use vt_term::Terminal;
 use vt_update::{UpdateError, update};
@@ -8,12 +9,12 @@ use vt_vectors::{vector, vector_count};
 
 /// Whether an update leads from what an input leaves to a state, the shown terminal and another one, and sends nothing
 /// just where the two are the same; inside a sequence, whether it is refused.
-fn is_led(alloc: Global, from: &[u8], to: &Terminal, sent: &mut Vec<u8>) -> Result<bool, Fail> {
+fn is_led(alloc: Global, from: &[u8], to: &Terminal) -> Result<bool, Failed> {
+    let mut sent = Vec::new(alloc);
     let mut shown = terminal(alloc, from)?;
     let equal = shown.same_state(to);
     let between = shown.is_between() && to.is_between();
-    sent.clear();
-    let answered = update(&mut shown, to, sent);
+    let answered = update(&mut shown, to, &mut sent);
     if !between {
         return Ok(answered == Err(UpdateError::Partial));
     }
@@ -21,19 +22,22 @@ fn is_led(alloc: Global, from: &[u8], to: &Terminal, sent: &mut Vec<u8>) -> Resu
         answered == Ok(())
             && sent.is_empty() == equal
             && shown.same_state(to)
-            && lead(alloc, from, sent, 7, to)?,
+            && lead(alloc, from, &sent, 7, to)?,
     )
+}
+
+/// Asserts that the state of each vector is led to this one.
+fn all_are_led(rt: &impl Abort, alloc: Global, to: &Terminal) {
+    for i in 0..vector_count() {
+        holds_at(rt, i, is_led(alloc, vector(i).input, to));
+    }
 }
 
 #[test]
 fn each_vector_leads_to_each_other(rt: HostRuntime) -> Result<(), Fail> {
-    let mut sent = Vec::new(rt.alloc());
     for j in 0..vector_count() {
         let to = terminal(rt.alloc(), vector(j).input)?;
-        for i in 0..vector_count() {
-            let led = is_led(rt.alloc(), vector(i).input, &to, &mut sent)?;
-            holds_at(&rt, i, led);
-        }
+        all_are_led(&rt, rt.alloc(), &to);
     }
     Ok(())
 }

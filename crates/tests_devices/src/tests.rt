@@ -1,4 +1,5 @@
 //! What no clause says of replays: short, full and failing devices, settings at work, and what a fault prints.
+mod common;
 mod devices;
 mod log;
 mod program;

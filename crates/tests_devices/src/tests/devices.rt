@@ -1,8 +1,8 @@
 //! Reads and writes that are short or fail, and what a replay then answers and has written.
 ghost use Rattle.std.specs.Prelude.{◌≤◌};
 
-use std::alloc::Global;
-use std::test::Fail;
+use super::common::{Failed, holds_at};
+use std::alloc::{AllocError, Global};
 use vt_replay::{Fault, Format, Request, TerminalType, Watched, What, Word, carry_out, feed_pages};
 use vt_term::Terminal;
 use vt_vectors::{ShortReader, ShortWriter, vector, vector_count};
@@ -58,6 +58,22 @@ const ONE: Bounds = Bounds {
     most: 1,
 };
 
+/// Inputs of at most 5 bytes, of 6 and of 10.
+const UP_TO_5: Bounds = Bounds {
+    limit: 5,
+    most: ROOM,
+};
+
+const UP_TO_6: Bounds = Bounds {
+    limit: 6,
+    most: ROOM,
+};
+
+const UP_TO_10: Bounds = Bounds {
+    limit: 10,
+    most: ROOM,
+};
+
 /// Devices that neither fail nor are short of room.
 const REPORTS: Replay = Replay {
     word: Word::Replay(What::Reports),
@@ -72,7 +88,7 @@ fn replayed(
     alloc: Global,
     input: &[u8],
     replay: Replay,
-) -> Result<(Result<(), Fault>, Vec<u8>), Fail> {
+) -> Result<(Result<(), Fault>, Vec<u8>), Failed> {
     let into = Vec::with_capacity(alloc, replay.room)?;
     let writer = ShortWriter::new(into, replay.room, replay.bounds.most, replay.failing_write);
     let mut reader = Watched::new(ShortReader::new(input, 1, replay.failing_read));
@@ -96,110 +112,96 @@ fn replayed(
 }
 
 /// A replay of the requests, its answer, and how many bytes of the answers it has written.
-fn table() -> [(Replay, Result<(), Fault>, usize); 11] {
-    [
-        (
-            Replay {
-                failing_read: Some(7),
-                ..REPORTS
-            },
-            Err(Fault::Read),
-            9,
-        ),
-        (
-            Replay {
-                word: Word::Replay(What::Text),
-                failing_read: Some(7),
-                ..REPORTS
-            },
-            Err(Fault::Read),
-            0,
-        ),
-        // six writes, so that a seventh can't fail
-        (
-            Replay {
-                bounds: THREE,
-                failing_write: Some(7),
-                ..REPORTS
-            },
-            Ok(()),
-            18,
-        ),
-        (
-            Replay {
-                bounds: THREE,
-                failing_write: Some(6),
-                ..REPORTS
-            },
-            Err(Fault::Write),
-            15,
-        ),
-        (
-            Replay {
-                bounds: THREE,
-                failing_write: Some(2),
-                ..REPORTS
-            },
-            Err(Fault::Write),
-            3,
-        ),
-        (
-            Replay {
-                bounds: THREE,
-                room: 5,
-                ..REPORTS
-            },
-            Err(Fault::Write),
-            5,
-        ),
-        (
-            Replay {
-                bounds: Bounds {
-                    limit: 5,
-                    most: ROOM,
-                },
-                ..REPORTS
-            },
-            Err(Fault::TooLong),
-            0,
-        ),
-        (
-            Replay {
-                bounds: Bounds {
-                    limit: 6,
-                    most: ROOM,
-                },
-                ..REPORTS
-            },
-            Err(Fault::TooLong),
-            9,
-        ),
-        (
-            Replay {
-                bounds: Bounds {
-                    limit: 10,
-                    most: ROOM,
-                },
-                ..REPORTS
-            },
-            Ok(()),
-            18,
-        ),
-        (
-            Replay {
-                bounds: Bounds {
-                    limit: 10,
-                    most: ROOM,
-                },
-                failing_read: Some(11),
-                ..REPORTS
-            },
-            Err(Fault::Read),
-            18,
-        ),
-        (REPORTS, Ok(()), 18),
-    ]
-}
+const TABLE: [(Replay, Result<(), Fault>, usize); 11] = [
+    (
+        Replay {
+            failing_read: Some(7),
+            ..REPORTS
+        },
+        Err(Fault::Read),
+        9,
+    ),
+    (
+        Replay {
+            word: Word::Replay(What::Text),
+            failing_read: Some(7),
+            ..REPORTS
+        },
+        Err(Fault::Read),
+        0,
+    ),
+    // six writes, so that a seventh can't fail
+    (
+        Replay {
+            bounds: THREE,
+            failing_write: Some(7),
+            ..REPORTS
+        },
+        Ok(()),
+        18,
+    ),
+    (
+        Replay {
+            bounds: THREE,
+            failing_write: Some(6),
+            ..REPORTS
+        },
+        Err(Fault::Write),
+        15,
+    ),
+    (
+        Replay {
+            bounds: THREE,
+            failing_write: Some(2),
+            ..REPORTS
+        },
+        Err(Fault::Write),
+        3,
+    ),
+    (
+        Replay {
+            bounds: THREE,
+            room: 5,
+            ..REPORTS
+        },
+        Err(Fault::Write),
+        5,
+    ),
+    (
+        Replay {
+            bounds: UP_TO_5,
+            ..REPORTS
+        },
+        Err(Fault::TooLong),
+        0,
+    ),
+    (
+        Replay {
+            bounds: UP_TO_6,
+            ..REPORTS
+        },
+        Err(Fault::TooLong),
+        9,
+    ),
+    (
+        Replay {
+            bounds: UP_TO_10,
+            ..REPORTS
+        },
+        Ok(()),
+        18,
+    ),
+    (
+        Replay {
+            bounds: UP_TO_10,
+            failing_read: Some(11),
+            ..REPORTS
+        },
+        Err(Fault::Read),
+        18,
+    ),
+    (REPORTS, Ok(()), 18),
+];
 
 /// Whether a replay answers this, and has written this.
 fn leaves(
@@ -208,22 +210,25 @@ fn leaves(
     replay: Replay,
     answer: Result<(), Fault>,
     written: &[u8],
-) -> Result<bool, Fail> {
+) -> Result<bool, Failed> {
     let (answered, bytes) = replayed(alloc, input, replay)?;
     Ok(answered == answer && bytes.as_slice() == written)
 }
 
 #[test]
-fn the_table_of_devices_holds(rt: HostRuntime) -> Result<(), Fail> {
-    for (replay, answer, count) in table() {
-        let written = ANSWERS.get(..count).ok_or("too many")?;
-        assert!(rt; leaves(rt.alloc(), REQUESTS, replay, answer, written)?);
+fn the_table_of_devices_holds(rt: HostRuntime) {
+    for (i, (replay, answer, count)) in TABLE.iter().enumerate() {
+        let written = ANSWERS.get(..*count).unwrap_or(b"?");
+        holds_at(
+            &rt,
+            i,
+            leaves(rt.alloc(), REQUESTS, *replay, *answer, written),
+        );
     }
-    Ok(())
 }
 
 /// What is asked for in turn.
-const WORDS: [Word; 6] = [
+const WORDS: &[Word] = &[
     Word::Replay(What::Text),
     Word::Replay(What::Reports),
     Word::Replay(What::Repaint),
@@ -242,7 +247,7 @@ fn with_failing_read(word: Word, number: usize) -> Replay {
 }
 
 /// Whether the read after the one that gave no byte is never made.
-fn ends_before(alloc: Global, input: &[u8], word: Word, is_between: bool) -> Result<bool, Fail> {
+fn ends_before(alloc: Global, input: &[u8], word: Word, is_between: bool) -> Result<bool, Failed> {
     let replay = with_failing_read(word, input.len().saturating_add(2));
     let (answer, _written) = replayed(alloc, input, replay)?;
     Ok(if word == Word::Replay(What::Repaint) && !is_between {
@@ -252,31 +257,67 @@ fn ends_before(alloc: Global, input: &[u8], word: Word, is_between: bool) -> Res
     })
 }
 
-/// Returns whether each read fails in turn: what was written is the reports or the lines of what was read, if they are
-/// asked for.
-fn each_read_fails(alloc: Global, input: &[u8], word: Word) -> Result<bool, Fail> {
-    let mut terminal = Terminal::new(alloc)?;
-    let mut reports = Vec::new(alloc);
-    let mut lines = Vec::new(alloc);
-    for call in 0..input.len() + 1 {
-        let due = match word {
-            Word::Replay(What::Reports) => reports.as_slice(),
-            Word::Log | Word::Pages => lines.as_slice(),
+/// What is due of the bytes that were read.
+#[derive(Drop)]
+struct Due {
+    terminal: Terminal,
+    reports: Vec<u8>,
+    lines: Vec<u8>,
+}
+
+impl Due {
+    /// The reports or the lines, if a word asks for them.
+    fn of(&self, word: Word) -> &[u8] {
+        match word {
+            Word::Replay(What::Reports) => &self.reports,
+            Word::Log | Word::Pages => &self.lines,
             _ => b"",
-        };
+        }
+    }
+
+    fn feed(&mut self, word: Word, byte: &[u8]) -> Result<(), AllocError> {
+        if word == Word::Pages {
+            feed_pages(&mut self.terminal, byte, &mut self.reports, &mut self.lines)
+        } else {
+            self.terminal
+                .feed_log(byte, &mut self.reports, &mut self.lines)
+        }
+    }
+}
+
+/// Returns whether each read of a byte fails in turn: what was written is what is due of the bytes before it.
+fn reads_fail(alloc: Global, input: &[u8], word: Word, due: &mut Due) -> Result<bool, Failed> {
+    for call in 0..input.len() + 1 {
         let replay = with_failing_read(word, call + 1);
-        if !leaves(alloc, input, replay, Err(Fault::Read), due)? {
+        if !leaves(alloc, input, replay, Err(Fault::Read), due.of(word))? {
             return Ok(false);
         }
         if let Some(byte) = input.get(call..call + 1) {
-            if word == Word::Pages {
-                feed_pages(&mut terminal, byte, &mut reports, &mut lines)?;
-            } else {
-                terminal.feed_log(byte, &mut reports, &mut lines)?;
-            }
+            due.feed(word, byte)?;
         }
     }
-    ends_before(alloc, input, word, terminal.is_between())
+    Ok(true)
+}
+
+/// Returns whether each read fails in turn, and none is made after the one that gave no byte.
+fn each_read_fails(alloc: Global, input: &[u8], word: Word) -> Result<bool, Failed> {
+    let mut due = Due {
+        terminal: Terminal::new(alloc)?,
+        reports: Vec::new(alloc),
+        lines: Vec::new(alloc),
+    };
+    let fail = reads_fail(alloc, input, word, &mut due)?;
+    Ok(fail && ends_before(alloc, input, word, due.terminal.is_between())?)
+}
+
+/// Returns whether that is so for each word.
+fn each_read_fails_for_all(alloc: Global, input: &[u8]) -> Result<bool, Failed> {
+    for word in WORDS {
+        if !each_read_fails(alloc, input, *word)? {
+            return Ok(false);
+        }
+    }
+    Ok(true)
 }
 
 /// A replay whose write of one byte of this number fails.
@@ -289,37 +330,48 @@ fn with_failing_write(word: Word, number: Option<usize>) -> Replay {
     }
 }
 
-/// Whether each write of one byte fails in turn: what was written is what is due up to there.
-fn each_write_fails(alloc: Global, input: &[u8], word: Word) -> Result<bool, Fail> {
-    let (answered, due) = replayed(alloc, input, with_failing_write(word, None))?;
+/// Whether each write of one byte of what is due fails in turn: what was written is what is due up to there.
+fn writes_fail(alloc: Global, input: &[u8], word: Word, due: &[u8]) -> Result<bool, Failed> {
     for call in 0..due.len() {
         let replay = with_failing_write(word, Some(call + 1));
         if !leaves(alloc, input, replay, Err(Fault::Write), &due[..call])? {
             return Ok(false);
         }
     }
-    let replay = with_failing_write(word, Some(due.len().saturating_add(1)));
-    leaves(alloc, input, replay, answered, &due)
+    Ok(true)
+}
+
+/// Whether each write fails in turn, and none is made after the last one.
+fn each_write_fails(alloc: Global, input: &[u8], word: Word) -> Result<bool, Failed> {
+    let (answered, due) = replayed(alloc, input, with_failing_write(word, None))?;
+    let last = with_failing_write(word, Some(due.len().saturating_add(1)));
+    Ok(writes_fail(alloc, input, word, &due)? && leaves(alloc, input, last, answered, &due)?)
+}
+
+/// Whether that is so for each word.
+fn each_write_fails_for_all(alloc: Global, input: &[u8]) -> Result<bool, Failed> {
+    for word in WORDS {
+        if !each_write_fails(alloc, input, *word)? {
+            return Ok(false);
+        }
+    }
+    Ok(true)
 }
 
 #[test]
-fn each_read_of_each_vector_fails(rt: HostRuntime) -> Result<(), Fail> {
+fn each_read_of_each_vector_fails(rt: HostRuntime) {
     for i in 0..vector_count() {
-        for word in WORDS {
-            let fails = each_read_fails(rt.alloc(), vector(i).input, word)?;
-            assert!(rt; fails, "vector {i}");
-        }
+        holds_at(&rt, i, each_read_fails_for_all(rt.alloc(), vector(i).input));
     }
-    Ok(())
 }
 
 #[test]
-fn each_write_of_each_vector_fails(rt: HostRuntime) -> Result<(), Fail> {
+fn each_write_of_each_vector_fails(rt: HostRuntime) {
     for i in 0..vector_count() {
-        for word in WORDS {
-            let fails = each_write_fails(rt.alloc(), vector(i).input, word)?;
-            assert!(rt; fails, "vector {i}");
-        }
+        holds_at(
+            &rt,
+            i,
+            each_write_fails_for_all(rt.alloc(), vector(i).input),
+        );
     }
-    Ok(())
 }

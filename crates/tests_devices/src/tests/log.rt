@@ -1,8 +1,8 @@
 //! The log of an input: its lines and its screen, however the input is cut.
 ghost use Rattle.std.specs.Prelude.{◌≤◌};
 
+use super::common::{Failed, holds, holds_at};
 use std::alloc::Global;
-use std::test::Fail;
 use vt_replay::{Watched, write_log};
 use vt_vectors::{vector, vector_count};
 
@@ -10,12 +10,12 @@ use vt_vectors::{vector, vector_count};
 const LIMIT: u64 = 268435456;
 
 /// Returns the log of an input that is read so many bytes at a time.
-fn logged(alloc: Global, input: &[u8], piece: usize) -> Result<Vec<u8>, Fail>
+fn logged(alloc: Global, input: &[u8], piece: usize) -> Result<Vec<u8>, Failed>
     requires { (1 ≤ piece) × (piece ≤ 65536) }
 {
     let mut reader = Watched::new(input);
     let mut writer = Watched::new(Vec::new(alloc));
-    write_log(alloc, &mut reader, &mut writer, piece, LIMIT).map_err(|_| "no log")?;
+    write_log(alloc, &mut reader, &mut writer, piece, LIMIT).map_err(|_| Failed)?;
     Ok(writer.into_inner())
 }
 
@@ -45,49 +45,46 @@ const ROWS: [Row; 4] = [
     ),
 ];
 
+/// Returns whether the log of an input is this, read so many bytes at a time.
+fn logs(alloc: Global, input: &[u8], piece: usize, log: &[u8]) -> Result<bool, Failed>
+    requires { (1 ≤ piece) × (piece ≤ 65536) }
+{
+    Ok(logged(alloc, input, piece)?.as_slice() == log)
+}
+
 /// Returns whether the log of an input is this, by bytes, by sevens and at once.
-fn is_logged(alloc: Global, input: &[u8], log: &[u8]) -> Result<bool, Fail> {
-    Ok(
-        logged(alloc, input, 1)?.as_slice() == log
-            && logged(alloc, input, 7)?.as_slice() == log
-            && logged(alloc, input, 4096)?.as_slice() == log,
-    )
+fn is_logged(alloc: Global, input: &[u8], log: &[u8]) -> Result<bool, Failed> {
+    Ok(logs(alloc, input, 1, log)? && logs(alloc, input, 7, log)? && logs(alloc, input, 4096, log)?)
 }
 
 #[test]
-fn rows_are_logged(rt: HostRuntime) -> Result<(), Fail> {
+fn rows_are_logged(rt: HostRuntime) {
     for (name, input, log) in &ROWS {
-        assert!(rt; is_logged(rt.alloc(), input, log)?, "{name}");
+        holds(&rt, name, is_logged(rt.alloc(), input, log));
     }
-    Ok(())
 }
 
 /// Returns whether the log of an input is the same, however it is cut.
-fn is_same_in_chunks(alloc: Global, input: &[u8]) -> Result<bool, Fail> {
+fn is_same_in_chunks(alloc: Global, input: &[u8]) -> Result<bool, Failed> {
     let whole = logged(alloc, input, 65536)?;
     is_logged(alloc, input, &whole)
 }
 
 #[test]
-fn each_vector_has_one_log(rt: HostRuntime) -> Result<(), Fail> {
+fn each_vector_has_one_log(rt: HostRuntime) {
     for i in 0..vector_count() {
-        assert!(rt;
-            is_same_in_chunks(rt.alloc(), vector(i).input)?,
-            "vector {i}"
-        );
+        holds_at(&rt, i, is_same_in_chunks(rt.alloc(), vector(i).input));
     }
-    Ok(())
 }
 
 /// Returns whether a chunk with more lines than there is capacity for has them all: 65535 line feeds.
-fn is_logged_in_turns(alloc: Global) -> Result<bool, Fail> {
+fn is_logged_in_turns(alloc: Global) -> Result<bool, Failed> {
     let input = vec![in alloc; b'\n'; 65535]?;
     let log = logged(alloc, &input, 65535)?;
     Ok(log.len() == 65536 && log.iter().all(|b| *b == b'\n'))
 }
 
 #[test]
-fn a_chunk_of_many_lines_is_logged(rt: HostRuntime) -> Result<(), Fail> {
-    assert!(rt; is_logged_in_turns(rt.alloc())?);
-    Ok(())
+fn a_chunk_of_many_lines_is_logged(rt: HostRuntime) {
+    holds(&rt, "65535 lines", is_logged_in_turns(rt.alloc()));
 }

@@ -1,9 +1,9 @@
 //! What the program needs of a replay: a writer that is full, and the lines of faults.
 ghost use Rattle.std.specs.Prelude.{◌≡◌, ◌≤◌, false};
 
+use super::common::{Failed, holds};
 use std::alloc::Global;
 use std::io::Write;
-use std::test::Fail;
 use vt_replay::{Fault, Watched, What, run};
 
 /// The greatest input of the program, unless it is told another.
@@ -50,12 +50,12 @@ fn a_writer_that_is_full_is_a_fault(rt: HostRuntime) {
 }
 
 /// Whether a fault has this status, and this line as its message.
-fn has_line(alloc: Global, fault: &Fault, status: u8, line: &str) -> Result<bool, Fail> {
+fn has_line(alloc: Global, fault: &Fault, status: u8, line: &str) -> Result<bool, Failed> {
     let message = fault.to_string(alloc)?;
     Ok(fault.status() == status && message.as_str() == line)
 }
 
-const FAULTS: [(Fault, u8, &str); 5] = [
+const FAULTS: &[(Fault, u8, &str)] = &[
     (Fault::Memory, 1, "vt220: out of memory"),
     (Fault::Partial, 3, "vt220: input ends inside a sequence"),
     (Fault::Read, 4, "vt220: read failed"),
@@ -64,9 +64,8 @@ const FAULTS: [(Fault, u8, &str); 5] = [
 ];
 
 #[test]
-fn faults_have_a_status_and_a_line(rt: HostRuntime) -> Result<(), Fail> {
-    for (fault, status, line) in &FAULTS {
-        assert!(rt; has_line(rt.alloc(), fault, *status, line)?, "{line}");
+fn faults_have_a_status_and_a_line(rt: HostRuntime) {
+    for (fault, status, line) in FAULTS {
+        holds(&rt, line, has_line(rt.alloc(), fault, *status, line));
     }
-    Ok(())
 }

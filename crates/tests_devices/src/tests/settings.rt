@@ -1,6 +1,6 @@
 //! What the words ask for, at work: the piece, the limit and the kind; and a read that is passed on whole.
-use std::alloc::Global;
-use std::test::Fail;
+use super::common::{Failed, holds};
+use std::alloc::{AllocError, Global};
 use vt_replay::{Fault, Format, Watched, carry_out, replay, request, settings};
 use vt_vectors::ShortReader;
 
@@ -13,7 +13,7 @@ type Asked = (
 );
 
 /// Each is played on `ABCDE`, which the reader gives as fast as it is asked.
-const ASKED: [Asked; 7] = [
+const ASKED: &[Asked] = &[
     ("vt220 text", None, Ok(()), b"ABCDE\n"),
     ("vt220 status", None, Ok(()), b"cursor 1 6\n"),
     // the limit
@@ -26,7 +26,7 @@ const ASKED: [Asked; 7] = [
 ];
 
 /// Each is a log of `ABCDE`, of which no line scrolls off.
-const LOGGED: [Asked; 4] = [
+const LOGGED: &[Asked] = &[
     ("vt220 log", None, Ok(()), b"ABCDE\n"),
     ("vt220 log --limit 4", None, Err(Fault::TooLong), b""),
     ("vt220 log --piece 2", Some(4), Err(Fault::Read), b""),
@@ -34,7 +34,7 @@ const LOGGED: [Asked; 4] = [
 ];
 
 /// Returns the words of a line.
-fn words_of(alloc: Global, line: &str) -> Result<Vec<String>, Fail> {
+fn words_of(alloc: Global, line: &str) -> Result<Vec<String>, AllocError> {
     let mut words = Vec::new(alloc);
     for word in line.split(' ') {
         words.push(String::from_str(alloc, word)?)?;
@@ -47,8 +47,8 @@ fn replayed(
     alloc: Global,
     line: &str,
     failing_read: Option<usize>,
-) -> Result<(Result<(), Fault>, Vec<u8>), Fail> {
-    let asked = settings(alloc, words_of(alloc, line)?).map_err(|_| "refused words")?;
+) -> Result<(Result<(), Fault>, Vec<u8>), Failed> {
+    let asked = settings(alloc, words_of(alloc, line)?).map_err(|_| Failed)?;
     let mut reader = Watched::new(ShortReader::new(b"ABCDE", 100, failing_read));
     let mut writer = Watched::new(Vec::new(alloc));
     let answer = replay(alloc, &mut reader, &mut writer, &asked);
@@ -60,8 +60,8 @@ fn carried_out(
     alloc: Global,
     line: &str,
     failing_read: Option<usize>,
-) -> Result<(Result<(), Fault>, Vec<u8>), Fail> {
-    let asked = request(alloc, words_of(alloc, line)?).map_err(|_| "refused words")?;
+) -> Result<(Result<(), Fault>, Vec<u8>), Failed> {
+    let asked = request(alloc, words_of(alloc, line)?).map_err(|_| Failed)?;
     let mut reader = Watched::new(ShortReader::new(b"ABCDE", 100, failing_read));
     let mut writer = Watched::new(Vec::new(alloc));
     let outcome = carry_out(alloc, &mut reader, Format::Raw, None, &mut writer, &asked);
@@ -78,38 +78,34 @@ fn is_due(
 }
 
 /// Whether the line of a row is answered as the row says.
-fn is_answered(alloc: Global, row: &Asked) -> Result<bool, Fail> {
+fn is_answered(alloc: Global, row: &Asked) -> Result<bool, Failed> {
     let (answer, written) = replayed(alloc, row.0, row.1)?;
     Ok(is_due(row, answer, &written))
 }
 
 /// Returns whether the line of a row is carried out as the row says.
-fn is_carried_out(alloc: Global, row: &Asked) -> Result<bool, Fail> {
+fn is_carried_out(alloc: Global, row: &Asked) -> Result<bool, Failed> {
     let (answer, written) = carried_out(alloc, row.0, row.1)?;
     Ok(is_due(row, answer, &written))
 }
 
 #[test]
-fn settings_are_at_work(rt: HostRuntime) -> Result<(), Fail> {
-    for row in &ASKED {
-        let line = row.0;
-        assert!(rt; is_answered(rt.alloc(), row)?, "{line}");
-        assert!(rt; is_carried_out(rt.alloc(), row)?, "{line}");
+fn settings_are_at_work(rt: HostRuntime) {
+    for row in ASKED {
+        holds(&rt, row.0, is_answered(rt.alloc(), row));
+        holds(&rt, row.0, is_carried_out(rt.alloc(), row));
     }
-    Ok(())
 }
 
 #[test]
-fn requests_are_at_work(rt: HostRuntime) -> Result<(), Fail> {
-    for row in &LOGGED {
-        let line = row.0;
-        assert!(rt; is_carried_out(rt.alloc(), row)?, "{line}");
+fn requests_are_at_work(rt: HostRuntime) {
+    for row in LOGGED {
+        holds(&rt, row.0, is_carried_out(rt.alloc(), row));
     }
-    Ok(())
 }
 
 /// Whether a read gives all five bytes, the next one none, and only then the reader has ended.
-fn is_passed_on_whole() -> Result<bool, Fail> {
+fn is_passed_on_whole() -> Result<bool, Failed> {
     let mut reader = Watched::new(ShortReader::new(b"ABCDE", 100, None));
     let mut buffer = [0u8; 5];
     let first = reader.read(&mut buffer)?;
@@ -119,7 +115,6 @@ fn is_passed_on_whole() -> Result<bool, Fail> {
 }
 
 #[test]
-fn a_read_is_passed_on_whole(rt: HostRuntime) -> Result<(), Fail> {
-    assert!(rt; is_passed_on_whole()?);
-    Ok(())
+fn a_read_is_passed_on_whole(rt: HostRuntime) {
+    holds(&rt, "five bytes", is_passed_on_whole());
 }

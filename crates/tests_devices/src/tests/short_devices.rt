@@ -1,21 +1,21 @@
 //! The devices, through the bounds that a caller has.
 ghost use Rattle.std.specs.Prelude.{◌≤◌};
 
+use super::common::{Failed, holds_at};
 use std::alloc::Global;
 use std::io::{Read, Write};
-use std::test::Fail;
 use vt_vectors::{ShortReader, ShortWriter};
 
 /// The answers of so many reads, each of at most four bytes, in one line: what was read, or `!` for an error, and `,`.
-fn reads<R: Read>(alloc: Global, reader: &mut R, count: u8) -> Result<Vec<u8>, Fail> {
+fn reads<R: Read>(alloc: Global, reader: &mut R, count: u8) -> Result<Vec<u8>, Failed> {
     let mut line = Vec::new(alloc);
     for _ in 0..count {
         let mut buffer = [0u8; 4];
         match reader.read(&mut buffer) {
             Ok(n) => line.extend_from_slice(buffer.get(..n).unwrap_or(b"?"))?,
-            Err(_) => line.push(b'!')?,
+            Err(_) => line.extend_from_slice(b"!")?,
         }
-        line.push(b',')?;
+        line.extend_from_slice(b",")?;
     }
     Ok(line)
 }
@@ -27,7 +27,7 @@ fn writes<W: Write>(
     writer: &mut W,
     piece: &[u8],
     count: u8,
-) -> Result<String, Fail> {
+) -> Result<String, Failed> {
     let mut line = String::new(alloc);
     let mut left = piece;
     for _ in 0..count {
@@ -68,21 +68,22 @@ const READERS: [(Most, Option<usize>, &[u8]); 6] = [
 ];
 
 /// Whether a reader's answers are these.
-fn is_read(alloc: Global, most: Most, fail: Option<usize>, line: &[u8]) -> Result<bool, Fail> {
+fn is_read(alloc: Global, most: Most, fail: Option<usize>, line: &[u8]) -> Result<bool, Failed> {
     let mut reader = ShortReader::new(b"abcdefg", most.count, fail);
     Ok(reads(alloc, &mut reader, 8)?.as_slice() == line)
 }
 
 #[test]
-fn a_reader_gives_little_and_fails_once(rt: HostRuntime) -> Result<(), Fail> {
-    for (most, fail, line) in &READERS {
-        assert!(rt; is_read(rt.alloc(), *most, *fail, line)?);
+fn a_reader_gives_little_and_fails_once(rt: HostRuntime) {
+    for (i, (most, fail, line)) in READERS.iter().enumerate() {
+        holds_at(&rt, i, is_read(rt.alloc(), *most, *fail, line));
     }
-    Ok(())
 }
 
 /// The room, the most bytes of a write, the call that fails, the answers of four writes, and what was taken.
-const WRITERS: [(usize, Most, Option<usize>, &str, &[u8]); 5] = [
+type Writing = (usize, Most, Option<usize>, &'static str, &'static [u8]);
+
+const WRITERS: [Writing; 5] = [
     (9, THREE, None, "3,3,1,0,", b"abcdefg"),
     (5, THREE, None, "3,2,0,0,", b"abcde"),
     (9, THREE, Some(2), "3,!,3,1,", b"abcdefg"),
@@ -91,24 +92,16 @@ const WRITERS: [(usize, Most, Option<usize>, &str, &[u8]); 5] = [
 ];
 
 /// Whether a writer's answers are these, and what it has taken.
-fn is_written(
-    alloc: Global,
-    room: usize,
-    most: Most,
-    fail: Option<usize>,
-    line: &str,
-    taken: &[u8],
-) -> Result<bool, Fail> {
-    let into = Vec::with_capacity(alloc, room)?;
-    let mut writer = ShortWriter::new(into, room, most.count, fail);
+fn is_written(alloc: Global, (room, most, fail, line, taken): &Writing) -> Result<bool, Failed> {
+    let into = Vec::with_capacity(alloc, *room)?;
+    let mut writer = ShortWriter::new(into, *room, most.count, *fail);
     let answers = writes(alloc, &mut writer, b"abcdefg", 4)?;
-    Ok(answers.as_str() == line && writer.taken() == taken)
+    Ok(answers.as_str() == *line && writer.taken() == *taken)
 }
 
 #[test]
-fn a_writer_takes_little_and_fails_once(rt: HostRuntime) -> Result<(), Fail> {
-    for (room, most, fail, line, taken) in &WRITERS {
-        assert!(rt; is_written(rt.alloc(), *room, *most, *fail, line, taken)?);
+fn a_writer_takes_little_and_fails_once(rt: HostRuntime) {
+    for (i, row) in WRITERS.iter().enumerate() {
+        holds_at(&rt, i, is_written(rt.alloc(), row));
     }
-    Ok(())
 }

@@ -1,9 +1,9 @@
 //! The words that no replay has, and recordings, from devices over memory.
 ghost use Rattle.std.specs.Prelude.{◌≤◌};
 
+use super::common::{Failed, holds};
 use std::alloc::Global;
 use std::process::Abort;
-use std::test::Fail;
 use vt_replay::{
     Break, Encoding, Fault, Format, Moment, Outcome, Part, Request, TerminalType, Watched, What,
     Word, carry_out,
@@ -26,7 +26,7 @@ fn carried_out(
     input: &[u8],
     asked: Asked,
     piece: usize,
-) -> Result<(Outcome, Vec<u8>), Fail>
+) -> Result<(Outcome, Vec<u8>), Failed>
     requires { (1 ≤ piece) × (piece ≤ 65536) }
 {
     let mut reader = Watched::new(input);
@@ -58,41 +58,27 @@ fn carried_out(
 /// A name, an input, what is asked for, the outcome, and what is written.
 type Row = (&'static str, &'static [u8], Asked, Outcome, &'static [u8]);
 
-/// A word on the host's bytes.
-const fn of_raw(word: Word) -> Asked {
-    Asked {
-        word,
-        format: Format::Raw,
-        timing: None,
-        until: None,
-        encoding: None,
-        terminal: TerminalType::Vt220,
-    }
-}
+/// The host's bytes.
+const RAW: Asked = Asked {
+    word: Word::Content,
+    format: Format::Raw,
+    timing: None,
+    until: None,
+    encoding: None,
+    terminal: TerminalType::Vt220,
+};
 
-/// A word on the host's UTF-8.
-const fn of_utf8(word: Word) -> Asked {
-    Asked {
-        word,
-        format: Format::Raw,
-        timing: None,
-        until: None,
-        encoding: Some(Encoding::Utf8),
-        terminal: TerminalType::Vt220,
-    }
-}
+/// The host's UTF-8.
+const UTF8: Asked = Asked {
+    encoding: Some(Encoding::Utf8),
+    ..RAW
+};
 
-/// A word on what a host sends for xterm.
-const fn of_xterm(word: Word) -> Asked {
-    Asked {
-        word,
-        format: Format::Raw,
-        timing: None,
-        until: None,
-        encoding: Some(Encoding::Utf8),
-        terminal: TerminalType::Xterm,
-    }
-}
+/// What a host sends for xterm.
+const XTERM: Asked = Asked {
+    terminal: TerminalType::Xterm,
+    ..UTF8
+};
 
 /// All was written.
 const DONE: Outcome = Outcome {
@@ -100,273 +86,324 @@ const DONE: Outcome = Outcome {
     ended: Ok(()),
 };
 
-/// The recording is broken at this byte.
-const fn broken_at(at: u64) -> Outcome {
-    Outcome {
-        replaced: 0,
-        ended: Err(Fault::Broken(Break {
-            part: Part::Recording,
-            at,
-        })),
-    }
-}
+/// The recording is broken at its first byte.
+const BROKEN_AT_0: Outcome = Outcome {
+    replaced: 0,
+    ended: Err(Fault::Broken(Break {
+        part: Part::Recording,
+        at: 0,
+    })),
+};
 
-/// The content of a recording in a format.
-const fn content_of(format: Format, until: Option<Moment>) -> Asked {
-    Asked {
-        word: Word::Content,
-        format,
-        timing: None,
-        until,
-        encoding: None,
-        terminal: TerminalType::Vt220,
-    }
-}
+/// It is broken at byte 14.
+const BROKEN_AT_14: Outcome = Outcome {
+    replaced: 0,
+    ended: Err(Fault::Broken(Break {
+        part: Part::Recording,
+        at: 14,
+    })),
+};
 
 /// Rows by hand, from docs/TRACE.md and the formats.
-fn rows() -> [Row; 9] {
-    [
-        (
-            "a page before ED, and the screen",
-            b"A\x1b[H\x1b[2JB",
-            of_raw(Word::Pages),
-            DONE,
-            b"A\n\n\n\n\n\n\n\n\n\n\n\n\n\n\n\n\n\n\n\n\n\n\n\nB\n\n\n\n\n\n\n\n\n\n\n\n\n\n\n\n\n\n\n\n\n\n\n\n",
-        ),
-        (
-            "a trace, with the end of its last text",
-            b"Hi\r\n\x1b[6nB",
-            of_raw(Word::Trace),
-            DONE,
-            b"0\ttext\tHi\n2\tCR\t\n3\tLF\t\n4\tDSR\t6\n4\treport\t\\x1B[2;1R\n8\ttext\tB\n",
-        ),
-        (
-            "a summary, ignored events first",
-            b"A\x1b[?1049hB\r",
-            of_raw(Word::Summary),
-            DONE,
-            b"1\tignored \\x1B[?h\n2\ttext\n1\tCR\n",
-        ),
-        (
-            "the host's bytes",
-            b"A\x00\xffB",
-            of_raw(Word::Content),
-            DONE,
-            b"A\x00\xffB",
-        ),
-        (
-            "the first bytes",
-            b"ABCDE",
-            content_of(Format::Raw, Some(Moment::Bytes(3))),
-            DONE,
-            b"ABC",
-        ),
-        (
-            "what script(1) recorded",
-            b"Script started on x\nAB\nCD",
-            content_of(Format::Script, None),
-            DONE,
-            b"AB\nCD",
-        ),
-        (
-            "no recording by script(1)",
-            b"AB\nCD",
-            content_of(Format::Script, None),
-            broken_at(0),
-            b"",
-        ),
-        (
-            "the frames of ttyrec up to a second",
-            b"\x01\x00\x00\x00\x00\x00\x00\x00\x02\x00\x00\x00AB\x03\x00\x00\x00\x00\x00\x00\x00\x01\x00\x00\x00C",
-            content_of(Format::Ttyrec, Some(Moment::Micros(1000000))),
-            DONE,
-            b"AB",
-        ),
-        (
-            "a frame that is cut short",
-            b"\x01\x00\x00\x00\x00\x00\x00\x00\x02\x00\x00\x00AB\x03\x00",
-            content_of(Format::Ttyrec, None),
-            broken_at(14),
-            b"AB",
-        ),
-    ]
-}
+const ROWS: &[Row] = &[
+    (
+        "a page before ED, and the screen",
+        b"A\x1b[H\x1b[2JB",
+        Asked {
+            word: Word::Pages,
+            ..RAW
+        },
+        DONE,
+        b"A\n\n\n\n\n\n\n\n\n\n\n\n\n\n\n\n\n\n\n\n\n\n\n\nB\n\n\n\n\n\n\n\n\n\n\n\n\n\n\n\n\n\n\n\n\n\n\n\n",
+    ),
+    (
+        "a trace, with the end of its last text",
+        b"Hi\r\n\x1b[6nB",
+        Asked {
+            word: Word::Trace,
+            ..RAW
+        },
+        DONE,
+        b"0\ttext\tHi\n2\tCR\t\n3\tLF\t\n4\tDSR\t6\n4\treport\t\\x1B[2;1R\n8\ttext\tB\n",
+    ),
+    (
+        "a summary, ignored events first",
+        b"A\x1b[?1049hB\r",
+        Asked {
+            word: Word::Summary,
+            ..RAW
+        },
+        DONE,
+        b"1\tignored \\x1B[?h\n2\ttext\n1\tCR\n",
+    ),
+    ("the host's bytes", b"A\x00\xffB", RAW, DONE, b"A\x00\xffB"),
+    (
+        "the first bytes",
+        b"ABCDE",
+        Asked {
+            until: Some(Moment::Bytes(3)),
+            ..RAW
+        },
+        DONE,
+        b"ABC",
+    ),
+    (
+        "what script(1) recorded",
+        b"Script started on x\nAB\nCD",
+        Asked {
+            format: Format::Script,
+            ..RAW
+        },
+        DONE,
+        b"AB\nCD",
+    ),
+    (
+        "no recording by script(1)",
+        b"AB\nCD",
+        Asked {
+            format: Format::Script,
+            ..RAW
+        },
+        BROKEN_AT_0,
+        b"",
+    ),
+    (
+        "the frames of ttyrec up to a second",
+        b"\x01\x00\x00\x00\x00\x00\x00\x00\x02\x00\x00\x00AB\x03\x00\x00\x00\x00\x00\x00\x00\x01\x00\x00\x00C",
+        Asked {
+            format: Format::Ttyrec,
+            until: Some(Moment::Micros(1000000)),
+            ..RAW
+        },
+        DONE,
+        b"AB",
+    ),
+    (
+        "a frame that is cut short",
+        b"\x01\x00\x00\x00\x00\x00\x00\x00\x02\x00\x00\x00AB\x03\x00",
+        Asked {
+            format: Format::Ttyrec,
+            ..RAW
+        },
+        BROKEN_AT_14,
+        b"AB",
+    ),
+];
 
 /// Rows by hand in UTF-8, from Unicode and docs/SPECIFICATION.md.
-fn utf8_rows() -> [Row; 11] {
-    [
-        (
-            "a letter of the supplemental set, in G2 at power-up",
-            b"\xc3\xa9",
-            of_utf8(Word::Content),
-            DONE,
-            b"\x1bNi",
-        ),
-        (
-            "a letter as a character of the screen",
-            b"A\xc3\xa9",
-            of_utf8(Word::Replay(What::Text)),
-            DONE,
-            b"A\xc3\xa9\n\n\n\n\n\n\n\n\n\n\n\n\n\n\n\n\n\n\n\n\n\n\n\n",
-        ),
-        (
-            "quotes are shown by a similar glyph",
-            b"\xe2\x80\x9cA\xe2\x80\x9d",
-            of_utf8(Word::Replay(What::Text)),
-            DONE,
-            b"\"A\"\n\n\n\n\n\n\n\n\n\n\n\n\n\n\n\n\n\n\n\n\n\n\n\n",
-        ),
-        (
-            "what is pending at the end is left out",
-            b"A\xe2\x80",
-            of_utf8(Word::Content),
-            DONE,
-            b"A",
-        ),
-        (
-            "an ill-formed byte is shown as U+2426, and the byte after it is read",
-            b"\xc3A",
-            of_utf8(Word::Replay(What::Text)),
-            DONE,
-            b"\xe2\x90\xa6A\n\n\n\n\n\n\n\n\n\n\n\n\n\n\n\n\n\n\n\n\n\n\n\n",
-        ),
-        (
-            "a character in a title ends nothing, and has no byte",
-            b"\x1b]0;\xc2\x9c\x1b\\A",
-            of_utf8(Word::Content),
-            DONE,
-            b"\x1b]0;\x1b\\A",
-        ),
-        (
-            "a report after a letter of one cell",
-            b"\xc3\xa9\x1b[6n",
-            of_utf8(Word::Replay(What::Reports)),
-            DONE,
-            b"\x1b[1;2R",
-        ),
-        (
-            "a report after a character of two cells",
-            b"\xe4\xb8\x96\x1b[6n",
-            of_utf8(Word::Replay(What::Reports)),
-            DONE,
-            b"\x1b[1;3R",
-        ),
-        (
-            "a page with a letter, and the screen",
-            b"\xc3\xa9\x1b[H\x1b[2JB",
-            of_utf8(Word::Pages),
-            DONE,
-            b"\xc3\xa9\n\n\n\n\n\n\n\n\n\n\n\n\n\n\n\n\n\n\n\n\n\n\n\nB\n\n\n\n\n\n\n\n\n\n\n\n\n\n\n\n\n\n\n\n\n\n\n\n",
-        ),
-        (
-            "a trace of SS2 and a code for a letter, and of a report",
-            b"A\xc3\xa9B\x1b[6n",
-            of_utf8(Word::Trace),
-            DONE,
-            b"0\ttext\tA\n1\tSS2\t\n3\ttext\tiB\n5\tDSR\t6\n5\treport\t\\x1B[1;4R\n",
-        ),
-        (
-            "a summary counts SS2, and not what is pending at the end",
-            b"A\xc3\xa9B\xc3",
-            of_utf8(Word::Summary),
-            DONE,
-            b"3\ttext\n1\tSS2\n",
-        ),
-    ]
-}
+const UTF8_ROWS: &[Row] = &[
+    (
+        "a letter of the supplemental set, in G2 at power-up",
+        b"\xc3\xa9",
+        UTF8,
+        DONE,
+        b"\x1bNi",
+    ),
+    (
+        "a letter as a character of the screen",
+        b"A\xc3\xa9",
+        Asked {
+            word: Word::Replay(What::Text),
+            ..UTF8
+        },
+        DONE,
+        b"A\xc3\xa9\n\n\n\n\n\n\n\n\n\n\n\n\n\n\n\n\n\n\n\n\n\n\n\n",
+    ),
+    (
+        "quotes are shown by a similar glyph",
+        b"\xe2\x80\x9cA\xe2\x80\x9d",
+        Asked {
+            word: Word::Replay(What::Text),
+            ..UTF8
+        },
+        DONE,
+        b"\"A\"\n\n\n\n\n\n\n\n\n\n\n\n\n\n\n\n\n\n\n\n\n\n\n\n",
+    ),
+    (
+        "what is pending at the end is left out",
+        b"A\xe2\x80",
+        UTF8,
+        DONE,
+        b"A",
+    ),
+    (
+        "an ill-formed byte is shown as U+2426, and the byte after it is read",
+        b"\xc3A",
+        Asked {
+            word: Word::Replay(What::Text),
+            ..UTF8
+        },
+        DONE,
+        b"\xe2\x90\xa6A\n\n\n\n\n\n\n\n\n\n\n\n\n\n\n\n\n\n\n\n\n\n\n\n",
+    ),
+    (
+        "a character in a title ends nothing, and has no byte",
+        b"\x1b]0;\xc2\x9c\x1b\\A",
+        UTF8,
+        DONE,
+        b"\x1b]0;\x1b\\A",
+    ),
+    (
+        "a report after a letter of one cell",
+        b"\xc3\xa9\x1b[6n",
+        Asked {
+            word: Word::Replay(What::Reports),
+            ..UTF8
+        },
+        DONE,
+        b"\x1b[1;2R",
+    ),
+    (
+        "a report after a character of two cells",
+        b"\xe4\xb8\x96\x1b[6n",
+        Asked {
+            word: Word::Replay(What::Reports),
+            ..UTF8
+        },
+        DONE,
+        b"\x1b[1;3R",
+    ),
+    (
+        "a page with a letter, and the screen",
+        b"\xc3\xa9\x1b[H\x1b[2JB",
+        Asked {
+            word: Word::Pages,
+            ..UTF8
+        },
+        DONE,
+        b"\xc3\xa9\n\n\n\n\n\n\n\n\n\n\n\n\n\n\n\n\n\n\n\n\n\n\n\nB\n\n\n\n\n\n\n\n\n\n\n\n\n\n\n\n\n\n\n\n\n\n\n\n",
+    ),
+    (
+        "a trace of SS2 and a code for a letter, and of a report",
+        b"A\xc3\xa9B\x1b[6n",
+        Asked {
+            word: Word::Trace,
+            ..UTF8
+        },
+        DONE,
+        b"0\ttext\tA\n1\tSS2\t\n3\ttext\tiB\n5\tDSR\t6\n5\treport\t\\x1B[1;4R\n",
+    ),
+    (
+        "a summary counts SS2, and not what is pending at the end",
+        b"A\xc3\xa9B\xc3",
+        Asked {
+            word: Word::Summary,
+            ..UTF8
+        },
+        DONE,
+        b"3\ttext\n1\tSS2\n",
+    ),
+];
 
 /// Rows by hand for xterm, from docs/SPECIFICATION.md.
-fn xterm_rows() -> [Row; 8] {
-    [
-        (
-            "the alternate page, and a column by CHA",
-            b"A\x1b[?1049h\x1b[Hhello\x1b[5G!",
-            of_xterm(Word::Replay(What::Text)),
-            DONE,
-            b"hell!\n\n\n\n\n\n\n\n\n\n\n\n\n\n\n\n\n\n\n\n\n\n\n\n",
-        ),
-        (
-            "the main page again, with its cursor",
-            b"A\x1b[?1049h\x1b[HB\x1b[?1049lC",
-            of_xterm(Word::Replay(What::Text)),
-            DONE,
-            b"AC\n\n\n\n\n\n\n\n\n\n\n\n\n\n\n\n\n\n\n\n\n\n\n\n",
-        ),
-        (
-            "a colour isn't an attribute",
-            b"\x1b[38;5;7mA\xc3\xa9\x1b[2b",
-            of_xterm(Word::Replay(What::Show)),
-            DONE,
-            b"A\xc3\xa9\xc3\xa9\xc3\xa9\n\n\n\n\n\n\n\n\n\n\n\n\n\n\n\n\n\n\n\n\n\n\n\n",
-        ),
-        (
-            "a report of a line and a column by VPA and HPA",
-            b"\x1b[3d\x1b[7`\x1b[6n",
-            of_xterm(Word::Replay(What::Reports)),
-            DONE,
-            b"\x1b[3;7R",
-        ),
-        (
-            "a log has the lines of the main page alone",
-            b"A\x1b[24;1H\nB\x1b[?1049h\x1b[24;1H\n\x1b[?1049l",
-            of_xterm(Word::Log),
-            DONE,
-            b"A\n\n\n\n\n\n\n\n\n\n\n\n\n\n\n\n\n\n\n\n\n\n\n\nB\n",
-        ),
-        (
-            "a log has the lines that SU moves off",
-            b"A\r\n\xc3\xa9\x1b[2S",
-            of_xterm(Word::Log),
-            DONE,
-            b"A\n\xc3\xa9\n\n\n\n\n\n\n\n\n\n\n\n\n\n\n\n\n\n\n\n\n\n\n\n\n",
-        ),
-        (
-            "content is nothing if nothing changes",
-            b"\x07\r\x1b[38;5;7m\x1b]0;a title\x07\x1b[1`",
-            of_xterm(Word::Content),
-            DONE,
-            b"",
-        ),
-        (
-            "content hasn't a sequence that has begun, or a pending part",
-            b"\x1b[3\x18\xe2\x94",
-            of_xterm(Word::Content),
-            DONE,
-            b"",
-        ),
-    ]
-}
+const XTERM_ROWS: &[Row] = &[
+    (
+        "the alternate page, and a column by CHA",
+        b"A\x1b[?1049h\x1b[Hhello\x1b[5G!",
+        Asked {
+            word: Word::Replay(What::Text),
+            ..XTERM
+        },
+        DONE,
+        b"hell!\n\n\n\n\n\n\n\n\n\n\n\n\n\n\n\n\n\n\n\n\n\n\n\n",
+    ),
+    (
+        "the main page again, with its cursor",
+        b"A\x1b[?1049h\x1b[HB\x1b[?1049lC",
+        Asked {
+            word: Word::Replay(What::Text),
+            ..XTERM
+        },
+        DONE,
+        b"AC\n\n\n\n\n\n\n\n\n\n\n\n\n\n\n\n\n\n\n\n\n\n\n\n",
+    ),
+    (
+        "a colour isn't an attribute",
+        b"\x1b[38;5;7mA\xc3\xa9\x1b[2b",
+        Asked {
+            word: Word::Replay(What::Show),
+            ..XTERM
+        },
+        DONE,
+        b"A\xc3\xa9\xc3\xa9\xc3\xa9\n\n\n\n\n\n\n\n\n\n\n\n\n\n\n\n\n\n\n\n\n\n\n\n",
+    ),
+    (
+        "a report of a line and a column by VPA and HPA",
+        b"\x1b[3d\x1b[7`\x1b[6n",
+        Asked {
+            word: Word::Replay(What::Reports),
+            ..XTERM
+        },
+        DONE,
+        b"\x1b[3;7R",
+    ),
+    (
+        "a log has the lines of the main page alone",
+        b"A\x1b[24;1H\nB\x1b[?1049h\x1b[24;1H\n\x1b[?1049l",
+        Asked {
+            word: Word::Log,
+            ..XTERM
+        },
+        DONE,
+        b"A\n\n\n\n\n\n\n\n\n\n\n\n\n\n\n\n\n\n\n\n\n\n\n\nB\n",
+    ),
+    (
+        "a log has the lines that SU moves off",
+        b"A\r\n\xc3\xa9\x1b[2S",
+        Asked {
+            word: Word::Log,
+            ..XTERM
+        },
+        DONE,
+        b"A\n\xc3\xa9\n\n\n\n\n\n\n\n\n\n\n\n\n\n\n\n\n\n\n\n\n\n\n\n\n",
+    ),
+    (
+        "content is nothing if nothing changes",
+        b"\x07\r\x1b[38;5;7m\x1b]0;a title\x07\x1b[1`",
+        XTERM,
+        DONE,
+        b"",
+    ),
+    (
+        "content hasn't a sequence that has begun, or a pending part",
+        b"\x1b[3\x18\xe2\x94",
+        XTERM,
+        DONE,
+        b"",
+    ),
+];
 
 /// Returns whether a request is carried out as its row says, in chunks of so many bytes.
-fn is_due(alloc: Global, row: &Row, piece: usize) -> Result<bool, Fail>
+fn is_due(alloc: Global, row: &Row, piece: usize) -> Result<bool, Failed>
     requires { (1 ≤ piece) × (piece ≤ 65536) }
 {
     let (outcome, written) = carried_out(alloc, row.1, row.2, piece)?;
     Ok(outcome == row.3 && written.as_slice() == row.4)
 }
 
-#[test]
-fn words_are_carried_out(rt: HostRuntime) -> Result<(), Fail> {
-    are_due(&rt, &rows())
+/// Returns whether it is, in chunks of three sizes.
+fn is_due_in_chunks(alloc: Global, row: &Row) -> Result<bool, Failed> {
+    Ok(is_due(alloc, row, 1)? && is_due(alloc, row, 7)? && is_due(alloc, row, 4096)?)
 }
 
-#[test]
-fn words_are_carried_out_in_utf8(rt: HostRuntime) -> Result<(), Fail> {
-    are_due(&rt, &utf8_rows())
-}
-
-#[test]
-fn words_are_carried_out_for_xterm(rt: HostRuntime) -> Result<(), Fail> {
-    are_due(&rt, &xterm_rows())
-}
-
-/// Checks that each request is carried out as its row says, in chunks of three sizes.
-fn are_due<R: Abort + AllocGlobal>(rt: &R, rows: &[Row]) -> Result<(), Fail> {
+/// Asserts that each request is carried out as its row says.
+fn are_due(rt: &impl Abort, alloc: Global, rows: &[Row]) {
     for row in rows {
-        let name = row.0;
-        assert!(rt; is_due(rt.alloc(), row, 1)?, "{name}");
-        assert!(rt; is_due(rt.alloc(), row, 7)?, "{name}");
-        assert!(rt; is_due(rt.alloc(), row, 4096)?, "{name}");
+        holds(rt, row.0, is_due_in_chunks(alloc, row));
     }
-    Ok(())
+}
+
+#[test]
+fn words_are_carried_out(rt: HostRuntime) {
+    are_due(&rt, rt.alloc(), ROWS);
+}
+
+#[test]
+fn words_are_carried_out_in_utf8(rt: HostRuntime) {
+    are_due(&rt, rt.alloc(), UTF8_ROWS);
+}
+
+#[test]
+fn words_are_carried_out_for_xterm(rt: HostRuntime) {
+    are_due(&rt, rt.alloc(), XTERM_ROWS);
 }

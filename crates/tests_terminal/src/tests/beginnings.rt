@@ -2,27 +2,24 @@
 //! terminal that holds whatever it may.
 ghost use Rattle.std.specs.Prelude.{◌<◌};
 
-use super::common::{Played, holds_at};
+use super::common::{Failed, Played, holds_at};
 use std::alloc::Global;
-use std::test::Fail;
 use vt_paint::{PaintError, repaint};
 use vt_term::Terminal;
 use vt_vectors::{held_sample, held_sample_count, vector, vector_count};
 
 /// Whether a repaint, in pieces of 1 to 14 bytes, brings a terminal that holds this sample into this state, and asks
 /// for no report.
-fn is_rebuilt(alloc: Global, i: usize, bytes: &[u8], due: &Terminal) -> Result<bool, Fail>
+fn is_rebuilt(alloc: Global, i: usize, bytes: &[u8], due: &Terminal) -> Result<bool, Failed>
     requires { i < 14 }
 {
     let mut used = Played::of(alloc, &[held_sample(i)])?;
-    for piece in bytes.chunks(i + 1) {
-        used.feed(piece)?;
-    }
+    used.feed_by(i + 1, bytes)?;
     Ok(used.terminal.same_state(due) && used.reports.is_empty())
 }
 
 /// The same for each of the samples.
-fn rebuilds(alloc: Global, bytes: &[u8], due: &Terminal) -> Result<bool, Fail> {
+fn rebuilds(alloc: Global, bytes: &[u8], due: &Terminal) -> Result<bool, Failed> {
     for i in 0..held_sample_count() {
         if !is_rebuilt(alloc, i, bytes, due)? {
             return Ok(false);
@@ -32,7 +29,7 @@ fn rebuilds(alloc: Global, bytes: &[u8], due: &Terminal) -> Result<bool, Fail> {
 }
 
 /// Whether a beginning's repaint is what it must be.
-fn is_painted(alloc: Global, front: &[u8]) -> Result<bool, Fail> {
+fn is_painted(alloc: Global, front: &[u8]) -> Result<bool, Failed> {
     let played = Played::of(alloc, &[front])?;
     let mut bytes = Vec::new(alloc);
     let answer = repaint(&played.terminal, &mut bytes);
@@ -44,12 +41,11 @@ fn is_painted(alloc: Global, front: &[u8]) -> Result<bool, Fail> {
 }
 
 #[test]
-fn beginnings_are_rebuilt_between_sequences(rt: HostRuntime) -> Result<(), Fail> {
+fn beginnings_are_rebuilt_between_sequences(rt: HostRuntime) {
     for i in 0..vector_count() {
         let input = vector(i).input;
         for end in 0..input.len() + 1 {
-            holds_at(&rt, i, is_painted(rt.alloc(), &input[..end])?);
+            holds_at(&rt, i, is_painted(rt.alloc(), &input[..end]));
         }
     }
-    Ok(())
 }

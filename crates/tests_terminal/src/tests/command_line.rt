@@ -1,7 +1,7 @@
 //! Which words are taken, and what is said of the others.
-use super::common::holds;
+use super::common::{Failed, holds};
 use std::alloc::{AllocError, Global};
-use std::test::Fail;
+use std::process::Abort;
 use vt_replay::{
     Encoding, Format, Moment, Request, Settings, TerminalType, What, Word, request, settings,
 };
@@ -18,7 +18,7 @@ pub(super) fn words_of(alloc: Global, line: &str) -> Result<Vec<String>, AllocEr
 /// A line of words, and what it asks for: the kind, piece, limit and file.
 type Taken = (&'static str, What, usize, u64, Option<&'static str>);
 
-const TAKEN: [Taken; 14] = [
+const TAKEN: &[Taken] = &[
     // the defaults
     ("vt220 text", What::Text, 4096, 268435456, None),
     ("vt220 reports", What::Reports, 4096, 268435456, None),
@@ -86,12 +86,20 @@ const TAKEN: [Taken; 14] = [
     ),
 ];
 
+/// Whether a name that was given is this, or none was.
+fn is_name(found: &Option<String>, name: &Option<&str>) -> bool {
+    match found {
+        Some(text) => *name == Some(text.as_str()),
+        None => name.is_none(),
+    }
+}
+
 /// Whether settings are those of a row.
 fn are_taken(found: &Settings, (_line, what, piece, limit, file): &Taken) -> bool {
     found.what == *what
         && found.piece == *piece
         && found.limit == *limit
-        && found.file.as_ref().map(|name| name.as_str()) == *file
+        && is_name(&found.file, file)
 }
 
 /// Returns whether a request is for a word, with the rest of a row.
@@ -99,11 +107,11 @@ fn is_requested(found: &Request, word: Word, (_line, _what, piece, limit, file):
     found.word == word
         && found.piece == *piece
         && found.limit == *limit
-        && found.file.as_ref().map(|name| name.as_str()) == *file
+        && is_name(&found.file, file)
 }
 
 /// Returns whether the line of a row asks for a word.
-fn requests(alloc: Global, word: Word, row: &Taken) -> Result<bool, Fail> {
+fn requests(alloc: Global, word: Word, row: &Taken) -> Result<bool, Failed> {
     let asked = request(alloc, words_of(alloc, row.0)?);
     Ok(match &asked {
         Ok(found) => is_requested(found, word, row),
@@ -112,7 +120,7 @@ fn requests(alloc: Global, word: Word, row: &Taken) -> Result<bool, Fail> {
 }
 
 /// Whether the line of a row asks for its settings.
-fn asks_for(alloc: Global, row: &Taken) -> Result<bool, Fail> {
+fn asks_for(alloc: Global, row: &Taken) -> Result<bool, Failed> {
     let asked = settings(alloc, words_of(alloc, row.0)?);
     Ok(match &asked {
         Ok(found) => are_taken(found, row),
@@ -121,16 +129,15 @@ fn asks_for(alloc: Global, row: &Taken) -> Result<bool, Fail> {
 }
 
 #[test]
-fn words_ask_for_settings(rt: HostRuntime) -> Result<(), Fail> {
-    for row in &TAKEN {
-        holds(&rt, row.0, asks_for(rt.alloc(), row)?);
-        holds(&rt, row.0, requests(rt.alloc(), Word::Replay(row.1), row)?);
+fn words_ask_for_settings(rt: HostRuntime) {
+    for row in TAKEN {
+        holds(&rt, row.0, asks_for(rt.alloc(), row));
+        holds(&rt, row.0, requests(rt.alloc(), Word::Replay(row.1), row));
     }
-    Ok(())
 }
 
 /// Lines that ask for a log. No row has a kind of output of its own.
-const LOGS: [Taken; 3] = [
+const LOGS: &[Taken] = &[
     ("vt220 log", What::Text, 4096, 268435456, None),
     ("vt220 log --piece=7 a", What::Text, 7, 268435456, Some("a")),
     (
@@ -146,238 +153,270 @@ const LOGS: [Taken; 3] = [
 const NO_SETTINGS: &str = "vt220: bad command line\n";
 
 #[test]
-fn words_ask_for_a_log(rt: HostRuntime) -> Result<(), Fail> {
-    for row in &LOGS {
-        holds(&rt, row.0, requests(rt.alloc(), Word::Log, row)?);
-        holds(&rt, row.0, is_refused(rt.alloc(), row.0, 2, NO_SETTINGS)?);
+fn words_ask_for_a_log(rt: HostRuntime) {
+    for row in LOGS {
+        holds(&rt, row.0, requests(rt.alloc(), Word::Log, row));
+        holds(&rt, row.0, is_refused(rt.alloc(), row.0, 2, NO_SETTINGS));
     }
-    Ok(())
 }
 
-/// A line of words, its word, its format (none for auto), its timing file, and the moment.
-type Recorded = (
-    &'static str,
-    Word,
-    Option<Format>,
-    Option<&'static str>,
-    Option<Moment>,
-);
+/// What the options of a line ask for: the format (none for auto), the timing file, the moment, the encoding, the terminal,
+/// and whether the notes are left out.
+#[derive(Clone, Copy)]
+struct Options {
+    format: Option<Format>,
+    timing: Option<&'static str>,
+    until: Option<Moment>,
+    encoding: Option<Encoding>,
+    terminal: TerminalType,
+    quiet: bool,
+}
 
-const RECORDED: [Recorded; 14] = [
-    ("vt220 pages a", Word::Pages, Some(Format::Raw), None, None),
-    ("vt220 trace a", Word::Trace, Some(Format::Raw), None, None),
-    (
-        "vt220 summary a",
-        Word::Summary,
-        Some(Format::Raw),
-        None,
-        None,
-    ),
-    (
-        "vt220 content a",
-        Word::Content,
-        Some(Format::Raw),
-        None,
-        None,
-    ),
-    (
-        "vt220 text --format raw",
-        Word::Replay(What::Text),
-        Some(Format::Raw),
-        None,
-        None,
-    ),
-    (
-        "vt220 log --format script a",
-        Word::Log,
-        Some(Format::Script),
-        None,
-        None,
-    ),
+/// What a line without these options asks for.
+const NONE: Options = Options {
+    format: Some(Format::Raw),
+    timing: None,
+    until: None,
+    encoding: None,
+    terminal: TerminalType::Vt220,
+    quiet: false,
+};
+
+/// Its format is auto.
+const AUTO: Options = Options {
+    format: None,
+    ..NONE
+};
+
+const SCRIPT: Options = Options {
+    format: Some(Format::Script),
+    ..NONE
+};
+
+const TTYREC: Options = Options {
+    format: Some(Format::Ttyrec),
+    ..NONE
+};
+
+const ASCIICAST: Options = Options {
+    format: Some(Format::Asciicast),
+    ..NONE
+};
+
+const QUIET: Options = Options {
+    quiet: true,
+    ..NONE
+};
+
+const DEC: Options = Options {
+    encoding: Some(Encoding::Dec),
+    ..NONE
+};
+
+const UTF8: Options = Options {
+    encoding: Some(Encoding::Utf8),
+    ..NONE
+};
+
+const XTERM: Options = Options {
+    terminal: TerminalType::Xterm,
+    ..UTF8
+};
+
+/// A line of words, its word, and what its options ask for.
+type Asked = (&'static str, Word, Options);
+
+const RECORDED: &[Asked] = &[
+    ("vt220 pages a", Word::Pages, NONE),
+    ("vt220 trace a", Word::Trace, NONE),
+    ("vt220 summary a", Word::Summary, NONE),
+    ("vt220 content a", Word::Content, NONE),
+    ("vt220 text --format raw", Word::Replay(What::Text), NONE),
+    ("vt220 log --format script a", Word::Log, SCRIPT),
     (
         "vt220 show --format ttyrec --until 12.5 a",
         Word::Replay(What::Show),
-        Some(Format::Ttyrec),
-        None,
-        Some(Moment::Micros(12500000)),
+        Options {
+            until: Some(Moment::Micros(12500000)),
+            ..TTYREC
+        },
     ),
     (
         "vt220 show --until=12:31 a --format=asciicast",
         Word::Replay(What::Show),
-        Some(Format::Asciicast),
-        None,
-        Some(Moment::Micros(751000000)),
+        Options {
+            until: Some(Moment::Micros(751000000)),
+            ..ASCIICAST
+        },
     ),
     (
         "vt220 trace --format asciicast --until 1:02:03.000004",
         Word::Trace,
-        Some(Format::Asciicast),
-        None,
-        Some(Moment::Micros(3723000004)),
+        Options {
+            until: Some(Moment::Micros(3723000004)),
+            ..ASCIICAST
+        },
     ),
     (
         "vt220 content --format script --timing t --until 0",
         Word::Content,
-        Some(Format::Script),
-        Some("t"),
-        Some(Moment::Micros(0)),
+        Options {
+            timing: Some("t"),
+            until: Some(Moment::Micros(0)),
+            ..SCRIPT
+        },
     ),
     (
         "vt220 status --until 4096b",
         Word::Replay(What::Status),
-        Some(Format::Raw),
-        None,
-        Some(Moment::Bytes(4096)),
+        Options {
+            until: Some(Moment::Bytes(4096)),
+            ..NONE
+        },
     ),
     (
         "vt220 picture --format script --until 0b",
         Word::Replay(What::Picture),
-        Some(Format::Script),
-        None,
-        Some(Moment::Bytes(0)),
+        Options {
+            until: Some(Moment::Bytes(0)),
+            ..SCRIPT
+        },
     ),
-    ("vt220 log --format auto a", Word::Log, None, None, None),
+    ("vt220 log --format auto a", Word::Log, AUTO),
     (
         "vt220 text --until 1:00 --format=auto",
         Word::Replay(What::Text),
-        None,
-        None,
-        Some(Moment::Micros(60000000)),
+        Options {
+            until: Some(Moment::Micros(60000000)),
+            ..AUTO
+        },
     ),
 ];
 
-/// Returns whether the line of a row asks for its recording.
-fn is_recorded(
-    alloc: Global,
-    (line, word, format, timing, until): &Recorded,
-) -> Result<bool, Fail> {
+/// Lines that leave out the notes, and lines that don't.
+const NOTES: &[Asked] = &[
+    ("vt220 text --quiet a", Word::Replay(What::Text), QUIET),
+    ("vt220 log a --quiet", Word::Log, QUIET),
+    (
+        "vt220 content --format auto --quiet",
+        Word::Content,
+        Options {
+            quiet: true,
+            ..AUTO
+        },
+    ),
+    ("vt220 content --format auto", Word::Content, AUTO),
+    ("vt220 text a", Word::Replay(What::Text), NONE),
+];
+
+const ENCODED: &[Asked] = &[
+    ("vt220 text a", Word::Replay(What::Text), NONE),
+    (
+        "vt220 text --encoding utf-8 a",
+        Word::Replay(What::Text),
+        UTF8,
+    ),
+    ("vt220 text --encoding dec", Word::Replay(What::Text), DEC),
+    ("vt220 content --encoding=dec", Word::Content, DEC),
+    (
+        "vt220 log --format script --encoding utf-8",
+        Word::Log,
+        Options {
+            encoding: Some(Encoding::Utf8),
+            ..SCRIPT
+        },
+    ),
+    ("vt220 trace --encoding dec a", Word::Trace, DEC),
+    ("vt220 trace --encoding utf-8", Word::Trace, UTF8),
+    ("vt220 summary --encoding=utf-8 a", Word::Summary, UTF8),
+];
+
+const FOR_TERMINALS: &[Asked] = &[
+    ("vt220 text a", Word::Replay(What::Text), NONE),
+    (
+        "vt220 text --terminal vt220",
+        Word::Replay(What::Text),
+        NONE,
+    ),
+    ("vt220 log --terminal vt220", Word::Log, NONE),
+    (
+        "vt220 show --terminal=vt220 --encoding utf-8 a",
+        Word::Replay(What::Show),
+        UTF8,
+    ),
+    (
+        "vt220 repaint --format auto --terminal xterm a",
+        Word::Replay(What::Repaint),
+        Options {
+            format: None,
+            ..XTERM
+        },
+    ),
+    (
+        "vt220 picture --terminal=xterm --encoding utf-8",
+        Word::Replay(What::Picture),
+        XTERM,
+    ),
+    ("vt220 content --terminal xterm a", Word::Content, XTERM),
+];
+
+/// Returns whether a request asks for a recording as these options do.
+fn is_recorded(found: &Request, options: &Options) -> bool {
+    found.format == options.format
+        && is_name(&found.timing, &options.timing)
+        && found.until == options.until
+}
+
+/// Returns whether it asks for the rest of these options.
+fn is_played(found: &Request, options: &Options) -> bool {
+    found.encoding == options.encoding
+        && found.terminal == options.terminal
+        && found.quiet == options.quiet
+}
+
+/// Returns whether the line of a row asks for its word and its options.
+fn has_options(alloc: Global, (line, word, options): &Asked) -> Result<bool, Failed> {
     let asked = request(alloc, words_of(alloc, line)?);
     Ok(match &asked {
         Ok(found) => {
-            found.word == *word
-                && found.format == *format
-                && found.timing.as_ref().map(|name| name.as_str()) == *timing
-                && found.until == *until
-                && !found.quiet
+            found.word == *word && is_recorded(found, options) && is_played(found, options)
         }
         Err(_) => false,
     })
 }
 
-#[test]
-fn words_ask_for_recordings(rt: HostRuntime) -> Result<(), Fail> {
-    for row in &RECORDED {
-        holds(&rt, row.0, is_recorded(rt.alloc(), row)?);
-        holds(&rt, row.0, is_refused(rt.alloc(), row.0, 2, NO_SETTINGS)?);
+/// Asserts that each row's line asks for its word and its options.
+fn all_have_options(rt: &impl Abort, alloc: Global, rows: &[Asked]) {
+    for row in rows {
+        holds(rt, row.0, has_options(alloc, row));
     }
-    Ok(())
-}
-
-/// Lines that leave out the notes, and lines that don't.
-const QUIET: [(&str, bool); 5] = [
-    ("vt220 text --quiet a", true),
-    ("vt220 log a --quiet", true),
-    ("vt220 content --format auto --quiet", true),
-    ("vt220 content --format auto", false),
-    ("vt220 text a", false),
-];
-
-/// Returns whether a line leaves out the notes, or doesn't, as its row says.
-fn is_quiet(alloc: Global, (line, quiet): &(&str, bool)) -> Result<bool, Fail> {
-    let asked = request(alloc, words_of(alloc, line)?);
-    Ok(match &asked {
-        Ok(found) => found.quiet == *quiet,
-        Err(_) => false,
-    })
 }
 
 #[test]
-fn words_leave_out_the_notes(rt: HostRuntime) -> Result<(), Fail> {
-    for row in &QUIET {
-        holds(&rt, row.0, is_quiet(rt.alloc(), row)?);
+fn words_ask_for_recordings(rt: HostRuntime) {
+    all_have_options(&rt, rt.alloc(), RECORDED);
+    for row in RECORDED {
+        holds(&rt, row.0, is_refused(rt.alloc(), row.0, 2, NO_SETTINGS));
     }
-    Ok(())
-}
-
-/// Lines, and the encoding that each asks for.
-const ENCODED: [(&str, Option<Encoding>); 7] = [
-    ("vt220 text a", None),
-    ("vt220 text --encoding utf-8 a", Some(Encoding::Utf8)),
-    ("vt220 content --encoding=dec", Some(Encoding::Dec)),
-    (
-        "vt220 log --format script --encoding utf-8",
-        Some(Encoding::Utf8),
-    ),
-    ("vt220 trace --encoding dec a", Some(Encoding::Dec)),
-    ("vt220 trace --encoding utf-8", Some(Encoding::Utf8)),
-    ("vt220 summary --encoding=utf-8 a", Some(Encoding::Utf8)),
-];
-
-/// Returns whether the line of a row asks for its encoding.
-fn is_encoded(alloc: Global, (line, encoding): &(&str, Option<Encoding>)) -> Result<bool, Fail> {
-    let asked = request(alloc, words_of(alloc, line)?);
-    Ok(match &asked {
-        Ok(found) => found.encoding == *encoding,
-        Err(_) => false,
-    })
 }
 
 #[test]
-fn words_ask_for_an_encoding(rt: HostRuntime) -> Result<(), Fail> {
-    for row in &ENCODED {
-        holds(&rt, row.0, is_encoded(rt.alloc(), row)?);
-    }
+fn words_leave_out_the_notes(rt: HostRuntime) {
+    all_have_options(&rt, rt.alloc(), NOTES);
+}
+
+#[test]
+fn words_ask_for_an_encoding(rt: HostRuntime) {
+    all_have_options(&rt, rt.alloc(), ENCODED);
     let line = "vt220 text --encoding dec";
-    holds(&rt, line, is_refused(rt.alloc(), line, 2, NO_SETTINGS)?);
-    Ok(())
-}
-
-/// Lines, and the terminal and the encoding that each asks for.
-const FOR_TERMINALS: [(&str, TerminalType, Option<Encoding>); 6] = [
-    ("vt220 text a", TerminalType::Vt220, None),
-    ("vt220 log --terminal vt220", TerminalType::Vt220, None),
-    (
-        "vt220 show --terminal=vt220 --encoding utf-8 a",
-        TerminalType::Vt220,
-        Some(Encoding::Utf8),
-    ),
-    (
-        "vt220 repaint --format auto --terminal xterm a",
-        TerminalType::Xterm,
-        Some(Encoding::Utf8),
-    ),
-    (
-        "vt220 picture --terminal=xterm --encoding utf-8",
-        TerminalType::Xterm,
-        Some(Encoding::Utf8),
-    ),
-    (
-        "vt220 content --terminal xterm a",
-        TerminalType::Xterm,
-        Some(Encoding::Utf8),
-    ),
-];
-
-/// Returns whether the line of a row asks for its terminal, in its encoding.
-fn is_for_terminal(
-    alloc: Global,
-    (line, terminal, encoding): &(&str, TerminalType, Option<Encoding>),
-) -> Result<bool, Fail> {
-    let asked = request(alloc, words_of(alloc, line)?);
-    Ok(match &asked {
-        Ok(found) => found.terminal == *terminal && found.encoding == *encoding,
-        Err(_) => false,
-    })
+    holds(&rt, line, is_refused(rt.alloc(), line, 2, NO_SETTINGS));
 }
 
 #[test]
-fn words_ask_for_a_terminal(rt: HostRuntime) -> Result<(), Fail> {
-    for row in &FOR_TERMINALS {
-        holds(&rt, row.0, is_for_terminal(rt.alloc(), row)?);
-    }
+fn words_ask_for_a_terminal(rt: HostRuntime) {
+    all_have_options(&rt, rt.alloc(), FOR_TERMINALS);
     let line = "vt220 text --terminal vt220";
-    holds(&rt, line, is_refused(rt.alloc(), line, 2, NO_SETTINGS)?);
-    Ok(())
+    holds(&rt, line, is_refused(rt.alloc(), line, 2, NO_SETTINGS));
 }
 
 /// A line that is refused, and the sentences that say why.
@@ -437,11 +476,10 @@ const NO_TIMES: &str =
      vt220: a recording by ttyrec or asciinema has times: add --format ttyrec, asciicast or auto\n";
 
 #[test]
-fn options_that_do_not_fit_are_refused(rt: HostRuntime) -> Result<(), Fail> {
+fn options_that_do_not_fit_are_refused(rt: HostRuntime) {
     for (line, text) in &MISFITS {
-        holds(&rt, line, has_no_request(rt.alloc(), line, 2, text)?);
+        holds(&rt, line, has_no_request(rt.alloc(), line, 2, text));
     }
-    Ok(())
 }
 
 /// A line that asks for nothing, the status, and how the text begins.
@@ -508,7 +546,7 @@ const REFUSED: [(&str, u8, &str); 23] = [
 ];
 
 /// Whether a line is refused with this status, and a text that begins so.
-fn is_refused(alloc: Global, line: &str, status: u8, text: &str) -> Result<bool, Fail> {
+fn is_refused(alloc: Global, line: &str, status: u8, text: &str) -> Result<bool, Failed> {
     let asked = settings(alloc, words_of(alloc, line)?);
     Ok(match &asked {
         Ok(_) => false,
@@ -517,7 +555,7 @@ fn is_refused(alloc: Global, line: &str, status: u8, text: &str) -> Result<bool,
 }
 
 /// Returns whether a line is refused as a request with this status, and a text that begins so.
-fn has_no_request(alloc: Global, line: &str, status: u8, text: &str) -> Result<bool, Fail> {
+fn has_no_request(alloc: Global, line: &str, status: u8, text: &str) -> Result<bool, Failed> {
     let asked = request(alloc, words_of(alloc, line)?);
     Ok(match &asked {
         Ok(_) => false,
@@ -526,12 +564,11 @@ fn has_no_request(alloc: Global, line: &str, status: u8, text: &str) -> Result<b
 }
 
 #[test]
-fn words_are_refused(rt: HostRuntime) -> Result<(), Fail> {
+fn words_are_refused(rt: HostRuntime) {
     for (line, status, text) in &REFUSED {
-        holds(&rt, line, is_refused(rt.alloc(), line, *status, text)?);
-        holds(&rt, line, has_no_request(rt.alloc(), line, *status, text)?);
+        holds(&rt, line, is_refused(rt.alloc(), line, *status, text));
+        holds(&rt, line, has_no_request(rt.alloc(), line, *status, text));
     }
-    Ok(())
 }
 
 /// A line of `log` that asks for nothing, the status, and how the text begins.
@@ -547,9 +584,8 @@ const NO_LOG: [(&str, u8, &str); 4] = [
 ];
 
 #[test]
-fn words_of_a_log_are_refused(rt: HostRuntime) -> Result<(), Fail> {
+fn words_of_a_log_are_refused(rt: HostRuntime) {
     for (line, status, text) in &NO_LOG {
-        holds(&rt, line, has_no_request(rt.alloc(), line, *status, text)?);
+        holds(&rt, line, has_no_request(rt.alloc(), line, *status, text));
     }
-    Ok(())
 }

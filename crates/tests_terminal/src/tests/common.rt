@@ -1,11 +1,26 @@
 //! What the tests share: a terminal that was fed in pieces, and a replay.
 ghost use Rattle.std.specs.Prelude.{◌≤◌};
 
-use std::alloc::Global;
+use std::alloc::{AllocError, Global};
 use std::process::Abort;
-use std::test::Fail;
-use vt_replay::{Watched, What, run};
+use vt_replay::{Fault, Watched, What, run};
 use vt_term::{Brush, Cursor, Rendition, Terminal};
+
+/// What a test needs has failed.
+#[derive(Drop)]
+pub(super) struct Failed;
+
+impl From<AllocError> for Failed {
+    fn from(_error: AllocError) -> Failed {
+        Failed
+    }
+}
+
+impl From<Fault> for Failed {
+    fn from(_error: Fault) -> Failed {
+        Failed
+    }
+}
 
 /// The greatest input of the program, unless it is told another.
 pub(super) const LIMIT: u64 = 268435456;
@@ -55,19 +70,34 @@ pub(super) struct Played {
 
 impl Played {
     /// A terminal as at power-up that was fed these pieces.
-    pub(super) fn of(alloc: Global, pieces: &[&[u8]]) -> Result<Played, Fail> {
+    pub(super) fn of(alloc: Global, pieces: &[&[u8]]) -> Result<Played, AllocError> {
         let mut played = Played {
             terminal: Terminal::new(alloc)?,
             reports: Vec::new(alloc),
         };
-        for piece in pieces {
-            played.feed(piece)?;
-        }
+        played.feed_all(pieces)?;
         Ok(played)
     }
 
-    pub(super) fn feed(&mut self, piece: &[u8]) -> Result<(), Fail> {
-        Ok(self.terminal.feed(piece, &mut self.reports)?)
+    fn feed_all(&mut self, pieces: &[&[u8]]) -> Result<(), AllocError> {
+        for piece in pieces {
+            self.feed(piece)?;
+        }
+        Ok(())
+    }
+
+    /// Feeds an input in pieces of this size.
+    pub(super) fn feed_by(&mut self, size: usize, input: &[u8]) -> Result<(), AllocError>
+        requires { 1 ≤ size }
+    {
+        for piece in input.chunks(size) {
+            self.feed(piece)?;
+        }
+        Ok(())
+    }
+
+    pub(super) fn feed(&mut self, piece: &[u8]) -> Result<(), AllocError> {
+        self.terminal.feed(piece, &mut self.reports)
     }
 
     /// Whether another terminal is in the same state, and has reported the same.
@@ -79,12 +109,14 @@ impl Played {
 
 /// Asserts what a test has found of a row, which it names: the tests are of small functions that answer whether a row
 /// holds, since the proof of one long function takes far more time than those of its parts.
-pub(super) fn holds(rt: &impl Abort, row: &str, found: bool) {
+pub(super) fn holds(rt: &impl Abort, row: &str, found: Result<bool, Failed>) {
+    let found = found.unwrap_or(false);
     assert!(rt; found, "{row}");
 }
 
 /// Asserts the same of a row that has a number.
-pub(super) fn holds_at(rt: &impl Abort, row: usize, found: bool) {
+pub(super) fn holds_at(rt: &impl Abort, row: usize, found: Result<bool, Failed>) {
+    let found = found.unwrap_or(false);
     assert!(rt; found, "row {row}");
 }
 
@@ -94,16 +126,27 @@ pub(super) fn replayed(
     input: &[u8],
     what: What,
     piece: usize,
-) -> Result<Vec<u8>, Fail>
+) -> Result<Vec<u8>, Failed>
     requires { (1 ≤ piece) × (piece ≤ 65536) }
 {
     let mut reader = Watched::new(input);
     let mut writer = Watched::new(Vec::new(alloc));
     run(alloc, &mut reader, &mut writer, what, piece, LIMIT)?;
     if !reader.ended() || reader.failed() || writer.failed() {
-        return Err(Fail::new("the devices of a replay that ended well"));
+        return Err(Failed);
     }
     Ok(writer.into_inner())
+}
+
+/// Whether a replay of these bytes writes this, in pieces of this size.
+fn replays(
+    alloc: Global,
+    input: &[u8],
+    what: What,
+    size: Piece,
+    expected: &[u8],
+) -> Result<bool, Failed> {
+    Ok(replayed(alloc, input, what, size.count)?.as_slice() == expected)
 }
 
 /// Whether a replay of these bytes writes this, in pieces of 4096 bytes, of 3 and of 1.
@@ -112,9 +155,9 @@ pub(super) fn is_replayed(
     input: &[u8],
     what: What,
     expected: &[u8],
-) -> Result<bool, Fail> {
-    for size in PIECES {
-        if replayed(alloc, input, what, size.count)?.as_slice() != expected {
+) -> Result<bool, Failed> {
+    for size in &PIECES {
+        if !replays(alloc, input, what, *size, expected)? {
             return Ok(false);
         }
     }

@@ -1,7 +1,6 @@
 //! What a terminal holds after each of the inputs that end inside a sequence.
-use super::common::{Played, holds_at};
+use super::common::{Failed, Played, holds, holds_at};
 use std::alloc::Global;
-use std::test::Fail;
 use vt_vectors::{held_sample, held_sample_count};
 
 const HELD: [&str; 14] = [
@@ -22,7 +21,7 @@ const HELD: [&str; 14] = [
 ];
 
 /// Whether an input is held so, and asks for no report.
-fn is_held(alloc: Global, input: &[u8], expected: &str) -> Result<bool, Fail> {
+fn is_held(alloc: Global, input: &[u8], expected: &str) -> Result<bool, Failed> {
     let played = Played::of(alloc, &[input])?;
     let held = format!(in alloc; "{:?}", played.terminal.held())?;
     let is_between = played.terminal.is_between();
@@ -34,12 +33,10 @@ fn is_held(alloc: Global, input: &[u8], expected: &str) -> Result<bool, Fail> {
 }
 
 #[test]
-fn samples_leave_their_held_parts(rt: HostRuntime) -> Result<(), Fail> {
+fn samples_leave_their_held_parts(rt: HostRuntime) {
     assert!(rt; held_sample_count() == HELD.len());
     for i in 0..held_sample_count() {
-        let found = is_held(rt.alloc(), held_sample(i), HELD[i])?;
-        holds_at(&rt, i, found);
+        holds_at(&rt, i, is_held(rt.alloc(), held_sample(i), HELD[i]));
     }
-    assert!(rt; is_held(rt.alloc(), b"", "Nothing")?);
-    Ok(())
+    holds(&rt, "nothing", is_held(rt.alloc(), b"", "Nothing"));
 }

@@ -1,22 +1,19 @@
 //! Inputs without measure: whole, byte by byte, and in pieces of 7.
 ghost use Rattle.std.specs.Prelude.{◌≤◌};
 
-use super::common::{Played, holds_at};
+use super::common::{Failed, Played, holds, holds_at};
 use std::alloc::Global;
-use std::test::Fail;
 use vt_term::Cursor;
 
 /// How often a byte is repeated.
 const MILLION: usize = 1_000_000;
 
 /// What an input leaves, and asks for, in pieces of this size.
-fn played_by(alloc: Global, size: usize, input: &[u8]) -> Result<Played, Fail>
+fn played_by(alloc: Global, size: usize, input: &[u8]) -> Result<Played, Failed>
     requires { 1 ≤ size }
 {
     let mut played = Played::of(alloc, &[])?;
-    for piece in input.chunks(size) {
-        played.feed(piece)?;
-    }
+    played.feed_by(size, input)?;
     Ok(played)
 }
 
@@ -27,23 +24,28 @@ fn has_lines(text: &[u8], lines: &[u8]) -> bool {
 }
 
 /// Whether a terminal shows these lines and the cursor there, and has reported nothing.
-fn shows(alloc: Global, played: &Played, lines: &[u8], cursor: Cursor) -> Result<bool, Fail> {
+fn shows(alloc: Global, played: &Played, lines: &[u8], cursor: Cursor) -> Result<bool, Failed> {
     let mut text = Vec::new(alloc);
     played.terminal.text(&mut text)?;
     Ok(has_lines(&text, lines) && played.terminal.cursor() == cursor && played.reports.is_empty())
 }
 
+/// Whether an input leaves the same in pieces of this size.
+fn is_same_by(alloc: Global, size: usize, input: &[u8], whole: &Played) -> Result<bool, Failed>
+    requires { 1 ≤ size }
+{
+    Ok(whole.is_same(&played_by(alloc, size, input)?))
+}
+
 /// Whether an input leaves these lines, the cursor there and nothing in reverse: whole, byte by byte, and in pieces
 /// of 7.
-fn leaves(alloc: Global, input: &[u8], lines: &[u8], cursor: Cursor) -> Result<bool, Fail> {
+fn leaves(alloc: Global, input: &[u8], lines: &[u8], cursor: Cursor) -> Result<bool, Failed> {
     let whole = played_by(alloc, MILLION, input)?;
-    let by_sevens = played_by(alloc, 7, input)?;
-    let by_bytes = played_by(alloc, 1, input)?;
     Ok(
         shows(alloc, &whole, lines, cursor)?
             && !whole.terminal.brush().rendition.reverse
-            && whole.is_same(&by_sevens)
-            && whole.is_same(&by_bytes),
+            && is_same_by(alloc, 7, input, &whole)?
+            && is_same_by(alloc, 1, input, &whole)?,
     )
 }
 
@@ -54,7 +56,7 @@ fn repeated(
     count: usize,
     byte: u8,
     end: &[u8],
-) -> Result<Vec<u8>, Fail> {
+) -> Result<Vec<u8>, Failed> {
     let mut input = Vec::from_slice(alloc, front)?;
     input.extend_from_slice(&vec![in alloc; byte; count]?)?;
     input.extend_from_slice(end)?;
@@ -62,7 +64,7 @@ fn repeated(
 }
 
 /// So many full lines of `a`, and LF after each.
-fn full_lines(alloc: Global, count: usize) -> Result<Vec<u8>, Fail> {
+fn full_lines(alloc: Global, count: usize) -> Result<Vec<u8>, Failed> {
     let mut lines = Vec::new(alloc);
     for _ in 0..count {
         lines.extend_from_slice(&repeated(alloc, b"", 80, b'a', b"\n")?)?;
@@ -100,45 +102,70 @@ const LONG: [Long; 4] = [
 fn is_read(
     alloc: Global,
     (front, count, byte, end, lines, (row, col)): &Long,
-) -> Result<bool, Fail> {
+) -> Result<bool, Failed> {
     let input = repeated(alloc, front, *count, *byte, end)?;
     leaves(alloc, &input, lines, at(*row, *col, false))
 }
 
 #[test]
-fn long_sequences_and_strings_are_read(rt: HostRuntime) -> Result<(), Fail> {
+fn long_sequences_and_strings_are_read(rt: HostRuntime) {
     for (i, row) in LONG.iter().enumerate() {
-        holds_at(&rt, i, is_read(rt.alloc(), row)?);
+        holds_at(&rt, i, is_read(rt.alloc(), row));
     }
-    Ok(())
 }
 
 /// A text of so many full lines, and these bytes behind them.
-fn full_lines_and(alloc: Global, count: usize, rest: &[u8]) -> Result<Vec<u8>, Fail> {
+fn full_lines_and(alloc: Global, count: usize, rest: &[u8]) -> Result<Vec<u8>, Failed> {
     let mut lines = full_lines(alloc, count)?;
     lines.extend_from_slice(rest)?;
     Ok(lines)
 }
 
-/// Whether so many letters leave these lines, and the cursor there.
-fn fill(alloc: Global, letters: usize, lines: &[u8], cursor: Cursor) -> Result<bool, Fail> {
-    let input = repeated(alloc, b"", letters, b'a', b"")?;
-    leaves(alloc, &input, lines, cursor)
+/// So many letters; the full lines that they leave, what is behind these, and the length of all; and the cursor.
+type Run = (usize, usize, &'static [u8], usize, Cursor);
+
+/// Letters that fill the screen, and one more, which scrolls.
+const RUNS: &[Run] = &[
+    (
+        1920,
+        24,
+        b"",
+        1944,
+        Cursor {
+            row: 24,
+            col: 80,
+            wrap: true,
+        },
+    ),
+    (
+        1921,
+        23,
+        b"a\n",
+        1865,
+        Cursor {
+            row: 24,
+            col: 2,
+            wrap: false,
+        },
+    ),
+];
+
+/// Whether the letters of a row leave what the row says.
+fn fill(alloc: Global, (letters, count, rest, length, cursor): &Run) -> Result<bool, Failed> {
+    let lines = full_lines_and(alloc, *count, rest)?;
+    let input = repeated(alloc, b"", *letters, b'a', b"")?;
+    Ok(lines.len() == *length && leaves(alloc, &input, &lines, *cursor)?)
 }
 
 #[test]
-fn long_runs_fill_the_screen_and_scroll(rt: HostRuntime) -> Result<(), Fail> {
-    let lines = full_lines_and(rt.alloc(), 24, b"")?;
-    assert!(rt; lines.len() == 1944);
-    assert!(rt; fill(rt.alloc(), 1920, &lines, at(24, 80, true))?);
-    let lines = full_lines_and(rt.alloc(), 23, b"a\n")?;
-    assert!(rt; lines.len() == 1865);
-    assert!(rt; fill(rt.alloc(), 1921, &lines, at(24, 2, false))?);
-    Ok(())
+fn long_runs_fill_the_screen_and_scroll(rt: HostRuntime) {
+    for (i, row) in RUNS.iter().enumerate() {
+        holds_at(&rt, i, fill(rt.alloc(), row));
+    }
 }
 
 /// The lines 1 to 1000 in a scroll region.
-fn numbered_lines(alloc: Global) -> Result<Vec<u8>, Fail> {
+fn numbered_lines(alloc: Global) -> Result<Vec<u8>, Failed> {
     let mut input = Vec::from_slice(alloc, b"\x1b[5;10r\x1b[10;1H")?;
     for k in 1..1001u16 {
         let line = format!(in alloc; "{k}\r\n")?;
@@ -147,10 +174,14 @@ fn numbered_lines(alloc: Global) -> Result<Vec<u8>, Fail> {
     Ok(input)
 }
 
-#[test]
-fn a_scroll_region_keeps_its_last_lines(rt: HostRuntime) -> Result<(), Fail> {
-    let input = numbered_lines(rt.alloc())?;
+/// Whether they leave the last ones.
+fn the_last_lines_are_kept(alloc: Global) -> Result<bool, Failed> {
+    let input = numbered_lines(alloc)?;
     let lines = b"\n\n\n\n996\n997\n998\n999\n1000\n";
-    assert!(rt; leaves(rt.alloc(), &input, lines, at(10, 1, false))?);
-    Ok(())
+    leaves(alloc, &input, lines, at(10, 1, false))
+}
+
+#[test]
+fn a_scroll_region_keeps_its_last_lines(rt: HostRuntime) {
+    holds(&rt, "scroll region", the_last_lines_are_kept(rt.alloc()));
 }

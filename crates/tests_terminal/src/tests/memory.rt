@@ -2,10 +2,9 @@
 ghost use Rattle.std.specs.Prelude.{◌+◌, ◌≤◌, vec_len, vec_capacity};
 
 use super::command_line::words_of;
-use super::common::{LIMIT, Played, holds, holds_at, replayed};
+use super::common::{Failed, LIMIT, Played, holds, holds_at, replayed};
 use super::scarce::{BLOCKS, Scarce};
 use std::alloc::{AllocError, Global};
-use std::test::Fail;
 use vt_paint::{PAINT_LIMIT, PaintError, repaint, repaint_reserved};
 use vt_picture::{PICTURE_LIMIT, SHOW_LIMIT, picture, picture_reserved, show, show_reserved};
 use vt_replay::{
@@ -33,7 +32,7 @@ trait Growing {
 
 /// How often a call was refused, and how often that has changed something, until it had its memory: one growth more is
 /// granted each time.
-fn refusals<G: Growing>(alloc: Global, call: &mut G) -> Result<(u32, u32), Fail> {
+fn refusals<G: Growing>(alloc: Global, call: &mut G) -> Result<(u32, u32), Failed> {
     let mut scarce = Scarce::new(alloc)?;
     let mut refused = 0u32;
     let mut changed = 0u32;
@@ -69,18 +68,17 @@ impl Growing for Making {
 }
 
 /// Whether a terminal that was refused at first is then as any other.
-fn new_is_refused(alloc: Global) -> Result<bool, Fail> {
+fn new_is_refused(alloc: Global) -> Result<bool, Failed> {
     let never_asked = Terminal::new(alloc)?;
     let mut making = Making { alloc, made: None };
     let (refused, changed) = refusals(alloc, &mut making)?;
-    let made = making.made.ok_or("never made")?;
+    let made = making.made.ok_or(Failed)?;
     Ok(refused > 0 && changed == 0 && made.same_state(&never_asked))
 }
 
 #[test]
-fn each_growth_of_new_is_refused(rt: HostRuntime) -> Result<(), Fail> {
-    assert!(rt; new_is_refused(rt.alloc())?);
-    Ok(())
+fn each_growth_of_new_is_refused(rt: HostRuntime) {
+    holds(&rt, "new", new_is_refused(rt.alloc()));
 }
 
 /// `Terminal::feed`.
@@ -104,7 +102,7 @@ impl Growing for Feeding<'_> {
 }
 
 /// Whether a piece that was refused, also more than once, is then played as if it never had been.
-fn feed_is_refused(alloc: Global, input: &[u8]) -> Result<bool, Fail> {
+fn feed_is_refused(alloc: Global, input: &[u8]) -> Result<bool, Failed> {
     let mut feeding = Feeding {
         terminal: Terminal::new(alloc)?,
         out: Vec::from_slice(alloc, b"ok")?,
@@ -116,7 +114,7 @@ fn feed_is_refused(alloc: Global, input: &[u8]) -> Result<bool, Fail> {
 }
 
 /// Whether the piece was played as by a call that had its memory at once.
-fn is_fed(alloc: Global, feeding: &Feeding<'_>) -> Result<bool, Fail> {
+fn is_fed(alloc: Global, feeding: &Feeding<'_>) -> Result<bool, Failed> {
     let expected = Played::of(alloc, &[feeding.input])?;
     Ok(
         feeding.terminal.same_state(&expected.terminal)
@@ -159,7 +157,7 @@ impl Growing for Viewing {
 }
 
 /// Whether a view that was refused, also more than once, is then appended as if it never had been.
-fn view_is_refused(alloc: Global, input: &[u8], what: What) -> Result<bool, Fail> {
+fn view_is_refused(alloc: Global, input: &[u8], what: What) -> Result<bool, Failed> {
     let mut viewing = Viewing {
         terminal: Played::of(alloc, &[input])?.terminal,
         out: Vec::from_slice(alloc, b"ok")?,
@@ -177,15 +175,22 @@ fn view_is_refused(alloc: Global, input: &[u8], what: What) -> Result<bool, Fail
     )
 }
 
-#[test]
-fn each_growth_of_feed_text_show_and_repaint_is_refused(rt: HostRuntime) -> Result<(), Fail> {
-    for (i, input) in INPUTS.iter().enumerate() {
-        holds_at(&rt, i, feed_is_refused(rt.alloc(), input)?);
-        for what in [What::Text, What::Show, What::Repaint] {
-            holds_at(&rt, i, view_is_refused(rt.alloc(), input, what)?);
+/// Whether that is so of each of these views.
+fn views_are_refused(alloc: Global, input: &[u8]) -> Result<bool, Failed> {
+    for what in &[What::Text, What::Show, What::Repaint] {
+        if !view_is_refused(alloc, input, *what)? {
+            return Ok(false);
         }
     }
-    Ok(())
+    Ok(true)
+}
+
+#[test]
+fn each_growth_of_feed_text_show_and_repaint_is_refused(rt: HostRuntime) {
+    for (i, input) in INPUTS.iter().enumerate() {
+        holds_at(&rt, i, feed_is_refused(rt.alloc(), input));
+        holds_at(&rt, i, views_are_refused(rt.alloc(), input));
+    }
 }
 
 /// The longest input of these tests.
@@ -225,7 +230,7 @@ fn takes_no_memory(
     input: &[u8],
     reserved: bool,
     expected: &[u8],
-) -> Result<bool, Fail> {
+) -> Result<bool, Failed> {
     let mut terminal = Terminal::new(alloc)?;
     let mut out = Vec::with_capacity(
         alloc,
@@ -243,27 +248,29 @@ fn takes_no_memory(
 }
 
 /// What these calls append.
-fn appended(alloc: Global, input: &[u8]) -> Result<Vec<u8>, Fail> {
+fn appended(alloc: Global, input: &[u8]) -> Result<Vec<u8>, Failed> {
     let mut out = Vec::new(alloc);
     let mut terminal = Terminal::new(alloc)?;
     if !append(&mut terminal, input, &mut out) {
-        return Err(Fail::new("refused with ample memory"));
+        return Err(Failed);
     }
     Ok(out)
 }
 
+/// Whether none of these calls takes memory, and both kinds append the same as with ample memory.
+fn none_takes_memory(alloc: Global, input: &[u8]) -> Result<bool, Failed> {
+    let expected = appended(alloc, input)?;
+    Ok(
+        takes_no_memory(alloc, input, false, &expected)?
+            && takes_no_memory(alloc, input, true, &expected)?,
+    )
+}
+
 #[test]
-fn calls_with_room_take_no_memory(rt: HostRuntime) -> Result<(), Fail> {
+fn calls_with_room_take_no_memory(rt: HostRuntime) {
     for (i, input) in INPUTS.iter().enumerate() {
-        let expected = appended(rt.alloc(), input)?;
-        holds_at(
-            &rt,
-            i,
-            takes_no_memory(rt.alloc(), input, false, &expected)?,
-        );
-        holds_at(&rt, i, takes_no_memory(rt.alloc(), input, true, &expected)?);
+        holds_at(&rt, i, none_takes_memory(rt.alloc(), input));
     }
-    Ok(())
 }
 
 /// What a request returns if allocation fails.
@@ -303,7 +310,7 @@ impl Growing for Running<'_> {
 
 /// Returns whether a request that was refused, also more than once, has read and written nothing. In the end it writes what
 /// a replay of this kind does.
-fn request_is_refused(alloc: Global, input: &[u8], word: Word, what: What) -> Result<bool, Fail> {
+fn request_is_refused(alloc: Global, input: &[u8], word: Word, what: What) -> Result<bool, Failed> {
     let mut running = Running {
         alloc,
         reader: Watched::new(input),
@@ -332,34 +339,32 @@ fn request_is_refused(alloc: Global, input: &[u8], word: Word, what: What) -> Re
     )
 }
 
-#[test]
-fn each_growth_of_a_request_is_refused(rt: HostRuntime) -> Result<(), Fail> {
-    for what in [
-        What::Text,
-        What::Reports,
-        What::Repaint,
-        What::Status,
-        What::Show,
-    ] {
-        for (i, input) in INPUTS.iter().enumerate() {
-            let word = Word::Replay(what);
-            holds_at(&rt, i, request_is_refused(rt.alloc(), input, word, what)?);
+/// A word, and what is written for it. No line scrolls off, so that a log and pages are the text.
+const REQUESTED: &[(Word, What)] = &[
+    (Word::Replay(What::Text), What::Text),
+    (Word::Replay(What::Reports), What::Reports),
+    (Word::Replay(What::Repaint), What::Repaint),
+    (Word::Replay(What::Status), What::Status),
+    (Word::Replay(What::Show), What::Show),
+    (Word::Log, What::Text),
+    (Word::Pages, What::Text),
+];
+
+/// Returns whether that is so of each of these words.
+fn requests_are_refused(alloc: Global, input: &[u8]) -> Result<bool, Failed> {
+    for (word, what) in REQUESTED {
+        if !request_is_refused(alloc, input, *word, *what)? {
+            return Ok(false);
         }
     }
-    // no line scrolls off, so that the log is the text
+    Ok(true)
+}
+
+#[test]
+fn each_growth_of_a_request_is_refused(rt: HostRuntime) {
     for (i, input) in INPUTS.iter().enumerate() {
-        holds_at(
-            &rt,
-            i,
-            request_is_refused(rt.alloc(), input, Word::Log, What::Text)?,
-        );
-        holds_at(
-            &rt,
-            i,
-            request_is_refused(rt.alloc(), input, Word::Pages, What::Text)?,
-        );
+        holds_at(&rt, i, requests_are_refused(rt.alloc(), input));
     }
-    Ok(())
 }
 
 /// `request`, which takes the words.
@@ -408,7 +413,7 @@ fn copies_of(alloc: Global, line: &str) -> Result<Vec<Vec<String>>, AllocError> 
 
 /// Whether words that were refused for want of memory, also more than once and each time without a text, are then
 /// answered as with ample memory.
-fn words_are_refused(alloc: Global, line: &str) -> Result<bool, Fail> {
+fn words_are_refused(alloc: Global, line: &str) -> Result<bool, Failed> {
     let mut asking = Asking {
         alloc,
         copies: copies_of(alloc, line)?,
@@ -419,17 +424,18 @@ fn words_are_refused(alloc: Global, line: &str) -> Result<bool, Fail> {
     Ok(refused > 2 && with_text == 0 && asking.answered == Some(expected))
 }
 
+const LINES: [&str; 4] = [
+    "vt220 repaint --piece 1 --limit 0 a",
+    "vt220 log a",
+    "vt220 --help",
+    "vt220 text --piece x",
+];
+
 #[test]
-fn each_growth_of_words_is_refused(rt: HostRuntime) -> Result<(), Fail> {
-    for line in [
-        "vt220 repaint --piece 1 --limit 0 a",
-        "vt220 log a",
-        "vt220 --help",
-        "vt220 text --piece x",
-    ] {
-        holds(&rt, line, words_are_refused(rt.alloc(), line)?);
+fn each_growth_of_words_is_refused(rt: HostRuntime) {
+    for line in &LINES {
+        holds(&rt, line, words_are_refused(rt.alloc(), line));
     }
-    Ok(())
 }
 
 /// `check`.
@@ -453,7 +459,7 @@ impl Growing for Checking {
 
 /// Whether a check that was refused, also more than once, answers so and nothing else, and is then made as if it never
 /// had been.
-fn check_is_refused(alloc: Global, vector: Vector<'static>) -> Result<bool, Fail> {
+fn check_is_refused(alloc: Global, vector: Vector<'static>) -> Result<bool, Failed> {
     let mut checking = Checking {
         alloc,
         vector,
@@ -468,41 +474,69 @@ fn check_is_refused(alloc: Global, vector: Vector<'static>) -> Result<bool, Fail
     )
 }
 
-#[test]
-fn each_growth_of_check_is_refused(rt: HostRuntime) -> Result<(), Fail> {
-    let mut found = 0u32;
+/// The vector that has an input.
+fn vector_of(input: &[u8]) -> Option<Vector<'static>> {
     for i in 0..vector_count() {
         let v = vector(i);
-        if INPUTS.iter().any(|input| *input == v.input) {
-            holds_at(&rt, i, check_is_refused(rt.alloc(), v)?);
-            found = found.saturating_add(1);
+        if v.input == input {
+            return Some(v);
         }
     }
-    assert!(rt; found == 4);
+    None
+}
+
+/// Whether there is a vector with an input, and its check is refused so.
+fn check_of_is_refused(alloc: Global, input: &[u8]) -> Result<bool, Failed> {
+    match vector_of(input) {
+        Some(v) => check_is_refused(alloc, v),
+        None => Ok(false),
+    }
+}
+
+#[test]
+fn each_growth_of_check_is_refused(rt: HostRuntime) {
+    for (i, input) in INPUTS.iter().enumerate() {
+        holds_at(&rt, i, check_of_is_refused(rt.alloc(), input));
+    }
+}
+
+/// Appends the text of a row, which takes no memory.
+fn push_row_text(
+    alloc: Global,
+    terminal: &Terminal,
+    row: usize,
+    all: &mut Vec<u8>,
+) -> Result<(), Failed>
+    requires { (1 ≤ row) × (row ≤ 24) }
+{
+    let mut line = Vec::with_capacity(alloc, ROW_TEXT_LIMIT)?;
+    let scarce = Scarce::new(alloc)?;
+    terminal.row_text_reserved(row, &mut line);
+    drop(scarce);
+    all.extend_from_slice(line.as_slice())?;
     Ok(())
 }
 
 /// The texts of the rows, one behind the other, each appended without memory that is left.
-fn row_texts(alloc: Global, terminal: &Terminal) -> Result<Vec<u8>, Fail> {
+fn row_texts(alloc: Global, terminal: &Terminal) -> Result<Vec<u8>, Failed> {
     let mut all = Vec::new(alloc);
     for row in 1..=ROWS {
-        let mut line = Vec::with_capacity(alloc, ROW_TEXT_LIMIT)?;
-        let scarce = Scarce::new(alloc)?;
-        terminal.row_text_reserved(row, &mut line);
-        drop(scarce);
-        all.extend_from_slice(line.as_slice())?;
+        push_row_text(alloc, terminal, row, &mut all)?;
     }
     Ok(all)
 }
 
+/// Whether these are the text of what an input leaves.
+fn are_the_text(alloc: Global, input: &[u8]) -> Result<bool, Failed> {
+    let mut expected = Vec::new(alloc);
+    let terminal = Played::of(alloc, &[input])?.terminal;
+    terminal.text(&mut expected)?;
+    Ok(row_texts(alloc, &terminal)?.as_slice() == expected.as_slice())
+}
+
 #[test]
-fn the_texts_of_the_rows_are_the_text(rt: HostRuntime) -> Result<(), Fail> {
+fn the_texts_of_the_rows_are_the_text(rt: HostRuntime) {
     for (i, input) in INPUTS.iter().enumerate() {
-        let terminal = Played::of(rt.alloc(), &[input])?.terminal;
-        let mut expected = Vec::new(rt.alloc());
-        terminal.text(&mut expected)?;
-        let rows = row_texts(rt.alloc(), &terminal)?;
-        holds_at(&rt, i, rows.as_slice() == expected.as_slice());
+        holds_at(&rt, i, are_the_text(rt.alloc(), input));
     }
-    Ok(())
 }

@@ -1,5 +1,5 @@
 //! The modes that each input leaves.
-use super::common::{Played, holds_at};
+use super::common::{Failed, Played, holds_at};
 use std::alloc::Global;
 use std::test::Fail;
 use vt_term::{Modes, Terminal};
@@ -65,7 +65,7 @@ fn rows(power_up: Modes) -> [(&'static [u8], Modes); 8] {
 }
 
 /// Whether an input leaves these modes, and asks for no report.
-fn leaves(alloc: Global, input: &[u8], modes: Modes) -> Result<bool, Fail> {
+fn leaves(alloc: Global, input: &[u8], modes: Modes) -> Result<bool, Failed> {
     let played = Played::of(alloc, &[input])?;
     Ok(played.terminal.modes() == modes && played.reports.is_empty())
 }
@@ -74,7 +74,7 @@ fn leaves(alloc: Global, input: &[u8], modes: Modes) -> Result<bool, Fail> {
 fn modes_are_kept(rt: HostRuntime) -> Result<(), Fail> {
     let power_up = Terminal::new(rt.alloc())?.modes();
     for (i, (input, modes)) in rows(power_up).iter().enumerate() {
-        holds_at(&rt, i, leaves(rt.alloc(), input, *modes)?);
+        holds_at(&rt, i, leaves(rt.alloc(), input, *modes));
     }
     Ok(())
 }

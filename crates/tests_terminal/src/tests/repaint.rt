@@ -1,11 +1,10 @@
 //! A repaint that is refused.
-use super::common::{Played, holds};
+use super::common::{Failed, Played, holds};
 use std::alloc::Global;
-use std::test::Fail;
 use vt_paint::{PaintError, repaint};
 
 /// Whether a repaint inside a sequence is refused, and leaves the output as it was.
-fn is_partial(alloc: Global) -> Result<bool, Fail> {
+fn is_partial(alloc: Global) -> Result<bool, Failed> {
     let inside = Played::of(alloc, &[b"\x1b[1"])?;
     let mut out = Vec::from_slice(alloc, b"ok")?;
     let answer = repaint(&inside.terminal, &mut out);
@@ -13,17 +12,16 @@ fn is_partial(alloc: Global) -> Result<bool, Fail> {
 }
 
 /// Whether an error says this.
-fn says(alloc: Global, error: PaintError, message: &str) -> Result<bool, Fail> {
+fn says(alloc: Global, error: PaintError, message: &str) -> Result<bool, Failed> {
     let said = format!(in alloc; "{error}")?;
     Ok(said.as_str() == message)
 }
 
 #[test]
-fn a_repaint_is_refused_inside_a_sequence(rt: HostRuntime) -> Result<(), Fail> {
-    holds(&rt, "partial", is_partial(rt.alloc())?);
-    let partial = says(rt.alloc(), PaintError::Partial, "partial")?;
+fn a_repaint_is_refused_inside_a_sequence(rt: HostRuntime) {
+    holds(&rt, "partial", is_partial(rt.alloc()));
+    let partial = says(rt.alloc(), PaintError::Partial, "partial");
     holds(&rt, "the message of partial", partial);
-    let memory = says(rt.alloc(), PaintError::Memory, "memory")?;
+    let memory = says(rt.alloc(), PaintError::Memory, "memory");
     holds(&rt, "the message of memory", memory);
-    Ok(())
 }

@@ -1,7 +1,7 @@
 //! Runs of graphic bytes, of each length from each column of the last row: at once, and each byte behind a single
 //! shift, so that it is read and written by itself.
-use super::common::{Played, holds_at};
-use std::alloc::Global;
+use super::common::{Failed, Played, holds_at};
+use std::alloc::{AllocError, Global};
 use std::process::Abort;
 use std::test::Fail;
 
@@ -17,15 +17,20 @@ fn shift_of(byte: u8) -> u8 {
     if byte < 0x80 { 0x8F } else { 0x8E }
 }
 
+/// A graphic byte of either half, or of the left half alone.
+fn graphic_byte(i: u8, both: bool) -> u8 {
+    if both && i % 3 == 0 {
+        0xA1 + i % 94
+    } else {
+        b' ' + i % 95
+    }
+}
+
 /// Graphic bytes of both halves, or of the left half alone.
-fn graphic_bytes(alloc: Global, both: bool) -> Result<Vec<u8>, Fail> {
+fn graphic_bytes(alloc: Global, both: bool) -> Result<Vec<u8>, AllocError> {
     let mut run = Vec::new(alloc);
     for i in 0..LONGEST {
-        if both && i % 3 == 0 {
-            run.push(0xA1 + i % 94)?;
-        } else {
-            run.push(b' ' + i % 95)?;
-        }
+        run.push(graphic_byte(i, both))?;
     }
     Ok(run)
 }
@@ -37,7 +42,7 @@ fn run_agrees(
     place: &[u8],
     front: &[u8],
     by_bytes: &Played,
-) -> Result<bool, Fail> {
+) -> Result<bool, Failed> {
     let whole = Played::of(alloc, &[SETS, setting, place, front])?;
     Ok(whole.terminal.same_state(&by_bytes.terminal))
 }
@@ -49,7 +54,7 @@ fn runs_agree_from(
     place: &[u8],
     run: &[u8],
     by_bytes: &mut Played,
-) -> Result<bool, Fail> {
+) -> Result<bool, Failed> {
     for length in 0..run.len() + 1 {
         let (front, rest) = run.split_at(length);
         if !run_agrees(alloc, setting, place, front, by_bytes)? {
@@ -69,7 +74,7 @@ fn runs_agree_at(
     width: usize,
     col: usize,
     run: &[u8],
-) -> Result<bool, Fail> {
+) -> Result<bool, Failed> {
     let place = format!(in alloc; "\x1b#8\x1b[1m\x1b[24;{col}H")?;
     let mut by_bytes = Played::of(alloc, &[SETS, setting, place.as_bytes()])?;
     Ok(
@@ -88,17 +93,19 @@ const SETTINGS: [(&[u8], usize); 4] = [
 ];
 
 /// Asserts that runs agree from each column on.
-fn runs_agree(rt: &impl Abort, alloc: Global, run: &[u8]) -> Result<(), Fail> {
+fn runs_agree(rt: &impl Abort, alloc: Global, run: &[u8]) {
     for (setting, width) in &SETTINGS {
         for col in 1..=*width {
-            holds_at(rt, col, runs_agree_at(alloc, setting, *width, col, run)?);
+            holds_at(rt, col, runs_agree_at(alloc, setting, *width, col, run));
         }
     }
-    Ok(())
 }
 
 #[test]
 fn runs_leave_what_their_bytes_leave_alone(rt: HostRuntime) -> Result<(), Fail> {
-    runs_agree(&rt, rt.alloc(), &graphic_bytes(rt.alloc(), false)?)?;
-    runs_agree(&rt, rt.alloc(), &graphic_bytes(rt.alloc(), true)?)
+    for both in [false, true] {
+        let run = graphic_bytes(rt.alloc(), both)?;
+        runs_agree(&rt, rt.alloc(), &run);
+    }
+    Ok(())
 }

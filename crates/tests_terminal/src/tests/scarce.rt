@@ -1,6 +1,5 @@
 //! Memory that is refused, and granted one growth after another.
-use std::alloc::Global;
-use std::test::Fail;
+use std::alloc::{AllocError, Global};
 
 /// More growths than any call makes, and more blocks than it needs.
 pub(super) const BLOCKS: u32 = 1000;
@@ -29,7 +28,7 @@ pub(super) struct Scarce {
 }
 
 impl Scarce {
-    pub(super) fn new(alloc: Global) -> Result<Scarce, Fail> {
+    pub(super) fn new(alloc: Global) -> Result<Scarce, AllocError> {
         let mut ballast = Vec::with_capacity(alloc, 100_000)?;
         let mut reserve = Vec::with_capacity(alloc, BLOCKS as usize)?;
         for _ in 0..BLOCKS {

@@ -1,6 +1,5 @@
 //! The status of a replay.
 use super::common::{holds_at, is_replayed};
-use std::test::Fail;
 use vt_replay::What;
 
 /// An input, and the five lines of its status.
@@ -52,10 +51,9 @@ const STATUS: [(&[u8], &str); 11] = [
 ];
 
 #[test]
-fn status_has_five_lines(rt: HostRuntime) -> Result<(), Fail> {
+fn status_has_five_lines(rt: HostRuntime) {
     for (i, (input, status)) in STATUS.iter().enumerate() {
-        let found = is_replayed(rt.alloc(), input, What::Status, status.as_bytes())?;
+        let found = is_replayed(rt.alloc(), input, What::Status, status.as_bytes());
         holds_at(&rt, i, found);
     }
-    Ok(())
 }

@@ -1,9 +1,8 @@
 //! The terminal meets every vector, alone and through a replay, and no wrong one.
 ghost use Rattle.std.specs.Prelude.{◌≤◌, ◌<◌};
 
-use super::common::{LIMIT, holds, holds_at, is_replayed};
+use super::common::{Failed, LIMIT, holds, holds_at, is_replayed};
 use std::alloc::Global;
-use std::test::Fail;
 use vt_replay::{Fault, Watched, What, run};
 use vt_vectors::{Mismatch, VECTOR_COUNT, Vector, check, vector, vector_count, vector_name};
 
@@ -22,7 +21,7 @@ fn is_repainted(alloc: Global, v: &Vector, piece: usize) -> bool
 }
 
 /// Whether replays write what the vector expects.
-fn is_met(alloc: Global, v: &Vector) -> Result<bool, Fail> {
+fn is_met(alloc: Global, v: &Vector) -> Result<bool, Failed> {
     Ok(
         check(alloc, v) == Ok(())
             && is_replayed(alloc, v.input, What::Text, v.text)?
@@ -33,11 +32,10 @@ fn is_met(alloc: Global, v: &Vector) -> Result<bool, Fail> {
 }
 
 #[test]
-fn every_vector_is_met(rt: HostRuntime) -> Result<(), Fail> {
+fn every_vector_is_met(rt: HostRuntime) {
     for i in 0..vector_count() {
-        holds_at(&rt, i, is_met(rt.alloc(), &vector(i))?);
+        holds_at(&rt, i, is_met(rt.alloc(), &vector(i)));
     }
-    Ok(())
 }
 
 /// Whether two vectors have one name or one input.
@@ -51,7 +49,7 @@ fn are_alike(i: usize, j: usize) -> bool
 fn each_vector_has_a_name_and_an_input_of_its_own(rt: HostRuntime) {
     for i in 0..vector_count() {
         for j in 0..i {
-            holds_at(&rt, i, !are_alike(i, j));
+            holds_at(&rt, i, Ok(!are_alike(i, j)));
         }
     }
 }
@@ -117,7 +115,7 @@ fn found_with(input: &[u8], text: usize, repaint: usize) -> usize {
 #[test]
 fn texts_and_repaints_have_their_lengths(rt: HostRuntime) {
     for (i, (input, text, repaint)) in LENGTHS.iter().enumerate() {
-        holds_at(&rt, i, found_with(input, *text, *repaint) == 1);
+        holds_at(&rt, i, Ok(found_with(input, *text, *repaint) == 1));
     }
 }
 
@@ -172,7 +170,7 @@ const HELD_WITH_REPAINT: Vector<'static> = Vector {
     ..HELD
 };
 
-const ANSWERS: [(Vector<'static>, Result<(), Mismatch>); 8] = [
+const ANSWERS: &[(Vector<'static>, Result<(), Mismatch>)] = &[
     (LETTER, Ok(())),
     (WRONG_TEXT, Err(Mismatch::Text)),
     (WRONG_REPORTS, Err(Mismatch::Reports)),
@@ -186,25 +184,26 @@ const ANSWERS: [(Vector<'static>, Result<(), Mismatch>); 8] = [
 #[test]
 fn the_first_difference_decides(rt: HostRuntime) {
     for (i, (v, expected)) in ANSWERS.iter().enumerate() {
-        holds_at(&rt, i, check(rt.alloc(), v) == *expected);
+        holds_at(&rt, i, Ok(check(rt.alloc(), v) == *expected));
     }
 }
 
 /// Whether a mismatch says this.
-fn says(alloc: Global, mismatch: Mismatch, message: &str) -> Result<bool, Fail> {
+fn says(alloc: Global, mismatch: &Mismatch, message: &str) -> Result<bool, Failed> {
     let said = format!(in alloc; "{mismatch}")?;
     Ok(said.as_str() == message)
 }
 
+const MESSAGES: &[(Mismatch, &str)] = &[
+    (Mismatch::Memory, "memory"),
+    (Mismatch::Text, "text"),
+    (Mismatch::Reports, "reports"),
+    (Mismatch::Repaint, "repaint"),
+];
+
 #[test]
-fn mismatches_have_messages(rt: HostRuntime) -> Result<(), Fail> {
-    for (mismatch, message) in [
-        (Mismatch::Memory, "memory"),
-        (Mismatch::Text, "text"),
-        (Mismatch::Reports, "reports"),
-        (Mismatch::Repaint, "repaint"),
-    ] {
-        holds(&rt, message, says(rt.alloc(), mismatch, message)?);
+fn mismatches_have_messages(rt: HostRuntime) {
+    for (mismatch, message) in MESSAGES {
+        holds(&rt, message, says(rt.alloc(), mismatch, message));
     }
-    Ok(())
 }

@@ -1,7 +1,6 @@
 //! The screen for the eye, against what was written by hand: as text with its attributes, and as a picture.
-use super::common::{Played, holds_at, is_replayed};
+use super::common::{Failed, Played, holds_at, is_replayed};
 use std::alloc::{AllocError, Global};
-use std::test::Fail;
 use vt_picture::{picture, show};
 use vt_replay::What;
 
@@ -14,7 +13,9 @@ fn push_line_feeds(count: usize, out: &mut Vec<u8>) -> Result<(), AllocError> {
 }
 
 /// An input, how many empty lines are shown first, the line after them, and how many empty lines follow.
-const SHOWN: [(&[u8], usize, &str, usize); 7] = [
+type Shown = (&'static [u8], usize, &'static str, usize);
+
+const SHOWN: [Shown; 7] = [
     (b"", 0, "\n", 23),
     (
         b"A\x1b[1mB\x1b[4;5;7mC\x1b[0m D",
@@ -63,7 +64,7 @@ fn with_line_feeds(
 }
 
 /// The text with its attributes of what an input leaves.
-fn shown(alloc: Global, input: &[u8]) -> Result<Vec<u8>, Fail> {
+fn shown(alloc: Global, input: &[u8]) -> Result<Vec<u8>, Failed> {
     let played = Played::of(alloc, &[input])?;
     let mut out = Vec::new(alloc);
     show(&played.terminal, &mut out)?;
@@ -71,20 +72,24 @@ fn shown(alloc: Global, input: &[u8]) -> Result<Vec<u8>, Fail> {
 }
 
 /// Whether a text is shown so, by a replay too.
-fn is_shown(alloc: Global, input: &[u8], expected: &[u8]) -> Result<bool, Fail> {
+fn is_shown(alloc: Global, input: &[u8], expected: &[u8]) -> Result<bool, Failed> {
     Ok(
         shown(alloc, input)?.as_slice() == expected
             && is_replayed(alloc, input, What::Show, expected)?,
     )
 }
 
+/// Whether the input of a row is shown as it was written by hand.
+fn is_shown_by_hand(alloc: Global, (input, before, line, after): &Shown) -> Result<bool, Failed> {
+    let expected = with_line_feeds(alloc, *before, line, *after)?;
+    is_shown(alloc, input, &expected)
+}
+
 #[test]
-fn rows_are_shown_with_their_attributes(rt: HostRuntime) -> Result<(), Fail> {
-    for (i, (input, before, line, after)) in SHOWN.iter().enumerate() {
-        let expected = with_line_feeds(rt.alloc(), *before, line, *after)?;
-        holds_at(&rt, i, is_shown(rt.alloc(), input, &expected)?);
+fn rows_are_shown_with_their_attributes(rt: HostRuntime) {
+    for (i, row) in SHOWN.iter().enumerate() {
+        holds_at(&rt, i, is_shown_by_hand(rt.alloc(), row));
     }
-    Ok(())
 }
 
 /// The start of a picture of 80 columns.
@@ -187,7 +192,7 @@ fn drawn_by_hand(
 }
 
 /// The picture of what an input leaves.
-fn drawn(alloc: Global, input: &[u8]) -> Result<Vec<u8>, Fail> {
+fn drawn(alloc: Global, input: &[u8]) -> Result<Vec<u8>, Failed> {
     let played = Played::of(alloc, &[input])?;
     let mut out = Vec::new(alloc);
     picture(&played.terminal, &mut out)?;
@@ -195,18 +200,22 @@ fn drawn(alloc: Global, input: &[u8]) -> Result<Vec<u8>, Fail> {
 }
 
 /// Whether an input is drawn so, by a replay too.
-fn is_drawn(alloc: Global, input: &[u8], expected: &[u8]) -> Result<bool, Fail> {
+fn is_drawn(alloc: Global, input: &[u8], expected: &[u8]) -> Result<bool, Failed> {
     Ok(
         drawn(alloc, input)?.as_slice() == expected
             && is_replayed(alloc, input, What::Picture, expected)?,
     )
 }
 
+/// Whether the input of a row is drawn so.
+fn is_drawn_by_hand(alloc: Global, row: &Drawn) -> Result<bool, Failed> {
+    let expected = drawn_by_hand(alloc, row)?;
+    is_drawn(alloc, row.0, &expected)
+}
+
 #[test]
-fn pictures_are_those_written_by_hand(rt: HostRuntime) -> Result<(), Fail> {
+fn pictures_are_those_written_by_hand(rt: HostRuntime) {
     for (i, row) in DRAWN.iter().enumerate() {
-        let expected = drawn_by_hand(rt.alloc(), row)?;
-        holds_at(&rt, i, is_drawn(rt.alloc(), row.0, &expected)?);
+        holds_at(&rt, i, is_drawn_by_hand(rt.alloc(), row));
     }
-    Ok(())
 }

@@ -2,6 +2,7 @@
 #
 #   make              the program, the library for C and the session keeper
 #   make program      crates/vt220/out/vt220, which ./vt220 runs
+#   make screen       crates/screen/out/screen, the smallest program over the core, which is proved first
 #   make lib          the library for C in out/: libvt220.a, libvt220.so and vt220.pc, with its headers
 #   make keeper       out/vt220-keep
 #   make js           the package for JavaScript in out/js/: vt220.wasm, package/ and vt220-VERSION.tgz; and what js/vt220-page
@@ -60,15 +61,17 @@ sources = crates.txt $(shell find $(addprefix crates/,$(call chain,$(1))) -minde
 
 PROGRAM := crates/vt220/out/vt220
 CHUNKS := crates/chunks/out/chunks
+SCREEN := crates/screen/out/screen
 
-.PHONY: everything program lib keeper js install install-lib uninstall crates version help
+.PHONY: everything program screen lib keeper js install install-lib uninstall crates version help
 everything: program lib keeper
 program: $(PROGRAM)
+screen: $(SCREEN)
 lib: $(OUT)/libvt220.a $(OUT)/libvt220.so $(OUT)/vt220.pc $(addprefix $(OUT)/,$(notdir $(HEADERS)))
 keeper: $(OUT)/vt220-keep
 
 # The time of what the toolchain builds is that of the beginning. So a source that changes meanwhile is newer.
-$(PROGRAM) $(CHUNKS): $$(call sources,$$(notdir $$@))
+$(PROGRAM) $(SCREEN) $(CHUNKS): $$(call sources,$$(notdir $$@))
 	@begun=$$(mktemp); trap 'rm -f "$$begun"' EXIT; tools/prove $(notdir $@) run -- --help; touch -r "$$begun" $@
 $(NATIVE): $$(call sources,vt220_c)
 	@begun=$$(mktemp); trap 'rm -f "$$begun"' EXIT; tools/archive $(filter-out vt220_c,$(call chain,vt220_c)); touch -r "$$begun" $@

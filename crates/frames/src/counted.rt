@@ -27,18 +27,48 @@ impl Call {
         }
     }
 
-    /// Makes the call into `out`, which has capacity for it.
-    fn make(
-        self,
-        terminal: &Terminal,
-        shown: &mut Terminal,
-        out: &mut Vec<u8>,
-    ) -> Result<(), AllocError> {
+    /// Makes the call into `out`, which has capacity for it. Returns whether it succeeded.
+    fn make(self, terminal: &Terminal, shown: &mut Terminal, out: &mut Vec<u8>) -> bool {
         match self {
-            Call::Nothing => Ok(()),
-            Call::Show => show(terminal, out),
-            Call::Repaint => repaint(terminal, out).map_err(|_| AllocError),
-            Call::Update => update(shown, terminal, out).map_err(|_| AllocError),
+            Call::Nothing => true,
+            Call::Show => show(terminal, out).is_ok(),
+            Call::Repaint => repaint(terminal, out).is_ok(),
+            Call::Update => update(shown, terminal, out).is_ok(),
+        }
+    }
+}
+
+/// What a recording is played on.
+#[derive(Drop)]
+struct Player {
+    terminal: Terminal,
+    shown: Terminal,
+    reports: Vec<u8>,
+    out: Vec<u8>,
+}
+
+impl Player {
+    fn new(alloc: Global) -> Result<Player, AllocError> {
+        Ok(Player {
+            reports: Vec::new(alloc),
+            out: Vec::with_capacity(alloc, PAINT_LIMIT.max(SHOW_LIMIT).max(UPDATE_LIMIT))?,
+            terminal: Terminal::new(alloc)?,
+            shown: Terminal::new(alloc)?,
+        })
+    }
+
+    /// Plays a frame, and makes the call if the frame ends between sequences. Returns whether it was made.
+    fn play(&mut self, frame: &[u8], call: Call) -> Result<bool, AllocError> {
+        self.reports.clear();
+        self.terminal.feed(frame, &mut self.reports)?;
+        if !self.terminal.is_between() {
+            return Ok(false);
+        }
+        self.out.clear();
+        if call.make(&self.terminal, &mut self.shown, &mut self.out) {
+            Ok(true)
+        } else {
+            Err(AllocError)
         }
     }
 }
@@ -53,20 +83,13 @@ pub(crate) fn count(
 ) -> Result<(u64, u64), AllocError>
     requires { 1 ≤ size }
 {
-    let mut terminal = Terminal::new(alloc)?;
-    let mut shown = Terminal::new(alloc)?;
-    let mut reports = Vec::new(alloc);
-    let mut out = Vec::with_capacity(alloc, PAINT_LIMIT.max(SHOW_LIMIT).max(UPDATE_LIMIT))?;
+    let mut player = Player::new(alloc)?;
     let mut calls = 0u64;
     let mut bytes = 0u64;
     for frame in recording.chunks(size) {
-        reports.clear();
-        terminal.feed(frame, &mut reports)?;
-        if terminal.is_between() {
-            out.clear();
-            call.make(&terminal, &mut shown, &mut out)?;
+        if player.play(frame, call)? {
             calls = calls.wrapping_add(1);
-            bytes = bytes.wrapping_add(out.len() as u64);
+            bytes = bytes.wrapping_add(player.out.len() as u64);
         }
     }
     Ok((calls, bytes))

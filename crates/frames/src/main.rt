@@ -16,7 +16,7 @@ mod server;
 use crate::counted::{Call, count};
 use crate::server::Server;
 use std::alloc::Global;
-use std::env;
+use std::env::{self, Env};
 use std::io::{self, Input, Read};
 use std::time::Clock;
 
@@ -61,23 +61,44 @@ fn least_times(
     Ok((updates / sent, repaints / sent))
 }
 
-fn main(rt: HostRuntime) -> io::Result<()> {
-    let words: Vec<String> = env::args(&rt)?.collect(rt.alloc())?;
+/// What the arguments ask for.
+#[derive(Clone, Copy)]
+struct Asked {
+    size: usize,
+    is_timed: bool,
+    /// The one call that is counted.
+    call: Option<Call>,
+}
+
+/// Returns what the arguments ask for. Without a number, or with a word that is none, frames have 1024 bytes.
+fn read_words<R: Env + AllocGlobal>(rt: &R) -> io::Result<Asked> {
+    let words: Vec<String> = env::args(rt)?.collect(rt.alloc())?;
     let size = match words.get(1) {
         Some(word) => word.as_str().parse::<usize>().unwrap_or(1024),
         None => 1024,
     };
-    let size = size.max(1);
-    let mut recording = Vec::new(rt.alloc());
-    rt.reader().read_to_end(&mut recording)?;
-    if words.len() > 3 {
-        let call = Call::named(words[3].as_str());
-        let (calls, bytes) = count(rt.alloc(), &recording, size, call)?;
-        println!(rt; "{calls} calls, {bytes} bytes")?;
-        return Ok(());
-    }
-    let mut server = Server::new(rt.alloc())?;
-    play(&rt, rt.alloc(), &mut server, &recording, size)?;
+    let call = match words.get(3) {
+        Some(word) => Some(Call::named(word.as_str())),
+        None => None,
+    };
+    Ok(Asked {
+        size,
+        is_timed: words.len() > 2,
+        call,
+    })
+}
+
+/// Plays the recording, and prints what was sent, and with `is_timed` how long that took.
+fn print_played(
+    rt: &(impl Print + Clock + AllocGlobal),
+    server: &mut Server,
+    recording: &[u8],
+    size: usize,
+    is_timed: bool,
+) -> io::Result<()>
+    requires { 1 ≤ size }
+{
+    play(rt, rt.alloc(), server, recording, size)?;
     let (sent, painted) = (server.updates.bytes, server.repaints.bytes);
     println!(rt;
         "{} frames, {} inside a sequence",
@@ -85,9 +106,34 @@ fn main(rt: HostRuntime) -> io::Result<()> {
     )?;
     println!(rt; "{sent} bytes of updates, {painted} of repaints")?;
     println!(rt; "{} updates are the repaint", server.repainted)?;
-    if words.len() > 2 {
-        let (update, repaint) = least_times(&rt, rt.alloc(), &mut server, &recording, size)?;
+    if is_timed {
+        let (update, repaint) = least_times(rt, rt.alloc(), server, recording, size)?;
         println!(rt; "{update} ns an update, {repaint} ns a repaint")?;
     }
     Ok(())
+}
+
+/// Prints how many calls were made, and their bytes.
+fn print_counted(
+    rt: &(impl Print + AllocGlobal),
+    recording: &[u8],
+    size: usize,
+    call: Call,
+) -> io::Result<()>
+    requires { 1 ≤ size }
+{
+    let (calls, bytes) = count(rt.alloc(), recording, size, call)?;
+    println!(rt; "{calls} calls, {bytes} bytes")
+}
+
+fn main(rt: HostRuntime) -> io::Result<()> {
+    let asked = read_words(&rt)?;
+    let size = asked.size.max(1);
+    let mut recording = Vec::new(rt.alloc());
+    rt.reader().read_to_end(&mut recording)?;
+    if let Some(call) = asked.call {
+        return print_counted(&rt, &recording, size, call);
+    }
+    let mut server = Server::new(rt.alloc())?;
+    print_played(&rt, &mut server, &recording, size, asked.is_timed)
 }

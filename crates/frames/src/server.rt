@@ -53,14 +53,14 @@ impl Server {
     /// Returns a server with terminals in their power-up state. Returns `Err` if allocation fails.
     pub(crate) fn new(alloc: Global) -> Result<Server, AllocError> {
         Ok(Server {
-            terminal: Terminal::new(alloc)?,
-            shown: Terminal::new(alloc)?,
             reports: Vec::new(alloc),
             frames: 0,
             inside: 0,
             repainted: 0,
             updates: Sent::new(alloc, UPDATE_LIMIT)?,
             repaints: Sent::new(alloc, PAINT_LIMIT)?,
+            terminal: Terminal::new(alloc)?,
+            shown: Terminal::new(alloc)?,
         })
     }
 

@@ -11,7 +11,7 @@ use Rattle.vt_recording.specs.declared.format.Encoding.{Encoding}
 use Rattle.vt_recording.specs.declared.format.Encoding.TheVariants.{Dec, Utf8}
 use Rattle.vt_cli.specs.declared.what.TerminalType.TheVariants.{Vt220}
 use Rattle.vt_replay.specs.Encoding.{decoded}
-use Rattle.vt_replay.specs.Output.{IsAfter, always}
+use Rattle.vt_output.specs.Output.{IsAfter, always}
 use Rattle.vt_replay.specs.Playing.{language_of, on_terminal, played_as}
 
 pub utf8_on : (s t : State) (pending after chunk more : List ℕ)

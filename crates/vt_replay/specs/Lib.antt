@@ -1,7 +1,6 @@
 pub mod Due
 pub mod Encoding
 pub mod Log
-pub mod Output
 pub mod PageCuts
 pub mod Pages
 pub mod Playing

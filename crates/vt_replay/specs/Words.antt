@@ -14,7 +14,7 @@ use Rattle.vt_recording.specs.declared.format.Encoding.{Encoding}
 use Rattle.vt_replay.specs.Due.{sent_by, end_by, there_by}
 use Rattle.vt_replay.specs.Encoding.{decoded}
 use Rattle.vt_replay.specs.Log.{screen, lines_in, screen_in}
-use Rattle.vt_replay.specs.Output.{OutputTable, always, all, nothing}
+use Rattle.vt_output.specs.Output.{OutputTable, always, all, nothing}
 use Rattle.vt_replay.specs.Playing.{language_of, played_as}
 use Rattle.vt_replay.specs.Showing.{ShownTable}
 

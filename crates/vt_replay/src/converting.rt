@@ -7,9 +7,10 @@ ghost use Rattle.vt_xterm.specs.Play.{play_xterm, behind, front_at_power_up};
 ghost use Rattle.vt_replay.specs.Playing.{on_terminal};
 ghost use Rattle.vt_replay.specs.Showing.{between, Shows, AreShown};
 
-use crate::decoding::{Decoding, play_silently};
+use crate::decoding::play_silently;
 use crate::player::{Player, XtermPlayer};
 use std::alloc::{AllocError, Global};
+use vt_output::Decoding;
 use vt_syntax::laws::spelled;
 use vt_term::laws::{cuts, soundness};
 use vt_term::{REPORT_LIMIT, Terminal};

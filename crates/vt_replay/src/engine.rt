@@ -8,13 +8,14 @@ ghost use Rattle.vt_device.specs.Runs.{Moves};
 ghost use Rattle.vt_replay.specs.Playing.{ReplayTable};
 
 use crate::language::Language;
-use crate::output::{Output, front_for, write_output_from};
+use crate::output::{front_for, write_output_from};
 use crate::player::{PlainPlayer, Player, Utf8Player, XtermPlayer};
 use crate::status::{STATUS_LIMIT, push_status};
 use std::alloc::Global;
 use std::io::{Read, Write};
 use vt_cli::{Encoding, Settings, What};
 use vt_device::{Source, Watched};
+use vt_output::Output;
 use vt_paint::{PAINT_LIMIT, repaint_reserved};
 use vt_picture::{PICTURE_LIMIT, SHOW_LIMIT, picture_reserved, show_reserved};
 use vt_recording::Fault;

@@ -19,7 +19,7 @@ mod status;
 pub use engine::{replay, run, run_from};
 pub use language::Language;
 pub use logging::{write_log, write_log_from};
-pub use output::{Output, front_for, write_output, write_output_from};
+pub use output::{front_for, write_output_from};
 pub use pages::{PAGE_LIMIT, feed_pages, feed_pages_reserved};
 pub use requests::{Outcome, carry_out, format_of, lacks_times};
 pub use vt_cli::{
@@ -27,6 +27,7 @@ pub use vt_cli::{
     settings,
 };
 pub use vt_device::Watched;
+pub use vt_output::{Output, write_output};
 pub use vt_recording::{
     Break, Compression, DETECTION_LENGTH, Detected, Fault, Part, detect, read_recording,
 };

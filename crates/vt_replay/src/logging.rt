@@ -8,15 +8,16 @@ ghost use Rattle.vt_device.specs.Runs.{Moves};
 ghost use Rattle.vt_xterm.specs.Play.{play_xterm, xterm_log, behind};
 ghost use Rattle.vt_replay.specs.declared.language.Language.TheVariants.{Xterm};
 ghost use Rattle.vt_replay.specs.Log.{lines, screen, lines_in, screen_in};
-ghost use Rattle.vt_replay.specs.Output.{OutputTable, always};
+ghost use Rattle.vt_output.specs.Output.{OutputTable, always};
 
 use crate::language::Language;
-use crate::output::{Output, front_for};
+use crate::output::front_for;
 use crate::outputs::{WordOutput, write_word};
 use std::alloc::{AllocError, Global};
 use std::io::{Read, Write};
 use vt_cli::Encoding;
 use vt_device::{Source, Watched};
+use vt_output::Output;
 use vt_recording::Fault;
 use vt_term::laws::{cuts, log_cuts, soundness};
 use vt_term::{REPORT_LIMIT, ROW_TEXT_LIMIT, TEXT_LIMIT, Terminal};

@@ -10,12 +10,12 @@ use crate::converting::Converter;
 use crate::engine::run_from;
 use crate::language::Language;
 use crate::logging::write_log_from;
-use crate::output::write_by;
 use crate::outputs::{ContentOutput, PageOutput, SummaryOutput, TraceOutput, write_word};
 use std::alloc::{AllocError, Global};
 use std::io::{Read, Write};
 use vt_cli::{Encoding, Format, Moment, Request, TerminalType, Word};
 use vt_device::{Source, Watched};
+use vt_output::write_by;
 use vt_recording::{Break, Content, Detected, Fault, Taken, detect, read_recording, take_apart};
 
 /// Carries out a request's word on the reader's bytes, in an encoding. Neither device has failed before, and the reader hasn't

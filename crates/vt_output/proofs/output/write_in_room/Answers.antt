@@ -1,7 +1,7 @@
 use Rattle.std.proofs.Common.{◌∙◌, sym, inr, refl}
-use Rattle.vt_replay.proofs.OutputSteps.{ends_so, there_so}
-use Rattle.vt_replay.proofs.Steps.{Moves-write}
-use Rattle.vt_replay.proofs.output.write_in_room.Goals as goal
+use Rattle.vt_output.proofs.OutputSteps.{ends_so, there_so}
+use Rattle.vt_output.proofs.Steps.{Moves-write}
+use Rattle.vt_output.proofs.output.write_in_room.Goals as goal
 
 pub returns-then-not-is_there-clause-answer : goal.returns-then-not-is_there-clause-answer
 returns-then-not-is_there-clause-answer g c =

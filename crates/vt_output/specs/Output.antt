@@ -2,8 +2,6 @@
 use Rattle.std.specs.Prelude.{◌≡◌, ◌⊎◌, ℕ, ◌≤◌, ◌+◌, ◌++◌, List, [], length, take, ⊤, Bool, true, false, Result, Ok, Err}
 use Rattle.vt_device.specs.Runs.{Flags, AreFlags}
 use Rattle.vt_device.specs.Writing.{IsProperBeginning}
-use Rattle.vt_recording.specs.declared.format.Encoding.{Encoding}
-use Rattle.vt_replay.specs.Encoding.{decoded}
 use Rattle.vt_recording.specs.declared.fault.Fault.{Fault}
 use Rattle.vt_recording.specs.declared.fault.Fault.TheVariants.{Memory, Partial, Read, Write, TooLong, Broken, NoTimes}
 
@@ -63,12 +61,6 @@ OutputTable written ending there (Err TooLong) piece b w f limit = AreFlags f fa
     × (w ≡ written (take limit b))
 OutputTable written ending there (Err (Broken place)) piece b w f limit = ⊥
 OutputTable written ending there (Err NoTimes) piece b w f limit = ⊥
-
--- what each answer says of a host's bytes in an encoding, of which the terminal's bytes are given to the output
-abbrev pub EncodedTable : Encoding → (written ending : List ℕ → List ℕ) → (there : List ℕ → Bool) → Result (Unit {0}) Fault → (piece : ℕ) → (b w : List ℕ) → Flags → (limit : ℕ) → Type 0
-EncodedTable encoding written ending there result piece b w f limit =
-    OutputTable (λ bytes. written (decoded encoding bytes)) (λ bytes. ending (decoded encoding bytes))
-    (λ bytes. there (decoded encoding bytes)) result piece b w f limit
 
 -- ---- a host's bytes as one of several byte lists of the terminal
 

@@ -1,6 +1,6 @@
 use Rattle.std.proofs.lemmas.Result.{err_from_is_err_and}
-use Rattle.vt_replay.proofs.Steps.{without_memory}
-use Rattle.vt_replay.proofs.output.write_by.Goals as goal
+use Rattle.vt_output.proofs.Steps.{without_memory}
+use Rattle.vt_output.proofs.output.write_by.Goals as goal
 
 pub returns-in_err-decoding-clause-answer : goal.returns-in_err-decoding-clause-answer
 returns-in_err-decoding-clause-answer g c =

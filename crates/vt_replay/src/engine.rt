@@ -199,7 +199,7 @@ impl<P: Player> Output for DueOutput<P> {
     }
 
     fn is_there(&self) -> bool {
-        is_there(self.player.terminal(), self.what)
+        due_is_there(self.player.terminal(), self.what)
     }
 
     fn end(&self, out: &mut Vec<u8>) {
@@ -218,7 +218,7 @@ fn is_sent(what: What) -> bool
 }
 
 /// Returns whether what is asked for is there: a repaint between sequences only, everything else always.
-fn is_there(terminal: &Terminal, what: What) -> bool
+fn due_is_there(terminal: &Terminal, what: What) -> bool
     ensures { result ≡ is_there what terminal.now }
 {
     match what {

@@ -16,9 +16,12 @@ ghost use Rattle.vt220_c.specs.Written.{written_over, IsRepaint, UpdatedOver};
 
 use crate::form::Form;
 use crate::handle::Vt220;
+use crate::inner::Inner;
+use crate::scratch::Scratch;
 use crate::scratch_handle::Vt220Scratch;
 use crate::status::{CLOSED, OK, PARTIAL, ROOM};
 use std::alloc::Global;
+use vt_term::Terminal;
 use vt_update::UPDATE_LIMIT;
 
 /// Writes a form of a terminal into `out` if the form is available and fits. Writes its length to `written`.
@@ -183,6 +186,42 @@ pub extern "C" fn core_repaint(
     write(t, s, Form::Repaint, out, written, alloc)
 }
 
+impl Scratch {
+    /// Writes an update as `update` does if both terminals are between sequences. Writes its length to `written`. Returns `OK`,
+    /// `ROOM`, or `PARTIAL` if one of them is inside a sequence.
+    fn update_between(
+        &mut self,
+        shown: &mut Inner,
+        to: &Terminal,
+        out: &mut [u8],
+        written: &mut usize,
+    ) -> u32
+        requires { written.old ≡ 0 }
+        ensures partial { (result ≡ status_partial) ↔ ((shown.old.held ≢ Nothing) ⊎ (to.now.held ≢ Nothing)) }
+        ensures room { result ≡ status_room → length out.old < written.new }
+        ensures ok { result ≡ status_ok → (written.new ≤ length out.old) × (shown.new ≡ to.now) }
+        ensures leads { result ≡ status_ok → UpdatedOver shown.old to.now out.old out.new written.new }
+        ensures nothing { (result ≡ status_ok) ⊎ (result ≡ status_room) → (written.new ≡ 0) ↔ (shown.old ≡ to.now) }
+        ensures small { shown.old.display.grid.width ≡ to.now.display.grid.width
+            → shown.old.display.stops ≡ to.now.display.stops
+            → written.new ≤ 28 * differing shown.old.display.grid to.now.display.grid + 230 }
+        ensures bounded { written.new ≤ UPDATE_LIMIT }
+        ensures speaks { result ≡ status_ok → Speaks (take written.new out.new) }
+        ensures ascii { result ≡ status_ok → IsAscii (take written.new out.new) }
+        ensures repaint { result ≡ status_ok → IsRepaint shown.old to.now (take written.new out.new) }
+        ensures none { result ≡ status_partial → written.new ≡ 0 }
+        ensures unchanged { (0 < result) → (shown.new ≡ shown.old) × (out.new ≡ out.old) }
+        ensures answers { (result ≡ status_ok) ⊎ (result ≡ status_partial) ⊎ (result ≡ status_room) }
+    {
+        if !shown.terminal().is_between() || !to.is_between() {
+            return PARTIAL;
+        }
+        let copied = self.update(shown, to, out);
+        *written = copied.len;
+        if copied.fits { OK } else { ROOM }
+    }
+}
+
 /// Writes bytes that lead from `shown` to `to` if they fit into `out`, and brings `shown` there. Writes their length to
 /// `written`. `shown` and `to` are different handles. Returns `OK`, `ROOM`, `CLOSED`, or `PARTIAL` if one of them is
 /// inside a sequence.
@@ -239,12 +278,7 @@ pub extern "C" fn core_update(
         to.put(second);
         return CLOSED;
     };
-    let mut status = PARTIAL;
-    if first.terminal().is_between() && second.terminal().is_between() {
-        let copied = scratch.update(&mut first, second.terminal(), out);
-        *written = copied.len;
-        status = if copied.fits { OK } else { ROOM };
-    }
+    let status = scratch.update_between(&mut first, second.terminal(), out, written);
     shown.put(first);
     to.put(second);
     s.put(scratch);

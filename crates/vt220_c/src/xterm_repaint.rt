@@ -1,5 +1,5 @@
 //! The call of C that writes the repaint of a session under TERM=xterm.
-ghost use Rattle.std.specs.Prelude.{◌≡◌, ◌≢◌, ◌↔◌, ◌≤◌, ◌<◌, ◌⊎◌, IsTrue, true, false, length, IfSome};
+ghost use Rattle.std.specs.Prelude.{◌≡◌, ◌≢◌, ◌↔◌, ◌≤◌, ◌<◌, ◌⊎◌, length, IfSome};
 ghost use Rattle.std.specs.declared.option.Option.TheVariants.{None};
 ghost use Rattle.vt_syntax.specs.declared.held.Held.TheVariants.{Nothing};
 ghost use Rattle.vt_xterm.specs.Play.{behind};
@@ -8,7 +8,7 @@ ghost use Rattle.vt220_c.specs.Rebuilt.{IsXtermRebuilt};
 ghost use Rattle.vt220_c.specs.Status.{status_ok, status_closed, status_partial, status_room};
 ghost use Rattle.vt220_c.specs.Written.{written_over};
 
-use crate::bytes::{Copied, copy_out};
+use crate::bytes::copy_out;
 use crate::handle::Vt220;
 use crate::scratch::Scratch;
 use crate::scratch_handle::Vt220Scratch;
@@ -23,19 +23,37 @@ use vt_xterm_paint::{XTERM_PAINT_LIMIT, repaint_xterm_reserved};
 const _: () = prove!(XTERM_PAINT_LIMIT <= PICTURE_LIMIT);
 
 impl Scratch {
-    /// Writes the repaint of a session between sequences into the front of `out`, if it fits.
-    fn repaint_xterm(&mut self, terminal: &Terminal, front: &Front, out: &mut [u8]) -> Copied
-        requires { terminal.now.held ≡ Nothing }
-        ensures len { result.len ≡ length (xterm_repaint (behind terminal.now front.now)) }
-        ensures fits { IsTrue result.fits ↔ (length (xterm_repaint (behind terminal.now front.now)) ≤ length out.old) }
-        ensures out { result.fits ≡ true → out.new ≡ written_over (xterm_repaint (behind terminal.now front.now)) out.old }
-        ensures unchanged { result.fits ≡ false → out.new ≡ out.old }
-        ensures rebuilds { IsXtermRebuilt terminal.now front.now }
-        ensures bounded { result.len ≤ XTERM_PAINT_LIMIT }
+    /// Writes the repaint of a session between sequences into the front of `out`, if it fits. Writes its length to `written`.
+    /// Returns `OK`, `ROOM`, or `PARTIAL` if the terminal is inside a sequence.
+    fn repaint_xterm(
+        &mut self,
+        terminal: &Terminal,
+        front: &Front,
+        out: &mut [u8],
+        written: &mut usize,
+    ) -> u32
+        requires { written.old ≡ 0 }
+        ensures partial { (result ≡ status_partial) ↔ (terminal.now.held ≢ Nothing) }
+        ensures none { result ≡ status_partial → written.new ≡ 0 }
+        ensures len { terminal.now.held ≡ Nothing → written.new ≡ length (xterm_repaint (behind terminal.now front.now)) }
+        ensures ok { terminal.now.held ≡ Nothing
+            → (result ≡ status_ok) ↔ (length (xterm_repaint (behind terminal.now front.now)) ≤ length out.old) }
+        ensures room { terminal.now.held ≡ Nothing
+            → (result ≡ status_room) ↔ (length out.old < length (xterm_repaint (behind terminal.now front.now))) }
+        ensures out { result ≡ status_ok → out.new ≡ written_over (xterm_repaint (behind terminal.now front.now)) out.old }
+        ensures rebuilds { result ≡ status_ok → IsXtermRebuilt terminal.now front.now }
+        ensures bounded { written.new ≤ XTERM_PAINT_LIMIT }
+        ensures unchanged { (0 < result) → out.new ≡ out.old }
+        ensures answers { (result ≡ status_ok) ⊎ (result ≡ status_partial) ⊎ (result ≡ status_room) }
     {
+        if !terminal.is_between() {
+            return PARTIAL;
+        }
         self.room.clear();
         repaint_xterm_reserved(terminal, front, &mut self.spare, &mut self.room);
-        copy_out(self.room.as_slice(), out)
+        let copied = copy_out(self.room.as_slice(), out);
+        *written = copied.len;
+        if copied.fits { OK } else { ROOM }
     }
 }
 
@@ -86,12 +104,7 @@ pub extern "C" fn core_xterm_repaint(
         x.put(front);
         return CLOSED;
     };
-    let mut status = PARTIAL;
-    if inner.terminal().is_between() {
-        let copied = scratch.repaint_xterm(inner.terminal(), &front, out);
-        *written = copied.len;
-        status = if copied.fits { OK } else { ROOM };
-    }
+    let status = scratch.repaint_xterm(inner.terminal(), &front, out, written);
     t.put(inner);
     x.put(front);
     s.put(scratch);

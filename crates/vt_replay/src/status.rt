@@ -70,6 +70,19 @@ fn push_pair(name: &[u8], a: u64, b: u64, out: &mut Vec<u8>)
     push_text(b"\n", out);
 }
 
+/// Appends a line of a name, which ends with a space, a text, each of at most twenty bytes, and LF.
+fn push_line(name: &[u8], text: &[u8], out: &mut Vec<u8>)
+    requires short { (length name.now ≤ 20) × (length text.now ≤ 20) }
+    requires room { vec_len out.old + 60 ≤ vec_capacity out.old }
+    ensures items { out.new.items ≡ ((out.old.items ++ name.now) ++ text.now) ++ 10 ∷ [] }
+    ensures bounded { vec_len out.new ≤ vec_len out.old + 60 }
+    ensures capacity { vec_capacity out.old ≤ vec_capacity out.new }
+{
+    push_text(name, out);
+    push_text(text, out);
+    push_text(b"\n", out);
+}
+
 /// Appends the five lines of the status, at most `STATUS_LIMIT` bytes, in existing capacity.
 pub(crate) fn push_status(terminal: &Terminal, reported: u64, out: &mut Vec<u8>)
     requires { vec_len out.old + STATUS_LIMIT ≤ vec_capacity out.old }
@@ -79,13 +92,9 @@ pub(crate) fn push_status(terminal: &Terminal, reported: u64, out: &mut Vec<u8>)
     let cursor = terminal.cursor();
     let margins = terminal.margins();
     push_pair(b"cursor ", cursor.row as u64, cursor.col as u64, out);
-    push_text(b"wrap ", out);
-    push_text(yes_or_no(cursor.wrap), out);
-    push_text(b"\n", out);
+    push_line(b"wrap ", yes_or_no(cursor.wrap), out);
     push_pair(b"margins ", margins.top as u64, margins.bottom as u64, out);
-    push_text(b"held ", out);
-    push_text(kind_of_held(terminal.held()).as_bytes(), out);
-    push_text(b"\n", out);
+    push_line(b"held ", kind_of_held(terminal.held()).as_bytes(), out);
     push_text(b"reports ", out);
     push_number(reported, out);
     push_text(b"\n", out);

@@ -1,3 +1,5 @@
+use Rattle.std.proofs.Common.{arith}
+use Rattle.std.proofs.lemmas.Grind.{common_steps}
 use Rattle.std.proofs.lemmas.Result.{err_from_is_err_and}
 use Rattle.vt_output.proofs.Steps.{without_memory}
 use Rattle.vt_output.proofs.output.write_by.Goals as goal
@@ -11,3 +13,15 @@ returns-in_err-decoding-clause-answer g c =
       reader_ended = c.requires.reader_goes_on;
       writer_failed = c.requires.writer_works;
     }))
+
+pub write_in_room-requires-clause-decodes : goal.write_in_room-requires-clause-decodes
+write_in_room-requires-clause-decodes g c = grind (arith, common_steps)
+
+pub write_in_room-requires-clause-some_room : goal.write_in_room-requires-clause-some_room
+write_in_room-requires-clause-some_room g c = grind (arith, common_steps)
+
+pub write_in_room-requires-clause-room : goal.write_in_room-requires-clause-room
+write_in_room-requires-clause-room g c = grind (arith, common_steps)
+
+pub returns-clause-answer : goal.returns-clause-answer
+returns-clause-answer g c = grind (arith, common_steps)

@@ -108,3 +108,67 @@ returns-in-Ok-read_chunk-clause-moves g c =
             (record { x = come.x; translates = come.translates; all = come.all; holds = tt }),
       );
     }
+
+pub slice_bounds-read_chunk-end : goal.slice_bounds-read_chunk-end
+slice_bounds-read_chunk-end g c = grind (arith, common_steps)
+
+pub slice_bounds-read_chunk-end-in-loop-left : goal.slice_bounds-read_chunk-end-in-loop-left
+slice_bounds-read_chunk-end-in-loop-left g c = grind (arith, common_steps)
+
+pub slice_bounds-decode-end : goal.slice_bounds-decode-end
+slice_bounds-decode-end g c = grind (arith, common_steps)
+
+pub slice_bounds-decode-end-in-loop-left : goal.slice_bounds-decode-end-in-loop-left
+slice_bounds-decode-end-in-loop-left g c = grind (arith, common_steps)
+
+pub decode-requires-clause-some : goal.decode-requires-clause-some
+decode-requires-clause-some g c = grind (arith, common_steps)
+
+pub decode-requires-clause-short : goal.decode-requires-clause-short
+decode-requires-clause-short g c = grind (arith, common_steps)
+
+pub slice_bounds-bytes-end : goal.slice_bounds-bytes-end
+slice_bounds-bytes-end g c = grind (arith, common_steps)
+
+pub slice_bounds-bytes-end-in-loop-left : goal.slice_bounds-bytes-end-in-loop-left
+slice_bounds-bytes-end-in-loop-left g c = grind (arith, common_steps)
+
+pub overflow_sub-left : goal.overflow_sub-left
+overflow_sub-left g c = grind (arith, common_steps)
+
+pub loop-left-smaller : goal.loop-left-smaller
+loop-left-smaller g c = grind (arith, common_steps)
+
+pub slice_bounds-read_chunk-end-2 : goal.slice_bounds-read_chunk-end-2
+slice_bounds-read_chunk-end-2 g c = grind (arith, common_steps)
+
+pub slice_bounds-read_chunk-end-3 : goal.slice_bounds-read_chunk-end-3
+slice_bounds-read_chunk-end-3 g c = grind (arith, common_steps)
+
+pub returns-in_default-clause-whole : goal.returns-in_default-clause-whole
+returns-in_default-clause-whole g c = grind (arith, common_steps)
+
+pub returns-then-count-eq0-clause-whole : goal.returns-then-count-eq0-clause-whole
+returns-then-count-eq0-clause-whole g c = grind (arith, common_steps)
+
+pub returns-then-not-write_chunk-clause-whole : goal.returns-then-not-write_chunk-clause-whole
+returns-then-not-write_chunk-clause-whole g c = grind (arith, common_steps)
+
+pub returns-in-Ok-eq0-clause-whole : goal.returns-in-Ok-eq0-clause-whole
+returns-in-Ok-eq0-clause-whole g c = grind (arith, common_steps)
+
+pub returns-in-Ok-read_chunk-clause-whole : goal.returns-in-Ok-read_chunk-clause-whole
+returns-in-Ok-read_chunk-clause-whole g c = grind (arith, common_steps)
+
+pub returns-in-Err-clause-whole : goal.returns-in-Err-clause-whole
+returns-in-Err-clause-whole g c = grind (arith, common_steps)
+
+pub write_chunk-requires-clause-counts : goal.write_chunk-requires-clause-counts
+write_chunk-requires-clause-counts g c =
+    let long = simp length-take at c.read_chunk.auto.buf in
+    let bound : c.in-Ok.count ≤ length c.read_chunk.new.buf = c.in-Ok.ensures.bound.0 in
+    let within : c.in-Ok.count ≤ c.loop-left.left = omega (arith, long, bound, c.min-want.ensures) in
+    let few = simp length-take at (rw take-append-le at c.decode.ensures.few) in
+    let size : length c.bytes.result.now ≤ 94152 * c.in-Ok.count =
+    rw (rw take-append-le at c.bytes.ensures) (omega (arith, few)) in
+    omega (arith, size, within, c.loop-left.invariant.counted, c.loop-left.invariant.within, c.requires.limit_in_range)

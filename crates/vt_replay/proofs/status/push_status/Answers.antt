@@ -6,16 +6,12 @@ pub returns-clause-items : goal.returns-clause-items
 unfolding status
 returns-clause-items c =
     rw (
-      c.push_text-8.ensures.items,
-      c.push_number.ensures.items,
-      c.push_text-7.ensures.items,
-      c.push_text-6.ensures.items,
-      c.push_text-5.ensures.items,
-      c.push_text-4.ensures.items,
-      c.push_pair-2.ensures.items,
-      c.push_text-3.ensures.items,
       c.push_text-2.ensures.items,
+      c.push_number.ensures.items,
       c.push_text.ensures.items,
+      c.push_line-2.ensures.items,
+      c.push_pair-2.ensures.items,
+      c.push_line.ensures.items,
       c.push_pair.ensures.items,
       c.as_bytes.ensures.value,
       c.kind_of_held.ensures.kind,

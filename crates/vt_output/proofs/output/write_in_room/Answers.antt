@@ -1,3 +1,5 @@
+use Rattle.std.proofs.Common.{arith}
+use Rattle.std.proofs.lemmas.Grind.{common_steps}
 use Rattle.std.proofs.Common.{◌∙◌, sym, inr, refl}
 use Rattle.vt_output.proofs.OutputSteps.{ends_so, there_so}
 use Rattle.vt_output.proofs.Steps.{Moves-write}
@@ -58,3 +60,12 @@ returns-else-write_whole-clause-answer g c =
       ),
       h.1,
     ))
+
+pub returns-then-not-is_there-clause-whole : goal.returns-then-not-is_there-clause-whole
+returns-then-not-is_there-clause-whole g c = grind (arith, common_steps)
+
+pub returns-then-write_whole-clause-whole : goal.returns-then-write_whole-clause-whole
+returns-then-write_whole-clause-whole g c = grind (arith, common_steps)
+
+pub returns-else-write_whole-clause-whole : goal.returns-else-write_whole-clause-whole
+returns-else-write_whole-clause-whole g c = grind (arith, common_steps)

@@ -1,3 +1,5 @@
+use Rattle.std.proofs.Common.{arith}
+use Rattle.std.proofs.lemmas.Grind.{common_steps}
 use Rattle.std.proofs.Common.{◌∙◌, sym, [], refl}
 use Rattle.std.proofs.KnownBytes.{Appends-nil}
 use Rattle.vt_replay.proofs.Outcomes.{not_streamed}
@@ -20,3 +22,24 @@ returns-clause-answer g c =
         writer_works = c.requires.writer_works;
       });
     }
+
+pub returns-then-is_streamed-clause-answer : goal.returns-then-is_streamed-clause-answer
+returns-then-is_streamed-clause-answer g c = grind (arith, common_steps)
+
+pub returns-then-is_streamed-clause-whole : goal.returns-then-is_streamed-clause-whole
+returns-then-is_streamed-clause-whole g c = grind (arith, common_steps)
+
+pub returns-in-Ok-take_apart-clause-answer : goal.returns-in-Ok-take_apart-clause-answer
+returns-in-Ok-take_apart-clause-answer g c = grind (arith, common_steps)
+
+pub returns-in-Ok-take_apart-clause-whole : goal.returns-in-Ok-take_apart-clause-whole
+returns-in-Ok-take_apart-clause-whole g c = grind (arith, common_steps)
+
+pub returns-in-Ok-clause-answer : goal.returns-in-Ok-clause-answer
+returns-in-Ok-clause-answer g c = grind (arith, common_steps)
+
+pub returns-in-Ok-clause-whole : goal.returns-in-Ok-clause-whole
+returns-in-Ok-clause-whole g c = grind (arith, common_steps)
+
+pub returns-clause-whole : goal.returns-clause-whole
+returns-clause-whole g c = grind (arith, common_steps)

@@ -1,3 +1,4 @@
+use Rattle.std.proofs.lemmas.Grind.{common_steps}
 use Rattle.std.proofs.Common.{◌∙◌, ap, arith, take}
 use Rattle.std.proofs.lemmas.List.{length-take}
 use Rattle.vt_trace.specs.declared.tracing.Tracer.{Tracer}
@@ -10,3 +11,24 @@ returns-clause-counted c =
     ∙ place_after c.args.self.now.terminal c.args.self.now.tracer (take c.trace_reserved.result (take c.front_for-count.result c.args.chunk.now)) in
     let long = simp length-take at place in
     omega (arith, long, c.trace_reserved.ensures.within)
+
+pub returns-clause-some : goal.returns-clause-some
+returns-clause-some c = grind (arith, common_steps)
+
+pub returns-clause-within : goal.returns-clause-within
+returns-clause-within c = grind (arith, common_steps)
+
+pub returns-clause-written : goal.returns-clause-written
+returns-clause-written c = grind (arith, common_steps)
+
+pub returns-clause-after : goal.returns-clause-after
+returns-clause-after c = grind (arith, common_steps)
+
+pub returns-clause-most : goal.returns-clause-most
+returns-clause-most c = grind (arith, common_steps)
+
+pub returns-clause-reserve : goal.returns-clause-reserve
+returns-clause-reserve c = grind (arith, common_steps)
+
+pub returns-clause-capacity : goal.returns-clause-capacity
+returns-clause-capacity c = grind (arith, common_steps)

@@ -39,30 +39,17 @@ impl Row {
     }
 }
 
-const SUBJECTS: [&[Row]; 10] = [
-    &plain::ROWS,
-    &syntax::ROWS,
-    &held::ROWS,
-    &sets::ROWS,
-    &attributes::ROWS,
-    &editing::ROWS,
-    &cursor::ROWS,
-    &modes::ROWS,
-    &reports::ROWS,
-    &width::ROWS,
-];
-
 /// The number of conformance vectors.
-pub const VECTOR_COUNT: usize = plain::ROWS.len()
-    + syntax::ROWS.len()
-    + held::ROWS.len()
-    + sets::ROWS.len()
-    + attributes::ROWS.len()
-    + editing::ROWS.len()
-    + cursor::ROWS.len()
-    + modes::ROWS.len()
-    + reports::ROWS.len()
-    + width::ROWS.len();
+pub const VECTOR_COUNT: usize = plain::COUNT
+    + syntax::COUNT
+    + held::COUNT
+    + sets::COUNT
+    + attributes::COUNT
+    + editing::COUNT
+    + cursor::COUNT
+    + modes::COUNT
+    + reports::COUNT
+    + width::COUNT;
 
 /// Returns the number of conformance vectors: at least 60.
 pub fn vector_count() -> usize
@@ -79,8 +66,20 @@ fn row_at(i: usize) -> Row
     ensures short { length result.input.now ≤ 200 }
     ensures lines { count_by (λ b. b == 0x0A) result.text.now ≡ 24 }
 {
+    let subjects = [
+        plain::rows(),
+        syntax::rows(),
+        held::rows(),
+        sets::rows(),
+        attributes::rows(),
+        editing::rows(),
+        cursor::rows(),
+        modes::rows(),
+        reports::rows(),
+        width::rows(),
+    ];
     let mut left = i;
-    for rows in SUBJECTS {
+    for rows in subjects {
         if left < rows.len() {
             return rows[left];
         }

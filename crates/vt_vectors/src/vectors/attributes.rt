@@ -1,8 +1,14 @@
 //! Attributes and protection of cells.
+ghost use Rattle.std.specs.Prelude.{◌≡◌, length};
+ghost use Rattle.vt_vectors.specs.Vectors.{AreFit};
+
 use super::Row;
 use super::parts::joined;
 
-pub(super) const ROWS: [Row; 16] = [
+/// The number of these vectors.
+pub(super) const COUNT: usize = 16;
+
+const ROWS: &[Row; COUNT] = &[
     Row {
         name: "attributes: a 17th parameter is dropped",
         input: b"\x1b[0;0;0;0;0;0;0;0;0;0;0;0;0;0;0;0;7mX",
@@ -134,3 +140,11 @@ pub(super) const ROWS: [Row; 16] = [
         repaint: Some(joined!("\x1bc" HEAD "\x1b[1;1H" REVERSE "A\x1b[1;2H" REVERSE SETS)),
     },
 ];
+
+/// Returns the rows of these vectors.
+pub(super) fn rows() -> &'static [Row]
+    ensures count { length result.now ≡ COUNT }
+    ensures fit { AreFit result.now }
+{
+    ROWS
+}

@@ -1,8 +1,14 @@
 //! Moving the cursor: margins, origin mode, tab stops, and what is saved.
+ghost use Rattle.std.specs.Prelude.{◌≡◌, length};
+ghost use Rattle.vt_vectors.specs.Vectors.{AreFit};
+
 use super::Row;
 use super::parts::joined;
 
-pub(super) const ROWS: [Row; 31] = [
+/// The number of these vectors.
+pub(super) const COUNT: usize = 31;
+
+const ROWS: &[Row; COUNT] = &[
     Row {
         name: "cursor: under origin mode the cursor stays inside the margins, and its report counts from them",
         input: b"\x1b[5;10r\x1b[?6h\x1b[99;99H\x1b[6n",
@@ -258,3 +264,11 @@ pub(super) const ROWS: [Row; 31] = [
         ),
     },
 ];
+
+/// Returns the rows of these vectors.
+pub(super) fn rows() -> &'static [Row]
+    ensures count { length result.now ≡ COUNT }
+    ensures fit { AreFit result.now }
+{
+    ROWS
+}

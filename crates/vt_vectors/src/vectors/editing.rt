@@ -1,8 +1,14 @@
 //! Erasing, inserting and deleting.
+ghost use Rattle.std.specs.Prelude.{◌≡◌, length};
+ghost use Rattle.vt_vectors.specs.Vectors.{AreFit};
+
 use super::Row;
 use super::parts::joined;
 
-pub(super) const ROWS: [Row; 24] = [
+/// The number of these vectors.
+pub(super) const COUNT: usize = 24;
+
+const ROWS: &[Row; COUNT] = &[
     Row {
         name: "editing: a cell is erased",
         input: b"ABC\x1b[1;2H\x1b[X",
@@ -208,3 +214,11 @@ pub(super) const ROWS: [Row; 24] = [
         repaint: Some(joined!("\x1bc" HEAD "\x1b[1;2H" REVERSE "AB\x1b[1;1H" REVERSE SETS)),
     },
 ];
+
+/// Returns the rows of these vectors.
+pub(super) fn rows() -> &'static [Row]
+    ensures count { length result.now ≡ COUNT }
+    ensures fit { AreFit result.now }
+{
+    ROWS
+}

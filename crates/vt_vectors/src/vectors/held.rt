@@ -1,8 +1,14 @@
 //! Inputs that end inside a sequence: nothing is shown, and there is no repaint.
+ghost use Rattle.std.specs.Prelude.{◌≡◌, length};
+ghost use Rattle.vt_vectors.specs.Vectors.{AreFit};
+
 use super::Row;
 use super::parts::joined;
 
-pub(super) const ROWS: [Row; 14] = [
+/// The number of these vectors.
+pub(super) const COUNT: usize = 14;
+
+const ROWS: &[Row; COUNT] = &[
     Row {
         name: "held: ESC",
         input: b"\x1b",
@@ -102,3 +108,11 @@ pub(super) const ROWS: [Row; 14] = [
         repaint: None,
     },
 ];
+
+/// Returns the rows of these vectors.
+pub(super) fn rows() -> &'static [Row]
+    ensures count { length result.now ≡ COUNT }
+    ensures fit { AreFit result.now }
+{
+    ROWS
+}

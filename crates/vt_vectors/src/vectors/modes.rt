@@ -1,8 +1,14 @@
 //! Modes and resets.
+ghost use Rattle.std.specs.Prelude.{◌≡◌, length};
+ghost use Rattle.vt_vectors.specs.Vectors.{AreFit};
+
 use super::Row;
 use super::parts::joined;
 
-pub(super) const ROWS: [Row; 11] = [
+/// The number of these vectors.
+pub(super) const COUNT: usize = 11;
+
+const ROWS: &[Row; COUNT] = &[
     Row {
         name: "modes: a soft reset resets DECAWM",
         input: b"\x1b[!p",
@@ -94,3 +100,11 @@ pub(super) const ROWS: [Row; 11] = [
         ),
     },
 ];
+
+/// Returns the rows of these vectors.
+pub(super) fn rows() -> &'static [Row]
+    ensures count { length result.now ≡ COUNT }
+    ensures fit { AreFit result.now }
+{
+    ROWS
+}

@@ -1,8 +1,14 @@
 //! Plain text: writing, wrapping and scrolling.
+ghost use Rattle.std.specs.Prelude.{◌≡◌, length};
+ghost use Rattle.vt_vectors.specs.Vectors.{AreFit};
+
 use super::Row;
 use super::parts::joined;
 
-pub(super) const ROWS: [Row; 17] = [
+/// The number of these vectors.
+pub(super) const COUNT: usize = 17;
+
+const ROWS: &[Row; COUNT] = &[
     Row {
         name: "plain: nothing: the state at power-up",
         input: b"",
@@ -140,3 +146,11 @@ pub(super) const ROWS: [Row; 17] = [
         ),
     },
 ];
+
+/// Returns the rows of these vectors.
+pub(super) fn rows() -> &'static [Row]
+    ensures count { length result.now ≡ COUNT }
+    ensures fit { AreFit result.now }
+{
+    ROWS
+}

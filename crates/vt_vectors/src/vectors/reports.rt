@@ -1,8 +1,14 @@
 //! Reports.
+ghost use Rattle.std.specs.Prelude.{◌≡◌, length};
+ghost use Rattle.vt_vectors.specs.Vectors.{AreFit};
+
 use super::Row;
 use super::parts::joined;
 
-pub(super) const ROWS: [Row; 10] = [
+/// The number of these vectors.
+pub(super) const COUNT: usize = 10;
+
+const ROWS: &[Row; COUNT] = &[
     Row {
         name: "reports: primary and secondary device attributes in the 8-bit form",
         input: b"\x1b G\x1b[c\x1b[>c",
@@ -74,3 +80,11 @@ pub(super) const ROWS: [Row; 10] = [
         repaint: Some(joined!("\x1bc\x1b[5;10r\x1b[?6h\x1b[3;9H" PLAIN SETS)),
     },
 ];
+
+/// Returns the rows of these vectors.
+pub(super) fn rows() -> &'static [Row]
+    ensures count { length result.now ≡ COUNT }
+    ensures fit { AreFit result.now }
+{
+    ROWS
+}

@@ -1,8 +1,14 @@
 //! Graphic sets and shifts.
+ghost use Rattle.std.specs.Prelude.{◌≡◌, length};
+ghost use Rattle.vt_vectors.specs.Vectors.{AreFit};
+
 use super::Row;
 use super::parts::joined;
 
-pub(super) const ROWS: [Row; 25] = [
+/// The number of these vectors.
+pub(super) const COUNT: usize = 25;
+
+const ROWS: &[Row; COUNT] = &[
     Row {
         name: "sets: the British pound sign",
         input: b"\x1b(A#",
@@ -225,3 +231,11 @@ pub(super) const ROWS: [Row; 25] = [
         ),
     },
 ];
+
+/// Returns the rows of these vectors.
+pub(super) fn rows() -> &'static [Row]
+    ensures count { length result.now ≡ COUNT }
+    ensures fit { AreFit result.now }
+{
+    ROWS
+}

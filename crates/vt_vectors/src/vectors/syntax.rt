@@ -1,8 +1,14 @@
 //! The coding of sequences: what ends them, what cuts them, and what spoils them.
+ghost use Rattle.std.specs.Prelude.{◌≡◌, length};
+ghost use Rattle.vt_vectors.specs.Vectors.{AreFit};
+
 use super::Row;
 use super::parts::joined;
 
-pub(super) const ROWS: [Row; 24] = [
+/// The number of these vectors.
+pub(super) const COUNT: usize = 24;
+
+const ROWS: &[Row; COUNT] = &[
     Row {
         name: "syntax: a control sequence with a line feed in it, which is carried out at once",
         input: b"\x1b[1\n2H",
@@ -172,3 +178,11 @@ pub(super) const ROWS: [Row; 24] = [
         repaint: Some(joined!("\x1bc" HEAD "\x1b[1;1H" PLAIN "\x1bN$A\x1b[1;3H" PLAIN SETS)),
     },
 ];
+
+/// Returns the rows of these vectors.
+pub(super) fn rows() -> &'static [Row]
+    ensures count { length result.now ≡ COUNT }
+    ensures fit { AreFit result.now }
+{
+    ROWS
+}

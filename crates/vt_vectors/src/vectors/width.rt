@@ -1,8 +1,14 @@
 //! 132 columns, the alignment display, and repaints from before there were 132 columns.
+ghost use Rattle.std.specs.Prelude.{◌≡◌, length};
+ghost use Rattle.vt_vectors.specs.Vectors.{AreFit};
+
 use super::Row;
 use super::parts::joined;
 
-pub(super) const ROWS: [Row; 13] = [
+/// The number of these vectors.
+pub(super) const COUNT: usize = 13;
+
+const ROWS: &[Row; COUNT] = &[
     Row {
         name: "width: 132 columns",
         input: b"\x1b[?3h",
@@ -171,3 +177,11 @@ pub(super) const ROWS: [Row; 13] = [
         repaint: Some(joined!("\x1bc\x1b[1;80H" PLAIN SETS "\x1b7\x1b[1;1H" PLAIN SETS)),
     },
 ];
+
+/// Returns the rows of these vectors.
+pub(super) fn rows() -> &'static [Row]
+    ensures count { length result.now ≡ COUNT }
+    ensures fit { AreFit result.now }
+{
+    ROWS
+}

@@ -1,11 +1,12 @@
 use Rattle.std.proofs.Common.{◌≡◌, ◌+◌, ◌-◌, ◌≤◌, ◌<◌, take, sum_by, ap, length, ℕ, List, Bool, true, false, get_or}
-use Rattle.std.proofs.Common.{nat_le, ◌==◌, refl, Bor, arith}
+use Rattle.std.proofs.Common.{◌==◌, refl, arith}
 use Rattle.std.specs.List.{list_all, count_by}
 use Rattle.std.proofs.lemmas.List.Folds.{list_all_at}
 use Rattle.std.proofs.lemmas.List.Sums.{sum_by_more}
 use Rattle.std.proofs.Math.Seq.{take_all}
 use Rattle.std.proofs.lemmas.Bool.Decides.{nat_tests}
 use Rattle.vt_vectors.specs.declared.vectors.Row.{Row}
+use Rattle.vt_vectors.specs.Vectors.{AreFit, has_name, is_short, has_all_lines}
 use Rattle.vt_vectors.proofs.vectors.row_at.Goals as goal
 
 -- what is true of each is true of one
@@ -17,34 +18,18 @@ all-at p xs i d within all = go (p (get_or xs i d)) refl
     go true e = refl
     go false e = let none = list_all_at p xs i d within e in cc
 
-among : (p : Row → Bool) (subjects : List (Bor (List Row))) (k i : ℕ) (e : Bor (List Row)) (d : Row)
-    → k < length subjects → i < length (get_or subjects k e).now
-    → list_all (λ rows. list_all p rows.now) subjects ≡ true → p (get_or (get_or subjects k e).now i d) ≡ true
-among p subjects k i e d there within all =
-    all-at p (get_or subjects k e).now i d within (all-at (λ rows. list_all p rows.now) subjects k e there all)
-
-short-among : (subjects : List (Bor (List Row))) (k i : ℕ) (e : Bor (List Row)) (d : Row) → k < length subjects
-    → i < length (get_or subjects k e).now
-    → list_all (λ rows. list_all (λ row. nat_le (length row.input.now) 200) rows.now) subjects ≡ true
-    → length (get_or (get_or subjects k e).now i d).input.now ≤ 200
-short-among subjects k i e d there within all =
-    let fits = among (λ row. nat_le (length row.input.now) 200) subjects k i e d there within all in
+-- what a row of a subject has
+named-at : (rows : List Row) (i : ℕ) (d : Row) → i < length rows → AreFit rows → 1 ≤ length (get_or rows i d).name.now
+named-at rows i d within fit = let has = all-at (λ row. has_name row) rows i d within fit.named in
     grind (arith, nat_tests)
 
-lines-among : (subjects : List (Bor (List Row))) (k i : ℕ) (e : Bor (List Row)) (d : Row) → k < length subjects
-    → i < length (get_or subjects k e).now
-    → list_all (λ rows. list_all (λ row. count_by (λ b. b == 0x0A) row.text.now == 24) rows.now) subjects ≡ true
-    → count_by (λ b. b == 0x0A) (get_or (get_or subjects k e).now i d).text.now ≡ 24
-lines-among subjects k i e d there within all =
-    let fits = among (λ row. count_by (λ b. b == 0x0A) row.text.now == 24) subjects k i e d there within all in
+short-at : (rows : List Row) (i : ℕ) (d : Row) → i < length rows → AreFit rows → length (get_or rows i d).input.now ≤ 200
+short-at rows i d within fit = let has = all-at (λ row. is_short row) rows i d within fit.short in
     grind (arith, nat_tests)
 
-named-among : (subjects : List (Bor (List Row))) (k i : ℕ) (e : Bor (List Row)) (d : Row) → k < length subjects
-    → i < length (get_or subjects k e).now
-    → list_all (λ rows. list_all (λ row. nat_le 1 (length row.name.now)) rows.now) subjects ≡ true
-    → 1 ≤ length (get_or (get_or subjects k e).now i d).name.now
-named-among subjects k i e d there within all =
-    let has = among (λ row. nat_le 1 (length row.name.now)) subjects k i e d there within all in
+lines-at : (rows : List Row) (i : ℕ) (d : Row) → i < length rows → AreFit rows
+    → count_by (λ b. b == 0x0A) (get_or rows i d).text.now ≡ 24
+lines-at rows i d within fit = let has = all-at (λ row. has_all_lines row) rows i d within fit.lines in
     grind (arith, nat_tests)
 
 -- one subject more is passed
@@ -65,9 +50,7 @@ pub loop-rows-preserved : goal.loop-rows-preserved
 loop-rows-preserved c = record {
   all = c.loop-rows.invariant.all;
   passed = passed-more _ _ _ _ _ _ c.loop-rows-test.true c.loop-rows.invariant.passed c.if-left-rows.false;
-  named = c.loop-rows.invariant.named;
-  short = c.loop-rows.invariant.short;
-  lines = c.loop-rows.invariant.lines;
+  fit = c.loop-rows.invariant.fit;
 }
 
 pub unreachable-requires : goal.unreachable-requires
@@ -76,21 +59,12 @@ unreachable-requires c =
 
 pub returns-then-left-rows-clause-named : goal.returns-then-left-rows-clause-named
 returns-then-left-rows-clause-named c =
-    let there = c.loop-rows-test.true in
-    let within = c.if-left-rows.true in
-    let named = c.loop-rows.invariant.named in
-    search (named-among, there, within, named)
+    named-at _ _ _ c.if-left-rows.true (c.loop-rows.invariant.fit _ _ c.loop-rows-test.true)
 
 pub returns-then-left-rows-clause-short : goal.returns-then-left-rows-clause-short
 returns-then-left-rows-clause-short c =
-    let there = c.loop-rows-test.true in
-    let within = c.if-left-rows.true in
-    let short = c.loop-rows.invariant.short in
-    search (short-among, there, within, short)
+    short-at _ _ _ c.if-left-rows.true (c.loop-rows.invariant.fit _ _ c.loop-rows-test.true)
 
 pub returns-then-left-rows-clause-lines : goal.returns-then-left-rows-clause-lines
 returns-then-left-rows-clause-lines c =
-    let there = c.loop-rows-test.true in
-    let within = c.if-left-rows.true in
-    let lines = c.loop-rows.invariant.lines in
-    search (lines-among, there, within, lines)
+    lines-at _ _ _ c.if-left-rows.true (c.loop-rows.invariant.fit _ _ c.loop-rows-test.true)

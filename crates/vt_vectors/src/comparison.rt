@@ -31,6 +31,14 @@ pub fn check(alloc: Global, v: &Vector<'_>) -> Result<(), Mismatch>
     bench.check(v)
 }
 
+/// Returns an empty buffer with capacity for the reports of `longest` bytes. Returns `Err` if allocation fails.
+fn reports_for(alloc: Global, longest: usize) -> Result<Vec<u8>, AllocError>
+    ensures { IfOk result (λ reports. 10 * longest ≤ vec_capacity reports) }
+{
+    let room = longest.checked_mul(REPORT_LIMIT).ok_or(AllocError)?;
+    Vec::with_capacity(alloc, room)
+}
+
 /// A terminal, and buffers for what it gives.
 #[derive(Drop)]
 struct Bench {
@@ -50,16 +58,16 @@ impl Bench {
         ensures room { IfOk result (λ b. 10 * longest ≤ vec_capacity b.reports) }
     {
         soundness();
-        let terminal = Terminal::new(alloc)?;
         let mut power_up = Vec::with_capacity(alloc, PAINT_LIMIT)?;
+        let output = Vec::with_capacity(alloc, PAINT_LIMIT)?;
+        let terminal = Terminal::new(alloc)?;
         repaint_reserved(&terminal, &mut power_up);
-        let longest = longest.max(power_up.len());
-        let room = longest.checked_mul(REPORT_LIMIT).ok_or(AllocError)?;
+        let reports = reports_for(alloc, longest.max(power_up.len()))?;
         Ok(Bench {
             terminal,
             power_up,
-            reports: Vec::with_capacity(alloc, room)?,
-            output: Vec::with_capacity(alloc, PAINT_LIMIT)?,
+            reports,
+            output,
         })
     }
 

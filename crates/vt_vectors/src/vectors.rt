@@ -66,20 +66,27 @@ fn row_at(i: usize) -> Row
     ensures short { length result.input.now ≤ 200 }
     ensures lines { count_by (λ b. b == 0x0A) result.text.now ≡ 24 }
 {
-    let subjects = [
+    let tables = [
         plain::rows(),
-        syntax::rows(),
+        syntax::first_rows(),
+        syntax::second_rows(),
         held::rows(),
-        sets::rows(),
+        sets::first_rows(),
+        sets::second_rows(),
         attributes::rows(),
-        editing::rows(),
-        cursor::rows(),
+        editing::first_rows(),
+        editing::second_rows(),
+        cursor::first_rows(),
+        cursor::second_rows(),
+        cursor::third_rows(),
         modes::rows(),
         reports::rows(),
-        width::rows(),
+        width::first_rows(),
+        width::second_rows(),
+        width::third_rows(),
     ];
     let mut left = i;
-    for rows in subjects {
+    for rows in tables {
         if left < rows.len() {
             return rows[left];
         }

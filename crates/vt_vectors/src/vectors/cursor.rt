@@ -1,14 +1,25 @@
 //! Moving the cursor: margins, origin mode, tab stops, and what is saved.
+//!
+//! There are three tables, since one table of all rows costs the prover far more.
 ghost use Rattle.std.specs.Prelude.{◌≡◌, length};
 ghost use Rattle.vt_vectors.specs.Vectors.{AreFit};
 
 use super::Row;
 use super::parts::joined;
 
-/// The number of these vectors.
-pub(super) const COUNT: usize = 31;
+/// The number of rows of the first table.
+const FIRST: usize = 11;
 
-const ROWS: &[Row; COUNT] = &[
+/// The number of rows of the second table.
+const SECOND: usize = 10;
+
+/// The number of rows of the third table.
+const THIRD: usize = 10;
+
+/// The number of these vectors.
+pub(super) const COUNT: usize = FIRST + SECOND + THIRD;
+
+const FIRST_ROWS: &[Row; FIRST] = &[
     Row {
         name: "cursor: under origin mode the cursor stays inside the margins, and its report counts from them",
         input: b"\x1b[5;10r\x1b[?6h\x1b[99;99H\x1b[6n",
@@ -101,6 +112,9 @@ const ROWS: &[Row; COUNT] = &[
         reports: b"",
         repaint: Some(joined!("\x1bc" HEAD "\x1b[2;1H" PLAIN "A\x1b[1;1H" PLAIN SETS)),
     },
+];
+
+const SECOND_ROWS: &[Row; SECOND] = &[
     Row {
         name: "cursor: a tab goes to a stop that was set",
         input: b"\x1b[5C\x1bH\r\t",
@@ -181,6 +195,9 @@ const ROWS: &[Row; COUNT] = &[
         reports: b"",
         repaint: Some(joined!("\x1bc" HEAD "\x1b[10;1H" PLAIN "X\x1b[5;10r\x1b[10;2H" PLAIN SETS)),
     },
+];
+
+const THIRD_ROWS: &[Row; THIRD] = &[
     Row {
         name: "cursor: a tab resets the wrap flag",
         input: b"xxxxxxxxxxxxxxxxxxxxxxxxxxxxxxxxxxxxxxxxxxxxxxxxxxxxxxxxxxxxxxxxxxxxxxxxxxxxxxxx\tY",
@@ -265,10 +282,26 @@ const ROWS: &[Row; COUNT] = &[
     },
 ];
 
-/// Returns the rows of these vectors.
-pub(super) fn rows() -> &'static [Row]
-    ensures count { length result.now ≡ COUNT }
+/// Returns the rows of the first table.
+pub(super) fn first_rows() -> &'static [Row]
+    ensures count { length result.now ≡ FIRST }
     ensures fit { AreFit result.now }
 {
-    ROWS
+    FIRST_ROWS
+}
+
+/// Returns the rows of the second table.
+pub(super) fn second_rows() -> &'static [Row]
+    ensures count { length result.now ≡ SECOND }
+    ensures fit { AreFit result.now }
+{
+    SECOND_ROWS
+}
+
+/// Returns the rows of the third table.
+pub(super) fn third_rows() -> &'static [Row]
+    ensures count { length result.now ≡ THIRD }
+    ensures fit { AreFit result.now }
+{
+    THIRD_ROWS
 }

@@ -1,14 +1,22 @@
 //! Erasing, inserting and deleting.
+//!
+//! There are two tables, since one table of all rows costs the prover far more.
 ghost use Rattle.std.specs.Prelude.{◌≡◌, length};
 ghost use Rattle.vt_vectors.specs.Vectors.{AreFit};
 
 use super::Row;
 use super::parts::joined;
 
-/// The number of these vectors.
-pub(super) const COUNT: usize = 24;
+/// The number of rows of the first table.
+const FIRST: usize = 12;
 
-const ROWS: &[Row; COUNT] = &[
+/// The number of rows of the second table.
+const SECOND: usize = 12;
+
+/// The number of these vectors.
+pub(super) const COUNT: usize = FIRST + SECOND;
+
+const FIRST_ROWS: &[Row; FIRST] = &[
     Row {
         name: "editing: a cell is erased",
         input: b"ABC\x1b[1;2H\x1b[X",
@@ -113,6 +121,9 @@ const ROWS: &[Row; COUNT] = &[
             "C\x1b[2;3r\x1b[4;1H" PLAIN SETS
         )),
     },
+];
+
+const SECOND_ROWS: &[Row; SECOND] = &[
     Row {
         name: "editing: a line inserted outside the margins resets the wrap flag",
         input: b"\x1b[2;3rxxxxxxxxxxxxxxxxxxxxxxxxxxxxxxxxxxxxxxxxxxxxxxxxxxxxxxxxxxxxxxxxxxxxxxxxxxxxxxxx\x1b[L",
@@ -215,10 +226,18 @@ const ROWS: &[Row; COUNT] = &[
     },
 ];
 
-/// Returns the rows of these vectors.
-pub(super) fn rows() -> &'static [Row]
-    ensures count { length result.now ≡ COUNT }
+/// Returns the rows of the first table.
+pub(super) fn first_rows() -> &'static [Row]
+    ensures count { length result.now ≡ FIRST }
     ensures fit { AreFit result.now }
 {
-    ROWS
+    FIRST_ROWS
+}
+
+/// Returns the rows of the second table.
+pub(super) fn second_rows() -> &'static [Row]
+    ensures count { length result.now ≡ SECOND }
+    ensures fit { AreFit result.now }
+{
+    SECOND_ROWS
 }

@@ -1,14 +1,22 @@
 //! Graphic sets and shifts.
+//!
+//! There are two tables, since one table of all rows costs the prover far more.
 ghost use Rattle.std.specs.Prelude.{◌≡◌, length};
 ghost use Rattle.vt_vectors.specs.Vectors.{AreFit};
 
 use super::Row;
 use super::parts::joined;
 
-/// The number of these vectors.
-pub(super) const COUNT: usize = 25;
+/// The number of rows of the first table.
+const FIRST: usize = 13;
 
-const ROWS: &[Row; COUNT] = &[
+/// The number of rows of the second table.
+const SECOND: usize = 12;
+
+/// The number of these vectors.
+pub(super) const COUNT: usize = FIRST + SECOND;
+
+const FIRST_ROWS: &[Row; FIRST] = &[
     Row {
         name: "sets: the British pound sign",
         input: b"\x1b(A#",
@@ -124,6 +132,9 @@ const ROWS: &[Row; COUNT] = &[
             SETS
         )),
     },
+];
+
+const SECOND_ROWS: &[Row; SECOND] = &[
     Row {
         name: "sets: places of the Supplemental set that are undefined",
         input: b"\xa4\xfe",
@@ -232,10 +243,18 @@ const ROWS: &[Row; COUNT] = &[
     },
 ];
 
-/// Returns the rows of these vectors.
-pub(super) fn rows() -> &'static [Row]
-    ensures count { length result.now ≡ COUNT }
+/// Returns the rows of the first table.
+pub(super) fn first_rows() -> &'static [Row]
+    ensures count { length result.now ≡ FIRST }
     ensures fit { AreFit result.now }
 {
-    ROWS
+    FIRST_ROWS
+}
+
+/// Returns the rows of the second table.
+pub(super) fn second_rows() -> &'static [Row]
+    ensures count { length result.now ≡ SECOND }
+    ensures fit { AreFit result.now }
+{
+    SECOND_ROWS
 }

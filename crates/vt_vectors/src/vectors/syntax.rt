@@ -1,14 +1,22 @@
 //! The coding of sequences: what ends them, what cuts them, and what spoils them.
+//!
+//! There are two tables, since one table of all rows costs the prover far more.
 ghost use Rattle.std.specs.Prelude.{◌≡◌, length};
 ghost use Rattle.vt_vectors.specs.Vectors.{AreFit};
 
 use super::Row;
 use super::parts::joined;
 
-/// The number of these vectors.
-pub(super) const COUNT: usize = 24;
+/// The number of rows of the first table.
+const FIRST: usize = 12;
 
-const ROWS: &[Row; COUNT] = &[
+/// The number of rows of the second table.
+const SECOND: usize = 12;
+
+/// The number of these vectors.
+pub(super) const COUNT: usize = FIRST + SECOND;
+
+const FIRST_ROWS: &[Row; FIRST] = &[
     Row {
         name: "syntax: a control sequence with a line feed in it, which is carried out at once",
         input: b"\x1b[1\n2H",
@@ -93,6 +101,9 @@ const ROWS: &[Row; COUNT] = &[
         reports: b"",
         repaint: Some(joined!("\x1bc" HEAD "\x1b[1;1H" PLAIN "\x1bNiB\x1b[1;3H" PLAIN SETS)),
     },
+];
+
+const SECOND_ROWS: &[Row; SECOND] = &[
     Row {
         name: "syntax: an 8-bit CSI cuts a sequence with a value, and the second has its own",
         input: b"\x9b5\x9b2H",
@@ -179,10 +190,18 @@ const ROWS: &[Row; COUNT] = &[
     },
 ];
 
-/// Returns the rows of these vectors.
-pub(super) fn rows() -> &'static [Row]
-    ensures count { length result.now ≡ COUNT }
+/// Returns the rows of the first table.
+pub(super) fn first_rows() -> &'static [Row]
+    ensures count { length result.now ≡ FIRST }
     ensures fit { AreFit result.now }
 {
-    ROWS
+    FIRST_ROWS
+}
+
+/// Returns the rows of the second table.
+pub(super) fn second_rows() -> &'static [Row]
+    ensures count { length result.now ≡ SECOND }
+    ensures fit { AreFit result.now }
+{
+    SECOND_ROWS
 }

@@ -1,14 +1,25 @@
 //! 132 columns, the alignment display, and repaints from before there were 132 columns.
+//!
+//! There are three tables, since one table of all rows costs the prover far more.
 ghost use Rattle.std.specs.Prelude.{◌≡◌, length};
 ghost use Rattle.vt_vectors.specs.Vectors.{AreFit};
 
 use super::Row;
 use super::parts::joined;
 
-/// The number of these vectors.
-pub(super) const COUNT: usize = 13;
+/// The number of rows of the first table.
+const FIRST: usize = 6;
 
-const ROWS: &[Row; COUNT] = &[
+/// The number of rows of the second table.
+const SECOND: usize = 2;
+
+/// The number of rows of the third table.
+const THIRD: usize = 5;
+
+/// The number of these vectors.
+pub(super) const COUNT: usize = FIRST + SECOND + THIRD;
+
+const FIRST_ROWS: &[Row; FIRST] = &[
     Row {
         name: "width: 132 columns",
         input: b"\x1b[?3h",
@@ -56,6 +67,9 @@ const ROWS: &[Row; COUNT] = &[
             joined!("\x1bc\x1b[?3h" HEAD "\x1b[1;1H" PLAIN "A\x1b[1;2H" PLAIN SETS "\x1b[?7l"),
         ),
     },
+];
+
+const SECOND_ROWS: &[Row; SECOND] = &[
     Row {
         name: "width: the alignment display at 80 columns",
         input: b"\x1b#8",
@@ -136,6 +150,9 @@ const ROWS: &[Row; COUNT] = &[
             "\x1b[1;1H" PLAIN SETS
         )),
     },
+];
+
+const THIRD_ROWS: &[Row; THIRD] = &[
     Row {
         name: "width: a repaint of the time of 80 columns alone, played: the one stop stays",
         input: b"\x1bc\x1b[3g\x1b[1;5H\x1bH\x1b[1;5H\x1b[0m\x1b[0\"q\x1b(B\x1b)B\x1b*<\x1b+<\x0f\x1b}",
@@ -178,10 +195,26 @@ const ROWS: &[Row; COUNT] = &[
     },
 ];
 
-/// Returns the rows of these vectors.
-pub(super) fn rows() -> &'static [Row]
-    ensures count { length result.now ≡ COUNT }
+/// Returns the rows of the first table.
+pub(super) fn first_rows() -> &'static [Row]
+    ensures count { length result.now ≡ FIRST }
     ensures fit { AreFit result.now }
 {
-    ROWS
+    FIRST_ROWS
+}
+
+/// Returns the rows of the second table.
+pub(super) fn second_rows() -> &'static [Row]
+    ensures count { length result.now ≡ SECOND }
+    ensures fit { AreFit result.now }
+{
+    SECOND_ROWS
+}
+
+/// Returns the rows of the third table.
+pub(super) fn third_rows() -> &'static [Row]
+    ensures count { length result.now ≡ THIRD }
+    ensures fit { AreFit result.now }
+{
+    THIRD_ROWS
 }

@@ -18,7 +18,7 @@ all-at p xs i d within all = go (p (get_or xs i d)) refl
     go true e = refl
     go false e = let none = list_all_at p xs i d within e in cc
 
--- what a row of a subject has
+-- what a row of a table has
 named-at : (rows : List Row) (i : ℕ) (d : Row) → i < length rows → AreFit rows → 1 ≤ length (get_or rows i d).name.now
 named-at rows i d within fit = let has = all-at (λ row. has_name row) rows i d within fit.named in
     grind (arith, nat_tests)
@@ -32,7 +32,7 @@ lines-at : (rows : List Row) (i : ℕ) (d : Row) → i < length rows → AreFit 
 lines-at rows i d within fit = let has = all-at (λ row. has_all_lines row) rows i d within fit.lines in
     grind (arith, nat_tests)
 
--- one subject more is passed
+-- one table more is passed
 passed-more : {X : Type 0} (f : X → ℕ) (xs : List X) (k left i : ℕ) (d : X) → k < length xs
     → sum_by f (take k xs) + left ≡ i → f (get_or xs k d) ≤ left
     → sum_by f (take (k + 1) xs) + (left - f (get_or xs k d)) ≡ i

@@ -1,7 +1,8 @@
 -- Settings and what clap matched.
 use Rattle.std.proofs.Common.{rules, ℕ, ◌≡◌, ◌∙◌, List, ap, sym, Option, Some, None, Result, Ok, Err, IfSome, IfNone, true, false}
-use Rattle.std.proofs.Common.{codes, refl, is_some, option_map, ◌<◌, ◌+◌, length, take, fold, get_or}
+use Rattle.std.proofs.Common.{codes, refl, is_some, option_map, ◌≤◌, ◌<◌, ◌+◌, length, take, fold, get_or}
 use Rattle.std.proofs.lemmas.List.Sums.{fold_more}
+use Rattle.std.proofs.Math.Seq.{take_all}
 use Rattle.std.specs.Option.{unwrap_or}
 use Rattle.std.specs.Str.Parse.{ParsesUnsigned}
 use Rattle.std.specs.Result.{result_ok}
@@ -91,3 +92,8 @@ pub row_added : {X A : Type 0} (add : A → X → A) (start now next : A) (rows 
     → next ≡ fold add start (take (k + 1) rows)
 row_added add start now next rows k row there so_far is =
     is ∙ ap (λ a. add a (get_or rows k row)) so_far ∙ sym (fold_more add start rows k row there)
+
+-- all rows are added
+pub all_added : {X A : Type 0} (add : A → X → A) (start now : A) (rows : List X) (k : ℕ) → length rows ≤ k
+    → now ≡ fold add start (take k rows) → now ≡ fold add start rows
+all_added add start now rows k past so_far = so_far ∙ ap (λ l. fold add start l) (take_all k rows past)

@@ -72,7 +72,7 @@ const SUMMARY: &str = "The names of the events, each with its count; the ignored
 const CONTENT: &str = "The host's bytes of a recording, or with --terminal xterm bytes for a VT220";
 
 /// The subcommands, each by its name and what it is for.
-const SUBCOMMANDS: [(&str, &str); 11] = [
+const SUBCOMMANDS: &[(&str, &str)] = &[
     ("text", TEXT),
     ("reports", REPORTS),
     ("repaint", REPAINT),
@@ -100,7 +100,7 @@ enum Takes<'a> {
 }
 
 /// The arguments of each subcommand, each by its name, what it takes, and its help.
-const ARGUMENTS: [(&str, Takes, &str); 9] = [
+const ARGUMENTS: &[(&str, Takes, &str)] = &[
     (
         "piece",
         Takes::Number(1, PIECE_MOST, "4096"),
@@ -219,7 +219,7 @@ fn subcommand<'a>(alloc: Global, name: &'a str, about: &'a str) -> Result<Comman
     ensures app { IfOk result (λ c. app_of c ≡ subcommand name.entry.now) }
     ensures local { IfOk result (λ c. (out-Command c).has_globals ≡ false) }
 {
-    with_arguments(alloc, name, about, &ARGUMENTS)
+    with_arguments(alloc, name, about, ARGUMENTS)
 }
 
 /// Adds subcommands, each by its name and what it is for.
@@ -252,7 +252,7 @@ fn program<'a>(alloc: Global) -> Command<'a>
 fn command<'a>(alloc: Global) -> Result<Command<'a>, AllocError>
     ensures { IfOk result (λ c. app_of c ≡ vt220) }
 {
-    with_names(alloc, program(alloc), &SUBCOMMANDS)
+    with_names(alloc, program(alloc), SUBCOMMANDS)
 }
 
 /// Returns what clap matches in the arguments.

@@ -38,13 +38,12 @@ pub(super) fn terminal(alloc: Global, input: &[u8]) -> Result<Terminal, AllocErr
     Ok(terminal)
 }
 
-/// What an update was asked for, and what it has left.
+/// What an update was asked for, and what it has left. Its methods that can fail own nothing large, so no exit has to
+/// drop it.
 #[derive(Drop)]
 pub(super) struct Asked {
     pub(super) shown: Terminal,
     pub(super) to: Terminal,
-    /// What was shown before.
-    pub(super) before: Terminal,
     pub(super) out: Vec<u8>,
 }
 
@@ -58,7 +57,6 @@ impl Asked {
         Ok(Asked {
             shown: terminal(alloc, from)?,
             to: terminal(alloc, to)?,
-            before: terminal(alloc, from)?,
             out,
         })
     }
@@ -68,9 +66,26 @@ impl Asked {
         update(&mut self.shown, &self.to, &mut self.out)
     }
 
-    pub(super) fn is_unchanged(&self) -> bool {
-        self.shown.same_state(&self.before) && self.out.as_slice() == b"ok".as_slice()
+    /// Whether what is shown is what was shown before, and the output has what it had.
+    pub(super) fn is_unchanged(&self, before: &Terminal) -> bool {
+        self.shown.same_state(before) && self.out.as_slice() == b"ok".as_slice()
     }
+
+    /// Whether an update leads there, byte by byte and cut in two, the shown terminal is then the same, and an update
+    /// after it is empty.
+    fn is_right(&mut self, alloc: Global, from: &[u8]) -> Result<bool, Failed> {
+        self.update()?;
+        Ok(
+            is_settled(alloc, &mut self.shown, &self.to)?
+                && lead_in_parts(alloc, from, &self.out, &self.to)?,
+        )
+    }
+}
+
+/// An update that was asked for, behind the bytes `ok`.
+pub(super) fn asked_behind_ok(alloc: Global, pair: &(&[u8], &[u8])) -> Result<Asked, AllocError> {
+    let out = Vec::from_slice(alloc, b"ok")?;
+    Asked::new(alloc, pair, out)
 }
 
 /// The repaint of what this input leaves.
@@ -136,16 +151,15 @@ fn is_settled(alloc: Global, shown: &mut Terminal, to: &Terminal) -> Result<bool
     Ok(is_same && sent.is_empty())
 }
 
-/// What an update sends from what one input leaves to what another does. None unless it leads there, byte by byte and
+/// What an update sends from what one input leaves to what another does. Fails unless it leads there, byte by byte and
 /// cut in two, the shown terminal is then the same, and an update after it is empty.
-pub(super) fn updated(alloc: Global, from: &[u8], to: &[u8]) -> Result<Option<Vec<u8>>, Failed> {
-    let mut sent = Vec::new(alloc);
-    let asked_for = terminal(alloc, to)?;
-    let mut shown = terminal(alloc, from)?;
-    update(&mut shown, &asked_for, &mut sent)?;
-    let is_right = is_settled(alloc, &mut shown, &asked_for)?
-        && lead_in_parts(alloc, from, &sent, &asked_for)?;
-    Ok(if is_right { Some(sent) } else { None })
+pub(super) fn updated(alloc: Global, from: &[u8], to: &[u8]) -> Result<Vec<u8>, Failed> {
+    let mut asked = Asked::new(alloc, &(from, to), Vec::new(alloc))?;
+    if asked.is_right(alloc, from)? {
+        Ok(asked.out)
+    } else {
+        Err(Failed)
+    }
 }
 
 /// Whether an update sends these bytes.
@@ -155,10 +169,7 @@ pub(super) fn sends(
     to: &[u8],
     expected: &[u8],
 ) -> Result<bool, Failed> {
-    Ok(match updated(alloc, from, to)? {
-        Some(sent) => sent.as_slice() == expected,
-        None => false,
-    })
+    Ok(updated(alloc, from, to)?.as_slice() == expected)
 }
 
 /// Whether an update sends fewer bytes than this.
@@ -168,8 +179,5 @@ pub(super) fn sends_fewer(
     to: &[u8],
     than: usize,
 ) -> Result<bool, Failed> {
-    Ok(match updated(alloc, from, to)? {
-        Some(sent) => sent.len() < than,
-        None => false,
-    })
+    Ok(updated(alloc, from, to)?.len() < than)
 }

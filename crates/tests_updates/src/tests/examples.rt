@@ -1,8 +1,9 @@
 //! Worked examples. The bytes follow from the rule where nothing shorter does the same.
 use super::common::{
-    Asked, Failed, holds, holds_at, lead, repainted, sends, sends_fewer, terminal,
+    Failed, asked_behind_ok, holds, holds_at, lead, repainted, sends, sends_fewer, terminal,
 };
 use std::alloc::Global;
+use vt_term::Terminal;
 use vt_update::laws::leading;
 use vt_update::{UpdateError, update};
 
@@ -218,18 +219,29 @@ const FIRST: &[u8] = b"\x1b[4mfirst\x1b7\r\n";
 
 const LATER: &[u8] = b"\x1b[4mfirst\x1b7\r\nsecond\x1b8";
 
+/// Appends the update from what an input leaves to a state.
+fn push_update(
+    alloc: Global,
+    from: &[u8],
+    to: &Terminal,
+    sent: &mut Vec<u8>,
+) -> Result<(), Failed> {
+    let mut shown = terminal(alloc, from)?;
+    update(&mut shown, to, sent)?;
+    Ok(())
+}
+
 /// A repaint of the first state, and the update from it to the later one.
-fn sent_to_a_late_client(alloc: Global) -> Result<Vec<u8>, Failed> {
+fn sent_to_a_late_client(alloc: Global, later: &Terminal) -> Result<Vec<u8>, Failed> {
     let mut sent = repainted(alloc, FIRST)?;
-    let mut shown = terminal(alloc, FIRST)?;
-    update(&mut shown, &terminal(alloc, LATER)?, &mut sent)?;
+    push_update(alloc, FIRST, later, &mut sent)?;
     Ok(sent)
 }
 
 /// Whether these lead a client that shows something else.
 fn a_late_client_is_led(alloc: Global) -> Result<bool, Failed> {
-    let sent = sent_to_a_late_client(alloc)?;
     let later = terminal(alloc, LATER)?;
+    let sent = sent_to_a_late_client(alloc, &later)?;
     lead(alloc, b"\x1b[?3hother\x1b[2;7r", &sent, 4096, &later)
 }
 
@@ -240,8 +252,9 @@ fn a_client_that_joins_late_is_led_too(rt: HostRuntime) {
 
 /// Whether an update inside a sequence is refused, and leaves all as it was.
 fn is_partial(alloc: Global, pair: &(&[u8], &[u8])) -> Result<bool, Failed> {
-    let mut asked = Asked::new(alloc, pair, Vec::from_slice(alloc, b"ok")?)?;
-    Ok(asked.update() == Err(UpdateError::Partial) && asked.is_unchanged())
+    let before = terminal(alloc, pair.0)?;
+    let mut asked = asked_behind_ok(alloc, pair)?;
+    Ok(asked.update() == Err(UpdateError::Partial) && asked.is_unchanged(&before))
 }
 
 const PARTIAL: [(&[u8], &[u8]); 3] = [(b"A\x1b[", b"A"), (b"A", b"A\x1b["), (b"A\x1b[", b"A\x1b[")];

@@ -17,12 +17,9 @@ fn many_cells(alloc: Global) -> Result<Vec<u8>, Failed> {
 /// Whether an update sends more than the choice's room has, and no more than 28 bytes for each of these cells and 230,
 /// behind a soft reset.
 fn sends_the_marked_cells(alloc: Global) -> Result<bool, Failed> {
-    Ok(match updated(alloc, b"\x1b[?3h", &many_cells(alloc)?)? {
-        Some(sent) => {
-            sent.starts_with(b"\x1b[0!p") && sent.len() > 16384 && sent.len() <= 28 * 1200 + 230
-        }
-        None => false,
-    })
+    let cells = many_cells(alloc)?;
+    let sent = updated(alloc, b"\x1b[?3h", &cells)?;
+    Ok(sent.starts_with(b"\x1b[0!p") && sent.len() > 16384 && sent.len() <= 28 * 1200 + 230)
 }
 
 /// Some 14 bytes would be chosen for each cell, more than 16384 in all: so the cells that differ are sent behind a soft
@@ -36,8 +33,7 @@ fn sends_the_marked_cells_where_the_choice_passes_its_room(rt: HostRuntime) {
 fn sends_the_same_behind_others(alloc: Global) -> Result<bool, Failed> {
     let others = vec![in alloc; b'x'; 20000]?;
     let mut asked = Asked::new(alloc, &(b"", b"A"), others)?;
-    asked.update()?;
-    Ok(asked.out.len() == 20001 && asked.out.ends_with(b"xA"))
+    Ok(asked.update() == Ok(()) && asked.out.len() == 20001 && asked.out.ends_with(b"xA"))
 }
 
 #[test]

@@ -1,7 +1,8 @@
 //! Each growth refused; and with room no memory is asked for.
-use super::common::{Asked, Failed, holds_at, sends, terminal, updated};
+use super::common::{Asked, Failed, asked_behind_ok, holds_at, sends, terminal, updated};
 use super::scarce::{BLOCKS, Scarce};
-use std::alloc::Global;
+use std::alloc::{AllocError, Global};
+use vt_term::Terminal;
 use vt_update::{UPDATE_LIMIT, UpdateError, update, update_reserved};
 
 /// What is shown, and what is asked for: one letter, and what only a repaint does.
@@ -13,7 +14,7 @@ const PAIRS: [(&[u8], &[u8]); 3] = [
 
 /// How often an update was refused, and how often that has changed something, until it had its memory: one growth more
 /// is granted each time.
-fn refusals(alloc: Global, asked: &mut Asked) -> Result<(u32, u32), Failed> {
+fn refusals(alloc: Global, before: &Terminal, asked: &mut Asked) -> Result<(u32, u32), AllocError> {
     let mut scarce = Scarce::new(alloc)?;
     let mut refused = 0u32;
     let mut changed = 0u32;
@@ -22,7 +23,7 @@ fn refusals(alloc: Global, asked: &mut Asked) -> Result<(u32, u32), Failed> {
             break;
         }
         refused = refused.saturating_add(1);
-        if !asked.is_unchanged() {
+        if !asked.is_unchanged(before) {
             changed = changed.saturating_add(1);
         }
         scarce.relent();
@@ -31,25 +32,36 @@ fn refusals(alloc: Global, asked: &mut Asked) -> Result<(u32, u32), Failed> {
 }
 
 /// Whether an output has what was expected behind what stood there.
-fn is_behind_ok(out: &[u8], expected: &Option<Vec<u8>>) -> bool {
-    out.get(..2) == Some(b"ok".as_slice())
-        && match expected {
-            Some(sent) => out.get(2..) == Some(sent.as_slice()),
-            None => false,
-        }
+fn is_behind_ok(out: &[u8], expected: &[u8]) -> bool {
+    out.get(..2) == Some(b"ok".as_slice()) && out.get(2..) == Some(expected)
+}
+
+/// Whether an update is refused, also more than once, and no refusal changes anything.
+fn is_only_refused(alloc: Global, before: &Terminal, asked: &mut Asked) -> Result<bool, Failed> {
+    let (refused, changed) = refusals(alloc, before, asked)?;
+    Ok(refused > 0 && changed == 0)
+}
+
+/// Whether it is then made as if it never had been refused.
+fn is_made(alloc: Global, pair: &(&[u8], &[u8]), asked: &Asked) -> Result<bool, Failed> {
+    let expected = updated(alloc, pair.0, pair.1)?;
+    Ok(asked.shown.same_state(&asked.to) && is_behind_ok(&asked.out, &expected))
+}
+
+/// Whether both hold of an update from what was shown before.
+fn is_refused_and_made(
+    alloc: Global,
+    before: &Terminal,
+    pair: &(&[u8], &[u8]),
+) -> Result<bool, Failed> {
+    let mut asked = asked_behind_ok(alloc, pair)?;
+    Ok(is_only_refused(alloc, before, &mut asked)? && is_made(alloc, pair, &asked)?)
 }
 
 /// Whether an update that was refused, also more than once, is then made as if it never had been.
 fn is_refused(alloc: Global, pair: &(&[u8], &[u8])) -> Result<bool, Failed> {
-    let mut asked = Asked::new(alloc, pair, Vec::from_slice(alloc, b"ok")?)?;
-    let (refused, changed) = refusals(alloc, &mut asked)?;
-    let expected = updated(alloc, pair.0, pair.1)?;
-    Ok(
-        refused > 0
-            && changed == 0
-            && asked.shown.same_state(&asked.to)
-            && is_behind_ok(&asked.out, &expected),
-    )
+    let before = terminal(alloc, pair.0)?;
+    is_refused_and_made(alloc, &before, pair)
 }
 
 #[test]
@@ -59,26 +71,52 @@ fn each_growth_is_refused(rt: HostRuntime) {
     }
 }
 
-/// Whether an update with room asks for no memory, and leads there.
-fn takes_no_memory(alloc: Global, pair: &(&[u8], &[u8])) -> Result<bool, Failed> {
-    let mut asked = Asked::new(alloc, pair, Vec::with_capacity(alloc, UPDATE_LIMIT)?)?;
+/// Whether an update is made while there is no memory.
+fn is_made_without_memory(alloc: Global, asked: &mut Asked) -> Result<bool, Failed> {
     let scarce = Scarce::new(alloc)?;
     let answered = asked.update();
     drop(scarce);
     Ok(answered == Ok(()) && asked.shown.same_state(&asked.to))
 }
 
+/// Whether an update with room asks for no memory, and leads there.
+fn takes_no_memory(alloc: Global, pair: &(&[u8], &[u8])) -> Result<bool, Failed> {
+    let out = Vec::with_capacity(alloc, UPDATE_LIMIT)?;
+    let mut asked = Asked::new(alloc, pair, out)?;
+    is_made_without_memory(alloc, &mut asked)
+}
+
+/// What an update that can't be refused sends while there is no memory.
+fn reserved_update(
+    alloc: Global,
+    shown: &mut Terminal,
+    to: &Terminal,
+) -> Result<Vec<u8>, AllocError> {
+    let mut out = Vec::with_capacity(alloc, UPDATE_LIMIT)?;
+    let scarce = Scarce::new(alloc)?;
+    if shown.is_between() && to.is_between() {
+        update_reserved(shown, to, &mut out);
+    }
+    drop(scarce);
+    Ok(out)
+}
+
+/// Whether that leads from what is shown to what is asked for, and is what an update sends.
+fn leads_reserved(
+    alloc: Global,
+    shown: &mut Terminal,
+    to: &Terminal,
+    pair: &(&[u8], &[u8]),
+) -> Result<bool, Failed> {
+    let sent = reserved_update(alloc, shown, to)?;
+    Ok(shown.same_state(to) && sends(alloc, pair.0, pair.1, &sent)?)
+}
+
 /// Whether one that can't be refused asks for none either, and leads there.
 fn reserved_takes_no_memory(alloc: Global, pair: &(&[u8], &[u8])) -> Result<bool, Failed> {
     let mut shown = terminal(alloc, pair.0)?;
     let to = terminal(alloc, pair.1)?;
-    let mut out = Vec::with_capacity(alloc, UPDATE_LIMIT)?;
-    let scarce = Scarce::new(alloc)?;
-    if shown.is_between() && to.is_between() {
-        update_reserved(&mut shown, &to, &mut out);
-    }
-    drop(scarce);
-    Ok(shown.same_state(&to) && sends(alloc, pair.0, pair.1, &out)?)
+    leads_reserved(alloc, &mut shown, &to, pair)
 }
 
 #[test]

@@ -8,22 +8,28 @@ use vt_update::{UpdateError, update};
 use vt_vectors::{vector, vector_count};
 
 /// Whether an update leads from what an input leaves to a state, the shown terminal and another one, and sends nothing
-/// just where the two are the same; inside a sequence, whether it is refused.
-fn is_led(alloc: Global, from: &[u8], to: &Terminal) -> Result<bool, Failed> {
+/// just where the two are the same.
+fn leads(alloc: Global, from: &[u8], shown: &mut Terminal, to: &Terminal) -> Result<bool, Failed> {
     let mut sent = Vec::new(alloc);
-    let mut shown = terminal(alloc, from)?;
     let equal = shown.same_state(to);
-    let between = shown.is_between() && to.is_between();
-    let answered = update(&mut shown, to, &mut sent);
-    if !between {
-        return Ok(answered == Err(UpdateError::Partial));
+    update(shown, to, &mut sent)?;
+    Ok(sent.is_empty() == equal && shown.same_state(to) && lead(alloc, from, &sent, 7, to)?)
+}
+
+/// Whether an update inside a sequence is refused.
+fn is_partial(alloc: Global, shown: &mut Terminal, to: &Terminal) -> bool {
+    let mut sent = Vec::new(alloc);
+    update(shown, to, &mut sent) == Err(UpdateError::Partial)
+}
+
+/// Whether an update does so between sequences, and is refused inside one.
+fn is_led(alloc: Global, from: &[u8], to: &Terminal) -> Result<bool, Failed> {
+    let mut shown = terminal(alloc, from)?;
+    if shown.is_between() && to.is_between() {
+        leads(alloc, from, &mut shown, to)
+    } else {
+        Ok(is_partial(alloc, &mut shown, to))
     }
-    Ok(
-        answered == Ok(())
-            && sent.is_empty() == equal
-            && shown.same_state(to)
-            && lead(alloc, from, &sent, 7, to)?,
-    )
 }
 
 /// Asserts that the state of each vector is led to this one.

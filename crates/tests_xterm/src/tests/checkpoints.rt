@@ -51,12 +51,17 @@ fn fronts_agree(one: &Front, two: &Front) -> bool {
         && two.pending().is_empty()
 }
 
+/// Returns the page that a front doesn't show.
+fn other_page(alloc: Global, front: &Front) -> Result<Terminal, AllocError> {
+    let mut page = Terminal::new(alloc)?;
+    front.show_other(&mut page);
+    Ok(page)
+}
+
 /// Returns whether the pages that aren't shown are in the same state.
 fn other_pages_agree(alloc: Global, one: &Front, two: &Front) -> Result<bool, AllocError> {
-    let mut page = Terminal::new(alloc)?;
-    let mut other = Terminal::new(alloc)?;
-    one.show_other(&mut page);
-    two.show_other(&mut other);
+    let page = other_page(alloc, one)?;
+    let other = other_page(alloc, two)?;
     Ok(page.same_state(&other))
 }
 
@@ -72,6 +77,18 @@ fn push_repaint(alloc: Global, session: &Reader, bytes: &mut Vec<u8>) -> Result<
     Ok(repaint_xterm(&session.terminal, &session.front, &mut scratch, bytes).is_ok())
 }
 
+/// Returns whether bytes lead a reader to a session, and ask for no report.
+fn is_led(
+    alloc: Global,
+    reader: &mut Reader,
+    bytes: &[u8],
+    session: &Reader,
+) -> Result<bool, AllocError> {
+    let reports = reader.reports.len();
+    reader.feed(bytes, 65536)?;
+    Ok(reader.reports.len() == reports && is_same(alloc, session, reader)?)
+}
+
 /// Returns whether bytes lead from what was there before to a session, and ask for no report.
 fn lead_to(
     alloc: Global,
@@ -80,27 +97,30 @@ fn lead_to(
     session: &Reader,
 ) -> Result<bool, AllocError> {
     let mut reader = fed(alloc, before, 4096)?;
-    let reports = reader.reports.len();
-    reader.feed(bytes, 65536)?;
-    Ok(reader.reports.len() == reports && is_same(alloc, session, &reader)?)
+    is_led(alloc, &mut reader, bytes, session)
 }
 
 /// Returns whether a session's repaint leaves it, after what was there before.
-fn is_rebuilt(alloc: Global, session: &[u8], before: &[u8]) -> Result<bool, AllocError> {
+fn is_rebuilt(alloc: Global, session: &Reader, before: &[u8]) -> Result<bool, AllocError> {
     let mut bytes = Vec::new(alloc);
-    let reader = fed(alloc, session, 4096)?;
-    let is_painted = push_repaint(alloc, &reader, &mut bytes)?;
-    Ok(is_painted && lead_to(alloc, before, &bytes, &reader)?)
+    let is_painted = push_repaint(alloc, session, &mut bytes)?;
+    Ok(is_painted && lead_to(alloc, before, &bytes, session)?)
 }
 
 /// Returns whether it does after each of these.
-fn is_always_rebuilt(alloc: Global, session: &[u8]) -> Result<bool, AllocError> {
+fn is_rebuilt_after_all(alloc: Global, session: &Reader) -> Result<bool, AllocError> {
     for before in &BEFORE {
         if !is_rebuilt(alloc, session, before)? {
             return Ok(false);
         }
     }
     Ok(true)
+}
+
+/// Returns whether the session that was fed this always is.
+fn is_always_rebuilt(alloc: Global, session: &[u8]) -> Result<bool, AllocError> {
+    let session = fed(alloc, session, 4096)?;
+    is_rebuilt_after_all(alloc, &session)
 }
 
 #[test]

@@ -51,6 +51,20 @@ pub(super) fn fed(alloc: Global, input: &[u8], size: usize) -> Result<Reader, Al
     Ok(reader)
 }
 
+/// Returns whether the screen begins with this text, and the cursor is here.
+fn begins(
+    alloc: Global,
+    terminal: &Terminal,
+    text: &str,
+    place: (u16, u16),
+) -> Result<bool, AllocError> {
+    let mut screen = Vec::new(alloc);
+    terminal.text(&mut screen)?;
+    let cursor = terminal.cursor();
+    let is_there = (cursor.row as u16, cursor.col as u16) == place;
+    Ok(is_there && screen.as_slice().starts_with(text.as_bytes()))
+}
+
 /// Returns whether the screen begins with this text, if the input is fed so many bytes at a time, and the cursor is here.
 fn shows_in(
     alloc: Global,
@@ -62,11 +76,7 @@ fn shows_in(
     requires { 1 ≤ size }
 {
     let fed = fed(alloc, input, size)?;
-    let mut screen = Vec::new(alloc);
-    fed.terminal.text(&mut screen)?;
-    let cursor = fed.terminal.cursor();
-    let is_there = (cursor.row as u16, cursor.col as u16) == place;
-    Ok(is_there && screen.as_slice().starts_with(text.as_bytes()))
+    begins(alloc, &fed.terminal, text, place)
 }
 
 /// Returns whether the screen begins with this text and the cursor is here, byte by byte, by threes and all at once.

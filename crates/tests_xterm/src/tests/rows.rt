@@ -2,6 +2,7 @@
 use super::common::{fed, holds, shows};
 use std::alloc::{AllocError, Global};
 use std::process::Abort;
+use vt_xterm::Front;
 
 /// A name, what is fed, the first lines of the screen, and the cursor's row and column.
 type Row = (&'static str, &'static str, &'static str, (u16, u16));
@@ -200,16 +201,16 @@ fn edits(rt: HostRuntime) {
     all_show(&rt, rt.alloc(), &EDITS);
 }
 
+/// Returns whether a front shows the alternate page, lets DECCOLM resize, and has one byte of a character.
+fn is_as_fed(front: &Front) -> bool {
+    front.is_alternate() && front.resizes() && front.pending() == b"\xE2".as_slice()
+}
+
 /// Returns whether the reports are those of a VT220, and the front is as the input says.
 fn reports_and_front(alloc: Global) -> Result<bool, AllocError> {
     let fed = fed(alloc, b"\x1b[?1049h\x1b[c\x1b[?40h\x1b[6n\xE2", 1)?;
     let is_right = fed.reports.as_slice() == b"\x1b[?62;1;6c\x1b[1;1R".as_slice();
-    Ok(
-        is_right
-            && fed.front.is_alternate()
-            && fed.front.resizes()
-            && fed.front.pending() == b"\xE2".as_slice(),
-    )
+    Ok(is_right && is_as_fed(&fed.front))
 }
 
 #[test]

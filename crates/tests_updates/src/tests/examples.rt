@@ -1,6 +1,6 @@
 //! Worked examples. The bytes follow from the rule where nothing shorter does the same.
 use super::common::{
-    Failed, asked_behind_ok, holds, holds_at, lead, repainted, sends, sends_fewer, terminal,
+    Asked, Failed, asked_behind_ok, holds, holds_at, lead, repainted, sends, sends_fewer, terminal,
 };
 use std::alloc::Global;
 use vt_term::Terminal;
@@ -250,11 +250,16 @@ fn a_client_that_joins_late_is_led_too(rt: HostRuntime) {
     holds(&rt, "a late client", a_late_client_is_led(rt.alloc()));
 }
 
+/// Whether an update is refused inside a sequence, and leaves what was there before.
+fn leaves_all(before: &Terminal, asked: &mut Asked) -> bool {
+    asked.update() == Err(UpdateError::Partial) && asked.is_unchanged(before)
+}
+
 /// Whether an update inside a sequence is refused, and leaves all as it was.
 fn is_partial(alloc: Global, pair: &(&[u8], &[u8])) -> Result<bool, Failed> {
     let before = terminal(alloc, pair.0)?;
     let mut asked = asked_behind_ok(alloc, pair)?;
-    Ok(asked.update() == Err(UpdateError::Partial) && asked.is_unchanged(&before))
+    Ok(leaves_all(&before, &mut asked))
 }
 
 const PARTIAL: [(&[u8], &[u8]); 3] = [(b"A\x1b[", b"A"), (b"A", b"A\x1b["), (b"A\x1b[", b"A\x1b[")];

@@ -29,11 +29,16 @@ fn sends_the_marked_cells_where_the_choice_passes_its_room(rt: HostRuntime) {
     holds(&rt, "many cells", sends_the_marked_cells(rt.alloc()));
 }
 
+/// Whether an update appends a letter to 20000 bytes.
+fn appends_a_letter(asked: &mut Asked) -> bool {
+    asked.update() == Ok(()) && asked.out.len() == 20001 && asked.out.ends_with(b"xA")
+}
+
 /// Whether an update sends the same behind many bytes that the output holds: a letter, and no more.
 fn sends_the_same_behind_others(alloc: Global) -> Result<bool, Failed> {
     let others = vec![in alloc; b'x'; 20000]?;
     let mut asked = Asked::new(alloc, &(b"", b"A"), others)?;
-    Ok(asked.update() == Ok(()) && asked.out.len() == 20001 && asked.out.ends_with(b"xA"))
+    Ok(appends_a_letter(&mut asked))
 }
 
 #[test]

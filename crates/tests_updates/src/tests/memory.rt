@@ -53,15 +53,16 @@ fn is_refused_and_made(
     alloc: Global,
     before: &Terminal,
     pair: &(&[u8], &[u8]),
+    asked: &mut Asked,
 ) -> Result<bool, Failed> {
-    let mut asked = asked_behind_ok(alloc, pair)?;
-    Ok(is_only_refused(alloc, before, &mut asked)? && is_made(alloc, pair, &asked)?)
+    Ok(is_only_refused(alloc, before, asked)? && is_made(alloc, pair, asked)?)
 }
 
 /// Whether an update that was refused, also more than once, is then made as if it never had been.
 fn is_refused(alloc: Global, pair: &(&[u8], &[u8])) -> Result<bool, Failed> {
     let before = terminal(alloc, pair.0)?;
-    is_refused_and_made(alloc, &before, pair)
+    let mut asked = asked_behind_ok(alloc, pair)?;
+    is_refused_and_made(alloc, &before, pair, &mut asked)
 }
 
 #[test]

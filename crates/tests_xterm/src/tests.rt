@@ -2,5 +2,4 @@
 //! hand.
 mod attributes;
 mod checkpoints;
-mod common;
 mod rows;

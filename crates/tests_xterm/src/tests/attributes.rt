@@ -1,6 +1,7 @@
 //! Worked rows of SGR: which attributes are set.
-use super::common::{fed, holds};
+use crate::common::{fed, holds};
 use std::alloc::{AllocError, Global};
+use vt_xterm::Front;
 
 /// A name, what is fed, and whether bold, underline, blink and reverse are then set.
 type Row = (&'static str, &'static str, (bool, bool, bool, bool));
@@ -36,7 +37,7 @@ const ATTRIBUTES: [Row; 9] = [
 
 /// Returns whether these attributes are set after the input.
 fn sets(alloc: Global, input: &[u8], wanted: (bool, bool, bool, bool)) -> Result<bool, AllocError> {
-    let fed = fed(alloc, input, 1)?;
+    let fed = fed::<Front>(alloc, input, 1)?;
     let rendition = fed.terminal.brush().rendition;
     let found = (
         rendition.bold,

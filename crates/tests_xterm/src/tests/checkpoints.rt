@@ -1,5 +1,5 @@
 //! Repaints of sessions: played on another terminal and front, they leave what is seen of the first ones.
-use super::common::{Reader, fed, holds};
+use crate::common::{Reader, fed, holds};
 use std::alloc::{AllocError, Global};
 use vt_term::Terminal;
 use vt_xterm::Front;
@@ -66,13 +66,17 @@ fn other_pages_agree(alloc: Global, one: &Front, two: &Front) -> Result<bool, Al
 }
 
 /// Returns whether what is seen of two terminals and fronts is the same.
-fn is_same(alloc: Global, one: &Reader, two: &Reader) -> Result<bool, AllocError> {
+fn is_same(alloc: Global, one: &Reader<Front>, two: &Reader<Front>) -> Result<bool, AllocError> {
     let is_alike = fronts_agree(&one.front, &two.front) && one.terminal.same_state(&two.terminal);
     Ok(is_alike && other_pages_agree(alloc, &one.front, &two.front)?)
 }
 
 /// Appends a session's repaint. Returns whether it has one.
-fn push_repaint(alloc: Global, session: &Reader, bytes: &mut Vec<u8>) -> Result<bool, AllocError> {
+fn push_repaint(
+    alloc: Global,
+    session: &Reader<Front>,
+    bytes: &mut Vec<u8>,
+) -> Result<bool, AllocError> {
     let mut scratch = Terminal::new(alloc)?;
     Ok(repaint_xterm(&session.terminal, &session.front, &mut scratch, bytes).is_ok())
 }
@@ -80,9 +84,9 @@ fn push_repaint(alloc: Global, session: &Reader, bytes: &mut Vec<u8>) -> Result<
 /// Returns whether bytes lead a reader to a session, and ask for no report.
 fn is_led(
     alloc: Global,
-    reader: &mut Reader,
+    reader: &mut Reader<Front>,
     bytes: &[u8],
-    session: &Reader,
+    session: &Reader<Front>,
 ) -> Result<bool, AllocError> {
     let reports = reader.reports.len();
     reader.feed(bytes, 65536)?;
@@ -94,21 +98,21 @@ fn lead_to(
     alloc: Global,
     before: &[u8],
     bytes: &[u8],
-    session: &Reader,
+    session: &Reader<Front>,
 ) -> Result<bool, AllocError> {
-    let mut reader = fed(alloc, before, 4096)?;
+    let mut reader = fed::<Front>(alloc, before, 4096)?;
     is_led(alloc, &mut reader, bytes, session)
 }
 
 /// Returns whether a session's repaint leaves it, after what was there before.
-fn is_rebuilt(alloc: Global, session: &Reader, before: &[u8]) -> Result<bool, AllocError> {
+fn is_rebuilt(alloc: Global, session: &Reader<Front>, before: &[u8]) -> Result<bool, AllocError> {
     let mut bytes = Vec::new(alloc);
     let is_painted = push_repaint(alloc, session, &mut bytes)?;
     Ok(is_painted && lead_to(alloc, before, &bytes, session)?)
 }
 
 /// Returns whether it does after each of these.
-fn is_rebuilt_after_all(alloc: Global, session: &Reader) -> Result<bool, AllocError> {
+fn is_rebuilt_after_all(alloc: Global, session: &Reader<Front>) -> Result<bool, AllocError> {
     for before in &BEFORE {
         if !is_rebuilt(alloc, session, before)? {
             return Ok(false);
@@ -119,7 +123,7 @@ fn is_rebuilt_after_all(alloc: Global, session: &Reader) -> Result<bool, AllocEr
 
 /// Returns whether the session that was fed this always is.
 fn is_always_rebuilt(alloc: Global, session: &[u8]) -> Result<bool, AllocError> {
-    let session = fed(alloc, session, 4096)?;
+    let session = fed::<Front>(alloc, session, 4096)?;
     is_rebuilt_after_all(alloc, &session)
 }
 

@@ -1,5 +1,5 @@
 //! Worked rows: what the screen shows, and where the cursor is.
-use super::common::{fed, holds, shows};
+use crate::common::{fed, holds, shows};
 use std::alloc::{AllocError, Global};
 use std::process::Abort;
 use vt_xterm::Front;
@@ -182,7 +182,11 @@ const EDITS: [Row; 14] = [
 /// Asserts that the screen shows what each row says.
 fn all_show(rt: &impl Abort, alloc: Global, rows: &[Row]) {
     for (name, input, text, place) in rows {
-        holds(rt, name, shows(alloc, input.as_bytes(), text, *place));
+        holds(
+            rt,
+            name,
+            shows::<Front>(alloc, input.as_bytes(), text, *place),
+        );
     }
 }
 
@@ -208,7 +212,7 @@ fn is_as_fed(front: &Front) -> bool {
 
 /// Returns whether the reports are those of a VT220, and the front is as the input says.
 fn reports_and_front(alloc: Global) -> Result<bool, AllocError> {
-    let fed = fed(alloc, b"\x1b[?1049h\x1b[c\x1b[?40h\x1b[6n\xE2", 1)?;
+    let fed = fed::<Front>(alloc, b"\x1b[?1049h\x1b[c\x1b[?40h\x1b[6n\xE2", 1)?;
     let is_right = fed.reports.as_slice() == b"\x1b[?62;1;6c\x1b[1;1R".as_slice();
     Ok(is_right && is_as_fed(&fed.front))
 }

@@ -1,6 +1,7 @@
 //! Worked rows of ill-formed UTF-8.
-use super::common::{fed, holds, shows};
+use crate::common::{fed, holds, shows};
 use std::alloc::{AllocError, Global};
+use vt_utf8::Decoder;
 
 /// A name, what is fed, the first lines of the screen, and the cursor's row and column.
 type Row = (&'static str, &'static [u8], &'static str, (u16, u16));
@@ -43,14 +44,14 @@ const ILL_FORMED: [Row; 10] = [
 #[test]
 fn ill_formed(rt: HostRuntime) {
     for (name, input, text, place) in &ILL_FORMED {
-        holds(&rt, name, shows(rt.alloc(), input, text, *place));
+        holds(&rt, name, shows::<Decoder>(rt.alloc(), input, text, *place));
     }
 }
 
 /// Returns whether these bytes are pending after the input.
 fn leaves(alloc: Global, input: &[u8], pending: &[u8]) -> Result<bool, AllocError> {
-    let fed = fed(alloc, input, 1)?;
-    Ok(fed.decoder.pending() == pending)
+    let fed = fed::<Decoder>(alloc, input, 1)?;
+    Ok(fed.front.pending() == pending)
 }
 
 /// A name, what is fed, and the bytes that are then pending.

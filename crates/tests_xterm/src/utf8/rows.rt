@@ -1,8 +1,8 @@
 //! Worked rows of well-formed UTF-8.
-use super::common::{fed, holds, shows};
+use crate::common::{fed, holds, shows};
 use std::alloc::{AllocError, Global};
 use std::process::Abort;
-use vt_utf8::{cells, shown_as};
+use vt_utf8::{Decoder, cells, shown_as};
 
 /// A name, what is fed, the first lines of the screen, and the cursor's row and column.
 type Row = (&'static str, &'static str, &'static str, (u16, u16));
@@ -76,7 +76,11 @@ const SEQUENCES: [Row; 14] = [
 /// Asserts that the screen shows what each row says.
 fn all_show(rt: &impl Abort, alloc: Global, rows: &[Row]) {
     for (name, input, text, place) in rows {
-        holds(rt, name, shows(alloc, input.as_bytes(), text, *place));
+        holds(
+            rt,
+            name,
+            shows::<Decoder>(alloc, input.as_bytes(), text, *place),
+        );
     }
 }
 
@@ -146,7 +150,7 @@ fn glyphs_of_characters(rt: HostRuntime) {
 
 /// Returns whether the cursor is reported after a wide character.
 fn is_reported_after_a_wide_character(alloc: Global) -> Result<bool, AllocError> {
-    let fed = fed(alloc, "日\x1b[6n".as_bytes(), 2)?;
+    let fed = fed::<Decoder>(alloc, "日\x1b[6n".as_bytes(), 2)?;
     Ok(fed.reports.as_slice() == b"\x1b[1;3R".as_slice())
 }
 

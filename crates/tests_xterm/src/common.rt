@@ -6,45 +6,89 @@ use std::alloc::{AllocError, Global};
 use std::process::Abort;
 use vt_term::Terminal;
 use vt_utf8::{Decoder, feed_utf8};
+use vt_xterm::{Front, feed_xterm};
 
-/// A terminal that was fed UTF-8.
+/// What a terminal stands behind: the front of an xterm, or the decoder of UTF-8.
+pub(crate) trait Feed: Drop {
+    fn new(alloc: Global) -> Result<Self, AllocError>;
+
+    /// Feeds bytes to the terminal.
+    fn feed(
+        &mut self,
+        terminal: &mut Terminal,
+        bytes: &[u8],
+        reports: &mut Vec<u8>,
+    ) -> Result<(), AllocError>;
+}
+
+impl Feed for Front {
+    fn new(alloc: Global) -> Result<Front, AllocError> {
+        Front::new(alloc)
+    }
+
+    fn feed(
+        &mut self,
+        terminal: &mut Terminal,
+        bytes: &[u8],
+        reports: &mut Vec<u8>,
+    ) -> Result<(), AllocError> {
+        feed_xterm(terminal, self, bytes, reports)
+    }
+}
+
+impl Feed for Decoder {
+    fn new(_alloc: Global) -> Result<Decoder, AllocError> {
+        Ok(Decoder::new())
+    }
+
+    fn feed(
+        &mut self,
+        terminal: &mut Terminal,
+        bytes: &[u8],
+        reports: &mut Vec<u8>,
+    ) -> Result<(), AllocError> {
+        feed_utf8(terminal, self, bytes, reports)
+    }
+}
+
+/// A terminal that was fed.
 #[derive(Drop)]
-pub(super) struct Reader {
-    pub(super) terminal: Terminal,
-    pub(super) decoder: Decoder,
-    pub(super) reports: Vec<u8>,
+pub(crate) struct Reader<F: Feed> {
+    pub(crate) terminal: Terminal,
+    pub(crate) front: F,
+    pub(crate) reports: Vec<u8>,
 }
 
 /// Asserts what a test has found of a row, which it names.
-pub(super) fn holds(rt: &impl Abort, row: &str, found: Result<bool, AllocError>) {
+pub(crate) fn holds(rt: &impl Abort, row: &str, found: Result<bool, AllocError>) {
     let found = found.unwrap_or(false);
     assert!(rt; found, "{row}");
 }
 
-impl Reader {
+impl<F: Feed> Reader<F> {
     /// Feeds the input, so many bytes at a time.
-    fn feed(&mut self, input: &[u8], size: usize) -> Result<(), AllocError>
+    pub(crate) fn feed(&mut self, input: &[u8], size: usize) -> Result<(), AllocError>
         requires { 1 ≤ size }
     {
         for piece in input.chunks(size) {
-            feed_utf8(
-                &mut self.terminal,
-                &mut self.decoder,
-                piece,
-                &mut self.reports,
-            )?;
+            self.front
+                .feed(&mut self.terminal, piece, &mut self.reports)?;
         }
         Ok(())
     }
 }
 
 /// Returns a new terminal that was fed the input, so many bytes at a time.
-pub(super) fn fed(alloc: Global, input: &[u8], size: usize) -> Result<Reader, AllocError>
+pub(crate) fn fed<F: Feed>(
+    alloc: Global,
+    input: &[u8],
+    size: usize,
+) -> Result<Reader<F>, AllocError>
     requires { 1 ≤ size }
 {
     let mut reader = Reader {
         terminal: Terminal::new(alloc)?,
-        decoder: Decoder::new(),
+        front: F::new(alloc)?,
         reports: Vec::new(alloc),
     };
     reader.feed(input, size)?;
@@ -66,7 +110,7 @@ fn begins(
 }
 
 /// Returns whether the screen begins with this text, if the input is fed so many bytes at a time, and the cursor is here.
-fn shows_in(
+fn shows_in<F: Feed>(
     alloc: Global,
     input: &[u8],
     size: usize,
@@ -75,19 +119,19 @@ fn shows_in(
 ) -> Result<bool, AllocError>
     requires { 1 ≤ size }
 {
-    let fed = fed(alloc, input, size)?;
+    let fed = fed::<F>(alloc, input, size)?;
     begins(alloc, &fed.terminal, text, place)
 }
 
 /// Returns whether the screen begins with this text and the cursor is here, byte by byte, by threes and all at once.
-pub(super) fn shows(
+pub(crate) fn shows<F: Feed>(
     alloc: Global,
     input: &[u8],
     text: &str,
     place: (u16, u16),
 ) -> Result<bool, AllocError> {
-    let is_right = shows_in(alloc, input, 1, text, place)?
-        && shows_in(alloc, input, 3, text, place)?
-        && shows_in(alloc, input, 4096, text, place)?;
+    let is_right = shows_in::<F>(alloc, input, 1, text, place)?
+        && shows_in::<F>(alloc, input, 3, text, place)?
+        && shows_in::<F>(alloc, input, 4096, text, place)?;
     Ok(is_right)
 }

@@ -29,11 +29,10 @@ class Page:
         until(lambda: self.evaluate(script), script)
 
     def end(self):
-        """Ends the browser, and removes its profile."""
-        try:
-            self.process.wait(PATIENCE)
-        finally:
-            shutil.rmtree(self.folder, ignore_errors=True)
+        """Kills the browser, and removes its profile. Nothing of it is kept, and to close may take minutes on a busy machine."""
+        self.process.kill()
+        self.process.wait()
+        shutil.rmtree(self.folder, ignore_errors=True)
 
 
 class Chromium(Page):
@@ -117,12 +116,9 @@ class Chromium(Page):
             file.write(base64.b64decode(self.call("Page.captureScreenshot", format="png")["data"]))
 
     def close(self):
-        self.session = None
-        try:
-            self.call("Browser.close")
-        except (OSError, EOFError):
-            pass
         self.end()
+        os.close(self.to)
+        os.close(self.back)
 
 
 class Firefox(Page):
@@ -184,9 +180,5 @@ class Firefox(Page):
         return got
 
     def close(self):
-        try:
-            self.call("Marionette:Quit", flags=["eForceQuit"])
-        except (OSError, EOFError, RuntimeError):
-            pass
-        self.wire.close()
         self.end()
+        self.wire.close()

@@ -38,7 +38,7 @@ impl Call {
     }
 }
 
-/// What a recording is played on.
+/// Plays a recording on a terminal, and keeps a second one for what is shown.
 #[derive(Drop)]
 struct Player {
     terminal: Terminal,

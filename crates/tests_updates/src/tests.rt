@@ -1,5 +1,4 @@
-//! What no clause says of the update: that little is sent where little differs, and that memory is granted when it is
-//! there.
+//! Tests what no clause says of the update: little is sent if little differs, and memory is granted if it is there.
 mod common;
 mod examples;
 mod long_choices;

@@ -1,5 +1,5 @@
-//! What the tests share. The tests are of small functions that return whether a row holds, since the proof of one long
-//! function takes far more time than those of its parts.
+//! Has what the tests share. The tests are of small functions that return whether a row holds, since the proof of one
+//! long function takes far more time than those of its parts.
 ghost use Rattle.std.specs.Prelude.{◌≤◌};
 
 use std::alloc::{AllocError, Global};

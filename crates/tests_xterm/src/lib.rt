@@ -1,5 +1,6 @@
-//! Tests of the functions of xterm: worked rows of columns, pages, attributes, scrolling and repeating. Tests of UTF-8: worked
-//! rows of ill-formed input, widths, strings and sequences, lines and quotes.
+//! Tests the functions of xterm by worked rows: columns, pages, attributes, scrolling and repeating.
+//!
+//! Tests UTF-8 by worked rows: ill-formed input, widths, strings and sequences, lines and quotes.
 #![tactic(auto)]
 
 #[cfg(test)]

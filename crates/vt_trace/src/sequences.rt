@@ -42,21 +42,21 @@ fn if_takes(takes: bool, f: Sequence) -> Option<Sequence>
     if takes { Some(f) } else { None }
 }
 
-/// The first value; one that isn't there is 0.
+/// Returns the first value, or 0 if there is none.
 fn first(values: &[u16]) -> u16
     ensures { result ≡ first values.now }
 {
     values.first().copied().unwrap_or(0)
 }
 
-/// The second value; one that isn't there is 0.
+/// Returns the second value, or 0 if there is none.
 fn second(values: &[u16]) -> u16
     ensures { result ≡ second values.now }
 {
     values.get(1).copied().unwrap_or(0)
 }
 
-/// Without marker and intermediate.
+/// Returns the sequence without a marker and an intermediate.
 fn plain(last: u8, values: &[u16]) -> Option<Sequence>
     ensures { option_map sequence_word result ≡ name_with values.now (function_in plain_sequences last) }
 {
@@ -85,7 +85,7 @@ fn plain(last: u8, values: &[u16]) -> Option<Sequence>
     }
 }
 
-/// After `?`.
+/// Returns the sequence after `?`.
 fn private(last: u8, values: &[u16]) -> Option<Sequence>
     ensures { option_map sequence_word result ≡ name_with values.now (function_in private_sequences last) }
 {
@@ -99,7 +99,7 @@ fn private(last: u8, values: &[u16]) -> Option<Sequence>
     }
 }
 
-/// After `>`.
+/// Returns the sequence after `>`.
 fn greater(last: u8, values: &[u16]) -> Option<Sequence>
     ensures { option_map sequence_word result ≡ name_with values.now (function_in greater_sequences last) }
 {
@@ -109,7 +109,7 @@ fn greater(last: u8, values: &[u16]) -> Option<Sequence>
     }
 }
 
-/// After `"`.
+/// Returns the sequence after `"`.
 fn quote(last: u8, values: &[u16]) -> Option<Sequence>
     ensures { option_map sequence_word result ≡ name_with values.now (function_in quote_sequences last) }
 {
@@ -120,7 +120,7 @@ fn quote(last: u8, values: &[u16]) -> Option<Sequence>
     }
 }
 
-/// After `!`.
+/// Returns the sequence after `!`.
 fn exclamation(last: u8) -> Option<Sequence>
     ensures { (values : List ℕ) → option_map sequence_word result ≡ name_with values (function_in exclamation_sequences last) }
 {
@@ -130,28 +130,28 @@ fn exclamation(last: u8) -> Option<Sequence>
     }
 }
 
-/// TBC of the cursor's column, or of all.
+/// Returns whether TBC clears the stop at the cursor's column, or all.
 fn clears_tabs(p: u16) -> bool
     ensures { result ≡ contains (0 ∷ 3 ∷ []) p }
 {
     p == 0 || p == 3
 }
 
-/// DSR of the operating status, or of the cursor's place.
+/// Returns whether DSR asks for the operating status, or for the cursor's position.
 fn asks_for_status(p: u16) -> bool
     ensures { result ≡ contains (numbers_of status_reports) p }
 {
     p == 5 || p == 6
 }
 
-/// DSR of the printer, or of the keyboard's language.
+/// Returns whether DSR asks for the printer's status, or for the keyboard's language.
 fn asks_for_private_status(p: u16) -> bool
     ensures { result ≡ contains (numbers_of private_reports) p }
 {
     p == 15 || p == 26
 }
 
-/// The top margin is above the bottom one.
+/// Returns whether the top margin is above the bottom one.
 fn are_margins(values: &[u16]) -> bool
     ensures { result ≡ are_margins (first values.now) (second values.now) }
 {
@@ -163,28 +163,28 @@ fn are_margins(values: &[u16]) -> bool
     top < bottom
 }
 
-/// DECSCL 61, and 62 with 0, 1 or 2.
+/// Returns whether DECSCL has 61, or 62 with 0, 1 or 2.
 fn is_level(values: &[u16]) -> bool
     ensures { result ≡ is_level (first values.now) (second values.now) }
 {
     first(values) == 61 || (first(values) == 62 && second(values) <= 2)
 }
 
-/// A mode of the terminal is among the values.
+/// Returns whether a mode of the terminal is among the values.
 fn has_ansi_mode(values: &[u16]) -> bool
     ensures { result ≡ list_any (contains (numbers_of ansi_modes)) values.now }
 {
     values.iter().any(|p| matches!(*p, 2 | 4 | 12 | 20))
 }
 
-/// A private mode of the terminal is among the values.
+/// Returns whether a private mode of the terminal is among the values.
 fn has_private_mode(values: &[u16]) -> bool
     ensures { result ≡ list_any (contains (numbers_of private_modes)) values.now }
 {
     values.iter().any(|p| matches!(*p, 1 | 3..=8 | 25))
 }
 
-/// An attribute is among the values.
+/// Returns whether an attribute is among the values.
 fn has_attribute(values: &[u16]) -> bool
     ensures { result ≡ list_any (contains (numbers_of rendition_changes)) values.now }
 {

@@ -6,7 +6,7 @@ use std::alloc::{AllocError, Global};
 use vt_syntax::EventKind;
 use vt_term::{ROW_TEXT_LIMIT, Terminal};
 
-/// Numbered lines with an end each.
+/// Returns numbered lines with an end each.
 fn numbered(alloc: Global, count: u32, end: &[u8]) -> Result<Vec<u8>, AllocError> {
     let mut text = Vec::new(alloc);
     for i in 0..count {

@@ -83,7 +83,7 @@ const REPORTS: Replay = Replay {
     failing_write: None,
 };
 
-/// What a replay answers, and what it has written.
+/// Returns what a replay answers, and what it has written.
 fn replayed(
     alloc: Global,
     input: &[u8],
@@ -203,7 +203,7 @@ const TABLE: [(Replay, Result<(), Fault>, usize); 11] = [
     (REPORTS, Ok(()), 18),
 ];
 
-/// Whether a replay answers this, and has written this.
+/// Returns whether a replay answers this, and has written this.
 fn leaves(
     alloc: Global,
     input: &[u8],
@@ -237,7 +237,7 @@ const WORDS: &[Word] = &[
     Word::Pages,
 ];
 
-/// A replay whose read of this number fails.
+/// Returns a replay whose read of this number fails.
 fn with_failing_read(word: Word, number: usize) -> Replay {
     Replay {
         word,
@@ -246,7 +246,7 @@ fn with_failing_read(word: Word, number: usize) -> Replay {
     }
 }
 
-/// Whether the read after the one that gave no byte is never made.
+/// Returns whether the read after the one that gave no byte is never made.
 fn ends_before(alloc: Global, input: &[u8], word: Word, is_between: bool) -> Result<bool, Failed> {
     let replay = with_failing_read(word, input.len().saturating_add(2));
     let (answer, _written) = replayed(alloc, input, replay)?;
@@ -266,7 +266,7 @@ struct Due {
 }
 
 impl Due {
-    /// The reports or the lines, if a word asks for them.
+    /// Returns the reports or the lines, if a word asks for them.
     fn of(&self, word: Word) -> &[u8] {
         match word {
             Word::Replay(What::Reports) => &self.reports,
@@ -320,7 +320,7 @@ fn each_read_fails_for_all(alloc: Global, input: &[u8]) -> Result<bool, Failed> 
     Ok(true)
 }
 
-/// A replay whose write of one byte of this number fails.
+/// Returns a replay whose write of one byte of this number fails.
 fn with_failing_write(word: Word, number: Option<usize>) -> Replay {
     Replay {
         word,
@@ -330,7 +330,7 @@ fn with_failing_write(word: Word, number: Option<usize>) -> Replay {
     }
 }
 
-/// Whether each write of one byte of what is due fails in turn: what was written is what is due up to there.
+/// Returns whether each write of one byte of what is due fails in turn: what was written is what is due up to there.
 fn writes_fail(alloc: Global, input: &[u8], word: Word, due: &[u8]) -> Result<bool, Failed> {
     for call in 0..due.len() {
         let replay = with_failing_write(word, Some(call + 1));
@@ -341,14 +341,14 @@ fn writes_fail(alloc: Global, input: &[u8], word: Word, due: &[u8]) -> Result<bo
     Ok(true)
 }
 
-/// Whether each write fails in turn, and none is made after the last one.
+/// Returns whether each write fails in turn, and none is made after the last one.
 fn each_write_fails(alloc: Global, input: &[u8], word: Word) -> Result<bool, Failed> {
     let (answered, due) = replayed(alloc, input, with_failing_write(word, None))?;
     let last = with_failing_write(word, Some(due.len().saturating_add(1)));
     Ok(writes_fail(alloc, input, word, &due)? && leaves(alloc, input, last, answered, &due)?)
 }
 
-/// Whether that is so for each word.
+/// Returns whether that is so for each word.
 fn each_write_fails_for_all(alloc: Global, input: &[u8]) -> Result<bool, Failed> {
     for word in WORDS {
         if !each_write_fails(alloc, input, *word)? {

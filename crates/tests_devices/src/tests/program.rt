@@ -14,7 +14,7 @@ const REQUESTS: &[u8] = b"\x1b G\x1b[c\x1b[>c";
 
 const ANSWERS: &[u8] = b"\x9b?62;1;6c\x9b>1;10;0c";
 
-/// The answer of a replay that reads so many bytes at a time.
+/// Returns the answer of a replay that reads so many bytes at a time.
 fn answer<W: Write>(
     alloc: Global,
     input: &[u8],
@@ -31,7 +31,7 @@ fn answer<W: Write>(
     run(alloc, &mut reader, writer, what, piece, limit)
 }
 
-/// Whether a writer with room for five bytes is a fault, and has these.
+/// Returns whether a writer with room for five bytes is a fault, and has these.
 fn is_full(alloc: Global, input: &[u8], what: What, piece: usize, expected: &[u8]) -> bool
     requires { (1 ≤ piece) × (piece ≤ 65536) }
 {
@@ -49,7 +49,7 @@ fn a_writer_that_is_full_is_a_fault(rt: HostRuntime) {
     assert!(rt; is_full(rt.alloc(), REQUESTS, What::Reports, 1, b"\x9b?62;"));
 }
 
-/// Whether a fault has this status, and this line as its message.
+/// Returns whether a fault has this status, and this line as its message.
 fn has_line(alloc: Global, fault: &Fault, status: u8, line: &str) -> Result<bool, Failed> {
     let message = fault.to_string(alloc)?;
     Ok(fault.status() == status && message.as_str() == line)

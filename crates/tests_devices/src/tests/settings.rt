@@ -42,7 +42,7 @@ fn words_of(alloc: Global, line: &str) -> Result<Vec<String>, AllocError> {
     Ok(words)
 }
 
-/// What is answered and written for a line of words.
+/// Returns what is answered and written for a line of words.
 fn replayed(
     alloc: Global,
     line: &str,
@@ -77,7 +77,7 @@ fn is_due(
     answer == *expected && written.starts_with(first) && written.is_empty() == first.is_empty()
 }
 
-/// Whether the line of a row is answered as the row says.
+/// Returns whether the line of a row is answered as the row says.
 fn is_answered(alloc: Global, row: &Asked) -> Result<bool, Failed> {
     let (answer, written) = replayed(alloc, row.0, row.1)?;
     Ok(is_due(row, answer, &written))
@@ -104,7 +104,7 @@ fn requests_are_at_work(rt: HostRuntime) {
     }
 }
 
-/// Whether a read gives all five bytes, the next one none, and only then the reader has ended.
+/// Returns whether a read gives all five bytes, the next one none, and only then the reader has ended.
 fn is_passed_on_whole() -> Result<bool, Failed> {
     let mut reader = Watched::new(ShortReader::new(b"ABCDE", 100, None));
     let mut buffer = [0u8; 5];

@@ -6,7 +6,8 @@ use std::alloc::Global;
 use std::io::{Read, Write};
 use vt_vectors::{ShortReader, ShortWriter};
 
-/// The answers of so many reads, each of at most four bytes, in one line: what was read, or `!` for an error, and `,`.
+/// Returns the answers of so many reads, each of at most four bytes, in one line. An answer is what was read, or `!`
+/// for an error, and `,`.
 fn reads<R: Read>(alloc: Global, reader: &mut R, count: u8) -> Result<Vec<u8>, Failed> {
     let mut line = Vec::new(alloc);
     for _ in 0..count {
@@ -20,8 +21,8 @@ fn reads<R: Read>(alloc: Global, reader: &mut R, count: u8) -> Result<Vec<u8>, F
     Ok(line)
 }
 
-/// The answers of so many writes of a piece's rest, in one line: how many bytes were taken, or `!` for an error, and
-/// `,`.
+/// Returns the answers of so many writes of a chunk's rest, in one line. An answer is how many bytes were taken, or `!`
+/// for an error, and `,`.
 fn writes<W: Write>(
     alloc: Global,
     writer: &mut W,
@@ -67,7 +68,7 @@ const READERS: [(Most, Option<usize>, &[u8]); 6] = [
     (THREE, Some(0), b"abc,def,g,,,,,,"),
 ];
 
-/// Whether a reader's answers are these.
+/// Returns whether a reader's answers are these.
 fn is_read(alloc: Global, most: Most, fail: Option<usize>, line: &[u8]) -> Result<bool, Failed> {
     let mut reader = ShortReader::new(b"abcdefg", most.count, fail);
     Ok(reads(alloc, &mut reader, 8)?.as_slice() == line)
@@ -91,7 +92,7 @@ const WRITERS: [Writing; 5] = [
     (0, ONE, Some(5), "0,0,0,0,", b""),
 ];
 
-/// Whether a writer's answers are these, and what it has taken.
+/// Returns whether a writer's answers are these, and what it has taken.
 fn is_written(alloc: Global, (room, most, fail, line, taken): &Writing) -> Result<bool, Failed> {
     let into = Vec::with_capacity(alloc, *room)?;
     let mut writer = ShortWriter::new(into, *room, most.count, *fail);

@@ -20,7 +20,7 @@ struct Asked {
     terminal: TerminalType,
 }
 
-/// The outcome of a request that reads so many bytes at a time, and what was written.
+/// Returns the outcome of a request that reads so many bytes at a time, and what was written.
 fn carried_out(
     alloc: Global,
     input: &[u8],

@@ -111,7 +111,7 @@ const OTHERS: &[Row] = &[
     (b"$ ls -la tree\r\ntotal 0\r\n", RAW),
 ];
 
-/// Whether each beginning shows what its row says.
+/// Returns whether each beginning shows what its row says.
 fn are_detected(rows: &[Row]) -> bool {
     for (beginning, shown) in rows {
         if detect(beginning) != *shown {

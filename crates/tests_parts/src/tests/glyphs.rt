@@ -23,7 +23,7 @@ fn push_glyphs(set: Set, glyphs: &mut Vec<Glyph>) -> Result<(), AllocError> {
     Ok(())
 }
 
-/// The glyphs of all sets, each once, and the space.
+/// Returns the glyphs of all sets, each once, and the space.
 fn all_glyphs(alloc: Global) -> Result<Vec<Glyph>, AllocError> {
     let mut glyphs = Vec::new(alloc);
     glyphs.push(Glyph::blank())?;
@@ -33,7 +33,7 @@ fn all_glyphs(alloc: Global) -> Result<Vec<Glyph>, AllocError> {
     Ok(glyphs)
 }
 
-/// The sets that the spellings are for.
+/// Returns the sets that the spellings are for.
 fn spelling_sets() -> Sets {
     let mut sets = Sets::power_up();
     sets.designate(0, Set::Ascii);
@@ -43,7 +43,7 @@ fn spelling_sets() -> Sets {
     sets
 }
 
-/// What a byte shows, if it is a graphic one.
+/// Returns what a byte shows, if it is a graphic one.
 fn shown(sets: &mut Sets, b: u8) -> Option<char> {
     if (0x20 <= b && b <= 0x7E) || b >= 0xA0 {
         sets.read(b).map(|glyph| glyph.to_char())
@@ -52,7 +52,7 @@ fn shown(sets: &mut Sets, b: u8) -> Option<char> {
     }
 }
 
-/// Whether these bytes show this text, one after another.
+/// Returns whether these bytes show this text, one after another.
 fn shows(sets: &mut Sets, bytes: &[u8], text: &str) -> bool {
     for (b, c) in bytes.iter().zip(text.chars()) {
         if shown(sets, *b) != Some(c) {
@@ -62,14 +62,14 @@ fn shows(sets: &mut Sets, bytes: &[u8], text: &str) -> bool {
     true
 }
 
-/// Whether a set in G0 shows these bytes as this text.
+/// Returns whether a set in G0 shows these bytes as this text.
 fn set_shows(set: Set, bytes: &[u8], text: &str) -> bool {
     let mut sets = Sets::power_up();
     sets.designate(0, set);
     shows(&mut sets, bytes, text)
 }
 
-/// Whether a glyph's spelling shows it, and leaves the sets as they were.
+/// Returns whether a glyph's spelling shows it, and leaves the sets as they were.
 fn is_spelled(glyph: &Glyph) -> bool {
     let mut sets = spelling_sets();
     let read = match glyph.spelling() {
@@ -86,7 +86,7 @@ fn is_spelled(glyph: &Glyph) -> bool {
     read == Some(glyph.to_char()) && sets == spelling_sets()
 }
 
-/// Whether each of these glyphs is spelled.
+/// Returns whether each of these glyphs is spelled.
 fn are_spelled(glyphs: &[Glyph]) -> bool {
     for glyph in glyphs {
         if !is_spelled(glyph) {
@@ -115,7 +115,7 @@ const FINALS: [(u8, Set); 5] = [
     (b'<', Set::Supplemental),
 ];
 
-/// Whether the final bytes designate the sets, and the sets tell them.
+/// Returns whether the final bytes designate the sets, and the sets tell them.
 fn finals_are_of_the_sets() -> bool {
     for (last, set) in &FINALS {
         if Set::of_final(*last) != Some(*set) || set.last() != *last {
@@ -131,21 +131,21 @@ fn finals_designate(rt: HostRuntime) {
     holds(&rt, "no set", Set::of_final(b'Z').is_none());
 }
 
-/// LS1R: the right half shows ASCII.
+/// Returns whether the right half shows ASCII after LS1R.
 fn right_half_is_locked() -> bool {
     let mut sets = Sets::power_up();
     sets.lock_right(1);
     shows(&mut sets, b"\xE1", "a") && sets.right() == 1
 }
 
-/// Whether a second single shift replaces the first.
+/// Returns whether a second single shift replaces the first.
 fn second_shift_replaces(sets: &mut Sets) -> bool {
     sets.shift_once(2);
     sets.shift_once(3);
     shows(sets, b"qq", "─q")
 }
 
-/// Whether A0 and FF, which show nothing here, leave a single shift.
+/// Returns whether A0 and FF, which show nothing here, leave a single shift.
 fn other_bytes_leave_a_shift(sets: &mut Sets) -> bool {
     sets.shift_once(3);
     shown(sets, 0xA0).is_none()
@@ -154,13 +154,13 @@ fn other_bytes_leave_a_shift(sets: &mut Sets) -> bool {
         && shows(sets, b"q", "─")
 }
 
-/// Whether a space uses a single shift up.
+/// Returns whether a space uses a single shift up.
 fn space_uses_a_shift(sets: &mut Sets) -> bool {
     sets.shift_once(3);
     shows(sets, b" q", " q") && sets.pending().is_none()
 }
 
-/// SO with G1 Special Graphics.
+/// Returns whether SO shows lines if G1 is Special Graphics.
 fn shift_out_shows_lines() -> bool {
     let mut sets = Sets::power_up();
     let read_before = sets.reads_ascii();
@@ -169,7 +169,7 @@ fn shift_out_shows_lines() -> bool {
     read_before && sets.left() == 1 && !sets.reads_ascii() && shows(&mut sets, b"lqk", "┌─┐")
 }
 
-/// DECRC: the sets in use are the saved ones, and a pending single shift stays.
+/// Returns whether DECRC puts the saved sets in use, and leaves a pending single shift.
 fn restored_sets_keep_a_shift() -> bool {
     let saved = Sets::power_up();
     let mut sets = Sets::power_up();
@@ -226,7 +226,7 @@ const RIGHT: [(&[u8], &str); 2] = [
     (b"\xA4\xFE", "␦␦"),
 ];
 
-/// German in the right half.
+/// Returns whether the right half shows German.
 fn right_half_shows_german() -> bool {
     let mut sets = Sets::power_up();
     sets.designate(1, Set::German);
@@ -256,7 +256,7 @@ const SPELLINGS: [(Set, u8, Spelling); 6] = [
     (Set::Supplemental, b'#', Spelling::Second(b'#')),
 ];
 
-/// Whether the glyphs of the sets have these spellings.
+/// Returns whether the glyphs of the sets have these spellings.
 fn glyphs_have_their_spellings() -> bool {
     for (set, code, spelling) in &SPELLINGS {
         if set.glyph(*code).spelling() != *spelling {
@@ -286,13 +286,13 @@ const HALVES: [(u8, char); 5] = [
     (0xE9, 'é'),
 ];
 
-/// Whether the sets in use show a graphic byte so.
+/// Returns whether the sets in use show a graphic byte so.
 fn half_shows(in_use: &InUse, b: u8, c: char) -> bool {
     let is_graphic = (0x20 <= b && b <= 0x7E) || (0xA1 <= b && b <= 0xFE);
     is_graphic && in_use.glyph(b).to_char() == c
 }
 
-/// Whether the sets in use show these bytes so.
+/// Returns whether the sets in use show these bytes so.
 fn both_halves_are_shown() -> bool {
     let mut sets = Sets::power_up();
     sets.designate(0, Set::German);

@@ -226,7 +226,7 @@ fn ttyrecs_by_hand(rt: HostRuntime) {
     holds(&rt, "ttyrecs", are);
 }
 
-/// Whether a read gives so many bytes, and these first.
+/// Returns whether a read gives so many bytes, and these first.
 fn gives(content: &mut Content, count: usize, first: &[u8]) -> bool {
     let mut buffer = [0u8; 2];
     let is_count = match content.read_chunk(&mut buffer) {
@@ -236,7 +236,7 @@ fn gives(content: &mut Content, count: usize, first: &[u8]) -> bool {
     is_count && buffer.starts_with(first)
 }
 
-/// Whether a source of bytes gives them in parts, and then none.
+/// Returns whether a source of bytes gives them in parts, and then none.
 fn gives_them_all(alloc: Global) -> Result<bool, AllocError> {
     let mut content = Content::new(Vec::from_slice(alloc, b"abc")?);
     Ok(gives(&mut content, 2, b"ab") && gives(&mut content, 1, b"c") && gives(&mut content, 0, b""))
@@ -247,7 +247,7 @@ fn content_is_read_in_parts(rt: HostRuntime) {
     is_met(&rt, "content", gives_them_all(rt.alloc()));
 }
 
-/// Whether a reading under a limit returns this.
+/// Returns whether a reading under a limit returns this.
 fn reads(alloc: Global, limit: usize, whole: bool) -> bool {
     let input: &[u8] = b"abc";
     let mut reader = Watched::new(input);

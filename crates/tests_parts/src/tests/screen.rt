@@ -19,7 +19,7 @@ fn write(screen: &mut Screen, row: usize, column: usize, text: &[u8], like: &Cel
     }
 }
 
-/// Whether a row shows a text, and spaces after it.
+/// Returns whether a row shows a text, and spaces after it.
 fn shows(screen: &Screen, row: usize, text: &str) -> bool
     requires { (1 ≤ row) × (row ≤ 24) }
 {
@@ -33,7 +33,7 @@ fn shows(screen: &Screen, row: usize, text: &str) -> bool
     true
 }
 
-/// Whether a row has plain spaces alone.
+/// Returns whether a row has plain spaces alone.
 fn is_blank(screen: &Screen, row: usize) -> bool
     requires { (1 ≤ row) × (row ≤ 24) }
 {
@@ -45,7 +45,7 @@ fn is_blank(screen: &Screen, row: usize) -> bool
     true
 }
 
-/// Whether the first rows show these lines, and those below are blank, attributes and all.
+/// Returns whether the first rows show these lines, and those below are blank, attributes and all.
 fn shows_lines(screen: &Screen, lines: &[&str]) -> bool {
     for row in 1..25 {
         let is_so = match lines.get(row - 1) {
@@ -59,7 +59,7 @@ fn shows_lines(screen: &Screen, lines: &[&str]) -> bool {
     true
 }
 
-/// Whether a new screen has 80 columns of spaces.
+/// Returns whether a new screen has 80 columns of spaces.
 fn new_is_blank(alloc: Global) -> Result<bool, AllocError> {
     let screen = Screen::new(alloc)?;
     Ok(screen.width() == 80 && shows_lines(&screen, &[]))
@@ -84,7 +84,7 @@ fn scroll_numbers(alloc: Global, screen: &mut Screen) -> Result<(), AllocError> 
 /// What the first rows show then.
 const SCROLLED: [&str; 9] = ["", "", "", "", "996", "997", "998", "999", "1000"];
 
-/// Whether the first rows show that.
+/// Returns whether the first rows show that.
 fn last_lines_are_kept(alloc: Global) -> Result<bool, AllocError> {
     let mut screen = Screen::new(alloc)?;
     scroll_numbers(alloc, &mut screen)?;
@@ -110,7 +110,7 @@ fn change_cells(screen: &mut Screen) {
     }
 }
 
-/// Whether the rows are changed so.
+/// Returns whether the rows are changed so.
 fn cells_are_changed(alloc: Global) -> Result<bool, AllocError> {
     let mut screen = Screen::new(alloc)?;
     change_cells(&mut screen);
@@ -129,7 +129,7 @@ fn write_letters(screen: &mut Screen) {
     write(screen, 3, 1, b"C", &Cell::blank());
 }
 
-/// Whether lines are moved down in a region, then all of them, and then up by more than there are.
+/// Returns whether lines are moved down in a region, then all of them, and then up by more than there are.
 fn lines_are_moved(screen: &mut Screen) -> bool {
     screen.scroll_down(2, 3, 1);
     let in_a_region = shows_lines(screen, &["A", "", "B"]);
@@ -139,7 +139,7 @@ fn lines_are_moved(screen: &mut Screen) -> bool {
     in_a_region && all && shows_lines(screen, &["", "A"])
 }
 
-/// Whether the letters are moved so.
+/// Returns whether the letters are moved so.
 fn letters_are_moved(alloc: Global) -> Result<bool, AllocError> {
     let mut screen = Screen::new(alloc)?;
     write_letters(&mut screen);
@@ -151,7 +151,7 @@ fn lines_are_inserted_and_deleted(rt: HostRuntime) {
     is_met(&rt, "lines", letters_are_moved(rt.alloc()));
 }
 
-/// A space with this brush.
+/// Returns a space with this brush.
 fn space(reverse: bool, protected: bool) -> Cell {
     let rendition = Rendition {
         reverse,
@@ -173,7 +173,7 @@ fn erase_first_row(screen: &mut Screen, selective: bool) {
     }
 }
 
-/// Whether the place of `A` is protected still, and that of `C` in reverse.
+/// Returns whether the place of `A` is protected still, and that of `C` in reverse.
 fn keeps_brushes(screen: &Screen) -> bool {
     let protected = space(false, true).brush();
     let reverse = space(true, false).rendition;
@@ -182,7 +182,7 @@ fn keeps_brushes(screen: &Screen) -> bool {
         && screen.cell(1, 3).rendition == reverse
 }
 
-/// Whether a selective erase keeps the protected cells and the brushes, and another erase keeps nothing.
+/// Returns whether a selective erase keeps the protected cells and the brushes, and another erase keeps nothing.
 fn erase_is_selective(alloc: Global) -> Result<bool, AllocError> {
     let mut screen = Screen::new(alloc)?;
     erase_first_row(&mut screen, true);
@@ -240,7 +240,7 @@ fn clear_by_edges(screen: &mut Screen) {
     }
 }
 
-/// Whether the edges hold, and all is lost in the end.
+/// Returns whether the edges hold, and all is lost in the end.
 fn edges_hold(alloc: Global) -> Result<bool, AllocError> {
     let mut screen = Screen::new(alloc)?;
     write_corners(&mut screen);
@@ -256,7 +256,7 @@ fn the_edges_hold(rt: HostRuntime) {
     is_met(&rt, "edges", edges_hold(rt.alloc()));
 }
 
-/// Whether each row has as many cells as this, and the last of them shows this letter.
+/// Returns whether each row has as many cells as this, and the last of them shows this letter.
 fn is_filled(screen: &Screen, width: usize, letter: u8) -> bool
     requires { (32 ≤ letter) × (letter ≤ 126) }
 {
@@ -270,7 +270,7 @@ fn is_filled(screen: &Screen, width: usize, letter: u8) -> bool
     true
 }
 
-/// Whether a change of the width blanks a screen that was filled.
+/// Returns whether a change of the width blanks a screen that was filled.
 fn width_blanks(alloc: Global) -> Result<bool, AllocError> {
     let mut screen = Screen::new(alloc)?;
     screen.fill(Cell::new(Glyph::ascii(b'E'), Brush::plain()));
@@ -284,8 +284,8 @@ fn a_width_blanks(rt: HostRuntime) {
     is_met(&rt, "width", width_blanks(rt.alloc()));
 }
 
-/// Whether a screen differs from a new one when it is filled and when it is wide, and not when it is narrow again: rows that
-/// are kept elsewhere are the same rows.
+/// Returns whether a screen differs from a new one when it is filled and when it is wide, and not when it is narrow
+/// again. So rows that are kept elsewhere are the same rows.
 fn differs_while_changed(screen: &mut Screen, new: &Screen) -> bool {
     screen.fill(Cell::new(Glyph::ascii(b'E'), Brush::plain()));
     let is_same_filled = screen.same(new);
@@ -296,7 +296,7 @@ fn differs_while_changed(screen: &mut Screen, new: &Screen) -> bool {
     !is_same_filled && !is_same_wide && screen.same(new)
 }
 
-/// Whether two new screens are the same, and differ while one is changed.
+/// Returns whether two new screens are the same, and differ while one is changed.
 fn screens_differ(alloc: Global) -> Result<bool, AllocError> {
     let mut screen = Screen::new(alloc)?;
     let other = Screen::new(alloc)?;
@@ -308,7 +308,7 @@ fn screens_compare(rt: HostRuntime) {
     is_met(&rt, "screens", screens_differ(rt.alloc()));
 }
 
-/// Bold and protected.
+/// Returns a brush that is bold and protected.
 fn bold() -> Brush {
     let rendition = Rendition {
         bold: true,
@@ -333,7 +333,7 @@ fn write_graphics(screen: &mut Screen) {
 /// What these bytes show.
 const SHOWN: [char; 5] = ['┌', '─', '┐', 'é', '£'];
 
-/// Whether these cells show that, with this brush.
+/// Returns whether these cells show that, with this brush.
 fn are_shown(cells: &[Cell], brush: Brush) -> bool {
     for (cell, shown) in cells.iter().zip(&SHOWN) {
         if cell.glyph.to_char() != *shown || cell.brush() != brush {
@@ -343,13 +343,13 @@ fn are_shown(cells: &[Cell], brush: Brush) -> bool {
     true
 }
 
-/// Whether the last five cells of row 3 show that, and the cell in front of them is blank.
+/// Returns whether the last five cells of row 3 show that, and the cell in front of them is blank.
 fn graphics_are_written(screen: &Screen) -> bool {
     let cells = screen.row(3);
     cells.len() == 80 && cells[74] == Cell::blank() && are_shown(&cells[75..], bold())
 }
 
-/// Whether graphic bytes are written so on a new screen.
+/// Returns whether graphic bytes are written so on a new screen.
 fn graphics_are_put(alloc: Global) -> Result<bool, AllocError> {
     let mut screen = Screen::new(alloc)?;
     write_graphics(&mut screen);

@@ -7,7 +7,7 @@ use vt_syntax::{
     is_final, plain_run,
 };
 
-/// A new parser after these bytes, and the event that the last of them completed.
+/// Returns a new parser after these bytes, and the event that the last of them completed.
 fn parsed(bytes: &[u8]) -> (Parser, Option<Event>) {
     let mut parser = Parser::new();
     let mut last = None;
@@ -43,18 +43,18 @@ fn sequence(params: &[u16], inter: Option<u8>, last: u8) -> Option<Event> {
     })
 }
 
-/// Whether these bytes leave this held part, and the last of them completes this event.
+/// Returns whether these bytes leave this held part, and the last of them completes this event.
 fn leaves(bytes: &[u8], held: Held, event: Option<Event>) -> bool {
     let (parser, last) = parsed(bytes);
     *parser.held() == held && parser.is_between() == (held == Held::Nothing) && last == event
 }
 
-/// Whether these bytes leave this held part, and the last of them completes no event.
+/// Returns whether these bytes leave this held part, and the last of them completes no event.
 fn holds_back(bytes: &[u8], held: Held) -> bool {
     leaves(bytes, held, None)
 }
 
-/// Whether the last of these bytes completes this event, and nothing is held.
+/// Returns whether the last of these bytes completes this event, and nothing is held.
 fn ends(bytes: &[u8], event: Option<Event>) -> bool {
     leaves(bytes, Held::Nothing, event)
 }
@@ -194,8 +194,8 @@ fn values_stop_at_sixteen(rt: HostRuntime) {
     );
 }
 
-/// Whether a new parser that has taken `before` takes this many bytes at the front of `piece`, to this event, these
-/// values and this held part.
+/// Returns whether a new parser, after `before`, takes this many bytes at the front of `piece`. It must leave this
+/// event, these values and this held part.
 fn takes(before: &[u8], piece: &[u8], taken: Taken, values: &[u16], held: Held) -> bool {
     let (mut parser, _) = parsed(before);
     let mut read = Values::new();
@@ -203,7 +203,7 @@ fn takes(before: &[u8], piece: &[u8], taken: Taken, values: &[u16], held: Held) 
     found == taken && read.as_slice() == values && *parser.held() == held
 }
 
-/// Whether it takes this many bytes, to this event, and nothing is held.
+/// Returns whether it takes this many bytes, to this event, and nothing is held.
 fn takes_whole(before: &[u8], piece: &[u8], bytes: usize, event: Option<EventKind>) -> bool {
     let (mut parser, _) = parsed(before);
     let found = parser.next(piece, &mut Values::new());
@@ -261,7 +261,7 @@ fn next_control_inside_a_sequence(rt: HostRuntime) {
     holds(&rt, "BEL", takes(b"", b"\x1B[1\x07H", bell, &[], held));
 }
 
-/// Whether a million bytes inside an OSC string complete no event.
+/// Returns whether a million bytes inside an OSC string complete no event.
 fn long_string_is_held() -> bool {
     let mut parser = Parser::new();
     parser.push(0x9D);
@@ -273,7 +273,7 @@ fn long_string_is_held() -> bool {
     *parser.held() == Held::Text { osc: true }
 }
 
-/// The event of a final byte behind CSI and so many of one byte.
+/// Returns the event of a final byte behind CSI and so many of one byte.
 fn ended_behind(count: u32, b: u8, last: u8) -> Option<Event> {
     let (mut parser, _) = parsed(b"\x1B[");
     for _ in 0..count {
@@ -295,12 +295,12 @@ fn long_inputs(rt: HostRuntime) {
     holds(&rt, "values", ended_behind(999, b';', b'm') == zeros);
 }
 
-/// Whether the run of plain bytes in front of a piece has this length.
+/// Returns whether the run of plain bytes in front of a piece has this length.
 fn is_plain_for(piece: &[u8], length: usize) -> bool {
     plain_run(piece) == length
 }
 
-/// Whether all bytes from 20 to 7E are plain.
+/// Returns whether all bytes from 20 to 7E are plain.
 fn all_are_plain(alloc: Global) -> Result<bool, AllocError> {
     let mut each = Vec::new(alloc);
     for b in 0x20..0x7Fu8 {
@@ -332,7 +332,7 @@ fn plain_runs(rt: HostRuntime) {
     is_met(&rt, "all", all_are_plain(rt.alloc()));
 }
 
-/// Whether the run of graphic bytes in front of a piece has this length.
+/// Returns whether the run of graphic bytes in front of a piece has this length.
 fn is_graphic_for(piece: &[u8], length: usize) -> bool {
     graphic_run(piece) == length
 }
@@ -351,7 +351,7 @@ fn graphic_runs(rt: HostRuntime) {
     holds(&rt, "pounds", is_graphic_for(&pounds, 30));
 }
 
-/// Whether a piece begins so.
+/// Returns whether a piece begins so.
 fn begins(piece: &[u8], front: Front) -> bool {
     !piece.is_empty() && Front::of(piece) == front
 }
@@ -384,7 +384,7 @@ const VALUES: &[ValuesRow] = &[
     ("three", b"\x1B[0;1;7mabcdefgh", 3, 0, 1, b'm'),
 ];
 
-/// Whether the values at the front of a row's piece are these.
+/// Returns whether the values at the front of a row's piece are these.
 fn has_values((_name, piece, count, first, second, last): &ValuesRow) -> bool {
     match front_values(piece) {
         Some(f) => {

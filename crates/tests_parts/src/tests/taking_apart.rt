@@ -13,7 +13,7 @@ pub(super) type Row = (
     u64,
 );
 
-/// Whether a recording is taken apart as its row says.
+/// Returns whether a recording is taken apart as its row says.
 fn is_taken_apart(
     alloc: Global,
     format: Format,
@@ -30,7 +30,7 @@ fn is_taken_apart(
     }
 }
 
-/// Whether each of these is.
+/// Returns whether each of these is.
 pub(super) fn are_taken_apart(
     alloc: Global,
     format: Format,

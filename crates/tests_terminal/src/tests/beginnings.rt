@@ -8,8 +8,8 @@ use vt_paint::{PaintError, repaint};
 use vt_term::Terminal;
 use vt_vectors::{held_sample, held_sample_count, vector, vector_count};
 
-/// Whether a repaint, in pieces of 1 to 14 bytes, brings a terminal that holds this sample into this state, and asks
-/// for no report.
+/// Returns whether a repaint, in chunks of 1 to 14 bytes, leaves this state on a terminal that holds this sample. It
+/// must ask for no report.
 fn is_rebuilt(alloc: Global, i: usize, bytes: &[u8], due: &Terminal) -> Result<bool, Failed>
     requires { i < 14 }
 {
@@ -18,7 +18,7 @@ fn is_rebuilt(alloc: Global, i: usize, bytes: &[u8], due: &Terminal) -> Result<b
     Ok(used.terminal.same_state(due) && used.reports.is_empty())
 }
 
-/// The same for each of the samples.
+/// Returns whether that is so for each of the samples.
 fn rebuilds(alloc: Global, bytes: &[u8], due: &Terminal) -> Result<bool, Failed> {
     for i in 0..held_sample_count() {
         if !is_rebuilt(alloc, i, bytes, due)? {
@@ -28,7 +28,7 @@ fn rebuilds(alloc: Global, bytes: &[u8], due: &Terminal) -> Result<bool, Failed>
     Ok(true)
 }
 
-/// Whether a beginning's repaint is what it must be.
+/// Returns whether a beginning's repaint is what it must be.
 fn is_painted(alloc: Global, front: &[u8]) -> Result<bool, Failed> {
     let played = Played::of(alloc, &[front])?;
     let mut bytes = Vec::new(alloc);

@@ -6,7 +6,7 @@ use vt_replay::{
     Encoding, Format, Moment, Request, Settings, TerminalType, What, Word, request, settings,
 };
 
-/// The words of a line, cut at each space.
+/// Returns the words of a line, cut at each space.
 pub(super) fn words_of(alloc: Global, line: &str) -> Result<Vec<String>, AllocError> {
     let mut words = Vec::new(alloc);
     for word in line.split(' ') {
@@ -86,7 +86,7 @@ const TAKEN: &[Taken] = &[
     ),
 ];
 
-/// Whether a name that was given is this, or none was.
+/// Returns whether a name that was given is this, or none was.
 fn is_name(found: &Option<String>, name: &Option<&str>) -> bool {
     match found {
         Some(text) => *name == Some(text.as_str()),
@@ -94,7 +94,7 @@ fn is_name(found: &Option<String>, name: &Option<&str>) -> bool {
     }
 }
 
-/// Whether settings are those of a row.
+/// Returns whether settings are those of a row.
 fn are_taken(found: &Settings, (_line, what, piece, limit, file): &Taken) -> bool {
     found.what == *what
         && found.piece == *piece
@@ -119,7 +119,7 @@ fn requests(alloc: Global, word: Word, row: &Taken) -> Result<bool, Failed> {
     })
 }
 
-/// Whether the line of a row asks for its settings.
+/// Returns whether the line of a row asks for its settings.
 fn asks_for(alloc: Global, row: &Taken) -> Result<bool, Failed> {
     let asked = settings(alloc, words_of(alloc, row.0)?);
     Ok(match &asked {
@@ -545,7 +545,7 @@ const REFUSED: [(&str, u8, &str); 23] = [
     ("vt220 --version", 0, "vt220 0.3.0\n"),
 ];
 
-/// Whether a line is refused with this status, and a text that begins so.
+/// Returns whether a line is refused with this status, and a text that begins so.
 fn is_refused(alloc: Global, line: &str, status: u8, text: &str) -> Result<bool, Failed> {
     let asked = settings(alloc, words_of(alloc, line)?);
     Ok(match &asked {

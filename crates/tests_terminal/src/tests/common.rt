@@ -39,7 +39,7 @@ pub(super) const PLAIN: Brush = Brush {
     protected: false,
 };
 
-/// The cursor at a place, the wrap flag reset.
+/// Returns the cursor at a position, with the wrap flag reset.
 pub(super) fn at(row: usize, col: usize) -> Cursor {
     Cursor {
         row,
@@ -69,7 +69,7 @@ pub(super) struct Played {
 }
 
 impl Played {
-    /// A terminal as at power-up that was fed these pieces.
+    /// Returns a terminal as at power-up that was fed these pieces.
     pub(super) fn of(alloc: Global, pieces: &[&[u8]]) -> Result<Played, AllocError> {
         let mut played = Played {
             terminal: Terminal::new(alloc)?,
@@ -100,7 +100,7 @@ impl Played {
         self.terminal.feed(piece, &mut self.reports)
     }
 
-    /// Whether another terminal is in the same state, and has reported the same.
+    /// Returns whether another terminal is in the same state, and has reported the same.
     pub(super) fn is_same(&self, other: &Played) -> bool {
         self.terminal.same_state(&other.terminal)
             && self.reports.as_slice() == other.reports.as_slice()
@@ -120,7 +120,7 @@ pub(super) fn holds_at(rt: &impl Abort, row: usize, found: Result<bool, Failed>)
     assert!(rt; found, "row {row}");
 }
 
-/// What a replay of these bytes writes.
+/// Returns what a replay of these bytes writes.
 pub(super) fn replayed(
     alloc: Global,
     input: &[u8],
@@ -138,7 +138,7 @@ pub(super) fn replayed(
     Ok(writer.into_inner())
 }
 
-/// Whether a replay of these bytes writes this, in pieces of this size.
+/// Returns whether a replay of these bytes writes this, in pieces of this size.
 fn replays(
     alloc: Global,
     input: &[u8],
@@ -149,7 +149,7 @@ fn replays(
     Ok(replayed(alloc, input, what, size.count)?.as_slice() == expected)
 }
 
-/// Whether a replay of these bytes writes this, in pieces of 4096 bytes, of 3 and of 1.
+/// Returns whether a replay of these bytes writes this, in pieces of 4096 bytes, of 3 and of 1.
 pub(super) fn is_replayed(
     alloc: Global,
     input: &[u8],

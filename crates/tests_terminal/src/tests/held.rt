@@ -20,7 +20,7 @@ const HELD: [&str; 14] = [
     "Escape(Zero)",
 ];
 
-/// Whether an input is held so, and asks for no report.
+/// Returns whether an input is held so, and asks for no report.
 fn is_held(alloc: Global, input: &[u8], expected: &str) -> Result<bool, Failed> {
     let played = Played::of(alloc, &[input])?;
     let held = format!(in alloc; "{:?}", played.terminal.held())?;

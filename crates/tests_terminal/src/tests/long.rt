@@ -8,7 +8,7 @@ use vt_term::Cursor;
 /// How often a byte is repeated.
 const MILLION: usize = 1_000_000;
 
-/// What an input leaves, and asks for, in pieces of this size.
+/// Returns what an input leaves, and asks for, in pieces of this size.
 fn played_by(alloc: Global, size: usize, input: &[u8]) -> Result<Played, Failed>
     requires { 1 ≤ size }
 {
@@ -17,28 +17,28 @@ fn played_by(alloc: Global, size: usize, input: &[u8]) -> Result<Played, Failed>
     Ok(played)
 }
 
-/// Whether a text has these first lines, with LF after each, and no others.
+/// Returns whether a text has these first lines, with LF after each, and no others.
 fn has_lines(text: &[u8], lines: &[u8]) -> bool {
     let rest = text.get(lines.len()..).unwrap_or(b"");
     text.starts_with(lines) && rest.iter().all(|byte| *byte == b'\n')
 }
 
-/// Whether a terminal shows these lines and the cursor there, and has reported nothing.
+/// Returns whether a terminal shows these lines and the cursor there, and has reported nothing.
 fn shows(alloc: Global, played: &Played, lines: &[u8], cursor: Cursor) -> Result<bool, Failed> {
     let mut text = Vec::new(alloc);
     played.terminal.text(&mut text)?;
     Ok(has_lines(&text, lines) && played.terminal.cursor() == cursor && played.reports.is_empty())
 }
 
-/// Whether an input leaves the same in pieces of this size.
+/// Returns whether an input leaves the same in pieces of this size.
 fn is_same_by(alloc: Global, size: usize, input: &[u8], whole: &Played) -> Result<bool, Failed>
     requires { 1 ≤ size }
 {
     Ok(whole.is_same(&played_by(alloc, size, input)?))
 }
 
-/// Whether an input leaves these lines, the cursor there and nothing in reverse: whole, byte by byte, and in pieces
-/// of 7.
+/// Returns whether an input leaves these lines, the cursor there and nothing in reverse: whole, byte by byte, and in
+/// pieces of 7.
 fn leaves(alloc: Global, input: &[u8], lines: &[u8], cursor: Cursor) -> Result<bool, Failed> {
     let whole = played_by(alloc, MILLION, input)?;
     Ok(
@@ -49,7 +49,7 @@ fn leaves(alloc: Global, input: &[u8], lines: &[u8], cursor: Cursor) -> Result<b
     )
 }
 
-/// So many times this byte, between a front and an end.
+/// Returns this byte so many times, between a front and an end.
 fn repeated(
     alloc: Global,
     front: &[u8],
@@ -63,7 +63,7 @@ fn repeated(
     Ok(input)
 }
 
-/// So many full lines of `a`, and LF after each.
+/// Returns so many full lines of `a`, with LF after each.
 fn full_lines(alloc: Global, count: usize) -> Result<Vec<u8>, Failed> {
     let mut lines = Vec::new(alloc);
     for _ in 0..count {
@@ -72,7 +72,7 @@ fn full_lines(alloc: Global, count: usize) -> Result<Vec<u8>, Failed> {
     Ok(lines)
 }
 
-/// A cursor.
+/// Returns a cursor.
 fn at(row: usize, col: usize, wrap: bool) -> Cursor {
     Cursor { row, col, wrap }
 }
@@ -98,7 +98,7 @@ const LONG: [Long; 4] = [
     (b"\x9d", MILLION, b'a', b"\x07A", b"A\n", (1, 2)),
 ];
 
-/// Whether the input of a row leaves what the row says.
+/// Returns whether the input of a row leaves what the row says.
 fn is_read(
     alloc: Global,
     (front, count, byte, end, lines, (row, col)): &Long,
@@ -114,7 +114,7 @@ fn long_sequences_and_strings_are_read(rt: HostRuntime) {
     }
 }
 
-/// A text of so many full lines, and these bytes behind them.
+/// Returns a text of so many full lines, with these bytes after them.
 fn full_lines_and(alloc: Global, count: usize, rest: &[u8]) -> Result<Vec<u8>, Failed> {
     let mut lines = full_lines(alloc, count)?;
     lines.extend_from_slice(rest)?;
@@ -150,7 +150,7 @@ const RUNS: &[Run] = &[
     ),
 ];
 
-/// Whether the letters of a row leave what the row says.
+/// Returns whether the letters of a row leave what the row says.
 fn fill(alloc: Global, (letters, count, rest, length, cursor): &Run) -> Result<bool, Failed> {
     let lines = full_lines_and(alloc, *count, rest)?;
     let input = repeated(alloc, b"", *letters, b'a', b"")?;
@@ -164,7 +164,7 @@ fn long_runs_fill_the_screen_and_scroll(rt: HostRuntime) {
     }
 }
 
-/// The lines 1 to 1000 in a scroll region.
+/// Returns the lines 1 to 1000 in a scroll region.
 fn numbered_lines(alloc: Global) -> Result<Vec<u8>, Failed> {
     let mut input = Vec::from_slice(alloc, b"\x1b[5;10r\x1b[10;1H")?;
     for k in 1..1001u16 {
@@ -174,7 +174,7 @@ fn numbered_lines(alloc: Global) -> Result<Vec<u8>, Failed> {
     Ok(input)
 }
 
-/// Whether they leave the last ones.
+/// Returns whether they leave the last ones.
 fn the_last_lines_are_kept(alloc: Global) -> Result<bool, Failed> {
     let input = numbered_lines(alloc)?;
     let lines = b"\n\n\n\n996\n997\n998\n999\n1000\n";

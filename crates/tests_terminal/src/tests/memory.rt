@@ -26,12 +26,12 @@ trait Growing {
     /// Makes the call, and answers whether it had its memory.
     fn has_memory(&mut self) -> bool;
 
-    /// Whether all is as it was before the first call.
+    /// Returns whether all is as it was before the first call.
     fn is_unchanged(&self) -> bool;
 }
 
-/// How often a call was refused, and how often that has changed something, until it had its memory: one growth more is
-/// granted each time.
+/// Returns how often a call was refused, and how often that has changed something. One growth more is granted each
+/// time, until it has its memory.
 fn refusals<G: Growing>(alloc: Global, call: &mut G) -> Result<(u32, u32), Failed> {
     let mut scarce = Scarce::new(alloc)?;
     let mut refused = 0u32;
@@ -67,7 +67,7 @@ impl Growing for Making {
     }
 }
 
-/// Whether a terminal that was refused at first is then as any other.
+/// Returns whether a terminal that was refused at first is then as any other.
 fn new_is_refused(alloc: Global) -> Result<bool, Failed> {
     let never_asked = Terminal::new(alloc)?;
     let mut making = Making { alloc, made: None };
@@ -101,7 +101,7 @@ impl Growing for Feeding<'_> {
     }
 }
 
-/// Whether a piece that was refused, also more than once, is then played as if it never had been.
+/// Returns whether a piece that was refused, also more than once, is then played as if it never had been.
 fn feed_is_refused(alloc: Global, input: &[u8]) -> Result<bool, Failed> {
     let mut feeding = Feeding {
         terminal: Terminal::new(alloc)?,
@@ -113,7 +113,7 @@ fn feed_is_refused(alloc: Global, input: &[u8]) -> Result<bool, Failed> {
     Ok((refused > 0) != input.is_empty() && changed == 0 && is_fed(alloc, &feeding)?)
 }
 
-/// Whether the piece was played as by a call that had its memory at once.
+/// Returns whether the piece was played as by a call that had its memory at once.
 fn is_fed(alloc: Global, feeding: &Feeding<'_>) -> Result<bool, Failed> {
     let expected = Played::of(alloc, &[feeding.input])?;
     Ok(
@@ -122,7 +122,7 @@ fn is_fed(alloc: Global, feeding: &Feeding<'_>) -> Result<bool, Failed> {
     )
 }
 
-/// Whether an output has what was expected behind what stood there.
+/// Returns whether an output has what was expected after what was there.
 fn is_behind_ok(out: &[u8], expected: &[u8]) -> bool {
     out.get(..2) == Some(b"ok".as_slice()) && out.get(2..) == Some(expected)
 }
@@ -156,7 +156,7 @@ impl Growing for Viewing {
     }
 }
 
-/// Whether a view that was refused, also more than once, is then appended as if it never had been.
+/// Returns whether a view that was refused, also more than once, is then appended as if it never had been.
 fn view_is_refused(alloc: Global, input: &[u8], what: What) -> Result<bool, Failed> {
     let mut viewing = Viewing {
         terminal: Played::of(alloc, &[input])?.terminal,
@@ -175,7 +175,7 @@ fn view_is_refused(alloc: Global, input: &[u8], what: What) -> Result<bool, Fail
     )
 }
 
-/// Whether that is so of each of these views.
+/// Returns whether that is so of each of these views.
 fn views_are_refused(alloc: Global, input: &[u8]) -> Result<bool, Failed> {
     for what in &[What::Text, What::Show, What::Repaint] {
         if !view_is_refused(alloc, input, *what)? {
@@ -215,7 +215,7 @@ fn append_reserved(terminal: &mut Terminal, input: &[u8], out: &mut Vec<u8>) -> 
     true
 }
 
-/// The same by the calls that can be refused, and whether none was.
+/// Appends the same by the calls that can be refused. Returns whether none was.
 fn append(terminal: &mut Terminal, input: &[u8], out: &mut Vec<u8>) -> bool {
     terminal.feed(input, out).is_ok()
         && terminal.text(out).is_ok()
@@ -224,7 +224,7 @@ fn append(terminal: &mut Terminal, input: &[u8], out: &mut Vec<u8>) -> bool {
         && repaint(terminal, out).is_ok()
 }
 
-/// Whether calls with the room for what they append are never refused, take no memory, and append this.
+/// Returns whether calls with the room for what they append are never refused, take no memory, and append this.
 fn takes_no_memory(
     alloc: Global,
     input: &[u8],
@@ -247,7 +247,7 @@ fn takes_no_memory(
     Ok(answered && out.capacity() == capacity && out.as_slice() == expected)
 }
 
-/// What these calls append.
+/// Returns what these calls append.
 fn appended(alloc: Global, input: &[u8]) -> Result<Vec<u8>, Failed> {
     let mut out = Vec::new(alloc);
     let mut terminal = Terminal::new(alloc)?;
@@ -257,7 +257,7 @@ fn appended(alloc: Global, input: &[u8]) -> Result<Vec<u8>, Failed> {
     Ok(out)
 }
 
-/// Whether none of these calls takes memory, and both kinds append the same as with ample memory.
+/// Returns whether none of these calls takes memory, and both kinds append the same as with ample memory.
 fn none_takes_memory(alloc: Global, input: &[u8]) -> Result<bool, Failed> {
     let expected = appended(alloc, input)?;
     Ok(
@@ -375,7 +375,7 @@ struct Asking {
     answered: Option<Result<Request, Refused>>,
 }
 
-/// Whether words were refused for want of memory.
+/// Returns whether words were refused because an allocation failed.
 fn is_want(answered: &Result<Request, Refused>) -> bool {
     match answered {
         Ok(_) => false,
@@ -402,7 +402,7 @@ impl Growing for Asking {
     }
 }
 
-/// So many copies of the words of a line as a call can be refused.
+/// Returns as many copies of the words of a line as a call can be refused.
 fn copies_of(alloc: Global, line: &str) -> Result<Vec<Vec<String>>, AllocError> {
     let mut copies = Vec::with_capacity(alloc, BLOCKS as usize)?;
     for _ in 0..BLOCKS {
@@ -411,8 +411,8 @@ fn copies_of(alloc: Global, line: &str) -> Result<Vec<Vec<String>>, AllocError> 
     Ok(copies)
 }
 
-/// Whether words that were refused for want of memory, also more than once and each time without a text, are then
-/// answered as with ample memory.
+/// Returns whether words that were refused because an allocation failed are then answered as with ample memory. They
+/// may be refused more than once, each time without a text.
 fn words_are_refused(alloc: Global, line: &str) -> Result<bool, Failed> {
     let mut asking = Asking {
         alloc,
@@ -457,8 +457,8 @@ impl Growing for Checking {
     }
 }
 
-/// Whether a check that was refused, also more than once, answers so and nothing else, and is then made as if it never
-/// had been.
+/// Returns whether a check that was refused answers so and nothing else, also more than once. It is then made as if it
+/// never had been.
 fn check_is_refused(alloc: Global, vector: Vector<'static>) -> Result<bool, Failed> {
     let mut checking = Checking {
         alloc,
@@ -474,7 +474,7 @@ fn check_is_refused(alloc: Global, vector: Vector<'static>) -> Result<bool, Fail
     )
 }
 
-/// The vector that has an input.
+/// Returns the vector that has an input.
 fn vector_of(input: &[u8]) -> Option<Vector<'static>> {
     for i in 0..vector_count() {
         let v = vector(i);
@@ -485,7 +485,7 @@ fn vector_of(input: &[u8]) -> Option<Vector<'static>> {
     None
 }
 
-/// Whether there is a vector with an input, and its check is refused so.
+/// Returns whether there is a vector with an input, and its check is refused so.
 fn check_of_is_refused(alloc: Global, input: &[u8]) -> Result<bool, Failed> {
     match vector_of(input) {
         Some(v) => check_is_refused(alloc, v),
@@ -517,7 +517,7 @@ fn push_row_text(
     Ok(())
 }
 
-/// The texts of the rows, one behind the other, each appended without memory that is left.
+/// Returns the texts of the rows, one after the other, each appended while no memory is left.
 fn row_texts(alloc: Global, terminal: &Terminal) -> Result<Vec<u8>, Failed> {
     let mut all = Vec::new(alloc);
     for row in 1..=ROWS {
@@ -526,7 +526,7 @@ fn row_texts(alloc: Global, terminal: &Terminal) -> Result<Vec<u8>, Failed> {
     Ok(all)
 }
 
-/// Whether these are the text of what an input leaves.
+/// Returns whether these are the text of what an input leaves.
 fn are_the_text(alloc: Global, input: &[u8]) -> Result<bool, Failed> {
     let mut expected = Vec::new(alloc);
     let terminal = Played::of(alloc, &[input])?.terminal;

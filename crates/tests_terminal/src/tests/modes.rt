@@ -64,7 +64,7 @@ fn rows(power_up: Modes) -> [(&'static [u8], Modes); 8] {
     ]
 }
 
-/// Whether an input leaves these modes, and asks for no report.
+/// Returns whether an input leaves these modes, and asks for no report.
 fn leaves(alloc: Global, input: &[u8], modes: Modes) -> Result<bool, Failed> {
     let played = Played::of(alloc, &[input])?;
     Ok(played.terminal.modes() == modes && played.reports.is_empty())

@@ -2,7 +2,7 @@
 use super::common::{Failed, Played, holds_at};
 use std::alloc::Global;
 
-/// Whether two bytes leave the same whole and byte by byte.
+/// Returns whether two bytes leave the same whole and byte by byte.
 fn leave_the_same(alloc: Global, pair: [u8; 2]) -> Result<bool, Failed> {
     let whole = Played::of(alloc, &[&pair])?;
     let (first, second) = pair.split_at(1);

@@ -5,7 +5,7 @@ use std::process::Abort;
 use std::test::Fail;
 use vt_term::{Brush, Cell, Cursor, Margins, Rendition, Saved, Set, Terminal};
 
-/// The stops at power-up.
+/// Returns the stops at power-up.
 fn is_stop_at_power_up(col: usize) -> bool {
     [
         9, 17, 25, 33, 41, 49, 57, 65, 73, 81, 89, 97, 105, 113, 121, 129,
@@ -13,7 +13,7 @@ fn is_stop_at_power_up(col: usize) -> bool {
     .contains(&col)
 }
 
-/// Whether the stops are those at power-up, and one more.
+/// Returns whether the stops are those at power-up, and one more.
 fn has_stops(terminal: &Terminal, more: usize) -> bool {
     for (stop, col) in terminal.stops().iter().zip(1..133usize) {
         if *stop != (col == more || is_stop_at_power_up(col)) {
@@ -23,7 +23,7 @@ fn has_stops(terminal: &Terminal, more: usize) -> bool {
     true
 }
 
-/// Whether each of these cells is a plain space.
+/// Returns whether each of these cells is a plain space.
 fn are_blank(cells: &[Cell]) -> bool {
     for cell in cells {
         if cell.glyph.to_char() != ' ' || cell.brush() != PLAIN {
@@ -33,7 +33,7 @@ fn are_blank(cells: &[Cell]) -> bool {
     true
 }
 
-/// Whether the screen has 24 rows of 80 plain spaces.
+/// Returns whether the screen has 24 rows of 80 plain spaces.
 fn is_blank(terminal: &Terminal) -> bool {
     for row in 1..25 {
         let cells = terminal.row(row);
@@ -189,7 +189,7 @@ const STATES: [&[u8]; 16] = [
     b"\x1b[;",
 ];
 
-/// Whether two inputs leave the same state, or don't, as is said.
+/// Returns whether two inputs leave the same state, or don't, as is said.
 fn compare(alloc: Global, one: &[u8], other: &[u8], same: bool) -> Result<bool, Failed> {
     let one = Played::of(alloc, &[one])?;
     let other = Played::of(alloc, &[other])?;

@@ -3,7 +3,7 @@ use super::common::{Failed, Played, holds};
 use std::alloc::Global;
 use vt_paint::{PaintError, repaint};
 
-/// Whether a repaint inside a sequence is refused, and leaves the output as it was.
+/// Returns whether a repaint inside a sequence is refused, and leaves the output as it was.
 fn is_partial(alloc: Global) -> Result<bool, Failed> {
     let inside = Played::of(alloc, &[b"\x1b[1"])?;
     let mut out = Vec::from_slice(alloc, b"ok")?;
@@ -11,7 +11,7 @@ fn is_partial(alloc: Global) -> Result<bool, Failed> {
     Ok(answer == Err(PaintError::Partial) && out.as_slice() == b"ok".as_slice())
 }
 
-/// Whether an error says this.
+/// Returns whether an error says this.
 fn says(alloc: Global, error: PaintError, message: &str) -> Result<bool, Failed> {
     let said = format!(in alloc; "{error}")?;
     Ok(said.as_str() == message)

@@ -12,12 +12,12 @@ const LONGEST: u8 = 200;
 /// shift.
 const SETS: &[u8] = b"\x1b+B";
 
-/// The single shift behind which a graphic byte shows the glyph that it shows without one.
+/// Returns the single shift behind which a graphic byte shows the glyph that it shows without one.
 fn shift_of(byte: u8) -> u8 {
     if byte < 0x80 { 0x8F } else { 0x8E }
 }
 
-/// A graphic byte of either half, or of the left half alone.
+/// Returns a graphic byte of either half, or of the left half alone.
 fn graphic_byte(i: u8, both: bool) -> u8 {
     if both && i % 3 == 0 {
         0xA1 + i % 94
@@ -26,7 +26,7 @@ fn graphic_byte(i: u8, both: bool) -> u8 {
     }
 }
 
-/// Graphic bytes of both halves, or of the left half alone.
+/// Returns graphic bytes of both halves, or of the left half alone.
 fn graphic_bytes(alloc: Global, both: bool) -> Result<Vec<u8>, AllocError> {
     let mut run = Vec::new(alloc);
     for i in 0..LONGEST {
@@ -35,7 +35,7 @@ fn graphic_bytes(alloc: Global, both: bool) -> Result<Vec<u8>, AllocError> {
     Ok(run)
 }
 
-/// Whether a run from this column on leaves, at once, what its bytes have left one by one, each behind a single shift.
+/// Returns whether a run from this column on leaves what its bytes have left one by one, each after a single shift.
 fn run_agrees(
     alloc: Global,
     setting: &[u8],
@@ -47,7 +47,7 @@ fn run_agrees(
     Ok(whole.terminal.same_state(&by_bytes.terminal))
 }
 
-/// Whether runs of each length agree from this place on.
+/// Returns whether runs of each length agree from this place on.
 fn runs_agree_from(
     alloc: Global,
     setting: &[u8],
@@ -67,7 +67,7 @@ fn runs_agree_from(
     Ok(true)
 }
 
-/// Whether they do from this column on, on a screen of `E` of this width, after this setting.
+/// Returns whether they do from this column on, on a screen of `E` of this width, after this setting.
 fn runs_agree_at(
     alloc: Global,
     setting: &[u8],

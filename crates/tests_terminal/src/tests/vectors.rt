@@ -6,7 +6,7 @@ use std::alloc::Global;
 use vt_replay::{Fault, Watched, What, run};
 use vt_vectors::{Mismatch, VECTOR_COUNT, Vector, check, vector, vector_count, vector_name};
 
-/// Whether a replay for a repaint answers and writes what the vector expects: inside a sequence there is none.
+/// Returns whether a replay for a repaint answers and writes what the vector expects: inside a sequence there is none.
 fn is_repainted(alloc: Global, v: &Vector, piece: usize) -> bool
     requires { (1 ≤ piece) × (piece ≤ 65536) }
 {
@@ -20,7 +20,7 @@ fn is_repainted(alloc: Global, v: &Vector, piece: usize) -> bool
     }
 }
 
-/// Whether replays write what the vector expects.
+/// Returns whether replays write what the vector expects.
 fn is_met(alloc: Global, v: &Vector) -> Result<bool, Failed> {
     Ok(
         check(alloc, v) == Ok(())
@@ -38,7 +38,7 @@ fn every_vector_is_met(rt: HostRuntime) {
     }
 }
 
-/// Whether two vectors have one name or one input.
+/// Returns whether two vectors have one name or one input.
 fn are_alike(i: usize, j: usize) -> bool
     requires { (i < VECTOR_COUNT) × (j < VECTOR_COUNT) }
 {
@@ -99,7 +99,7 @@ const LENGTHS: [(&[u8], usize, usize); 29] = [
     ),
 ];
 
-/// How many vectors have this input, with a text and a repaint of these lengths.
+/// Returns how many vectors have this input, with a text and a repaint of these lengths.
 fn found_with(input: &[u8], text: usize, repaint: usize) -> usize {
     let mut found = 0usize;
     for i in 0..vector_count() {
@@ -188,7 +188,7 @@ fn the_first_difference_decides(rt: HostRuntime) {
     }
 }
 
-/// Whether a mismatch says this.
+/// Returns whether a mismatch says this.
 fn says(alloc: Global, mismatch: &Mismatch, message: &str) -> Result<bool, Failed> {
     let said = format!(in alloc; "{mismatch}")?;
     Ok(said.as_str() == message)

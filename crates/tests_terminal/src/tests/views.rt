@@ -49,7 +49,7 @@ const SHOWN: [Shown; 7] = [
     ),
 ];
 
-/// A line with so many LF before and after it.
+/// Returns a line with so many LF before and after it.
 fn with_line_feeds(
     alloc: Global,
     before: usize,
@@ -63,7 +63,7 @@ fn with_line_feeds(
     Ok(lines)
 }
 
-/// The text with its attributes of what an input leaves.
+/// Returns the text with its attributes of what an input leaves.
 fn shown(alloc: Global, input: &[u8]) -> Result<Vec<u8>, Failed> {
     let played = Played::of(alloc, &[input])?;
     let mut out = Vec::new(alloc);
@@ -71,7 +71,7 @@ fn shown(alloc: Global, input: &[u8]) -> Result<Vec<u8>, Failed> {
     Ok(out)
 }
 
-/// Whether a text is shown so, by a replay too.
+/// Returns whether a text is shown so, by a replay too.
 fn is_shown(alloc: Global, input: &[u8], expected: &[u8]) -> Result<bool, Failed> {
     Ok(
         shown(alloc, input)?.as_slice() == expected
@@ -79,7 +79,7 @@ fn is_shown(alloc: Global, input: &[u8], expected: &[u8]) -> Result<bool, Failed
     )
 }
 
-/// Whether the input of a row is shown as it was written by hand.
+/// Returns whether the input of a row is shown as it was written by hand.
 fn is_shown_by_hand(alloc: Global, (input, before, line, after): &Shown) -> Result<bool, Failed> {
     let expected = with_line_feeds(alloc, *before, line, *after)?;
     is_shown(alloc, input, &expected)
@@ -177,7 +177,7 @@ const DRAWN: [Drawn; 5] = [
     ),
 ];
 
-/// The picture of a row, as it was written by hand.
+/// Returns the picture of a row, as it was written by hand.
 fn drawn_by_hand(
     alloc: Global,
     (_input, start, before, line, after, colours, cells): &Drawn,
@@ -191,7 +191,7 @@ fn drawn_by_hand(
     Ok(picture)
 }
 
-/// The picture of what an input leaves.
+/// Returns the picture of what an input leaves.
 fn drawn(alloc: Global, input: &[u8]) -> Result<Vec<u8>, Failed> {
     let played = Played::of(alloc, &[input])?;
     let mut out = Vec::new(alloc);
@@ -199,7 +199,7 @@ fn drawn(alloc: Global, input: &[u8]) -> Result<Vec<u8>, Failed> {
     Ok(out)
 }
 
-/// Whether an input is drawn so, by a replay too.
+/// Returns whether an input is drawn so, by a replay too.
 fn is_drawn(alloc: Global, input: &[u8], expected: &[u8]) -> Result<bool, Failed> {
     Ok(
         drawn(alloc, input)?.as_slice() == expected
@@ -207,7 +207,7 @@ fn is_drawn(alloc: Global, input: &[u8], expected: &[u8]) -> Result<bool, Failed
     )
 }
 
-/// Whether the input of a row is drawn so.
+/// Returns whether the input of a row is drawn so.
 fn is_drawn_by_hand(alloc: Global, row: &Drawn) -> Result<bool, Failed> {
     let expected = drawn_by_hand(alloc, row)?;
     is_drawn(alloc, row.0, &expected)

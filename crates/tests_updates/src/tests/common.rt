@@ -1,4 +1,4 @@
-//! What the tests share: terminals, and updates that are played again. The tests are of small functions that answer
+//! Has what the tests share: terminals, and updates that are played again. The tests are of small functions that return
 //! whether a row holds, since the proof of one long function takes far more time than those of its parts.
 ghost use Rattle.std.specs.Prelude.{◌≤◌};
 
@@ -8,7 +8,7 @@ use vt_paint::{PaintError, repaint};
 use vt_term::Terminal;
 use vt_update::{UpdateError, update};
 
-/// What a test needs has failed.
+/// Says that what a test needs has failed.
 #[derive(Drop)]
 pub(super) struct Failed;
 
@@ -30,7 +30,7 @@ impl From<PaintError> for Failed {
     }
 }
 
-/// A terminal as at power-up that was fed these bytes.
+/// Returns a terminal as at power-up that was fed these bytes.
 pub(super) fn terminal(alloc: Global, input: &[u8]) -> Result<Terminal, AllocError> {
     let mut terminal = Terminal::new(alloc)?;
     let mut reports = Vec::new(alloc);
@@ -38,8 +38,8 @@ pub(super) fn terminal(alloc: Global, input: &[u8]) -> Result<Terminal, AllocErr
     Ok(terminal)
 }
 
-/// What an update was asked for, and what it has left. Its methods that can fail own nothing large, so no exit has to
-/// drop it.
+/// Has what an update was asked for, and what it has left. Its methods that can fail own nothing large, so no exit has
+/// to drop it.
 #[derive(Drop)]
 pub(super) struct Asked {
     pub(super) shown: Terminal,
@@ -48,7 +48,7 @@ pub(super) struct Asked {
 }
 
 impl Asked {
-    /// Nothing has been asked yet.
+    /// Returns an update that hasn't been asked for yet.
     pub(super) fn new(
         alloc: Global,
         (from, to): &(&[u8], &[u8]),
@@ -61,18 +61,18 @@ impl Asked {
         })
     }
 
-    /// What an update answers.
+    /// Returns what an update answers.
     pub(super) fn update(&mut self) -> Result<(), UpdateError> {
         update(&mut self.shown, &self.to, &mut self.out)
     }
 
-    /// Whether what is shown is what was shown before, and the output has what it had.
+    /// Returns whether what is shown is what was shown before, and the output has what it had.
     pub(super) fn is_unchanged(&self, before: &Terminal) -> bool {
         self.shown.same_state(before) && self.out.as_slice() == b"ok".as_slice()
     }
 
-    /// Whether an update leads there, byte by byte and cut in two, the shown terminal is then the same, and an update
-    /// after it is empty.
+    /// Returns whether an update leads there, byte by byte and cut in two. The shown terminal is then the same, and an
+    /// update after it is empty.
     fn is_right(&mut self, alloc: Global, from: &[u8]) -> Result<bool, Failed> {
         self.update()?;
         Ok(
@@ -82,13 +82,13 @@ impl Asked {
     }
 }
 
-/// An update that was asked for, behind the bytes `ok`.
+/// Returns an update that was asked for, after the bytes `ok`.
 pub(super) fn asked_behind_ok(alloc: Global, pair: &(&[u8], &[u8])) -> Result<Asked, AllocError> {
     let out = Vec::from_slice(alloc, b"ok")?;
     Asked::new(alloc, pair, out)
 }
 
-/// The repaint of what this input leaves.
+/// Returns the repaint of what this input leaves.
 pub(super) fn repainted(alloc: Global, input: &[u8]) -> Result<Vec<u8>, Failed> {
     let mut out = Vec::new(alloc);
     repaint(&terminal(alloc, input)?, &mut out)?;
@@ -122,7 +122,7 @@ fn feed(
     Ok(())
 }
 
-/// Whether bytes, so many at a time, lead from what an input leaves to a state, and ask for no report.
+/// Returns whether bytes, so many at a time, lead from what an input leaves to a state, and ask for no report.
 pub(super) fn lead(
     alloc: Global,
     from: &[u8],
@@ -138,12 +138,12 @@ pub(super) fn lead(
     Ok(client.same_state(to) && reports.is_empty())
 }
 
-/// Whether bytes lead there byte by byte, and cut in two.
+/// Returns whether bytes lead there byte by byte, and cut in two.
 fn lead_in_parts(alloc: Global, from: &[u8], sent: &[u8], to: &Terminal) -> Result<bool, Failed> {
     Ok(lead(alloc, from, sent, 1, to)? && lead(alloc, from, sent, sent.len() / 2 + 1, to)?)
 }
 
-/// Whether the shown terminal is the one that was asked for, and an update sends nothing.
+/// Returns whether the shown terminal is the one that was asked for, and an update sends nothing.
 fn is_settled(alloc: Global, shown: &mut Terminal, to: &Terminal) -> Result<bool, Failed> {
     let mut sent = Vec::new(alloc);
     let is_same = shown.same_state(to);
@@ -151,8 +151,8 @@ fn is_settled(alloc: Global, shown: &mut Terminal, to: &Terminal) -> Result<bool
     Ok(is_same && sent.is_empty())
 }
 
-/// What an update sends from what one input leaves to what another does. Fails unless it leads there, byte by byte and
-/// cut in two, the shown terminal is then the same, and an update after it is empty.
+/// Returns what an update sends from what one input leaves to what another does. Fails unless it leads there, byte by
+/// byte and cut in two. The shown terminal must then be the same, and an update after it empty.
 pub(super) fn updated(alloc: Global, from: &[u8], to: &[u8]) -> Result<Vec<u8>, Failed> {
     let mut asked = Asked::new(alloc, &(from, to), Vec::new(alloc))?;
     if asked.is_right(alloc, from)? {
@@ -162,7 +162,7 @@ pub(super) fn updated(alloc: Global, from: &[u8], to: &[u8]) -> Result<Vec<u8>, 
     }
 }
 
-/// Whether an update sends these bytes.
+/// Returns whether an update sends these bytes.
 pub(super) fn sends(
     alloc: Global,
     from: &[u8],
@@ -172,7 +172,7 @@ pub(super) fn sends(
     Ok(updated(alloc, from, to)?.as_slice() == expected)
 }
 
-/// Whether an update sends fewer bytes than this.
+/// Returns whether an update sends fewer bytes than this.
 pub(super) fn sends_fewer(
     alloc: Global,
     from: &[u8],

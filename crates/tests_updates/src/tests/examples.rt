@@ -1,4 +1,4 @@
-//! Worked examples. The bytes follow from the rule where nothing shorter does the same.
+//! Tests worked examples. The bytes follow from the rule, since nothing shorter does the same.
 use super::common::{
     Asked, Failed, asked_behind_ok, holds, holds_at, lead, repainted, sends, sends_fewer, terminal,
 };
@@ -87,7 +87,7 @@ fn updates_are_these(rt: HostRuntime) {
     }
 }
 
-/// A full screen of lines, the first of them numbered so.
+/// Returns a full screen of lines, the first of them numbered so.
 fn lines(alloc: Global, first: u32) -> Result<Vec<u8>, Failed> {
     let mut input = Vec::new(alloc);
     for i in 0..24u32 {
@@ -100,21 +100,21 @@ fn lines(alloc: Global, first: u32) -> Result<Vec<u8>, Failed> {
     Ok(input)
 }
 
-/// Whether a screen of lines whose first line goes is scrolled up.
+/// Returns whether a screen of lines whose first line goes is scrolled up.
 fn is_scrolled_up(alloc: Global) -> Result<bool, Failed> {
     let from = lines(alloc, 10)?;
     let to = lines(alloc, 11)?;
     sends(alloc, &from, &to, b"\n\rline number 34")
 }
 
-/// Whether one that gets a line in front is scrolled down.
+/// Returns whether one that gets a line in front is scrolled down.
 fn is_scrolled_down(alloc: Global) -> Result<bool, Failed> {
     let from = lines(alloc, 11)?;
     let to = lines(alloc, 10)?;
     sends(alloc, &from, &to, b"\x1b[H\x1b[Lline number 10\x1b[24;15H")
 }
 
-/// Whether one that gets a line in its middle is scrolled down from there on.
+/// Returns whether one that gets a line in its middle is scrolled down from there on.
 fn is_scrolled_down_below(alloc: Global) -> Result<bool, Failed> {
     let from = lines(alloc, 10)?;
     let mut to = lines(alloc, 10)?;
@@ -130,20 +130,20 @@ fn a_line_is_scrolled_in(rt: HostRuntime) {
     holds(&rt, "scrolled down from line 5", below);
 }
 
-/// A full line, and then this.
+/// Returns a full line, and then this.
 fn line_and(alloc: Global, end: &[u8]) -> Result<Vec<u8>, Failed> {
     let mut input = Vec::from_slice(alloc, LINE)?;
     input.extend_from_slice(end)?;
     Ok(input)
 }
 
-/// Whether a saved wrap flag is sent with the line that sets it.
+/// Returns whether a saved wrap flag is sent with the line that sets it.
 fn is_kept_with_its_line(alloc: Global) -> Result<bool, Failed> {
     let saved = line_and(alloc, b"\x1b7")?;
     sends(alloc, b"", &saved, &saved)
 }
 
-/// Whether an update from a full line with one end to one with another end costs few bytes.
+/// Returns whether an update from a full line with one end to one with another end costs few bytes.
 fn costs_few_bytes(alloc: Global, from: &[u8], to: &[u8]) -> Result<bool, Failed> {
     let from = line_and(alloc, from)?;
     let to = line_and(alloc, to)?;
@@ -175,13 +175,13 @@ const REPAINTED: [(&str, &[u8], &[u8]); 3] = [
     ("other tab stops", b"A", b"A\x1b[3g"),
 ];
 
-/// Whether an update sends what a repaint does.
+/// Returns whether an update sends what a repaint does.
 fn is_a_repaint(alloc: Global, from: &[u8], to: &[u8]) -> Result<bool, Failed> {
     let expected = repainted(alloc, to)?;
     sends(alloc, from, to, &expected)
 }
 
-/// What only a repaint can do: another width, and other tab stops.
+/// Tests what only a repaint can do: another width, and other tab stops.
 #[test]
 fn the_rest_are_repaints(rt: HostRuntime) {
     for (name, from, to) in &REPAINTED {
@@ -189,7 +189,7 @@ fn the_rest_are_repaints(rt: HostRuntime) {
     }
 }
 
-/// A full screen, and then this.
+/// Returns a full screen, and then this.
 fn full_screen_and(alloc: Global, end: &[u8]) -> Result<Vec<u8>, Failed> {
     let mut input = Vec::new(alloc);
     for _ in 0..24u8 {
@@ -199,7 +199,8 @@ fn full_screen_and(alloc: Global, end: &[u8]) -> Result<Vec<u8>, Failed> {
     Ok(input)
 }
 
-/// Whether an update away from a single shift sends the one cell of a full screen that differs, and all but the cells.
+/// Returns whether an update away from a single shift sends the one cell of a full screen that differs, and all but the
+/// cells.
 fn sends_one_cell(alloc: Global) -> Result<bool, Failed> {
     let from = full_screen_and(alloc, b"\x1b[H\x1bN")?;
     let to = full_screen_and(alloc, b"\x1b[H\x1b[1;4;5;7mB")?;
@@ -207,7 +208,7 @@ fn sends_one_cell(alloc: Global) -> Result<bool, Failed> {
     sends_fewer(alloc, &from, &to, most)
 }
 
-/// For a single shift that is pending where none is to be no bytes are chosen.
+/// Tests that no bytes are chosen if a single shift is pending and none is to be.
 #[test]
 fn a_single_shift_in_the_way_costs_few_bytes(rt: HostRuntime) {
     let few = sends_one_cell(rt.alloc());
@@ -231,14 +232,14 @@ fn push_update(
     Ok(())
 }
 
-/// A repaint of the first state, and the update from it to the later one.
+/// Returns a repaint of the first state, and the update from it to the later one.
 fn sent_to_a_late_client(alloc: Global, later: &Terminal) -> Result<Vec<u8>, Failed> {
     let mut sent = repainted(alloc, FIRST)?;
     push_update(alloc, FIRST, later, &mut sent)?;
     Ok(sent)
 }
 
-/// Whether these lead a client that shows something else.
+/// Returns whether these lead a client that shows something else.
 fn a_late_client_is_led(alloc: Global) -> Result<bool, Failed> {
     let later = terminal(alloc, LATER)?;
     let sent = sent_to_a_late_client(alloc, &later)?;
@@ -250,12 +251,12 @@ fn a_client_that_joins_late_is_led_too(rt: HostRuntime) {
     holds(&rt, "a late client", a_late_client_is_led(rt.alloc()));
 }
 
-/// Whether an update is refused inside a sequence, and leaves what was there before.
+/// Returns whether an update is refused inside a sequence, and leaves what was there before.
 fn leaves_all(before: &Terminal, asked: &mut Asked) -> bool {
     asked.update() == Err(UpdateError::Partial) && asked.is_unchanged(before)
 }
 
-/// Whether an update inside a sequence is refused, and leaves all as it was.
+/// Returns whether an update inside a sequence is refused, and leaves all as it was.
 fn is_partial(alloc: Global, pair: &(&[u8], &[u8])) -> Result<bool, Failed> {
     let before = terminal(alloc, pair.0)?;
     let mut asked = asked_behind_ok(alloc, pair)?;
@@ -271,7 +272,7 @@ fn inside_a_sequence_it_is_partial(rt: HostRuntime) {
     }
 }
 
-/// Whether an error says this.
+/// Returns whether an error says this.
 fn says(alloc: Global, error: UpdateError, message: &str) -> Result<bool, Failed> {
     let said = format!(in alloc; "{error}")?;
     Ok(said.as_str() == message)

@@ -1,4 +1,4 @@
-//! Each growth refused; and with room no memory is asked for.
+//! Tests each growth refused. If there is capacity, no memory is asked for.
 use super::common::{Asked, Failed, asked_behind_ok, holds_at, sends, terminal, updated};
 use super::scarce::{BLOCKS, Scarce};
 use std::alloc::{AllocError, Global};
@@ -12,8 +12,8 @@ const PAIRS: [(&[u8], &[u8]); 3] = [
     (b"A\x1b7", b"\x1b[2;5r\x1b[?6hC\x1b(0"),
 ];
 
-/// How often an update was refused, and how often that has changed something, until it had its memory: one growth more
-/// is granted each time.
+/// Returns how often an update was refused, and how often that has changed something. One growth more is granted each
+/// time, until it has its memory.
 fn refusals(alloc: Global, before: &Terminal, asked: &mut Asked) -> Result<(u32, u32), AllocError> {
     let mut scarce = Scarce::new(alloc)?;
     let mut refused = 0u32;
@@ -31,24 +31,24 @@ fn refusals(alloc: Global, before: &Terminal, asked: &mut Asked) -> Result<(u32,
     Ok((refused, changed))
 }
 
-/// Whether an output has what was expected behind what stood there.
+/// Returns whether an output has what was expected after what was there.
 fn is_behind_ok(out: &[u8], expected: &[u8]) -> bool {
     out.get(..2) == Some(b"ok".as_slice()) && out.get(2..) == Some(expected)
 }
 
-/// Whether an update is refused, also more than once, and no refusal changes anything.
+/// Returns whether an update is refused, also more than once, and no refusal changes anything.
 fn is_only_refused(alloc: Global, before: &Terminal, asked: &mut Asked) -> Result<bool, Failed> {
     let (refused, changed) = refusals(alloc, before, asked)?;
     Ok(refused > 0 && changed == 0)
 }
 
-/// Whether it is then made as if it never had been refused.
+/// Returns whether it is then made as if it never had been refused.
 fn is_made(alloc: Global, pair: &(&[u8], &[u8]), asked: &Asked) -> Result<bool, Failed> {
     let expected = updated(alloc, pair.0, pair.1)?;
     Ok(asked.shown.same_state(&asked.to) && is_behind_ok(&asked.out, &expected))
 }
 
-/// Whether both hold of an update from what was shown before.
+/// Returns whether both are so of an update from what was shown before.
 fn is_refused_and_made(
     alloc: Global,
     before: &Terminal,
@@ -58,7 +58,7 @@ fn is_refused_and_made(
     Ok(is_only_refused(alloc, before, asked)? && is_made(alloc, pair, asked)?)
 }
 
-/// Whether an update that was refused, also more than once, is then made as if it never had been.
+/// Returns whether an update that was refused, also more than once, is then made as if it never had been.
 fn is_refused(alloc: Global, pair: &(&[u8], &[u8])) -> Result<bool, Failed> {
     let before = terminal(alloc, pair.0)?;
     let mut asked = asked_behind_ok(alloc, pair)?;
@@ -72,7 +72,7 @@ fn each_growth_is_refused(rt: HostRuntime) {
     }
 }
 
-/// Whether an update is made while there is no memory.
+/// Returns whether an update is made while there is no memory.
 fn is_made_without_memory(alloc: Global, asked: &mut Asked) -> Result<bool, Failed> {
     let scarce = Scarce::new(alloc)?;
     let answered = asked.update();
@@ -80,14 +80,14 @@ fn is_made_without_memory(alloc: Global, asked: &mut Asked) -> Result<bool, Fail
     Ok(answered == Ok(()) && asked.shown.same_state(&asked.to))
 }
 
-/// Whether an update with room asks for no memory, and leads there.
+/// Returns whether an update with room asks for no memory, and leads there.
 fn takes_no_memory(alloc: Global, pair: &(&[u8], &[u8])) -> Result<bool, Failed> {
     let out = Vec::with_capacity(alloc, UPDATE_LIMIT)?;
     let mut asked = Asked::new(alloc, pair, out)?;
     is_made_without_memory(alloc, &mut asked)
 }
 
-/// What an update that can't be refused sends while there is no memory.
+/// Returns what an update that can't be refused sends while there is no memory.
 fn reserved_update(
     alloc: Global,
     shown: &mut Terminal,
@@ -102,7 +102,7 @@ fn reserved_update(
     Ok(out)
 }
 
-/// Whether that leads from what is shown to what is asked for, and is what an update sends.
+/// Returns whether these bytes lead from what is shown to what is asked for, and are what an update sends.
 fn leads_reserved(
     alloc: Global,
     shown: &mut Terminal,
@@ -113,7 +113,7 @@ fn leads_reserved(
     Ok(shown.same_state(to) && sends(alloc, pair.0, pair.1, &sent)?)
 }
 
-/// Whether one that can't be refused asks for none either, and leads there.
+/// Returns whether one that can't be refused asks for none either, and leads there.
 fn reserved_takes_no_memory(alloc: Global, pair: &(&[u8], &[u8])) -> Result<bool, Failed> {
     let mut shown = terminal(alloc, pair.0)?;
     let to = terminal(alloc, pair.1)?;

@@ -1,4 +1,4 @@
-//! From the state that each vector leaves to that of each other.
+//! Tests the update from the state that each vector leaves to that of each other.
 use super::common::{Failed, holds_at, lead, terminal};
 use std::alloc::Global;
 use std::process::Abort;
@@ -7,8 +7,8 @@ use vt_term::Terminal;
 use vt_update::{UpdateError, update};
 use vt_vectors::{vector, vector_count};
 
-/// Whether an update leads from what an input leaves to a state, the shown terminal and another one, and sends nothing
-/// just where the two are the same.
+/// Returns whether an update leads from what an input leaves to a state, on the shown terminal and on another one. It
+/// must send nothing exactly if the two are the same.
 fn leads(alloc: Global, from: &[u8], shown: &mut Terminal, to: &Terminal) -> Result<bool, Failed> {
     let mut sent = Vec::new(alloc);
     let equal = shown.same_state(to);
@@ -16,13 +16,13 @@ fn leads(alloc: Global, from: &[u8], shown: &mut Terminal, to: &Terminal) -> Res
     Ok(sent.is_empty() == equal && shown.same_state(to) && lead(alloc, from, &sent, 7, to)?)
 }
 
-/// Whether an update inside a sequence is refused.
+/// Returns whether an update inside a sequence is refused.
 fn is_partial(alloc: Global, shown: &mut Terminal, to: &Terminal) -> bool {
     let mut sent = Vec::new(alloc);
     update(shown, to, &mut sent) == Err(UpdateError::Partial)
 }
 
-/// Whether an update does so between sequences, and is refused inside one.
+/// Returns whether an update does so between sequences, and is refused inside one.
 fn is_led(alloc: Global, from: &[u8], to: &Terminal) -> Result<bool, Failed> {
     let mut shown = terminal(alloc, from)?;
     if shown.is_between() && to.is_between() {

@@ -1,4 +1,4 @@
-//! Memory that is refused, and granted one growth after another.
+//! Refuses memory, and grants one growth after another.
 use std::alloc::{AllocError, Global};
 
 /// More growths than any call makes, and more blocks than it needs.

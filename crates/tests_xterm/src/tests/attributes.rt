@@ -1,4 +1,4 @@
-//! Worked rows of SGR: which attributes are set.
+//! Tests worked rows of SGR: which attributes are set.
 use crate::common::{fed, holds};
 use std::alloc::{AllocError, Global};
 use vt_xterm::Front;

@@ -1,4 +1,4 @@
-//! Repaints of sessions: played on another terminal and front, they leave what is seen of the first ones.
+//! Tests repaints of sessions. Played on another terminal and front, they leave what is seen of the first ones.
 use crate::common::{Reader, fed, holds};
 use std::alloc::{AllocError, Global};
 use vt_term::Terminal;

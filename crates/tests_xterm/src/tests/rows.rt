@@ -1,4 +1,4 @@
-//! Worked rows: what the screen shows, and where the cursor is.
+//! Tests worked rows: what the screen shows, and where the cursor is.
 use crate::common::{fed, holds, shows};
 use std::alloc::{AllocError, Global};
 use std::process::Abort;

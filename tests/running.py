@@ -122,11 +122,6 @@ def gate_suites():
     return {name: (whole, None if short == "-" else short) for name, whole, short in rows("suites.txt")}
 
 
-def untried():
-    """Returns the tests of tests/untried.txt, each with the reason."""
-    return dict(rows("untried.txt"))
-
-
 def options(text, *known):
     """Returns the options among a script's arguments. With --help, prints the script's text and ends; so it does with an unknown one."""
     words = sys.argv[1:]

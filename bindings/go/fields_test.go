@@ -70,40 +70,29 @@ func fieldsOf(t *Terminal) map[string]int {
 	return found
 }
 
-// Each row of the file that VT220_FIELDS names. Without it, this repository's file is read.
 func TestFields(t *testing.T) {
-	path := os.Getenv("VT220_FIELDS")
-	if path == "" {
-		path = "../../tests-c/fields.txt"
-	}
-	file, err := os.ReadFile(path)
-	if err != nil {
-		t.Skip("no rows: VT220_FIELDS names their file")
-	}
+	rows := rowsOf(t, "VT220_FIELDS", "tests-c/fields.txt")
 	atPowerUp := map[string]int{}
 	for column := 1; column <= Columns; column++ {
 		atPowerUp[fmt.Sprintf("stop.%d", column)] = 0
 	}
-	count := 0
-	for _, line := range strings.Split(strings.TrimSuffix(string(file), "\n"), "\n") {
-		if line[0] == '#' {
-			continue
-		}
-		fields := strings.Split(line, "\t")
+	for i, fields := range rows {
 		wanted := map[string]int{}
 		for name, value := range atPowerUp {
 			wanted[name] = value
 		}
 		for _, field := range fields[2:] {
 			name, value, _ := strings.Cut(field, "=")
-			if wanted[name], err = strconv.Atoi(value); err != nil {
+			number, err := strconv.Atoi(value)
+			if err != nil {
 				t.Fatal(err)
 			}
+			wanted[name] = number
 		}
-		if count == 0 {
+		if i == 0 {
 			atPowerUp = wanted
 		}
-		terminal := open(t, string(unhex(t, strings.ReplaceAll(fields[1], " ", ""))))
+		terminal := open(t, string(unhex(t, fields[1])))
 		found := fieldsOf(terminal)
 		for name := range wanted {
 			if value, has := found[name]; !has || value != wanted[name] {
@@ -114,10 +103,9 @@ func TestFields(t *testing.T) {
 			t.Errorf("%s: %d fields, and not %d", fields[0], len(found), len(wanted))
 		}
 		terminal.Close()
-		count++
 	}
-	if count < 50 {
-		t.Errorf("%d rows", count)
+	if len(rows) < 50 {
+		t.Errorf("%d rows", len(rows))
 	}
 }
 

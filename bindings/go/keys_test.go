@@ -2,9 +2,6 @@ package vt220
 
 import (
 	"bytes"
-	"encoding/hex"
-	"os"
-	"strings"
 	"testing"
 )
 
@@ -29,29 +26,12 @@ func expected(t *testing.T, field string) ([]byte, error) {
 	case "no character":
 		return nil, ErrNoCharacter
 	}
-	sent, err := hex.DecodeString(strings.ReplaceAll(field, " ", ""))
-	if err != nil {
-		t.Fatal(err)
-	}
-	return sent, nil
+	return unhex(t, field), nil
 }
 
-// Each row of the file that VT220_KEYS names. Without it, this repository's file is read.
 func TestKeys(t *testing.T) {
-	path := os.Getenv("VT220_KEYS")
-	if path == "" {
-		path = "../../tests-c/keys.txt"
-	}
-	file, err := os.ReadFile(path)
-	if err != nil {
-		t.Skip("no rows: VT220_KEYS names their file")
-	}
 	count := 0
-	for _, line := range strings.Split(string(file), "\n") {
-		if line == "" || line[0] == '#' {
-			continue
-		}
-		fields := strings.Split(line, "\t")
+	for _, fields := range rowsOf(t, "VT220_KEYS", "tests-c/keys.txt") {
 		wanted, wantedError := expected(t, fields[1])
 		for _, name := range fields[2:] {
 			for setting := 0; setting < 16; setting++ {

@@ -1,7 +1,6 @@
 package vt220
 
 import (
-	"os"
 	"strings"
 	"testing"
 )
@@ -12,7 +11,7 @@ type row struct{ text, pending, reports, lines string }
 func rowOf(t *testing.T, fields []string) (wanted row) {
 	for _, field := range fields {
 		name, value, _ := strings.Cut(field, "=")
-		bytes := func() string { return string(unhex(t, strings.ReplaceAll(value, " ", ""))) }
+		bytes := func() string { return string(unhex(t, value)) }
 		switch name {
 		case "text":
 			wanted.text = strings.ReplaceAll(value, `\n`, "\n")
@@ -53,33 +52,10 @@ func fed(t *testing.T, s *Scratch, input []byte, size int) (found row) {
 	return found
 }
 
-// Each row of the file that VT220_UTF8 names, whole and byte by byte. Without it, this repository's file is read.
 func TestUTF8(t *testing.T) {
-	path := os.Getenv("VT220_UTF8")
-	if path == "" {
-		path = "../../tests-c/utf8.txt"
-	}
-	file, err := os.ReadFile(path)
-	if err != nil {
-		t.Skip("no rows: VT220_UTF8 names their file")
-	}
-	s, count := scratch(t), 0
-	for _, line := range strings.Split(strings.TrimSuffix(string(file), "\n"), "\n") {
-		if line[0] == '#' {
-			continue
-		}
-		fields := strings.Split(line, "\t")
-		input, wanted := unhex(t, strings.ReplaceAll(fields[1], " ", "")), rowOf(t, fields[2:])
-		for _, size := range []int{len(input), 1} {
-			if found := fed(t, s, input, size); found != wanted {
-				t.Errorf("%s in chunks of %d: %q, and not %q", fields[0], size, found, wanted)
-			}
-		}
-		count++
-	}
-	if count < 30 {
-		t.Errorf("%d rows", count)
-	}
+	s, rows := scratch(t), rowsOf(t, "VT220_UTF8", "tests-c/utf8.txt")
+	wanted := func(fields []string) row { return rowOf(t, fields) }
+	eachWay(t, rows, 30, wanted, func(input []byte, size int) row { return fed(t, s, input, size) })
 }
 
 // By the tables of docs/SPECIFICATION.md, 'UTF-8'.

@@ -3,9 +3,6 @@ package vt220
 import (
 	"bytes"
 	"encoding/hex"
-	"errors"
-	"io/fs"
-	"os"
 	"reflect"
 	"strings"
 	"testing"
@@ -29,34 +26,20 @@ func scratch(t *testing.T) *Scratch {
 }
 
 func unhex(t *testing.T, field string) []byte {
-	content, err := hex.DecodeString(field)
+	content, err := hex.DecodeString(strings.ReplaceAll(field, " ", ""))
 	if err != nil {
 		t.Fatal(err)
 	}
 	return content
 }
 
-// Each vector whole, byte by byte and in cuts: VT220_VECTORS names their file. Without it, this repository's file is read.
-// The published module has no such file beside it, so the test is skipped there.
+// Each vector whole, byte by byte and in cuts.
 func TestVectors(t *testing.T) {
-	path, isNamed := os.LookupEnv("VT220_VECTORS")
-	if !isNamed {
-		path = "../../crates/vectors/stdout"
+	s, rows := scratch(t), rowsOf(t, "VT220_VECTORS", "crates/vectors/stdout")
+	if len(rows) < 163 {
+		t.Fatalf("%d lines", len(rows))
 	}
-	file, err := os.ReadFile(path)
-	if errors.Is(err, fs.ErrNotExist) && !isNamed {
-		t.Skip("no vectors: VT220_VECTORS names their file")
-	}
-	if err != nil {
-		t.Fatal(err)
-	}
-	lines := strings.Split(strings.TrimSuffix(string(file), "\n"), "\n")[1:]
-	if len(lines) < 162 {
-		t.Fatalf("%d vectors", len(lines))
-	}
-	s := scratch(t)
-	for _, line := range lines {
-		fields := strings.Split(line, "\t")
+	for _, fields := range rows[1:] {
 		for _, cut := range []int{1 << 30, 1, 5} {
 			oneWay(t, s, cut, fields)
 		}

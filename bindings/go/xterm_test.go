@@ -2,7 +2,6 @@ package vt220
 
 import (
 	"fmt"
-	"os"
 	"strings"
 	"testing"
 )
@@ -14,7 +13,7 @@ func xtermRowOf(t *testing.T, fields []string) (wanted xtermRow) {
 	wanted = xtermRow{cursor: "1;1", alternate: "0", bells: "0"}
 	for _, field := range fields {
 		name, value, _ := strings.Cut(field, "=")
-		bytes := func() string { return string(unhex(t, strings.ReplaceAll(value, " ", ""))) }
+		bytes := func() string { return string(unhex(t, value)) }
 		switch name {
 		case "text":
 			wanted.text = strings.ReplaceAll(value, `\n`, "\n")
@@ -110,33 +109,10 @@ func fedXterm(t *testing.T, s *Scratch, input []byte, size int) (found xtermRow)
 	return found
 }
 
-// Each row of the file that VT220_XTERM names, whole and byte by byte. Without it, this repository's file is read.
 func TestXterm(t *testing.T) {
-	path := os.Getenv("VT220_XTERM")
-	if path == "" {
-		path = "../../tests-c/xterm.txt"
-	}
-	file, err := os.ReadFile(path)
-	if err != nil {
-		t.Skip("no rows: VT220_XTERM names their file")
-	}
-	s, count := scratch(t), 0
-	for _, line := range strings.Split(strings.TrimSuffix(string(file), "\n"), "\n") {
-		if line[0] == '#' {
-			continue
-		}
-		fields := strings.Split(line, "\t")
-		input, wanted := unhex(t, strings.ReplaceAll(fields[1], " ", "")), xtermRowOf(t, fields[2:])
-		for _, size := range []int{len(input), 1} {
-			if found := fedXterm(t, s, input, size); found != wanted {
-				t.Errorf("%s in chunks of %d: %q, and not %q", fields[0], size, found, wanted)
-			}
-		}
-		count++
-	}
-	if count < 40 {
-		t.Errorf("%d rows", count)
-	}
+	s, rows := scratch(t), rowsOf(t, "VT220_XTERM", "tests-c/xterm.txt")
+	wanted := func(fields []string) xtermRow { return xtermRowOf(t, fields) }
+	eachWay(t, rows, 40, wanted, func(input []byte, size int) xtermRow { return fedXterm(t, s, input, size) })
 }
 
 func TestXtermClosed(t *testing.T) {

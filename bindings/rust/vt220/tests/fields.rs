@@ -1,6 +1,8 @@
-//! The readers through Rust: VT220_FIELDS names the file of rows. Without it, this repository's file is read.
+//! The readers through Rust: VT220_FIELDS names the file of rows.
+mod rows;
+
+use rows::{bytes_of, rows_of};
 use std::collections::BTreeMap;
-use std::{env, fs};
 use vt220::{Brush, Cursor, Held, Terminal, COLUMNS};
 
 type Fields = BTreeMap<String, u32>;
@@ -76,30 +78,23 @@ fn fields_of(terminal: &Terminal) -> Fields {
 
 #[test]
 fn rows() {
-    // What is packed has no rows beside it.
-    let here = concat!(env!("CARGO_MANIFEST_DIR"), "/../../../tests-c/fields.txt");
-    let path = env::var("VT220_FIELDS").unwrap_or_else(|_| here.to_string());
-    let all = match fs::read_to_string(path) {
-        Ok(all) => all,
-        Err(_) => return,
+    let rows = match rows_of("VT220_FIELDS", "tests-c/fields.txt") {
+        Some(rows) => rows,
+        None => return,
     };
     let mut at_power_up: Fields = (1..=COLUMNS).map(|column| (format!("stop.{column}"), 0)).collect();
-    let mut count = 0;
-    for line in all.lines().filter(|line| !line.starts_with('#')) {
-        let columns: Vec<&str> = line.split('\t').collect();
-        let input: Vec<u8> = columns[1].split_whitespace().map(|byte| u8::from_str_radix(byte, 16).unwrap()).collect();
+    for (i, columns) in rows.iter().enumerate() {
         let mut wanted = at_power_up.clone();
         for field in &columns[2..] {
             let (name, value) = field.split_once('=').unwrap();
             wanted.insert(name.to_string(), value.parse().unwrap());
         }
-        if count == 0 {
+        if i == 0 {
             at_power_up = wanted.clone();
         }
         let mut terminal = Terminal::new().unwrap();
-        terminal.feed(&input);
+        terminal.feed(&bytes_of(&columns[1]));
         assert_eq!(fields_of(&terminal), wanted, "{}", columns[0]);
-        count += 1;
     }
-    assert!(count >= 50);
+    assert!(rows.len() >= 50);
 }

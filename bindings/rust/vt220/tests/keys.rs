@@ -1,5 +1,7 @@
-//! The keyboard through Rust: VT220_KEYS names the file of rows. Without it, this repository's file is read.
-use std::{env, fs};
+//! The keyboard through Rust: VT220_KEYS names the file of rows.
+mod rows;
+
+use rows::{bytes_of, rows_of};
 use vt220::{key, key_length, Error, Modes};
 
 /// Returns the modes for a setting: LNM, DECCKM, DECKPAM and S8C1T are its bits, from the highest.
@@ -21,25 +23,21 @@ fn expected(field: &str) -> Result<Vec<u8>, Error> {
     match field {
         "no key" => Err(Error::NoKey),
         "no character" => Err(Error::NoCharacter),
-        bytes => Ok(bytes.split(' ').map(|byte| u8::from_str_radix(byte, 16).unwrap()).collect()),
+        bytes => Ok(bytes_of(bytes)),
     }
 }
 
 #[test]
 fn rows() {
-    // What is packed has no rows beside it.
-    let here = concat!(env!("CARGO_MANIFEST_DIR"), "/../../../tests-c/keys.txt");
-    let path = env::var("VT220_KEYS").unwrap_or_else(|_| here.to_string());
-    let all = match fs::read_to_string(path) {
-        Ok(all) => all,
-        Err(_) => return,
+    let rows = match rows_of("VT220_KEYS", "tests-c/keys.txt") {
+        Some(rows) => rows,
+        None => return,
     };
     let mut count = 0;
-    for line in all.lines().filter(|line| !line.is_empty() && !line.starts_with('#')) {
-        let fields: Vec<&str> = line.split('\t').collect();
+    for fields in &rows {
         for name in &fields[2..] {
-            for setting in (0..16).filter(|setting| is_under(fields[0], *setting)) {
-                assert_eq!(key(name, &modes_of(setting)), expected(fields[1]), "{name} under {setting:04b}");
+            for setting in (0..16).filter(|setting| is_under(&fields[0], *setting)) {
+                assert_eq!(key(name, &modes_of(setting)), expected(&fields[1]), "{name} under {setting:04b}");
                 count += 1;
             }
         }

@@ -1,10 +1,8 @@
-//! UTF-8 through Rust: VT220_UTF8 names the file of rows. Without it, this repository's file is read.
-use std::{env, fs};
-use vt220::{shown, Decoder, Scratch, Terminal};
+//! UTF-8 through Rust: VT220_UTF8 names the file of rows.
+mod rows;
 
-fn bytes_of(hex: &str) -> Vec<u8> {
-    hex.split_whitespace().map(|byte| u8::from_str_radix(byte, 16).unwrap()).collect()
-}
+use rows::{bytes_of, each_way, rows_of};
+use vt220::{shown, Decoder, Scratch, Terminal};
 
 /// What a row has: the text, the pending bytes, the reports and the lines that scroll off.
 #[derive(Debug, Default, PartialEq)]
@@ -15,7 +13,7 @@ struct Row {
     lines: String,
 }
 
-fn row_of(fields: &[&str]) -> Row {
+fn row_of(fields: &[String]) -> Row {
     let mut row = Row::default();
     for field in fields {
         match field.split_once('=').unwrap() {
@@ -46,23 +44,7 @@ fn fed(input: &[u8], size: usize, scratch: &mut Scratch) -> Row {
 
 #[test]
 fn rows() {
-    // What is packed has no rows beside it.
-    let here = concat!(env!("CARGO_MANIFEST_DIR"), "/../../../tests-c/utf8.txt");
-    let path = env::var("VT220_UTF8").unwrap_or_else(|_| here.to_string());
-    let (all, mut scratch) = match fs::read_to_string(path) {
-        Ok(all) => (all, Scratch::new().unwrap()),
-        Err(_) => return,
-    };
-    let mut count = 0;
-    for line in all.lines().filter(|line| !line.starts_with('#')) {
-        let columns: Vec<&str> = line.split('\t').collect();
-        let (input, wanted) = (bytes_of(columns[1]), row_of(&columns[2..]));
-        for size in [input.len(), 1] {
-            assert_eq!(fed(&input, size, &mut scratch), wanted, "{} in chunks of {size}", columns[0]);
-        }
-        count += 1;
-    }
-    assert!(count >= 30);
+    each_way(rows_of("VT220_UTF8", "tests-c/utf8.txt"), 30, row_of, fed);
 }
 
 // By the tables of docs/SPECIFICATION.md, 'UTF-8'.

@@ -1,10 +1,8 @@
-//! The vectors through Rust: VT220_VECTORS names their file. Without it, this repository's file is read.
-use std::{env, fs};
-use vt220::{Error, Held, Scratch, Terminal};
+//! The vectors through Rust: VT220_VECTORS names their file.
+mod rows;
 
-fn bytes_of(hex: &str) -> Vec<u8> {
-    (0..hex.len() / 2).map(|i| u8::from_str_radix(&hex[2 * i..2 * i + 2], 16).unwrap()).collect()
-}
+use rows::{bytes_of, rows_of};
+use vt220::{Error, Held, Scratch, Terminal};
 
 fn begun() -> Terminal {
     let mut terminal = Terminal::new().unwrap();
@@ -12,11 +10,11 @@ fn begun() -> Terminal {
     terminal
 }
 
-fn one_way(cut: usize, scratch: &mut Scratch, input: &[u8], fields: &[&str]) {
+fn one_way(cut: usize, scratch: &mut Scratch, input: &[u8], fields: &[String]) {
     let mut terminal = Terminal::new().unwrap();
     let sent: Vec<u8> = input.chunks(cut).flat_map(|piece| terminal.feed(piece)).collect();
-    assert_eq!(sent, bytes_of(fields[3]), "{}", fields[0]);
-    assert_eq!(terminal.text(scratch).into_bytes(), bytes_of(fields[2]), "{}", fields[0]);
+    assert_eq!(sent, bytes_of(&fields[3]), "{}", fields[0]);
+    assert_eq!(terminal.text(scratch).into_bytes(), bytes_of(&fields[2]), "{}", fields[0]);
     let (mut other, mut shown) = (begun(), begun());
     if fields[4] == "-" {
         assert_eq!(terminal.repaint(scratch), Err(Error::Partial), "{}", fields[0]);
@@ -25,7 +23,7 @@ fn one_way(cut: usize, scratch: &mut Scratch, input: &[u8], fields: &[&str]) {
         return;
     }
     let painted = terminal.repaint(scratch).unwrap();
-    assert_eq!(painted, bytes_of(fields[4]), "{}", fields[0]);
+    assert_eq!(painted, bytes_of(&fields[4]), "{}", fields[0]);
     assert!(other.feed(&painted).is_empty() && other.same_state(&terminal), "{}", fields[0]);
     let update = shown.update(&terminal, scratch).unwrap();
     let mut played = begun();
@@ -35,23 +33,17 @@ fn one_way(cut: usize, scratch: &mut Scratch, input: &[u8], fields: &[&str]) {
 
 #[test]
 fn vectors() {
-    // What is packed has no vectors beside it.
-    let here = concat!(env!("CARGO_MANIFEST_DIR"), "/../../../crates/vectors/stdout");
-    let path = env::var("VT220_VECTORS").unwrap_or_else(|_| here.to_string());
-    let (all, mut scratch) = match fs::read_to_string(path) {
-        Ok(all) => (all, Scratch::new().unwrap()),
-        Err(_) => return,
+    let (rows, mut scratch) = match rows_of("VT220_VECTORS", "crates/vectors/stdout") {
+        Some(rows) => (rows, Scratch::new().unwrap()),
+        None => return,
     };
-    let mut count = 0;
-    for line in all.lines().skip(1) {
-        let fields: Vec<&str> = line.split('\t').collect();
-        let input = bytes_of(fields[1]);
+    for fields in &rows[1..] {
+        let input = bytes_of(&fields[1]);
         for cut in [input.len().max(1), 1, 5] {
-            one_way(cut, &mut scratch, &input, &fields);
+            one_way(cut, &mut scratch, &input, fields);
         }
-        count += 1;
     }
-    assert!(count >= 162);
+    assert!(rows.len() > 162);
 }
 
 #[test]

@@ -1,10 +1,8 @@
-//! What programs send under TERM=xterm, through Rust: VT220_XTERM names the file of rows. Without it, this repository's file is read.
-use std::{env, fs};
-use vt220::{Error, Scratch, Terminal, Xterm};
+//! What programs send under TERM=xterm, through Rust: VT220_XTERM names the file of rows.
+mod rows;
 
-fn bytes_of(hex: &str) -> Vec<u8> {
-    hex.split_whitespace().map(|byte| u8::from_str_radix(byte, 16).unwrap()).collect()
-}
+use rows::{bytes_of, each_way, rows_of};
+use vt220::{Error, Scratch, Terminal, Xterm};
 
 /// A row's values: the screen, the lines that scroll off, the cursor, the page, the attributes, the bells, the pending bytes and the reports.
 #[derive(Debug, PartialEq)]
@@ -19,7 +17,7 @@ struct Row {
     reports: Vec<u8>,
 }
 
-fn row_of(fields: &[&str]) -> Row {
+fn row_of(fields: &[String]) -> Row {
     let none = String::new;
     let mut row = Row { text: none(), lines: none(), cursor: "1;1".to_string(), alternate: false, brush: none(), bells: 0, pending: vec![], reports: vec![] };
     for field in fields {
@@ -84,23 +82,7 @@ fn fed(input: &[u8], size: usize, scratch: &mut Scratch) -> Row {
 
 #[test]
 fn rows() {
-    // What is packed has no rows beside it.
-    let here = concat!(env!("CARGO_MANIFEST_DIR"), "/../../../tests-c/xterm.txt");
-    let path = env::var("VT220_XTERM").unwrap_or_else(|_| here.to_string());
-    let (all, mut scratch) = match fs::read_to_string(path) {
-        Ok(all) => (all, Scratch::new().unwrap()),
-        Err(_) => return,
-    };
-    let mut count = 0;
-    for line in all.lines().filter(|line| !line.starts_with('#')) {
-        let columns: Vec<&str> = line.split('\t').collect();
-        let (input, wanted) = (bytes_of(columns[1]), row_of(&columns[2..]));
-        for size in [input.len(), 1] {
-            assert_eq!(fed(&input, size, &mut scratch), wanted, "{} in chunks of {size}", columns[0]);
-        }
-        count += 1;
-    }
-    assert!(count >= 40);
+    each_way(rows_of("VT220_XTERM", "tests-c/xterm.txt"), 40, row_of, fed);
 }
 
 #[test]

@@ -1,5 +1,4 @@
 //! What no clause says of names: that bytes have the name which the specification gives them.
-mod common;
 mod functions;
 mod ignored;
 mod lines;

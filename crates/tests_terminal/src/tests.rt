@@ -11,7 +11,6 @@ mod pairs;
 mod readers;
 mod repaint;
 mod runs;
-mod scarce;
 mod status;
 mod vectors;
 mod views;

@@ -4,4 +4,3 @@ mod examples;
 mod long_choices;
 mod memory;
 mod pairs;
-mod scarce;

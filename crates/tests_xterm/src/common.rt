@@ -1,9 +1,10 @@
-//! Has what the tests share. The tests are of small functions that return whether a row holds, since the proof of one
-//! long function takes far more time than those of its parts.
+//! Has what the tests share: terminals behind a front.
 ghost use Rattle.std.specs.Prelude.{◌≤◌};
 
 use std::alloc::{AllocError, Global};
+use std::fmt::Debug;
 use std::process::Abort;
+use testing::Found;
 use vt_term::Terminal;
 use vt_utf8::{Decoder, feed_utf8};
 use vt_xterm::{Front, feed_xterm};
@@ -59,10 +60,10 @@ pub(crate) struct Reader<F: Feed> {
     pub(crate) reports: Vec<u8>,
 }
 
-/// Asserts what a test has found of a row, which it names.
-pub(crate) fn holds(rt: &impl Abort, row: &str, found: Result<bool, AllocError>) {
-    let found = found.unwrap_or(false);
-    assert!(rt; found, "{row}");
+/// Asserts what a test has found of a row. A row that doesn't hold is printed by its name or number.
+pub(crate) fn holds(rt: &impl Abort, row: impl Debug + Drop, found: impl Found) {
+    let found = found.is_met();
+    assert!(rt; found, "row {row:?}");
 }
 
 impl<F: Feed> Reader<F> {

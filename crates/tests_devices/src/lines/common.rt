@@ -1,16 +1,8 @@
-//! What the tests share. The tests are of small functions that answer whether a row holds, since the proof of one long
-//! function takes far more time than those of its parts.
+//! Has what the tests share: the lines that scroll off.
 ghost use Rattle.std.specs.Prelude.{◌≤◌};
 
 use std::alloc::{AllocError, Global};
-use std::process::Abort;
 use vt_term::Terminal;
-
-/// Asserts what a test has found of a row, which it names.
-pub(super) fn holds(rt: &impl Abort, row: &str, found: Result<bool, AllocError>) {
-    let found = found.unwrap_or(false);
-    assert!(rt; found, "{row}");
-}
 
 /// Feeds the input, so many bytes at a time, and appends the lines that scroll off.
 fn feed_all(

@@ -1,7 +1,8 @@
 //! The log of a file that is shown is its text; and lines that have no room wait.
 ghost use Rattle.std.specs.Prelude.{◌≤◌};
 
-use super::common::{holds, logged, scrolls_off};
+use super::common::{logged, scrolls_off};
+use crate::common::holds;
 use std::alloc::{AllocError, Global};
 use vt_syntax::EventKind;
 use vt_term::{ROW_TEXT_LIMIT, Terminal};

@@ -1,7 +1,7 @@
 //! A worked row for each event that blanks the whole screen, and for each that doesn't. The lines follow from the rule.
 ghost use Rattle.std.specs.Prelude.{◌≤◌};
 
-use super::common::holds;
+use crate::common::holds;
 use std::alloc::{AllocError, Global};
 use std::process::Abort;
 use vt_replay::feed_pages;

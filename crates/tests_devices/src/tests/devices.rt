@@ -1,7 +1,8 @@
 //! Reads and writes that are short or fail, and what a replay then answers and has written.
 ghost use Rattle.std.specs.Prelude.{◌≤◌};
 
-use super::common::{Failed, holds_at};
+use super::common::Failed;
+use crate::common::holds;
 use std::alloc::{AllocError, Global};
 use vt_replay::{Fault, Format, Request, TerminalType, Watched, What, Word, carry_out, feed_pages};
 use vt_term::Terminal;
@@ -219,7 +220,7 @@ fn leaves(
 fn the_table_of_devices_holds(rt: HostRuntime) {
     for (i, (replay, answer, count)) in TABLE.iter().enumerate() {
         let written = ANSWERS.get(..*count).unwrap_or(b"?");
-        holds_at(
+        holds(
             &rt,
             i,
             leaves(rt.alloc(), REQUESTS, *replay, *answer, written),
@@ -361,14 +362,14 @@ fn each_write_fails_for_all(alloc: Global, input: &[u8]) -> Result<bool, Failed>
 #[test]
 fn each_read_of_each_vector_fails(rt: HostRuntime) {
     for i in 0..vector_count() {
-        holds_at(&rt, i, each_read_fails_for_all(rt.alloc(), vector(i).input));
+        holds(&rt, i, each_read_fails_for_all(rt.alloc(), vector(i).input));
     }
 }
 
 #[test]
 fn each_write_of_each_vector_fails(rt: HostRuntime) {
     for i in 0..vector_count() {
-        holds_at(
+        holds(
             &rt,
             i,
             each_write_fails_for_all(rt.alloc(), vector(i).input),

@@ -1,7 +1,8 @@
 //! The log of an input: its lines and its screen, however the input is cut.
 ghost use Rattle.std.specs.Prelude.{◌≤◌};
 
-use super::common::{Failed, holds, holds_at};
+use super::common::Failed;
+use crate::common::holds;
 use std::alloc::Global;
 use vt_replay::{Watched, write_log};
 use vt_vectors::{vector, vector_count};
@@ -73,7 +74,7 @@ fn is_same_in_chunks(alloc: Global, input: &[u8]) -> Result<bool, Failed> {
 #[test]
 fn each_vector_has_one_log(rt: HostRuntime) {
     for i in 0..vector_count() {
-        holds_at(&rt, i, is_same_in_chunks(rt.alloc(), vector(i).input));
+        holds(&rt, i, is_same_in_chunks(rt.alloc(), vector(i).input));
     }
 }
 

@@ -1,7 +1,8 @@
 //! What the program needs of a replay: a writer that is full, and the lines of faults.
 ghost use Rattle.std.specs.Prelude.{◌≡◌, ◌≤◌, false};
 
-use super::common::{Failed, holds};
+use super::common::Failed;
+use crate::common::holds;
 use std::alloc::Global;
 use std::io::Write;
 use vt_replay::{Fault, Watched, What, run};
@@ -31,7 +32,7 @@ fn answer<W: Write>(
     run(alloc, &mut reader, writer, what, piece, limit)
 }
 
-/// Returns whether a writer with room for five bytes is a fault, and has these.
+/// Returns whether a writer with capacity for five bytes is a fault, and has these.
 fn is_full(alloc: Global, input: &[u8], what: What, piece: usize, expected: &[u8]) -> bool
     requires { (1 ≤ piece) × (piece ≤ 65536) }
 {

@@ -1,7 +1,8 @@
 //! The devices, through the bounds that a caller has.
 ghost use Rattle.std.specs.Prelude.{◌≤◌};
 
-use super::common::{Failed, holds_at};
+use super::common::Failed;
+use crate::common::holds;
 use std::alloc::Global;
 use std::io::{Read, Write};
 use vt_vectors::{ShortReader, ShortWriter};
@@ -77,7 +78,7 @@ fn is_read(alloc: Global, most: Most, fail: Option<usize>, line: &[u8]) -> Resul
 #[test]
 fn a_reader_gives_little_and_fails_once(rt: HostRuntime) {
     for (i, (most, fail, line)) in READERS.iter().enumerate() {
-        holds_at(&rt, i, is_read(rt.alloc(), *most, *fail, line));
+        holds(&rt, i, is_read(rt.alloc(), *most, *fail, line));
     }
 }
 
@@ -103,6 +104,6 @@ fn is_written(alloc: Global, (room, most, fail, line, taken): &Writing) -> Resul
 #[test]
 fn a_writer_takes_little_and_fails_once(rt: HostRuntime) {
     for (i, row) in WRITERS.iter().enumerate() {
-        holds_at(&rt, i, is_written(rt.alloc(), row));
+        holds(&rt, i, is_written(rt.alloc(), row));
     }
 }

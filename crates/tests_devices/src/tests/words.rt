@@ -1,7 +1,8 @@
 //! The words that no replay has, and recordings, from devices over memory.
 ghost use Rattle.std.specs.Prelude.{◌≤◌};
 
-use super::common::{Failed, holds};
+use super::common::Failed;
+use crate::common::holds;
 use std::alloc::Global;
 use std::process::Abort;
 use vt_replay::{

@@ -1,5 +1,5 @@
 //! What the tests share: the names of the events of some bytes.
-use super::common::holds;
+use crate::common::holds;
 use std::alloc::{AllocError, Global};
 use std::process::Abort;
 use vt_syntax::{Parser, Values};

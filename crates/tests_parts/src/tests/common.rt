@@ -1,14 +1,10 @@
-//! What the tests share.
-use std::alloc::AllocError;
+//! Has what the tests share.
+use std::fmt::Debug;
 use std::process::Abort;
+use testing::Found;
 
-/// Asserts what a test has found of a row, which it names: the tests are of small functions that answer whether a row
-/// holds, since the proof of one long function takes far more time than those of its parts.
-pub(super) fn holds(rt: &impl Abort, row: &str, found: bool) {
-    assert!(rt; found, "{row}");
-}
-
-/// Asserts the same of what takes memory.
-pub(super) fn is_met(rt: &impl Abort, row: &str, found: Result<bool, AllocError>) {
-    holds(rt, row, found.unwrap_or(false));
+/// Asserts what a test has found of a row. A row that doesn't hold is printed by its name or number.
+pub(super) fn holds(rt: &impl Abort, row: impl Debug + Drop, found: impl Found) {
+    let found = found.is_met();
+    assert!(rt; found, "row {row:?}");
 }

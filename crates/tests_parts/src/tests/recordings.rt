@@ -1,5 +1,5 @@
 //! Recordings written by hand, with the content that they have, and runs from end to end.
-use super::common::{holds, is_met};
+use super::common::holds;
 use super::taking_apart::{Row, are_taken_apart};
 use std::alloc::{AllocError, Global};
 use vt_recording::{
@@ -244,7 +244,7 @@ fn gives_them_all(alloc: Global) -> Result<bool, AllocError> {
 
 #[test]
 fn content_is_read_in_parts(rt: HostRuntime) {
-    is_met(&rt, "content", gives_them_all(rt.alloc()));
+    holds(&rt, "content", gives_them_all(rt.alloc()));
 }
 
 /// Returns whether a reading under a limit returns this.

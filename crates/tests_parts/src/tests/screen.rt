@@ -1,7 +1,7 @@
 //! Worked rows, and the edges of the calls.
 ghost use Rattle.std.specs.Prelude.{◌≤◌};
 
-use super::common::{holds, is_met};
+use super::common::holds;
 use std::alloc::{AllocError, Global};
 use std::mem::size_of;
 use vt_glyph::{Glyph, Set, Sets};
@@ -67,7 +67,7 @@ fn new_is_blank(alloc: Global) -> Result<bool, AllocError> {
 
 #[test]
 fn a_new_screen_is_narrow_and_blank(rt: HostRuntime) {
-    is_met(&rt, "blank", new_is_blank(rt.alloc()));
+    holds(&rt, "blank", new_is_blank(rt.alloc()));
     holds(&rt, "the size of a cell", size_of::<Cell>() <= 8);
 }
 
@@ -93,7 +93,7 @@ fn last_lines_are_kept(alloc: Global) -> Result<bool, AllocError> {
 
 #[test]
 fn a_scroll_region_keeps_its_last_lines(rt: HostRuntime) {
-    is_met(&rt, "rows", last_lines_are_kept(rt.alloc()));
+    holds(&rt, "rows", last_lines_are_kept(rt.alloc()));
 }
 
 /// Changes a row that shows `ABC`, in five ways.
@@ -119,7 +119,7 @@ fn cells_are_changed(alloc: Global) -> Result<bool, AllocError> {
 
 #[test]
 fn cells_of_a_row_are_erased_inserted_and_deleted(rt: HostRuntime) {
-    is_met(&rt, "rows", cells_are_changed(rt.alloc()));
+    holds(&rt, "rows", cells_are_changed(rt.alloc()));
 }
 
 /// Writes a letter in each of the first three rows.
@@ -148,7 +148,7 @@ fn letters_are_moved(alloc: Global) -> Result<bool, AllocError> {
 
 #[test]
 fn lines_are_inserted_and_deleted(rt: HostRuntime) {
-    is_met(&rt, "lines", letters_are_moved(rt.alloc()));
+    holds(&rt, "lines", letters_are_moved(rt.alloc()));
 }
 
 /// Returns a space with this brush.
@@ -193,7 +193,7 @@ fn erase_is_selective(alloc: Global) -> Result<bool, AllocError> {
 
 #[test]
 fn a_selective_erase_keeps_attributes_and_protected_cells(rt: HostRuntime) {
-    is_met(&rt, "erase", erase_is_selective(rt.alloc()));
+    holds(&rt, "erase", erase_is_selective(rt.alloc()));
 }
 
 /// Writes letters in three corners of a wide screen.
@@ -253,7 +253,7 @@ fn edges_hold(alloc: Global) -> Result<bool, AllocError> {
 
 #[test]
 fn the_edges_hold(rt: HostRuntime) {
-    is_met(&rt, "edges", edges_hold(rt.alloc()));
+    holds(&rt, "edges", edges_hold(rt.alloc()));
 }
 
 /// Returns whether each row has as many cells as this, and the last of them shows this letter.
@@ -281,7 +281,7 @@ fn width_blanks(alloc: Global) -> Result<bool, AllocError> {
 
 #[test]
 fn a_width_blanks(rt: HostRuntime) {
-    is_met(&rt, "width", width_blanks(rt.alloc()));
+    holds(&rt, "width", width_blanks(rt.alloc()));
 }
 
 /// Returns whether a screen differs from a new one when it is filled and when it is wide, and not when it is narrow
@@ -305,7 +305,7 @@ fn screens_differ(alloc: Global) -> Result<bool, AllocError> {
 
 #[test]
 fn screens_compare(rt: HostRuntime) {
-    is_met(&rt, "screens", screens_differ(rt.alloc()));
+    holds(&rt, "screens", screens_differ(rt.alloc()));
 }
 
 /// Returns a brush that is bold and protected.
@@ -358,5 +358,5 @@ fn graphics_are_put(alloc: Global) -> Result<bool, AllocError> {
 
 #[test]
 fn graphic_bytes_are_written_through_the_sets(rt: HostRuntime) {
-    is_met(&rt, "written", graphics_are_put(rt.alloc()));
+    holds(&rt, "written", graphics_are_put(rt.alloc()));
 }

@@ -1,5 +1,5 @@
 //! Rows of held parts, events and plain runs.
-use super::common::{holds, is_met};
+use super::common::holds;
 use arrayvec::ArrayVec;
 use std::alloc::{AllocError, Global};
 use vt_syntax::{
@@ -329,7 +329,7 @@ fn plain_runs(rt: HostRuntime) {
     for (name, piece, length) in PLAIN {
         holds(&rt, name, is_plain_for(piece, *length));
     }
-    is_met(&rt, "all", all_are_plain(rt.alloc()));
+    holds(&rt, "all", all_are_plain(rt.alloc()));
 }
 
 /// Returns whether the run of graphic bytes in front of a piece has this length.

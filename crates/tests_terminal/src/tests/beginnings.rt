@@ -2,7 +2,7 @@
 //! terminal that holds whatever it may.
 ghost use Rattle.std.specs.Prelude.{◌<◌};
 
-use super::common::{Failed, Played, holds_at};
+use super::common::{Failed, Played, holds};
 use std::alloc::Global;
 use vt_paint::{PaintError, repaint};
 use vt_term::Terminal;
@@ -45,7 +45,7 @@ fn beginnings_are_rebuilt_between_sequences(rt: HostRuntime) {
     for i in 0..vector_count() {
         let input = vector(i).input;
         for end in 0..input.len() + 1 {
-            holds_at(&rt, i, is_painted(rt.alloc(), &input[..end]));
+            holds(&rt, i, is_painted(rt.alloc(), &input[..end]));
         }
     }
 }

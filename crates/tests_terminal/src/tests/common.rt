@@ -2,7 +2,9 @@
 ghost use Rattle.std.specs.Prelude.{◌≤◌};
 
 use std::alloc::{AllocError, Global};
+use std::fmt::Debug;
 use std::process::Abort;
+use testing::Found;
 use vt_replay::{Fault, Watched, What, run};
 use vt_term::{Brush, Cursor, Rendition, Terminal};
 
@@ -107,17 +109,10 @@ impl Played {
     }
 }
 
-/// Asserts what a test has found of a row, which it names: the tests are of small functions that answer whether a row
-/// holds, since the proof of one long function takes far more time than those of its parts.
-pub(super) fn holds(rt: &impl Abort, row: &str, found: Result<bool, Failed>) {
-    let found = found.unwrap_or(false);
-    assert!(rt; found, "{row}");
-}
-
-/// Asserts the same of a row that has a number.
-pub(super) fn holds_at(rt: &impl Abort, row: usize, found: Result<bool, Failed>) {
-    let found = found.unwrap_or(false);
-    assert!(rt; found, "row {row}");
+/// Asserts what a test has found of a row. A row that doesn't hold is printed by its name or number.
+pub(super) fn holds(rt: &impl Abort, row: impl Debug + Drop, found: impl Found) {
+    let found = found.is_met();
+    assert!(rt; found, "row {row:?}");
 }
 
 /// Returns what a replay of these bytes writes.

@@ -1,5 +1,5 @@
 //! What a terminal holds after each of the inputs that end inside a sequence.
-use super::common::{Failed, Played, holds, holds_at};
+use super::common::{Failed, Played, holds};
 use std::alloc::Global;
 use vt_vectors::{held_sample, held_sample_count};
 
@@ -36,7 +36,7 @@ fn is_held(alloc: Global, input: &[u8], expected: &str) -> Result<bool, Failed> 
 fn samples_leave_their_held_parts(rt: HostRuntime) {
     assert!(rt; held_sample_count() == HELD.len());
     for i in 0..held_sample_count() {
-        holds_at(&rt, i, is_held(rt.alloc(), held_sample(i), HELD[i]));
+        holds(&rt, i, is_held(rt.alloc(), held_sample(i), HELD[i]));
     }
     holds(&rt, "nothing", is_held(rt.alloc(), b"", "Nothing"));
 }

@@ -1,7 +1,7 @@
 //! Inputs without measure: whole, byte by byte, and in pieces of 7.
 ghost use Rattle.std.specs.Prelude.{◌≤◌};
 
-use super::common::{Failed, Played, holds, holds_at};
+use super::common::{Failed, Played, holds};
 use std::alloc::Global;
 use vt_term::Cursor;
 
@@ -110,7 +110,7 @@ fn is_read(
 #[test]
 fn long_sequences_and_strings_are_read(rt: HostRuntime) {
     for (i, row) in LONG.iter().enumerate() {
-        holds_at(&rt, i, is_read(rt.alloc(), row));
+        holds(&rt, i, is_read(rt.alloc(), row));
     }
 }
 
@@ -160,7 +160,7 @@ fn fill(alloc: Global, (letters, count, rest, length, cursor): &Run) -> Result<b
 #[test]
 fn long_runs_fill_the_screen_and_scroll(rt: HostRuntime) {
     for (i, row) in RUNS.iter().enumerate() {
-        holds_at(&rt, i, fill(rt.alloc(), row));
+        holds(&rt, i, fill(rt.alloc(), row));
     }
 }
 

@@ -2,9 +2,9 @@
 ghost use Rattle.std.specs.Prelude.{◌+◌, ◌≤◌, vec_len, vec_capacity};
 
 use super::command_line::words_of;
-use super::common::{Failed, LIMIT, Played, holds, holds_at, replayed};
-use super::scarce::{BLOCKS, Scarce};
+use super::common::{Failed, LIMIT, Played, holds, replayed};
 use std::alloc::{AllocError, Global};
+use testing::{BLOCKS, Growing, Scarce, follows_ok, refusals};
 use vt_paint::{PAINT_LIMIT, PaintError, repaint, repaint_reserved};
 use vt_picture::{PICTURE_LIMIT, SHOW_LIMIT, picture, picture_reserved, show, show_reserved};
 use vt_replay::{
@@ -20,34 +20,6 @@ const INPUTS: [&[u8]; 4] = [
     b"\x1b[?6h\x1b[20;3H\x1b7\x1b[2;5r\x1b8",
     b"\x1b G\x1b[c\x1b[>c",
 ];
-
-/// A call that takes memory.
-trait Growing {
-    /// Makes the call, and answers whether it had its memory.
-    fn has_memory(&mut self) -> bool;
-
-    /// Returns whether all is as it was before the first call.
-    fn is_unchanged(&self) -> bool;
-}
-
-/// Returns how often a call was refused, and how often that has changed something. One growth more is granted each
-/// time, until it has its memory.
-fn refusals<G: Growing>(alloc: Global, call: &mut G) -> Result<(u32, u32), Failed> {
-    let mut scarce = Scarce::new(alloc)?;
-    let mut refused = 0u32;
-    let mut changed = 0u32;
-    for _ in 0..BLOCKS {
-        if call.has_memory() {
-            break;
-        }
-        refused = refused.saturating_add(1);
-        if !call.is_unchanged() {
-            changed = changed.saturating_add(1);
-        }
-        scarce.relent();
-    }
-    Ok((refused, changed))
-}
 
 /// `Terminal::new`.
 #[derive(Drop)]
@@ -118,13 +90,8 @@ fn is_fed(alloc: Global, feeding: &Feeding<'_>) -> Result<bool, Failed> {
     let expected = Played::of(alloc, &[feeding.input])?;
     Ok(
         feeding.terminal.same_state(&expected.terminal)
-            && is_behind_ok(&feeding.out, &expected.reports),
+            && follows_ok(&feeding.out, &expected.reports),
     )
-}
-
-/// Returns whether an output has what was expected after what was there.
-fn is_behind_ok(out: &[u8], expected: &[u8]) -> bool {
-    out.get(..2) == Some(b"ok".as_slice()) && out.get(2..) == Some(expected)
 }
 
 /// Appends the picture, the text with its attributes, the repaint or, for all else, the plain text, and answers whether
@@ -171,7 +138,7 @@ fn view_is_refused(alloc: Global, input: &[u8], what: What) -> Result<bool, Fail
             && changed == 0
             && has_memory
             && !expected.is_empty()
-            && is_behind_ok(&viewing.out, &expected),
+            && follows_ok(&viewing.out, &expected),
     )
 }
 
@@ -188,8 +155,8 @@ fn views_are_refused(alloc: Global, input: &[u8]) -> Result<bool, Failed> {
 #[test]
 fn each_growth_of_feed_text_show_and_repaint_is_refused(rt: HostRuntime) {
     for (i, input) in INPUTS.iter().enumerate() {
-        holds_at(&rt, i, feed_is_refused(rt.alloc(), input));
-        holds_at(&rt, i, views_are_refused(rt.alloc(), input));
+        holds(&rt, i, feed_is_refused(rt.alloc(), input));
+        holds(&rt, i, views_are_refused(rt.alloc(), input));
     }
 }
 
@@ -224,7 +191,7 @@ fn append(terminal: &mut Terminal, input: &[u8], out: &mut Vec<u8>) -> bool {
         && repaint(terminal, out).is_ok()
 }
 
-/// Returns whether calls with the room for what they append are never refused, take no memory, and append this.
+/// Returns whether calls with the capacity for what they append are never refused, take no memory, and append this.
 fn takes_no_memory(
     alloc: Global,
     input: &[u8],
@@ -269,7 +236,7 @@ fn none_takes_memory(alloc: Global, input: &[u8]) -> Result<bool, Failed> {
 #[test]
 fn calls_with_room_take_no_memory(rt: HostRuntime) {
     for (i, input) in INPUTS.iter().enumerate() {
-        holds_at(&rt, i, none_takes_memory(rt.alloc(), input));
+        holds(&rt, i, none_takes_memory(rt.alloc(), input));
     }
 }
 
@@ -363,7 +330,7 @@ fn requests_are_refused(alloc: Global, input: &[u8]) -> Result<bool, Failed> {
 #[test]
 fn each_growth_of_a_request_is_refused(rt: HostRuntime) {
     for (i, input) in INPUTS.iter().enumerate() {
-        holds_at(&rt, i, requests_are_refused(rt.alloc(), input));
+        holds(&rt, i, requests_are_refused(rt.alloc(), input));
     }
 }
 
@@ -496,7 +463,7 @@ fn check_of_is_refused(alloc: Global, input: &[u8]) -> Result<bool, Failed> {
 #[test]
 fn each_growth_of_check_is_refused(rt: HostRuntime) {
     for (i, input) in INPUTS.iter().enumerate() {
-        holds_at(&rt, i, check_of_is_refused(rt.alloc(), input));
+        holds(&rt, i, check_of_is_refused(rt.alloc(), input));
     }
 }
 
@@ -537,6 +504,6 @@ fn are_the_text(alloc: Global, input: &[u8]) -> Result<bool, Failed> {
 #[test]
 fn the_texts_of_the_rows_are_the_text(rt: HostRuntime) {
     for (i, input) in INPUTS.iter().enumerate() {
-        holds_at(&rt, i, are_the_text(rt.alloc(), input));
+        holds(&rt, i, are_the_text(rt.alloc(), input));
     }
 }

@@ -1,5 +1,5 @@
 //! The modes that each input leaves.
-use super::common::{Failed, Played, holds_at};
+use super::common::{Failed, Played, holds};
 use std::alloc::Global;
 use std::test::Fail;
 use vt_term::{Modes, Terminal};
@@ -74,7 +74,7 @@ fn leaves(alloc: Global, input: &[u8], modes: Modes) -> Result<bool, Failed> {
 fn modes_are_kept(rt: HostRuntime) -> Result<(), Fail> {
     let power_up = Terminal::new(rt.alloc())?.modes();
     for (i, (input, modes)) in rows(power_up).iter().enumerate() {
-        holds_at(&rt, i, leaves(rt.alloc(), input, *modes));
+        holds(&rt, i, leaves(rt.alloc(), input, *modes));
     }
     Ok(())
 }

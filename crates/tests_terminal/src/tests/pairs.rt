@@ -1,5 +1,5 @@
 //! All inputs of two bytes: whole, and byte by byte.
-use super::common::{Failed, Played, holds_at};
+use super::common::{Failed, Played, holds};
 use std::alloc::Global;
 
 /// Returns whether two bytes leave the same whole and byte by byte.
@@ -15,7 +15,7 @@ fn pairs_leave_the_same_whole_and_byte_by_byte(rt: HostRuntime) {
     for first in 0..=255u8 {
         for second in 0..=255u8 {
             let same = leave_the_same(rt.alloc(), [first, second]);
-            holds_at(&rt, 256 * first as usize + second as usize, same);
+            holds(&rt, 256 * first as usize + second as usize, same);
         }
     }
 }

@@ -1,5 +1,5 @@
 //! Each reader of a terminal.
-use super::common::{Failed, NONE, PLAIN, Played, at, holds, holds_at};
+use super::common::{Failed, NONE, PLAIN, Played, at, holds};
 use std::alloc::Global;
 use std::process::Abort;
 use std::test::Fail;
@@ -58,12 +58,12 @@ struct Told {
 
 /// Asserts that these readers tell this.
 fn tells(rt: &impl Abort, terminal: &Terminal, told: &Told) {
-    holds(rt, "width", Ok(terminal.width() == told.width));
-    holds(rt, "cursor", Ok(terminal.cursor() == told.cursor));
-    holds(rt, "brush", Ok(terminal.brush() == told.brush));
-    holds(rt, "margins", Ok(terminal.margins() == told.margins));
-    holds(rt, "stops", Ok(has_stops(terminal, told.stop)));
-    holds(rt, "between", Ok(terminal.is_between() == told.is_between));
+    holds(rt, "width", terminal.width() == told.width);
+    holds(rt, "cursor", terminal.cursor() == told.cursor);
+    holds(rt, "brush", terminal.brush() == told.brush);
+    holds(rt, "margins", terminal.margins() == told.margins);
+    holds(rt, "stops", has_stops(terminal, told.stop));
+    holds(rt, "between", terminal.is_between() == told.is_between);
 }
 
 /// Asserts which sets are designated, which of them are in GL and in GR, and a pending single shift.
@@ -74,13 +74,13 @@ fn tells_sets(
     (left, right, pending): (u8, u8, Option<u8>),
 ) {
     let sets = terminal.sets();
-    holds(rt, "G0", Ok(sets.set(0) == designated[0]));
-    holds(rt, "G1", Ok(sets.set(1) == designated[1]));
-    holds(rt, "G2", Ok(sets.set(2) == designated[2]));
-    holds(rt, "G3", Ok(sets.set(3) == designated[3]));
-    holds(rt, "GL", Ok(sets.left() == left));
-    holds(rt, "GR", Ok(sets.right() == right));
-    holds(rt, "single shift", Ok(sets.pending() == pending));
+    holds(rt, "G0", sets.set(0) == designated[0]);
+    holds(rt, "G1", sets.set(1) == designated[1]);
+    holds(rt, "G2", sets.set(2) == designated[2]);
+    holds(rt, "G3", sets.set(3) == designated[3]);
+    holds(rt, "GL", sets.left() == left);
+    holds(rt, "GR", sets.right() == right);
+    holds(rt, "single shift", sets.pending() == pending);
 }
 
 /// The sets at power-up.
@@ -200,7 +200,7 @@ fn compare(alloc: Global, one: &[u8], other: &[u8], same: bool) -> Result<bool, 
 fn states_that_differ_are_not_the_same(rt: HostRuntime) {
     for (i, one) in STATES.iter().enumerate() {
         for (j, other) in STATES.iter().enumerate() {
-            holds_at(&rt, 100 * i + j, compare(rt.alloc(), one, other, i == j));
+            holds(&rt, 100 * i + j, compare(rt.alloc(), one, other, i == j));
         }
     }
 }

@@ -1,6 +1,6 @@
-//! Runs of graphic bytes, of each length from each column of the last row: at once, and each byte behind a single
+//! Tests runs of graphic bytes, of each length from each column of the last row: at once, and each byte after a single
 //! shift, so that it is read and written by itself.
-use super::common::{Failed, Played, holds_at};
+use super::common::{Failed, Played, holds};
 use std::alloc::{AllocError, Global};
 use std::process::Abort;
 use std::test::Fail;
@@ -8,11 +8,11 @@ use std::test::Fail;
 /// The longest run.
 const LONGEST: u8 = 200;
 
-/// G3 is ASCII, as G0 in GL is; G2 in GR is Supplemental. So each graphic byte shows the same glyph behind a single
+/// G3 is ASCII, as G0 in GL is; G2 in GR is Supplemental. So each graphic byte shows the same glyph after a single
 /// shift.
 const SETS: &[u8] = b"\x1b+B";
 
-/// Returns the single shift behind which a graphic byte shows the glyph that it shows without one.
+/// Returns the single shift after which a graphic byte shows the glyph that it shows without one.
 fn shift_of(byte: u8) -> u8 {
     if byte < 0x80 { 0x8F } else { 0x8E }
 }
@@ -96,7 +96,7 @@ const SETTINGS: [(&[u8], usize); 4] = [
 fn runs_agree(rt: &impl Abort, alloc: Global, run: &[u8]) {
     for (setting, width) in &SETTINGS {
         for col in 1..=*width {
-            holds_at(rt, col, runs_agree_at(alloc, setting, *width, col, run));
+            holds(rt, col, runs_agree_at(alloc, setting, *width, col, run));
         }
     }
 }

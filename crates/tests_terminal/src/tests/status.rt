@@ -1,5 +1,5 @@
 //! The status of a replay.
-use super::common::{holds_at, is_replayed};
+use super::common::{holds, is_replayed};
 use vt_replay::What;
 
 /// An input, and the five lines of its status.
@@ -54,6 +54,6 @@ const STATUS: [(&[u8], &str); 11] = [
 fn status_has_five_lines(rt: HostRuntime) {
     for (i, (input, status)) in STATUS.iter().enumerate() {
         let found = is_replayed(rt.alloc(), input, What::Status, status.as_bytes());
-        holds_at(&rt, i, found);
+        holds(&rt, i, found);
     }
 }

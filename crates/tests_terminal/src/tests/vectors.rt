@@ -1,7 +1,7 @@
 //! The terminal meets every vector, alone and through a replay, and no wrong one.
 ghost use Rattle.std.specs.Prelude.{◌≤◌, ◌<◌};
 
-use super::common::{Failed, LIMIT, holds, holds_at, is_replayed};
+use super::common::{Failed, LIMIT, holds, is_replayed};
 use std::alloc::Global;
 use vt_replay::{Fault, Watched, What, run};
 use vt_vectors::{Mismatch, VECTOR_COUNT, Vector, check, vector, vector_count, vector_name};
@@ -34,7 +34,7 @@ fn is_met(alloc: Global, v: &Vector) -> Result<bool, Failed> {
 #[test]
 fn every_vector_is_met(rt: HostRuntime) {
     for i in 0..vector_count() {
-        holds_at(&rt, i, is_met(rt.alloc(), &vector(i)));
+        holds(&rt, i, is_met(rt.alloc(), &vector(i)));
     }
 }
 
@@ -49,7 +49,7 @@ fn are_alike(i: usize, j: usize) -> bool
 fn each_vector_has_a_name_and_an_input_of_its_own(rt: HostRuntime) {
     for i in 0..vector_count() {
         for j in 0..i {
-            holds_at(&rt, i, Ok(!are_alike(i, j)));
+            holds(&rt, i, !are_alike(i, j));
         }
     }
 }
@@ -115,7 +115,7 @@ fn found_with(input: &[u8], text: usize, repaint: usize) -> usize {
 #[test]
 fn texts_and_repaints_have_their_lengths(rt: HostRuntime) {
     for (i, (input, text, repaint)) in LENGTHS.iter().enumerate() {
-        holds_at(&rt, i, Ok(found_with(input, *text, *repaint) == 1));
+        holds(&rt, i, found_with(input, *text, *repaint) == 1);
     }
 }
 
@@ -184,7 +184,7 @@ const ANSWERS: &[(Vector<'static>, Result<(), Mismatch>)] = &[
 #[test]
 fn the_first_difference_decides(rt: HostRuntime) {
     for (i, (v, expected)) in ANSWERS.iter().enumerate() {
-        holds_at(&rt, i, Ok(check(rt.alloc(), v) == *expected));
+        holds(&rt, i, check(rt.alloc(), v) == *expected);
     }
 }
 

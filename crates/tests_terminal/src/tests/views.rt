@@ -1,5 +1,5 @@
 //! The screen for the eye, against what was written by hand: as text with its attributes, and as a picture.
-use super::common::{Failed, Played, holds_at, is_replayed};
+use super::common::{Failed, Played, holds, is_replayed};
 use std::alloc::{AllocError, Global};
 use vt_picture::{picture, show};
 use vt_replay::What;
@@ -88,7 +88,7 @@ fn is_shown_by_hand(alloc: Global, (input, before, line, after): &Shown) -> Resu
 #[test]
 fn rows_are_shown_with_their_attributes(rt: HostRuntime) {
     for (i, row) in SHOWN.iter().enumerate() {
-        holds_at(&rt, i, is_shown_by_hand(rt.alloc(), row));
+        holds(&rt, i, is_shown_by_hand(rt.alloc(), row));
     }
 }
 
@@ -216,6 +216,6 @@ fn is_drawn_by_hand(alloc: Global, row: &Drawn) -> Result<bool, Failed> {
 #[test]
 fn pictures_are_those_written_by_hand(rt: HostRuntime) {
     for (i, row) in DRAWN.iter().enumerate() {
-        holds_at(&rt, i, is_drawn_by_hand(rt.alloc(), row));
+        holds(&rt, i, is_drawn_by_hand(rt.alloc(), row));
     }
 }

@@ -1,9 +1,10 @@
-//! Has what the tests share: terminals, and updates that are played again. The tests are of small functions that return
-//! whether a row holds, since the proof of one long function takes far more time than those of its parts.
+//! Has what the tests share: terminals, and updates that are played again.
 ghost use Rattle.std.specs.Prelude.{◌≤◌};
 
 use std::alloc::{AllocError, Global};
+use std::fmt::Debug;
 use std::process::Abort;
+use testing::Found;
 use vt_paint::{PaintError, repaint};
 use vt_term::Terminal;
 use vt_update::{UpdateError, update};
@@ -95,16 +96,10 @@ pub(super) fn repainted(alloc: Global, input: &[u8]) -> Result<Vec<u8>, Failed> 
     Ok(out)
 }
 
-/// Asserts what a test has found of a row, which it names.
-pub(super) fn holds(rt: &impl Abort, row: &str, found: Result<bool, Failed>) {
-    let found = found.unwrap_or(false);
-    assert!(rt; found, "{row}");
-}
-
-/// Asserts the same of a row that has a number.
-pub(super) fn holds_at(rt: &impl Abort, row: usize, found: Result<bool, Failed>) {
-    let found = found.unwrap_or(false);
-    assert!(rt; found, "row {row}");
+/// Asserts what a test has found of a row. A row that doesn't hold is printed by its name or number.
+pub(super) fn holds(rt: &impl Abort, row: impl Debug + Drop, found: impl Found) {
+    let found = found.is_met();
+    assert!(rt; found, "row {row:?}");
 }
 
 /// Feeds bytes, so many at a time.

@@ -1,6 +1,6 @@
 //! Tests worked examples. The bytes follow from the rule, since nothing shorter does the same.
 use super::common::{
-    Asked, Failed, asked_behind_ok, holds, holds_at, lead, repainted, sends, sends_fewer, terminal,
+    Asked, Failed, asked_behind_ok, holds, lead, repainted, sends, sends_fewer, terminal,
 };
 use std::alloc::Global;
 use vt_term::Terminal;
@@ -268,7 +268,7 @@ const PARTIAL: [(&[u8], &[u8]); 3] = [(b"A\x1b[", b"A"), (b"A", b"A\x1b["), (b"A
 #[test]
 fn inside_a_sequence_it_is_partial(rt: HostRuntime) {
     for (i, pair) in PARTIAL.iter().enumerate() {
-        holds_at(&rt, i, is_partial(rt.alloc(), pair));
+        holds(&rt, i, is_partial(rt.alloc(), pair));
     }
 }
 

@@ -1,7 +1,7 @@
 //! Tests each growth refused. If there is capacity, no memory is asked for.
-use super::common::{Asked, Failed, asked_behind_ok, holds_at, sends, terminal, updated};
-use super::scarce::{BLOCKS, Scarce};
+use super::common::{Asked, Failed, asked_behind_ok, holds, sends, terminal, updated};
 use std::alloc::{AllocError, Global};
+use testing::{Growing, Scarce, follows_ok, refusals};
 use vt_term::Terminal;
 use vt_update::{UPDATE_LIMIT, UpdateError, update, update_reserved};
 
@@ -12,63 +12,57 @@ const PAIRS: [(&[u8], &[u8]); 3] = [
     (b"A\x1b7", b"\x1b[2;5r\x1b[?6hC\x1b(0"),
 ];
 
-/// Returns how often an update was refused, and how often that has changed something. One growth more is granted each
-/// time, until it has its memory.
-fn refusals(alloc: Global, before: &Terminal, asked: &mut Asked) -> Result<(u32, u32), AllocError> {
-    let mut scarce = Scarce::new(alloc)?;
-    let mut refused = 0u32;
-    let mut changed = 0u32;
-    for _ in 0..BLOCKS {
-        if asked.update() != Err(UpdateError::Memory) {
-            break;
-        }
-        refused = refused.saturating_add(1);
-        if !asked.is_unchanged(before) {
-            changed = changed.saturating_add(1);
-        }
-        scarce.relent();
-    }
-    Ok((refused, changed))
+/// An update of what was shown before.
+#[derive(Drop)]
+struct Updating {
+    asked: Asked,
+    before: Terminal,
 }
 
-/// Returns whether an output has what was expected after what was there.
-fn is_behind_ok(out: &[u8], expected: &[u8]) -> bool {
-    out.get(..2) == Some(b"ok".as_slice()) && out.get(2..) == Some(expected)
+impl Growing for Updating {
+    fn has_memory(&mut self) -> bool {
+        self.asked.update() != Err(UpdateError::Memory)
+    }
+
+    fn is_unchanged(&self) -> bool {
+        self.asked.is_unchanged(&self.before)
+    }
 }
 
 /// Returns whether an update is refused, also more than once, and no refusal changes anything.
-fn is_only_refused(alloc: Global, before: &Terminal, asked: &mut Asked) -> Result<bool, Failed> {
-    let (refused, changed) = refusals(alloc, before, asked)?;
+fn is_only_refused(alloc: Global, updating: &mut Updating) -> Result<bool, Failed> {
+    let (refused, changed) = refusals(alloc, updating)?;
     Ok(refused > 0 && changed == 0)
 }
 
 /// Returns whether it is then made as if it never had been refused.
 fn is_made(alloc: Global, pair: &(&[u8], &[u8]), asked: &Asked) -> Result<bool, Failed> {
     let expected = updated(alloc, pair.0, pair.1)?;
-    Ok(asked.shown.same_state(&asked.to) && is_behind_ok(&asked.out, &expected))
+    Ok(asked.shown.same_state(&asked.to) && follows_ok(&asked.out, &expected))
 }
 
-/// Returns whether both are so of an update from what was shown before.
+/// Returns whether both are so of an update.
 fn is_refused_and_made(
     alloc: Global,
-    before: &Terminal,
     pair: &(&[u8], &[u8]),
-    asked: &mut Asked,
+    updating: &mut Updating,
 ) -> Result<bool, Failed> {
-    Ok(is_only_refused(alloc, before, asked)? && is_made(alloc, pair, asked)?)
+    Ok(is_only_refused(alloc, updating)? && is_made(alloc, pair, &updating.asked)?)
 }
 
 /// Returns whether an update that was refused, also more than once, is then made as if it never had been.
 fn is_refused(alloc: Global, pair: &(&[u8], &[u8])) -> Result<bool, Failed> {
-    let before = terminal(alloc, pair.0)?;
-    let mut asked = asked_behind_ok(alloc, pair)?;
-    is_refused_and_made(alloc, &before, pair, &mut asked)
+    let mut updating = Updating {
+        asked: asked_behind_ok(alloc, pair)?,
+        before: terminal(alloc, pair.0)?,
+    };
+    is_refused_and_made(alloc, pair, &mut updating)
 }
 
 #[test]
 fn each_growth_is_refused(rt: HostRuntime) {
     for (i, pair) in PAIRS.iter().enumerate() {
-        holds_at(&rt, i, is_refused(rt.alloc(), pair));
+        holds(&rt, i, is_refused(rt.alloc(), pair));
     }
 }
 
@@ -123,7 +117,7 @@ fn reserved_takes_no_memory(alloc: Global, pair: &(&[u8], &[u8])) -> Result<bool
 #[test]
 fn with_room_no_memory_is_asked_for(rt: HostRuntime) {
     for (i, pair) in PAIRS.iter().enumerate() {
-        holds_at(&rt, i, takes_no_memory(rt.alloc(), pair));
-        holds_at(&rt, i, reserved_takes_no_memory(rt.alloc(), pair));
+        holds(&rt, i, takes_no_memory(rt.alloc(), pair));
+        holds(&rt, i, reserved_takes_no_memory(rt.alloc(), pair));
     }
 }

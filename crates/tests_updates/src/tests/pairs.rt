@@ -1,5 +1,5 @@
 //! Tests the update from the state that each vector leaves to that of each other.
-use super::common::{Failed, holds_at, lead, terminal};
+use super::common::{Failed, holds, lead, terminal};
 use std::alloc::Global;
 use std::process::Abort;
 use std::test::Fail;
@@ -35,7 +35,7 @@ fn is_led(alloc: Global, from: &[u8], to: &Terminal) -> Result<bool, Failed> {
 /// Asserts that the state of each vector is led to this one.
 fn all_are_led(rt: &impl Abort, alloc: Global, to: &Terminal) {
     for i in 0..vector_count() {
-        holds_at(rt, i, is_led(alloc, vector(i).input, to));
+        holds(rt, i, is_led(alloc, vector(i).input, to));
     }
 }
 

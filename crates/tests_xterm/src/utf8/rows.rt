@@ -115,7 +115,7 @@ const CELLS: [(&str, char, usize); 10] = [
 #[test]
 fn cells_of_characters(rt: HostRuntime) {
     for (name, c, count) in &CELLS {
-        holds(&rt, name, Ok(cells(*c) == *count));
+        holds(&rt, name, cells(*c) == *count);
     }
 }
 
@@ -144,7 +144,7 @@ fn is_shown_as(c: char, expected: char) -> bool {
 #[test]
 fn glyphs_of_characters(rt: HostRuntime) {
     for (name, c, expected) in &SHOWN {
-        holds(&rt, name, Ok(is_shown_as(*c, *expected)));
+        holds(&rt, name, is_shown_as(*c, *expected));
     }
 }
 

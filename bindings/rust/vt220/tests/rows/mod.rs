@@ -9,7 +9,7 @@ pub fn bytes_of(hex: &str) -> Vec<u8> {
 }
 
 /// Returns the rows of the file that a variable names, each as its fields. Without it, this repository's file is read. `None` if there is no
-/// such file: what is packed has none beside it.
+/// such file: what is packed has none.
 pub fn rows_of(variable: &str, name: &str) -> Option<Vec<Vec<String>>> {
     let here = format!("{}/../../../{name}", env!("CARGO_MANIFEST_DIR"));
     let all = match env::var(variable) {

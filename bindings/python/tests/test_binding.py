@@ -73,19 +73,19 @@ def test_dropped_terminals_leave_no_memory():
 HAMMER = """
 import threading, vt220
 terminal, other, text = vt220.Terminal(), vt220.Terminal(), vt220.Terminal("utf-8")
-stop = threading.Event()
-def hammer(call):
-    while not stop.is_set():
+data = b"\\033[?3habc\\033[6n\\033[4h\\033(0lqk\\033[2J\\xe4\\xb8\\x96\\xe2" * 300
+calls = [call for call in {calls} for _ in range(2)]
+made = [0] * len(calls)
+def hammer(number, call):
+    # As long as any thread is at work, all are.
+    while min(made) < 300:
         try:
             call()
         except vt220.Error:
             pass
-data = b"\\033[?3habc\\033[6n\\033[4h\\033(0lqk\\033[2J\\xe4\\xb8\\x96\\xe2" * 300
-calls = {calls}
-threads = [threading.Thread(target=hammer, args=[call]) for call in calls for _ in range(2)]
+        made[number] += 1
+threads = [threading.Thread(target=hammer, args=pair) for pair in enumerate(calls)]
 for thread in threads: thread.start()
-stop.wait(3)
-stop.set()
 for thread in threads: thread.join()
 print("alive")
 """

@@ -1,6 +1,5 @@
 """Checks that what the package offers has its types and its docstrings."""
 import inspect
-import os
 import pathlib
 import subprocess
 import sys
@@ -33,14 +32,6 @@ def test_all_that_is_offered_has_a_docstring():
     assert [name for name, one in found if not one.__doc__] == []
 
 
-def test_the_rig_has_strict_types():
-    package = pathlib.Path(vt220.__file__).parent
-    files = [str(path) for path in sorted(package.glob("*.py"))]
-    words = [sys.executable, "-m", "mypy", "--strict", "--follow-imports=silent", "--cache-dir=/dev/null", *files]
-    done = subprocess.run(words, cwd=package.parent, capture_output=True, text=True)
-    assert done.returncode == 0, done.stdout + done.stderr
-
-
 TYPED = """
 from vt220.rig import ENTER, UP, F10
 from vt220.rig import {names}
@@ -57,12 +48,12 @@ def test_it(vt: Session) -> None:
 """
 
 
-def test_programs_that_use_the_rig_have_types(tmp_path):
+def test_the_rig_and_a_program_that_uses_it_have_strict_types(tmp_path):
     """mypy finds each key by its name, as README imports it. Nothing else reads the names without running the module."""
-    names = ", ".join(vt220.keyboard.Key.__members__)
-    (tmp_path / "test_it.py").write_text(TYPED.format(names=names))
-    words = [sys.executable, "-m", "mypy", "--strict", "--follow-imports=silent", "--cache-dir=/dev/null", "test_it.py"]
-    done = subprocess.run(words, cwd=tmp_path, capture_output=True, text=True, env={**os.environ, "MYPYPATH": str(pathlib.Path(vt220.__file__).parents[1])})
+    package, program = pathlib.Path(vt220.__file__).parent, tmp_path / "test_it.py"
+    program.write_text(TYPED.format(names=", ".join(vt220.keyboard.Key.__members__)))
+    words = [sys.executable, "-m", "mypy", "--strict", "--follow-imports=silent", "--cache-dir=/dev/null", *sorted(package.glob("*.py")), program]
+    done = subprocess.run(words, cwd=package.parent, capture_output=True, text=True)
     assert done.returncode == 0, done.stdout + done.stderr
 
 

@@ -37,9 +37,12 @@ def copied(directory):
 
 @pytest.fixture
 def venv(tmp_path):
-    """Makes an environment that has Debian's pytest, setuptools and wheel, which pip can't fetch here."""
+    """Makes an environment that has Debian's pip, pytest, setuptools and wheel, which can't be fetched here."""
     directory = tmp_path / "venv"
-    subprocess.run([sys.executable, "-m", "venv", "--system-site-packages", directory], check=True)
+    subprocess.run([sys.executable, "-m", "venv", "--system-site-packages", "--without-pip", directory], check=True)
+    pip = directory / "bin" / "pip"
+    pip.write_text(f'#!/bin/sh\nexec {directory}/bin/python3 -m pip "$@"\n')
+    pip.chmod(0o755)
     return directory
 
 

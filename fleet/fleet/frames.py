@@ -8,7 +8,7 @@ from .keys import key
 FRAME = 0.05  # seconds between updates to viewers
 STEPS = 100  # updates to viewers, then a repaint for those who come
 WATCHED = 4.0  # seconds that a viewer's question holds for; viewers ask each second
-FORGET = 60  # seconds after which the frames of a session are dropped
+FORGET = 60  # seconds after its last frame after which the frames of a session are dropped
 
 
 class Frames:
@@ -35,6 +35,8 @@ class Frames:
         self.watched = {i: s for i, s in self.watched.items() if s.watched > now and kept.get(i) is s}
         with self.store.pipeline(transaction=False) as together:
             for session in self.watched.values():
+                if now - session.framed > FORGET / 2 and session.terminal.is_between():
+                    session.shown = None  # who comes later must find a frame, also if nothing changes
                 if (session.is_dirty or session.shown is None) and session.terminal.is_between():
                     self.add(together, session, worker)
             if together.command_stack:
@@ -58,3 +60,4 @@ class Frames:
         words = [word for pair in (frame | {"by": worker, "step": session.step, "at": session.at}).items() for word in pair]
         together.execute_command("XADD", stream, "MAXLEN", 2 * STEPS, "*", *words)
         together.execute_command("EXPIRE", stream, FORGET)
+        session.framed = time.monotonic()

@@ -87,9 +87,13 @@ class Followed(Viewer):
         self.picture, self.read, self.is_final, self.is_reading = Picture(incarnation), 0.0, False, False
 
     def play(self, fields):
-        """Plays a frame, and has clients play it too."""
+        """Plays a frame, and has clients play it too. A worker sends a repaint also if nothing changed, and clients aren't sent that."""
+        before = self.picture.terminal.copy() if b"repaint" in fields and self.picture.shown >= 0 else None
         if is_played := super().play(fields):
-            self.picture.follow(self.terminal, fields.get(b"update"))
+            if before is not None and before.same_state(self.terminal):
+                self.picture.terminal = self.terminal
+            else:
+                self.picture.follow(self.terminal, fields.get(b"update"))
         return is_played
 
     def is_to_be_read(self):
@@ -145,6 +149,9 @@ class Gallery:
         order = [each["incarnation"] for each in listed]
         with self.lock:
             self.order, self.followed = order, {i: self.followed.get(i) or Followed(self.store, i) for i in order}
+            for each in listed:  # so no client is told of a session without its facts
+                facts = {name: each[name] for name in ("name", "state", "worker", "host", "fault", "lag", "size", "input")}
+                self.followed[each["incarnation"]].picture.learn(facts)
         asked = [each for each in self.followed.values() if not each.is_final]
         with self.store.pipeline(transaction=False) as together:
             for each in asked:
@@ -153,10 +160,6 @@ class Gallery:
         for each, answer in zip(asked, answers):
             if isinstance(answer, list):
                 each.hear(answer)
-        with self.lock:
-            for each in listed:
-                facts = {name: each[name] for name in ("name", "state", "worker", "host", "fault", "lag", "size", "input")}
-                self.followed[each["incarnation"]].picture.learn(facts)
         for each in self.followed.values():
             if each.is_to_be_read():
                 each.is_reading = True

@@ -51,7 +51,7 @@ class Kept(Session):
         self.checked = self.at  # the position of the last checkpoint
         self.checkpoint = None  # one that the store hasn't
         self.told = -1  # the position that the store knows to be played
-        self.shown, self.step = None, 0  # what viewers have
+        self.shown, self.step, self.framed = None, 0, 0.0  # what viewers have, and when they were sent the last frame
         self.read_at = 0.0  # when its last bytes were read
         self.watched = 0.0  # until when somebody looks
         self.is_dirty = True  # something was played since viewers were sent a frame

@@ -179,6 +179,22 @@ def viewers_join_late(url, data):
     check(now.terminal.same_state(viewer.terminal), name, "without a worker")
 
 
+def a_session_that_stands_still_is_shown_also_later(url, _):
+    """Frames are dropped some time after the last one. So one is sent again while somebody looks, for whoever comes then."""
+    name, one, before = "still", worker(url), frames.FORGET
+    source = Source(url, name).send(b"stands still")
+    first, late = (Viewer(source.store, source.incarnation) for _ in range(2))
+    shows = lambda viewer: viewer.ask() or viewer.follow(0) or viewer.terminal.text().startswith("stands still")
+    frames.FORGET = 2
+    try:
+        check(until(lambda: shows(first), one), name, "it is shown")
+        last = first.last
+        check(until(lambda: shows(first) and first.last != last, one), name, "and once more, though nothing changed")
+        check(until(lambda: shows(late), one), name, "and to one who comes late")
+    finally:
+        frames.FORGET = before
+
+
 def a_program_gets_its_answers(url, _):
     """Through a pseudo-terminal: a shell asks where the cursor is, and prints what it was told."""
     name = "program"
@@ -371,6 +387,7 @@ CASES = [
     other_formats_are_named,
     trimmed_streams_are_named,
     viewers_join_late,
+    a_session_that_stands_still_is_shown_also_later,
     a_program_gets_its_answers,
     a_killed_program_has_a_shell_s_status,
     a_holder_that_has_just_ended_is_no_fault,

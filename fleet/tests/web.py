@@ -9,12 +9,12 @@ import subprocess
 import aiohttp
 
 from browser import Browser
-from harness import PATIENCE, PATIENT, Processes, Source, check, key, keys, local, stores, wait_for, wanted, with_machine
+from harness import PATIENCE, PATIENT, Processes, Source, check, key, keys, local, played, stores, wait_for, wanted, with_machine
 from operators import asked, metrics_at
 from safety import conf, free_port
 from stores_faults import program
 from fleet import claims
-from fleet.gallery import Picture
+from fleet.gallery import Followed, Picture
 import vt220
 
 HOSTILE = "<b>bold</b><script>alert(1)</script>&amp;\"'"
@@ -310,6 +310,21 @@ def clients_are_led_where_a_session_is(_, data):
     check(clients[1][0].text() == shown.text(), name, "a screen inside a sequence is shown")
 
 
+def a_repaint_that_changes_nothing_is_not_sent(_, data):
+    """A worker that wasn't asked for some seconds sends one when it is asked again. The updates after it lead on."""
+    name, followed, shown = "repaints", Followed(None, "x"), played(data)[0]
+    frame = {b"by": b"one", b"step": b"0", b"repaint": shown.repaint()}
+    followed.play(frame)
+    number = followed.picture.number
+    followed.play(frame | {b"by": b"other"})
+    check(followed.picture.since(number) is None, name, "clients are told nothing")
+    before = shown.copy()
+    shown.feed(b"more")
+    update = before.update(shown)
+    followed.play({b"by": b"other", b"step": b"1", b"update": update})
+    check(base64.b64decode(followed.picture.since(number)["bytes"]) == update, name, "and then the update alone")
+
+
 @with_machine
 def the_page_has_metrics(machine, _):
     name, port = "page metrics", free_port()
@@ -489,6 +504,7 @@ CASES = [
     real_sessions_in_the_browser,
     ended_and_faulty_sessions_are_shown,
     clients_are_led_where_a_session_is,
+    a_repaint_that_changes_nothing_is_not_sent,
     the_page_has_metrics,
     the_page_sends_the_keys_of_a_vt220,
     only_the_token_opens_the_page,

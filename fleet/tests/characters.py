@@ -97,7 +97,7 @@ def ill_formed_bytes_are_cut_anywhere(url, _):
 
 
 def an_older_worker_takes_no_session_in_utf_8(url, _):
-    name, old = "older worker", older(url, every=1)
+    name, old = "older worker", older(url, every=1, lease=3600)
     source, other = Source(url, "utf-8", encoding="utf-8").send(DATA), Source(url, "dec").send(b"x")
     store = source.store
 

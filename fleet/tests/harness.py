@@ -13,7 +13,7 @@ sys.dont_write_bytecode = True
 HERE = os.path.dirname(os.path.abspath(__file__))
 sys.path.insert(0, os.path.join(HERE, ".."))
 
-from fleet import config, frames, keys, local, session, store as stores
+from fleet import config, frames, keys, local, program as programs, session, store as stores
 from fleet.host import Host
 from fleet.keys import key
 from fleet.worker import Worker
@@ -29,6 +29,7 @@ PATIENCE = 300  # seconds until what is waited for counts as hanging
 PATIENT = ["[store]", "timeout = 60", f"give-up = {PATIENCE}"]
 stores.TIMEOUT = 60.0
 frames.WATCHED = frames.FORGET = 3600
+programs.ENDING = PATIENCE
 
 counts = {"passed": 0, "failed": 0}
 

@@ -86,14 +86,20 @@ def poison_is_tried_alone(url, _):
 def sessions_are_shared_evenly_also_with_a_new_worker(url, _):
     name = "balance"
     sources = [Source(url, f"shared-{number}", lease=600).send(b"x") for number in range(40)]
-    store, workers = sources[0].store, [worker(url) for _ in range(4)]
+    store, workers = sources[0].store, [worker(url, lease=3600) for _ in range(4)]
 
     def have():
         return sorted(store.scard(keys.of(each.claims.me)) for each in workers)
 
+    def beaten():
+        """Has each worker beat in its next turn, however long its lease is. Returns what they have."""
+        for each in workers:
+            each.claims.due = 0.0
+        return have()
+
     check(until(lambda: sum(have()) == 40 and not any(each.due for each in workers), *workers), name, "all are taken")
     check(have() == [10] * 4, name, f"each worker has its share: {have()}")
-    workers.append(worker(url))
+    workers.append(worker(url, lease=3600))
     for each in workers:
         each.store.run("beat", each.claims.me)
     until(lambda: all(each.told == each.at for one in workers for each in one.kept.values()), *workers)
@@ -101,7 +107,7 @@ def sessions_are_shared_evenly_also_with_a_new_worker(url, _):
     for each in workers:
         for kept in each.kept.values():
             kept.taken -= 61
-    check(until(lambda: have() == [8] * 5, *workers), name, f"then a new worker gets its share: {have()}")
+    check(until(lambda: beaten() == [8] * 5, *workers), name, f"then a new worker gets its share: {have()}")
     owned = {inc for each in workers for inc in each.kept}
     check(len(owned) == 40 and sum(len(each.kept) for each in workers) == 40, name, "each session has one worker")
 
@@ -196,7 +202,7 @@ def a_signal_reaches_a_program_that_reads_nothing(machine, _):
         things += 1
     check(things >= Typist.LIMIT, name, f"more waits than may wait: {things}")
     impatient = Typist(store, incarnation, patience=0.2)
-    check(raises(Refused, impatient.type, b"y"), name, "typing gives up")
+    check(wait_for(lambda: raises(Refused, impatient.type, b"y")), name, "typing gives up")
     check(fleet(machine.url, "kill", "--signal", "KILL", "--patience", "300", name)[0] == 0, name, "a signal doesn't wait")
     check(host.wait(120) == 137, name, f"and ends it: {host.returncode}")
     workers.stop()

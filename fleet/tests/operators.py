@@ -145,8 +145,8 @@ def kill_end_and_their_statuses(machine, data):
     name, url = "kill and end", machine.url
     store = stores.connect(url)
     workers = Processes(machine, 1, "--lease", "1")
-    host = program(machine, "runs", SHELL)
-    wait_for(lambda: state(store, "runs"))
+    host = program(machine, "runs", ["sh", "-c", "echo on; " + SHELL[2]])
+    wait_for(lambda: b"on" in written(store, "runs"))
     check(fleet(url, "host", "runs", "true")[0] == 5, name, "a second host of the name: 5")
     check(fleet(url, "end", "runs")[0] == 6, name, "a session whose host lives isn't ended: 6")
     patiently = ("--patience", str(PATIENCE))
@@ -250,7 +250,7 @@ def viewers_type_in_order_and_once(machine, _):
 
     check(wait_for(lambda: len(lines()) >= 60), name, f"all arrives: {len(lines())}")
     check(lines() == wanted_lines, name, "once, and in order")
-    check(store.xlen(key(incarnation, "keys")) == 0, name, "and doesn't stay in the store")
+    check(wait_for(lambda: store.xlen(key(incarnation, "keys")) == 0), name, "and doesn't stay in the store")
     check(fleet(machine.url, "type", "--enter", name, "\u00e4 by the command")[0] == 0, name, "the command types")
     check(wait_for(lambda: b"\xe4 by the command" in lines()), name, "with the byte of the Supplemental set")
     other = program(machine, "read-only", ["cat"])
@@ -413,14 +413,15 @@ def metrics_and_logs(machine, data):
     workers = Processes(machine, 1, "--metrics", f"127.0.0.1:{port}")
     source = Source(machine.url, name).send(data)
     wait_for(lambda: int(source.store.hget(source.part("about"), "played") or 0) > 4000)
-
-    check(wait_for(lambda: metrics_at(port)["fleet_bytes_total"] == len(data)), name, f"bytes: {metrics_at(port)}")
-    found = metrics_at(port)
+    # A worker counts the bytes that it plays, and the reports once the store has them.
     reports, entries = wanted("reports", data)[1].count(b"\033["), 1 + -(-len(data) // 700)
-    check(found["fleet_reports_total"] == reports and found["fleet_entries_total"] == entries, name, str(found))
+    sums = {"fleet_bytes_total": len(data), "fleet_reports_total": reports, "fleet_entries_total": entries}
+    check(wait_for(lambda: sums.items() <= metrics_at(port).items()), name, f"{sums}: {metrics_at(port)}")
+    wait_for(lambda: metrics_at(port)["fleet_report_seconds_count"] > 0)
+    found = metrics_at(port)
     check(found["fleet_sessions"] == 1 and found["fleet_faults_total"] == 0 < found["fleet_store_connections_total"], name, str(found))
     check(found["fleet_report_seconds_count"] > 0 == found['fleet_report_seconds_bucket{le="+Inf"}'] - found["fleet_report_seconds_count"], name, "latencies")
-    check(asked(port, "healthz") == (200, "ok\n"), name, "it is well")
+    check(wait_for(lambda: asked(port, "healthz") == (200, "ok\n")), name, "it is well")
     check(
         all(re.match(r"\d{4}-\d\d-\d\d \d\d:\d\d:\d\d,\d{3} (INFO|WARNING|ERROR) ", line) for line in workers.said()),
         name,
@@ -462,7 +463,9 @@ def a_host_has_metrics(machine, _):
     open(steps[0], "w").close()
     wanted = {'fleet_host_program{state="slowed"}': 1, "fleet_host_lag_bytes": 7, "fleet_host_bytes_total": 6, "fleet_store_is_away": 1}
     check(wait_for(lambda: wanted.items() <= now().items()), name, f"without a store: {now()}")
-    check(now()["fleet_host_lag_seconds"] > 0 and asked(port, "healthz") == (503, "the store is away\n"), name, "it is behind, and not well")
+    # The host begins to send these bytes a moment after it has them.
+    check(wait_for(lambda: now()["fleet_host_lag_seconds"] > 0), name, f"it is behind: {now()}")
+    check(asked(port, "healthz") == (503, "the store is away\n"), name, "and not well")
     machine.start()
     wanted = {'fleet_host_program{state="running"}': 1, "fleet_host_lag_bytes": 0, "fleet_host_lag_seconds": 0, "fleet_host_bytes_total": 13}
     check(wait_for(lambda: wanted.items() <= now().items()), name, f"it goes on: {now()}")

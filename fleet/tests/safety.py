@@ -166,7 +166,8 @@ def a_password_is_needed_and_read_from_a_file(machine, _):
 
 
 USERS = ("host", "worker", "viewer", "typist", "operator")
-PROGRAM_THAT_ASKS = r"""stty -echo raw; printf 'a\033[6n'; dd bs=1 count=6 2>/dev/null >/dev/null; stty sane
+# What is typed before its line is sane again would stay there as it is, and make no line.
+PROGRAM_THAT_ASKS = r"""stty -echo raw; printf 'a\033[6n'; dd bs=1 count=6 2>/dev/null >/dev/null; stty sane; echo nswered
 while read x; do echo got $x; done"""
 
 
@@ -185,7 +186,7 @@ def users_have_the_rights_that_they_need(machine, _):
     workers = Processes(machine, 1, "--lease", "1", "--retain", "1h", url=urls["worker"])
     words = [local.PYTHON, local.COMMAND, "host", "--input", "roles", "sh", "-c", PROGRAM_THAT_ASKS]
     host = subprocess.Popen(words, env=os.environ | {"FLEET_REDIS": urls["host"]}, stderr=subprocess.DEVNULL)
-    check(wait_for(lambda: fleet(urls["viewer"], "text", "roles")[1].startswith("a")), "users", "host, worker and viewer")
+    check(wait_for(lambda: fleet(urls["viewer"], "text", "roles")[1].startswith("answered")), "users", "host, worker and viewer")
     rights_of_commands(urls)
     rights_of_calls(urls)
     store = stores.connect(urls["operator"])

@@ -251,7 +251,12 @@ def a_full_store_is_waited_for(machine, data):
     sends = threading.Thread(target=lambda: quiet.send(b"abc\033[6n"), daemon=True)
     sends.start()
     store.config_set("maxmemory", "200mb")
-    check(host.wait(PATIENCE) == 5, name, "the flood goes on to its end")
+    incarnation, before = store.hget(keys.NAMES, "flood").decode(), -1
+    sent = lambda: int(store.hget(key(incarnation, "about"), "end"))
+    while host.poll() is None and sent() > before:
+        before = sent()
+        wait_for(lambda: sent() > before or host.poll() is not None)
+    check(host.poll() == 5, name, "the flood goes on to its end")
     sends.join(PATIENCE)
     check(wait_for(lambda: quiet.reports() == played(quiet.sent)[1]), name, "the quiet session goes on")
     quiet.end(0)
@@ -432,7 +437,7 @@ def a_cluster_is_refused(machine, _):
         for each in names:
             if each.endswith((".aof", ".rdb", ".manifest")):
                 os.remove(os.path.join(path, each))
-    machine.start("--cluster-enabled", "yes")
+    machine.start("--cluster-enabled", "yes", "--cluster-port", str(free_port()))
     check(raises(stores.Unfit, stores.connect(machine.url).examine), "cluster", "with a clear error")
 
 

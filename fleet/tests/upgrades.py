@@ -78,7 +78,7 @@ def formats_are_rolled_out_and_back(url, data):
     source.send(data[3000:4000] + b"\030\033[6n")
     check(until(lambda: version_of(source) == NEW, new), name, "then the newer one is")
     check(entries_of(source) == {NOW, NEW}, name, "by hosts, too")
-    back = worker(url, every=100)
+    back = worker(url, every=100, lease=3600)
     check(until(lambda: version_of(source) == NOW, new), name, "an older worker comes: all checkpoints are of its format again")
     renew(source)
     source.send(data[4000:5000] + b"\030\033[6n")
@@ -273,7 +273,7 @@ def a_program_outlives_its_host(machine, data):
     check(run.host.wait(PATIENCE) == 3, name, f"the last host has the program's status: {run.host.returncode}")
     check(run.incarnation() == first, name, f"it is one session over {kills + 1} hosts")
     run.hold()
-    check(not os.listdir(machine.holders()), name, "the holder has ended")
+    check(wait_for(lambda: not os.listdir(machine.holders())), name, "the holder has ended")
     workers.stop()
 
 

@@ -42,7 +42,7 @@ def in_threads(count, call):
 
 
 def python(code, **environment):
-    return subprocess.run([sys.executable, "-B", "-c", code], capture_output=True, text=True, timeout=600,
+    return subprocess.run([sys.executable, "-B", "-c", code], capture_output=True, text=True, timeout=3600,
                           env={**os.environ, "PYTHONPATH": str(PACKAGE.parent), **environment})
 
 

@@ -5,6 +5,7 @@ import json
 import os
 import pathlib
 import re
+import select
 import signal
 import subprocess
 import sys
@@ -171,6 +172,25 @@ def test_a_long_text_reaches_a_program_that_reads_late(tmp_path):
         assert rig._output  # the line takes some thousands of bytes
         (tmp_path / "go").write_text("go\n")
         rig.wait("300000")
+
+
+def test_the_last_words_of_a_program_that_ends_between_two_looks_are_seen(tmp_path, monkeypatch):
+    os.mkfifo(tmp_path / "go")
+    with shell("printf ready; read word <go; printf ' and over'") as rig:
+        rig.wait("ready")
+        read, looks = rig._read, []
+
+        def read_before_the_end(seconds):
+            if looks:
+                return read(seconds)
+            looks.append(seconds)
+            (tmp_path / "go").write_text("go\n")
+            select.select([rig.process.ending], [], [])
+            return False
+
+        monkeypatch.setattr(rig, "_read", read_before_the_end)
+        rig.wait("and over")
+        assert looks
 
 
 # Reports.

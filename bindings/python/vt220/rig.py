@@ -256,10 +256,12 @@ class Rig:
             return
         while True:
             left = deadline - time.monotonic()
+            # What the program wrote before its end is there to be read once it has ended.
+            has_ended = self.process.ended() is not None
             if self._read(left):
                 if self.terminal.is_between() and met():
                     return
-            elif self.process.ended() is not None and not self._take():
+            elif has_ended:
                 self._fail(f"the program ended with status {self.process.ended()}, and {wanted} never came")
             if left <= 0:
                 self._fail(f"{wanted} didn't come in {limit:g} s")

@@ -245,7 +245,7 @@ static void take_terminal(void) {
     it.is_behind = true;
 }
 
-/* Runs the pager in a process of its own, with the log as its input. */
+/* Runs the pager in a separate process, with the log as its input. */
 static noreturn void become_pager(int log) {
     const char *pager = getenv("PAGER");
     sigset_t none;

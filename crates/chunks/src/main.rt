@@ -10,7 +10,7 @@
 //! - `compressed`: the file is a compressed one, and nothing is listed
 //!
 //! Each number is found by `take_apart` of vt_recording, on a part of the recording: the content of a line or a frame, and the smallest
-//! moment at which it has come. So this program has no reader of a format of its own. It only cuts lines and frames, and knows by what the
+//! moment at which it has come. So this program reads no format itself. It only cuts lines and frames, and knows by what the
 //! facts in a timing file begin.
 #![tactic(auto)]
 

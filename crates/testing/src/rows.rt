@@ -1,8 +1,7 @@
-//! Says what a test has found of a row. The tests are of small functions that return whether a row holds, since the
-//! proof of one long function takes far more time than those of its parts. Each crate of tests asserts it by a function
-//! of its own: no other code of this repository may abort.
+//! Says whether a row of a test holds. Small functions find that out, since the proof of one long function takes far more
+//! time than those of its parts. The function that asserts it is in each crate of tests: a library may not abort.
 
-/// What a test has found of a row.
+/// Is returned by a function that tries a row of a test.
 pub trait Found {
     /// Returns whether the row holds. It doesn't if what the test needs has failed.
     fn is_met(self) -> bool;

@@ -1,7 +1,7 @@
 //! Refuses memory, and grants one growth after another. So a test sees each growth of a call refused once.
 use std::alloc::{AllocError, Global};
 
-/// How many blocks a `Scarce` keeps: more than any call of the tests makes growths.
+/// Is the number of blocks that a `Scarce` keeps. No call of the tests grows its memory so often.
 pub const BLOCKS: u32 = 1000;
 
 /// Takes all the memory that the allocator still gives, in blocks that are never touched.
@@ -54,8 +54,8 @@ pub trait Growing {
     fn is_unchanged(&self) -> bool;
 }
 
-/// Returns how often a call was refused, and how often that has changed something. One growth more is granted each
-/// time, until it has its memory.
+/// Returns how often a call was refused, and how often that has changed something. After each time it is granted one
+/// more growth, until it has its memory.
 pub fn refusals<G: Growing>(alloc: Global, call: &mut G) -> Result<(u32, u32), AllocError> {
     let mut scarce = Scarce::new(alloc)?;
     let mut refused = 0u32;

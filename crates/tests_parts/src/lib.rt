@@ -1,5 +1,5 @@
-//! Tests of the crates that stand on no other crate of the terminal, by their public calls. They stand in a crate of
-//! their own so that the crates below are proved once.
+//! Tests of the crates that depend on no other crate of the terminal, by their public calls. They have a separate crate,
+//! so that the crates below are proved once.
 #![tactic(auto)]
 
 #[cfg(test)]

@@ -1,4 +1,4 @@
-//! What no clause says: the vectors, whole and in pieces; inputs without measure; readers; the words of the command
+//! What no clause says: the vectors, whole and in pieces; long inputs; readers; the words of the command
 //! line; and each growth refused in turn.
 mod beginnings;
 mod command_line;

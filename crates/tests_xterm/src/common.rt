@@ -1,4 +1,4 @@
-//! Has what the tests share: terminals behind a front.
+//! Has what the tests share: terminals with a front.
 ghost use Rattle.std.specs.Prelude.{◌≤◌};
 
 use std::alloc::{AllocError, Global};
@@ -9,7 +9,7 @@ use vt_term::Terminal;
 use vt_utf8::{Decoder, feed_utf8};
 use vt_xterm::{Front, feed_xterm};
 
-/// What a terminal stands behind: the front of an xterm, or the decoder of UTF-8.
+/// Plays bytes on a terminal: the front of an xterm, or the decoder of UTF-8.
 pub(crate) trait Feed: Drop {
     fn new(alloc: Global) -> Result<Self, AllocError>;
 

@@ -352,7 +352,7 @@ fn push_report(terminal: &Terminal, place: u64, kind: EventKind, values: &[u16],
     }
 }
 
-/// Writes the line of a report in the place of its bytes, which begin at a position.
+/// Writes the line of a report instead of its bytes, which begin at a position.
 #[inline(never)]
 fn show_report(place: u64, before: usize, out: &mut Vec<u8>)
     requires some { before < vec_len out.old }

@@ -57,8 +57,8 @@ impl Pages {
     }
 }
 
-/// What a front keeps beside its terminal: what is pending of UTF-8, the page that isn't shown, and two modes. `new` allocates
-/// its memory, and nothing else does.
+/// Keeps what a terminal lacks under TERM=xterm: what is pending of UTF-8, the page that isn't shown, and two modes. `new`
+/// allocates its memory, and nothing else does.
 #[derive(Drop)]
 pub struct Front {
     pub(crate) decoder: Decoder,

@@ -1,27 +1,33 @@
-//! Has what the tests share: the lines that scroll off.
+//! Has what the tests share: the lines that scroll off, alone or with those of screens that are blanked.
 ghost use Rattle.std.specs.Prelude.{◌≤◌};
 
 use std::alloc::{AllocError, Global};
+use vt_replay::feed_pages;
 use vt_term::Terminal;
 
-/// Feeds the input, so many bytes at a time, and appends the lines that scroll off.
-fn feed_all(
+/// Feeds the input, so many bytes at a time, and appends the lines that scroll off. If `pages` is true, it also appends
+/// those of each screen that is blanked.
+pub(super) fn feed_all(
     terminal: &mut Terminal,
     input: &[u8],
     size: usize,
+    pages: bool,
     reports: &mut Vec<u8>,
     lines: &mut Vec<u8>,
 ) -> Result<(), AllocError>
     requires { 1 ≤ size }
 {
     for piece in input.chunks(size) {
-        terminal.feed_log(piece, reports, lines)?;
+        if pages {
+            feed_pages(terminal, piece, reports, lines)?;
+        } else {
+            terminal.feed_log(piece, reports, lines)?;
+        }
     }
     Ok(())
 }
 
-/// Returns the lines that scroll off a new terminal, fed so many bytes at a time, and behind them its screen if it is asked
-/// for.
+/// Returns the lines that scroll off a new terminal, fed so many bytes at a time, and then its screen if it is asked for.
 pub(super) fn logged(
     alloc: Global,
     input: &[u8],
@@ -33,7 +39,7 @@ pub(super) fn logged(
     let mut reports = Vec::new(alloc);
     let mut lines = Vec::new(alloc);
     let mut terminal = Terminal::new(alloc)?;
-    feed_all(&mut terminal, input, size, &mut reports, &mut lines)?;
+    feed_all(&mut terminal, input, size, false, &mut reports, &mut lines)?;
     if with_screen {
         terminal.text(&mut lines)?;
     }

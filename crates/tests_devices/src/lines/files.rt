@@ -76,7 +76,7 @@ fn lines_wait_for_room(rt: HostRuntime) {
     holds(&rt, "one line at a time", is_same_by_lines(rt.alloc()));
 }
 
-/// Returns the lines that scroll off as far as they fit, and how many bytes were played.
+/// Returns the lines that scroll off up to a capacity, and how many bytes were played.
 fn fitting_lines(
     alloc: Global,
     input: &[u8],
@@ -90,7 +90,7 @@ fn fitting_lines(
     Ok((lines, played))
 }
 
-/// Returns whether the first of 30 lines scrolls off at the LF of the 24th, behind 373 bytes. Ten of these lines have 15 bytes
+/// Returns whether the first of 30 lines scrolls off at the LF of the 24th, after 373 bytes. Ten of these lines have 15 bytes
 /// each and the others 16, so the next one scrolls off 16 bytes later.
 fn is_read_in_time(alloc: Global) -> Result<bool, AllocError> {
     let input = numbered(alloc, 30, b"\r\n")?;

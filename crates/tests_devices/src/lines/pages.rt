@@ -1,10 +1,10 @@
 //! A worked row for each event that blanks the whole screen, and for each that doesn't. The lines follow from the rule.
 ghost use Rattle.std.specs.Prelude.{◌≤◌};
 
+use super::common::feed_all;
 use crate::common::holds;
 use std::alloc::{AllocError, Global};
 use std::process::Abort;
-use vt_replay::feed_pages;
 use vt_term::Terminal;
 
 /// The lines of a screen that shows A in its first cell.
@@ -29,7 +29,7 @@ const BLANKED: [Shown; 18] = [
     ("RIS", b"A\x1bc"),
     ("DECCOLM set", b"A\x1b[?3h"),
     ("DECCOLM reset", b"A\x1b[?3l"),
-    ("DECCOLM behind another mode", b"A\x1b[?7;3l"),
+    ("DECCOLM after another mode", b"A\x1b[?7;3l"),
     ("DECCOLM in 132 columns", b"\x1b[?3hA\x1b[?3h"),
     ("DL of all lines", b"A\x1b[H\x1b[24M"),
     ("IL of all lines", b"A\x1b[H\x1b[24L"),
@@ -81,22 +81,6 @@ const IN_ORDER: [Row; 3] = [
     ),
 ];
 
-/// Feeds the input, so many bytes at a time, and appends what is written.
-fn feed_all(
-    terminal: &mut Terminal,
-    input: &[u8],
-    size: usize,
-    reports: &mut Vec<u8>,
-    lines: &mut Vec<u8>,
-) -> Result<(), AllocError>
-    requires { 1 ≤ size }
-{
-    for piece in input.chunks(size) {
-        feed_pages(terminal, piece, reports, lines)?;
-    }
-    Ok(())
-}
-
 /// Returns whether this is written of a new terminal, fed so many bytes at a time.
 fn pages(alloc: Global, input: &[u8], size: usize, lines: &[u8]) -> Result<bool, AllocError>
     requires { 1 ≤ size }
@@ -104,7 +88,7 @@ fn pages(alloc: Global, input: &[u8], size: usize, lines: &[u8]) -> Result<bool,
     let mut reports = Vec::new(alloc);
     let mut written = Vec::new(alloc);
     let mut terminal = Terminal::new(alloc)?;
-    feed_all(&mut terminal, input, size, &mut reports, &mut written)?;
+    feed_all(&mut terminal, input, size, true, &mut reports, &mut written)?;
     Ok(written.as_slice() == lines)
 }
 

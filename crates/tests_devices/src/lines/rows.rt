@@ -62,7 +62,7 @@ const KEPT: [Row; 22] = [
         b"A\x1b[24H\x1b]0;\n\x07\x1bPq\n\x1b\\",
         b"",
     ),
-    ("LF behind a string", b"A\x1b[24H\x9d\n\x9c\x1b[H\n", b""),
+    ("LF after a string", b"A\x1b[24H\x9d\n\x9c\x1b[H\n", b""),
 ];
 
 /// Asserts that the lines of each row scroll off.

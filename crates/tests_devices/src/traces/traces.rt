@@ -145,7 +145,7 @@ const TRACES: [Row; 25] = [
     ),
 ];
 
-/// The most bytes of a row, and no place is behind so many.
+/// The most bytes of a row, and no place is after so many.
 const MOST: usize = 64;
 
 /// Appends the trace of a chunk. Returns whether all of it was played.

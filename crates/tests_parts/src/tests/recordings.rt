@@ -76,7 +76,7 @@ $ ls\r\na\r\n\nScript done on 2026-11-22 10:00:01+00:00 [COMMAND_EXIT_CODE=\"0\"
         None,
         0,
     ),
-    // What is behind the moment still breaks the format.
+    // What follows the moment still breaks the format.
     (
         b"Script started on x\na\nScript done on y\nScript started on z\nb\nScript done on z\n",
         None,

@@ -71,7 +71,7 @@ fn a_new_screen_is_narrow_and_blank(rt: HostRuntime) {
     holds(&rt, "the size of a cell", size_of::<Cell>() <= 8);
 }
 
-/// Writes a thousand numbers in row 10, and scrolls the region from row 5 to 10 up behind each.
+/// Writes a thousand numbers in row 10, and scrolls the region from row 5 to 10 up after each.
 fn scroll_numbers(alloc: Global, screen: &mut Screen) -> Result<(), AllocError> {
     for k in 1..1001u16 {
         let line = format!(in alloc; "{k}")?;
@@ -164,7 +164,7 @@ fn space(reverse: bool, protected: bool) -> Cell {
     Cell::new(Glyph::blank(), brush)
 }
 
-/// Erases the first row, where `AB` is protected and `C` behind it isn't.
+/// Erases the first row, where `AB` is protected and `C` after it isn't.
 fn erase_first_row(screen: &mut Screen, selective: bool) {
     write(screen, 1, 1, b"AB", &space(false, true));
     write(screen, 1, 3, b"C", &space(true, false));

@@ -104,7 +104,7 @@ fn sixteen_values_are_held(rt: HostRuntime) {
 fn what_is_not_carried_out_is_held(rt: HostRuntime) {
     holds(
         &rt,
-        "value behind an intermediate",
+        "value after an intermediate",
         holds_back(b"\x9B 1", Held::Spoilt),
     );
     holds(&rt, "colon", holds_back(b"\x1B[1:", Held::Spoilt));
@@ -273,8 +273,8 @@ fn long_string_is_held() -> bool {
     *parser.held() == Held::Text { osc: true }
 }
 
-/// Returns the event of a final byte behind CSI and so many of one byte.
-fn ended_behind(count: u32, b: u8, last: u8) -> Option<Event> {
+/// Returns the event of a final byte after CSI and so many of one byte.
+fn ended_after(count: u32, b: u8, last: u8) -> Option<Event> {
     let (mut parser, _) = parsed(b"\x1B[");
     for _ in 0..count {
         parser.push(b);
@@ -290,9 +290,9 @@ fn long_inputs(rt: HostRuntime) {
     holds(
         &rt,
         "digits",
-        ended_behind(1_000_000, b'9', b'H') == greatest,
+        ended_after(1_000_000, b'9', b'H') == greatest,
     );
-    holds(&rt, "values", ended_behind(999, b';', b'm') == zeros);
+    holds(&rt, "values", ended_after(999, b';', b'm') == zeros);
 }
 
 /// Returns whether the run of plain bytes in front of a piece has this length.

@@ -35,7 +35,7 @@ O 0.102034 3\n\
 H 0.000000 DURATION 0.413244\n\
 H 0.000000 EXIT_CODE 0\n";
 
-/// The output of a session whose input is in a file of its own, and its timing file, as `script -I in -O out` of
+/// The output of a session whose input is in a separate file, and its timing file, as `script -I in -O out` of
 /// util-linux 2.38.1 wrote them.
 const APART: &[u8] =
     b"Script started on 2026-11-24 22:48:43+00:00 [COMMAND=\"sh\" <not executed on terminal>]\n\

@@ -136,7 +136,7 @@ fn words_ask_for_settings(rt: HostRuntime) {
     }
 }
 
-/// Lines that ask for a log. No row has a kind of output of its own.
+/// Lines that ask for a log. No row has a separate kind of output.
 const LOGS: &[Taken] = &[
     ("vt220 log", What::Text, 4096, 268435456, None),
     ("vt220 log --piece=7 a", What::Text, 7, 268435456, Some("a")),

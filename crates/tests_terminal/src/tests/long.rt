@@ -1,4 +1,4 @@
-//! Inputs without measure: whole, byte by byte, and in pieces of 7.
+//! Long inputs: whole, byte by byte, and in pieces of 7.
 ghost use Rattle.std.specs.Prelude.{◌≤◌};
 
 use super::common::{Failed, Played, holds};
@@ -121,7 +121,7 @@ fn full_lines_and(alloc: Global, count: usize, rest: &[u8]) -> Result<Vec<u8>, F
     Ok(lines)
 }
 
-/// So many letters; the full lines that they leave, what is behind these, and the length of all; and the cursor.
+/// So many letters; the full lines that they leave, what follows these, and the length of all; and the cursor.
 type Run = (usize, usize, &'static [u8], usize, Cursor);
 
 /// Letters that fill the screen, and one more, which scrolls.

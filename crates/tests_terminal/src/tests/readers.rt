@@ -44,7 +44,7 @@ fn is_blank(terminal: &Terminal) -> bool {
     true
 }
 
-/// What readers tell: the width, the cursor, the brush, the margins, a stop beside those at power-up, and whether
+/// What readers tell: the width, the cursor, the brush, the margins, a stop next to those at power-up, and whether
 /// nothing is held.
 #[derive(Clone, Copy)]
 struct Told {

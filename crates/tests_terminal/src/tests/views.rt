@@ -100,7 +100,7 @@ const START: &str =
 const WIDE: &str =
     "<svg xmlns='http://www.w3.org/2000/svg' viewBox='-10 -10 1340 452' width='1340' height='452' role='img' xml:space='preserve'>\n<title>VT220 screen</title>\n<desc>";
 
-/// What stands behind the text alternative.
+/// Follows the text alternative.
 const STYLE: &str =
     "</desc>\n<style>.vt220-text{font-family:'DejaVu Sans Mono','Liberation Mono',Menlo,Consolas,monospace;font-size:16.6px;white-space:pre}\n.vt220-b{font-weight:bold}.vt220-u{text-decoration:underline}\n@media (prefers-reduced-motion:no-preference){.vt220-k{animation:vt220-k 1s steps(1) infinite}}\n@keyframes vt220-k{50%{opacity:0}}</style>\n";
 
@@ -134,7 +134,7 @@ const DRAWN: [Drawn; 5] = [
         LIGHT_ON_DARK,
         "<rect fill='none' stroke='#e80' stroke-width='2' x='0' y='0' width='10' height='18'/>\n",
     ),
-    // characters that XML has other uses for, a reverse run beside a plain one, and no cursor
+    // characters that XML has other uses for, a reverse run next to a plain one, and no cursor
     (
         b"A<&>\x1b[1;7m b\x1b[0m\x1b[?25l",
         START,
@@ -165,7 +165,7 @@ const DRAWN: [Drawn; 5] = [
         DARK_ON_LIGHT,
         "<text class='vt220-text vt220-u vt220-k' x='0' y='427' textLength='20' lengthAdjust='spacingAndGlyphs'>┌─</text>\n<rect x='30' y='414' width='10' height='18'/>\n<text class='vt220-text' fill='#d0d0d0' x='30' y='427' textLength='10' lengthAdjust='spacingAndGlyphs'> </text>\n<text class='vt220-text' x='40' y='427' textLength='10' lengthAdjust='spacingAndGlyphs'>┐</text>\n<rect fill='none' stroke='#e80' stroke-width='2' x='1310' y='18' width='10' height='18'/>\n",
     ),
-    // protection makes no run of its own
+    // protection makes no separate run
     (
         b"a\x1b[1\"qb\x1b[0\"qc\x1b[?25l",
         START,

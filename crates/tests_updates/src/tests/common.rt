@@ -84,7 +84,7 @@ impl Asked {
 }
 
 /// Returns an update that was asked for, after the bytes `ok`.
-pub(super) fn asked_behind_ok(alloc: Global, pair: &(&[u8], &[u8])) -> Result<Asked, AllocError> {
+pub(super) fn asked_after_ok(alloc: Global, pair: &(&[u8], &[u8])) -> Result<Asked, AllocError> {
     let out = Vec::from_slice(alloc, b"ok")?;
     Asked::new(alloc, pair, out)
 }

@@ -1,6 +1,6 @@
 //! Tests worked examples. The bytes follow from the rule, since nothing shorter does the same.
 use super::common::{
-    Asked, Failed, asked_behind_ok, holds, lead, repainted, sends, sends_fewer, terminal,
+    Asked, Failed, asked_after_ok, holds, lead, repainted, sends, sends_fewer, terminal,
 };
 use std::alloc::Global;
 use vt_term::Terminal;
@@ -33,7 +33,7 @@ const EXAMPLES: [Example; 26] = [
     ),
     ("protected", b"", b"\x1b[1\"qA", b"\x1b[1\"qA"),
     ("line drawing", b"", b"\x1b(0q", b"\x1b(0q"),
-    // Always in 7 bits: alone behind a single shift, and several under LS2 and LS0.
+    // Always in 7 bits: alone after a single shift, and several under LS2 and LS0.
     ("a letter of the right half", b"", b"\xe9", b"\x1bNi"),
     ("one among others", b"", b"caf\xe9s", b"caf\x1bNis"),
     ("three side by side", b"", b"\xe9\xe8\xe0", b"\x1bnih`\x0f"),
@@ -259,7 +259,7 @@ fn leaves_all(before: &Terminal, asked: &mut Asked) -> bool {
 /// Returns whether an update inside a sequence is refused, and leaves all as it was.
 fn is_partial(alloc: Global, pair: &(&[u8], &[u8])) -> Result<bool, Failed> {
     let before = terminal(alloc, pair.0)?;
-    let mut asked = asked_behind_ok(alloc, pair)?;
+    let mut asked = asked_after_ok(alloc, pair)?;
     Ok(leaves_all(&before, &mut asked))
 }
 

@@ -2,7 +2,7 @@
 use super::common::{Asked, Failed, holds, updated};
 use std::alloc::Global;
 
-/// Two cells that share neither brush nor set, so that each is written behind all of these.
+/// Two cells that share neither brush nor set, so that each is written after all of these.
 const TWO_CELLS: &[u8] = b"\x1b[0;4;5;7m\x1b[0\"q\x1b(<i\x1b[0;1;4;5m\x1b[1\"q\x1b(0q";
 
 /// Returns a wide screen, and 1200 such cells on it.
@@ -34,8 +34,8 @@ fn appends_a_letter(asked: &mut Asked) -> bool {
     asked.update() == Ok(()) && asked.out.len() == 20001 && asked.out.ends_with(b"xA")
 }
 
-/// Returns whether an update sends the same behind many bytes that the output holds: a letter, and no more.
-fn sends_the_same_behind_others(alloc: Global) -> Result<bool, Failed> {
+/// Returns whether an update sends the same after many bytes that the output holds: a letter, and no more.
+fn sends_the_same_after_others(alloc: Global) -> Result<bool, Failed> {
     let others = vec![in alloc; b'x'; 20000]?;
     let mut asked = Asked::new(alloc, &(b"", b"A"), others)?;
     Ok(appends_a_letter(&mut asked))
@@ -43,9 +43,5 @@ fn sends_the_same_behind_others(alloc: Global) -> Result<bool, Failed> {
 
 #[test]
 fn sends_the_same_whatever_the_output_holds(rt: HostRuntime) {
-    holds(
-        &rt,
-        "behind others",
-        sends_the_same_behind_others(rt.alloc()),
-    );
+    holds(&rt, "after others", sends_the_same_after_others(rt.alloc()));
 }

@@ -1,5 +1,5 @@
 //! Tests each growth refused. If there is capacity, no memory is asked for.
-use super::common::{Asked, Failed, asked_behind_ok, holds, sends, terminal, updated};
+use super::common::{Asked, Failed, asked_after_ok, holds, sends, terminal, updated};
 use std::alloc::{AllocError, Global};
 use testing::{Growing, Scarce, follows_ok, refusals};
 use vt_term::Terminal;
@@ -53,7 +53,7 @@ fn is_refused_and_made(
 /// Returns whether an update that was refused, also more than once, is then made as if it never had been.
 fn is_refused(alloc: Global, pair: &(&[u8], &[u8])) -> Result<bool, Failed> {
     let mut updating = Updating {
-        asked: asked_behind_ok(alloc, pair)?,
+        asked: asked_after_ok(alloc, pair)?,
         before: terminal(alloc, pair.0)?,
     };
     is_refused_and_made(alloc, pair, &mut updating)

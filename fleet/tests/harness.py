@@ -241,15 +241,17 @@ class Proxy:
         self.socket = os.path.join(machine.folder, f"proxy-{random.randrange(10**9)}.sock")
         self.url = f"unix://{self.socket}"
         words = ["/usr/bin/python3", os.path.join(HERE, "proxy.py"), self.socket, machine.socket, str(share)]
-        self.process = subprocess.Popen(words)
+        self.process = subprocess.Popen(words, stdout=subprocess.PIPE)
         wait_for(lambda: os.path.exists(self.socket))
 
     def signal(self, number):
+        """Sends a signal, and waits until it is taken: two of one number that come at once would be one."""
         self.process.send_signal(number)
+        self.process.stdout.readline()
 
     def stop(self):
         self.process.kill()
-        self.process.wait()
+        self.process.communicate()
 
 
 def with_machine(case):

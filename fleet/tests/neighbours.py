@@ -292,6 +292,31 @@ def a_long_session_without_a_checkpoint_doesn_t_stop_the_page(machine, _):
     check(not shows(long), name, "and isn't played")
 
 
+class Overheard:
+    """A lock. Whenever it is let go, a client asks what it is to be told."""
+
+    def __init__(self, gallery):
+        self.gallery, self.lock, self.told = gallery, gallery.lock, []
+
+    def __enter__(self):
+        self.lock.acquire()
+
+    def __exit__(self, *_):
+        self.lock.release()
+        self.gallery.lock = self.lock
+        self.told += self.gallery.since({})["news"]
+        self.gallery.lock = self
+
+
+def no_client_is_told_of_a_session_without_its_facts(url, _):
+    name, sources = "facts", [Source(url, f"facts-{number}", lease=600) for number in range(3)]
+    gallery = Gallery(stores.connect(url), lambda: None)
+    gallery.lock = overheard = Overheard(gallery)
+    gallery.list()
+    check({each["session"] for each in overheard.told} == {each.incarnation for each in sources}, name, "all are listed")
+    check(all("facts" in each for each in overheard.told), name, f"each with its facts: {overheard.told}")
+
+
 def a_wrong_field_is_one_session_s_fault(url, _):
     name, store = "wrong field", stores.connect(url)
     good, bad = Source(url, "good", lease=600).send(b"abc"), Source(url, "bad", lease=600)
@@ -393,6 +418,7 @@ CASES = [
     a_viewer_can_leave_a_session_that_reads_nothing,
     a_browser_types_into_others_beside_a_session_that_reads_nothing,
     a_long_session_without_a_checkpoint_doesn_t_stop_the_page,
+    no_client_is_told_of_a_session_without_its_facts,
     a_wrong_field_is_one_session_s_fault,
     an_entry_that_is_too_long_is_a_fault,
     a_backlog_of_many_sessions_takes_little_memory,

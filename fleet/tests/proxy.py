@@ -3,7 +3,7 @@
 
 Of the answers of the store, a share of CHANCE is swallowed, whole or in part, and the connection is cut. SIGUSR1: all connections
 that are there say nothing any more, in either direction, and stay open; new ones work. SIGUSR2: nobody gets through, and who
-tries waits; again SIGUSR2: as before.
+tries waits; again SIGUSR2: as before. For each signal that was taken, a line is written.
 """
 import asyncio
 import random
@@ -64,8 +64,8 @@ async def main():
     listen, target = sys.argv[1:3]
     link = Link(target, float(sys.argv[3]) if len(sys.argv) > 3 else 0.0)
     loop = asyncio.get_running_loop()
-    loop.add_signal_handler(signal.SIGUSR1, link.make_holes)
-    loop.add_signal_handler(signal.SIGUSR2, link.toggle)
+    for number, work in (signal.SIGUSR1, link.make_holes), (signal.SIGUSR2, link.toggle):
+        loop.add_signal_handler(number, lambda work=work: (work(), print(flush=True)))
     async with await asyncio.start_unix_server(link.connect, listen, backlog=1024) as server:
         await server.serve_forever()
 

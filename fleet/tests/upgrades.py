@@ -379,7 +379,7 @@ def an_old_host_writes_nothing_once_there_is_a_new_one(machine, _):
 def a_program_without_a_host_is_ended_in_time(machine, _):
     name, marker = "orphan", os.path.join(machine.folder, "hung-up")
     with configured(machine, *PATIENT, "[host]", "orphan = 0.1"):
-        host = program(machine, name, ["sh", "-c", f"trap ': >{marker}; exit' HUP; echo on; while :; do sleep 0.05; done"])
+        host = program(machine, name, ["sh", "-c", f"trap ': >{marker}; exit' HUP; echo on; sleep 100000 & wait"])
         store = stores.connect(machine.url)
         wait_for(lambda: b"on" in written(store, name))
         host.kill()

@@ -377,6 +377,16 @@ def test_still_waits_for_a_pause(monkeypatch):
             rig.still(500, timeout=0)
 
 
+def test_a_program_that_reads_is_still():
+    """Each time that it reads, the line takes more of what waits for it. Its pause goes on."""
+    with shell("stty raw -echo; printf ready; cat >/dev/null") as rig:
+        rig.wait("ready")
+        rig.send(b"x" * 10**6)
+        begun = time.monotonic()
+        rig.still(300)
+        assert time.monotonic() - begun >= 0.3
+
+
 # Screens.
 
 def vectors():

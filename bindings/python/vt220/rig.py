@@ -215,18 +215,23 @@ class Rig:
                 return
             del self._output[:sent]
 
-    def _read(self, seconds: float) -> bool:
-        """Waits for bytes of the program and plays one read of them. Returns whether there were any."""
+    def _event(self, seconds: float) -> int:
+        """Waits for something on the line, and writes what it takes. Returns what poll(2) says of it, 0 if nothing came."""
         if self._is_open:
             self._poll.modify(self.process.line, select.POLLIN | (select.POLLOUT if self._output else 0))
-        for descriptor, event in self._poll.poll(max(0, seconds) * 1000):
-            if descriptor == self.process.line:
-                if event & select.POLLOUT:
-                    self._flush()
-                if event & ~select.POLLOUT:
-                    return self._take()
+        event = dict(self._poll.poll(max(0.0, seconds) * 1000)).get(self.process.line, 0)
+        if event & select.POLLOUT:
+            self._flush()
+        return event
+
+    def _read(self, seconds: float) -> bool:
+        """Waits for bytes of the program and plays one read of them. Returns whether there were any."""
+        deadline = time.monotonic() + seconds
+        event = self._event(seconds)
+        while event == select.POLLOUT:  # the program has read something, and has written nothing
+            event = self._event(deadline - time.monotonic())
         # The program may have written, and ended, between the two looks of one poll.
-        return self.process.ended() is not None and self._take()
+        return (event != 0 or self.process.ended() is not None) and self._take()
 
     def _take(self) -> bool:
         if not self._is_open:

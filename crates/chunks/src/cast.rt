@@ -42,7 +42,7 @@ impl Property for HasCome<'_> {
 #[derive(Drop)]
 struct Lines {
     alloc: Global,
-    /// The header, a line, and room for an event after it.
+    /// The header, a line, and capacity for an event after it.
     cast: Vec<u8>,
     /// The number of bytes of the header.
     header: usize,

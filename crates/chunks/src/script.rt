@@ -80,7 +80,7 @@ struct Lines {
     alloc: Global,
     /// A session of at least as many bytes as the recording's, and one more.
     session: Vec<u8>,
-    /// The lines of the timing file that state facts, and room for two lines after them.
+    /// The lines of the timing file that state facts, and capacity for two lines after them.
     timing: Vec<u8>,
     /// The number of bytes of the lines that state facts.
     facts: usize,

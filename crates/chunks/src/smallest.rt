@@ -5,7 +5,7 @@ use std::alloc::AllocError;
 /// The number of steps that suffices for every number of 64 bits.
 const STEPS: u32 = 65;
 
-/// A property of numbers that holds from some number on.
+/// A property of numbers that holds starting at some number.
 pub(crate) trait Property {
     /// Returns whether it holds of a number.
     fn holds(&self, number: u64) -> Result<bool, AllocError>;

@@ -61,7 +61,7 @@ fn least_times(
     Ok((updates / sent, repaints / sent))
 }
 
-/// What the arguments ask for.
+/// The request that the arguments make.
 #[derive(Clone, Copy)]
 struct Asked {
     size: usize,

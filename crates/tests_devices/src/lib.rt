@@ -1,4 +1,4 @@
-//! Tests the replay and its devices: short, full and failing ones, and settings at work.
+//! Tests the replay and its devices: short, full and failing ones, and settings.
 //!
 //! Tests the log: a worked row for each way in which a line scrolls off, for each that doesn't, and its capacity.
 //! Tests names: each row of the specification's tables, and each kind of event that is ignored.

@@ -1,4 +1,4 @@
-//! What no clause says of the log: that its definition means what a user means by it, and that memory is granted when it is
+//! Tests what no clause says of the log: its definition means what a user means by it, and memory is granted when it is
 //! there.
 mod common;
 mod files;

@@ -1,4 +1,4 @@
-//! What no clause says of replays: short, full and failing devices, settings at work, and what a fault prints.
+//! Tests what no clause says of replays: short, full and failing devices, settings, and what a fault prints.
 mod common;
 mod devices;
 mod log;

@@ -1,4 +1,4 @@
-//! What no clause says of names: that bytes have the name which the specification gives them.
+//! Tests what no clause says of names: bytes have the name that the specification gives them.
 mod functions;
 mod ignored;
 mod lines;

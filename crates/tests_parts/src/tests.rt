@@ -1,4 +1,4 @@
-//! What no clause says of glyphs, of the parser, of the screen and of recordings: worked rows, and each public call
+//! Tests what no clause says of glyphs, of the parser, of the screen and of recordings: worked rows, and each public call
 //! once.
 mod casts;
 mod common;

@@ -1,4 +1,4 @@
-//! What no clause says: the vectors, whole and in pieces; long inputs; readers; the words of the command
+//! Tests what no clause says: the vectors, whole and in pieces; long inputs; readers; the words of the command
 //! line; and each growth refused in turn.
 mod beginnings;
 mod command_line;

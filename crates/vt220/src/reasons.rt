@@ -5,13 +5,13 @@ use std::alloc::{AllocError, Global};
 use std::io::Error;
 use vt_replay::{Break, Detected, Fault, Format, Part, Request};
 
-/// What the operating system's number of an error comes after in its message.
+/// The part of an error's message after which the operating system's number comes.
 const BEFORE_THE_NUMBER: &str = " (os error ";
 
 /// The name of the output, for messages.
 pub(crate) const STANDARD_OUTPUT: &str = "standard output";
 
-/// What was seen of the files until the request ended.
+/// Facts about the files, as seen until the request ended.
 #[derive(Clone, Copy)]
 pub(crate) struct Seen {
     /// The file that was read last.
@@ -20,7 +20,7 @@ pub(crate) struct Seen {
     pub(crate) error: Option<Error>,
     /// The format in which the input was read.
     pub(crate) format: Format,
-    /// What the input begins like.
+    /// The kind of input as its first bytes show it.
     pub(crate) detected: Detected,
 }
 

@@ -1,4 +1,4 @@
--- What a player's bytes leave may be cut anywhere.
+-- A player's bytes may be cut anywhere: the pieces leave what all of them do.
 use Rattle.std.proofs.Common.{◌≡◌, ◌∙◌, ap, refl, List, ℕ, [], ◌∷◌, ◌++◌, ◌+◌, arith}
 use Rattle.vt_syntax.specs.Laws.{SplitLaw}
 use Rattle.vt_term.specs.State.{State}

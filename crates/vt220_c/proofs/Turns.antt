@@ -1,4 +1,4 @@
--- What a player plays in turns, behind what is in two buffers, and how often the bell rings in it.
+-- The result of a player's turns, after what is in two buffers, and how often the bell rings in them.
 use Rattle.std.proofs.Common.{◌≡◌, ◌∙◌, ap, refl, List, ℕ, zero, suc, [], ◌∷◌, ◌++◌, ◌+◌, ◌≤◌, length, take, drop}
 use Rattle.std.proofs.Common.{get_or, arith, Bool, true, false, ◌<◌, ◌⊎◌, inl, inr}
 use Rattle.std.proofs.Math.Seq.{take-add}

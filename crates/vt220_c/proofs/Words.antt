@@ -1,4 +1,4 @@
--- Structs of two words, a pointer and an allocator's handle, which own memory beside them. Assumes `Logic`.
+-- Structs of two words, a pointer and an allocator's handle, which own memory next to them. Assumes `Logic`.
 use Rattle.vt220_c.proofs.Names.{◌≡◌, ◌∙◌, ap, List, [], ◌∷◌, ◌++◌, refl, sym, subst, T, lit<, true, ◌&&◌, Ura, Sym, Ty}
 use Rattle.vt220_c.proofs.Names.{Fn, Callee, Body, tnil, tcons, ty_ptr, ty_struct, local, value_local, assign, place}
 use Rattle.vt220_c.proofs.Names.{field, copy, rv_opd, aggregate, seq, return, Val, vstruct, vcons, vnil, of_list}
@@ -30,7 +30,7 @@ both_good τ null_ptr h ok = (and_tt (has_ty τ h) ok.0, (record { fits = lit< t
 
 -- ---- what is owned
 
--- the words, which lie at these machine values, and a formula beside them
+-- the words, which lie at these machine values, and a formula next to them
 abbrev pub two : (Z : RattleType) → Ptr → Z.Denot → Fml → List Val → Fml
 two Z p a heap vs = fsep (fex (Valss (RawPtr ∷ Z ∷ []))
     (within (record { name = []; args = []; types = []; fields = RawPtr ∷ Z ∷ [] }) (p, (a, tt)) vs)) heap

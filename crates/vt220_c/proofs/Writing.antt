@@ -1,4 +1,4 @@
--- Bytes that are written one after another, behind what is in a buffer.
+-- Bytes that are written one after another, after what is in a buffer.
 use Rattle.std.proofs.Common.{◌≡◌, ◌∙◌, ap, sym, refl, List, ℕ, [], ◌++◌, ◌+◌, ◌-◌, ◌≤◌, length, take, drop}
 use Rattle.std.proofs.Common.{append_assoc, length-append, length-drop, arith}
 use Rattle.std.proofs.Math.Seq.{take-append_seam, drop-append_seam}
@@ -24,7 +24,7 @@ same-length xs before middle at m w =
     let rest = length-drop at before in
     omega (arith, all, front, rest, w.fits, w.count)
 
--- writing behind what was written
+-- writing after what was written
 pub writes-more : (xs ys before middle after : List ℕ) (at m n : ℕ) → WritesAt xs before at middle m
     → WritesAt ys middle (at + m) after n → WritesAt (xs ++ ys) before at after (m + n)
 writes-more xs ys before middle after at m n first second =

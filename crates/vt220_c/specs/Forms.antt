@@ -1,4 +1,4 @@
--- What is written of a terminal into a caller's buffer. Contracts of private functions cite this, and no public clause does.
+-- The parts of a terminal that are written into a caller's buffer. Contracts of private functions cite this, and no public clause does.
 use Rattle.std.specs.Prelude.{◌≡◌, ◌↔◌, ◌≤◌, ◌<◌, ℕ, List, length}
 use Rattle.vt_syntax.specs.declared.held.Held.TheVariants.{Nothing}
 use Rattle.vt_screen.specs.Grid.{row_of, last_row}

@@ -1,4 +1,4 @@
--- What kind of sequence is unfinished, as a number. (this profile)
+-- The kind of a sequence that is unfinished, as a number. (this profile)
 use Rattle.std.specs.Prelude.{ℕ}
 use Rattle.vt_syntax.specs.declared.held.Held.{Held}
 use Rattle.vt_syntax.specs.declared.held.Held.TheVariants.{Nothing, Escape, Control, Spoilt, Text}

@@ -1,4 +1,4 @@
--- What the repaint of a terminal and the front that a handle keeps for it does.
+-- The effect of the repaint of a terminal and of the front that a handle keeps for it.
 use Rattle.vt_term.specs.State.{State}
 use Rattle.vt_xterm.specs.Play.{FrontState, behind}
 use Rattle.vt_xterm_paint.specs.Repaint.{IsRebuilt}

@@ -21,7 +21,7 @@ status_closed = 3
 abbrev pub status_partial : ℕ
 status_partial = 4
 
--- the caller's room is too little
+-- the caller's buffer is too small
 abbrev pub status_room : ℕ
 status_room = 5
 

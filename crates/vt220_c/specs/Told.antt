@@ -1,4 +1,5 @@
--- What a player's bytes leave in a terminal, and behind what is in two buffers: the reports, and the lines if there is a log.
+-- The result of a player's bytes: the state of a terminal, and what is appended to two buffers: the reports, and the lines if there is
+-- a log.
 -- Contracts of private functions and of `Player` cite this, and no public clause does.
 use Rattle.std.specs.Prelude.{◌≡◌, ◌+◌, ◌≤◌, ◌++◌, ℕ, List, [], Bool, true, false, length, take, drop, if◌then◌else◌}
 use Rattle.vt_term.specs.State.{State}
@@ -46,7 +47,7 @@ pub record Rings (counts : Bool) (bells rung : ℕ) : Type 0 where
   pub none : counts ≡ false → rung ≡ 0
   pub all : counts ≡ true → rung ≡ bells
 
--- the state, what is kept, the reports and the lines behind what is there, and the bells
+-- the state, what is kept, the reports and the lines after what is there, and the bells
 pub record Plays {P : Type 0} (logs counts : Bool) (told : Told P) (t : State) (q : P) (out : List ℕ) (at : ℕ) (out_after : List ℕ) (lines : List ℕ) (lines_at : ℕ) (lines_after : List ℕ) (written lines_written rung : ℕ) : Type 0 where
   pub state : t ≡ told.state
   pub kept : q ≡ told.kept

@@ -1,4 +1,4 @@
--- What a host sends under TERM=xterm, played on a terminal and the front that a handle keeps for it.
+-- The bytes of a host under TERM=xterm, played on a terminal and the front that a handle keeps for it.
 use Rattle.std.specs.Prelude.{◌+◌, ℕ, List, [], ◌∷◌}
 use Rattle.vt_term.specs.State.{State}
 use Rattle.vt_utf8.specs.Decoding.{pending_after}

@@ -14,7 +14,7 @@ use vt_xterm::{Front, LINES_LIMIT, feed_xterm_log_reserved, feed_xterm_reserved}
 
 /// How what a host sends is played on a terminal.
 pub(crate) trait Player: Drop {
-    /// What bytes leave.
+    /// The result of playing bytes.
     ghost told: { State → Self → List ℕ → Told Self };
 
     /// The capacity for lines without which a feed with a log stops.
@@ -67,7 +67,7 @@ pub(crate) trait Player: Drop {
         ensures { AreTold told };
 }
 
-/// The host sends UTF-8. What is pending of a character is kept.
+/// The host sends UTF-8. The pending part of a character is kept.
 impl Player for Decoder {
     ghost use Rattle.vt220_c.specs.Utf8.{utf8_told};
 
@@ -114,7 +114,7 @@ impl Player for Decoder {
     }
 }
 
-/// The host sends for an xterm. What a terminal needs under TERM=xterm is kept.
+/// The host sends for an xterm. The front keeps what a terminal needs under TERM=xterm.
 impl Player for Front {
     ghost use Rattle.vt220_c.specs.Xterm.{xterm_told};
 

@@ -60,8 +60,8 @@ impl Scratch {
 /// Writes the repaint of a session under TERM=xterm into `out` if it fits. `x` is what the terminal needs next to its state. Writes
 /// the length to `written`. Returns `OK`, `ROOM`, `CLOSED`, or `PARTIAL` if the terminal is inside a sequence.
 ///
-/// These bytes, played by `core_feed_xterm`, rebuild the session on any terminal and front. What is pending of UTF-8 is left out: if it
-/// is sent after them, it is pending again.
+/// These bytes, played by `core_feed_xterm`, rebuild the session on any terminal and front. The pending part of UTF-8 is left out: if
+/// it is sent after them, it is pending again.
 #[unsafe(no_mangle)]
 pub extern "C" fn core_xterm_repaint(
     t: &mut Vt220,

@@ -1,14 +1,14 @@
-//! What the arguments of a command line ask for.
+//! Has the types for what the arguments of a command line ask for.
 
 ghost use Rattle.std.specs.Prelude.{◌≤◌};
 
 use crate::what::{TerminalType, What, Word};
 use vt_recording::{Encoding, Format, Moment};
 
-/// What the arguments ask for, if it is a replay. The two numbers are in their ranges, in every value of this type.
+/// The request for a replay. The two numbers are in their ranges, in every value of this type.
 #[derive(Debug, PartialEq, Eq, Drop)]
 pub struct Settings {
-    /// What is to be written.
+    /// The output that is to be written.
     pub what: What,
     /// The most bytes of one read, 1 to 65536.
     pub piece: usize,
@@ -20,7 +20,7 @@ pub struct Settings {
     pub ghost limit_in_range: { limit ≤ 1099511627776 },
 }
 
-/// What the options of a subcommand ask for. The two numbers are in their ranges, in every value of this type.
+/// The request that the options of a subcommand make. The two numbers are in their ranges, in every value of this type.
 #[derive(Drop)]
 pub(crate) struct Options {
     /// The most bytes of one read, 1 to 65536.
@@ -33,10 +33,10 @@ pub(crate) struct Options {
     pub(crate) ghost limit_in_range: { limit ≤ 1099511627776 },
 }
 
-/// What the arguments ask for. The two numbers are in their ranges, in every value of this type.
+/// The request that the arguments make. The two numbers are in their ranges, in every value of this type.
 #[derive(Debug, PartialEq, Eq, Drop)]
 pub struct Request {
-    /// What is to be done with the input.
+    /// The work that is to be done with the input.
     pub word: Word,
     /// The most bytes of one read, 1 to 65536.
     pub piece: usize,

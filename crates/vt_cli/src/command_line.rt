@@ -30,45 +30,45 @@ pub(crate) const BAD_COMMAND_LINE: &str = "vt220: bad command line\n";
 /// The version of the program and of all its crates: `vt220 --version` prints it after the name.
 const VERSION: &str = "0.3.0";
 
-/// What the program is for.
+/// Says what the program is for.
 const ABOUT: &str =
     "Plays what a host sent to a VT220 terminal, and writes what the terminal then shows or answers";
 
-/// What `text` is for.
+/// Says what `text` is for.
 const TEXT: &str = "The screen: 24 lines of UTF-8, each without the spaces at its end";
 
-/// What `reports` is for.
+/// Says what `reports` is for.
 const REPORTS: &str = "What the terminal answers to the host, chunk by chunk as the input comes";
 
-/// What `repaint` is for.
+/// Says what `repaint` is for.
 const REPAINT: &str = "The bytes that rebuild the terminal, hidden state included, on any terminal";
 
-/// What `status` is for.
+/// Says what `status` is for.
 const STATUS: &str =
     "The cursor, the wrap flag, the margins, the unfinished sequence, and how many bytes were answered";
 
-/// What `show` is for.
+/// Says what `show` is for.
 const SHOW: &str =
     "The screen with its attributes, for a terminal of today or less -R: lines of UTF-8 with SGR";
 
-/// What `picture` is for.
+/// Says what `picture` is for.
 const PICTURE: &str = "The screen as a picture (SVG)";
 
-/// What `log` is for.
+/// Says what `log` is for.
 const LOG: &str =
     "The lines that scroll off the top of the screen, as they come, and at the end the screen";
 
-/// What `pages` is for.
+/// Says what `pages` is for.
 const PAGES: &str =
     "The log, and the 24 lines of the screen before each event that blanks all of it";
 
-/// What `trace` is for.
+/// Says what `trace` is for.
 const TRACE: &str = "A line for each event: its place, its name and its values";
 
-/// What `summary` is for.
+/// Says what `summary` is for.
 const SUMMARY: &str = "The names of the events, each with its count; the ignored ones first";
 
-/// What `content` is for.
+/// Says what `content` is for.
 const CONTENT: &str = "The host's bytes of a recording, or with --terminal xterm bytes for a VT220";
 
 /// The subcommands, each by its name and what it is for.
@@ -86,7 +86,7 @@ const SUBCOMMANDS: &[(&str, &str)] = &[
     ("content", CONTENT),
 ];
 
-/// What an argument of a subcommand takes.
+/// The value that an argument of a subcommand takes.
 #[derive(Clone, Copy)]
 enum Takes<'a> {
     /// The file.

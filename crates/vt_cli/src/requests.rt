@@ -1,4 +1,4 @@
-//! What the arguments ask for: a word, its input, and how that was recorded.
+//! Reads what the arguments ask for: a word, its input, and how that was recorded.
 ghost use Rattle.std.specs.Prelude.{◌≡◌, ◌≢◌, [], IfOk, IfErr, IfSome, IfNone, Some, Ok};
 ghost use Rattle.clap.specs.Words.{found_of, rows_of, subcommand_rows_of};
 ghost use Rattle.vt_cli.specs.declared.what.Word.{Word};

@@ -1,6 +1,6 @@
-//! What the program writes.
+//! Names what the program writes.
 
-/// What a replay writes.
+/// The output of a replay.
 #[derive(Clone, Copy, Debug, PartialEq, Eq)]
 pub enum What {
     /// The text of the screen after the whole input.
@@ -27,7 +27,7 @@ pub enum TerminalType {
     Xterm,
 }
 
-/// What the program does with its input.
+/// The work that the program does with its input.
 #[derive(Clone, Copy, Debug, PartialEq, Eq)]
 pub enum Word {
     /// A replay.

@@ -1,3 +1,3 @@
--- What only private contracts cite. No public clause does, and no reader has to believe it.
+-- Definitions that only private contracts cite. No public clause does, and no reader has to believe it.
 pub mod Attributes
 pub mod Tables

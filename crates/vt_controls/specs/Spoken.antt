@@ -1,4 +1,4 @@
--- What repaints and updates are made of: graphic characters and the control functions that these tables name, in
+-- The elements of repaints and updates: graphic characters and the control functions that these tables name, in
 -- their 7-bit forms, and nothing else. (ECMA-48 5; EK-VT220-RM, chapter 4)
 use Rattle.std.specs.Prelude.{◌≡◌, ℕ, List, [], ◌∷◌, ◌++◌, Bool, true, false, ◌==◌, ◌&&◌, ◌||◌, nat_le, codes, bytes_eq}
 use Rattle.std.specs.Prelude.{decimal, map}
@@ -66,7 +66,7 @@ spoken_escapes =
     codes "7" ∷ codes "=" ∷ codes ">" ∷ codes "c" ∷ codes "H" ∷ codes "N" ∷ codes "O" ∷ codes "n" ∷ codes "o"
     ∷ codes "~" ∷ codes "}" ∷ codes "|" ∷ codes " F" ∷ codes " G" ∷ []
 
--- CUF, CUB, CUP, IL, DL and DECSTBM; SGR; ED and EL from the cursor on; TBC of all stops; SM and RM; DECSCA; DECSTR
+-- CUF, CUB, CUP, IL, DL and DECSTBM; SGR; ED and EL starting at the cursor; TBC of all stops; SM and RM; DECSCA; DECSTR
 abbrev pub spoken_sequences : List (List ℕ × (List ℕ → Bool))
 spoken_sequences =
     (codes "C", are_numbers)

@@ -1,4 +1,4 @@
--- What a run takes from its reader and gives to its writer. (this profile)
+-- The bytes that a run takes from its reader, and those that it gives to its writer. (this profile)
 use Rattle.std.specs.Prelude.{◌≡◌, ℕ, List, Bool, Option}
 use Rattle.std.specs.Io.KnownBytes.{Appends, Consumes}
 

@@ -1,4 +1,4 @@
--- What a writer writes of a chunk. (this profile)
+-- The part of a chunk that a writer writes. (this profile)
 use Rattle.std.specs.Prelude.{◌≡◌, ℕ, ◌<◌, ◌++◌, List, length, Bool, true, false, Option}
 use Rattle.std.specs.Io.KnownBytes.{Appends}
 

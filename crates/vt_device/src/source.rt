@@ -1,4 +1,4 @@
-//! What bytes are read from: a watched device, or memory.
+//! Reads bytes from a watched device, or from memory.
 ghost use Rattle.std.specs.Prelude.{◌≡◌, ◌||◌, ℕ, List, Bool, Option};
 ghost use Rattle.std.specs.Io.{ReadsAtMost};
 ghost use Rattle.std.specs.Io.KnownBytes.{ReadConsumes};
@@ -8,7 +8,7 @@ use crate::watched::Watched;
 use std::io;
 use std::io::Read;
 
-/// What bytes are read from: a watched device, or memory. So what is said of memory also says that it never fails.
+/// A source of bytes: a watched device, or memory. The clauses about memory also state that it never fails.
 pub trait Source {
     /// The bytes not read yet, if the source reports them as its own.
     ghost remaining: { Self → Option (List ℕ) };

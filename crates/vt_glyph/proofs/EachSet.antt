@@ -1,4 +1,4 @@
--- What holds of each set, computed for all sets at once: no proof has a case for each set.
+-- Facts of each set, computed for all sets at once: no proof has a case for each set.
 use Rattle.std.proofs.Common.{◌≡◌, ℕ, Bool, true, ◌||◌, ◌==◌, List, [], ◌∷◌, inl, inr, sym, ap, ◌∙◌}
 use Rattle.std.specs.List.{list_all}
 use Rattle.std.proofs.lemmas.Bool.{eqb-true}

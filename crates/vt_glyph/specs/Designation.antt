@@ -1,5 +1,5 @@
--- The final bytes that designate sets. (VT220 manual, chapter 4: SCS. That British and German are designated as any
--- other set is, whatever modes are set, is this profile's.)
+-- The final bytes that designate sets. (VT220 manual, chapter 4: SCS. This profile: British and German are
+-- designated as any other set is, whatever modes are set.)
 use Rattle.std.specs.Prelude.{ℕ, List, [], ◌∷◌, Option}
 use Rattle.vt_glyph.specs.declared.set.Set.{Set}
 use Rattle.vt_glyph.specs.declared.set.Set.TheVariants.{Ascii, British, German, Special, Supplemental}

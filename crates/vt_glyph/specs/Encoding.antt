@@ -11,7 +11,7 @@ use Rattle.vt_glyph.specs.declared.glyph.Spelling.TheVariants.{Plain, Second, Th
 use Rattle.vt_glyph.specs.Tables.{IsGlyph}
 use Rattle.vt_glyph.specs.Spell.{spelling_of, spelled_glyph}
 
--- the spelling of a byte: 00 to 1F stand for the codes of G3 from 60 on, and 80 to FF for those of G2
+-- the spelling of a byte: 00 to 1F are for the codes of G3 starting at 60, and 80 to FF for those of G2
 abbrev pub encoded_spelling : ℕ → Spelling
 encoded_spelling byte =
     if nat_lt byte 0x20 then Third (byte + 0x60) else (

@@ -1,4 +1,4 @@
-//! What a cell shows, and how it is spelled.
+//! Has the glyphs that cells show, and how they are spelled.
 ghost use Rattle.std.specs.Prelude.{◌≡◌, ◌≤◌, ◌<◌};
 
 use std::marker::Model;

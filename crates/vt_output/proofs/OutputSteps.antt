@@ -1,4 +1,4 @@
--- What an output writes of bytes in turn.
+-- The bytes that an output writes of chunks in turn.
 use Rattle.std.proofs.Common.{◌≡◌, ℕ, Bool, ◌+◌, ◌-◌, ◌≤◌, ◌++◌, List, [], length, take, drop, arith, refl, sym, ap, subst, ◌∙◌}
 use Rattle.std.proofs.Common.{Option, Result, true, inl, inr}
 use Rattle.std.specs.Prelude.{Ok, Err}
@@ -31,7 +31,7 @@ then_more written ending there b c middle middle_ending middle_there last last_e
   none = second.none;
 }
 
--- the part of a chunk from a place on, to its end
+-- the part of a chunk starting at a place, to its end
 pub rest-of : (chunk : List ℕ) (at : ℕ) → take (length chunk - at) (drop at chunk) ≡ drop at chunk
 rest-of chunk at =
     let e : length chunk - at ≡ length (drop at chunk) = sym (length-drop at chunk) in

@@ -61,7 +61,7 @@ passed b buf n limit total fits one some =
 pub within-limit : (b chunk : List ℕ) (limit : ℕ) → length b ≡ limit → b ≡ take limit (b ++ chunk)
 within-limit b chunk limit total = rw (← total) (sym (take-append_seam b chunk))
 
--- a proper beginning, behind what was written before it
+-- a proper beginning, after what was written before it
 pub behind : (front part rest w whole : List ℕ) → w ≡ front → whole ≡ front ++ rest → IsProperBeginning part rest
     → IsProperBeginning (w ++ part) whole
 behind front part rest w whole is all p = record {

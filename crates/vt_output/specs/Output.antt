@@ -1,4 +1,4 @@
--- What an output takes from its reader and gives to its writer. (this profile)
+-- The bytes that an output takes from its reader, and those that it gives to its writer. (this profile)
 use Rattle.std.specs.Prelude.{◌≡◌, ◌⊎◌, ℕ, ◌≤◌, ◌+◌, ◌++◌, List, [], length, take, ⊤, Bool, true, false, Result, Ok, Err}
 use Rattle.vt_device.specs.Runs.{Flags, AreFlags}
 use Rattle.vt_device.specs.Writing.{IsProperBeginning}

@@ -12,15 +12,15 @@ use std::io::{Read, Write};
 use vt_device::{Source, Watched, write_whole};
 use vt_recording::Fault;
 
-/// What is written of the host's bytes as they come, and at their end.
+/// The bytes that are written as the host's bytes come, and at their end.
 pub trait Output: Drop {
-    /// What is written of bytes that come.
+    /// The bytes that are written of those that come.
     ghost written: { Self → List ℕ → List ℕ };
 
-    /// What is written at the end of bytes that come.
+    /// The bytes that are written at the end of those that come.
     ghost ending: { Self → List ℕ → List ℕ };
 
-    /// Whether what is written at the end of bytes that come is there.
+    /// Whether the bytes for the end of those that come are there.
     ghost there: { Self → List ℕ → Bool };
 
     /// The most bytes that it takes at once.
@@ -139,7 +139,7 @@ pub fn write_by<O: Output, D: Decoding, S: Source, W: Write>(
 struct Room {
     /// One chunk.
     buffer: Vec<u8>,
-    /// What is to be written.
+    /// The bytes that are to be written.
     out: Vec<u8>,
 }
 

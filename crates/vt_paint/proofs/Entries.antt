@@ -23,7 +23,7 @@ use Rattle.vt_paint.specs.Private.HeaderParts.{row_part, column_part, brush_part
 abbrev brush_entry : ℕ → List ℕ
 brush_entry n = take (slice_index_or BRUSH_LENGTHS n 0) (mid_of (16 * n) (16 * n + 16 - 16 * n) BRUSHES)
 
--- the entry is that of the brush, which is spelled from `ESC [ 0` on
+-- the entry is that of the brush, which is spelled starting at `ESC [ 0`
 pub brush_at : (brush : Brush) → brush_entry (brush_index brush) ≡ brush_part brush
 unfolding brush_events brush_part all_brushes both_pass digits
 brush_at brush =

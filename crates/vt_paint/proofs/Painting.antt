@@ -177,7 +177,7 @@ pub record IsReady (base : Display) : Type 0 where
   pub decawm : base.modes.decawm ≡ true
   pub decom : base.modes.decom ≡ false
 
--- where the cursor is behind a cell
+-- where the cursor is after a cell
 abbrev pub behind : ℕ → ℕ → ℕ → Cursor
 behind w r c = cond (ltb c w) (at_place r (c + 1)) (record { row = r; col = c; wrap = true })
 
@@ -256,7 +256,7 @@ after_cell g r c c1 cw h =
 abbrev pub AreGlyphs : Grid → Type 0
 AreGlyphs g = (r c : ℕ) → IsGlyph (cell_at g r c).glyph
 
--- behind the header
+-- after the header
 header_leaves : (base : Display) (g grid : Grid) (r c : ℕ) (cursor : Cursor) (brush : Brush) → IsReady base
     → grid.width ≡ g.width → 1 ≤ r → r ≤ 24 → 1 ≤ c → c ≤ g.width → AreAt g r c cursor brush
     → Makes (header r c (left_of g r c) (cell_at g r c)) (shown base grid cursor brush)

@@ -120,7 +120,7 @@ pub sets_events-same : (g : List Set) (left right : ℕ) (t : GraphicSets) → g
 unfolding sets_events
 sets_events-same g left right t a b c = rw (a, b, c) refl
 
--- ---- rows, behind the sets of the spellings from the first that shows something
+-- ---- rows, after the sets of the spellings from the first that shows something
 
 row_shown : (before after is_row_blank : Bool) (old mid new : List ℕ) (sets rows row : List Event)
     → after ≡ (before || not is_row_blank) → (before ≡ false → rows ≡ [])

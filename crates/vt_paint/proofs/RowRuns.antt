@@ -1,4 +1,4 @@
--- A row by runs: what a cell's piece is behind a blank cell, behind one of its own brush, and behind any other.
+-- A row by runs: what a cell's piece is after a blank cell, after one of its own brush, and after any other.
 use Rattle.std.proofs.Common.{◌≡◌, ◌+◌, ◌≤◌, ◌&&◌, ◌||◌, not, ℕ, Bool, true, false, List, [], ◌∷◌, ◌++◌, refl, sym}
 use Rattle.std.proofs.Common.{ap, ◌∙◌, append-nil, append_assoc, arith}
 use Rattle.vt_syntax.specs.declared.event.Event.{Event}
@@ -18,7 +18,7 @@ use Rattle.vt_controls.proofs.Tests.{not_true}
 use Rattle.vt_paint.proofs.Pushing.{appended-more, blank_piece, events, then_events}
 use Rattle.vt_paint.proofs.Painting.{left_of-first, left_of-next}
 
--- a row's next cell has the piece that it would have behind a blank cell
+-- a row's next cell has the piece that it would have after a blank cell
 abbrev pub IsFresh : Grid → ℕ → ℕ → Type 0
 IsFresh g r c = piece g r c ≡ piece_of r c blank (cell_at g r c)
 
@@ -41,7 +41,7 @@ blank_fresh g r c c1 h =
 abbrev pub goes_on : Cell → Cell → Bool
 goes_on left cell = same_brush (brush_of left) (brush_of cell) && not (is_blank cell)
 
--- behind a cell with which it doesn't go on, by the tests
+-- after a cell with which it doesn't go on, by the tests
 ended : (none left same : Bool) (head glyph : List Event) → same && not none ≡ false
     → when (not none) (when (left || not same) head ++ glyph) ≡ when (not none) (head ++ glyph)
 ended true left same head glyph h = refl
@@ -84,7 +84,7 @@ goes_on-brush left cell h =
 
 -- ---- what was written of a row
 
--- bytes that are appended to a line stand behind all that was before it
+-- bytes that are appended to a line come after all that was before it
 pub behind_all : (front line next more : List ℕ) → next ≡ line ++ more → front ++ next ≡ (front ++ line) ++ more
 behind_all front line next more e = ap (λ (xs : List ℕ). front ++ xs) e ∙ sym (append_assoc front line more)
 

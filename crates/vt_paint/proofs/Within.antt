@@ -1,4 +1,4 @@
--- What a repaint and changes ask for are events, none of which is answered, and their spelling is short.
+-- A repaint and changes ask for events, none of which is answered, and their spelling is short.
 use Rattle.vt_controls.specs.Controls.{reset_to_initial_state, clear_all_tabs, sequence_of}
 use Rattle.vt_controls.specs.Controls.{private_mode, cursor_position, brush_events, set_tab, left_event, right_event}
 use Rattle.vt_controls.specs.Controls.{sets_events, spelling_sets_events, spelling_events, save_cursor}

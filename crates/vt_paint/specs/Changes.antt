@@ -17,7 +17,7 @@ same_cell a b = a.glyph == b.glyph && same_brush (brush_of a) (brush_of b)
 abbrev pub differs_at : Grid → Grid → ℕ → ℕ → Bool
 differs_at a b r c = not (same_cell (cell_at a r c) (cell_at b r c))
 
--- at how many of n places of a row they differ, from a column on
+-- at how many of n places of a row they differ, starting at a column
 abbrev pub differing_from : Grid → Grid → ℕ → ℕ → ℕ → ℕ
 differing_from a b r c n = sum_by (λ c. if differs_at a b r c then 1 else 0) (range_with_len c n)
 

@@ -1,4 +1,4 @@
--- What only private contracts cite. No public clause does, and no reader has to believe it.
+-- Definitions that only private contracts cite. No public clause does, and no reader has to believe it.
 pub mod HeaderParts
 pub mod Room
 pub mod ChangeEvents

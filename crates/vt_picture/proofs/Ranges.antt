@@ -28,7 +28,7 @@ rows-more f n m e =
 abbrev of_rows : (ℕ → List Cell → List ℕ) → ℕ → Grid → List ℕ
 of_rows f count g = flat_map (λ r. f r (row_of g r)) (range_with_len 1 count)
 
--- behind those before a row, what is written of that row
+-- after those before a row, what is written of that row
 pub row_written : (f : ℕ → List Cell → List ℕ) (g : Grid) (row : ℕ) (before held after : List ℕ) (cells : List Cell)
     → 1 ≤ row → cells ≡ row_of g row → held ≡ before ++ of_rows f (row - 1) g → after ≡ held ++ f row cells
     → after ≡ before ++ of_rows f (row + 1 - 1) g

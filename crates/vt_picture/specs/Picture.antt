@@ -38,7 +38,7 @@ top_of row = 18 * (row - 1)
 abbrev pub baseline_of : ℕ → ℕ
 baseline_of row = top_of row + 13
 
--- a rectangle with these attributes over some cells of a row, from a column on
+-- a rectangle with these attributes over some cells of a row, starting at a column
 unfoldable pub rectangle : List ℕ → ℕ → ℕ → ℕ → List ℕ
 rectangle attributes row col count =
     codes "<rect" ++ attributes

@@ -8,7 +8,7 @@ use Rattle.vt_glyph.specs.Spell.{code_in}
 use Rattle.vt_recording.specs.Characters.{byte_of}
 
 module _ (test : ℕ → Bool) where
-  -- the codes from a place on: this one, or one of the others
+  -- the codes starting at a place: this one, or one of the others
   rest_at : (code : ℕ) (o : Option ℕ) → code < 0x7F → find test (range_with_len code (0x7F - code)) ≡ o
       → cond (test code) (Some code) (find test (range_with_len (code + 1) (0x7F - (code + 1)))) ≡ o
   rest_at code o h e = let next : 0x7F - code ≡ suc (0x7F - (code + 1)) = omega (arith, h) in simp next at e

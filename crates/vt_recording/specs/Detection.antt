@@ -44,7 +44,7 @@ without_mark bytes = cond (begins_with (0xEF ∷ 0xBB ∷ 0xBF ∷ []) bytes) (d
 abbrev pub is_asciicast : List ℕ → Bool
 is_asciicast bytes = is_object (after (codes "{") (trimmed (without_mark bytes)))
 
--- ---- ttyrec: a header of a frame that has bytes, and behind the frame, if it ends here, another header, not earlier
+-- ---- ttyrec: a header of a frame that has bytes, and after the frame, if it ends here, another header, not earlier
 
 -- a frame is what one read of the terminal gave
 abbrev pub is_header : List ℕ → Bool

@@ -1,4 +1,4 @@
--- What is wanted up to a moment. (this profile)
+-- The part of a recording that is wanted, up to a moment. (this profile)
 use Rattle.std.specs.Prelude.{ℕ, ◌-◌, List, take, Bool, false, nat_le, Option, Some, None}
 use Rattle.vt_recording.specs.declared.format.Moment.{Moment}
 use Rattle.vt_recording.specs.declared.format.Moment.TheVariants.{Micros, Bytes}

@@ -1,4 +1,4 @@
--- What is taken from the reader of a recording. (this profile)
+-- The bytes that are taken from the reader of a recording. (this profile)
 use Rattle.std.specs.Prelude.{◌≡◌, ℕ, ◌≤◌, ◌+◌, List, length, Bool, true, false, Result, Ok, Err}
 use Rattle.std.specs.declared.alloc.Global.{Global}
 use Rattle.std.specs.declared.vec.Vec.{Vec}

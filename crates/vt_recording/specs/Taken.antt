@@ -1,4 +1,4 @@
--- What is taken out of a recording. (this profile)
+-- The content that is taken out of a recording. (this profile)
 use Rattle.std.specs.Prelude.{◌≡◌, ℕ, List, Option, Some, None, option_map}
 use Rattle.vt_recording.specs.declared.format.Format.{Format}
 use Rattle.vt_recording.specs.declared.format.Format.TheVariants as format

@@ -50,7 +50,7 @@ fn play_line(
     }
 }
 
-/// Writes the characters of the lines from an offset on, and returns the offset of a line that isn't an event.
+/// Writes the characters of the lines starting at an offset, and returns the offset of a line that isn't an event.
 fn play_lines(
     bytes: &[u8],
     from: usize,

@@ -20,7 +20,7 @@ pub enum Fault {
     Write,
     /// The input has more bytes than the limit.
     TooLong,
-    /// The recording breaks its format at this place. What came before it was played, and what is due was written.
+    /// The recording breaks its format at this place. The bytes before it were played, and the output that is due was written.
     Broken(Break),
     /// The beginning of the input decided on its format, which has no times, and the moment is one. Nothing was written.
     NoTimes,

@@ -1,4 +1,4 @@
-//! What is wanted up to a moment.
+//! Cuts a recording at a moment.
 ghost use Rattle.std.specs.Prelude.{◌≡◌};
 ghost use Rattle.vt_recording.specs.Moment.{micros_of, cut, wanted_after};
 

@@ -1,4 +1,4 @@
--- What decoding leaves, a part of a chunk after another.
+-- The result of decoding, a part of a chunk after another.
 use Rattle.std.proofs.Common.{◌≡◌, ℕ, ◌+◌, List, [], ◌∷◌, ◌++◌, take, drop, refl, sym, ap, ◌∙◌, append_assoc, append-nil}
 use Rattle.std.proofs.Math.Seq.{take-add}
 use Rattle.vt_syntax.specs.Split.{split_after}

@@ -1,4 +1,4 @@
--- What a player leaves and reports of more bytes.
+-- The state and the reports that a player leaves of more bytes.
 use Rattle.std.proofs.Common.{◌≡◌, ℕ, List, [], ◌++◌, ap, refl}
 use Rattle.vt_term.specs.State.{State, power_up}
 use Rattle.vt_term.specs.Sound.{IsSound}

@@ -1,4 +1,4 @@
--- What a replay of bytes has to write. (this profile)
+-- The bytes that a replay has to write. (this profile)
 use Rattle.std.specs.Prelude.{ℕ, List, [], length, Bool, true, false, Result}
 use Rattle.vt_syntax.specs.declared.held.Held.{Held}
 use Rattle.vt_syntax.specs.declared.held.Held.TheVariants.{Nothing}
@@ -63,7 +63,7 @@ abbrev pub is_nothing : Held → Bool
 is_nothing Nothing = true
 is_nothing held = false
 
--- what is asked for is there: a repaint between sequences only, all else always
+-- what is asked for is there: a repaint between sequences only, everything else always
 abbrev pub is_there : What → State → Bool
 is_there Repaint s = is_nothing s.held
 is_there _ s = true

@@ -10,7 +10,7 @@ use Rattle.vt_recording.specs.declared.fault.Fault.{Fault}
 use Rattle.vt_recording.specs.declared.format.Encoding.{Encoding}
 use Rattle.vt_recording.specs.declared.format.Encoding.TheVariants.{Dec, Utf8}
 
--- a host's bytes, of which none were read before, as the terminal's. What is pending at their end is left out
+-- a host's bytes, of which none were read before, as the terminal's. The pending part at their end is left out
 abbrev pub decoded : Encoding → List ℕ → List ℕ
 decoded Dec bytes = bytes
 decoded Utf8 bytes = translated power_up [] bytes

@@ -1,4 +1,4 @@
--- What a log writes of a host's bytes. (this profile)
+-- The lines that a log writes of a host's bytes. (this profile)
 use Rattle.std.specs.Prelude.{ℕ, List, []}
 use Rattle.vt_term.specs.State.{power_up}
 use Rattle.vt_term.specs.Play.{play}

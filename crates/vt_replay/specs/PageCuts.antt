@@ -16,7 +16,7 @@ use Rattle.vt_replay.specs.Pages.{blanks_screen, taken_off, pages_off, pages}
 abbrev pub takes_off : Event → Display → Bool
 takes_off event s = blanks_screen event s || scrolls_off event s
 
--- the lines and pages of bytes come behind what was before
+-- the lines and pages of bytes come after what was before
 pub record IsPaged (s : State) (bytes before after : List ℕ) : Type 0 where
   pub lines : after ≡ before ++ pages s bytes
   pub bounded : length after ≤ length before + 9528 * length bytes

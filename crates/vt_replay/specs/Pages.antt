@@ -50,7 +50,7 @@ blanks_screen (Sequence marker params inter last) s = blanks_by marker inter par
 abbrev pub IsBlank : Grid → Type 0
 IsBlank g = (r c : ℕ) → 1 ≤ r → r ≤ last_row → 1 ≤ c → c ≤ g.width → cell_at g r c ≡ blank
 
--- the 24 lines as they stand, unless all are empty: each has its LF, so these are the 24 bytes
+-- the 24 lines as they are, unless all are empty: each has its LF, so these are the 24 bytes
 abbrev pub page : Display → List ℕ
 page s = if length (grid_text s.grid) == last_row then [] else grid_text s.grid
 

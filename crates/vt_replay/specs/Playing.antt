@@ -1,4 +1,4 @@
--- What a terminal leaves and reports after all that a host sends, and what a replay writes of it. (this profile)
+-- The state and the reports after everything that a host sends, and the bytes that a replay writes of it. (this profile)
 use Rattle.std.specs.Prelude.{ℕ, List, [], Result}
 use Rattle.vt_term.specs.State.{power_up}
 use Rattle.vt_term.specs.Play.{Played, play}

@@ -1,4 +1,4 @@
--- What a request takes from its reader and gives to its writer. (this profile)
+-- The bytes that a request takes from its reader, and those that it gives to its writer. (this profile)
 use Rattle.std.specs.Prelude.{◌≡◌, ◌⊎◌, ℕ, ◌≤◌, ◌++◌, List, [], length, Bool, true, false, not, Option, Some, None, unwrap_or, Result, Ok, Err}
 use Rattle.vt_device.specs.Runs.{Flags}
 use Rattle.vt_cli.specs.declared.asked.Request.{Request}

@@ -1,4 +1,4 @@
--- What a VT220 is sent, so that it shows what a host's bytes leave under TERM=xterm. (this profile)
+-- The bytes that a VT220 is sent, so that it shows what a host's bytes leave under TERM=xterm. (this profile)
 use Rattle.std.specs.Prelude.{◌≡◌, ℕ, ◌≤◌, List, [], ◌∷◌, ◌++◌, length, Result}
 use Rattle.vt_syntax.specs.declared.held.Held.TheVariants.{Nothing}
 use Rattle.vt_term.specs.State.{State, power_up}
@@ -49,7 +49,7 @@ abbrev pub last_shown : (shown : State) → (before : List ℕ) → (chunks : Li
 last_shown shown before [] = shown
 last_shown shown before (chunk ∷ chunks) = last_shown (shown_after (before ++ chunk)) (before ++ chunk) chunks
 
--- the host's bytes b came, the VT220 was sent w, and is in the state `shown`. What bytes leave that come then is `on`
+-- the host's bytes b came, the VT220 was sent w, and is in the state `shown`. `on` gives what later bytes leave
 pub record AreShown (on : List ℕ → Played) (shown : State) (b w : List ℕ) : Type 0 where
   pub host : (more : List ℕ) → played_as Xterm (b ++ more) ≡ both (played_as Xterm b) (on more)
   pub sent : play power_up w ≡ silently shown

@@ -1,4 +1,4 @@
--- What each word writes. (this profile)
+-- The bytes that each word writes. (this profile)
 use Rattle.std.specs.Prelude.{ℕ, List, Bool, Result}
 use Rattle.vt_device.specs.Runs.{Flags}
 use Rattle.vt_term.specs.State.{power_up}

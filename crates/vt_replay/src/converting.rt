@@ -1,4 +1,4 @@
-//! What a host sends under TERM=xterm, as updates of a VT220.
+//! Writes what a host sends under TERM=xterm as updates of a VT220.
 ghost use Rattle.std.specs.Prelude.{◌≡◌, ◌*◌, ◌/◌, ◌≤◌, [], min, vec_capacity};
 ghost use Rattle.vt_syntax.specs.declared.held.Held.TheVariants.{Nothing};
 ghost use Rattle.vt_term.specs.State.{power_up};

@@ -57,8 +57,8 @@ pub fn run<R: Read, W: Write>(
 }
 
 /// Plays a source's bytes in a language on a new terminal, and writes what is due, as `run` does of a reader's. The source
-/// hasn't failed or ended before. What is pending of UTF-8 at the end isn't played. `piece` and `limit` count the host's
-/// bytes.
+/// hasn't failed or ended before. The pending part of UTF-8 at the end isn't played. `piece` and `limit` count the
+/// host's bytes.
 ///
 /// `Err` is what `run` returns.
 pub fn run_from<S: Source, W: Write>(
@@ -140,7 +140,7 @@ pub fn replay<R: Read, W: Write>(
     )
 }
 
-/// What is due of a player: its reports as they come, or all else at the end.
+/// The output that is due of a player: its reports as they come, or everything else at the end.
 #[derive(Drop)]
 struct DueOutput<P: Drop> {
     what: What,

@@ -1,10 +1,10 @@
-//! What a host sends.
+//! Names the languages in which a host sends.
 ghost use Rattle.std.specs.Prelude.{◌≡◌};
 ghost use Rattle.vt_replay.specs.Playing.{language_of};
 
 use vt_cli::{Encoding, TerminalType};
 
-/// What a host sends.
+/// The language in which a host sends.
 #[derive(Clone, Copy, Debug, PartialEq, Eq)]
 pub enum Language {
     /// A VT220's bytes.

@@ -61,7 +61,7 @@ pub fn write_log<R: Read, W: Write>(
 }
 
 /// Writes the log of a source's bytes in a language, as `write_log` does of a reader's. The source hasn't failed or ended
-/// before. Under TERM=xterm no line scrolls off the alternate page. What is pending of UTF-8 at the end isn't played.
+/// before. Under TERM=xterm no line scrolls off the alternate page. The pending part of UTF-8 at the end isn't played.
 /// `piece` and `limit` count the host's bytes.
 ///
 /// `Err` is what `write_log` returns.

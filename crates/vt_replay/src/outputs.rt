@@ -30,10 +30,10 @@ use vt_trace::{SUMMARY_LIMIT, Summary, TRACE_LIMIT, Tracer, trace_end, trace_res
 
 /// The output of a word of the command line.
 pub(crate) trait WordOutput: Output {
-    /// What the word writes of bytes that come.
+    /// The bytes that the word writes of those that come.
     ghost writes: { List ℕ → List ℕ };
 
-    /// What the word writes at the end of bytes that come.
+    /// The bytes that the word writes at the end of those that come.
     ghost ends: { List ℕ → List ℕ };
 
     /// Returns the output before any byte came, with memory for chunks of so many bytes. `Err` means that allocation failed.

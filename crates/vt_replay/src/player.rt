@@ -16,10 +16,10 @@ use vt_xterm::{Front, feed_xterm_reserved};
 
 /// How a host's bytes are played on a terminal.
 pub(crate) trait Player: Drop {
-    /// What bytes that come leave and report.
+    /// The state and the reports that bytes leave as they come.
     ghost played: { Self → List ℕ → Played };
 
-    /// What all bytes of a host leave and report.
+    /// The state and the reports that all bytes of a host leave.
     ghost plays: { List ℕ → Played };
 
     /// Returns the player of a new terminal. `Err` means that allocation failed.

@@ -48,7 +48,7 @@ get_or-mid_of a k xs i d h = get_or-take k (drop a xs) i d h ∙ get_or-drop a x
 pub length-mid_of : {X : Type 0} (a k : ℕ) (xs : List X) → a + k ≤ length xs → length (mid_of a k xs) ≡ k
 length-mid_of a k xs h = rw (length-take, length-drop) (omega arith)
 
--- the first number went behind the others
+-- the first number went after the others
 pub first-behind : (xs ys : List ℕ) → 1 ≤ length xs → length ys ≡ length xs
     → ((k : ℕ) → k + 1 < length xs → get_or ys k 0 ≡ get_or xs (k + 1) 0) → get_or ys (length xs - 1) 0 ≡ get_or xs 0 0
     → IsPermutation xs ys

@@ -1,4 +1,4 @@
--- What each edit makes of the grid. `o` is the table of row numbers, `xs` the cells before, `ys` what is written
+-- The grid that each edit makes. `o` is the table of row numbers, `xs` the cells before, `ys` what is written
 -- over a part of them.
 use Rattle.std.proofs.Common.{◌≡◌, ◌≢◌, ◌⊎◌, inl, inr, Bool, true, false, ◌&&◌, if◌then◌else◌, ℕ, suc, ◌+◌, ◌-◌, ◌≤◌}
 use Rattle.std.proofs.Common.{◌<◌, List, length, get_or, min, set, arith, refl, sym, ap, ◌∙◌, get_or-set_same}

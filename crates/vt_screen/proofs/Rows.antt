@@ -1,4 +1,4 @@
--- What an edit of the cells of one row makes of the grid.
+-- The grid that an edit of the cells of one row makes.
 use Rattle.std.proofs.Common.{◌≡◌, ◌⊎◌, inl, inr, ℕ, ◌+◌, ◌-◌, ◌≤◌, ◌<◌, List, get_or, arith}
 use Rattle.std.proofs.lemmas.Bool.Decides.{eqb_tells}
 use Rattle.vt_screen.proofs.Places.{grid_of-same, cell_at-grid_of}

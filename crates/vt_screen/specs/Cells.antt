@@ -1,4 +1,4 @@
--- What a cell is, and what erasing makes of it.
+-- A cell, and the cell that erasing makes of it.
 use Rattle.std.specs.Prelude.{ℕ, Bool, false, if◌then◌else◌}
 use Rattle.vt_glyph.specs.Tables.{space}
 use Rattle.vt_screen.specs.declared.cell.Rendition.{Rendition}

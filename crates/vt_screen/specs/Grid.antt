@@ -74,23 +74,23 @@ with_row g row formula = grid_of g.width (λ r c. if r == row then formula c els
 abbrev pub put : Grid → ℕ → ℕ → Cell → Grid
 put g row col cell = with_row g row (λ c. if c == col then cell else cell_at g row c)
 
--- a cell comes in at a place; those from there on move right, and the last one is lost (VT220 manual, insert mode IRM)
+-- a cell comes in at a place; those at and after it move right, and the last one is lost (VT220 manual, insert mode IRM)
 abbrev pub put_inserting : Grid → ℕ → ℕ → Cell → Grid
 put_inserting g row col cell = with_row g row (λ c.
     if c == col then cell else (if nat_lt col c then cell_at g row (c - 1) else cell_at g row c))
 
--- glyphs are written from a place on, each like the given cell
+-- glyphs are written starting at a place, each like the given cell
 abbrev pub put_run : Grid → ℕ → ℕ → List ℕ → Cell → Grid
 put_run g row col glyphs like = with_row g row (λ c.
     if nat_le col c && nat_lt c (col + length glyphs) then cell_like like (slice_index glyphs (c - col)) else cell_at g
     row c)
 
--- n blank cells come in at a place; those from there on move right, and what passes the last column is lost (ICH)
+-- n blank cells come in at a place; those at and after it move right, and what passes the last column is lost (ICH)
 abbrev pub insert_cells : Grid → ℕ → ℕ → ℕ → Grid
 insert_cells g row col n = with_row g row (λ c.
     if nat_le (col + n) c then cell_at g row (c - n) else (if nat_le col c then blank else cell_at g row c))
 
--- n cells go from a place on; those after them move left, and blank cells come in at the last column (DCH)
+-- n cells go, starting at a place; those after them move left, and blank cells come in at the last column (DCH)
 abbrev pub delete_cells : Grid → ℕ → ℕ → ℕ → Grid
 delete_cells g row col n = with_row g row (λ c.
     if nat_le col c then (if nat_le (c + n) g.width then cell_at g row (c + n) else blank) else cell_at g row c)

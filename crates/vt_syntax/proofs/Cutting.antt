@@ -1,4 +1,4 @@
--- What the split reads is what one step after another does; so the laws of the syntax are laws of steps.
+-- The split reads what one step after another does; so the laws of the syntax are laws of steps.
 use Rattle.std.proofs.Common.{◌≤◌, ◌≡◌, ℕ, List, [], ◌∷◌, ◌++◌, Option, Some, None, false, refl, sym, ap, ◌∙◌, append_assoc}
 use Rattle.std.proofs.Common.{append-nil, arith, flat_map, All, IfSome, option_to_list}
 use Rattle.std.proofs.lemmas.Bool.Decides.{nat_tests}

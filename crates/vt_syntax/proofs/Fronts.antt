@@ -1,4 +1,4 @@
--- Events that stand whole at the front of a piece: byte after byte, from the first on.
+-- Events that stand whole at the front of a piece: byte after byte, starting at the first.
 use Rattle.std.proofs.Common.{◌≡◌, ℕ, ◌+◌, ◌-◌, ◌*◌, ◌<◌, ◌≤◌, false, List, [], ◌∷◌, ◌++◌, length, take, get_or, Option}
 use Rattle.std.proofs.Common.{Some, None, arith, refl, sym, ◌∙◌}
 use Rattle.std.proofs.lemmas.Bool.Decides.{nat_tests}

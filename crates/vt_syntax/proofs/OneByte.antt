@@ -1,4 +1,4 @@
--- What the split reads is what one step after another does from what is held.
+-- The split reads what one step after another does from the held part.
 use Rattle.std.proofs.Common.{◌≡◌, ℕ, ◌<◌, ◌≤◌, Bool, true, false, cond, eqb, ltb, ◌||◌, ◌&&◌, List, [], ◌∷◌, ◌++◌}
 use Rattle.std.proofs.Common.{length, take, Option, refl, append-nil, arith, filter, inl, inr, append_assoc, ◌⊎◌, not}
 use Rattle.std.proofs.Common.{Some, None, ◌∙◌}

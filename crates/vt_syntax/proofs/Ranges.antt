@@ -1,4 +1,4 @@
--- What is held is in range, and what a byte asks for is an event.
+-- The held part is in range, and a byte asks for an event.
 use Rattle.std.proofs.Common.{◌≡◌, ℕ, ◌≤◌, Bool, true, false, List, [], ◌∷◌, length, Option, None, arith, length-append}
 use Rattle.std.proofs.Common.{All, IfSome}
 use Rattle.std.proofs.lemmas.Bool.Decides.{nat_tests}

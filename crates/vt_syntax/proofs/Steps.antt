@@ -44,7 +44,7 @@ pub steps_more : (held now : Held) (piece : List ℕ) (at : ℕ) → at < length
 steps_more held now piece at inside so_far =
     rw (take_more piece at 0 inside, steps_append, so_far) (steps_one now (get_or piece at 0))
 
--- the part of a piece from a place on, to its end
+-- the part of a piece starting at a place, to its end
 pub rest_of : (piece : List ℕ) (at : ℕ) → take (length piece - at) (drop at piece) ≡ drop at piece
 rest_of piece at = rw (← length-drop at piece) (take-length (drop at piece))
 

@@ -57,7 +57,7 @@ is_in_areas b = (nat_le 0x20 b && nat_le b 0x7E) || (nat_le 0xA1 b && nat_le b 0
 abbrev pub IsInAreas : ℕ → Type 0
 IsInAreas b = ((0x20 ≤ b) × (b ≤ 0x7E)) ⊎ ((0xA1 ≤ b) × (b ≤ 0xFE))
 
--- the bytes of lines: BS to CR, all from 20 to 7F and all from A0 on. None of them opens anything or makes a report
+-- the bytes of lines: BS to CR, all from 20 to 7F and all from A0 to FF. None of them opens anything or makes a report
 abbrev pub is_of_lines : ℕ → Bool
 is_of_lines b = (nat_le 0x08 b && nat_le b 0x0D) || ((nat_le 0x20 b && nat_le b 0x7F) || nat_le 0xA0 b)
 

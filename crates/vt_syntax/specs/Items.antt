@@ -1,4 +1,4 @@
--- What bytes are cut into: single bytes, escape sequences (ECMA-35 13), control sequences (ECMA-48 5.4) and
+-- The items into which bytes are cut: single bytes, escape sequences (ECMA-35 13), control sequences (ECMA-48 5.4) and
 -- control strings (ECMA-48 5.6), whole or cut off. Quiet bytes inside a sequence are part of it (this profile).
 use Rattle.std.specs.Prelude.{◌≡◌, ℕ, ◌+◌, ◌-◌, List, [], ◌∷◌, ◌++◌, Bool, true, false, Option, Some, None, ◌==◌, ◌||◌}
 use Rattle.std.specs.Prelude.{◌&&◌, not, nat_le, filter}

@@ -20,7 +20,7 @@ ghost use Rattle.vt_syntax.specs.Whole.{AreRead, begun};
 use crate::event::EventKind;
 use crate::values::Values;
 
-/// What a chunk begins with, between sequences.
+/// The beginning of a chunk, between sequences.
 #[derive(Clone, Copy, Debug, PartialEq, Eq)]
 pub enum Front {
     /// ESC.

@@ -6,7 +6,7 @@ use Rattle.vt_screen.specs.Laws.{AreaLaws}
 use Rattle.vt_term.specs.Editing.{rows_between, line_area, display_area, with_grid, erase_in_line, erase_in_display}
 use Rattle.vt_term.specs.State.{Display}
 
--- ED from the cursor on: the part of the line, and then the rows below
+-- ED starting at the cursor: the part of the line, and then the rows below
 pub erase_in_display-0 : AreaLaws → (selective : Bool) (s : Display)
     → record (erase_in_line selective 0 s) {
       grid =

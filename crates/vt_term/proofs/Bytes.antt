@@ -22,7 +22,7 @@ nothing-held = record { rest = None; is_rest = tt; of_rest = refl }
 
 -- ---- parts of a piece
 
--- from a place on, to its end
+-- starting at a place, to its end
 pub rest-of : (piece : List ℕ) (at : ℕ) → take (length piece - at) (drop at piece) ≡ drop at piece
 rest-of piece at = let e : length piece - at ≡ length (drop at piece) = sym (length-drop at piece) in
     rw e (take-length (drop at piece))
@@ -37,7 +37,7 @@ but-last n xs some within =
 abbrev pub taken : List ℕ → List ℕ → ℕ
 taken piece rest = length piece - length rest
 
--- what is left of a rest behind so many bytes
+-- what is left of a rest after so many bytes
 abbrev pub behind : ℕ → List ℕ → List ℕ
 behind n rest = take (length rest - n) (drop n rest)
 
@@ -84,7 +84,7 @@ module _ (piece : List ℕ) (some : 1 ≤ length piece) where
   unfolding opens_string
   feed-front is = rw is at (front_single piece some (rw is refl))
 
--- LF behind the first byte
+-- LF after the first byte
 pub feed-behind : (piece : List ℕ) → 2 ≤ length piece → slice_index piece 1 ≡ 0x0A
     → IsFront (take (length piece - 1) (drop 1 piece)) 1 (Control 0x0A)
 feed-behind piece some is =

@@ -22,7 +22,7 @@ grid_with d xs = record { width = d.grid.width; cells = xs }
 abbrev pub here : Display → List Cell → Cursor → Display
 here d xs cursor = record d { grid = grid_with d xs; cursor = cursor }
 
--- a row above the top margin, or from row k on
+-- a row above the top margin, or starting at row k
 abbrev pub IsOutside : Display → ℕ → ℕ → Type 0
 IsOutside d k r = (r < d.margins.top) ⊎ (k ≤ r)
 

@@ -183,7 +183,7 @@ module _ (places : PlaceLaws) (split : SplitLaw) (spelling : SpellingLaw) where
       ap (λ (es : List Event). after_events es d) (flat_map-append single_function a (0x0D ∷ []))
       ∙ after_events-append (line_events a) (Control 0x0D ∷ []) d
 
-  -- lines, the last bytes of them CR, and lines with 24 line feeds behind them
+  -- lines, the last bytes of them CR, and lines with 24 line feeds after them
   pub passed : (d : Display) (a b more : List ℕ) → d.margins.top ≤ d.margins.bottom → d.margins.bottom ≤ 24
       → d.sets.pending ≡ None → IsGrid d.grid → d.cursor.row ≡ d.margins.bottom
       → All IsOfLines (a ++ 0x0D ∷ []) → All IsOfLines b → 24 ≤ feeds b
@@ -230,14 +230,14 @@ passed-piece places split spelling d piece run at top bottom none shape row fits
     ∙ passed places split spelling d a b rest top bottom none shape row of-front (All-drop IsOfLines at xs lines) enough
     ∙ ap (λ (ys : List ℕ). play (record { display = d; held = Nothing }) ys) whole
 
--- ---- line feeds behind a place
+-- ---- line feeds after a place
 
 feeds-less : (n : ℕ) (bytes : List ℕ) → feeds (drop n bytes) ≤ feeds bytes
 feeds-less zero bytes = omega arith
 feeds-less (suc n) [] = omega arith
 feeds-less (suc n) (b ∷ bytes) = omega (arith, feeds-less n bytes)
 
--- there are no fewer behind a place that is further in front
+-- there are no fewer after a place that is further in front
 pub feeds-further : (bytes : List ℕ) (m n : ℕ) → m ≤ n → feeds (drop n bytes) ≤ feeds (drop m bytes)
 feeds-further bytes m n fewer =
     let is : m + (n - m) ≡ n = omega (arith, fewer) in

@@ -1,4 +1,4 @@
--- What playing the front of a chunk leaves.
+-- The result of playing the front of a chunk.
 use Rattle.std.proofs.Common.{◌≡◌, ℕ, ◌+◌, ◌-◌, ◌≤◌, arith, List, [], ◌∷◌, ◌++◌, take, drop, length, map, refl, sym, ap, ◌∙◌}
 use Rattle.std.proofs.Common.{subst, append_assoc, append-nil, length-take}
 use Rattle.std.proofs.Math.Seq.{take-add}

@@ -170,7 +170,7 @@ plain-line cells codes end long within glyphs are text plain =
     (λ k below. ap encoded_glyph (get_or-take (length cells) codes k 0 below) ∙ glyphs k below)
     ∙ ap encode_utf8_all (trimmed-glyphs cells codes end (omega (arith, long)) glyphs are text))
 
--- the UTF-8 of cells from a place on: of some, and of those after them
+-- the UTF-8 of cells starting at a place: of some, and of those after them
 pub encoded-parts : (cells : List Cell) (at n : ℕ)
     → encode_utf8_all (glyphs_of (drop at cells))
     ≡ encode_utf8_all (glyphs_of (take n (drop at cells))) ++ encode_utf8_all (glyphs_of (drop (at + n) cells))

@@ -85,7 +85,7 @@ prints-run runs Kind glyph (b ∷ next ∷ rest) s writes all off some room =
     (sym (runs.append s.grid s.cursor.row s.cursor.col (glyph b ∷ []) glyphs like)) in
     ap (λ (u : Display). after_events (map Print (next ∷ rest)) u) first ∙ goes_on ∙ rw (grid, column) refl
 
--- the display behind a wrap
+-- the display after a wrap
 after_wrap-off : (s : Display) → (after_wrap s).cursor.wrap ≡ false
 after_wrap-off s = grind arith
 

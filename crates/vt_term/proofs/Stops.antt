@@ -16,7 +16,7 @@ stops-same f stops long same =
 pub length-stops_where : (f : ℕ → Bool) → length (stops_where f) ≡ 132
 length-stops_where f = length-map-range_with_len f 1 132
 
--- a range that is not empty is searched at its first number and then from the next on
+-- a range that is not empty is searched at its first number and then starting at the next
 pub find-range : (p : ℕ → Bool) (a b : ℕ) → a < b → p a ≡ false → find p (range_with_len a (b - a))
     ≡ find p (range_with_len (a + 1) (b - (a + 1)))
 find-range p a b below not =

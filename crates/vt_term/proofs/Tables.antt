@@ -1,4 +1,4 @@
--- What holds of each row of a table, and of what is taken if there is no row, holds of what is looked up.
+-- A fact of each row of a table, and of what is taken if there is no row, is one of what is looked up.
 use Rattle.std.proofs.Common.{◌≡◌, ℕ, Bool, true, false, List, [], ◌∷◌, Some, refl, sym, subst, arith}
 use Rattle.std.specs.Prelude.{◌==◌, unwrap_or, if◌then◌else◌}
 use Rattle.std.proofs.lemmas.Bool.Decides.{nat_tests}

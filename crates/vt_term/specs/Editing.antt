@@ -24,7 +24,7 @@ line_edited grid s = record s {
 abbrev pub insert_line : ℕ → Display → Display
 insert_line n s = line_edited (scroll_down s.grid s.cursor.row s.margins.bottom n) s
 
--- DL: n rows go from the cursor's row on, above the bottom margin
+-- DL: n rows go, starting at the cursor's row, above the bottom margin
 abbrev pub delete_line : ℕ → Display → Display
 delete_line n s = line_edited (scroll_up s.grid s.cursor.row s.margins.bottom n) s
 
@@ -32,11 +32,11 @@ delete_line n s = line_edited (scroll_up s.grid s.cursor.row s.margins.bottom n)
 abbrev pub insert_character : ℕ → Display → Display
 insert_character n s = with_grid (insert_cells s.grid s.cursor.row s.cursor.col n) s
 
--- DCH: n cells go from the cursor on
+-- DCH: n cells go, starting at the cursor
 abbrev pub delete_character : ℕ → Display → Display
 delete_character n s = with_grid (delete_cells s.grid s.cursor.row s.cursor.col n) s
 
--- ECH: n cells from the cursor on become blank, not past the last column
+-- ECH: n cells starting at the cursor become blank, not past the last column
 abbrev pub erase_character : ℕ → Display → Display
 erase_character n s =
     with_grid (erase s.grid s.cursor.row s.cursor.col (min (s.cursor.col + n - 1) (last_column s)) false) s

@@ -1,4 +1,4 @@
--- What playing bytes leaves, and the law of an observer. Contracts of private functions and of `Observer` cite this, and no other
+-- The result of playing bytes, and the law of an observer. Contracts of private functions and of `Observer` cite this, and no other
 -- public clause does.
 use Rattle.std.specs.Prelude.{◌≡◌, ℕ, ◌+◌, ◌≤◌, ◌++◌, List, [], length}
 use Rattle.vt_syntax.specs.Laws.{SplitLaw}

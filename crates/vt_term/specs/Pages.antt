@@ -1,5 +1,5 @@
 -- A page: the cells of a screen, and what DECSC saved on it. A terminal shows one page, and a caller keeps another. (The
--- alternate screen buffer of xterm's control sequences, with a saved cursor of its own; what becomes of a page of another width
+-- alternate screen buffer of xterm's control sequences, with a separate saved cursor; what becomes of a page of another width
 -- is this profile's)
 use Rattle.std.specs.Prelude.{ℕ, Bool, true, false, ◌==◌, min, if◌then◌else◌}
 use Rattle.vt_glyph.specs.GraphicSets.{AreSoundSets}

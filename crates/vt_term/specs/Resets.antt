@@ -15,7 +15,7 @@ screen_alignment s = home (record s { grid = fill s.grid (cell_of 0x45 plain_bru
 abbrev pub reset_to_initial_state : Display → Display
 reset_to_initial_state s = display_at_power_up
 
--- DECSTR. What isn't named here is left: the place, the cells, the stops, SRM, LNM, DECSCLM, DECSCNM, DECARM and the
+-- DECSTR. Everything that isn't named here is left: the place, the cells, the stops, SRM, LNM, DECSCLM, DECSCNM, DECARM and the
 -- form of reports
 abbrev pub soft_reset : Display → Display
 soft_reset s = record s {

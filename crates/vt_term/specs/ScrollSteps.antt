@@ -14,11 +14,11 @@ pub record EndInRow (count : ℕ) (s : Display) : Type 0 where
 abbrev pub Fits : ℕ → Display → Type 0
 Fits count s = EndInRow count s ⊎ (count ≤ 1)
 
--- a line fits behind so many bytes, in a capacity and before an end
+-- a line fits after so many bytes, in a capacity and before an end
 abbrev pub HasRoom : ℕ → ℕ → ℕ → Type 0
 HasRoom len capacity end = (len + 397 ≤ capacity) × (len + 397 ≤ end)
 
--- the texts of the lines that bytes scroll off come behind those before
+-- the texts of the lines that bytes scroll off come after those before
 pub record Logs (s : State) (bytes before after : List ℕ) : Type 0 where
   pub lines : after ≡ before ++ flat_map line_text (scrolled_off s bytes)
   pub bounded : length after ≤ length before + 397 * length bytes

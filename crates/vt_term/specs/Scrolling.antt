@@ -28,7 +28,7 @@ is_at_end s = s.margins.top == 1 && s.cursor.row == s.margins.bottom
 abbrev pub scrolls_off : Event → Display → Bool
 scrolls_off event s = feeds_line event s && is_at_end s
 
--- line 1 as it stands before an event that moves it off
+-- line 1 as it is before an event that moves it off
 abbrev pub line_off : Event → Display → List (List Cell)
 line_off event s = if scrolls_off event s then row_of s.grid 1 ∷ [] else []
 

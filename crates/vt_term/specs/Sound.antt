@@ -1,4 +1,4 @@
--- What holds of each state that bytes leave. (this profile)
+-- The facts that hold of each state that bytes leave. (this profile)
 use Rattle.std.specs.Prelude.{◌≡◌, ℕ, ◌≤◌, ◌<◌, length, Bool, true}
 use Rattle.vt_syntax.specs.Held.{IsHeldPart}
 use Rattle.vt_glyph.specs.GraphicSets.{AreSoundSets}

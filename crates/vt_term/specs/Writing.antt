@@ -11,7 +11,7 @@ use Rattle.vt_term.specs.Moving.{next_line}
 abbrev pub after_wrap : Display → Display
 after_wrap s = if s.cursor.wrap then next_line s else s
 
--- the glyph with the brush, at the cursor; under IRM the cells from there on move right first
+-- the glyph with the brush, at the cursor; under IRM the cells at and after it move right first
 abbrev pub with_glyph : ℕ → Display → Grid
 with_glyph glyph s =
     if s.modes.irm then put_inserting s.grid s.cursor.row s.cursor.col (cell_of glyph s.brush)

@@ -48,7 +48,7 @@ impl Page {
         self.saved = Saved::power_up();
     }
 
-    /// Blanks the cells. What was saved stays.
+    /// Blanks the cells. The saved state stays.
     pub fn blank(&mut self)
         ensures { self.new ≡ blanked self.old }
     {

@@ -173,7 +173,7 @@ impl Terminal {
 /// might not fit.
 #[derive(Drop)]
 pub struct Lines<'a, A: Drop> {
-    /// The texts, behind what was there before.
+    /// The texts, after those that were there before.
     pub lines: &'a mut Vec<u8>,
     /// The length up to which texts are appended, if there is capacity.
     pub end: usize,

@@ -104,7 +104,7 @@ impl Terminal {
     }
 }
 
-/// Returns where the last lines begin: behind the last CR that 24 line feeds follow, or 0 if there is none.
+/// Returns where the last lines begin: after the last CR that 24 line feeds follow, or 0 if there is none.
 fn last_lines(lines: &[u8]) -> usize
     ensures within { result ≤ length lines.now }
     ensures begins { 1 ≤ result → slice_index lines.now (result - 1) ≡ CR }

@@ -1,4 +1,4 @@
--- What a tracer keeps of bytes, by their split.
+-- The facts that a tracer keeps of bytes, by their split.
 use Rattle.std.proofs.Common.{◌≡◌, ℕ, ◌+◌, List, [], ◌∷◌, ◌++◌, Bool, true, false, cond, Option, Some, None}
 use Rattle.std.proofs.Common.{refl, sym, ap, ◌∙◌, arith, flat_map, append-nil, append_assoc, length, length-append, take, subst, suc, zero}
 use Rattle.std.proofs.lemmas.Bool.Decides.{nat_tests}

@@ -47,7 +47,7 @@ added t v b = record t {
   first = record { items = take 33 ((if v then [] else t.first.items) ++ b ∷ []) };
 }
 
--- and then behind the byte
+-- and then after the byte
 abbrev stepped : Tracer → Bool → Bool → ℕ → Bool → Tracer
 stepped u cut ended code between = record {
   place = u.place + 1;

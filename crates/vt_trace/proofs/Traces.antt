@@ -105,7 +105,7 @@ place_of_all s t (b ∷ bytes) =
     let next : t.place + 1 + length bytes ≡ t.place + length (b ∷ bytes) = omega arith in
     place_of_all (play s (b ∷ [])).state (tracer_after s t b) bytes ∙ next
 
--- the part of a chunk from a place on, to its end
+-- the part of a chunk starting at a place, to its end
 pub rest-of : (chunk : List ℕ) (at : ℕ) → take (length chunk - at) (drop at chunk) ≡ drop at chunk
 rest-of chunk at =
     let e : length chunk - at ≡ length (drop at chunk) = sym (length-drop at chunk) in rw e (take-length (drop at chunk))

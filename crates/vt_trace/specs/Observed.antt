@@ -1,4 +1,4 @@
--- What a tracer is told of. The observer of a trace and contracts of private functions cite this, and no public clause does.
+-- The events that a tracer is told of. The observer of a trace and contracts of private functions cite this, and no public clause does.
 use Rattle.std.specs.Prelude.{◌≡◌, ℕ, ◌+◌, ◌-◌, ◌*◌, ◌^◌, ◌<◌, ◌≤◌, List, [], ◌∷◌, ◌++◌, length, take, if◌then◌else◌}
 use Rattle.std.proofs.Common.{refl, sym, ap, ◌∙◌, arith, append_assoc, append-nil, length-append}
 use Rattle.vt_syntax.specs.declared.event.Event.{Event}

@@ -1,4 +1,4 @@
--- What is no event: the items of the split that have no function, and what is left at the end. (this profile)
+-- The parts that are no event: the items of the split that have no function, and what is left at the end. (this profile)
 use Rattle.std.specs.Prelude.{ℕ, List, [], ◌∷◌, ◌++◌, Bool, true, false, Option, Some, None}
 use Rattle.std.specs.Prelude.{codes, length, map, nat_lt, take, if◌then◌else◌}
 use Rattle.std.specs.List.{flat_map}

@@ -67,7 +67,7 @@ text_begin in_text place = if in_text then [] else decimal place ++ (0x09 ∷ (c
 abbrev pub text_of : Bool → ℕ → ℕ → List ℕ
 text_of in_text place b = text_begin in_text place ++ shown_byte b
 
--- a report is a line of its own, after that of its request
+-- a report is a separate line, after that of its request
 abbrev pub report_line : ℕ → List ℕ → List ℕ
 report_line place [] = []
 report_line place (b ∷ bytes) = line place (codes "report") (shown (b ∷ bytes))

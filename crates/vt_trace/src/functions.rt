@@ -124,7 +124,7 @@ pub(crate) enum Sequence {
     DECSTR,
 }
 
-/// What a set is designated to.
+/// The element of the code that a set is designated to.
 #[derive(Clone, Copy)]
 pub(crate) enum Slot {
     G0,
@@ -133,7 +133,7 @@ pub(crate) enum Slot {
     G3,
 }
 
-/// What a trace has a name for: a control function, or a graphic character.
+/// A function that has a name in a trace: a control function, or a graphic character.
 #[derive(Clone, Copy)]
 pub(crate) enum ControlFunction {
     Basic(Basic),

@@ -66,7 +66,7 @@ pub fn sums()
     spelled();
 }
 
-/// States that a tracer which was given bytes, from the first on, keeps what the split says: the place of what is left is the
+/// States that a tracer which was given bytes, starting at the first, keeps what the split says: the place of what is left is the
 /// length of the items before it.
 pub fn places()
     ensures { (s : State) (bytes : List ℕ) → s.held ≡ Nothing → IsAfter bytes (tracer_all s tracer_at_start bytes) }

@@ -1,4 +1,4 @@
-//! What the host sent, event by event, and what of it the terminal ignored.
+//! Lists what the host sent, event by event, and says what of it the terminal ignored.
 #![tactic(auto)]
 
 mod buffer;

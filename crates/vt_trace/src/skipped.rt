@@ -1,4 +1,4 @@
-//! What is no event: the lines of items without a function.
+//! Writes the lines of items that are no event, since they have no function.
 ghost use Rattle.std.specs.Prelude.{◌≡◌, ◌+◌, ◌*◌, ◌^◌, ◌≤◌, ◌<◌, ◌++◌, [], ◌∷◌, ◌&&◌, ◌||◌, not, ℕ, List, All, length, take, drop, true};
 ghost use Rattle.std.specs.Prelude.{if◌then◌else◌, IfSome, option_copied, vec_len, vec_capacity};
 ghost use Rattle.std.specs.Option.{option_to_list};

@@ -21,12 +21,12 @@ use vt_syntax::{EventKind, Held};
 use vt_term::Terminal;
 use vt_term::laws::cuts as play_cuts;
 
-/// Where a trace is between two bytes.
+/// The position of a trace between two bytes.
 #[derive(Drop)]
 pub struct Tracer {
     /// How many bytes came before.
     pub place: u64,
-    /// Where the item of the last byte began.
+    /// The position at which the item of the last byte began.
     pub begin: u64,
     /// Whether the last line is a text that may go on.
     pub in_text: bool,
@@ -90,7 +90,7 @@ impl Tracer {
         add_bytes(&mut self.first, bytes);
     }
 
-    /// Goes on behind a byte that was added.
+    /// Goes on after a byte that was added.
     #[inline(always)]
     pub(crate) fn step(&mut self, step: &Step)
         requires { self.old.place + 1 < 2 ^ 64 }

@@ -8,7 +8,7 @@ use Rattle.vt_update.specs.Leads.{silently}
 
 -- playing pieces in turn is playing them joined
 module _ (two : (s : State) (a b : List ℕ) → play s (a ++ b) ≡ both (play s a) (play (play s a).state b)) where
-  -- the first bytes from a place on, and a chunk more
+  -- the first bytes starting at a place, and a chunk more
   play_more : (s t : State) (bytes : List ℕ) (start at count : ℕ) → t ≡ (play s (take at (drop start bytes))).state
       → play s (take (at + count) (drop start bytes))
       ≡ both (play s (take at (drop start bytes))) (play t (take count (drop (start + at) bytes)))

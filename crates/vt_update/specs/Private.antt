@@ -1,2 +1,2 @@
--- What only private contracts cite. No public clause does, and no reader has to believe it.
+-- Definitions that only private contracts cite. No public clause does, and no reader has to believe it.
 pub mod Appended

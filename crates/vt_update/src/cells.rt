@@ -19,7 +19,7 @@ struct Spared {
     below: i32,
 }
 
-/// What was erased: nothing, the remainder of the row, or also the rows below.
+/// The part that was erased: nothing, the remainder of the row, or also the rows below.
 #[derive(Clone, Copy, PartialEq, Eq)]
 enum Erased {
     Nothing,

@@ -1,5 +1,5 @@
 //! The choice of bytes. Updates depend only on their number, and on that they are elements of what updates consist of.
-//! Where they lead is checked by playing them before they are sent.
+//! The terminal that they lead to is checked by playing them before they are sent.
 ghost use Rattle.std.specs.Prelude.{◌≡◌, ◌≤◌, ◌++◌, drop, vec_len, vec_capacity};
 ghost use Rattle.vt_controls.specs.Spoken.{Speaks};
 ghost use Rattle.vt_update.specs.Private.Appended.{Appended};

@@ -1,4 +1,4 @@
--- What feeding leaves.
+-- The result of feeding.
 use Rattle.std.proofs.Common.{◌≡◌, ℕ, ◌+◌, ◌-◌, ◌≤◌, arith, length-drop, List, [], ◌∷◌, ◌++◌, take, drop, length, refl, sym, ap, ◌∙◌, append_assoc, append-nil}
 use Rattle.std.specs.Prelude.{slice_index}
 use Rattle.std.proofs.Math.Seq.{take-add, take-length}
@@ -12,7 +12,7 @@ use Rattle.vt_utf8.specs.Private.Feeds.{FeedsUtf8}
 use Rattle.vt_utf8.specs.Decoding.{IsWhole}
 use Rattle.vt_utf8.proofs.Cuts.{translated-append}
 
--- a piece from a place on
+-- a piece starting at a place
 pub rest-of : (piece : List ℕ) (at : ℕ) → take (length piece - at) (drop at piece) ≡ drop at piece
 rest-of piece at = let e : length piece - at ≡ length (drop at piece) = sym (length-drop at piece) in
     rw e (take-length (drop at piece))

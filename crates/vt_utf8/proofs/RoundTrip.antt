@@ -521,7 +521,7 @@ module _ (spelled : SpellingLaw) (spelling : SpellingLaws) (places : PlaceLaws) 
         (record { between = takes.between; ascii = takes.ascii; replaces = takes.replaces; absolute = takes.absolute }) are
         refl (omega (arith, fits)))
 
-  -- the rows from one on, if those before it are there and the others are empty
+  -- the rows starting at one, if those before it are there and the others are empty
   rows-left : (g : Grid) → IsSoundGrid g → (k row : ℕ) (s : State) → IsSound s → TakesText s
       → s.display.grid.width ≡ g.width → 1 ≤ row → row + k ≡ 25
       → ((r c : ℕ) → 1 ≤ r → r < row → 1 ≤ c → c ≤ g.width → glyph_at s.display.grid r c ≡ glyph_at g r c)

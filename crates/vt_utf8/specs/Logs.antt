@@ -1,4 +1,4 @@
--- Where lines go. Contracts of private functions and of `Log` cite this, and no other public clause does.
+-- The places for lines. Contracts of private functions and of `Log` cite this, and no other public clause does.
 use Rattle.std.specs.Prelude.{◌≡◌, ◌≤◌, ◌<◌, ◌+◌, ◌⊎◌, ℕ, List, [], ◌++◌, flat_map, ⊤}
 use Rattle.std.proofs.Common.{refl, sym, ap, ◌∙◌, inl, inr, arith, append_assoc, append-nil}
 use Rattle.std.proofs.lemmas.Grind.{flat_map-append}

@@ -1,4 +1,4 @@
--- What UTF-8 leaves and reports: what the terminal's bytes do that it is translated to. (this profile)
+-- The state and the reports after UTF-8: those after the terminal's bytes that it is translated to. (this profile)
 use Rattle.std.specs.Prelude.{ℕ, List, [], ◌∷◌, ◌++◌}
 use Rattle.vt_term.specs.State.{State}
 use Rattle.vt_term.specs.Play.{Played, play, both}

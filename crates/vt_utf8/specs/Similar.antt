@@ -220,7 +220,7 @@ in_chart other chart first c = slice_index_or chart (c - first) other
 abbrev pub ascii_of_fullwidth : ℕ → ℕ
 ascii_of_fullwidth c = c - 0xFEE0
 
--- the glyph of a character from U+00A0 on
+-- the glyph of a character of U+00A0 or above
 unfoldable pub shown : ℕ → ℕ
 shown c =
     if nat_lt c 0x180 then in_chart substitute_glyph latin 0xA0 c else (

@@ -1,4 +1,4 @@
--- What a character is in the terminal's bytes, in a state. (EK-VT220-RM: SCS, the single shifts, NEL, DECAWM; ECMA-48: ST.
+-- The terminal's bytes for a character, in a state. (EK-VT220-RM: SCS, the single shifts, NEL, DECAWM; ECMA-48: ST.
 -- The choice of bytes is this profile's.)
 use Rattle.std.specs.Prelude.{◌≡◌, ◌≤◌, ◌⊎◌, ℕ, List, [], ◌∷◌, ◌++◌, None, Bool, not, ◌==◌, ◌&&◌, nat_lt, is_none, if◌then◌else◌}
 use Rattle.vt_syntax.specs.declared.held.Held.{Held}

@@ -1,4 +1,4 @@
-//! Where the lines go that scroll off: nowhere, or behind others.
+//! Says where the lines go that scroll off: nowhere, or after others.
 ghost use Rattle.std.specs.Prelude.{◌≡◌, ◌≤◌, ◌<◌, ◌+◌, ◌*◌, ◌++◌, ℕ, List, length, take, flat_map, vec_len, vec_capacity, []};
 ghost use Rattle.std.specs.Bool.{OnTrue, OnFalse};
 ghost use Rattle.vt_screen.specs.declared.cell.Cell.{Cell};
@@ -10,7 +10,7 @@ ghost use Rattle.vt_utf8.specs.Logs.{AreKept};
 use crate::feeding::{feed_beyond_ascii, feed_beyond_ascii_log};
 use vt_term::{Lines, Nobody, Observer, Terminal};
 
-/// Where the lines go that scroll off.
+/// A place for the lines that scroll off.
 pub trait Log: Drop {
     /// The log after it got lines.
     ghost Keeps: { Self → List (List Cell) → Self → Type 0 };
@@ -42,7 +42,7 @@ pub trait Log: Drop {
     ghost kept: { AreKept Keeps HasRoom IsFull };
 }
 
-/// Where the lines go that a VT220's bytes scroll off.
+/// A place for the lines that a VT220's bytes scroll off.
 pub(crate) trait BytesLog: Log {
     /// Plays the front of a chunk, up to a line for which there is no capacity. Returns how many bytes it played.
     fn feed(&mut self, terminal: &mut Terminal, piece: &[u8], out: &mut Vec<u8>) -> usize
@@ -89,7 +89,7 @@ impl BytesLog for Nobody {
     }
 }
 
-/// The lines go behind others.
+/// The lines go after others.
 impl<A: Observer + Drop> Log for Lines<'_, A> {
     ghost use Rattle.std.specs.Prelude.{◌≡◌, ◌≤◌, ◌<◌, ◌+◌, ◌++◌, ◌⊎◌, flat_map, vec_len, vec_capacity};
     ghost use Rattle.vt_term.specs.Text.{line_text};

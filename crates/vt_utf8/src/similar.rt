@@ -230,7 +230,7 @@ pub(crate) fn is_in(first: u32, last: u32, c: u32) -> bool
     first <= c && c <= last
 }
 
-/// Returns the code of the glyph that is shown for a character from U+00A0 on, by its number.
+/// Returns the code of the glyph that is shown for a character of U+00A0 or above, by its number.
 #[inline(always)]
 fn code_by(c: u32) -> u8
     ensures { result ≡ code_by c }
@@ -250,7 +250,7 @@ fn code_by(c: u32) -> u8
     }
 }
 
-/// Returns the code of the glyph that is shown for a character from U+00A0 on.
+/// Returns the code of the glyph that is shown for a character of U+00A0 or above.
 #[inline(always)]
 pub(crate) fn code_of(c: char) -> u8
     ensures spelling { encoded_spelling result ≡ spelling_of (shown c) }

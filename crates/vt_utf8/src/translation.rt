@@ -62,7 +62,7 @@ pub(crate) fn narrow_code(c: char) -> Option<u8>
     None
 }
 
-/// Returns the spelling of the glyph that is shown for a character from U+00A0 on.
+/// Returns the spelling of the glyph that is shown for a character of U+00A0 or above.
 #[inline]
 fn spelling_of(c: char) -> Spelling
     ensures { result ≡ spelling_of (shown c) }

@@ -14,7 +14,7 @@ pub record Sink : Type 0 where
   pub most : ℕ
   pub fail : Option ℕ
 
--- which call fails, counted from the next one on
+-- which call fails, counted from the next one
 abbrev pub one_call_later : Option ℕ → Option ℕ
 one_call_later None = None
 one_call_later (Some call) = if nat_le call 1 then None else Some (call - 1)

@@ -1,4 +1,4 @@
--- What an input must give: the text, the reports, and the repaint if the input ends between sequences. (this profile)
+-- The required results of an input: the text, the reports, and the repaint if the input ends between sequences. (this profile)
 use Rattle.std.specs.Prelude.{ℕ, List, Option, Some, None}
 use Rattle.vt_syntax.specs.declared.held.Held.{Held}
 use Rattle.vt_syntax.specs.declared.held.Held.TheVariants.{Nothing, Escape, Control, Spoilt, Text}

@@ -1,4 +1,4 @@
-//! What a terminal must give for an input.
+//! Has what a terminal must give for an input.
 
 /// An input, and what a terminal in its power-up state must give for it.
 #[derive(Clone, Copy, Debug)]

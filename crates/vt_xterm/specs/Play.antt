@@ -1,4 +1,4 @@
--- What UTF-8 leaves, reports and scrolls off under TERM=xterm.
+-- The state, the reports and the lines that scroll off after UTF-8 under TERM=xterm.
 use Rattle.std.specs.Prelude.{ℕ, List, [], ◌∷◌, ◌++◌, nat_lt, fold, flat_map, if◌then◌else◌}
 use Rattle.vt_syntax.specs.declared.event.Event.{Event}
 use Rattle.vt_syntax.specs.Held.{events_from, held_from}

@@ -1,3 +1,3 @@
--- What private contracts alone cite.
+-- Definitions that only private contracts cite.
 pub mod Finding
 pub mod Feeds

@@ -1,4 +1,4 @@
-//! What a front keeps.
+//! Has the state that a front keeps.
 ghost use Rattle.std.specs.Prelude.{◌≡◌, ◌≤◌, IfOk, length};
 ghost use Rattle.vt_term.specs.State.{display_at_power_up, power_up};
 ghost use Rattle.vt_term.specs.Pages.{with_page};

@@ -1,7 +1,7 @@
 //! A front for what programs send under TERM=xterm: UTF-8, and functions that a VT220 lacks.
 //!
 //! The front reads the host's bytes by the terminal's own syntax. It has another table of functions, and the page that isn't
-//! shown. What its table lacks is a VT220's.
+//! shown. Every function that its table lacks is a VT220's.
 #![tactic(auto)]
 
 mod attributes;

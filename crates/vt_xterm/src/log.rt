@@ -1,4 +1,4 @@
-//! Where the lines go that scroll off: nowhere, or behind others.
+//! Says where the lines go that scroll off: nowhere, or after others.
 ghost use Rattle.std.specs.Prelude.{◌≡◌, ◌≤◌, ◌+◌, ◌*◌, ◌++◌, ℕ, List, length, take, flat_map, vec_len, vec_capacity, None, []};
 ghost use Rattle.vt_syntax.specs.Event.{event_of};
 ghost use Rattle.vt_term.specs.Play.{play};
@@ -18,7 +18,7 @@ pub const LINES_LIMIT: usize = 2 * TEXT_LIMIT;
 
 const _: () = prove!(UTF8_LINES_LIMIT <= LINES_LIMIT);
 
-/// Where the lines go that scroll off the main page.
+/// A place for the lines that scroll off the main page.
 pub(crate) trait PageLog: Log {
     /// Plays the front of a chunk, up to the first event that isn't a VT220's, or up to a line for which there is no capacity.
     /// Returns how many bytes it played.
@@ -64,7 +64,7 @@ impl PageLog for Nobody {
     fn event(&mut self, _: &Terminal, _: EventKind, _: &[u16]) {}
 }
 
-/// The lines go behind others.
+/// The lines go after others.
 impl PageLog for Lines<'_, Finder> {
     #[inline(always)]
     fn feed(&mut self, terminal: &mut Terminal, piece: &[u8], out: &mut Vec<u8>) -> usize {

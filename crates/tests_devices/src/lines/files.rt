@@ -1,4 +1,4 @@
-//! The log of a file that is shown is its text; and lines that have no room wait.
+//! The log of a file that is shown is its text; and lines for which there is no capacity wait.
 ghost use Rattle.std.specs.Prelude.{◌≤◌};
 
 use super::common::{logged, scrolls_off};
@@ -33,7 +33,7 @@ fn a_file_is_its_log(rt: HostRuntime) {
     holds(&rt, "by lines", is_shown_again(rt.alloc(), 4096));
 }
 
-/// Feeds the front of some bytes, with room for one line, and appends the line that scrolls off. Returns how many bytes it
+/// Feeds the front of some bytes, with capacity for one line, and appends the line that scrolls off. Returns how many bytes it
 /// fed.
 fn feed_to_a_line(
     alloc: Global,
@@ -49,7 +49,7 @@ fn feed_to_a_line(
     Ok(played)
 }
 
-/// Returns the lines that scroll off where there is room for one at a time.
+/// Returns the lines that scroll off if there is capacity for one at a time.
 fn logged_by_lines(alloc: Global, input: &[u8]) -> Result<Vec<u8>, AllocError> {
     let mut terminal = Terminal::new(alloc)?;
     let mut lines = Vec::new(alloc);
@@ -64,7 +64,7 @@ fn logged_by_lines(alloc: Global, input: &[u8]) -> Result<Vec<u8>, AllocError> {
     Ok(lines)
 }
 
-/// Returns whether the lines are the same as with room for all of them.
+/// Returns whether the lines are the same as with capacity for all of them.
 fn is_same_by_lines(alloc: Global) -> Result<bool, AllocError> {
     let input = numbered(alloc, 100, b"\r\n")?;
     let by_lines = logged_by_lines(alloc, &input)?;

@@ -9,7 +9,7 @@ use vt_term::Terminal;
 /// Lines that scroll off, two screens that are blanked, and a report.
 const INPUT: &[u8] = b"A\x1b[2J\x1b[24;80Hxy\x1b[6n\n\n\x1bcB\x1b[24H\n\n";
 
-/// What a terminal is fed for.
+/// The output that a terminal is fed for.
 #[derive(Clone, Copy)]
 enum Output {
     Log,

@@ -1,8 +1,8 @@
-//! What the tests share.
+//! Has what the tests share.
 use std::alloc::AllocError;
 use std::io;
 
-/// What a test needs has failed.
+/// A failure of something that a test needs.
 #[derive(Drop)]
 pub(super) struct Failed;
 

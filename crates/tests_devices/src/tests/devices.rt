@@ -28,7 +28,7 @@ struct Bounds {
     ghost some: { 1 ≤ most },
 }
 
-/// What a replay asks for, and its devices. A read gives one byte.
+/// A replay with its request and its devices. A read gives one byte.
 #[derive(Clone, Copy)]
 struct Replay {
     word: Word,
@@ -75,7 +75,7 @@ const UP_TO_10: Bounds = Bounds {
     most: ROOM,
 };
 
-/// Devices that neither fail nor are short of room.
+/// Devices that neither fail nor lack capacity.
 const REPORTS: Replay = Replay {
     word: Word::Replay(What::Reports),
     bounds: WIDE,
@@ -228,7 +228,7 @@ fn the_table_of_devices_holds(rt: HostRuntime) {
     }
 }
 
-/// What is asked for in turn.
+/// The words, which are asked for in turn.
 const WORDS: &[Word] = &[
     Word::Replay(What::Text),
     Word::Replay(What::Reports),
@@ -258,7 +258,7 @@ fn ends_before(alloc: Global, input: &[u8], word: Word, is_between: bool) -> Res
     })
 }
 
-/// What is due of the bytes that were read.
+/// The outputs that are due of the bytes that were read.
 #[derive(Drop)]
 struct Due {
     terminal: Terminal,

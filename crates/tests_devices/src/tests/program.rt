@@ -1,4 +1,4 @@
-//! What the program needs of a replay: a writer that is full, and the lines of faults.
+//! Tests what the program needs of a replay: a writer that is full, and the lines of faults.
 ghost use Rattle.std.specs.Prelude.{◌≡◌, ◌≤◌, false};
 
 use super::common::Failed;

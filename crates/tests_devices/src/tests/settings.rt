@@ -1,4 +1,4 @@
-//! What the words ask for, at work: the piece, the limit and the kind; and a read that is passed on whole.
+//! Tests settings: the piece, the limit and the kind; and a read that is passed on whole.
 use super::common::Failed;
 use crate::common::holds;
 use std::alloc::{AllocError, Global};

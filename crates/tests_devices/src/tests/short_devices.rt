@@ -82,7 +82,7 @@ fn a_reader_gives_little_and_fails_once(rt: HostRuntime) {
     }
 }
 
-/// The room, the most bytes of a write, the call that fails, the answers of four writes, and what was taken.
+/// The capacity, the most bytes of a write, the call that fails, the results of four writes, and what was taken.
 type Writing = (usize, Most, Option<usize>, &'static str, &'static [u8]);
 
 const WRITERS: [Writing; 5] = [

@@ -10,7 +10,7 @@ use vt_replay::{
     Word, carry_out,
 };
 
-/// What a request asks for, besides its piece.
+/// A request without its piece.
 #[derive(Clone, Copy)]
 struct Asked {
     word: Word,
@@ -75,7 +75,7 @@ const UTF8: Asked = Asked {
     ..RAW
 };
 
-/// What a host sends for xterm.
+/// A request of bytes that a host sends for xterm.
 const XTERM: Asked = Asked {
     terminal: TerminalType::Xterm,
     ..UTF8

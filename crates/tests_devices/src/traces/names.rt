@@ -1,4 +1,4 @@
-//! What the tests share: the names of the events of some bytes.
+//! Has what the tests share: the names of the events of some bytes.
 use crate::common::holds;
 use std::alloc::{AllocError, Global};
 use std::process::Abort;

@@ -7,7 +7,7 @@ use std::mem::size_of;
 use vt_glyph::{Glyph, Set, Sets};
 use vt_screen::{Brush, Cell, Rendition, Screen};
 
-/// Writes a text from a place on, where there is room for it.
+/// Writes a text starting at a place, if it fits.
 fn write(screen: &mut Screen, row: usize, column: usize, text: &[u8], like: &Cell) {
     let fits = 1 <= row
         && row <= 24
@@ -81,7 +81,7 @@ fn scroll_numbers(alloc: Global, screen: &mut Screen) -> Result<(), AllocError> 
     Ok(())
 }
 
-/// What the first rows show then.
+/// The text of the first rows after that.
 const SCROLLED: [&str; 9] = ["", "", "", "", "996", "997", "998", "999", "1000"];
 
 /// Returns whether the first rows show that.
@@ -330,7 +330,7 @@ fn write_graphics(screen: &mut Screen) {
     }
 }
 
-/// What these bytes show.
+/// The characters that these bytes show.
 const SHOWN: [char; 5] = ['┌', '─', '┐', 'é', '£'];
 
 /// Returns whether these cells show that, with this brush.

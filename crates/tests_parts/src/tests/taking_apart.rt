@@ -1,4 +1,4 @@
-//! What the tests of recordings share: rows that say how a recording is taken apart.
+//! Has what the tests of recordings share: rows that say how a recording is taken apart.
 use std::alloc::Global;
 use vt_recording::{Break, Encoding, Format, Moment, take_apart};
 

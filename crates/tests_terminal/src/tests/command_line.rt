@@ -149,7 +149,7 @@ const LOGS: &[Taken] = &[
     ),
 ];
 
-/// What is said of words that are a request, and no settings.
+/// The message for words that are a request, and no settings.
 const NO_SETTINGS: &str = "vt220: bad command line\n";
 
 #[test]
@@ -160,7 +160,7 @@ fn words_ask_for_a_log(rt: HostRuntime) {
     }
 }
 
-/// What the options of a line ask for: the format (none for auto), the timing file, the moment, the encoding, the terminal,
+/// The request that the options of a line make: the format (none for auto), the timing file, the moment, the encoding, the terminal,
 /// and whether the notes are left out.
 #[derive(Clone, Copy)]
 struct Options {
@@ -172,7 +172,7 @@ struct Options {
     quiet: bool,
 }
 
-/// What a line without these options asks for.
+/// The request of a line without these options.
 const NONE: Options = Options {
     format: Some(Format::Raw),
     timing: None,

@@ -1,4 +1,4 @@
-//! What the tests share: a terminal that was fed in pieces, and a replay.
+//! Has what the tests share: a terminal that was fed in pieces, and a replay.
 ghost use Rattle.std.specs.Prelude.{◌≤◌};
 
 use std::alloc::{AllocError, Global};
@@ -8,7 +8,7 @@ use testing::Found;
 use vt_replay::{Fault, Watched, What, run};
 use vt_term::{Brush, Cursor, Rendition, Terminal};
 
-/// What a test needs has failed.
+/// A failure of something that a test needs.
 #[derive(Drop)]
 pub(super) struct Failed;
 

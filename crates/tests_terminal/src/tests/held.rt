@@ -1,4 +1,4 @@
-//! What a terminal holds after each of the inputs that end inside a sequence.
+//! Tests what a terminal holds after each of the inputs that end inside a sequence.
 use super::common::{Failed, Played, holds};
 use std::alloc::Global;
 use vt_vectors::{held_sample, held_sample_count};

@@ -94,7 +94,7 @@ fn is_fed(alloc: Global, feeding: &Feeding<'_>) -> Result<bool, Failed> {
     )
 }
 
-/// Appends the picture, the text with its attributes, the repaint or, for all else, the plain text, and answers whether
+/// Appends the picture, the text with its attributes, the repaint or, otherwise the plain text, and returns whether
 /// that had its memory.
 fn append_view(terminal: &Terminal, what: What, out: &mut Vec<u8>) -> bool {
     match what {
@@ -240,7 +240,7 @@ fn calls_with_room_take_no_memory(rt: HostRuntime) {
     }
 }
 
-/// What a request returns if allocation fails.
+/// The result of a request if allocation fails.
 const MEMORY: Result<(), Fault> = Err(Fault::Memory);
 
 /// `carry_out`, and with it `run`, `write_log` and `write_output`.

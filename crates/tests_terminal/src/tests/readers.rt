@@ -44,7 +44,7 @@ fn is_blank(terminal: &Terminal) -> bool {
     true
 }
 
-/// What readers tell: the width, the cursor, the brush, the margins, a stop next to those at power-up, and whether
+/// The results of readers: the width, the cursor, the brush, the margins, a stop next to those at power-up, and whether
 /// nothing is held.
 #[derive(Clone, Copy)]
 struct Told {
@@ -127,7 +127,7 @@ const BOLD_AND_UNDERLINE: Brush = Brush {
 const ALL_SET: &[u8] =
     b"\x1b[?3h\x1b[5;10r\x1b[?6h\x1b[1;4m\x1b[1\"q\x1b)K\x1b*A\x0e\x1b~\x1b[3;7H\x1b7\x1bH\x1b[mX\x1bO\x1b[1";
 
-/// What readers tell after it: row 3 is counted from the top margin, and the cursor is a glyph further.
+/// The results of readers after it: row 3 is counted from the top margin, and the cursor is a glyph further.
 const TOLD: Told = Told {
     width: 132,
     cursor: Cursor {

@@ -35,7 +35,7 @@ fn graphic_bytes(alloc: Global, both: bool) -> Result<Vec<u8>, AllocError> {
     Ok(run)
 }
 
-/// Returns whether a run from this column on leaves what its bytes have left one by one, each after a single shift.
+/// Returns whether a run starting at this column leaves what its bytes have left one by one, each after a single shift.
 fn run_agrees(
     alloc: Global,
     setting: &[u8],
@@ -47,7 +47,7 @@ fn run_agrees(
     Ok(whole.terminal.same_state(&by_bytes.terminal))
 }
 
-/// Returns whether runs of each length agree from this place on.
+/// Returns whether runs of each length agree starting at this place.
 fn runs_agree_from(
     alloc: Global,
     setting: &[u8],
@@ -67,7 +67,7 @@ fn runs_agree_from(
     Ok(true)
 }
 
-/// Returns whether they do from this column on, on a screen of `E` of this width, after this setting.
+/// Returns whether they do starting at this column, on a screen of `E` of this width, after this setting.
 fn runs_agree_at(
     alloc: Global,
     setting: &[u8],
@@ -92,7 +92,7 @@ const SETTINGS: [(&[u8], usize); 4] = [
     (b"\x1b[?3h\x1b[?7l", 132),
 ];
 
-/// Asserts that runs agree from each column on.
+/// Asserts that runs agree starting at each column.
 fn runs_agree(rt: &impl Abort, alloc: Global, run: &[u8]) {
     for (setting, width) in &SETTINGS {
         for col in 1..=*width {

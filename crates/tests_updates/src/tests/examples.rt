@@ -114,7 +114,7 @@ fn is_scrolled_down(alloc: Global) -> Result<bool, Failed> {
     sends(alloc, &from, &to, b"\x1b[H\x1b[Lline number 10\x1b[24;15H")
 }
 
-/// Returns whether one that gets a line in its middle is scrolled down from there on.
+/// Returns whether one that gets a line in its middle is scrolled down starting there.
 fn is_scrolled_down_below(alloc: Global) -> Result<bool, Failed> {
     let from = lines(alloc, 10)?;
     let mut to = lines(alloc, 10)?;
@@ -215,7 +215,7 @@ fn a_single_shift_in_the_way_costs_few_bytes(rt: HostRuntime) {
     holds(&rt, "one cell of a full screen", few);
 }
 
-/// What a server has shown, and what it shows then.
+/// The bytes of a screen that a server has shown, and of the next one.
 const FIRST: &[u8] = b"\x1b[4mfirst\x1b7\r\n";
 
 const LATER: &[u8] = b"\x1b[4mfirst\x1b7\r\nsecond\x1b8";

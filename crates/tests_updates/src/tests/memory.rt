@@ -5,7 +5,7 @@ use testing::{Growing, Scarce, follows_ok, refusals};
 use vt_term::Terminal;
 use vt_update::{UPDATE_LIMIT, UpdateError, update, update_reserved};
 
-/// What is shown, and what is asked for: one letter, and what only a repaint does.
+/// Bytes of the screen that is shown, and of the one that is asked for: one letter, and a change that only a repaint makes.
 const PAIRS: [(&[u8], &[u8]); 3] = [
     (b"", b"A"),
     (b"A", b"\x1b[?3hB\x1b7"),
@@ -74,7 +74,7 @@ fn is_made_without_memory(alloc: Global, asked: &mut Asked) -> Result<bool, Fail
     Ok(answered == Ok(()) && asked.shown.same_state(&asked.to))
 }
 
-/// Returns whether an update with room asks for no memory, and leads there.
+/// Returns whether an update with enough capacity asks for no memory, and leads there.
 fn takes_no_memory(alloc: Global, pair: &(&[u8], &[u8])) -> Result<bool, Failed> {
     let out = Vec::with_capacity(alloc, UPDATE_LIMIT)?;
     let mut asked = Asked::new(alloc, pair, out)?;

@@ -5,7 +5,7 @@ use vt_term::Terminal;
 use vt_xterm::Front;
 use vt_xterm_paint::repaint_xterm;
 
-/// What is there before a repaint: a page of 132 columns, the alternate page, a sequence and a character that aren't complete.
+/// Bytes that come before a repaint: a page of 132 columns, the alternate page, a sequence and a character that aren't complete.
 const BEFORE: [&[u8]; 4] = [
     b"",
     b"\x1b[?40h\x1b[?3hwide\x1b7\x1b[?1049h\x1b[?3l\x1b[4hx",

@@ -37,7 +37,7 @@ change_of r c marked cell = when marked (cursor_position r c
 abbrev pub change : List (List Bool) → Grid → ℕ → ℕ → List Event
 change marks g r c = change_of r c (is_marked marks r c) (cell_at g r c)
 
--- n cells of a row from a column on
+-- n cells of a row starting at a column
 abbrev pub changes_from : List (List Bool) → Grid → ℕ → ℕ → ℕ → List Event
 changes_from marks g r c n = flat_map (λ c. change marks g r c) (range_with_len c n)
 

@@ -23,6 +23,6 @@ brush_index brush =
     bit brush.rendition.bold + 2 * bit brush.rendition.underline + 4 * bit brush.rendition.blink
     + 8 * bit brush.rendition.reverse + 16 * bit brush.protected
 
--- the lowest word of a plain glyph in a brush of this number that isn't blank: of a space, or of the character behind it
+-- the lowest word of a plain glyph in a brush of this number that isn't blank: of a space, or of the character after it
 abbrev pub lowest_word : ℕ → ℕ
 lowest_word number = 0x1000000 * number + (if number == 0 then 0x21 else 0x20)

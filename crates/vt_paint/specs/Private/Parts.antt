@@ -7,7 +7,7 @@ use Rattle.vt_screen.specs.Grid.{Grid}
 use Rattle.vt_paint.specs.Items.{stop_events}
 use Rattle.vt_paint.specs.Pieces.{piece}
 
--- the stops of n columns from c on
+-- the stops of n columns starting at c
 abbrev pub stops_from : List Bool → ℕ → ℕ → List Event
 stops_from stops c n = flat_map (λ c. stop_events stops c) (range_with_len c n)
 

@@ -1,4 +1,4 @@
--- What feeding UTF-8 leaves: the state, the pending part, and the reports appended. And the rows that it scrolls off.
+-- The result of feeding UTF-8: the state, the pending part, the reports appended, and the rows that it scrolls off.
 use Rattle.std.specs.Prelude.{◌≡◌, ℕ, List, ◌++◌}
 use Rattle.vt_screen.specs.declared.cell.Cell.{Cell}
 use Rattle.vt_term.specs.State.{State}

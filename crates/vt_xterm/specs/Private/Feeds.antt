@@ -1,4 +1,4 @@
--- What feeding leaves: the state, the pages, the pending part, and the reports appended.
+-- The result of feeding: the state, the pages, the pending part, and the reports appended.
 use Rattle.std.specs.Prelude.{◌≡◌, ℕ, List, ◌++◌}
 use Rattle.vt_term.specs.State.{State}
 use Rattle.vt_utf8.specs.Decoding.{pending_after}
@@ -8,7 +8,7 @@ use Rattle.vt_xterm.specs.Play.{Whole, WholePlayed, FrontState, behind, play_byt
 abbrev pub whole_of : State → PagesState → Whole
 whole_of s pages = record { state = s; pages = pages }
 
--- what is left is what a play leaves, and its reports are behind what was before
+-- what is left is what a play leaves, and its reports are after what was before
 pub record Leaves (played : WholePlayed) (w : Whole) (before after : List ℕ) : Type 0 where
   pub whole : w ≡ played.whole
   pub reports : after ≡ before ++ played.reports

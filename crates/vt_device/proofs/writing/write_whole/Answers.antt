@@ -7,7 +7,7 @@ use Rattle.std.proofs.lemmas.Grind.{common_steps}
 use Rattle.vt_device.specs.Writing.{IsProperBeginning}
 use Rattle.vt_device.proofs.writing.write_whole.Goals as goal
 
--- the part of p from `at` on, to its end
+-- the part of p starting at `at`, to its end
 rest-is : (p : List ℕ) (at : ℕ) → take (length p - at) (drop at p) ≡ drop at p
 rest-is p at = let e : length p - at ≡ length (drop at p) = sym (length-drop at p) in rw e (take-length (drop at p))
 

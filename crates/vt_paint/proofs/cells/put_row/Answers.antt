@@ -76,7 +76,7 @@ loop-i-then-not-is_blank-init c =
       );
     }
 
--- the cell behind a run
+-- the cell after a run
 pub loop-i-preserved-else-goes_on : goal.loop-i-preserved-else-goes_on
 loop-i-preserved-else-goes_on c =
     let r = c.args.row in

@@ -2,7 +2,7 @@ use Rattle.std.proofs.Common.{◌≡◌, ◌≤◌, length, take}
 use Rattle.vt_term.specs.Text.{trimmed}
 use Rattle.vt_term.proofs.line.end_of_text.Given as goal
 
--- what is behind the end is spaces
+-- what is after the end is spaces
 abbrev pub invariant-loop-end : goal.invariant-loop-end
 invariant-loop-end l = record {
   within : l.end ≤ length l.codes;

@@ -1,4 +1,4 @@
--- What the rest of the bytes adds to what is there is what all of them give.
+-- The rest of the bytes adds to what is there, and both are what all of them give.
 use Rattle.std.proofs.Common.{◌≡◌, ◌+◌, ◌-◌, ◌*◌, ◌≤◌, drop, length, vec_len, vec_capacity}
 use Rattle.vt_trace.proofs.Contents.{Gives}
 use Rattle.vt_trace.proofs.skipped.skip_all.Given as goal

@@ -1,4 +1,4 @@
--- What is left of the parameters has the rest of the effect.
+-- The remaining parameters have the rest of the effect.
 use Rattle.std.proofs.Common.{◌≡◌, ◌-◌, ◌≤◌, length, drop}
 use Rattle.vt_xterm.proofs.Colours.{left}
 use Rattle.vt_xterm.proofs.attributes.select_attributes.Given as goal

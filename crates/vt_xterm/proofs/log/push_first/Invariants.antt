@@ -1,4 +1,4 @@
--- What is appended, and the lines of the rows from this one on.
+-- The lines that are appended, and those of the rows starting at this one.
 use Rattle.std.proofs.Common.{◌≡◌, ◌+◌, ◌-◌, ◌*◌, ◌≤◌, ◌++◌, flat_map, map, vec_len, vec_capacity}
 use Rattle.std.specs.List.{range_with_len}
 use Rattle.vt_screen.specs.Grid.{row_of}

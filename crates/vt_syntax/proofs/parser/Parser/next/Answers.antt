@@ -1,4 +1,4 @@
--- What is held is a held part, and what is asked for is an event.
+-- The parser holds a held part, and asks for an event.
 use Rattle.vt_syntax.proofs.Cutting.{held_part, is_kind}
 use Rattle.vt_syntax.proofs.parser.Parser.next.Goals as goal
 

@@ -1,4 +1,4 @@
--- What is held is a held part, and what is asked for is an event.
+-- The parser holds a held part, and asks for an event.
 use Rattle.std.proofs.Common.{sym, ◌∙◌}
 use Rattle.vt_syntax.proofs.Cutting.{read_step, held_part, is_event}
 use Rattle.vt_syntax.proofs.Steps.{same_held, same_events}

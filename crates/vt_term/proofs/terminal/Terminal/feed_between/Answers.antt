@@ -1,4 +1,4 @@
--- What stands at the front of the rest is played, too.
+-- The front of the rest is played, too.
 use Rattle.std.proofs.Common.{◌≡◌, ◌-◌, length, arith, refl}
 use Rattle.vt_term.proofs.Bytes.{behind, taken-more, behind-more}
 use Rattle.vt_term.proofs.Playing.{takes-rest, feeds-nothing, feeds-rest, saw-rest}

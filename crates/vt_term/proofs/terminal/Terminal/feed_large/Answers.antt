@@ -1,4 +1,4 @@
--- What is left of the rest leaves what the rest does.
+-- The remainder after a front leaves what the whole rest does.
 use Rattle.std.proofs.Common.{◌≡◌, ◌∙◌, ◌++◌, ap, sym, arith, append-nil, length}
 use Rattle.std.proofs.lemmas.Bool.Decides.{nat_tests}
 use Rattle.vt_term.specs.Play.{Played}

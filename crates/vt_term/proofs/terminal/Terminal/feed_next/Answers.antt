@@ -1,4 +1,4 @@
--- What the fronts played, and the first event after it.
+-- The bytes that the fronts played, and the first event after them.
 use Rattle.std.proofs.Common.{arith}
 use Rattle.vt_term.proofs.Bytes.{rest-of}
 use Rattle.vt_term.proofs.Playing.{takes-rest, feeds-more, saw-more}

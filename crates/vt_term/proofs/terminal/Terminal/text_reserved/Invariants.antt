@@ -4,7 +4,7 @@ use Rattle.vt_screen.specs.Grid.{row_of}
 use Rattle.vt_term.specs.Text.{text, line_text}
 use Rattle.vt_term.proofs.terminal.Terminal.text_reserved.Given as goal
 
--- what is appended, and the lines of the rows from this one on
+-- what is appended, and the lines of the rows starting at this one
 abbrev pub invariant-loop-row : goal.invariant-loop-row
 invariant-loop-row l = record {
   items : l.out.items ++ flat_map (λ r. line_text (row_of l.self.display.grid r)) (range_with_len l.row (25 - l.row))

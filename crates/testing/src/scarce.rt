@@ -1,7 +1,7 @@
 //! Refuses memory, and grants one growth after another. So a test sees each growth of a call refused once.
 use std::alloc::{AllocError, Global};
 
-/// Is the number of blocks that a `Scarce` keeps. No call of the tests grows its memory so often.
+/// The number of blocks that a `Scarce` keeps. No call of the tests grows its memory so often.
 pub const BLOCKS: u32 = 1000;
 
 /// Takes all the memory that the allocator still gives, in blocks that are never touched.

@@ -94,7 +94,7 @@ fn is_fed(alloc: Global, feeding: &Feeding<'_>) -> Result<bool, Failed> {
     )
 }
 
-/// Appends the picture, the text with its attributes, the repaint or, otherwise the plain text, and returns whether
+/// Appends the picture, the text with its attributes, the repaint or the plain text, and returns whether
 /// that had its memory.
 fn append_view(terminal: &Terminal, what: What, out: &mut Vec<u8>) -> bool {
     match what {

@@ -1,4 +1,4 @@
--- The statuses and lines of the faults. (this profile)
+-- The statuses, lines and messages of the faults. (this profile)
 use Rattle.std.specs.Prelude.{ℕ, List, ◌++◌, codes, decimal}
 use Rattle.vt_recording.specs.declared.format.Part.{Part}
 use Rattle.vt_recording.specs.declared.format.Part.TheVariants.{Recording, Timing}
@@ -16,14 +16,20 @@ status_of (Broken place) = 7
 
 -- what is broken
 abbrev pub broken_part : Part → List ℕ
-broken_part Recording = codes "vt220: the recording is broken at byte "
-broken_part Timing = codes "vt220: the timing file is broken at byte "
+broken_part Recording = codes "vt220: the recording is broken"
+broken_part Timing = codes "vt220: the timing file is broken"
 
+-- the line of a fault, without a place
 abbrev pub line_of : Fault → List ℕ
 line_of Memory = codes "vt220: out of memory"
 line_of Partial = codes "vt220: input ends inside a sequence"
 line_of Read = codes "vt220: read failed"
 line_of Write = codes "vt220: write failed"
 line_of TooLong = codes "vt220: input is longer than the limit"
-line_of (Broken place) = broken_part place.part ++ decimal place.at
+line_of (Broken place) = broken_part place.part
 line_of NoTimes = codes "vt220: the input has no times; give --until in bytes, as 4096b"
+
+-- the line that is printed: after that of a broken recording comes the place
+abbrev pub message_of : Fault → List ℕ
+message_of (Broken place) = line_of (Broken place) ++ codes " at byte " ++ decimal place.at
+message_of fault = line_of fault

@@ -1,6 +1,6 @@
 //! Why a request ends early.
 ghost use Rattle.std.specs.Prelude.{◌≡◌, Some};
-ghost use Rattle.vt_recording.specs.Fault.{status_of, line_of};
+ghost use Rattle.vt_recording.specs.Fault.{status_of, line_of, message_of};
 
 use crate::format::{Break, Part};
 use std::alloc::AllocError;
@@ -41,29 +41,33 @@ impl Fault {
             Fault::Broken(_) => 7,
         }
     }
+
+    /// Returns the line of this fault. That of a broken recording doesn't name the place, which the `Display` adds.
+    pub fn line(&self) -> &'static str
+        ensures { result.now ≡ line_of self.now }
+    {
+        match self {
+            Fault::Memory => "vt220: out of memory",
+            Fault::Partial => "vt220: input ends inside a sequence",
+            Fault::Read => "vt220: read failed",
+            Fault::Write => "vt220: write failed",
+            Fault::TooLong => "vt220: input is longer than the limit",
+            Fault::Broken(place) => match place.part {
+                Part::Recording => "vt220: the recording is broken",
+                Part::Timing => "vt220: the timing file is broken",
+            },
+            Fault::NoTimes => "vt220: the input has no times; give --until in bytes, as 4096b",
+        }
+    }
 }
 
 impl fmt::Display for Fault {
-    ghost output = { λ fault. Some (line_of fault) };
+    ghost output = { λ fault. Some (message_of fault) };
 
     fn fmt<W: fmt::Write>(&self, f: &mut fmt::Formatter<W>) -> fmt::Result {
         match self {
-            Fault::Memory => f.write_str("vt220: out of memory"),
-            Fault::Partial => f.write_str("vt220: input ends inside a sequence"),
-            Fault::Read => f.write_str("vt220: read failed"),
-            Fault::Write => f.write_str("vt220: write failed"),
-            Fault::TooLong => f.write_str("vt220: input is longer than the limit"),
-            Fault::Broken(place) => match place.part {
-                Part::Recording => {
-                    write!(f, "vt220: the recording is broken at byte {}", place.at)
-                }
-                Part::Timing => {
-                    write!(f, "vt220: the timing file is broken at byte {}", place.at)
-                }
-            },
-            Fault::NoTimes => {
-                f.write_str("vt220: the input has no times; give --until in bytes, as 4096b")
-            }
+            Fault::Broken(place) => write!(f, "{} at byte {}", self.line(), place.at),
+            _ => f.write_str(self.line()),
         }
     }
 }

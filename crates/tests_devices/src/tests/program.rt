@@ -5,7 +5,7 @@ use super::common::Failed;
 use crate::common::holds;
 use std::alloc::Global;
 use std::io::Write;
-use vt_replay::{Fault, Watched, What, run};
+use vt_replay::{Break, Fault, Part, Watched, What, run};
 
 /// The greatest input of the program, unless it is told another.
 const LIMIT: u64 = 268435456;
@@ -50,23 +50,58 @@ fn a_writer_that_is_full_is_a_fault(rt: HostRuntime) {
     assert!(rt; is_full(rt.alloc(), REQUESTS, What::Reports, 1, b"\x9b?62;"));
 }
 
-/// Returns whether a fault has this status, and this line as its message.
-fn has_line(alloc: Global, fault: &Fault, status: u8, line: &str) -> Result<bool, Failed> {
+/// Returns whether a fault has this status and this line. Its message is the line and what is after it.
+fn has_line(
+    alloc: Global,
+    fault: &Fault,
+    status: u8,
+    line: &str,
+    after: &str,
+) -> Result<bool, Failed> {
     let message = fault.to_string(alloc)?;
-    Ok(fault.status() == status && message.as_str() == line)
+    let has_message = message.as_str().strip_prefix(line) == Some(after);
+    Ok(fault.status() == status && fault.line() == line && has_message)
 }
 
-const FAULTS: &[(Fault, u8, &str)] = &[
-    (Fault::Memory, 1, "vt220: out of memory"),
-    (Fault::Partial, 3, "vt220: input ends inside a sequence"),
-    (Fault::Read, 4, "vt220: read failed"),
-    (Fault::Write, 5, "vt220: write failed"),
-    (Fault::TooLong, 6, "vt220: input is longer than the limit"),
+/// Returns the fault of a part that is broken at this byte.
+const fn broken(part: Part, at: u64) -> Fault {
+    Fault::Broken(Break { part, at })
+}
+
+const FAULTS: &[(Fault, u8, &str, &str)] = &[
+    (Fault::Memory, 1, "vt220: out of memory", ""),
+    (
+        Fault::NoTimes,
+        2,
+        "vt220: the input has no times; give --until in bytes, as 4096b",
+        "",
+    ),
+    (Fault::Partial, 3, "vt220: input ends inside a sequence", ""),
+    (Fault::Read, 4, "vt220: read failed", ""),
+    (Fault::Write, 5, "vt220: write failed", ""),
+    (
+        Fault::TooLong,
+        6,
+        "vt220: input is longer than the limit",
+        "",
+    ),
+    (
+        broken(Part::Recording, 14),
+        7,
+        "vt220: the recording is broken",
+        " at byte 14",
+    ),
+    (
+        broken(Part::Timing, 0),
+        7,
+        "vt220: the timing file is broken",
+        " at byte 0",
+    ),
 ];
 
 #[test]
 fn faults_have_a_status_and_a_line(rt: HostRuntime) {
-    for (fault, status, line) in FAULTS {
-        holds(&rt, line, has_line(rt.alloc(), fault, *status, line));
+    for (fault, status, line, after) in FAULTS {
+        holds(&rt, line, has_line(rt.alloc(), fault, *status, line, after));
     }
 }

@@ -8,8 +8,8 @@ use Rattle.vt_recording.specs.declared.format.Encoding.{Encoding}
 use Rattle.vt_recording.specs.declared.format.Encoding.TheVariants.{Dec, Utf8}
 use Rattle.vt_recording.specs.declared.format.Moment.{Moment}
 use Rattle.vt_recording.specs.declared.format.Moment.TheVariants.{Micros, Bytes}
-use Rattle.vt_cli.specs.declared.what.TerminalType.{TerminalType}
-use Rattle.vt_cli.specs.declared.what.TerminalType.TheVariants.{Vt220, Xterm}
+use Rattle.vt_recording.specs.declared.format.TerminalType.{TerminalType}
+use Rattle.vt_recording.specs.declared.format.TerminalType.TheVariants.{Vt220, Xterm}
 use Rattle.vt_cli.specs.declared.source.Source.{Source}
 use Rattle.vt_cli.specs.declared.source.Complaint.{Complaint}
 use Rattle.vt_cli.specs.declared.source.Complaint.TheVariants.{NoFormat, NoTimingFile, NoMoment, NoTimes, NoEncoding}

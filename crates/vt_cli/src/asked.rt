@@ -2,8 +2,8 @@
 
 ghost use Rattle.std.specs.Prelude.{◌≤◌};
 
-use crate::what::{TerminalType, What, Word};
-use vt_recording::{Encoding, Format, Moment};
+use crate::what::{What, Word};
+use vt_recording::{Encoding, Format, Moment, TerminalType};
 
 /// The request for a replay. The two numbers are in their ranges, in every value of this type.
 #[derive(Debug, PartialEq, Eq, Drop)]

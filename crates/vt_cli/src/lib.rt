@@ -11,5 +11,5 @@ mod what;
 pub use asked::{Refused, Request, Settings};
 pub use command_line::settings;
 pub use requests::request;
-pub use vt_recording::{Encoding, Format, Moment};
-pub use what::{TerminalType, What, Word};
+pub use vt_recording::{Encoding, Format, Moment, TerminalType};
+pub use what::{What, Word};

@@ -6,9 +6,8 @@ ghost use Rattle.vt_cli.specs.Source.{encoding_named, encoding_of};
 ghost use Rattle.vt_cli.specs.Source.{plays_xterm, xterm_for, terminal_named, terminal_of, encoding_for};
 
 use crate::moment::moment;
-use crate::what::TerminalType;
 use clap::ArgMatches;
-use vt_recording::{Encoding, Format, Moment};
+use vt_recording::{Encoding, Format, Moment, TerminalType};
 
 /// How the input was recorded, the moment up to which it is wanted, the encoding, and the terminal.
 #[derive(Clone, Copy)]

@@ -18,15 +18,6 @@ pub enum What {
     Picture,
 }
 
-/// The terminal for which the host sends.
-#[derive(Clone, Copy, Debug, PartialEq, Eq)]
-pub enum TerminalType {
-    /// A VT220.
-    Vt220,
-    /// A terminal with the functions that programs use under TERM=xterm. The host sends UTF-8.
-    Xterm,
-}
-
 /// The work that the program does with its input.
 #[derive(Clone, Copy, Debug, PartialEq, Eq)]
 pub enum Word {

@@ -22,6 +22,15 @@ pub enum Encoding {
     Utf8,
 }
 
+/// The terminal for which the host sends.
+#[derive(Clone, Copy, Debug, PartialEq, Eq)]
+pub enum TerminalType {
+    /// A VT220.
+    Vt220,
+    /// A terminal with the functions that programs use under TERM=xterm. The host sends UTF-8.
+    Xterm,
+}
+
 /// The end of what is wanted of a recording.
 #[derive(Clone, Copy, Debug, PartialEq, Eq)]
 pub enum Moment {

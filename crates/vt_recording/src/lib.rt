@@ -21,7 +21,7 @@ mod ttyrec;
 pub use content::Content;
 pub use detection::{Compression, DETECTION_LENGTH, Detected, detect};
 pub use fault::Fault;
-pub use format::{Break, Encoding, Format, Moment, Part, Taken};
+pub use format::{Break, Encoding, Format, Moment, Part, Taken, TerminalType};
 pub use reading::read_recording;
 pub use seconds::{number, scale};
 pub use taking::take_apart;

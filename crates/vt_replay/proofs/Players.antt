@@ -9,7 +9,7 @@ use Rattle.vt_term.specs.Text.{text}
 use Rattle.vt_xterm.specs.Play.{Whole, WholePlayed, FrontState, play_xterm, xterm_log, behind, both as both_whole}
 use Rattle.vt_recording.specs.declared.format.Encoding.{Encoding}
 use Rattle.vt_recording.specs.declared.format.Encoding.TheVariants.{Dec, Utf8}
-use Rattle.vt_cli.specs.declared.what.TerminalType.TheVariants.{Vt220}
+use Rattle.vt_recording.specs.declared.format.TerminalType.TheVariants.{Vt220}
 use Rattle.vt_replay.specs.Encoding.{decoded}
 use Rattle.vt_output.specs.Output.{IsAfter, always}
 use Rattle.vt_replay.specs.Playing.{language_of, on_terminal, played_as}

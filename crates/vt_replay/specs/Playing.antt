@@ -8,8 +8,8 @@ use Rattle.vt_device.specs.Runs.{Flags}
 use Rattle.vt_recording.specs.declared.format.Encoding.{Encoding}
 use Rattle.vt_recording.specs.declared.format.Encoding.TheVariants as encoding
 use Rattle.vt_cli.specs.declared.what.What.{What}
-use Rattle.vt_cli.specs.declared.what.TerminalType.{TerminalType}
-use Rattle.vt_cli.specs.declared.what.TerminalType.TheVariants as terminal
+use Rattle.vt_recording.specs.declared.format.TerminalType.{TerminalType}
+use Rattle.vt_recording.specs.declared.format.TerminalType.TheVariants as terminal
 use Rattle.vt_recording.specs.declared.fault.Fault.{Fault}
 use Rattle.vt_replay.specs.declared.language.Language.{Language}
 use Rattle.vt_replay.specs.declared.language.Language.TheVariants.{Dec, Utf8, Xterm}

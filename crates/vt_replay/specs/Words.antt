@@ -5,8 +5,8 @@ use Rattle.vt_term.specs.State.{power_up}
 use Rattle.vt_replay.specs.Pages.{pages}
 use Rattle.vt_trace.specs.Trace.{trace, tracer_all, tracer_at_start, end_lines}
 use Rattle.vt_trace.specs.Summary.{summary}
-use Rattle.vt_cli.specs.declared.what.TerminalType.{TerminalType}
-use Rattle.vt_cli.specs.declared.what.TerminalType.TheVariants.{Xterm}
+use Rattle.vt_recording.specs.declared.format.TerminalType.{TerminalType}
+use Rattle.vt_recording.specs.declared.format.TerminalType.TheVariants.{Xterm}
 use Rattle.vt_cli.specs.declared.what.Word.{Word}
 use Rattle.vt_cli.specs.declared.what.Word.TheVariants.{Replay, Log, Pages, Trace, Summary, Content}
 use Rattle.vt_recording.specs.declared.fault.Fault.{Fault}

@@ -6,7 +6,7 @@ ghost use Rattle.vt_term.specs.Functions.{effect};
 ghost use Rattle.vt_term.specs.Sound.{IsSound};
 ghost use Rattle.vt_term.specs.Play.{play};
 ghost use Rattle.vt_recording.specs.declared.format.Encoding.{Encoding};
-ghost use Rattle.vt_cli.specs.declared.what.TerminalType.TheVariants.{Vt220};
+ghost use Rattle.vt_recording.specs.declared.format.TerminalType.TheVariants.{Vt220};
 ghost use Rattle.vt_replay.specs.Encoding.{decoded};
 ghost use Rattle.vt_replay.specs.Pages.{pages, blanks_screen, IsBlank};
 ghost use Rattle.vt_replay.specs.Playing.{language_of, played_as};

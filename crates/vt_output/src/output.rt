@@ -58,13 +58,13 @@ pub trait Output: Drop {
     fn is_there(&self) -> bool
         ensures { result ≡ there self.now [] };
 
-    /// Appends what is to be written at the end of the input, which is there. `out` is empty, and has the capacity of what
-    /// is written at once. It allocates nothing.
-    fn end(&self, out: &mut Vec<u8>)
-        requires there { there self.now [] ≡ true }
+    /// Appends what is to be written at the end of the input, which is there. It is called once, as the last call. `out` is
+    /// empty, and has the capacity of what is written at once. It allocates nothing.
+    fn end(&mut self, out: &mut Vec<u8>)
+        requires there { there self.old [] ≡ true }
         requires empty { out.old.items ≡ [] }
-        requires room { reserve self.now ≤ vec_capacity out.old }
-        ensures { out.new.items ≡ ending self.now [] };
+        requires room { reserve self.old ≤ vec_capacity out.old }
+        ensures { out.new.items ≡ ending self.old [] };
 }
 
 /// Gives the reader's bytes to an output, and writes what it makes of them. Neither device has failed before, and the

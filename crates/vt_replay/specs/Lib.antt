@@ -5,6 +5,7 @@ pub mod PageCuts
 pub mod Pages
 pub mod Playing
 pub mod Request
+pub mod Session
 pub mod Showing
 pub mod Status
 pub mod Words

@@ -1,9 +1,9 @@
 -- The state and the reports after everything that a host sends, and the bytes that a replay writes of it. (this profile)
-use Rattle.std.specs.Prelude.{ℕ, List, [], Result}
+use Rattle.std.specs.Prelude.{ℕ, List, [], Bool, true, false, Result}
 use Rattle.vt_term.specs.State.{power_up}
 use Rattle.vt_term.specs.Play.{Played, play}
 use Rattle.vt_utf8.specs.Play.{play_utf8}
-use Rattle.vt_xterm.specs.Play.{WholePlayed, play_xterm, behind, front_at_power_up}
+use Rattle.vt_xterm.specs.Play.{WholePlayed}
 use Rattle.vt_device.specs.Runs.{Flags}
 use Rattle.vt_recording.specs.declared.format.Encoding.{Encoding}
 use Rattle.vt_recording.specs.declared.format.Encoding.TheVariants as encoding
@@ -13,7 +13,9 @@ use Rattle.vt_recording.specs.declared.format.TerminalType.TheVariants as termin
 use Rattle.vt_recording.specs.declared.fault.Fault.{Fault}
 use Rattle.vt_replay.specs.declared.language.Language.{Language}
 use Rattle.vt_replay.specs.declared.language.Language.TheVariants.{Dec, Utf8, Xterm}
-use Rattle.vt_replay.specs.Due.{PlayedTable}
+use Rattle.vt_output.specs.Output.{OutputTable, nothing}
+use Rattle.vt_replay.specs.Due.{sent_by, end_by, there_by}
+use Rattle.vt_replay.specs.Session.{session, session_repaint, session_is_there, is_of_session}
 
 -- the language of a host that sends for a terminal, in an encoding: for an xterm it sends UTF-8
 abbrev pub language_of : TerminalType → Encoding → Language
@@ -29,8 +31,26 @@ on_terminal p = record { state = p.whole.state; reports = p.reports }
 abbrev pub played_as : Language → List ℕ → Played
 played_as Dec bytes = play power_up bytes
 played_as Utf8 bytes = play_utf8 power_up [] bytes
-played_as Xterm bytes = on_terminal (play_xterm (behind power_up front_at_power_up) [] bytes)
+played_as Xterm bytes = on_terminal (session bytes)
+
+-- what is due of a replay: as the host's bytes come, and at their end, and whether that is there
+pub record Due : Type 0 where
+  pub written : List ℕ → List ℕ
+  pub ending : List ℕ → List ℕ
+  pub there : List ℕ → Bool
+
+abbrev pub replay_by : (of_session : Bool) → Language → What → Due
+replay_by true language what = record { written = nothing; ending = session_repaint; there = session_is_there }
+replay_by false language what =
+    let played = played_as language in
+    record { written = sent_by played what; ending = end_by played what; there = there_by played what }
+
+-- a repaint under TERM=xterm is of the whole session, everything else of the terminal
+abbrev pub replayed : Language → What → Due
+replayed language what = replay_by (is_of_session language what) language what
 
 -- what each answer of a replay says of a host's bytes in a language
 abbrev pub ReplayTable : Language → What → Result (Unit {0}) Fault → (piece : ℕ) → (b w : List ℕ) → Flags → (limit : ℕ) → Type 0
-ReplayTable language what result piece b w f limit = PlayedTable (played_as language) what result piece b w f limit
+ReplayTable language what result piece b w f limit =
+    let due = replayed language what in
+    OutputTable due.written due.ending due.there result piece b w f limit

@@ -11,11 +11,10 @@ use Rattle.vt_cli.specs.declared.what.Word.{Word}
 use Rattle.vt_cli.specs.declared.what.Word.TheVariants.{Replay, Log, Pages, Trace, Summary, Content}
 use Rattle.vt_recording.specs.declared.fault.Fault.{Fault}
 use Rattle.vt_recording.specs.declared.format.Encoding.{Encoding}
-use Rattle.vt_replay.specs.Due.{sent_by, end_by, there_by}
 use Rattle.vt_replay.specs.Encoding.{decoded}
 use Rattle.vt_replay.specs.Log.{screen, lines_in, screen_in}
 use Rattle.vt_output.specs.Output.{OutputTable, always, all, nothing}
-use Rattle.vt_replay.specs.Playing.{language_of, played_as}
+use Rattle.vt_replay.specs.Playing.{Due, language_of, replayed}
 use Rattle.vt_replay.specs.Showing.{ShownTable}
 
 -- ---- pages
@@ -34,12 +33,6 @@ trace_ending bytes = end_lines (tracer_all power_up tracer_at_start bytes)
 
 -- ---- words
 
--- what a word writes of a host's bytes: as they come, and at their end, and whether that is there
-pub record Due : Type 0 where
-  pub written : List ℕ → List ℕ
-  pub ending : List ℕ → List ℕ
-  pub there : List ℕ → Bool
-
 -- of the terminal's bytes for the host's
 abbrev pub of_decoded : Encoding → (written ending : List ℕ → List ℕ) → Due
 of_decoded encoding written ending = record {
@@ -50,9 +43,7 @@ of_decoded encoding written ending = record {
 
 -- a row a word, for a terminal and in an encoding. A replay and a log play xterm; what content writes then is below
 abbrev pub due_of : Word → TerminalType → Encoding → Due
-due_of (Replay what) terminal encoding =
-    let played = played_as (language_of terminal encoding) in
-    record { written = sent_by played what; ending = end_by played what; there = there_by played what }
+due_of (Replay what) terminal encoding = replayed (language_of terminal encoding) what
 due_of Log terminal encoding =
     let language = language_of terminal encoding in
     record { written = lines_in language; ending = screen_in language; there = always }

@@ -9,7 +9,9 @@ ghost use Rattle.vt_replay.specs.Playing.{ReplayTable};
 
 use crate::language::Language;
 use crate::output::{front_for, write_output_from};
+use crate::outputs::write_word;
 use crate::player::{PlainPlayer, Player, Utf8Player, XtermPlayer};
+use crate::session::{SessionOutput, is_of_session};
 use crate::status::{STATUS_LIMIT, push_status};
 use std::alloc::Global;
 use std::io::{Read, Write};
@@ -60,7 +62,11 @@ pub fn run<R: Read, W: Write>(
 /// hasn't failed or ended before. The pending part of UTF-8 at the end isn't played. `piece` and `limit` count the
 /// host's bytes.
 ///
-/// `Err` is what `run` returns.
+/// Under TERM=xterm a repaint is of the whole session: of the terminal, the page that isn't shown, and the modes that choose
+/// between pages. It rebuilds all of them in any session under TERM=xterm.
+///
+/// `Err` is what `run` returns. Under TERM=xterm it is also `Partial` if a repaint is asked for and the input ends inside a
+/// character.
 pub fn run_from<S: Source, W: Write>(
     alloc: Global,
     reader: &mut S,
@@ -80,6 +86,10 @@ pub fn run_from<S: Source, W: Write>(
         (λ b w. ReplayTable language what result piece b w (record { reader_failed = S.failed reader.new; reader_ended = S.ended reader.new; writer_failed = writer.new.failed }) limit) }
     ensures whole { S.ended reader.new ≡ true → IsAtEnd (S.remaining reader.new) }
 {
+    if is_of_session(language, what) {
+        let dec = Encoding::Dec;
+        return write_word::<SessionOutput, S, W>(alloc, reader, writer, dec, piece, limit);
+    }
     match language {
         Language::Dec => run_by::<PlainPlayer, S, W>(alloc, reader, writer, what, piece, limit),
         Language::Utf8 => run_by::<Utf8Player, S, W>(alloc, reader, writer, what, piece, limit),
@@ -202,7 +212,7 @@ impl<P: Player> Output for DueOutput<P> {
         due_is_there(self.player.terminal(), self.what)
     }
 
-    fn end(&self, out: &mut Vec<u8>) {
+    fn end(&mut self, out: &mut Vec<u8>) {
         push_due_at_end(self.player.terminal(), self.what, self.reported, out);
     }
 }

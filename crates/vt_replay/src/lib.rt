@@ -14,6 +14,7 @@ mod outputs;
 mod pages;
 mod player;
 mod requests;
+mod session;
 mod status;
 
 pub use engine::{replay, run, run_from};

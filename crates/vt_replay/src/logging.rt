@@ -133,7 +133,7 @@ impl Output for LogOutput {
         true
     }
 
-    fn end(&self, out: &mut Vec<u8>) {
+    fn end(&mut self, out: &mut Vec<u8>) {
         let _ = self.terminal.width();
         cuts();
         self.terminal.text_reserved(out)
@@ -144,6 +144,8 @@ impl WordOutput for LogOutput {
     ghost writes = { lines };
 
     ghost ends = { screen };
+
+    ghost ready = { always };
 
     fn new(alloc: Global, piece: usize) -> Result<LogOutput, AllocError> {
         log_cuts();
@@ -200,7 +202,7 @@ impl Output for XtermLogOutput {
         true
     }
 
-    fn end(&self, out: &mut Vec<u8>) {
+    fn end(&mut self, out: &mut Vec<u8>) {
         xterm_cuts();
         self.terminal.text_reserved(out)
     }
@@ -210,6 +212,8 @@ impl WordOutput for XtermLogOutput {
     ghost writes = { lines_in Xterm };
 
     ghost ends = { screen_in Xterm };
+
+    ghost ready = { always };
 
     fn new(alloc: Global, piece: usize) -> Result<XtermLogOutput, AllocError> {
         xterm_log_cuts();

@@ -1,5 +1,5 @@
 //! The outputs: what each word writes of the host's bytes as they come, and at their end.
-ghost use Rattle.std.specs.Prelude.{◌≡◌, ⊤, ◌+◌, ◌*◌, ◌/◌, ◌^◌, ◌≤◌, ◌<◌, ◌++◌, [], true, false, length, take, vec_capacity, IfOk, List, ℕ};
+ghost use Rattle.std.specs.Prelude.{◌≡◌, ⊤, ◌+◌, ◌*◌, ◌/◌, ◌^◌, ◌≤◌, ◌<◌, ◌++◌, [], true, false, length, take, vec_capacity, IfOk, List, ℕ, Bool};
 ghost use Rattle.std.specs.Io.KnownBytes.{IsAtEnd};
 ghost use Rattle.vt_term.specs.Play.{play};
 ghost use Rattle.vt_term.specs.Text.{text};
@@ -36,12 +36,15 @@ pub(crate) trait WordOutput: Output {
     /// The bytes that the word writes at the end of those that come.
     ghost ends: { List ℕ → List ℕ };
 
+    /// Whether the bytes for the end of those that come are there.
+    ghost ready: { List ℕ → Bool };
+
     /// Returns the output before any byte came, with memory for chunks of so many bytes. `Err` means that allocation failed.
     fn new(alloc: Global, piece: usize) -> Result<Self, AllocError>
         requires { (1 ≤ piece) × (piece ≤ 65536) }
         ensures written { IfOk result (λ o. Self.written o ≡ writes) }
         ensures ending { IfOk result (λ o. Self.ending o ≡ ends) }
-        ensures there { IfOk result (λ o. Self.there o ≡ always) }
+        ensures there { IfOk result (λ o. Self.there o ≡ ready) }
         ensures none { IfOk result (λ o. Self.written o [] ≡ []) }
         ensures takes { IfOk result (λ o. 1 ≤ Self.most o) }
         ensures counts { IfOk result (λ o. Self.counted o ≡ 0) };
@@ -63,7 +66,7 @@ pub(crate) fn write_word<O: WordOutput, S: Source, W: Write>(
     requires limit_in_range { limit ≤ 1099511627776 }
     ensures answer { Moves (S.remaining reader.old) (S.remaining reader.new) (W.contents writer.old.device)
         (W.contents writer.new.device)
-        (λ b w. EncodedTable encoding O.writes O.ends always result piece b w (record { reader_failed = S.failed reader.new; reader_ended = S.ended reader.new; writer_failed = writer.new.failed }) limit) }
+        (λ b w. EncodedTable encoding O.writes O.ends O.ready result piece b w (record { reader_failed = S.failed reader.new; reader_ended = S.ended reader.new; writer_failed = writer.new.failed }) limit) }
     ensures whole { S.ended reader.new ≡ true → IsAtEnd (S.remaining reader.new) }
 {
     let mut output = O::new(alloc, piece)?;
@@ -109,7 +112,7 @@ impl Output for PageOutput {
         true
     }
 
-    fn end(&self, out: &mut Vec<u8>) {
+    fn end(&mut self, out: &mut Vec<u8>) {
         let _ = self.terminal.width();
         cuts();
         self.terminal.text_reserved(out)
@@ -120,6 +123,8 @@ impl WordOutput for PageOutput {
     ghost writes = { pages_written };
 
     ghost ends = { screen };
+
+    ghost ready = { always };
 
     fn new(alloc: Global, piece: usize) -> Result<PageOutput, AllocError> {
         pages_cut();
@@ -175,7 +180,7 @@ impl Output for TraceOutput {
         true
     }
 
-    fn end(&self, out: &mut Vec<u8>) {
+    fn end(&mut self, out: &mut Vec<u8>) {
         trace_end(&self.tracer, out)
     }
 }
@@ -184,6 +189,8 @@ impl WordOutput for TraceOutput {
     ghost writes = { trace_written };
 
     ghost ends = { trace_ending };
+
+    ghost ready = { always };
 
     fn new(alloc: Global, piece: usize) -> Result<TraceOutput, AllocError> {
         Ok(TraceOutput {
@@ -231,7 +238,7 @@ impl Output for SummaryOutput {
         true
     }
 
-    fn end(&self, out: &mut Vec<u8>) {
+    fn end(&mut self, out: &mut Vec<u8>) {
         one_split();
         self.counts.push_summary(out)
     }
@@ -241,6 +248,8 @@ impl WordOutput for SummaryOutput {
     ghost writes = { nothing };
 
     ghost ends = { summary };
+
+    ghost ready = { always };
 
     fn new(alloc: Global, piece: usize) -> Result<SummaryOutput, AllocError> {
         let _ = piece;
@@ -285,13 +294,15 @@ impl Output for ContentOutput {
         true
     }
 
-    fn end(&self, _out: &mut Vec<u8>) {}
+    fn end(&mut self, _out: &mut Vec<u8>) {}
 }
 
 impl WordOutput for ContentOutput {
     ghost writes = { all };
 
     ghost ends = { nothing };
+
+    ghost ready = { always };
 
     fn new(alloc: Global, piece: usize) -> Result<ContentOutput, AllocError> {
         let _ = (alloc, piece);

@@ -97,3 +97,12 @@ row_added add start now next rows k row there so_far is =
 pub all_added : {X A : Type 0} (add : A → X → A) (start now : A) (rows : List X) (k : ℕ) → length rows ≤ k
     → now ≡ fold add start (take k rows) → now ≡ fold add start rows
 all_added add start now rows k past so_far = so_far ∙ ap (λ l. fold add start l) (take_all k rows past)
+
+-- an optional pair, by its parts
+abbrev paired : {X A B : Type 0} → (X → A) → (X → B) → X → A × B
+paired f g x = (f x, g x)
+
+pub pair_of : {X A B : Type 0} (o : Option X) (f : X → A) (g : X → B) (a : A) (b : B) → Some a ≡ option_map f o
+    → Some b ≡ option_map (λ (p : A × B). p.1) (option_map (paired f g) o) → Some (paired (λ (u : Unit {0}). a) (λ (u : Unit {0}). b) tt) ≡ option_map (paired f g) o
+pair_of (Some x) f g a b first second = search (rules, first, second)
+pair_of None f g a b first second = search (rules, first)

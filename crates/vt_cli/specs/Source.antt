@@ -13,7 +13,7 @@ use Rattle.vt_recording.specs.declared.format.TerminalType.TheVariants.{Vt220, X
 use Rattle.vt_cli.specs.declared.source.Source.{Source}
 use Rattle.vt_cli.specs.declared.source.Complaint.{Complaint}
 use Rattle.vt_cli.specs.declared.source.Complaint.TheVariants.{NoFormat, NoTimingFile, NoMoment, NoTimes, NoEncoding}
-use Rattle.vt_cli.specs.declared.source.Complaint.TheVariants.{NoTerminal, OnlyUtf8, OnlyVt220}
+use Rattle.vt_cli.specs.declared.source.Complaint.TheVariants.{NoTerminal, NoColumns, OnlyUtf8, OnlyVt220}
 use Rattle.vt_cli.specs.Moment.{moment}
 
 -- the format of a name, or none for the name that lets the beginning of the input decide
@@ -57,11 +57,11 @@ until_of format timed (Some text) = until_given format timed (moment text)
 
 -- ---- the encoding
 
--- the encoding of a name
+-- the encoding of a name, or none for the name that lets the terminal and the format decide
 abbrev pub encoding_named : (name : Text) → Result (Option Encoding) Complaint
 encoding_named name =
     cond (bytes_eq name (codes "dec")) (Ok (Some Dec))
-    (cond (bytes_eq name (codes "utf-8")) (Ok (Some Utf8)) (Err NoEncoding))
+    (cond (bytes_eq name (codes "utf-8")) (Ok (Some Utf8)) (cond (bytes_eq name (codes "auto")) (Ok None) (Err NoEncoding)))
 
 -- without a name none is asked for
 abbrev pub encoding_of : Option Text → Result (Option Encoding) Complaint
@@ -77,26 +77,35 @@ plays_xterm command =
     && (not (bytes_eq command (codes "trace")) && not (bytes_eq command (codes "summary")))
 
 -- xterm, for a command and the encoding that was asked for: it reads UTF-8
-abbrev pub xterm_for : (command : Text) → Option Encoding → Result TerminalType Complaint
+abbrev pub xterm_for : (command : Text) → Option Encoding → Result (Option TerminalType) Complaint
 xterm_for command (Some Dec) = Err OnlyUtf8
-xterm_for command (Some Utf8) = cond (plays_xterm command) (Ok Xterm) (Err OnlyVt220)
-xterm_for command None = cond (plays_xterm command) (Ok Xterm) (Err OnlyVt220)
+xterm_for command (Some Utf8) = cond (plays_xterm command) (Ok (Some Xterm)) (Err OnlyVt220)
+xterm_for command None = cond (plays_xterm command) (Ok (Some Xterm)) (Err OnlyVt220)
 
--- the terminal of a name, for a command and an encoding
-abbrev pub terminal_named : (command : Text) → Option Encoding → (name : Text) → Result TerminalType Complaint
+-- the terminal of a name, for a command and an encoding, or none for the name that lets the recording decide
+abbrev pub terminal_named : (command : Text) → Option Encoding → (name : Text) → Result (Option TerminalType) Complaint
 terminal_named command encoding name =
-    cond (bytes_eq name (codes "vt220")) (Ok Vt220)
-    (cond (bytes_eq name (codes "xterm")) (xterm_for command encoding) (Err NoTerminal))
+    cond (bytes_eq name (codes "vt220")) (Ok (Some Vt220))
+    (cond (bytes_eq name (codes "xterm")) (xterm_for command encoding)
+    (cond (bytes_eq name (codes "auto")) (Ok None) (Err NoTerminal)))
 
--- without a name it is a VT220
-abbrev pub terminal_of : (command : Text) → Option Encoding → Option Text → Result TerminalType Complaint
-terminal_of command encoding None = Ok Vt220
+-- without a name the recording decides
+abbrev pub terminal_of : (command : Text) → Option Encoding → Option Text → Result (Option TerminalType) Complaint
+terminal_of command encoding None = Ok None
 terminal_of command encoding (Some name) = terminal_named command encoding name
 
--- the encoding of what a host sends for a terminal
-abbrev pub encoding_for : TerminalType → Option Encoding → Option Encoding
-encoding_for Vt220 encoding = encoding
-encoding_for Xterm encoding = Some Utf8
+-- ---- the columns
+
+-- whether a number of columns is 132, or none for the name that lets the recording decide
+abbrev pub wide_named : (name : Text) → Result (Option Bool) Complaint
+wide_named name =
+    cond (bytes_eq name (codes "80")) (Ok (Some false))
+    (cond (bytes_eq name (codes "132")) (Ok (Some true)) (cond (bytes_eq name (codes "auto")) (Ok None) (Err NoColumns)))
+
+-- without a number the recording decides
+abbrev pub wide_of : Option Text → Result (Option Bool) Complaint
+wide_of None = Ok None
+wide_of (Some name) = wide_named name
 
 -- ---- all of them
 
@@ -111,22 +120,25 @@ named None = Ok (Some Raw)
 named (Some name) = format_named name
 
 -- by the name of the command, whether there is a timing file, and the texts of the other options
-abbrev pub source_of : (command : Text) → (format : Option Text) → (timed : Bool) → (until encoding terminal : Option Text)
+abbrev pub source_of : (command : Text) → (format : Option Text) → (timed : Bool) → (until encoding terminal columns : Option Text)
     → Result Source Complaint
-source_of command format timed until encoding terminal =
+source_of command format timed until encoding terminal columns =
     and_then (λ format. cond (timed && not (takes_timing format)) (Err NoTimingFile)
-    (and_then (λ until. and_then (λ encoding. and_then (λ terminal. Ok (record {
+    (and_then (λ until. and_then (λ encoding. and_then (λ terminal. and_then (λ wide. Ok (record {
       format = format;
       until = until;
-      encoding = encoding_for terminal encoding;
+      encoding = encoding;
       terminal = terminal;
-    })) (terminal_of command encoding terminal)) (encoding_of encoding)) (until_of format timed until))) (named format)
+      wide = wide;
+    })) (wide_of columns)) (terminal_of command encoding terminal)) (encoding_of encoding)) (until_of format timed until)))
+    (named format)
 
 -- by a subcommand's name and matches
 abbrev pub source_in : (command : Text) → List Row → Result Source Complaint
 source_in command matches =
     source_of command (first_of (codes "format") matches) (is_some (first_of (codes "timing") matches))
     (first_of (codes "until") matches) (first_of (codes "encoding") matches) (first_of (codes "terminal") matches)
+    (first_of (codes "columns") matches)
 
 -- what is said of options that don't fit: the fault, and after some of them a line with a way out
 abbrev pub line_of : Complaint → List ℕ
@@ -136,8 +148,9 @@ line_of NoTimingFile = codes "vt220: --timing goes with --format script alone" +
 line_of NoMoment = codes "vt220: --until is seconds, as 12.5 or 12:31, or bytes, as 4096b" ++ 0x0A ∷ []
 line_of NoTimes =
     codes "vt220: the input has no times; give --until in bytes, as 4096b, or script its --timing FILE" ++ 0x0A ∷ codes "vt220: a recording by ttyrec or asciinema has times: add --format ttyrec, asciicast or auto" ++ 0x0A ∷ []
-line_of NoEncoding = codes "vt220: --encoding is dec or utf-8" ++ 0x0A ∷ []
-line_of NoTerminal = codes "vt220: --terminal is vt220 or xterm" ++ 0x0A ∷ []
+line_of NoEncoding = codes "vt220: --encoding is dec, utf-8 or auto" ++ 0x0A ∷ []
+line_of NoTerminal = codes "vt220: --terminal is vt220, xterm or auto" ++ 0x0A ∷ []
+line_of NoColumns = codes "vt220: --columns is 80, 132 or auto" ++ 0x0A ∷ []
 line_of OnlyUtf8 = codes "vt220: --terminal xterm reads UTF-8, and not --encoding dec" ++ 0x0A ∷ []
 line_of OnlyVt220 =
     codes "vt220: pages, trace and summary play no xterm" ++ 0x0A ∷ codes "vt220: text, show, picture, status, reports, repaint, log and content do" ++ 0x0A ∷ []

@@ -46,10 +46,12 @@ pub struct Request {
     pub file: Option<String>,
     /// How the input was recorded, or none if its beginning decides.
     pub format: Option<Format>,
-    /// How the host's bytes are read, or none if nothing was asked for.
+    /// How the host's bytes are read, or none if the terminal and the format decide.
     pub encoding: Option<Encoding>,
-    /// The terminal for which the host sends.
-    pub terminal: TerminalType,
+    /// The terminal for which the host sends, or none if the recording decides.
+    pub terminal: Option<TerminalType>,
+    /// Whether the screen has 132 columns, or none if the recording decides.
+    pub wide: Option<bool>,
     /// The file with the times of a recording by script(1), if there is one.
     pub timing: Option<String>,
     /// The moment up to which the input is wanted, or none for all of it.

@@ -134,12 +134,17 @@ const ARGUMENTS: &[(&str, Takes, &str)] = &[
     (
         "encoding",
         Takes::Text("NAME"),
-        "How the host's bytes are read: dec or utf-8 [default: dec, for asciicast utf-8]",
+        "How the host's bytes are read: dec, utf-8 or auto [default: auto]",
     ),
     (
         "terminal",
         Takes::Text("NAME"),
-        "The terminal for which the host sends: vt220 or xterm [default: vt220]",
+        "The terminal for which the host sends: vt220, xterm or auto [default: auto]",
+    ),
+    (
+        "columns",
+        Takes::Text("N"),
+        "The columns of the screen: 80, 132 or auto [default: auto]",
     ),
     (
         "quiet",
@@ -156,9 +161,14 @@ Each command but help takes FILE, or standard input if no file is named, and the
   --format FORMAT  how FILE was recorded: raw, script, ttyrec, asciicast or auto [default: raw]
   --timing FILE    the times of a recording by script(1)
   --until MOMENT   only what came before: seconds, as 12.5 or 12:31, or bytes, as 4096b
-  --encoding NAME  how the host's bytes are read: dec or utf-8 [default: dec, for asciicast utf-8]
-  --terminal NAME  the terminal for which the host sends: vt220 or xterm [default: vt220]
+  --encoding NAME  how the host's bytes are read: dec, utf-8 or auto [default: auto]
+  --terminal NAME  the terminal for which the host sends: vt220, xterm or auto [default: auto]
+  --columns N      the columns of the screen: 80, 132 or auto [default: auto]
   --quiet          no notes on standard error; faults are printed all the same
+
+With auto the first line of a recording decides on the terminal and the columns. By asciinema
+and by script that line names TERM: vt.. is a VT220, any other name is an xterm. What names none
+is for a VT220 of 80 columns. An xterm's host and a recording by asciinema send UTF-8, any other dec.
 
 Example, with a recording made by script(1):
   script -q -c 'stty rows 24 cols 80; TERM=vt220 LC_ALL=C top -n 1' /dev/null > top.bin
@@ -399,6 +409,7 @@ fn is_plain(matches: &ArgMatches<'_>) -> bool
         && !is_given(matches, "until")
         && !is_given(matches, "encoding")
         && !is_given(matches, "terminal")
+        && !is_given(matches, "columns")
         && !is_set(matches, "quiet")
 }
 

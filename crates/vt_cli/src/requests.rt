@@ -59,6 +59,7 @@ fn request_of(
         until: source.until,
         encoding: source.encoding,
         terminal: source.terminal,
+        wide: source.wide,
         quiet: is_set(matches, "quiet"),
     }))
 }
@@ -87,9 +88,10 @@ fn request_among(alloc: Global, matches: &ArgMatches<'_>) -> Result<Request, Ref
 /// The arguments are those of clap's command `vt220`: one of the eleven subcommands, those of `settings` and `log`, `pages`,
 /// `trace`, `summary` and `content`. Each takes `--piece N`, `--limit N` and at most one FILE, and the options of a
 /// recording: `--format FORMAT` (raw, script, ttyrec, asciicast or auto, otherwise raw), `--timing FILE`, `--until MOMENT`,
-/// `--encoding NAME` (dec or utf-8), `--terminal NAME` (vt220 or xterm, otherwise vt220) and `--quiet`. With auto the beginning
-/// of the input decides on the format. A moment is seconds (`12.5`), minutes and seconds (`12:31`), hours, minutes and seconds
-/// (`1:02:03`), or a number of bytes (`4096b`). Seconds have up to six decimals. With xterm the encoding is utf-8.
+/// `--encoding NAME` (dec, utf-8 or auto), `--terminal NAME` (vt220, xterm or auto), `--columns N` (80, 132 or auto) and
+/// `--quiet`. With auto the beginning of the input decides on the format. Of encoding, terminal and columns auto is the default:
+/// then the request leaves the decision to the recording. A moment is seconds (`12.5`), minutes and seconds (`12:31`), hours,
+/// minutes and seconds (`1:02:03`), or a number of bytes (`4096b`). Seconds have up to six decimals.
 ///
 /// `Err` is what to end with if there is no request: the help or the version that was asked for (status 0), a failed
 /// allocation (1), or what is wrong with the arguments (2). Such are also `--timing` with a format other than script, a

@@ -1,25 +1,27 @@
-//! How the input was recorded: its format, the moment up to which it is wanted, the encoding, and the terminal.
+//! How the input was recorded: its format, the moment up to which it is wanted, the encoding, the terminal, and its columns.
 ghost use Rattle.std.specs.Prelude.{◌≡◌, option_map};
 ghost use Rattle.clap.specs.Words.{found_of, rows_of};
 ghost use Rattle.vt_cli.specs.Source.{format_named, named, takes_timing, has_times, has_moment, until_of, source_of, source_in, line_of};
 ghost use Rattle.vt_cli.specs.Source.{encoding_named, encoding_of};
-ghost use Rattle.vt_cli.specs.Source.{plays_xterm, xterm_for, terminal_named, terminal_of, encoding_for};
+ghost use Rattle.vt_cli.specs.Source.{plays_xterm, xterm_for, terminal_named, terminal_of, wide_named, wide_of};
 
 use crate::moment::moment;
 use clap::ArgMatches;
 use vt_recording::{Encoding, Format, Moment, TerminalType};
 
-/// How the input was recorded, the moment up to which it is wanted, the encoding, and the terminal.
+/// How the input was recorded, the moment up to which it is wanted, the encoding, the terminal, and its columns.
 #[derive(Clone, Copy)]
 pub(crate) struct Source {
     /// The format, or none if the beginning of the input decides.
     pub(crate) format: Option<Format>,
     /// The moment, or none for the whole input.
     pub(crate) until: Option<Moment>,
-    /// The encoding, or none if nothing was asked for.
+    /// The encoding, or none if the terminal and the format decide.
     pub(crate) encoding: Option<Encoding>,
-    /// The terminal for which the host sends.
-    pub(crate) terminal: TerminalType,
+    /// The terminal for which the host sends, or none if the recording decides.
+    pub(crate) terminal: Option<TerminalType>,
+    /// Whether the screen has 132 columns, or none if the recording decides.
+    pub(crate) wide: Option<bool>,
 }
 
 /// Why the options of a recording are refused.
@@ -37,6 +39,8 @@ pub(crate) enum Complaint {
     NoEncoding,
     /// `--terminal` names no terminal.
     NoTerminal,
+    /// `--columns` gives no number of columns that the terminal has.
+    NoColumns,
     /// `--terminal xterm` is given with `--encoding dec`.
     OnlyUtf8,
     /// `--terminal xterm` is given for a command that plays a VT220 alone.
@@ -61,8 +65,9 @@ impl Complaint {
                 "vt220: the input has no times; give --until in bytes, as 4096b, or script its --timing FILE\n\
                  vt220: a recording by ttyrec or asciinema has times: add --format ttyrec, asciicast or auto\n"
             }
-            Complaint::NoEncoding => "vt220: --encoding is dec or utf-8\n",
-            Complaint::NoTerminal => "vt220: --terminal is vt220 or xterm\n",
+            Complaint::NoEncoding => "vt220: --encoding is dec, utf-8 or auto\n",
+            Complaint::NoTerminal => "vt220: --terminal is vt220, xterm or auto\n",
+            Complaint::NoColumns => "vt220: --columns is 80, 132 or auto\n",
             Complaint::OnlyUtf8 => "vt220: --terminal xterm reads UTF-8, and not --encoding dec\n",
             Complaint::OnlyVt220 => {
                 "vt220: pages, trace and summary play no xterm\n\
@@ -145,13 +150,14 @@ fn until_of(
     }
 }
 
-/// Returns the encoding of a name.
+/// Returns the encoding of a name, or none for the name that lets the terminal and the format decide.
 fn encoding_named(name: &str) -> Result<Option<Encoding>, Complaint>
     ensures { result ≡ encoding_named name.now }
 {
     match name {
         "dec" => Ok(Some(Encoding::Dec)),
         "utf-8" => Ok(Some(Encoding::Utf8)),
+        "auto" => Ok(None),
         _ => Err(Complaint::NoEncoding),
     }
 }
@@ -174,57 +180,73 @@ fn plays_xterm(command: &str) -> bool
 }
 
 /// Returns xterm, for a command and the encoding that was asked for.
-fn xterm_for(command: &str, encoding: Option<Encoding>) -> Result<TerminalType, Complaint>
+fn xterm_for(
+    command: &str,
+    encoding: Option<Encoding>,
+) -> Result<Option<TerminalType>, Complaint>
     ensures { result ≡ xterm_for command.now encoding }
 {
     match encoding {
         Some(Encoding::Dec) => Err(Complaint::OnlyUtf8),
-        Some(Encoding::Utf8) | None if plays_xterm(command) => Ok(TerminalType::Xterm),
+        Some(Encoding::Utf8) | None if plays_xterm(command) => Ok(Some(TerminalType::Xterm)),
         Some(Encoding::Utf8) | None => Err(Complaint::OnlyVt220),
     }
 }
 
-/// Returns the terminal of a name, for a command and an encoding.
+/// Returns the terminal of a name, for a command and an encoding, or none for the name that lets the recording decide.
 fn terminal_named(
     command: &str,
     encoding: Option<Encoding>,
     name: &str,
-) -> Result<TerminalType, Complaint>
+) -> Result<Option<TerminalType>, Complaint>
     ensures { result ≡ terminal_named command.now encoding name.now }
 {
     match name {
-        "vt220" => Ok(TerminalType::Vt220),
+        "vt220" => Ok(Some(TerminalType::Vt220)),
         "xterm" => xterm_for(command, encoding),
+        "auto" => Ok(None),
         _ => Err(Complaint::NoTerminal),
     }
 }
 
-/// Returns the terminal of a name, for a command and an encoding. Without a name it is a VT220.
+/// Returns the terminal of a name, for a command and an encoding. Without a name the recording decides.
 fn terminal_of(
     command: &str,
     encoding: Option<Encoding>,
     name: Option<&str>,
-) -> Result<TerminalType, Complaint>
+) -> Result<Option<TerminalType>, Complaint>
     ensures { result ≡ terminal_of command.now encoding (option_map (λ n. n.now) name.entry) }
 {
     match name {
         Some(name) => terminal_named(command, encoding, name),
-        None => Ok(TerminalType::Vt220),
+        None => Ok(None),
     }
 }
 
-/// Returns the encoding of what a host sends for a terminal: the one that was asked for, and UTF-8 for xterm.
-fn encoding_for(terminal: TerminalType, encoding: Option<Encoding>) -> Option<Encoding>
-    ensures { result ≡ encoding_for terminal encoding }
+/// Returns whether a number of columns is 132, or none for the name that lets the recording decide.
+fn wide_named(name: &str) -> Result<Option<bool>, Complaint>
+    ensures { result ≡ wide_named name.now }
 {
-    match terminal {
-        TerminalType::Vt220 => encoding,
-        TerminalType::Xterm => Some(Encoding::Utf8),
+    match name {
+        "80" => Ok(Some(false)),
+        "132" => Ok(Some(true)),
+        "auto" => Ok(None),
+        _ => Err(Complaint::NoColumns),
+    }
+}
+
+/// Returns whether a number of columns is 132. Without a number the recording decides.
+fn wide_of(name: Option<&str>) -> Result<Option<bool>, Complaint>
+    ensures { result ≡ wide_of (option_map (λ n. n.now) name.entry) }
+{
+    match name {
+        Some(name) => wide_named(name),
+        None => Ok(None),
     }
 }
 
 /// Returns the source that options give for a command: the name of a format, whether there is a timing file, the text of a
-/// moment, and the names of an encoding and of a terminal.
+/// moment, the names of an encoding and of a terminal, and a number of columns.
 fn source_of(
     command: &str,
     format: Option<&str>,
@@ -232,10 +254,11 @@ fn source_of(
     until: Option<&str>,
     encoding: Option<&str>,
     terminal: Option<&str>,
+    columns: Option<&str>,
 ) -> Result<Source, Complaint>
     ensures { result ≡ source_of command.now (option_map (λ f. f.now) format.entry) timed
         (option_map (λ u. u.now) until.entry) (option_map (λ e. e.now) encoding.entry)
-        (option_map (λ t. t.now) terminal.entry) }
+        (option_map (λ t. t.now) terminal.entry) (option_map (λ n. n.now) columns.entry) }
 {
     let format = match named(format) {
         Ok(format) => format,
@@ -252,12 +275,17 @@ fn source_of(
         Ok(encoding) => encoding,
         Err(complaint) => return Err(complaint),
     };
-    match terminal_of(command, encoding, terminal) {
-        Ok(terminal) => Ok(Source {
+    let terminal = match terminal_of(command, encoding, terminal) {
+        Ok(terminal) => terminal,
+        Err(complaint) => return Err(complaint),
+    };
+    match wide_of(columns) {
+        Ok(wide) => Ok(Source {
             format,
             until,
-            encoding: encoding_for(terminal, encoding),
+            encoding,
             terminal,
+            wide,
         }),
         Err(complaint) => Err(complaint),
     }
@@ -274,5 +302,6 @@ pub(crate) fn source_in(command: &str, matches: &ArgMatches<'_>) -> Result<Sourc
         matches.get_str("until"),
         matches.get_str("encoding"),
         matches.get_str("terminal"),
+        matches.get_str("columns"),
     )
 }

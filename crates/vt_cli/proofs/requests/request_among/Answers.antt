@@ -1,6 +1,7 @@
 use Rattle.std.proofs.Common.{rules, ◌≡◌, refl, sym, ◌∙◌, inl, inr, Some}
 use Rattle.clap.specs.Words.{found_of, rows_of, subcommand_rows_of}
 use Rattle.vt_cli.specs.Request.{HasNoRequest}
+use Rattle.vt_cli.proofs.Words.{pair_of}
 use Rattle.vt_cli.proofs.requests.request_among.Goals as goal
 
 pub returns-in-Ok-None-clause-err : goal.returns-in-Ok-None-clause-err
@@ -18,6 +19,11 @@ returns-in-Ok-None-clause-err c =
         text = refused.1;
       })))
     ]
+
+pub returns-in-Ok-Some-clause-ok : goal.returns-in-Ok-Some-clause-ok
+returns-in-Ok-Some-clause-ok c =
+    let found = pair_of _ _ _ _ _ c.in-Some.ensures.name c.in-Some.ensures.rows in
+    rw (← found) (rw c.in-Ok-Some.field-0-is at c.in-Ok-Some.ensures.some)
 
 pub returns-in-Err-clause-err : goal.returns-in-Err-clause-err
 returns-in-Err-clause-err c =

@@ -1,9 +1,7 @@
 -- The bytes that a request takes from its reader, and those that it gives to its writer. (this profile)
-use Rattle.std.specs.Prelude.{◌≡◌, ◌⊎◌, ℕ, ◌≤◌, ◌++◌, List, [], length, Bool, true, false, not, Option, Some, None, unwrap_or, Result, Ok, Err}
+use Rattle.std.specs.Prelude.{◌≡◌, ◌⊎◌, ℕ, ◌≤◌, ◌++◌, List, [], length, Bool, true, false, not, Option, Some, None, Result, Ok, Err}
 use Rattle.vt_device.specs.Runs.{Flags}
 use Rattle.vt_cli.specs.declared.asked.Request.{Request}
-use Rattle.vt_recording.specs.declared.format.Encoding.{Encoding}
-use Rattle.vt_recording.specs.declared.format.Encoding.TheVariants.{Dec, Utf8}
 use Rattle.vt_recording.specs.declared.format.Format.{Format}
 use Rattle.vt_recording.specs.declared.format.Format.TheVariants as format
 use Rattle.vt_recording.specs.declared.format.Moment.{Moment}
@@ -17,27 +15,22 @@ use Rattle.vt_recording.specs.declared.fault.Fault.{Fault}
 use Rattle.vt_recording.specs.declared.fault.Fault.TheVariants as fault
 use Rattle.vt_recording.specs.Reading.{ReadTable}
 use Rattle.vt_replay.specs.declared.requests.Outcome.{Outcome}
+use Rattle.vt_replay.specs.declared.host.Host.{Host}
+use Rattle.vt_replay.specs.Host.{host_of, plain_host, opening}
 use Rattle.vt_replay.specs.Words.{WordTable}
 
--- the encoding that was asked for, otherwise dec
-abbrev pub encoding_wanted : Option Encoding → Encoding
-encoding_wanted (Some encoding) = encoding
-encoding_wanted None = Dec
+-- 132 columns were asked for
+abbrev pub asks_wide : Option Bool → Bool
+asks_wide (Some wide) = wide
+asks_wide None = false
 
--- the encoding of the content of a recording in a format: of a recording by asciinema UTF-8, if none was asked for
-abbrev pub encoding_of : Option Encoding → Format → Encoding
-encoding_of wanted format.Raw = encoding_wanted wanted
-encoding_of wanted format.Script = encoding_wanted wanted
-encoding_of wanted format.Ttyrec = encoding_wanted wanted
-encoding_of wanted format.Asciicast = unwrap_or wanted Utf8
-
--- the input is played as it comes: it is the host's bytes, and all of them are wanted
-abbrev pub is_streamed : Format → Option Moment → Bool
-is_streamed format.Raw None = true
-is_streamed format.Raw (Some m) = false
-is_streamed format.Script until = false
-is_streamed format.Ttyrec until = false
-is_streamed format.Asciicast until = false
+-- the input is played as it comes: it is the host's bytes, all of them are wanted, and no others come first
+abbrev pub is_streamed : Format → Option Moment → (wide : Option Bool) → Bool
+is_streamed format.Raw None wide = not (asks_wide wide)
+is_streamed format.Raw (Some m) wide = false
+is_streamed format.Script until wide = false
+is_streamed format.Ttyrec until wide = false
+is_streamed format.Asciicast until wide = false
 
 -- how a request ends: a fault of the word comes first, then that the recording is broken
 abbrev pub ended_of : (broken : Option Break) → Result (Unit {0}) Fault → Result (Unit {0}) Fault
@@ -47,12 +40,12 @@ ended_of broken (Err fault) = Err fault
 
 -- the word was carried out on the input as it came
 pub record IsStreamed (o : Outcome) (r : Request) (b w : List ℕ) (f : Flags) : Type 0 where
-  pub table : WordTable o.ended r.word r.terminal (encoding_wanted r.encoding) r.piece b w f r.limit
+  pub table : WordTable o.ended r.word (plain_host r).terminal (plain_host r).encoding r.piece b w f r.limit
   pub none_replaced : o.replaced ≡ 0
 
 -- the word was carried out on the content of a recording, of which c was played, from memory: no read fails. At the end
 -- nothing is left
-pub record IsPlayed (o : Outcome) (r : Request) (encoding : Encoding) (content : List ℕ) (broken : Option Break) (replaced : ℕ) (w : List ℕ)
+pub record IsPlayed (o : Outcome) (r : Request) (host : Host) (content : List ℕ) (broken : Option Break) (replaced : ℕ) (w : List ℕ)
     (writer_failed : Bool) : Type 0 where
   pub c : List ℕ
   pub rest : List ℕ
@@ -60,20 +53,29 @@ pub record IsPlayed (o : Outcome) (r : Request) (encoding : Encoding) (content :
   pub at_end : Bool
   pub none_left : at_end ≡ true → rest ≡ []
   pub played : Result (Unit {0}) Fault
-  pub table : WordTable played r.word r.terminal encoding r.piece c w (record { reader_failed = false; reader_ended = at_end; writer_failed = writer_failed }) r.limit
+  pub table : WordTable played r.word host.terminal host.encoding r.piece c w (record { reader_failed = false; reader_ended = at_end; writer_failed = writer_failed }) r.limit
   pub ended : o.ended ≡ ended_of broken played
   pub replaces : o.replaced ≡ replaced
 
--- the input was read whole and taken apart, and the word was carried out on its content
+-- what is played of a recording: the opening and the content
+pub record IsPrepared (r : Request) (format : Format) (timing : Option (List ℕ)) (b : List ℕ) (host : Host) (bytes : List ℕ)
+    (broken : Option Break) (replaced : ℕ) : Type 0 where
+  pub host_is : host ≡ host_of r format b
+  pub content : List ℕ
+  pub taken : IsTaken format host.encoding r.until timing b content broken replaced
+  pub joined : bytes ≡ opening r.word host ++ content
+
+-- the input was read whole and taken apart, and the word was carried out on what is played of it
 pub record IsTakenApart (o : Outcome) (r : Request) (format : Format) (timing : Option (List ℕ)) (b w : List ℕ) (f : Flags) : Type 0 where
   pub reader_failed : f.reader_failed ≡ false
   pub reader_ended : f.reader_ended ≡ true
   pub within : length b ≤ r.limit
-  pub content : List ℕ
+  pub host : Host
+  pub bytes : List ℕ
   pub broken : Option Break
   pub replaced : ℕ
-  pub taken : IsTaken format (encoding_of r.encoding format) r.until timing b content broken replaced
-  pub played : IsPlayed o r (encoding_of r.encoding format) content broken replaced w f.writer_failed
+  pub prepared : IsPrepared r format timing b host bytes broken replaced
+  pub played : IsPlayed o r host bytes broken replaced w f.writer_failed
 
 -- the input wasn't read whole or taken apart, and nothing was written
 pub record IsUnread (o : Outcome) (r : Request) (b w : List ℕ) (f : Flags) : Type 0 where
@@ -90,7 +92,7 @@ OutcomeBy false o r format timing b w f = IsTakenApart o r format timing b w f �
 
 -- what an outcome says of an input in a format, b being the bytes read and w the bytes written
 abbrev pub OutcomeTable : Outcome → Request → Format → (timing : Option (List ℕ)) → (b w : List ℕ) → Flags → Type 0
-OutcomeTable o r format timing b w f = OutcomeBy (is_streamed format r.until) o r format timing b w f
+OutcomeTable o r format timing b w f = OutcomeBy (is_streamed format r.until r.wide) o r format timing b w f
 
 -- ---- an input whose beginning decides on its format
 

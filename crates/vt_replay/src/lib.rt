@@ -6,6 +6,7 @@ mod blanks;
 mod converting;
 mod decoding;
 mod engine;
+mod host;
 mod language;
 pub mod laws;
 mod logging;
@@ -18,6 +19,7 @@ mod session;
 mod status;
 
 pub use engine::{replay, run, run_from};
+pub use host::{Host, host_for};
 pub use language::Language;
 pub use logging::{write_log, write_log_from};
 pub use output::{front_for, write_output_from};
@@ -30,5 +32,6 @@ pub use vt_cli::{
 pub use vt_device::Watched;
 pub use vt_output::{Output, write_output};
 pub use vt_recording::{
-    Break, Compression, DETECTION_LENGTH, Detected, Fault, Part, detect, read_recording,
+    Break, Compression, DETECTION_LENGTH, Detected, Fault, Heading, Part, detect, heading_of,
+    read_recording,
 };

@@ -1,30 +1,34 @@
 //! A request, carried out by its word.
-ghost use Rattle.std.specs.Prelude.{◌≡◌, ◌≤◌, true, false, Err, option_map};
+ghost use Rattle.std.specs.Prelude.{◌≡◌, ◌≤◌, ◌++◌, true, false, Err, option_map, IfOk};
 ghost use Rattle.std.specs.Io.KnownBytes.{IsAtEnd};
 ghost use Rattle.vt_device.specs.Runs.{Moves};
 ghost use Rattle.vt_device.specs.Writing.{Gives};
 ghost use Rattle.vt_replay.specs.Words.{WordTable};
-ghost use Rattle.vt_replay.specs.Request.{encoding_wanted, encoding_of, is_streamed, format_of, lacks_times, ended_of, IsStreamed, IsPlayed, OutcomeTable};
+ghost use Rattle.vt_replay.specs.Request.{asks_wide, is_streamed, format_of, lacks_times, ended_of, IsStreamed, IsPrepared, IsPlayed, OutcomeTable};
+ghost use Rattle.vt_replay.specs.Host.{host_of, opening};
 
 use crate::converting::Converter;
 use crate::engine::run_from;
+use crate::host::{Host, host_for, opening, plain_host};
 use crate::language::Language;
 use crate::logging::write_log_from;
 use crate::outputs::{ContentOutput, PageOutput, SummaryOutput, TraceOutput, write_word};
 use std::alloc::{AllocError, Global};
 use std::io::{Read, Write};
-use vt_cli::{Encoding, Format, Moment, Request, TerminalType, Word};
+use vt_cli::{Format, Moment, Request, TerminalType, Word};
 use vt_device::{Source, Watched};
 use vt_output::write_by;
-use vt_recording::{Break, Content, Detected, Fault, Taken, detect, read_recording, take_apart};
+use vt_recording::{
+    Break, Content, Detected, Fault, detect, heading_of, read_recording, take_apart,
+};
 
-/// Carries out a request's word on the reader's bytes, in an encoding. Neither device has failed before, and the reader hasn't
+/// Carries out a request's word on the reader's bytes, as a host sent them. Neither device has failed before, and the reader hasn't
 /// ended.
 fn carry_out_word<S: Source, W: Write>(
     alloc: Global,
     reader: &mut S,
     writer: &mut Watched<W>,
-    encoding: Encoding,
+    host: Host,
     request: &Request,
 ) -> Result<(), Fault>
     requires reader_works { S.failed reader.old ≡ false }
@@ -32,11 +36,11 @@ fn carry_out_word<S: Source, W: Write>(
     requires writer_works { writer.old.failed ≡ false }
     ensures answer { Moves (S.remaining reader.old) (S.remaining reader.new) (W.contents writer.old.device)
         (W.contents writer.new.device)
-        (λ b w. WordTable result request.now.word request.now.terminal encoding request.now.piece b w (record { reader_failed = S.failed reader.new; reader_ended = S.ended reader.new; writer_failed = writer.new.failed }) request.now.limit) }
+        (λ b w. WordTable result request.now.word host.terminal host.encoding request.now.piece b w (record { reader_failed = S.failed reader.new; reader_ended = S.ended reader.new; writer_failed = writer.new.failed }) request.now.limit) }
     ensures whole { S.ended reader.new ≡ true → IsAtEnd (S.remaining reader.new) }
 {
-    let (piece, limit) = (request.piece, request.limit);
-    let language = Language::of(request.terminal, encoding);
+    let (piece, limit, encoding) = (request.piece, request.limit, host.encoding);
+    let language = Language::of(host.terminal, encoding);
     match request.word {
         Word::Replay(what) => run_from(alloc, reader, writer, what, language, piece, limit),
         Word::Log => write_log_from(alloc, reader, writer, language, piece, limit),
@@ -49,7 +53,7 @@ fn carry_out_word<S: Source, W: Write>(
         Word::Summary => {
             write_word::<SummaryOutput, S, W>(alloc, reader, writer, encoding, piece, limit)
         }
-        Word::Content => match request.terminal {
+        Word::Content => match host.terminal {
             TerminalType::Vt220 => {
                 write_word::<ContentOutput, S, W>(alloc, reader, writer, encoding, piece, limit)
             }
@@ -72,32 +76,19 @@ pub struct Outcome {
     pub ended: Result<(), Fault>,
 }
 
-/// Returns the encoding that was asked for, otherwise dec.
-fn encoding_wanted(wanted: Option<Encoding>) -> Encoding
-    ensures { result ≡ encoding_wanted wanted }
+/// Returns whether 132 columns were asked for.
+fn asks_wide(wide: Option<bool>) -> bool
+    ensures { result ≡ asks_wide wide }
 {
-    match wanted {
-        Some(encoding) => encoding,
-        None => Encoding::Dec,
-    }
-}
-
-/// Returns the encoding of the content of a recording in a format. Recordings by asciinema are in UTF-8 if none was asked for.
-fn encoding_of(wanted: Option<Encoding>, format: Format) -> Encoding
-    ensures { result ≡ encoding_of wanted format }
-{
-    match format {
-        Format::Raw | Format::Script | Format::Ttyrec => encoding_wanted(wanted),
-        Format::Asciicast => wanted.unwrap_or(Encoding::Utf8),
-    }
+    wide.unwrap_or(false)
 }
 
 /// Returns whether the input is played as it comes.
-fn is_streamed(format: Format, until: Option<Moment>) -> bool
-    ensures { result ≡ is_streamed format until }
+fn is_streamed(format: Format, until: Option<Moment>, wide: Option<bool>) -> bool
+    ensures { result ≡ is_streamed format until wide }
 {
     match format {
-        Format::Raw => until.is_none(),
+        Format::Raw => until.is_none() && !asks_wide(wide),
         Format::Script => false,
         Format::Ttyrec => false,
         Format::Asciicast => false,
@@ -161,13 +152,15 @@ pub fn lacks_times(format: Format, timed: bool, until: Option<Moment>) -> bool
 /// `format_of`. It doesn't look at the request's files: the caller opens its file as the reader, and reads its timing file.
 /// Neither device has failed before, and the reader hasn't ended.
 ///
-/// The word is carried out on the host's bytes in the request's encoding, otherwise in dec. A recording by asciinema keeps
-/// characters. Its content has their bytes in the request's encoding, otherwise in UTF-8. Pages, trace, summary and content
-/// are of the bytes that the encoding gives. Pages, trace and summary play a VT220, whatever the request's terminal. A replay
-/// and a log for xterm are of UTF-8 in any case. Content for xterm is bytes with which a VT220 shows the same: an update for each
-/// chunk.
+/// The terminal is the request's, otherwise the one that the first line of a recording by asciinema or by script names,
+/// otherwise a VT220. If the request's encoding is dec, it is a VT220. For an xterm the host sends UTF-8. For a VT220 it sends in
+/// the request's encoding, otherwise in dec, and in a recording by asciinema in UTF-8. Pages, trace and summary play a VT220,
+/// whatever the terminal. Content for xterm is bytes with which a VT220 shows the same: an update for each chunk.
 ///
-/// If the format is raw and all of the input is wanted, the word is carried out on the bytes as they come. Otherwise the
+/// The screen has 132 columns if the request asks for them, or if it leaves the width to a recording whose first line names
+/// 132. Then bytes that set DECCOLM are played first, except for trace and summary.
+///
+/// If the format is raw, all of the input is wanted, and 132 columns weren't asked for, the word is carried out on the bytes as they come. Otherwise the
 /// input is read whole, and the word is carried out on its content up to the moment. If the recording is broken, that is
 /// the fault, after what came before was played and written.
 pub fn carry_out<R: Read, W: Write>(
@@ -186,17 +179,14 @@ pub fn carry_out<R: Read, W: Write>(
         (λ b w. OutcomeTable result request.now format (option_map (λ t. t.now) timing.entry) b w (record { reader_failed = reader.new.failed; reader_ended = reader.new.ended; writer_failed = writer.new.failed })) }
     ensures whole { reader.new.ended ≡ true → IsAtEnd (R.remaining reader.new.device) }
 {
-    if is_streamed(format, request.until) {
+    if is_streamed(format, request.until, request.wide) {
         return stream(alloc, reader, writer, request);
     }
     match read_recording(alloc, reader, request.limit as usize) {
-        Ok(bytes) => {
-            let encoding = encoding_of(request.encoding, format);
-            match take_apart(alloc, &bytes, timing, format, encoding, request.until) {
-                Ok(taken) => play_taken(alloc, taken, encoding, writer, request),
-                Err(AllocError) => unread(Fault::Memory),
-            }
-        }
+        Ok(bytes) => match prepare(alloc, &bytes, timing, format, request) {
+            Ok(prepared) => play_prepared(alloc, prepared, writer, request),
+            Err(AllocError) => unread(Fault::Memory),
+        },
         Err(fault) => unread(fault),
     }
 }
@@ -216,29 +206,77 @@ fn stream<R: Read, W: Write>(
         (λ b w. IsStreamed result request.now b w (record { reader_failed = reader.new.failed; reader_ended = reader.new.ended; writer_failed = writer.new.failed })) }
     ensures whole { reader.new.ended ≡ true → IsAtEnd (R.remaining reader.new.device) }
 {
-    let encoding = encoding_wanted(request.encoding);
+    let host = plain_host(request);
     Outcome {
         replaced: 0,
-        ended: carry_out_word(alloc, reader, writer, encoding, request),
+        ended: carry_out_word(alloc, reader, writer, host, request),
     }
 }
 
-/// Carries out the request's word on the content of a recording, in an encoding.
-fn play_taken<W: Write>(
+/// What is played of a recording.
+#[derive(Drop)]
+struct Prepared {
+    /// For what its host sent.
+    host: Host,
+    /// The opening, and the content up to the moment.
+    bytes: Vec<u8>,
+    /// The place at which the recording is broken, or none.
+    broken: Option<Break>,
+    /// The number of characters that have no byte.
+    replaced: u64,
+}
+
+/// Takes a recording apart as a request asks for it. Returns `Err` if allocation fails.
+fn prepare(
     alloc: Global,
-    taken: Taken,
-    encoding: Encoding,
+    bytes: &[u8],
+    timing: Option<&[u8]>,
+    format: Format,
+    request: &Request,
+) -> Result<Prepared, AllocError>
+    ensures { IfOk result (λ p. IsPrepared request.now format (option_map (λ t. t.now) timing.entry) bytes.now p.host p.bytes.items p.broken p.replaced) }
+{
+    let host = host_for(request, format, heading_of(alloc, bytes, format)?);
+    let taken = take_apart(alloc, bytes, timing, format, host.encoding, request.until)?;
+    let broken = taken.broken;
+    let replaced = taken.replaced;
+    Ok(Prepared {
+        host,
+        bytes: opened(alloc, opening(request.word, host), taken.content)?,
+        broken,
+        replaced,
+    })
+}
+
+/// Returns bytes after an opening. Returns `Err` if allocation fails.
+fn opened(alloc: Global, opening: &[u8], bytes: Vec<u8>) -> Result<Vec<u8>, AllocError>
+    ensures { IfOk result (λ v. v.items ≡ opening.now ++ bytes.items) }
+{
+    if opening.is_empty() {
+        return Ok(bytes);
+    }
+    let mut whole = Vec::new(alloc);
+    whole.extend_from_slice(opening)?;
+    whole.extend_from_slice(&bytes)?;
+    Ok(whole)
+}
+
+/// Carries out the request's word on what is played of a recording.
+fn play_prepared<W: Write>(
+    alloc: Global,
+    prepared: Prepared,
     writer: &mut Watched<W>,
     request: &Request,
 ) -> Outcome
     requires writer_works { writer.old.failed ≡ false }
     ensures { Gives (W.contents writer.old.device) (W.contents writer.new.device)
-        (λ w. IsPlayed result request.now encoding taken.content.items taken.broken taken.replaced w writer.new.failed) }
+        (λ w. IsPlayed result request.now prepared.host prepared.bytes.items prepared.broken prepared.replaced w writer.new.failed) }
 {
-    let broken = taken.broken;
-    let replaced = taken.replaced;
-    let mut content = Content::new(taken.content);
-    let played = carry_out_word(alloc, &mut content, writer, encoding, request);
+    let host = prepared.host;
+    let broken = prepared.broken;
+    let replaced = prepared.replaced;
+    let mut content = Content::new(prepared.bytes);
+    let played = carry_out_word(alloc, &mut content, writer, host, request);
     Outcome {
         replaced,
         ended: ended_of(broken, played),

@@ -1,5 +1,5 @@
 use Rattle.std.proofs.Common.{refl, sym, ◌∙◌}
-use Rattle.vt_replay.proofs.requests.play_taken.Goals as goal
+use Rattle.vt_replay.proofs.requests.play_prepared.Goals as goal
 
 pub returns : goal.returns
 returns g c =

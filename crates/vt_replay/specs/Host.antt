@@ -1,0 +1,69 @@
+-- For what a host sends: the terminal, the encoding and the width, as a request and the first line of a recording give them.
+-- (this profile)
+use Rattle.std.specs.Prelude.{ℕ, List, [], ◌∷◌, ◌++◌, codes, Bool, true, false, cond, nat_eq, Option, Some, None, unwrap_or}
+use Rattle.vt_cli.specs.declared.asked.Request.{Request}
+use Rattle.vt_cli.specs.declared.what.Word.{Word}
+use Rattle.vt_cli.specs.declared.what.Word.TheVariants.{Replay, Log, Pages, Trace, Summary, Content}
+use Rattle.vt_recording.specs.declared.format.Encoding.{Encoding}
+use Rattle.vt_recording.specs.declared.format.Encoding.TheVariants.{Dec, Utf8}
+use Rattle.vt_recording.specs.declared.format.Format.{Format}
+use Rattle.vt_recording.specs.declared.format.Format.TheVariants as format
+use Rattle.vt_recording.specs.declared.format.TerminalType.{TerminalType}
+use Rattle.vt_recording.specs.declared.format.TerminalType.TheVariants.{Vt220, Xterm}
+use Rattle.vt_recording.specs.declared.heading.Heading.{Heading}
+use Rattle.vt_recording.specs.Heading.{heading_of}
+use Rattle.vt_replay.specs.declared.host.Host.{Host}
+
+-- the terminal that was asked for, otherwise the one that the recording names, otherwise a VT220. Only a VT220 reads dec
+abbrev pub terminal_for : (wanted : Option TerminalType) → Option Encoding → (named : Option TerminalType) → TerminalType
+terminal_for (Some terminal) encoding named = terminal
+terminal_for None (Some Dec) named = Vt220
+terminal_for None (Some Utf8) named = unwrap_or named Vt220
+terminal_for None None named = unwrap_or named Vt220
+
+-- a VT220's host: in the encoding that was asked for, otherwise in dec, and in a recording by asciinema in UTF-8
+abbrev pub encoding_of : Option Encoding → Format → Encoding
+encoding_of wanted format.Raw = unwrap_or wanted Dec
+encoding_of wanted format.Script = unwrap_or wanted Dec
+encoding_of wanted format.Ttyrec = unwrap_or wanted Dec
+encoding_of wanted format.Asciicast = unwrap_or wanted Utf8
+
+-- an xterm's host sends UTF-8
+abbrev pub encoding_for : TerminalType → (wanted : Option Encoding) → Format → Encoding
+encoding_for Vt220 wanted format = encoding_of wanted format
+encoding_for Xterm wanted format = Utf8
+
+-- the width that was asked for, otherwise the one that the recording names. Any other width than 132 columns is 80
+abbrev pub wide_for : (wanted : Option Bool) → (columns : Option ℕ) → Bool
+wide_for (Some wide) columns = wide
+wide_for None (Some columns) = nat_eq columns 132
+wide_for None None = false
+
+abbrev pub host_for : Request → Format → Heading → Host
+host_for r format heading = record {
+  terminal = terminal_for r.terminal r.encoding heading.terminal;
+  encoding = encoding_for (terminal_for r.terminal r.encoding heading.terminal) r.encoding format;
+  wide = wide_for r.wide heading.columns;
+}
+
+-- for what the host of a recording sent
+abbrev pub host_of : Request → Format → (bytes : List ℕ) → Host
+host_of r format bytes = host_for r format (heading_of format bytes)
+
+-- the host of bytes that no recorder wrote: no line names anything
+abbrev pub plain_host : Request → Host
+plain_host r = host_for r format.Raw (record { terminal = None; columns = None; rows = None })
+
+-- DECCOLM makes the screen 132 columns wide. Under TERM=xterm it has an effect while ?40 is set
+abbrev pub widening : TerminalType → List ℕ
+widening Vt220 = 0x1B ∷ codes "[?3h"
+widening Xterm = 0x1B ∷ codes "[?40h" ++ 0x1B ∷ codes "[?3h" ++ 0x1B ∷ codes "[?40l"
+
+-- the bytes that are played before those of a recording. A trace and a summary are of what the host sent alone
+abbrev pub opening : Word → Host → List ℕ
+opening (Replay what) host = cond host.wide (widening host.terminal) []
+opening Log host = cond host.wide (widening host.terminal) []
+opening Pages host = cond host.wide (widening host.terminal) []
+opening Trace host = []
+opening Summary host = []
+opening Content host = cond host.wide (widening host.terminal) []

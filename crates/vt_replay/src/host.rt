@@ -1,0 +1,121 @@
+//! For what a host sends: the terminal, the encoding and the width, as a request and the first line of a recording give them.
+ghost use Rattle.std.specs.Prelude.{◌≡◌};
+ghost use Rattle.vt_replay.specs.Host.{terminal_for, encoding_of, encoding_for, wide_for, host_for, plain_host, widening, opening};
+
+use vt_cli::{Encoding, Format, Request, TerminalType, Word};
+use vt_recording::Heading;
+
+/// For what a host sends.
+#[derive(Clone, Copy, Debug, PartialEq, Eq)]
+pub struct Host {
+    /// The terminal.
+    pub terminal: TerminalType,
+    /// The encoding.
+    pub encoding: Encoding,
+    /// Whether the screen has 132 columns, and not 80.
+    pub wide: bool,
+}
+
+/// Returns the terminal that was asked for, otherwise the one that the recording names, otherwise a VT220.
+fn terminal_for(
+    wanted: Option<TerminalType>,
+    encoding: Option<Encoding>,
+    named: Option<TerminalType>,
+) -> TerminalType
+    ensures { result ≡ terminal_for wanted encoding named }
+{
+    match wanted {
+        Some(terminal) => terminal,
+        None => match encoding {
+            Some(Encoding::Dec) => TerminalType::Vt220,
+            Some(Encoding::Utf8) => named.unwrap_or(TerminalType::Vt220),
+            None => named.unwrap_or(TerminalType::Vt220),
+        },
+    }
+}
+
+/// Returns the encoding of a VT220's host: the one that was asked for, otherwise dec, and in a recording by asciinema UTF-8.
+fn encoding_of(wanted: Option<Encoding>, format: Format) -> Encoding
+    ensures { result ≡ encoding_of wanted format }
+{
+    match format {
+        Format::Raw => wanted.unwrap_or(Encoding::Dec),
+        Format::Script => wanted.unwrap_or(Encoding::Dec),
+        Format::Ttyrec => wanted.unwrap_or(Encoding::Dec),
+        Format::Asciicast => wanted.unwrap_or(Encoding::Utf8),
+    }
+}
+
+/// Returns the encoding of what a host sends for a terminal.
+fn encoding_for(terminal: TerminalType, wanted: Option<Encoding>, format: Format) -> Encoding
+    ensures { result ≡ encoding_for terminal wanted format }
+{
+    match terminal {
+        TerminalType::Vt220 => encoding_of(wanted, format),
+        TerminalType::Xterm => Encoding::Utf8,
+    }
+}
+
+/// Returns whether the screen has 132 columns: as was asked for, otherwise as the recording names them.
+fn wide_for(wanted: Option<bool>, columns: Option<u32>) -> bool
+    ensures { result ≡ wide_for wanted columns }
+{
+    match wanted {
+        Some(wide) => wide,
+        None => match columns {
+            Some(columns) => columns == 132,
+            None => false,
+        },
+    }
+}
+
+/// Returns for what the host of a recording in a format sent, as a request and the recording's heading give it.
+pub fn host_for(request: &Request, format: Format, heading: Heading) -> Host
+    ensures { result ≡ host_for request.now format heading }
+{
+    let terminal = terminal_for(request.terminal, request.encoding, heading.terminal);
+    Host {
+        terminal,
+        encoding: encoding_for(terminal, request.encoding, format),
+        wide: wide_for(request.wide, heading.columns),
+    }
+}
+
+/// Returns for what the host of bytes sends that no recorder wrote.
+pub(crate) fn plain_host(request: &Request) -> Host
+    ensures { result ≡ plain_host request.now }
+{
+    let heading = Heading {
+        terminal: None,
+        columns: None,
+        rows: None,
+    };
+    host_for(request, Format::Raw, heading)
+}
+
+/// Returns the bytes that make the screen of a terminal 132 columns wide.
+fn widening(terminal: TerminalType) -> &'static [u8]
+    ensures { result.now ≡ widening terminal }
+{
+    match terminal {
+        TerminalType::Vt220 => b"\x1B[?3h",
+        TerminalType::Xterm => b"\x1B[?40h\x1B[?3h\x1B[?40l",
+    }
+}
+
+/// Returns the bytes that are played before those of a recording.
+pub(crate) fn opening(word: Word, host: Host) -> &'static [u8]
+    ensures { result.now ≡ opening word host }
+{
+    if !host.wide {
+        return b"";
+    }
+    match word {
+        Word::Replay(_) => widening(host.terminal),
+        Word::Log => widening(host.terminal),
+        Word::Pages => widening(host.terminal),
+        Word::Trace => b"",
+        Word::Summary => b"",
+        Word::Content => widening(host.terminal),
+    }
+}

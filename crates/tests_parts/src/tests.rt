@@ -4,6 +4,7 @@ mod casts;
 mod common;
 mod detection;
 mod glyphs;
+mod headings;
 mod recordings;
 mod screen;
 mod syntax;

@@ -4,6 +4,7 @@ pub mod Ends
 mod Supplemental
 mod Writing
 mod Texts
+mod Lasts
 mod Casts
 mod Replays
 mod Values

@@ -23,8 +23,12 @@ version_of header =
 abbrev pub is_text : List ℕ → Bool
 is_text line = nat_eq (utf8_valid_len line) (length line)
 
+-- the JSON text that a line is
+abbrev pub document_in : List ℕ → Option Json
+document_in line = cond (is_text line) (document line) None
+
 abbrev pub version_in : List ℕ → Option ℕ
-version_in line = cond (is_text line) (option_and_then version_of (document line)) None
+version_in line = option_and_then version_of (document_in line)
 
 -- ---- an event
 

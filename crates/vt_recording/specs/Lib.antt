@@ -4,6 +4,7 @@ pub mod Content
 pub mod Detection
 pub mod Events
 pub mod Fault
+pub mod Heading
 pub mod Lines
 pub mod Moment
 pub mod Reading

@@ -16,6 +16,10 @@ last_words = 0x0A ∷ codes "Script done on "
 abbrev pub begins_with : List ℕ → List ℕ → Bool
 begins_with words bytes = starts_with nat_eq bytes words
 
+-- what follows these words, if the bytes begin with them
+abbrev pub stripped : (words bytes : List ℕ) → Option (List ℕ)
+stripped words bytes = cond (begins_with words bytes) (Some (drop (length words) bytes)) None
+
 -- the index of the LF that ends the first line, if the bytes begin with such a line
 abbrev pub first_line : List ℕ → Option ℕ
 first_line bytes = cond (begins_with first_words bytes) (position (λ b. nat_eq b 0x0A) bytes) None

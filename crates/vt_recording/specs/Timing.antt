@@ -11,7 +11,7 @@ use Rattle.vt_recording.specs.Moment.{micros_of, cut}
 use Rattle.vt_recording.specs.Lines.{lines_of}
 use Rattle.vt_recording.specs.Seconds.{micros, number}
 use Rattle.vt_recording.specs.Asciicast.{in_time}
-use Rattle.vt_recording.specs.Script.{begins_with, is_joint, EndsAt}
+use Rattle.vt_recording.specs.Script.{begins_with, stripped, is_joint, EndsAt}
 
 -- ---- a line
 
@@ -56,7 +56,7 @@ step_in apart line =
 abbrev pub value_at : Option ℕ → (name text : List ℕ) → Option (List ℕ)
 value_at None name text = None
 value_at (Some at) name text =
-    cond (begins_with name (drop (at + 1) text)) (Some (drop (length name) (drop (at + 1) text))) None
+    stripped name (drop (at + 1) text)
 
 abbrev pub value_in : (name line : List ℕ) → Option (List ℕ)
 value_in name line = cond (begins_with (codes "H ") line) (value_at (space_in (drop 2 line)) name (drop 2 line)) None

@@ -4,7 +4,7 @@ ghost use Rattle.json.specs.Lex.{tokens};
 ghost use Rattle.json.specs.Value.{value_view};
 ghost use Rattle.json.specs.Json.{document};
 ghost use Rattle.json.specs.Reads.{token_of};
-ghost use Rattle.vt_recording.specs.Asciicast.{version_of, version_in, event_of, event_in, is_silent, clock_after, in_time};
+ghost use Rattle.vt_recording.specs.Asciicast.{version_of, document_in, version_in, event_of, event_in, is_silent, clock_after, in_time};
 ghost use Rattle.vt_recording.specs.Asciicast.{begins_array, ends_array, number_in, string_in, event_from, is_text};
 ghost use Rattle.vt_recording.specs.Events.{event_view};
 
@@ -24,13 +24,31 @@ pub(crate) struct Event<'a> {
 }
 
 /// Returns the version that an object names, if it is 2 or 3.
-fn version_of(object: &Value<'_>) -> Option<u64>
+pub(crate) fn version_of(object: &Value<'_>) -> Option<u64>
     ensures { result ≡ version_of (value_view object.now) }
 {
     match object.get("version")?.as_number()? {
         "2" => Some(2),
         "3" => Some(3),
         _ => None,
+    }
+}
+
+/// Returns the JSON text that a line is, if it is one.
+pub(crate) fn document_in<'a>(
+    alloc: Global,
+    line: &'a [u8],
+    scratch: &'a mut Scratch,
+) -> Result<Option<Value<'a>>, AllocError>
+    ensures { IfOk result (λ document. option_map (λ v. value_view v) document ≡ document_in line.entry.now) }
+{
+    let Ok(text) = std::str::from_utf8(line) else {
+        return Ok(None);
+    };
+    match Value::parse(alloc, text, scratch) {
+        Ok(document) => Ok(Some(document)),
+        Err(Error::Invalid) => Ok(None),
+        Err(_) => Err(AllocError),
     }
 }
 
@@ -42,13 +60,10 @@ pub(crate) fn version_in(
 ) -> Result<Option<u64>, AllocError>
     ensures { IfOk result (λ version. version ≡ version_in line.now) }
 {
-    let Ok(text) = std::str::from_utf8(line) else {
-        return Ok(None);
-    };
-    match Value::parse(alloc, text, scratch) {
-        Ok(object) => Ok(version_of(&object)),
-        Err(Error::Invalid) => Ok(None),
-        Err(_) => Err(AllocError),
+    match document_in(alloc, line, scratch) {
+        Ok(Some(object)) => Ok(version_of(&object)),
+        Ok(None) => Ok(None),
+        Err(AllocError) => Err(AllocError),
     }
 }
 

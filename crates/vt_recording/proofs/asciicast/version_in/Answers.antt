@@ -1,6 +1,0 @@
-use Rattle.vt_recording.proofs.Texts.{version_is}
-use Rattle.vt_recording.proofs.asciicast.version_in.Goals as goal
-
-pub returns-in-Ok-parse : goal.returns-in-Ok-parse
-returns-in-Ok-parse c =
-    version_is _ _ _ _ c.in-Ok.ensures.cases.0 c.in-Ok.ensures.cases.1 c.in-Ok-parse.ensures.ok c.version_of.ensures

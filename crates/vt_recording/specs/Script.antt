@@ -1,7 +1,8 @@
 -- A recording by script(1): the content between its first and its last line. (script(1) of util-linux)
 use Rattle.std.specs.Prelude.{◌≡◌, ℕ, ◌+◌, ◌≤◌, ◌<◌, ◌&&◌, ◌||◌, List, [], ◌∷◌, length, take, drop, codes, Bool, true, false, cond}
 use Rattle.std.specs.Prelude.{Option, Some, None, nat_eq}
-use Rattle.std.specs.List.{starts_with, position}
+use Rattle.std.specs.List.{starts_with, ends_with, position}
+use Rattle.vt_recording.specs.Lines.{front_line}
 use Rattle.vt_recording.specs.declared.script.Session.{Session}
 
 -- so the first line begins
@@ -37,14 +38,18 @@ behind_line None bytes = []
 abbrev pub line_feed : List ℕ → Option ℕ
 line_feed bytes = position (λ b. nat_eq b 0x0A) bytes
 
+-- the index of the LF that ends the line here, if script wrote the line: one that a terminal showed ends with CR LF
+abbrev pub own_line : List ℕ → Option ℕ
+own_line bytes = cond (ends_with nat_eq (front_line bytes) (0x0D ∷ [])) None (line_feed bytes)
+
 -- an LF and the last line, which is one line to the end of the file
 abbrev pub is_last_line : List ℕ → Bool
-is_last_line bytes = begins_with last_words bytes && is_last_place (line_feed (drop 1 bytes)) (length (drop 1 bytes))
+is_last_line bytes = begins_with last_words bytes && is_last_place (own_line (drop 1 bytes)) (length (drop 1 bytes))
 
 -- an LF and a last line, and directly after it a first line: here script -a appended a session
 abbrev pub is_joint : List ℕ → Bool
 is_joint bytes =
-    begins_with last_words bytes && begins_with first_words (behind_line (line_feed (drop 1 bytes)) (drop 1 bytes))
+    begins_with last_words bytes && begins_with first_words (behind_line (own_line (drop 1 bytes)) (drop 1 bytes))
 
 abbrev pub is_end : List ℕ → Bool
 is_end bytes = is_last_line bytes || is_joint bytes

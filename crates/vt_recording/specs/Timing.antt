@@ -11,7 +11,7 @@ use Rattle.vt_recording.specs.Moment.{micros_of, cut}
 use Rattle.vt_recording.specs.Lines.{lines_of}
 use Rattle.vt_recording.specs.Seconds.{micros, number}
 use Rattle.vt_recording.specs.Asciicast.{in_time}
-use Rattle.vt_recording.specs.Script.{begins_with, stripped, is_joint, EndsAt}
+use Rattle.vt_recording.specs.Script.{begins_with, stripped, EndsAt}
 
 -- ---- a line
 
@@ -135,25 +135,15 @@ replay session stop until lines = replay_of (is_apart lines) session stop until 
 
 -- ---- a recording with its timing file
 
--- the first of two breaks
-abbrev pub first_break : Option Break → Option Break → Option Break
-first_break None second = second
-first_break (Some place) second = Some place
-
--- a session that `script -a` appended
-abbrev pub joint_at : (body : List ℕ) → (end stop : ℕ) → Option Break
-joint_at body end stop = cond (is_joint (drop end body)) (Some (record { part = part.Recording; at = stop })) None
-
--- what was taken: of the session, which is between the first line and the last one, what the timing file says
+-- what was taken: of the session, which is between the first line and the last one, what the timing file says. A session
+-- that `script -a` appended ends it, too, and breaks nothing unless the counts go on there
 pub record IsReplayed (until : Option Moment) (body timing : List ℕ) (from : ℕ) (content : List ℕ)
     (broken : Option Break) : Type 0 where
   pub end : ℕ
   pub ends : EndsAt body end
   pub wanted : content
       ≡ cut until (replay (take end body) (from + end) (micros_of until) (lines_of timing)).content
-  pub breaks : broken
-      ≡ first_break (replay (take end body) (from + end) (micros_of until) (lines_of timing)).broken
-      (joint_at body end (from + end))
+  pub breaks : broken ≡ (replay (take end body) (from + end) (micros_of until) (lines_of timing)).broken
 
 -- by the place of the LF of the first line
 abbrev pub IsTimedAfter : Option ℕ → (until : Option Moment) → (bytes timing content : List ℕ)

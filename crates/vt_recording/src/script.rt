@@ -1,7 +1,9 @@
 //! A recording by script(1).
 ghost use Rattle.std.specs.Prelude.{◌≡◌, ◌<◌, length, cond, IfNone, IfSome, None, Some};
-ghost use Rattle.vt_recording.specs.Script.{begins_with, first_words, first_line, line_feed, is_last_place, behind_line};
+ghost use Rattle.vt_recording.specs.Script.{begins_with, first_words, first_line, line_feed, own_line, is_last_place, behind_line};
 ghost use Rattle.vt_recording.specs.Script.{is_joint, is_end, EndsAt, IsSession};
+
+use crate::lines::front_line;
 
 /// The beginning of a first line.
 pub(crate) const FIRST_WORDS: &[u8] = b"Script started on ";
@@ -29,21 +31,34 @@ fn first_line(bytes: &[u8]) -> Option<usize>
     }
 }
 
-/// Returns whether there is exactly one line.
-fn is_line(bytes: &[u8]) -> bool
-    ensures { result ≡ is_last_place (line_feed bytes.now) (length bytes.now) }
+/// Returns the index of the LF that ends the first of these lines, if script wrote it. A line that a terminal showed ends with
+/// CR LF.
+fn own_line(bytes: &[u8]) -> Option<usize>
+    ensures value { result ≡ own_line bytes.now }
+    ensures within { IfSome result (λ at. at < length bytes.now) }
 {
-    match line_feed(bytes) {
+    if front_line(bytes).ends_with(b"\r") {
+        None
+    } else {
+        line_feed(bytes)
+    }
+}
+
+/// Returns whether there is exactly one line, and script wrote it.
+fn is_line(bytes: &[u8]) -> bool
+    ensures { result ≡ is_last_place (own_line bytes.now) (length bytes.now) }
+{
+    match own_line(bytes) {
         Some(at) => at + 1 == bytes.len(),
         None => false,
     }
 }
 
-/// Returns whether another first line follows the first line of these bytes.
+/// Returns whether a line of script begins these bytes, and the words of a first line follow it.
 fn goes_on(bytes: &[u8]) -> bool
-    ensures { result ≡ begins_with first_words (behind_line (line_feed bytes.now) bytes.now) }
+    ensures { result ≡ begins_with first_words (behind_line (own_line bytes.now) bytes.now) }
 {
-    match line_feed(bytes) {
+    match own_line(bytes) {
         Some(at) => bytes[at + 1..].starts_with(FIRST_WORDS),
         None => false,
     }

@@ -18,9 +18,9 @@ use std::alloc::{AllocError, Global};
 /// has their bytes in the encoding. A recording breaks its format:
 ///
 /// - of script, at byte 0 if it has no first line
-/// - of script, at the LF before the line between two sessions, if `script -a` appended a session
+/// - of script without a timing file, at the LF before the line between two sessions, if `script -a` appended a session
 /// - of script, at a line of the timing file that isn't one
-/// - of script, at the end of its session if the timing file has more bytes
+/// - of script, at the end of its first session if the timing file has more bytes
 /// - of ttyrec, at the first frame that is cut short
 /// - of asciinema, at byte 0 if the first line has no version, and at a line that is no event
 ///

@@ -5,7 +5,7 @@ ghost use Rattle.vt_recording.specs.Script.{first_line};
 ghost use Rattle.vt_recording.specs.Lines.{lines_of};
 ghost use Rattle.vt_recording.specs.Moment.{micros_of};
 ghost use Rattle.vt_recording.specs.Timing.{space_in, chunk_in, note_in, input_in, step_in, break_in, spot_after, played_in};
-ghost use Rattle.vt_recording.specs.Timing.{is_empty, value_in, value_of, is_apart, replay, first_break};
+ghost use Rattle.vt_recording.specs.Timing.{is_empty, value_in, value_of, is_apart, replay};
 ghost use Rattle.vt_recording.specs.Timing.{IsTimedAfter};
 ghost use Rattle.vt_recording.specs.Steps.{step_view, spot_of};
 
@@ -216,16 +216,6 @@ fn play_lines(
     Ok((replay.content, None))
 }
 
-/// Returns the first of two breaks.
-fn first_break(first: Option<Break>, second: Option<Break>) -> Option<Break>
-    ensures { result ≡ first_break first second }
-{
-    match first {
-        None => second,
-        Some(place) => Some(place),
-    }
-}
-
 /// Returns the content that a timing file takes from a recording.
 pub(crate) fn timed_content(
     alloc: Global,
@@ -249,7 +239,7 @@ pub(crate) fn timed_content(
     let (content, broken) = play_lines(timing, output, micros_of(until), stop, content)?;
     Ok(Taken {
         content: cut(until, content),
-        broken: first_break(broken, in_recording(session.joint)),
+        broken,
         replaced: 0,
     })
 }

@@ -1,6 +1,6 @@
 //! Recordings written by hand, with the content that they have, and runs from end to end.
 use super::common::holds;
-use super::taking_apart::{Row, are_taken_apart};
+use super::taking_apart::{Row, SHOWN, SHOWN_CONTENT, are_taken_apart};
 use std::alloc::{AllocError, Global};
 use vt_recording::{
     Break, Content, Encoding, Fault, Format, Moment, Part, Source, Watched, read_recording,
@@ -98,6 +98,45 @@ $ ls\r\na\r\n\nScript done on 2026-11-22 10:00:01+00:00 [COMMAND_EXIT_CODE=\"0\"
             part: Part::Recording,
             at: 21,
         }),
+        0,
+    ),
+    // The words of the first line of a session suffice.
+    (
+        b"Script started on x\na\nScript done on y\nScript started on ",
+        None,
+        None,
+        b"a",
+        Some(Break {
+            part: Part::Recording,
+            at: 21,
+        }),
+        0,
+    ),
+    // A terminal showed the lines of another recording, with CR LF.
+    (SHOWN, None, None, SHOWN_CONTENT, None, 0),
+    (
+        b"Script started on x\na\r\nScript done on y\r\n",
+        None,
+        None,
+        b"a\r\nScript done on y\r\n",
+        None,
+        0,
+    ),
+    // The LF before a last line isn't that of the first line.
+    (
+        b"Script started on x\nScript done on y\n",
+        None,
+        None,
+        b"Script done on y\n",
+        None,
+        0,
+    ),
+    (
+        b"Script started on x\n\nScript done on y\n",
+        None,
+        None,
+        b"",
+        None,
         0,
     ),
     // Lines in another language.

@@ -13,6 +13,34 @@ pub(super) type Row = (
     u64,
 );
 
+/// A session that showed a recording to which `script -a` had appended a session, as `script` of util-linux 2.38.1 wrote it.
+pub(super) const SHOWN: &[u8] =
+    b"Script started on 2026-11-27 17:12:29+00:00 [COMMAND=\"echo before; cat in.ts; echo AFTER\" <not executed on terminal>]\n\
+before\r\n\
+Script started on 2026-11-27 17:12:29+00:00 [COMMAND=\"echo one\" <not executed on terminal>]\r\n\
+one\r\r\n\
+\r\n\
+Script done on 2026-11-27 17:12:29+00:00 [COMMAND_EXIT_CODE=\"0\"]\r\n\
+Script started on 2026-11-27 17:12:29+00:00 [COMMAND=\"echo two\" <not executed on terminal>]\r\n\
+two\r\r\n\
+\r\n\
+Script done on 2026-11-27 17:12:29+00:00 [COMMAND_EXIT_CODE=\"0\"]\r\n\
+AFTER\r\n\
+\n\
+Script done on 2026-11-27 17:12:29+00:00 [COMMAND_EXIT_CODE=\"0\"]\n";
+
+/// What `scriptreplay` plays of it.
+pub(super) const SHOWN_CONTENT: &[u8] = b"before\r\n\
+Script started on 2026-11-27 17:12:29+00:00 [COMMAND=\"echo one\" <not executed on terminal>]\r\n\
+one\r\r\n\
+\r\n\
+Script done on 2026-11-27 17:12:29+00:00 [COMMAND_EXIT_CODE=\"0\"]\r\n\
+Script started on 2026-11-27 17:12:29+00:00 [COMMAND=\"echo two\" <not executed on terminal>]\r\n\
+two\r\r\n\
+\r\n\
+Script done on 2026-11-27 17:12:29+00:00 [COMMAND_EXIT_CODE=\"0\"]\r\n\
+AFTER\r\n";
+
 /// Returns whether a recording is taken apart as its row says.
 fn is_taken_apart(
     alloc: Global,

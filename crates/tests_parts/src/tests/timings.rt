@@ -1,6 +1,6 @@
 //! Recordings by script(1) with a timing file, written by hand, with the content that they have.
 use super::common::holds;
-use super::taking_apart::{Row, are_taken_apart};
+use super::taking_apart::{Row, SHOWN, SHOWN_CONTENT, are_taken_apart};
 use vt_recording::{Break, Encoding, Format, Moment, Part};
 
 /// A session of ten bytes, which ends at byte 30.
@@ -74,6 +74,16 @@ const APPENDED: &[u8] =
     b"Script started on x\na\nScript done on y\nScript started on z\nb\nScript done on z\n";
 
 const SESSIONS: &[Row] = &[
+    // The counts end with the first session.
+    (APPENDED, Some(b"0.1 1\n"), None, b"a", None, 0),
+    (
+        SHOWN,
+        Some(b"0.010168 8\n0.004030 334\n0.003107 7\n"),
+        None,
+        SHOWN_CONTENT,
+        None,
+        0,
+    ),
     (SESSION, Some(CLASSIC), None, b"one\r\ntwo\r\n", None, 0),
     (
         SESSION,
@@ -297,17 +307,6 @@ const BREAKS: &[Row] = &[
         Some(Break {
             part: Part::Recording,
             at: 0,
-        }),
-        0,
-    ),
-    (
-        APPENDED,
-        Some(b"0.1 1\n"),
-        None,
-        b"a",
-        Some(Break {
-            part: Part::Recording,
-            at: 21,
         }),
         0,
     ),

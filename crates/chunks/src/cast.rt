@@ -3,7 +3,7 @@
 use crate::smallest::{Property, smallest};
 use std::alloc::{AllocError, Global};
 use std::io;
-use vt_recording::{Encoding, Format, Moment, Taken, take_apart};
+use vt_recording::{Encoding, Format, Moment, Taken, json_text, take_apart};
 
 /// An event that comes no time after the one before it, in version 3, and writes one byte.
 const AT_ONCE: &[u8] = b"[0, \"o\", \"x\"]\n";
@@ -119,7 +119,9 @@ pub(crate) fn line_length(bytes: &[u8]) -> usize {
 
 /// Lists the chunks of a recording by asciinema.
 pub(crate) fn list_cast(rt: &(impl Print + AllocGlobal), recording: &[u8]) -> io::Result<()> {
-    let mut at = line_length(recording);
+    let text = json_text(recording);
+    let start = recording.len().saturating_sub(text.len());
+    let mut at = start.saturating_add(line_length(text));
     let header = &recording[..at.min(recording.len())];
     let Some(mut lines) = Lines::after(rt.alloc(), header)? else {
         return println!(rt; "broken 0");

@@ -1,5 +1,5 @@
 -- The lines of a recording by asciinema, one after another.
-use Rattle.std.proofs.Common.{◌≡◌, ◌+◌, ◌≤◌, ◌++◌, ◌∷◌, ◌∙◌, [], ℕ, suc, List, length, take, drop, Bool, true, false, Option, Some, None, cond, refl, sym, ap, arith, append-nil, append_assoc, nat_eq, nat_lt}
+use Rattle.std.proofs.Common.{◌≡◌, ◌+◌, ◌-◌, ◌≤◌, ◌++◌, ◌∷◌, ◌∙◌, [], ℕ, suc, List, length, take, drop, Bool, true, false, Option, Some, None, cond, refl, sym, ap, arith, append-nil, append_assoc, length-drop, nat_eq, nat_le, nat_lt}
 use Rattle.std.specs.List.{position_or_len}
 use Rattle.std.proofs.lemmas.List.{length-take-le, take_all, drop_all, drop-drop}
 use Rattle.std.proofs.lemmas.Bool.Decides.{nat_tests}
@@ -12,7 +12,7 @@ use Rattle.vt_recording.specs.Characters.{AreWritten}
 use Rattle.vt_recording.specs.declared.format.Break.{Break}
 use Rattle.vt_recording.specs.Taken.{IsOfCast, in_recording}
 use Rattle.vt_recording.specs.Lines.{lines_of, put_before, front_by, front_line}
-use Rattle.vt_recording.specs.Asciicast.{Cast, after, and_then, time_behind, heard_in, is_silent, event_in, cast_of, cast_by, asciicast, version_in, Event}
+use Rattle.vt_recording.specs.Asciicast.{Cast, after, and_then, time_behind, heard_in, is_silent, event_in, cast_of, cast_by, cast_from, asciicast, version_in, trimmed, json_text, start_of, Event}
 
 -- the place of the first LF, or the length
 abbrev pub feed_at : List ℕ → ℕ
@@ -177,43 +177,71 @@ unfolding cast_of lines_of
 by_version None until at = refl
 by_version (Some version) until at = refl
 
-cut_header : (until : Option ℕ) (xs : List ℕ) (n : ℕ) (is : Bool) → nat_lt n (length xs) ≡ is
-    → asciicast until (cut_at (place n (length xs)) xs)
-    ≡ cast_by (version_in (front_by (place n (length xs)) xs)) until (length (front_by (place n (length xs)) xs) + 1)
+cut_header : (until : Option ℕ) (start : ℕ) (xs : List ℕ) (n : ℕ) (is : Bool) → nat_lt n (length xs) ≡ is
+    → cast_from until start (cut_at (place n (length xs)) xs)
+    ≡ cast_by (version_in (front_by (place n (length xs)) xs)) until (start + (length (front_by (place n (length xs)) xs) + 1))
     (lines_of (drop (length (front_by (place n (length xs)) xs) + 1) xs))
-cut_header until xs n false is =
+cut_header until start xs n false is =
     let all : drop (length xs + 1) xs ≡ [] = drop_all (length xs + 1) xs (omega arith) in
-    rw is (by_version (version_in xs) until (length xs + 1)
-    ∙ ap (λ (l : List ℕ). cast_by (version_in xs) until (length xs + 1) (lines_of l)) (sym all))
-cut_header until xs n true is =
+    rw is (by_version (version_in xs) until (start + (length xs + 1))
+    ∙ ap (λ (l : List ℕ). cast_by (version_in xs) until (start + (length xs + 1)) (lines_of l)) (sym all))
+cut_header until start xs n true is =
     let small : n ≤ length xs = grind (arith, nat_tests, is) in
     rw (is, length-take-le n xs small) refl
 
-pub of_header : (until : Option ℕ) (xs : List ℕ)
-    → asciicast until (lines_of xs)
-    ≡ cast_by (version_in (front_line xs)) until (length (front_line xs) + 1)
+of_header : (until : Option ℕ) (start : ℕ) (xs : List ℕ)
+    → cast_from until start (lines_of xs)
+    ≡ cast_by (version_in (front_line xs)) until (start + (length (front_line xs) + 1))
     (lines_of (drop (length (front_line xs) + 1) xs))
-of_header until xs = ap (asciicast until) (lines_cut xs) ∙ cut_header until xs (feed_at xs) _ refl
+of_header until start xs = ap (cast_from until start) (lines_cut xs) ∙ cut_header until start xs (feed_at xs) _ refl
 
-module _ (encoding : Encoding) (until : Option Moment) (text header content : List ℕ) (broken : Option Break) (replaced : ℕ)
-    (is : header ≡ front_line text) where
+-- an end of a list, by its length
+end_at : (count : ℕ) (xs : List ℕ) (is : Bool) → nat_le count (length xs) ≡ is
+    → drop (length xs - length (drop count xs)) xs ≡ drop count xs
+end_at count xs true is =
+    let small : count ≤ length xs = grind (arith, nat_tests, is) in
+    let same : length xs - (length xs - count) ≡ count = omega (arith, small) in
+    let whole : length (drop count xs) ≡ length xs - count = length-drop count xs in
+    rw whole (ap (λ n. drop n xs) same)
+end_at count xs false is =
+    let great : length xs ≤ count = grind (arith, nat_tests, is) in
+    let none : drop count xs ≡ [] = drop_all count xs great in
+    rw none (drop_all (length xs - 0) xs (omega arith))
+
+end_by : (xs end : List ℕ) (count : ℕ) → end ≡ drop count xs → drop (length xs - length end) xs ≡ end
+end_by xs end count e = rw e (end_at count xs _ refl)
+
+text_after : (mark : Bool) (bytes : List ℕ)
+    → drop (length bytes - length (trimmed (cond mark (drop 3 bytes) bytes))) bytes ≡ trimmed (cond mark (drop 3 bytes) bytes)
+text_after false bytes = end_by bytes (trimmed bytes) _ refl
+text_after true bytes = end_by bytes (trimmed (drop 3 bytes)) _ (drop-drop _ 3 bytes)
+
+text_at : (bytes : List ℕ) → drop (start_of bytes) bytes ≡ json_text bytes
+text_at bytes = text_after _ bytes
+
+module _ (encoding : Encoding) (until : Option Moment) (bytes header content : List ℕ) (broken : Option Break) (replaced from : ℕ)
+    (is : header ≡ front_line (json_text bytes)) (follows : from ≡ start_of bytes + (length header + 1)) where
+  behind_header : drop (length header + 1) (json_text bytes) ≡ drop from bytes
+  behind_header =
+      ap (drop (length header + 1)) (sym (text_at bytes)) ∙ drop-drop (length header + 1) (start_of bytes) bytes
+      ∙ ap (λ n. drop n bytes) (sym follows)
+
   by_header : (version : Option ℕ) → version ≡ version_in header
-      → asciicast (micros_of until) (lines_of text)
-      ≡ cast_by version (micros_of until) (length header + 1) (lines_of (drop (length header + 1) text))
-  by_header version v = rw (v, is) (of_header (micros_of until) text)
+      → asciicast (micros_of until) bytes ≡ cast_by version (micros_of until) from (lines_of (drop from bytes))
+  by_header version v = rw (v, ← behind_header, follows, is) (of_header (micros_of until) (start_of bytes) (json_text bytes))
 
   pub taken_none : None ≡ version_in header → content ≡ [] → replaced ≡ 0 → broken ≡ in_recording (Some 0)
-      → IsOfCast (asciicast (micros_of until) (lines_of text)) encoding until content broken replaced
+      → IsOfCast (asciicast (micros_of until) bytes) encoding until content broken replaced
   taken_none v c r b = rw (by_header None v) (record {
     wanted = rw (c, r) (nothing_written encoding until);
     breaks = b;
   })
 
   pub taken_some : (version : ℕ) (at : Option ℕ) → Some version ≡ version_in header
-      → at ≡ (cast_of version (micros_of until) 0 (length header + 1) (lines_of (drop (length header + 1) text))).broken
-      → AreWritten encoding until (cast_of version (micros_of until) 0 (length header + 1) (lines_of (drop (length header + 1) text))).characters content replaced
+      → at ≡ (cast_of version (micros_of until) 0 from (lines_of (drop from bytes))).broken
+      → AreWritten encoding until (cast_of version (micros_of until) 0 from (lines_of (drop from bytes))).characters content replaced
       → broken ≡ in_recording at
-      → IsOfCast (asciicast (micros_of until) (lines_of text)) encoding until content broken replaced
+      → IsOfCast (asciicast (micros_of until) bytes) encoding until content broken replaced
   taken_some version at v b w is_at = rw (by_header (Some version) v) (record {
     wanted = w;
     breaks = is_at ∙ ap in_recording b;

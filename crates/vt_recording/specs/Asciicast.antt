@@ -1,14 +1,33 @@
 -- A recording by asciinema: a line with an object, and events, one a line. (the formats asciicast 2 and 3)
-use Rattle.std.specs.Prelude.{ℕ, ◌+◌, ◌∷◌, [], ◌++◌, ◌^◌, ◌-◌, ◌||◌, ◌&&◌, min, List, length, Bool, true, false, cond, codes, chars}
+use Rattle.std.specs.Prelude.{ℕ, ◌+◌, ◌∷◌, [], ◌++◌, ◌^◌, ◌-◌, ◌||◌, ◌&&◌, min, List, length, drop, Bool, true, false, cond, codes, chars}
 use Rattle.std.specs.Prelude.{Option, Some, None, option_map, option_and_then, nat_eq, nat_le, bytes_eq}
-use Rattle.std.specs.List.{starts_with}
+use Rattle.std.specs.List.{starts_with, prefix_len}
 use Rattle.std.specs.Str.Lossy.{utf8_valid_len}
+use Rattle.std.specs.Char.{is_ascii_whitespace}
 use Rattle.json.specs.Token.{Token}
 use Rattle.json.specs.Token as token
 use Rattle.json.specs.Lex.{tokens}
 use Rattle.json.specs.Json.{Json, document}
 use Rattle.json.specs.Find.{get, as_number}
+use Rattle.vt_recording.specs.Lines.{lines_of}
+use Rattle.vt_recording.specs.Script.{begins_with}
 use Rattle.vt_recording.specs.Seconds.{micros_of_number}
+
+-- ---- the beginning
+
+abbrev pub trimmed : List ℕ → List ℕ
+trimmed text = drop (prefix_len is_ascii_whitespace text) text
+
+abbrev pub without_mark : List ℕ → List ℕ
+without_mark bytes = cond (begins_with (0xEF ∷ 0xBB ∷ 0xBF ∷ []) bytes) (drop 3 bytes) bytes
+
+-- what follows a byte order mark of UTF-8 and white space, if there are any
+abbrev pub json_text : List ℕ → List ℕ
+json_text bytes = trimmed (without_mark bytes)
+
+-- how many bytes come before it
+abbrev pub start_of : List ℕ → ℕ
+start_of bytes = length bytes - length (json_text bytes)
 
 -- ---- the first line
 
@@ -123,7 +142,11 @@ abbrev pub cast_by : (version : Option ℕ) → (until : Option ℕ) → (at : �
 cast_by None until at lines = record { characters = []; broken = Some 0 }
 cast_by (Some version) until at lines = cast_of version until 0 at lines
 
--- a recording, by its lines
-abbrev pub asciicast : (until : Option ℕ) → List (List ℕ) → Cast
-asciicast until [] = record { characters = []; broken = Some 0 }
-asciicast until (header ∷ lines) = cast_by (version_in header) until (length header + 1) lines
+-- the lines starting at a byte
+abbrev pub cast_from : (until : Option ℕ) → (start : ℕ) → List (List ℕ) → Cast
+cast_from until start [] = record { characters = []; broken = Some 0 }
+cast_from until start (header ∷ lines) = cast_by (version_in header) until (start + (length header + 1)) lines
+
+-- a recording
+abbrev pub asciicast : (until : Option ℕ) → (bytes : List ℕ) → Cast
+asciicast until bytes = cast_from until (start_of bytes) (lines_of (json_text bytes))

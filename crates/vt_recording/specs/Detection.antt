@@ -2,20 +2,16 @@
 -- Zstandard: RFC 8878; the .xz file format; bzip2)
 use Rattle.std.specs.Prelude.{ℕ, ◌+◌, ◌&&◌, ◌||◌, List, [], ◌∷◌, length, drop, codes, Bool, false, cond, nat_le, nat_lt}
 use Rattle.std.specs.Prelude.{Option, Some, None, option_and_then}
-use Rattle.std.specs.List.{prefix_len}
-use Rattle.std.specs.Char.{is_ascii_whitespace}
 use Rattle.vt_recording.specs.declared.detection.Detected.{Detected}
 use Rattle.vt_recording.specs.declared.detection.Detected.TheVariants.{Recording, Compressed}
 use Rattle.vt_recording.specs.declared.detection.Compression.TheVariants.{Gzip, Zstd, Xz, Bzip2}
 use Rattle.vt_recording.specs.declared.format.Format.TheVariants.{Raw, Script, Ttyrec, Asciicast}
 use Rattle.vt_recording.specs.Lines.{front_line}
 use Rattle.vt_recording.specs.Script.{begins_with, first_words}
+use Rattle.vt_recording.specs.Asciicast.{trimmed, json_text}
 use Rattle.vt_recording.specs.Ttyrec.{number_at, time_of, size_of}
 
 -- ---- asciicast: an object that names its version, 1, 2 or 3
-
-abbrev pub trimmed : List ℕ → List ℕ
-trimmed text = drop (prefix_len is_ascii_whitespace text) text
 
 -- what follows a token and white space
 abbrev pub after : (token text : List ℕ) → Option (List ℕ)
@@ -38,11 +34,8 @@ abbrev pub is_object : Option (List ℕ) → Bool
 is_object (Some members) = has_version (front_line members)
 is_object None = false
 
-abbrev pub without_mark : List ℕ → List ℕ
-without_mark bytes = cond (begins_with (0xEF ∷ 0xBB ∷ 0xBF ∷ []) bytes) (drop 3 bytes) bytes
-
 abbrev pub is_asciicast : List ℕ → Bool
-is_asciicast bytes = is_object (after (codes "{") (trimmed (without_mark bytes)))
+is_asciicast bytes = is_object (after (codes "{") (json_text bytes))
 
 -- ---- ttyrec: a header of a frame that has bytes, and after the frame, if it ends here, another header, not earlier
 

@@ -15,7 +15,7 @@ use Rattle.vt_recording.specs.declared.heading.Heading.{Heading}
 use Rattle.vt_recording.specs.Lines.{front_line}
 use Rattle.vt_recording.specs.Script.{begins_with, first_words, stripped}
 use Rattle.vt_recording.specs.Seconds.{number}
-use Rattle.vt_recording.specs.Asciicast.{document_in, version_of}
+use Rattle.vt_recording.specs.Asciicast.{json_text, document_in, version_of}
 
 abbrev pub nothing : Heading
 nothing = record { terminal = None; columns = None; rows = None }
@@ -110,4 +110,4 @@ abbrev pub heading_of : Format → List ℕ → Heading
 heading_of format.Raw bytes = nothing
 heading_of format.Script bytes = in_line (front_line bytes)
 heading_of format.Ttyrec bytes = nothing
-heading_of format.Asciicast bytes = in_document (document_in (front_line bytes))
+heading_of format.Asciicast bytes = in_document (document_in (front_line (json_text bytes)))

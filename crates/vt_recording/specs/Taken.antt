@@ -10,7 +10,6 @@ use Rattle.vt_recording.specs.Moment.{micros_of, cut}
 use Rattle.vt_recording.specs.Script.{IsOfScript, first_line}
 use Rattle.vt_recording.specs.Timing.{IsTimedAfter}
 use Rattle.vt_recording.specs.Ttyrec.{IsOfTtyrec}
-use Rattle.vt_recording.specs.Lines.{lines_of}
 use Rattle.vt_recording.specs.Asciicast.{Cast, asciicast}
 use Rattle.vt_recording.specs.Characters.{AreWritten}
 
@@ -53,4 +52,4 @@ IsTaken format.Script encoding until timing bytes content broken replaced =
 IsTaken format.Ttyrec encoding until timing bytes content broken replaced =
     IsOfBytes (λ whole at. IsOfTtyrec (micros_of until) bytes whole at) until content broken replaced
 IsTaken format.Asciicast encoding until timing bytes content broken replaced =
-    IsOfCast (asciicast (micros_of until) (lines_of bytes)) encoding until content broken replaced
+    IsOfCast (asciicast (micros_of until) bytes) encoding until content broken replaced

@@ -4,13 +4,42 @@ ghost use Rattle.json.specs.Lex.{tokens};
 ghost use Rattle.json.specs.Value.{value_view};
 ghost use Rattle.json.specs.Json.{document};
 ghost use Rattle.json.specs.Reads.{token_of};
-ghost use Rattle.vt_recording.specs.Asciicast.{version_of, document_in, version_in, event_of, event_in, is_silent, clock_after, in_time};
+ghost use Rattle.vt_recording.specs.Asciicast.{trimmed, without_mark, json_text, version_of, document_in, version_in, event_of, event_in, is_silent, clock_after, in_time};
 ghost use Rattle.vt_recording.specs.Asciicast.{begins_array, ends_array, number_in, string_in, event_from, is_text};
 ghost use Rattle.vt_recording.specs.Events.{event_view};
 
 use crate::seconds::micros_of_number;
 use json::{Error, Reader, Scratch, Token, Value};
 use std::alloc::{AllocError, Global};
+
+/// UTF-8's byte order mark.
+const BYTE_ORDER_MARK: &[u8] = b"\xEF\xBB\xBF";
+
+/// Returns the text without the white space at its front.
+pub(crate) fn trimmed(text: &[u8]) -> &[u8]
+    ensures { result.now ≡ trimmed text.now }
+{
+    text.trim_ascii_start()
+}
+
+/// Returns the bytes after a byte order mark, if they begin with one.
+fn without_mark(bytes: &[u8]) -> &[u8]
+    ensures { result.now ≡ without_mark bytes.now }
+{
+    if bytes.starts_with(BYTE_ORDER_MARK) {
+        &bytes[BYTE_ORDER_MARK.len()..]
+    } else {
+        bytes
+    }
+}
+
+/// Returns what follows a byte order mark of UTF-8 and white space, if there are any: the JSON text of a recording by asciinema.
+pub fn json_text(bytes: &[u8]) -> &[u8]
+    ensures text { result.now ≡ json_text bytes.now }
+    ensures within { length result.now ≤ length bytes.now }
+{
+    trimmed(without_mark(bytes))
+}
 
 /// An event of a recording.
 #[derive(Drop)]

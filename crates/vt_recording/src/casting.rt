@@ -6,7 +6,7 @@ ghost use Rattle.vt_recording.specs.Lines.{lines_of};
 ghost use Rattle.vt_recording.specs.Asciicast.{is_silent, event_in, time_behind, heard_in, cast_of, asciicast};
 ghost use Rattle.vt_recording.specs.Taken.{IsOfCast, in_recording};
 
-use crate::asciicast::{clock_after, event_in, in_time, is_silent, version_in};
+use crate::asciicast::{clock_after, event_in, in_time, is_silent, json_text, version_in};
 use crate::characters::Written;
 use crate::format::{Encoding, Moment, Taken};
 use crate::lines::front_line;
@@ -89,15 +89,16 @@ pub(crate) fn asciicast_content(
     encoding: Encoding,
     until: Option<Moment>,
 ) -> Result<Taken, AllocError>
-    ensures { IfOk result (λ t. IsOfCast (asciicast (micros_of until) (lines_of bytes.now)) encoding until t.content.items t.broken t.replaced) }
+    ensures { IfOk result (λ t. IsOfCast (asciicast (micros_of until) bytes.now) encoding until t.content.items t.broken t.replaced) }
 {
     let mut scratch = Scratch::new(alloc);
     let mut written = Written::with_capacity(alloc, bytes.len())?;
-    let header = front_line(bytes);
+    let text = json_text(bytes);
+    let header = front_line(text);
     let Some(version) = version_in(alloc, header, &mut scratch)? else {
         return Ok(taken_of(written, Some(0)));
     };
-    let from = header.len() + 1;
+    let from = bytes.len() - text.len() + header.len() + 1;
     let broken = play_lines(
         bytes,
         from,

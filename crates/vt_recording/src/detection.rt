@@ -1,8 +1,9 @@
 //! The format that the beginning of a file shows.
 ghost use Rattle.std.specs.Prelude.{◌≡◌, ◌≤◌, length, option_map, true};
-ghost use Rattle.vt_recording.specs.Detection.{trimmed, after, is_version, begins_version, has_version};
-ghost use Rattle.vt_recording.specs.Detection.{without_mark, is_asciicast, is_header, goes_on, is_ttyrec, is_bzip2, detected};
+ghost use Rattle.vt_recording.specs.Detection.{after, is_version, begins_version, has_version};
+ghost use Rattle.vt_recording.specs.Detection.{is_asciicast, is_header, goes_on, is_ttyrec, is_bzip2, detected};
 
+use crate::asciicast::{json_text, trimmed};
 use crate::format::Format;
 use crate::lines::{behind, front_line, stripped};
 use crate::script::FIRST_WORDS;
@@ -13,9 +14,6 @@ const LONGEST_FRAME: usize = 0x1_0000;
 
 /// The number of first bytes that suffices for [`detect`]: a ttyrec's longest frame, with its header and the next.
 pub const DETECTION_LENGTH: usize = HEADER + LONGEST_FRAME + HEADER;
-
-/// UTF-8's byte order mark.
-const BYTE_ORDER_MARK: &[u8] = b"\xEF\xBB\xBF";
 
 /// The format of a compressed file.
 #[derive(Clone, Copy, Debug, PartialEq, Eq)]
@@ -37,13 +35,6 @@ pub enum Detected {
     Recording(Format),
     /// A compressed file.
     Compressed(Compression),
-}
-
-/// Returns the text without the white space at its front.
-fn trimmed(text: &[u8]) -> &[u8]
-    ensures { result.now ≡ trimmed text.now }
-{
-    text.trim_ascii_start()
 }
 
 /// Returns the text after a token and white space, if it begins with the token.
@@ -91,22 +82,11 @@ fn has_version(text: &[u8]) -> bool
     false
 }
 
-/// Returns the bytes after a byte order mark, if they begin with one.
-fn without_mark(bytes: &[u8]) -> &[u8]
-    ensures { result.now ≡ without_mark bytes.now }
-{
-    if bytes.starts_with(BYTE_ORDER_MARK) {
-        &bytes[BYTE_ORDER_MARK.len()..]
-    } else {
-        bytes
-    }
-}
-
 /// Returns whether the bytes begin an object that names its version on the line of its first member.
 fn is_asciicast(bytes: &[u8]) -> bool
     ensures { result ≡ is_asciicast bytes.now }
 {
-    match after(b"{", trimmed(without_mark(bytes))) {
+    match after(b"{", json_text(bytes)) {
         Some(members) => has_version(front_line(members)),
         None => false,
     }

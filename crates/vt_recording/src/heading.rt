@@ -5,7 +5,7 @@ ghost use Rattle.vt_recording.specs.Asciicast.{document_in};
 ghost use Rattle.vt_recording.specs.Heading.{begins_with_digit, is_vt, terminal_of, count_of, inner, text_of, number_of, by_term};
 ghost use Rattle.vt_recording.specs.Heading.{by_env, in_header, in_document, after_last, quote_in, up_to_quote, fact, in_line, heading_of};
 
-use crate::asciicast::{document_in, version_of};
+use crate::asciicast::{document_in, json_text, version_of};
 use crate::format::{Format, TerminalType};
 use crate::lines::{front_line, stripped};
 use crate::script::FIRST_WORDS;
@@ -206,6 +206,6 @@ pub fn heading_of(alloc: Global, bytes: &[u8], format: Format) -> Result<Heading
         Format::Raw => Ok(NOTHING),
         Format::Script => Ok(in_line(front_line(bytes))),
         Format::Ttyrec => Ok(NOTHING),
-        Format::Asciicast => in_cast(alloc, front_line(bytes)),
+        Format::Asciicast => in_cast(alloc, front_line(json_text(bytes))),
     }
 }

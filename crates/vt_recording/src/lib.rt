@@ -19,6 +19,7 @@ mod taking;
 mod timing;
 mod ttyrec;
 
+pub use asciicast::json_text;
 pub use content::Content;
 pub use detection::{Compression, DETECTION_LENGTH, Detected, detect};
 pub use fault::Fault;

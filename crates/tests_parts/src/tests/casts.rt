@@ -1,7 +1,7 @@
 //! Recordings by asciinema written by hand, with the content that they have.
 use super::common::holds;
 use super::taking_apart::{Row, are_taken_apart};
-use vt_recording::{Break, Encoding, Format, Moment, Part};
+use vt_recording::{Break, Encoding, Format, Moment, Part, json_text};
 
 /// Three events of version 2.
 const TWO: &[u8] = b"{\"version\":2}\n\
@@ -113,6 +113,63 @@ const LINES: &[Row] = &[
         Some(Moment::Micros(1_234_566)),
         b"",
         None,
+        0,
+    ),
+];
+
+/// Recordings after a byte order mark and white space.
+const LATER: &[Row] = &[
+    (
+        b"\xEF\xBB\xBF{\"version\":2}\n[0,\"o\",\"a\"]\n",
+        None,
+        None,
+        b"a",
+        None,
+        0,
+    ),
+    (
+        b"\r\n \n{\"version\":2}\n[0,\"o\",\"a\"]\nx",
+        None,
+        None,
+        b"a",
+        Some(Break {
+            part: Part::Recording,
+            at: 30,
+        }),
+        0,
+    ),
+    (
+        b"\xEF\xBB\xBF\n\t{\"version\":3}\n[0,\"o\",\"a\"]\nx",
+        None,
+        None,
+        b"a",
+        Some(Break {
+            part: Part::Recording,
+            at: 31,
+        }),
+        0,
+    ),
+    // no header
+    (
+        b"\n[0,\"o\",\"a\"]\n",
+        None,
+        None,
+        b"",
+        Some(Break {
+            part: Part::Recording,
+            at: 0,
+        }),
+        0,
+    ),
+    (
+        b"\xEF\xBB\xBF\n",
+        None,
+        None,
+        b"",
+        Some(Break {
+            part: Part::Recording,
+            at: 0,
+        }),
         0,
     ),
 ];
@@ -334,6 +391,14 @@ fn characters_by_hand(rt: HostRuntime) {
 fn lines_by_hand(rt: HostRuntime) {
     let are = are_taken_apart(rt.alloc(), Format::Asciicast, Encoding::Dec, LINES);
     holds(&rt, "lines", are);
+}
+
+#[test]
+fn casts_that_begin_later(rt: HostRuntime) {
+    let are = are_taken_apart(rt.alloc(), Format::Asciicast, Encoding::Dec, LATER);
+    holds(&rt, "casts that begin later", are);
+    let text = json_text(b"\xEF\xBB\xBF \n{\n");
+    holds(&rt, "the text", text == b"{\n".as_slice());
 }
 
 #[test]

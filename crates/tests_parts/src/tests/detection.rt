@@ -32,6 +32,7 @@ const CASTS: &[Row] = &[
     // with names in the order of the alphabet, as some libraries write them, and after a byte order mark
     (b"{\"height\":24,\"version\":2,\"width\":80}\n", ASCIICAST),
     (b"\xEF\xBB\xBF{ \"version\" : 2 }", ASCIICAST),
+    (b"\xEF\xBB\xBF\n\t{\"version\":3}\n", ASCIICAST),
     // other objects, and no object
     (b"{\"name\":\"a\",\"version\":\"2.0\"}\r\n", RAW),
     (b"{\r\n  \"name\": \"a\",\r\n  \"version\": 2\r\n}", RAW),

@@ -38,6 +38,13 @@ const CASTS: &[Row] = &[
         Some(100),
         Some(50),
     ),
+    // after a byte order mark and white space
+    (
+        b"\xEF\xBB\xBF\r\n {\"version\":2,\"width\":80,\"height\":24}\r\n",
+        None,
+        Some(80),
+        Some(24),
+    ),
     // Each version has names of its own.
     (
         b"{\"version\":2,\"term\":{\"cols\":100,\"rows\":50,\"type\":\"vt220\"}}",

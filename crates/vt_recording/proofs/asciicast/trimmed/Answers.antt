@@ -1,5 +1,5 @@
 use Rattle.std.proofs.lemmas.Str.Ascii.{trim_ascii_start_is}
-use Rattle.vt_recording.proofs.detection.trimmed.Goals as goal
+use Rattle.vt_recording.proofs.asciicast.trimmed.Goals as goal
 
 pub returns : goal.returns
 returns c = trim_ascii_start_is c.args.text.now c.trim_ascii_start.result.now c.trim_ascii_start.ensures.value

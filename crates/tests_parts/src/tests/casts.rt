@@ -63,6 +63,32 @@ const EVENTS: &[Row] = &[
 ];
 
 const LINES: &[Row] = &[
+    // The last of two versions counts.
+    (
+        b"{\"version\":1,\"version\":2}\n[999999999.9,\"o\",\"a\"]",
+        None,
+        None,
+        b"a",
+        None,
+        0,
+    ),
+    // 1.5 s
+    (
+        b"{\"version\":2}\n[15E-1,\"o\",\"a\"]",
+        None,
+        Some(Moment::Micros(1_500_000)),
+        b"a",
+        None,
+        0,
+    ),
+    (
+        b"{\"version\":2}\n[15E-1,\"o\",\"a\"]",
+        None,
+        Some(Moment::Micros(1_499_999)),
+        b"",
+        None,
+        0,
+    ),
     (b"{\"version\":2}", None, None, b"", None, 0),
     (b"{\"version\":2}\n", None, None, b"", None, 0),
     (
@@ -175,6 +201,75 @@ const LATER: &[Row] = &[
 ];
 
 const BREAKS: &[Row] = &[
+    // numbers that are no seconds
+    (
+        b"{\"version\":2}\n[-0.0,\"o\",\"a\"]",
+        None,
+        None,
+        b"",
+        Some(Break {
+            part: Part::Recording,
+            at: 14,
+        }),
+        0,
+    ),
+    (
+        b"{\"version\":2}\n[1234567890,\"o\",\"a\"]",
+        None,
+        None,
+        b"",
+        Some(Break {
+            part: Part::Recording,
+            at: 14,
+        }),
+        0,
+    ),
+    (
+        b"{\"version\":2}\n[1e-100,\"o\",\"a\"]",
+        None,
+        None,
+        b"",
+        Some(Break {
+            part: Part::Recording,
+            at: 14,
+        }),
+        0,
+    ),
+    // no version 2
+    (
+        b"{\"version\":2.0}\n",
+        None,
+        None,
+        b"",
+        Some(Break {
+            part: Part::Recording,
+            at: 0,
+        }),
+        0,
+    ),
+    (
+        b"{\"version\":2,\"version\":1}\n",
+        None,
+        None,
+        b"",
+        Some(Break {
+            part: Part::Recording,
+            at: 0,
+        }),
+        0,
+    ),
+    // A line of CR alone isn't empty.
+    (
+        b"{\"version\": 2}\r\n\r\n[0,\"o\",\"x\"]\r\n",
+        None,
+        None,
+        b"",
+        Some(Break {
+            part: Part::Recording,
+            at: 16,
+        }),
+        0,
+    ),
     (
         b"",
         None,

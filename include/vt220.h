@@ -109,8 +109,8 @@ typedef struct vt220_scratch {
 
 /* What a terminal needs under TERM=xterm: the page that isn't shown, two modes, and what is pending of UTF-8. Each terminal needs a
  * separate one. It isn't part of the terminal's state: vt220_copy, vt220_reset and bytes of vt220_repaint don't change it, and
- * vt220_xterm_copy copies it. Bytes of vt220_xterm_repaint rebuild both. To reset both, feed RIS (ESC c) by vt220_feed_xterm. The fields
- * are private. */
+ * vt220_xterm_copy copies it. Bytes of vt220_xterm_repaint rebuild both. To reset both, feed "\033[?40h\033c\033[?40l" (?40h, RIS, ?40l)
+ * by vt220_feed_xterm. The fields are private. */
 typedef struct vt220_xterm {
     void *pages;
     bool is_open;

@@ -21,7 +21,7 @@ use Rattle.vt_term.proofs.SoundEffects as terminals
 use Rattle.vt_term.proofs.SoundPlay.{effect-keeps}
 use Rattle.vt_xterm.specs.Pages.{Screens, on_display, exchanged, show_page, with_blank, show_or_clear}
 use Rattle.vt_xterm.specs.Pages.{save_or_restore, show_and_save, allow_column_mode, allowed_column_mode, page_modes}
-use Rattle.vt_xterm.specs.Pages.{with_page_mode, change_page_modes}
+use Rattle.vt_xterm.specs.Pages.{with_page_mode, change_page_modes, is_window_wide}
 use Rattle.vt_term.specs.Moving.{cursor_up, cursor_down}
 use Rattle.vt_term.specs.Tabs.{horizontal_tab}
 use Rattle.vt_term.specs.Writing.{write_glyph}
@@ -370,7 +370,7 @@ module _ (glyphs : GlyphLaws) (sets : SetsLaws) (rows : RowLaws) (tests : TestLa
   plain_escapes-keep = (
     λ s i.
         let sound : IsSoundDisplay display_at_power_up = terminals.reset_to_initial_state-keeps s.display i.0 in
-        (sound, page_of-sound display_at_power_up sound),
+        (terminals.column_mode-keeps (is_window_wide s) display_at_power_up sound, page_of-sound display_at_power_up sound),
     tt,
   )
 

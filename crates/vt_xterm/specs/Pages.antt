@@ -1,7 +1,8 @@
 -- The two pages, and the private modes that choose between them. (xterm's control sequences: DECSET 3, 40, 47, 1047, 1048, 1049)
-use Rattle.std.specs.Prelude.{ℕ, List, [], ◌∷◌, Bool, true, false, unwrap_or, fold, if◌then◌else◌}
+use Rattle.std.specs.Prelude.{ℕ, List, [], ◌∷◌, Bool, true, false, not, ◌==◌, ◌&&◌, unwrap_or, fold, if◌then◌else◌}
 use Rattle.vt_syntax.specs.declared.held.Held.{Held}
 use Rattle.vt_glyph.specs.LookUp.{look_up}
+use Rattle.vt_screen.specs.Grid.{columns}
 use Rattle.vt_term.specs.State.{Display, State, display_at_power_up}
 use Rattle.vt_term.specs.Pages.{PageState, page_at_power_up, blanked, fitted, page_of, with_page}
 use Rattle.vt_term.specs.Editing.{erase_in_display}
@@ -84,9 +85,16 @@ with_page_mode on p = unwrap_or (look_up page_modes p) (λ on. on_display (with_
 abbrev pub change_page_modes : Bool → List ℕ → Screens → Screens
 change_page_modes on params s = fold (λ s p. with_page_mode on p s) s params
 
--- RIS
+-- the screen has 132 columns, and DECCOLM has no effect
+abbrev pub is_window_wide : Screens → Bool
+is_window_wide s = not s.pages.resizes && s.display.grid.width == columns true
+
+-- RIS: as on a VT220, and both pages are blank. ?40 stays, and without it so does the width
 abbrev pub reset_to_initial_state : Screens → Screens
-reset_to_initial_state s = record { display = display_at_power_up; pages = pages_at_power_up }
+reset_to_initial_state s = record {
+  display = column_mode (is_window_wide s) display_at_power_up;
+  pages = record pages_at_power_up { resizes = s.pages.resizes };
+}
 
 -- ---- a terminal's state and the pages, for contracts
 

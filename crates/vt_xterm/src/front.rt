@@ -47,13 +47,12 @@ impl Pages {
         self.resizes = other.resizes;
     }
 
-    /// Makes the pages as at power-up: both blank, and the main one shown.
+    /// Makes the pages as at power-up: both blank, and the main one shown. Whether DECCOLM has an effect stays.
     pub(crate) fn reset(&mut self)
-        ensures { self.new ≡ pages_at_power_up }
+        ensures { self.new ≡ record pages_at_power_up { resizes = self.old.resizes } }
     {
         self.other.reset();
         self.alternate = false;
-        self.resizes = false;
     }
 }
 

@@ -91,7 +91,7 @@ items-lead s other alternate i =
 -- ---- what is between the items
 
 start-leads : (alternate : Bool) (u : Screens)
-    → Leads (reset_to_initial_state ∷ private_mode 40 true ∷ private_mode 47 (not alternate) ∷ []) u
+    → Leads (private_mode 40 true ∷ reset_to_initial_state ∷ private_mode 47 (not alternate) ∷ []) u
     (on_pages display_at_power_up page_at_power_up (not alternate))
 unfolding functions_of function_in with_page_mode sequences_of sequence_report
 start-leads true u = record { is = refl; silent = refl }
@@ -150,7 +150,7 @@ all-leads w u i start =
     let other = w.pages.other in
     let hidden = with_page other display_at_power_up in
     let s = w.state.display in
-    then-leads (reset_to_initial_state ∷ private_mode 40 true ∷ private_mode 47 (not alternate) ∷ []) _ u
+    then-leads (private_mode 40 true ∷ reset_to_initial_state ∷ private_mode 47 (not alternate) ∷ []) _ u
     (on_pages display_at_power_up page_at_power_up (not alternate)) (screens_of w)
     (start-leads alternate u)
     (then-leads (made_events hidden) _ (on_pages display_at_power_up page_at_power_up (not alternate))

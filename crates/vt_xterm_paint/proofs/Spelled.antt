@@ -92,8 +92,8 @@ pub repaint-within : (w : Whole) → IsSoundDisplay (other_shown w.pages) → Is
 unfolding xterm_repaint_events
 repaint-within w i j =
     let a = w.pages.alternate in
-    then-within 2 187049 (reset_to_initial_state ∷ []) _ reset-within
-    (then-within 6 187043 (private_mode 40 true ∷ []) _ (allow-within true)
+    then-within 6 187045 (private_mode 40 true ∷ []) _ (allow-within true)
+    (then-within 2 187043 (reset_to_initial_state ∷ []) _ reset-within
     (then-within 6 187037 (private_mode 47 (not a) ∷ []) _ (page-within (not a))
     (then-within 93510 93527 (made_events (other_shown w.pages)) _ (items-within (other_shown w.pages) i)
     (then-within 6 93521 (private_mode 47 a ∷ []) _ (page-within a)

@@ -19,13 +19,13 @@ other_shown pages = with_page pages.other display_at_power_up
 abbrev pub showing_other : PagesState → State
 showing_other pages = record power_up { display = other_shown pages }
 
--- After RIS the main page is shown. The items of the page that isn't shown come first, on that page: ?47 chooses it. ?40 is set, so
--- that DECCOLM has an effect. Then ?47 exchanges the pages, and ?3 makes the display as at power-up. The items of the display that
--- is shown follow.
+-- ?40 is set, so that DECCOLM has an effect, and RIS gives 80 columns. After RIS the main page is shown. The items of the page that
+-- isn't shown come first, on that page: ?47 chooses it. Then ?47 exchanges the pages, and ?3 makes the display as at power-up. The
+-- items of the display that is shown follow.
 unfoldable pub xterm_repaint_events : Whole → List Event
 xterm_repaint_events w =
-    reset_to_initial_state
-    ∷ private_mode 40 true
+    private_mode 40 true
+    ∷ reset_to_initial_state
     ∷ private_mode 47 (not w.pages.alternate)
     ∷ (made_events (other_shown w.pages)
     ++ private_mode 47 w.pages.alternate

@@ -113,8 +113,8 @@ pub fn repaint_xterm_reserved(
     let alternate = front.is_alternate();
     front.show_other(scratch);
     soundness(t, front, scratch);
-    Function::reset().push(out);
     push_resizes(true, out);
+    Function::reset().push(out);
     push_page(!alternate, out);
     repaint_items_reserved(scratch, out);
     push_page(alternate, out);

@@ -5,10 +5,12 @@ use vt_term::Terminal;
 use vt_xterm::Front;
 use vt_xterm_paint::repaint_xterm;
 
-/// Bytes that come before a repaint: a page of 132 columns, the alternate page, a sequence and a character that aren't complete.
-const BEFORE: [&[u8]; 4] = [
+/// Bytes that come before a repaint: pages of 132 columns, also without ?40, the alternate page, a sequence and a character that aren't
+/// complete.
+const BEFORE: [&[u8]; 5] = [
     b"",
     b"\x1b[?40h\x1b[?3hwide\x1b7\x1b[?1049h\x1b[?3l\x1b[4hx",
+    b"\x1b[?40h\x1b[?3h\x1b[?40lwide\x1b7\x1b[?47hwide\x1b]0;t",
     b"\x1b[?40h\x1b[?47h\x1b[5;9r\x1b[?6h\x1b[12",
     b"a\x1b[?1049h\xE2\x82",
 ];

@@ -44,7 +44,7 @@ const COLUMNS: [Row; 17] = [
 ];
 
 // xterm's control sequences: DECSET 3, 40, 47, 1047, 1048 and 1049, DECSTR, DECSCL, and RIS
-const PAGES: [Row; 19] = [
+const PAGES: [Row; 23] = [
     (
         "?1049h shows a blank page",
         "ab\x1b[?1049hx",
@@ -110,6 +110,30 @@ const PAGES: [Row; 19] = [
         "\x1b[?1049hx\x1bcy\x1b[?47h",
         "\n",
         (1, 2),
+    ),
+    (
+        "RIS leaves 132 columns",
+        "\x1b[?40h\x1b[?3h\x1b[?40lab\x1bc\x1b[132G",
+        "\n",
+        (1, 132),
+    ),
+    (
+        "RIS after ?40h gives 80 columns",
+        "\x1b[?40h\x1b[?3hab\x1bc\x1b[132G",
+        "\n",
+        (1, 80),
+    ),
+    (
+        "RIS leaves ?40h",
+        "\x1b[?40h\x1bc\x1b[?3h\x1b[132G",
+        "\n",
+        (1, 132),
+    ),
+    (
+        "RIS resets all else of 132 columns",
+        "\x1b[?40h\x1b[?3h\x1b[?40l\x1b[?7l\x1b[4h\x1b[5;9r\x1b[9;99H\x1b7\x1bc\x1b8\x1b[2Bx",
+        "\n\nx\n",
+        (3, 2),
     ),
     ("?3 has no effect", "ab\x1b[?3h", "ab\n", (1, 3)),
     ("?3 after ?40", "ab\x1b[?40h\x1b[?3h", "\n", (1, 1)),

@@ -1,4 +1,5 @@
--- The two pages, and the private modes that choose between them. (xterm's control sequences: DECSET 3, 40, 47, 1047, 1048, 1049)
+-- The two pages, and the private modes that choose between them. (xterm's control sequences: DECSET 3, 40, 47, 1047, 1048, 1049,
+-- 2004)
 use Rattle.std.specs.Prelude.{ℕ, List, [], ◌∷◌, Bool, true, false, not, ◌==◌, ◌&&◌, unwrap_or, fold, if◌then◌else◌}
 use Rattle.vt_syntax.specs.declared.held.Held.{Held}
 use Rattle.vt_glyph.specs.LookUp.{look_up}
@@ -9,14 +10,16 @@ use Rattle.vt_term.specs.Editing.{erase_in_display}
 use Rattle.vt_term.specs.Saving.{save_cursor, restore_cursor}
 use Rattle.vt_term.specs.Modes.{private_modes, with_mode, column_mode}
 
--- the page that isn't shown; whether the alternate page is the one that is shown; whether DECCOLM has an effect
+-- the page that isn't shown; whether the alternate page is the one that is shown; whether DECCOLM has an effect; whether pasted text
+-- is wanted in brackets
 pub record PagesState : Type 0 where
   pub other : PageState
   pub alternate : Bool
   pub resizes : Bool
+  pub brackets : Bool
 
 abbrev pub pages_at_power_up : PagesState
-pages_at_power_up = record { other = page_at_power_up; alternate = false; resizes = false }
+pages_at_power_up = record { other = page_at_power_up; alternate = false; resizes = false; brackets = false }
 
 -- the display, and the pages behind it: what events change
 pub record Screens : Type 0 where
@@ -63,6 +66,10 @@ show_and_save alternate s =
 abbrev pub allow_column_mode : Bool → Screens → Screens
 allow_column_mode on s = record s { pages = record s.pages { resizes = on } }
 
+-- ?2004: pasted text is wanted in brackets from now on
+abbrev pub bracket_pastes : Bool → Screens → Screens
+bracket_pastes on s = record s { pages = record s.pages { brackets = on } }
+
 -- ?3: DECCOLM, if it has an effect
 abbrev pub allowed_column_mode : Bool → Screens → Screens
 allowed_column_mode wide s = if s.pages.resizes then on_display (column_mode wide) s else s
@@ -75,6 +82,7 @@ page_modes =
     ∷ (1047, show_or_clear)
     ∷ (1048, save_or_restore)
     ∷ (1049, show_and_save)
+    ∷ (2004, bracket_pastes)
     ∷ []
 
 -- one mode; what isn't in this table is a VT220's

@@ -229,6 +229,35 @@ fn edits(rt: HostRuntime) {
     all_show(&rt, rt.alloc(), &EDITS);
 }
 
+// xterm's control sequences: DECSET 2004, DECSTR, DECSCL, RIS
+const PASTES: [(&str, &[u8], bool); 8] = [
+    ("at power-up", b"", false),
+    ("?2004h", b"\x1b[?2004h", true),
+    ("?2004l", b"\x1b[?2004h\x1b[?2004l", false),
+    ("2004 without the marker", b"\x1b[2004h", false),
+    (
+        "on the other page, too",
+        b"\x1b[?1049;2004h\x1b[?1049l",
+        true,
+    ),
+    ("DECSTR", b"\x1b[?2004h\x1b[!p", true),
+    ("DECSCL", b"\x1b[?2004h\x1b[62\"p", true),
+    ("RIS", b"\x1b[?2004h\x1bc", false),
+];
+
+/// Returns whether a front that was fed this wants pasted text in brackets, or doesn't.
+fn wants_brackets(alloc: Global, input: &[u8], wanted: bool) -> Result<bool, AllocError> {
+    let fed = fed::<Front>(alloc, input, 1)?;
+    Ok(fed.front.brackets() == wanted)
+}
+
+#[test]
+fn pastes(rt: HostRuntime) {
+    for (name, input, wanted) in &PASTES {
+        holds(&rt, name, wants_brackets(rt.alloc(), input, *wanted));
+    }
+}
+
 /// Returns whether a front shows the alternate page, lets DECCOLM resize, and has one byte of a character.
 fn is_as_fed(front: &Front) -> bool {
     front.is_alternate() && front.resizes() && front.pending() == b"\xE2".as_slice()

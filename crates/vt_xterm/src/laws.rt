@@ -16,7 +16,7 @@ ghost use Rattle.vt_xterm.specs.Pages.{Screens, show_and_save};
 ghost use Rattle.vt_xterm.specs.Front.{xterm_effect, is_page_function, is_paste_function, into_alternate, through_alternate};
 ghost use Rattle.vt_xterm.specs.Play.{Whole, IsSoundWhole, behind, front_at_power_up};
 ghost use Rattle.vt_xterm.specs.Play.{play_bytes, play_xterm, play_xterm_all, both, nothing_played, xterm_log};
-ghost use Rattle.vt_xterm.specs.Private.Finding.{PlaysTerminals};
+ghost use Rattle.vt_xterm.specs.Terminals.{PlaysTerminals};
 
 use vt_glyph::laws::{glyphs, soundness as sets_soundness};
 use vt_screen::laws::{places, rows, tests};

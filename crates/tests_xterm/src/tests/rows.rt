@@ -44,7 +44,7 @@ const COLUMNS: [Row; 17] = [
 ];
 
 // xterm's control sequences: DECSET 3, 40, 47, 1047, 1048 and 1049, DECSTR, DECSCL, and RIS
-const PAGES: [Row; 23] = [
+const PAGES: [Row; 24] = [
     (
         "?1049h shows a blank page",
         "ab\x1b[?1049hx",
@@ -86,6 +86,12 @@ const PAGES: [Row; 23] = [
         "\x1b[?1047hx\x1b[?1047l\x1b[?1047h",
         "\n",
         (1, 2),
+    ),
+    (
+        "?1047l leaves what DECSC saved",
+        "\x1b[?1047h\x1b[3;3H\x1b7x\x1b[?1047l\x1b[?47h\x1b[H\x1b8",
+        "\n\n\n",
+        (3, 3),
     ),
     (
         "?1048",

@@ -91,7 +91,7 @@ extern "C" {
 #define VT220_SHOW_LIMIT 51000     /* the most bytes of a text with attributes */
 #define VT220_PICTURE_LIMIT 659968 /* the most bytes of a picture */
 #define VT220_PAINT_LIMIT 93512    /* the most bytes of a repaint */
-#define VT220_XTERM_PAINT_LIMIT 187052 /* the most bytes of a repaint under TERM=xterm */
+#define VT220_XTERM_PAINT_LIMIT 187060 /* the most bytes of a repaint under TERM=xterm */
 #define VT220_UPDATE_LIMIT 94152   /* the most bytes of an update */
 
 /* A terminal. The fields are private. */
@@ -107,10 +107,10 @@ typedef struct vt220_scratch {
     bool is_open;
 } vt220_scratch;
 
-/* What a terminal needs under TERM=xterm: the page that isn't shown, two modes, and what is pending of UTF-8. Each terminal needs a
+/* What a terminal needs under TERM=xterm: the page that isn't shown, three modes, and what is pending of UTF-8. Each terminal needs a
  * separate one. It isn't part of the terminal's state: vt220_copy, vt220_reset and bytes of vt220_repaint don't change it, and
- * vt220_xterm_copy copies it. Bytes of vt220_xterm_repaint rebuild both. To reset both, feed RIS (ESC c) by vt220_feed_xterm. The fields
- * are private. */
+ * vt220_xterm_copy copies it. Bytes of vt220_xterm_repaint rebuild both. To reset both, feed "\033[?40h\033c\033[?40l" (?40h, RIS, ?40l)
+ * by vt220_feed_xterm. The fields are private. */
 typedef struct vt220_xterm {
     void *pages;
     bool is_open;

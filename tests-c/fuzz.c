@@ -167,7 +167,10 @@ static void same_pages(void) {
 
 /* Brings `b` and `c` under TERM=xterm into their state at power-up. */
 static void reset_pages(void) {
-    MUST(vt220_feed_xterm(&b, &x, (const uint8_t *)"\033c", 2, NULL, 0, NULL) == 2 && vt220_feed_xterm(&c, &y, (const uint8_t *)"\033c", 2, NULL, 0, NULL) == 2);
+    static const char reset[] = "\033[?40h\033c\033[?40l";
+    const uint8_t *bytes = (const uint8_t *)reset;
+    size_t len = sizeof reset - 1;
+    MUST(vt220_feed_xterm(&b, &x, bytes, len, NULL, 0, NULL) == len && vt220_feed_xterm(&c, &y, bytes, len, NULL, 0, NULL) == len);
     MUST(vt220_same_state(&b, &power_up) && vt220_same_state(&c, &power_up) && !vt220_xterm_alternate(&x) && !vt220_xterm_alternate(&y));
 }
 

@@ -193,7 +193,8 @@ static void rebuild(const pair *p, const struct bytes *made, const char *before,
 
 /* The repaint of a session rebuilds it over other ones, whatever these show, keep and hold. */
 static void rebuild_over_others(const pair *p, const char *name) {
-    static const char *const others[] = {"", "main\033[?47h\033[?1048halt\xE2", "\033[?40h\033[?3hwide\0337\033[?47h\033[2", "\033[?47h\033[?40h\033[?3h\033]0;x"};
+    static const char *const others[] = {"", "main\033[?47h\033[?1048halt\xE2", "\033[?40h\033[?3hwide\0337\033[?47h\033[2", "\033[?47h\033[?40h\033[?3h\033]0;x",
+                                         "\033[?40h\033[?3hwide\0337\033[?40l\033[?47hwide"};
     struct bytes made = repaint(p);
     for (size_t i = 0; i < sizeof others / sizeof others[0] && made.len > 0; i++) rebuild(p, &made, others[i], i % 2 == 0 ? LEN : 7, name);
     free(made.at);
@@ -237,7 +238,7 @@ static void repaint_into(void) {
     CHECK(vt220_xterm_repaint(&p.t, &p.x, &s, NULL, 0, &needed) == VT220_ROOM && needed > 0);
     memset(out, 7, sizeof out);
     CHECK(vt220_xterm_repaint(&p.t, &p.x, &s, out, needed - 1, &len) == VT220_ROOM && len == needed && out[0] == 7);
-    CHECK(vt220_xterm_repaint(&p.t, &p.x, &s, out, needed, &len) == VT220_OK && len == needed && memcmp(out, "\033c", 2) == 0 && out[needed] == 7);
+    CHECK(vt220_xterm_repaint(&p.t, &p.x, &s, out, needed, &len) == VT220_OK && len == needed && memcmp(out, "\033[?40h\033c", 8) == 0 && out[needed] == 7);
     CHECK(vt220_feed_xterm(&p.t, &p.x, BYTES("x\033["), NULL, 0, NULL) == 3);
     len = 9;
     CHECK(vt220_xterm_repaint(&p.t, &p.x, &s, out, sizeof out, &len) == VT220_PARTIAL && len == 0);

@@ -31,7 +31,7 @@ const (
 	PictureLimit    = 659968
 	PaintLimit      = 93512
 	UpdateLimit     = 94152
-	XtermPaintLimit = 187052
+	XtermPaintLimit = 187060
 	KeyLimit        = 5
 	TypedLimit      = 16
 	Version         = 300 // 10000 * major + 100 * minor + patch

@@ -18,7 +18,6 @@ const SET_NAMES = new Set(["g0", "g1", "g2", "g3"]);
 const ENCODINGS = ["dec", "utf-8"];
 const TERMINALS = ["vt220", "xterm"];
 const PENDING = 4; // bytes: three of a character of UTF-8, and how many of them are pending
-const RIS = Uint8Array.of(0x1b, 0x63); // resets both pages
 const CELL = 12; // bytes: the number of the glyph, five attributes and three reserved bytes
 
 export class Vt220Error extends Error {
@@ -87,6 +86,7 @@ function field(name, value) {
 }
 
 const encoder = new TextEncoder();
+const RESET = encoder.encode("\x1b[?40h\x1bc\x1b[?40l"); // resets both pages, and their width
 const decoder = new TextDecoder();
 
 class Core {
@@ -317,7 +317,7 @@ export class Terminal {
   }
 
   reset() {
-    if (this.#xterm !== 0) this.feed(RIS);
+    if (this.#xterm !== 0) this.feed(RESET);
     this.#core.expect(this.#core.calls.reset(this.#handle));
     this.#pending.fill(0);
   }

@@ -6,6 +6,7 @@ import os
 import re
 import subprocess
 import sys
+import unicodedata
 
 import pytest
 
@@ -201,6 +202,29 @@ def test_the_plugin_has_an_encoding(tmp_path):
         done = subprocess.run(words, cwd=tmp_path, capture_output=True, text=True,
                               env={**kept, "PYTHONPATH": os.path.dirname(os.path.dirname(vt220.__file__)), "CHARMAP": charmap})
         assert done.returncode == 0, done.stdout
+
+
+# Letters that aren't ASCII, by the Unicode Character Database.
+
+# Those of the VT220's own sets (VT220 Programmer Reference Manual, the multinational set): of Latin 1 all but eth, thorn and Y with an acute.
+OWN = {chr(c) for c in range(0xC0, 0x100)} - set("\u00d0\u00dd\u00de\u00f0\u00fd\u00fe") | set("\u0152\u0153\u0178")
+# Eth and eng, which Unicode neither decomposes nor names by a letter, have a stroke and a hook.
+STROKED = {"\u00d0": "D", "\u00f0": "d", "\u014a": "N", "\u014b": "n"}
+
+
+def one_letter(character):
+    """Returns the one ASCII letter of which a letter is made, by its decomposition or by its name ('WITH STROKE', 'DOTLESS'), or U+2426."""
+    letters = [part for part in unicodedata.normalize("NFKD", character) if part.isascii() and part.isalpha()]
+    named = re.fullmatch(r"LATIN (CAPITAL|SMALL) LETTER (?:DOTLESS )?([A-Z])(?: WITH STROKE)?", unicodedata.name(character))
+    if len(letters) != 1 and named:
+        letters = [named[2] if named[1] == "CAPITAL" else named[2].lower()]
+    return letters[0] if len(letters) == 1 else STROKED.get(character, "\u2426")
+
+
+@pytest.mark.parametrize("code", [code for code in range(0xC0, 0x180) if unicodedata.category(chr(code))[0] == "L"])
+def test_a_letter_is_shown_by_its_letter(code):
+    character = chr(code)
+    assert vt220.shown(character) == (character if character in OWN else one_letter(character))
 
 
 # Programs.

@@ -39,7 +39,7 @@ ROW_TEXT_LIMIT = 397
 SHOW_LIMIT = 51000
 PICTURE_LIMIT = 659968
 PAINT_LIMIT = 93512
-XTERM_PAINT_LIMIT = 187052
+XTERM_PAINT_LIMIT = 187060
 UPDATE_LIMIT = 94152
 KEY_LIMIT = 5
 TYPED_LIMIT = 16
@@ -679,7 +679,7 @@ class Terminal:
     def reset(self) -> None:
         """Brings this terminal into its power-up state, also inside a sequence. Nothing is pending then."""
         if self._xterm is not None:
-            self.feed(b"\033c")
+            self.feed(b"\033[?40h\033c\033[?40l")
         _expect(_library.vt220_reset(self._opened()))
         if self._utf8 is not None:
             self._utf8 = _Utf8()

@@ -19,7 +19,7 @@ use Rattle.vt_xterm.specs.Pages.{PagesState, screens, shown_by}
 use Rattle.vt_xterm.specs.Front.{xterm_effect}
 use Rattle.vt_xterm.specs.Play.{Whole, WholePlayed, FrontState, behind, both, play_bytes}
 use Rattle.vt_xterm.specs.Play.{play_character, play_characters, play_xterm, nothing_played}
-use Rattle.vt_xterm.specs.Private.Finding.{PlaysTerminals}
+use Rattle.vt_xterm.specs.Terminals.{PlaysTerminals}
 use Rattle.vt_xterm.specs.Private.Feeds.{whole_of, Leaves, FeedsBytes, FeedsXterm}
 use Rattle.vt_xterm.proofs.Cuts.{bytes-two, bytes-nothing, character-ascii, characters-two, xterm-nothing, xterm-two, xterm-ascii}
 use Rattle.vt_xterm.proofs.Terminals.{bytes-terminals}

@@ -15,7 +15,7 @@ use Rattle.vt_xterm.specs.Pages.{PagesState, screens}
 use Rattle.vt_xterm.specs.Log.{page_line_off, xterm_line_off, xterm_lines_off}
 use Rattle.vt_xterm.specs.Play.{Whole, WholePlayed, FrontState, behind, screens_of, xterm_log}
 use Rattle.vt_xterm.specs.Play.{play_bytes, play_character, play_characters, play_xterm}
-use Rattle.vt_xterm.specs.Private.Finding.{PlaysTerminals}
+use Rattle.vt_xterm.specs.Terminals.{PlaysTerminals}
 use Rattle.vt_xterm.specs.Private.Feeds.{whole_of}
 use Rattle.vt_utf8.specs.Logs.{AreKept}
 use Rattle.vt_utf8.proofs.Logged.{Rows, keeps-nothing, keeps-both}

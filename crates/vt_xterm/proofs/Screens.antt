@@ -1,5 +1,5 @@
 -- The result of the alternate page.
-use Rattle.std.proofs.Common.{◌≡◌, ℕ, ◌≤◌, true, false, List, [], ◌∷◌, ◌++◌, Some, None, refl, sym, ap, ◌∙◌, arith, append-nil}
+use Rattle.std.proofs.Common.{◌≡◌, ℕ, ◌≤◌, Bool, true, false, List, [], ◌∷◌, ◌++◌, Some, None, refl, sym, ap, ◌∙◌, arith, append-nil}
 use Rattle.std.specs.Prelude.{◌==◌, ◌&&◌}
 use Rattle.std.specs.List.{list_any}
 use Rattle.std.proofs.lemmas.List.Sums.{fold-append}
@@ -23,7 +23,7 @@ use Rattle.vt_xterm.specs.Pages.{Screens, PagesState, show_and_save, with_page_m
 use Rattle.vt_xterm.specs.Front.{functions_of, function_in, xterm_effect, is_page_function, alternate_page, into_alternate, through_alternate}
 use Rattle.vt_xterm.specs.Play.{Whole, IsSoundWhole, screens_of, after_events, play_bytes}
 use Rattle.vt_xterm.proofs.SoundScreens.{fitted-sound}
-use Rattle.vt_xterm.proofs.Stays.{neither, event-stays}
+use Rattle.vt_xterm.proofs.Stays.{neither, then-but, event-but}
 
 same-width : (a b : ℕ) → a ≡ b → (a == b) ≡ true
 same-width a b is = grind (arith, nat_tests)
@@ -31,9 +31,18 @@ same-width a b is = grind (arith, nat_tests)
 pub back-again : (s : Screens) (t : Display) → s.pages.alternate ≡ false → t.grid.width ≡ s.display.grid.width
     → show_and_save false (record (show_and_save true s) { display = t }) ≡ record {
       display = restore_cursor (with_page (page_of (save_cursor s.display)) t);
-      pages = record { other = page_of t; alternate = false; resizes = s.pages.resizes };
+      pages = record { other = page_of t; alternate = false; resizes = s.pages.resizes; brackets = s.pages.brackets };
     }
 back-again s t main width =
+    let same : (s.display.grid.width == t.grid.width) ≡ true =
+    same-width s.display.grid.width t.grid.width (omega (arith, width)) in
+    rw (main, same) refl
+
+-- whatever came of ?2004 in between
+back-shown : (s : Screens) (t : Display) (on : Bool) → s.pages.alternate ≡ false → t.grid.width ≡ s.display.grid.width
+    → (show_and_save false (record { display = t; pages = record (show_and_save true s).pages { brackets = on } })).display
+    ≡ restore_cursor (with_page (page_of (save_cursor s.display)) t)
+back-shown s t on main width =
     let same : (s.display.grid.width == t.grid.width) ≡ true =
     same-width s.display.grid.width t.grid.width (omega (arith, width)) in
     rw (main, same) refl
@@ -61,13 +70,15 @@ off-event : IsEvent (alternate_page false)
 off-event = is_event 0x6C (omega arith) (omega arith)
 
 stay : (events : List Event) (s : Screens) → list_any is_page_function events ≡ false
-    → ((after_events events s).pages ≡ s.pages) × ((after_events events s).display.grid.width ≡ s.display.grid.width)
+    → ((after_events events s).pages ≡ record s.pages { brackets = (after_events events s).pages.brackets })
+    × ((after_events events s).display.grid.width ≡ s.display.grid.width)
 stay [] s none = (refl, refl)
 stay (event ∷ events) s none =
     let no = neither (is_page_function event) (list_any is_page_function events) none in
-    let first = event-stays event no.0 s in
-    let rest = stay events (xterm_effect event s) no.1 in
-    (rest.0 ∙ first.0, rest.1 ∙ first.1)
+    let t = xterm_effect event s in
+    let first = event-but event no.0 s in
+    let rest = stay events t no.1 in
+    (then-but s t (after_events events t) first.0 rest.0, rest.1 ∙ first.1)
 
 shown-width : (s : Screens) → s.pages.alternate ≡ false → IsSoundDisplay s.display → IsSoundPage s.pages.other
     → (show_and_save true s).display.grid.width ≡ s.display.grid.width
@@ -83,12 +94,13 @@ off-effect : (s : Screens) → xterm_effect (alternate_page false) s ≡ show_an
 unfolding functions_of function_in with_page_mode
 off-effect s = refl
 
-came-back : (s : Screens) (t : Screens) → s.pages.alternate ≡ false → t.pages ≡ (show_and_save true s).pages
+came-back : (s : Screens) (t : Screens) → s.pages.alternate ≡ false
+    → t.pages ≡ record (show_and_save true s).pages { brackets = t.pages.brackets }
     → t.display.grid.width ≡ s.display.grid.width
     → (show_and_save false t).display ≡ restore_cursor (with_page (page_of (save_cursor s.display)) t.display)
 came-back s t main pages width =
     ap (λ (p : PagesState). (show_and_save false (record { display = t.display; pages = p })).display) pages
-    ∙ ap (λ (x : Screens). x.display) (back-again s t.display main width)
+    ∙ back-shown s t.display t.pages.brackets main width
 
 module _ (split : SplitLaw) (spelling : SpellingLaw) where
   single : (event : Event) → IsEvent event → events_of (spell_event event) ≡ event ∷ []

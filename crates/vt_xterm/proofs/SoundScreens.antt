@@ -21,7 +21,7 @@ use Rattle.vt_term.proofs.SoundEffects as terminals
 use Rattle.vt_term.proofs.SoundPlay.{effect-keeps}
 use Rattle.vt_xterm.specs.Pages.{Screens, on_display, exchanged, show_page, with_blank, show_or_clear}
 use Rattle.vt_xterm.specs.Pages.{save_or_restore, show_and_save, allow_column_mode, allowed_column_mode, page_modes}
-use Rattle.vt_xterm.specs.Pages.{with_page_mode, change_page_modes}
+use Rattle.vt_xterm.specs.Pages.{with_page_mode, change_page_modes, is_window_wide, bracket_pastes}
 use Rattle.vt_term.specs.Moving.{cursor_up, cursor_down}
 use Rattle.vt_term.specs.Tabs.{horizontal_tab}
 use Rattle.vt_term.specs.Writing.{write_glyph}
@@ -161,6 +161,9 @@ show_and_save-keeps false s i = save_or_restore-keeps false (show_page false s) 
 allow_column_mode-keeps : (on : Bool) → Keeps (allow_column_mode on)
 allow_column_mode-keeps on s i = i
 
+bracket_pastes-keeps : (on : Bool) → Keeps (bracket_pastes on)
+bracket_pastes-keeps on s i = i
+
 allowed_column_mode-keeps : (wide : Bool) → Keeps (allowed_column_mode wide)
 allowed_column_mode-keeps wide s i = go s.pages.resizes
   where
@@ -186,6 +189,7 @@ page_modes-keep =
       show_or_clear-keeps,
       save_or_restore-keeps,
       show_and_save-keeps,
+      bracket_pastes-keeps,
     )
 
 module _ (glyphs : GlyphLaws) (sets : SetsLaws) where
@@ -370,7 +374,7 @@ module _ (glyphs : GlyphLaws) (sets : SetsLaws) (rows : RowLaws) (tests : TestLa
   plain_escapes-keep = (
     λ s i.
         let sound : IsSoundDisplay display_at_power_up = terminals.reset_to_initial_state-keeps s.display i.0 in
-        (sound, page_of-sound display_at_power_up sound),
+        (terminals.column_mode-keeps (is_window_wide s) display_at_power_up sound, page_of-sound display_at_power_up sound),
     tt,
   )
 

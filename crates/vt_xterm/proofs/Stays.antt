@@ -1,5 +1,5 @@
 -- Which functions leave the pages and the width.
-use Rattle.std.proofs.Common.{rules, ◌≡◌, ℕ, Bool, true, false, zero, suc, List, [], ◌∷◌, Option, Some, None, refl, ◌∙◌}
+use Rattle.std.proofs.Common.{rules, ◌≡◌, ℕ, Bool, true, false, zero, suc, List, [], ◌∷◌, Option, Some, None, refl, sym, ap, ◌∙◌}
 use Rattle.std.specs.Prelude.{◌==◌, ◌||◌, min, length, if◌then◌else◌, codes}
 use Rattle.std.specs.List.{list_any}
 use Rattle.vt_syntax.specs.declared.event.Event.{Event}
@@ -28,11 +28,11 @@ use Rattle.vt_term.specs.Functions.{quote_sequences, exclamation_sequences}
 use Rattle.vt_xterm.specs.Repeating.{times, column_before, glyph_before, room, repeat}
 use Rattle.vt_xterm.specs.Tabs.{back_tab, cursor_forward_tabulation, cursor_backward_tabulation}
 use Rattle.vt_xterm.specs.Scroll.{rows_down, rows_down_by}
-use Rattle.vt_xterm.specs.Pages.{Screens, on_display, save_or_restore, page_modes, with_page_mode, change_page_modes}
+use Rattle.vt_xterm.specs.Pages.{PagesState, Screens, on_display, save_or_restore, page_modes, with_page_mode, change_page_modes}
 use Rattle.vt_xterm.specs.Front.{is_bare, save_if_bare, restore_if_bare, plain_functions, private_functions, exclamation_functions}
 use Rattle.vt_xterm.specs.Front.{set_level_wrapping, quote_functions, intermediate_functions}
 use Rattle.vt_xterm.specs.Front.{functions_of, function_in, plain_escapes, xterm_effect}
-use Rattle.vt_xterm.specs.Front.{is_page_mode, sets_page_mode, is_page_function}
+use Rattle.vt_xterm.specs.Front.{is_page_mode, is_paste_mode, sets_page_mode, sets_mode, table_after, is_page_function, is_paste_function}
 use Rattle.vt_term.proofs.Tables.{AllRows, looked_up-holds}
 
 -- a function leaves the width
@@ -297,29 +297,32 @@ save_or_restore-stays : (save : Bool) → Stays (save_or_restore save)
 save_or_restore-stays true s = (refl, refl)
 save_or_restore-stays false s = (refl, refl)
 
-page_mode-stays : (on : Bool) (p : ℕ) → is_page_mode p ≡ false → Stays (with_page_mode on p)
+page_mode-stays : (on : Bool) (p : ℕ) → is_page_mode p ≡ false → is_paste_mode p ≡ false → Stays (with_page_mode on p)
 unfolding with_page_mode AllRows
-page_mode-stays on p h =
-    looked_up-holds (λ key f. is_page_mode key ≡ false → Stays (f on)) page_modes p
+page_mode-stays on p =
+    looked_up-holds (λ key f. is_page_mode key ≡ false → is_paste_mode key ≡ false → Stays (f on)) page_modes p
     (λ on. on_display (with_mode private_modes on p))
-    (λ not. display-stays (with_mode private_modes on p) (private_mode-fits on p not)) (search (rules, save_or_restore-stays)) h
+    (λ not other. display-stays (with_mode private_modes on p) (private_mode-fits on p not)) (search (rules, save_or_restore-stays))
 
 page_modes-stay : (on : Bool) (params : List ℕ) → list_any is_page_mode params ≡ false
-    → Stays (change_page_modes on params)
-page_modes-stay on [] none s = (refl, refl)
-page_modes-stay on (p ∷ params) none s =
+    → list_any is_paste_mode params ≡ false → Stays (change_page_modes on params)
+page_modes-stay on [] none other s = (refl, refl)
+page_modes-stay on (p ∷ params) none other s =
     let h = neither (is_page_mode p) (list_any is_page_mode params) none in
-    let first = page_mode-stays on p h.0 s in
-    let rest = page_modes-stay on params h.1 (with_page_mode on p s) in
+    let k = neither (is_paste_mode p) (list_any is_paste_mode params) other in
+    let first = page_mode-stays on p h.0 k.0 s in
+    let rest = page_modes-stay on params h.1 k.1 (with_page_mode on p s) in
     (rest.0 ∙ first.0, rest.1 ∙ first.1)
 
 private-stays : (event : Event) (last : ℕ) (params : List ℕ) → Fits (effect event)
-    → sets_page_mode 0x3F last params ≡ false → Stays (function_in private_functions event last params)
+    → sets_page_mode 0x3F last params ≡ false → sets_mode is_paste_mode 0x3F last params ≡ false
+    → Stays (function_in private_functions event last params)
 unfolding function_in AllRows
 private-stays event last params fits =
-    looked_up-holds (λ key f. sets_page_mode 0x3F key params ≡ false → Stays (f params)) private_functions last
-    (λ params. on_display (effect event)) (λ h. display-stays (effect event) fits)
-    (λ h. page_modes-stay true params h, (λ h. page_modes-stay false params h, tt))
+    looked_up-holds
+    (λ key f. sets_page_mode 0x3F key params ≡ false → sets_mode is_paste_mode 0x3F key params ≡ false → Stays (f params))
+    private_functions last (λ params. on_display (effect event)) (λ h k. display-stays (effect event) fits)
+    (λ h k. page_modes-stay true params h k, (λ h k. page_modes-stay false params h k, tt))
 
 exclamation-stays : (event : Event) (last : ℕ) (params : List ℕ) → Fits (effect event)
     → Stays (function_in exclamation_functions event last params)
@@ -342,18 +345,21 @@ none-stays event last params fits s = (refl, fits s.display)
 
 sequence-stays : (event : Event) (marker inter : Option ℕ) (last : ℕ) (params : List ℕ) → Fits (effect event)
     → is_page_function (Sequence marker (record { items = params }) inter last) ≡ false
+    → is_paste_function (Sequence marker (record { items = params }) inter last) ≡ false
     → Stays (function_in (functions_of marker inter) event last params)
 unfolding functions_of AllRows
-sequence-stays event None None last params fits h = own-stays event last params fits
-sequence-stays event (Some marker) None last params fits h =
-    looked_up-holds (λ key table. sets_page_mode key last params ≡ false → Stays (function_in table event last params))
-    ((byte (codes "?"), private_functions) ∷ []) marker [] (λ h. none-stays event last params fits)
-    (λ h. private-stays event last params fits h, tt) h
-sequence-stays event None (Some inter) last params fits h =
+sequence-stays event None None last params fits h k = own-stays event last params fits
+sequence-stays event (Some marker) None last params fits h k =
+    looked_up-holds
+    (λ key table. sets_page_mode key last params ≡ false → sets_mode is_paste_mode key last params ≡ false
+    → Stays (function_in table event last params))
+    ((byte (codes "?"), private_functions) ∷ []) marker [] (λ h k. none-stays event last params fits)
+    (λ h k. private-stays event last params fits h k, tt) h k
+sequence-stays event None (Some inter) last params fits h k =
     looked_up-holds (λ key table. Stays (function_in table event last params))
     intermediate_functions inter [] (none-stays event last params fits)
     (quote-stays event last params fits, (exclamation-stays event last params fits, tt))
-sequence-stays event (Some marker) (Some inter) last params fits h = none-stays event last params fits
+sequence-stays event (Some marker) (Some inter) last params fits h k = none-stays event last params fits
 
 escape-stays : (last : ℕ) → (last == 0x63) ≡ false → Stays (function_in plain_escapes (Escape None last) last [])
 unfolding function_in AllRows
@@ -363,12 +369,83 @@ escape-stays last =
     (λ h. display-stays (effect (Escape None last)) (plain_escape-fits last h)) (λ h. absurd cc, tt)
 
 -- what is no function of the pages leaves them, and the width
-pub event-stays : (event : Event) → is_page_function event ≡ false → Stays (xterm_effect event)
-event-stays (Print b) h = display-stays (effect (Print b)) (print-fits b)
-event-stays (Control b) h = display-stays (effect (Control b)) (control-fits b)
-event-stays (Escape None last) h = escape-stays last h
-event-stays (Escape (Some inter) last) h =
+pub event-stays : (event : Event) → is_page_function event ≡ false → is_paste_function event ≡ false
+    → Stays (xterm_effect event)
+event-stays (Print b) h k = display-stays (effect (Print b)) (print-fits b)
+event-stays (Control b) h k = display-stays (effect (Control b)) (control-fits b)
+event-stays (Escape None last) h k = escape-stays last h
+event-stays (Escape (Some inter) last) h k =
     display-stays (effect (Escape (Some inter) last)) (escape_with-fits inter last)
-event-stays (Sequence marker params inter last) h =
+event-stays (Sequence marker params inter last) h k =
     sequence-stays (Sequence marker params inter last) marker inter last params.items
-    (sequence-fits marker inter last params.items h) h
+    (sequence-fits marker inter last params.items h) h k
+
+-- ---- ?2004, which changes one mode of the pages
+
+-- a function leaves the pages but for that mode, and the width
+abbrev pub StaysBut : (Screens → Screens) → Type 0
+StaysBut f = (s : Screens) → ((f s).pages ≡ record s.pages { brackets = (f s).pages.brackets })
+    × ((f s).display.grid.width ≡ s.display.grid.width)
+
+but : (f : Screens → Screens) → Stays f → StaysBut f
+but f stays s =
+    let e = stays s in
+    (e.0 ∙ ap (λ (p : PagesState). record s.pages { brackets = p.brackets }) (sym e.0), e.1)
+
+save_or_restore-but : (save : Bool) → StaysBut (save_or_restore save)
+save_or_restore-but save = but (save_or_restore save) (save_or_restore-stays save)
+
+page_mode-but : (on : Bool) (p : ℕ) → is_page_mode p ≡ false → StaysBut (with_page_mode on p)
+unfolding with_page_mode AllRows
+page_mode-but on p =
+    looked_up-holds (λ key f. is_page_mode key ≡ false → StaysBut (f on)) page_modes p
+    (λ on. on_display (with_mode private_modes on p))
+    (λ not. but (on_display (with_mode private_modes on p)) (display-stays (with_mode private_modes on p) (private_mode-fits on p not)))
+    (search (rules, save_or_restore-but))
+
+pub then-but : (s t u : Screens) → t.pages ≡ record s.pages { brackets = t.pages.brackets }
+    → u.pages ≡ record t.pages { brackets = u.pages.brackets } → u.pages ≡ record s.pages { brackets = u.pages.brackets }
+then-but s t u first second = second ∙ ap (λ (p : PagesState). record p { brackets = u.pages.brackets }) first
+
+page_modes-but : (on : Bool) (params : List ℕ) → list_any is_page_mode params ≡ false
+    → StaysBut (change_page_modes on params)
+page_modes-but on [] none s = (refl, refl)
+page_modes-but on (p ∷ params) none s =
+    let h = neither (is_page_mode p) (list_any is_page_mode params) none in
+    let t = with_page_mode on p s in
+    let first = page_mode-but on p h.0 s in
+    let rest = page_modes-but on params h.1 t in
+    (then-but s t (change_page_modes on params t) first.0 rest.0, rest.1 ∙ first.1)
+
+private-but : (event : Event) (last : ℕ) (params : List ℕ) → Fits (effect event)
+    → sets_page_mode 0x3F last params ≡ false → StaysBut (function_in private_functions event last params)
+unfolding function_in AllRows
+private-but event last params fits =
+    looked_up-holds (λ key f. sets_page_mode 0x3F key params ≡ false → StaysBut (f params)) private_functions last
+    (λ params. on_display (effect event)) (λ h. but (on_display (effect event)) (display-stays (effect event) fits))
+    (λ h. page_modes-but true params h, (λ h. page_modes-but false params h, tt))
+
+marked-but : (event : Event) (marker last : ℕ) (params : List ℕ) → Fits (effect event)
+    → sets_page_mode marker last params ≡ false
+    → StaysBut (function_in (functions_of (Some marker) None) event last params)
+unfolding functions_of AllRows
+marked-but event marker last params fits =
+    looked_up-holds (λ key table. sets_page_mode key last params ≡ false → StaysBut (function_in table event last params))
+    ((byte (codes "?"), private_functions) ∷ []) marker []
+    (λ h. but (function_in [] event last params) (none-stays event last params fits))
+    (λ h. private-but event last params fits h, tt)
+
+pub event-but : (event : Event) → is_page_function event ≡ false → StaysBut (xterm_effect event)
+event-but (Print b) h = but (xterm_effect (Print b)) (event-stays (Print b) h refl)
+event-but (Control b) h = but (xterm_effect (Control b)) (event-stays (Control b) h refl)
+event-but (Escape None last) h = but (xterm_effect (Escape None last)) (event-stays (Escape None last) h h)
+event-but (Escape (Some inter) last) h =
+    but (xterm_effect (Escape (Some inter) last)) (event-stays (Escape (Some inter) last) h refl)
+event-but (Sequence None params inter last) h =
+    but (xterm_effect (Sequence None params inter last)) (event-stays (Sequence None params inter last) h refl)
+event-but (Sequence (Some marker) params None last) h =
+    marked-but (Sequence (Some marker) params None last) marker last params.items
+    (sequence-fits (Some marker) None last params.items h) h
+event-but (Sequence (Some marker) params (Some inter) last) h =
+    but (xterm_effect (Sequence (Some marker) params (Some inter) last))
+    (event-stays (Sequence (Some marker) params (Some inter) last) h refl)

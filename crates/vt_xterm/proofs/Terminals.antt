@@ -24,7 +24,7 @@ use Rattle.vt_xterm.specs.Front.{functions_of, function_in, xterm_effect}
 use Rattle.vt_xterm.specs.Log.{function_off, page_line_off, xterm_lines_off}
 use Rattle.vt_xterm.specs.Play as xterm
 use Rattle.vt_xterm.specs.Play.{Whole, play_bytes}
-use Rattle.vt_xterm.specs.Private.Finding.{IsTerminals, AreTerminals, PlaysTerminals}
+use Rattle.vt_xterm.specs.Terminals.{IsTerminals, AreTerminals, PlaysTerminals}
 use Rattle.vt_xterm.proofs.Colours.{without-colours}
 
 -- SGR without a colour

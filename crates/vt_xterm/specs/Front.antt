@@ -116,10 +116,17 @@ xterm_effect (Sequence marker params inter last) =
 abbrev pub is_page_mode : ℕ → Bool
 is_page_mode p = p == 3 || (p == 40 || (p == 47 || (p == 1047 || p == 1049)))
 
+-- ?2004
+abbrev pub is_paste_mode : ℕ → Bool
+is_paste_mode p = p == 2004
+
 -- a control sequence that is SM or RM of one of these modes
+abbrev pub sets_mode : (ℕ → Bool) → ℕ → ℕ → List ℕ → Bool
+sets_mode is_mode marker last params =
+    marker == byte (codes "?") && ((last == byte (codes "h") || last == byte (codes "l")) && list_any is_mode params)
+
 abbrev pub sets_page_mode : ℕ → ℕ → List ℕ → Bool
-sets_page_mode marker last params =
-    marker == byte (codes "?") && ((last == byte (codes "h") || last == byte (codes "l")) && list_any is_page_mode params)
+sets_page_mode = sets_mode is_page_mode
 
 -- RIS, and SM and RM of these modes
 abbrev pub is_page_function : Event → Bool
@@ -130,6 +137,16 @@ is_page_function (Escape (Some inter) last) = false
 is_page_function (Sequence None params inter last) = false
 is_page_function (Sequence (Some marker) params None last) = sets_page_mode marker last params.items
 is_page_function (Sequence (Some marker) params (Some inter) last) = false
+
+-- RIS, and SM and RM of ?2004
+abbrev pub is_paste_function : Event → Bool
+is_paste_function (Print b) = false
+is_paste_function (Control b) = false
+is_paste_function (Escape None last) = last == byte (codes "c")
+is_paste_function (Escape (Some inter) last) = false
+is_paste_function (Sequence None params inter last) = false
+is_paste_function (Sequence (Some marker) params None last) = sets_mode is_paste_mode marker last params.items
+is_paste_function (Sequence (Some marker) params (Some inter) last) = false
 
 -- CSI ? 1049 h, and CSI ? 1049 l
 abbrev pub alternate_page : Bool → Event

@@ -6,5 +6,6 @@ pub mod Attributes
 pub mod Pages
 pub mod Front
 pub mod Log
+pub mod Terminals
 pub mod Play
 pub mod Private

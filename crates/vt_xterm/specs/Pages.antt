@@ -1,21 +1,25 @@
--- The two pages, and the private modes that choose between them. (xterm's control sequences: DECSET 3, 40, 47, 1047, 1048, 1049)
-use Rattle.std.specs.Prelude.{ℕ, List, [], ◌∷◌, Bool, true, false, unwrap_or, fold, if◌then◌else◌}
+-- The two pages, and the private modes that choose between them. (xterm's control sequences: DECSET 3, 40, 47, 1047, 1048, 1049,
+-- 2004)
+use Rattle.std.specs.Prelude.{ℕ, List, [], ◌∷◌, Bool, true, false, not, ◌==◌, ◌&&◌, unwrap_or, fold, if◌then◌else◌}
 use Rattle.vt_syntax.specs.declared.held.Held.{Held}
 use Rattle.vt_glyph.specs.LookUp.{look_up}
+use Rattle.vt_screen.specs.Grid.{columns}
 use Rattle.vt_term.specs.State.{Display, State, display_at_power_up}
 use Rattle.vt_term.specs.Pages.{PageState, page_at_power_up, blanked, fitted, page_of, with_page}
 use Rattle.vt_term.specs.Editing.{erase_in_display}
 use Rattle.vt_term.specs.Saving.{save_cursor, restore_cursor}
 use Rattle.vt_term.specs.Modes.{private_modes, with_mode, column_mode}
 
--- the page that isn't shown; whether the alternate page is the one that is shown; whether DECCOLM has an effect
+-- the page that isn't shown; whether the alternate page is the one that is shown; whether DECCOLM has an effect; whether pasted text
+-- is wanted in brackets
 pub record PagesState : Type 0 where
   pub other : PageState
   pub alternate : Bool
   pub resizes : Bool
+  pub brackets : Bool
 
 abbrev pub pages_at_power_up : PagesState
-pages_at_power_up = record { other = page_at_power_up; alternate = false; resizes = false }
+pages_at_power_up = record { other = page_at_power_up; alternate = false; resizes = false; brackets = false }
 
 -- the display, and the pages behind it: what events change
 pub record Screens : Type 0 where
@@ -62,6 +66,10 @@ show_and_save alternate s =
 abbrev pub allow_column_mode : Bool → Screens → Screens
 allow_column_mode on s = record s { pages = record s.pages { resizes = on } }
 
+-- ?2004: pasted text is wanted in brackets from now on
+abbrev pub bracket_pastes : Bool → Screens → Screens
+bracket_pastes on s = record s { pages = record s.pages { brackets = on } }
+
 -- ?3: DECCOLM, if it has an effect
 abbrev pub allowed_column_mode : Bool → Screens → Screens
 allowed_column_mode wide s = if s.pages.resizes then on_display (column_mode wide) s else s
@@ -74,6 +82,7 @@ page_modes =
     ∷ (1047, show_or_clear)
     ∷ (1048, save_or_restore)
     ∷ (1049, show_and_save)
+    ∷ (2004, bracket_pastes)
     ∷ []
 
 -- one mode; what isn't in this table is a VT220's
@@ -84,9 +93,16 @@ with_page_mode on p = unwrap_or (look_up page_modes p) (λ on. on_display (with_
 abbrev pub change_page_modes : Bool → List ℕ → Screens → Screens
 change_page_modes on params s = fold (λ s p. with_page_mode on p s) s params
 
--- RIS
+-- the screen has 132 columns, and DECCOLM has no effect
+abbrev pub is_window_wide : Screens → Bool
+is_window_wide s = not s.pages.resizes && s.display.grid.width == columns true
+
+-- RIS: as on a VT220, and both pages are blank. ?40 stays, and without it so does the width
 abbrev pub reset_to_initial_state : Screens → Screens
-reset_to_initial_state s = record { display = display_at_power_up; pages = pages_at_power_up }
+reset_to_initial_state s = record {
+  display = column_mode (is_window_wide s) display_at_power_up;
+  pages = record pages_at_power_up { resizes = s.pages.resizes };
+}
 
 -- ---- a terminal's state and the pages, for contracts
 

@@ -5,7 +5,7 @@ ghost use Rattle.std.specs.List.{list_any};
 ghost use Rattle.vt_syntax.specs.Event.{event_of};
 ghost use Rattle.vt_syntax.specs.declared.event.Event.TheVariants.{Escape, Sequence};
 ghost use Rattle.vt_xterm.specs.Attributes.{begins_colour};
-ghost use Rattle.vt_xterm.specs.Private.Finding.{IsTerminals};
+ghost use Rattle.vt_xterm.specs.Terminals.{IsTerminals};
 
 use crate::attributes::begins_colour;
 use vt_syntax::EventKind;
@@ -91,7 +91,8 @@ pub(crate) struct Finder;
 
 impl Observer for Finder {
     ghost use Rattle.std.specs.Prelude.{⊤, true};
-    ghost use Rattle.vt_xterm.specs.Private.Finding.{IsTerminals, PlaysTerminals, finder_cut};
+    ghost use Rattle.vt_xterm.specs.Terminals.{IsTerminals, PlaysTerminals};
+    ghost use Rattle.vt_xterm.specs.Private.Finding.{finder_cut};
 
     ghost Saw = { λ o s bytes p. PlaysTerminals s bytes };
 

@@ -19,6 +19,8 @@ pub(crate) struct Pages {
     pub(crate) alternate: bool,
     /// Whether DECCOLM has an effect.
     pub(crate) resizes: bool,
+    /// Whether pasted text is wanted in brackets.
+    pub(crate) brackets: bool,
 }
 
 impl Model for Pages {
@@ -26,7 +28,7 @@ impl Model for Pages {
 
     ghost Value = { PagesState };
 
-    ghost view = { λ p. record { other = p.other; alternate = p.alternate; resizes = p.resizes } };
+    ghost view = { λ p. record { other = p.other; alternate = p.alternate; resizes = p.resizes; brackets = p.brackets } };
 }
 
 impl Pages {
@@ -45,19 +47,20 @@ impl Pages {
         self.other.copy_from(&other.other);
         self.alternate = other.alternate;
         self.resizes = other.resizes;
+        self.brackets = other.brackets;
     }
 
-    /// Makes the pages as at power-up: both blank, and the main one shown.
+    /// Makes the pages as at power-up: both blank, and the main one shown. Whether DECCOLM has an effect stays.
     pub(crate) fn reset(&mut self)
-        ensures { self.new ≡ pages_at_power_up }
+        ensures { self.new ≡ record pages_at_power_up { resizes = self.old.resizes } }
     {
         self.other.reset();
         self.alternate = false;
-        self.resizes = false;
+        self.brackets = false;
     }
 }
 
-/// Keeps what a terminal lacks under TERM=xterm: what is pending of UTF-8, the page that isn't shown, and two modes. `new`
+/// Keeps what a terminal lacks under TERM=xterm: what is pending of UTF-8, the page that isn't shown, and three modes. `new`
 /// allocates its memory, and nothing else does.
 #[derive(Drop)]
 pub struct Front {
@@ -86,6 +89,7 @@ impl Front {
                 other,
                 alternate: false,
                 resizes: false,
+                brackets: false,
             },
         })
     }
@@ -119,6 +123,13 @@ impl Front {
         ensures { result ≡ self.now.pages.alternate }
     {
         self.pages.alternate
+    }
+
+    /// Returns whether pasted text is wanted in brackets, `CSI 200 ~` and `CSI 201 ~` (?2004).
+    pub fn brackets(&self) -> bool
+        ensures { result ≡ self.now.pages.brackets }
+    {
+        self.pages.brackets
     }
 
     /// Returns whether DECCOLM has an effect.

@@ -20,8 +20,12 @@ use crate::front::Pages;
 use crate::modes::change_modes;
 use crate::repeating::repeat;
 use crate::tabs::{cursor_backward_tabulation, cursor_forward_tabulation};
+use vt_screen::COLUMNS;
 use vt_syntax::EventKind;
 use vt_term::{Terminal, count};
+
+/// The number of DECCOLM.
+const DECCOLM: u16 = 3;
 
 /// The number of DECAWM.
 const DECAWM: u16 = 7;
@@ -56,8 +60,8 @@ pub(crate) fn carry_out(
     }
 }
 
-/// Carries out an escape sequence without an intermediate.
-#[tactic(auto, unfolding(crate::specs::Front::function_in, vt_term::specs::Functions::plain_escape))]
+/// Carries out an escape sequence without an intermediate. RIS leaves a screen of 132 columns so if DECCOLM has no effect.
+#[tactic(auto, unfolding(crate::specs::Front::function_in, vt_term::specs::Modes::with_mode, vt_term::specs::Functions::plain_escape))]
 fn plain_escape(terminal: &mut Terminal, pages: &mut Pages, last: u8, out: &mut Vec<u8>)
     requires event { IsEvent (Escape None last) }
     requires room { vec_len out.old + 10 ≤ vec_capacity out.old }
@@ -68,8 +72,10 @@ fn plain_escape(terminal: &mut Terminal, pages: &mut Pages, last: u8, out: &mut 
     ensures reports { out.new.items ≡ out.old.items }
     ensures capacity { vec_capacity out.old ≤ vec_capacity out.new }
 {
+    let is_wide = !pages.resizes && terminal.width() == COLUMNS;
     terminal.carry_out(EventKind::Escape { inter: None, last }, &[], out);
     if last == b'c' {
+        terminal.change_private_modes(&[DECCOLM], is_wide);
         pages.reset();
     }
 }

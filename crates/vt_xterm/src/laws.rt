@@ -13,10 +13,10 @@ ghost use Rattle.vt_term.specs.Scrolling.{scrolled_off};
 ghost use Rattle.vt_utf8.specs.Decoding.{pending_after};
 ghost use Rattle.vt_xterm.specs.Repeating.{times, room, repeat};
 ghost use Rattle.vt_xterm.specs.Pages.{Screens, show_and_save};
-ghost use Rattle.vt_xterm.specs.Front.{xterm_effect, is_page_function, into_alternate, through_alternate};
+ghost use Rattle.vt_xterm.specs.Front.{xterm_effect, is_page_function, is_paste_function, into_alternate, through_alternate};
 ghost use Rattle.vt_xterm.specs.Play.{Whole, IsSoundWhole, behind, front_at_power_up};
 ghost use Rattle.vt_xterm.specs.Play.{play_bytes, play_xterm, play_xterm_all, both, nothing_played, xterm_log};
-ghost use Rattle.vt_xterm.specs.Private.Finding.{PlaysTerminals};
+ghost use Rattle.vt_xterm.specs.Terminals.{PlaysTerminals};
 
 use vt_glyph::laws::{glyphs, soundness as sets_soundness};
 use vt_screen::laws::{places, rows, tests};
@@ -76,7 +76,7 @@ pub fn alternate()
     ensures { (s : Screens) (t : Display) → s.pages.alternate ≡ false → t.grid.width ≡ s.display.grid.width
         → show_and_save false (record (show_and_save true s) { display = t }) ≡ record {
           display = restore_cursor (with_page (page_of (save_cursor s.display)) t);
-          pages = record { other = page_of t; alternate = false; resizes = s.pages.resizes };
+          pages = record { other = page_of t; alternate = false; resizes = s.pages.resizes; brackets = s.pages.brackets };
         } }
 {}
 
@@ -89,10 +89,14 @@ pub fn repeats()
     rows();
 }
 
-/// States that every event leaves the pages and the width, except RIS, and SM and RM of ?3, ?40, ?47, ?1047 and ?1049.
+/// States that every event leaves the pages and the width, except RIS, and SM and RM of ?3, ?40, ?47, ?1047 and ?1049. SM and RM of
+/// ?2004 change of the pages only whether pasted text is wanted in brackets.
 pub fn pages()
-    ensures { (event : Event) (s : Screens) → is_page_function event ≡ false
+    ensures stay { (event : Event) (s : Screens) → is_page_function event ≡ false → is_paste_function event ≡ false
         → ((xterm_effect event s).pages ≡ s.pages)
+        × ((xterm_effect event s).display.grid.width ≡ s.display.grid.width) }
+    ensures brackets { (event : Event) (s : Screens) → is_page_function event ≡ false
+        → ((xterm_effect event s).pages ≡ record s.pages { brackets = (xterm_effect event s).pages.brackets })
         × ((xterm_effect event s).display.grid.width ≡ s.display.grid.width) }
 {}
 

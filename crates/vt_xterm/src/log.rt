@@ -6,7 +6,7 @@ ghost use Rattle.vt_term.specs.Scrolling.{scrolled_off};
 ghost use Rattle.vt_term.specs.Text.{line_text};
 ghost use Rattle.vt_utf8.specs.Translation.{glyph_off};
 ghost use Rattle.vt_xterm.specs.Log.{first_rows, rows_off, function_off, page_line_off};
-ghost use Rattle.vt_xterm.specs.Private.Finding.{PlaysTerminals};
+ghost use Rattle.vt_xterm.specs.Terminals.{PlaysTerminals};
 
 use crate::finder::Finder;
 use vt_syntax::EventKind;

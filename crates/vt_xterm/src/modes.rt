@@ -99,6 +99,7 @@ fn change_mode(terminal: &mut Terminal, pages: &mut Pages, p: u16, on: bool)
         1047 => show_or_clear(terminal, pages, on),
         1048 => save_or_restore(terminal, pages, on),
         1049 => show_and_save(terminal, pages, on),
+        2004 => pages.brackets = on,
         _ => terminal.change_private_modes(&[p], on),
     }
 }

@@ -36,7 +36,7 @@ use Rattle.vt_xterm.specs.Play.{Whole, WholePlayed, screens_of, after_events, re
 use Rattle.vt_xterm.specs.Play.{IsSoundWhole, play_xterm, both, nothing_played, behind, front_at_power_up}
 use Rattle.vt_xterm.proofs.Cuts.{after_events-append, reports_of-append, characters-two, characters-ascii, xterm-two}
 use Rattle.vt_utf8.proofs.Cuts.{pending-append}
-use Rattle.vt_xterm_paint.specs.Repaint.{xterm_repaint_events, xterm_repaint, Rebuilds, IsReachedWhole, IsRebuilt, IsPart}
+use Rattle.vt_xterm_paint.specs.Repaint.{paste_item, xterm_repaint_events, xterm_repaint, Rebuilds, IsReachedWhole, IsRebuilt, IsPart}
 use Rattle.vt_xterm_paint.proofs.Painted.{ArePainted, made-painted}
 use Rattle.vt_xterm_paint.proofs.Pending.{escape-characters, escape-pending, part-read}
 use Rattle.vt_xterm_paint.proofs.Spelled.{repaint-within}
@@ -70,9 +70,9 @@ reports-painted (event ∷ events) s all on =
     (ap (λ (t : Screens). reports_of events t) (all.0 s on)
     ∙ reports-painted events (on_display (effect event) s) all.1 on)
 
--- ?40 is set
+-- ?40 is set, and ?2004 isn't
 abbrev with_pages : PageState → Bool → PagesState
-with_pages other alternate = record { other = other; alternate = alternate; resizes = true }
+with_pages other alternate = record { other = other; alternate = alternate; resizes = true; brackets = false }
 
 abbrev on_pages : Display → PageState → Bool → Screens
 on_pages s other alternate = record { display = s; pages = with_pages other alternate }
@@ -91,7 +91,7 @@ items-lead s other alternate i =
 -- ---- what is between the items
 
 start-leads : (alternate : Bool) (u : Screens)
-    → Leads (reset_to_initial_state ∷ private_mode 40 true ∷ private_mode 47 (not alternate) ∷ []) u
+    → Leads (private_mode 40 true ∷ reset_to_initial_state ∷ private_mode 47 (not alternate) ∷ []) u
     (on_pages display_at_power_up page_at_power_up (not alternate))
 unfolding functions_of function_in with_page_mode sequences_of sequence_report
 start-leads true u = record { is = refl; silent = refl }
@@ -108,14 +108,17 @@ exchange-leads false true page is = record { is = rw is refl; silent = refl }
 exchange-leads false false page is = record { is = rw is refl; silent = refl }
 
 end-leads : (s : Display) (pages : PagesState)
-    → Leads (private_mode 40 pages.resizes ∷ []) (on_pages s pages.other pages.alternate) (record { display = s; pages = pages })
+    → Leads (private_mode 40 pages.resizes ∷ paste_item pages.brackets) (on_pages s pages.other pages.alternate)
+    (record { display = s; pages = pages })
 unfolding functions_of function_in with_page_mode sequences_of sequence_report
-end-leads s pages = by pages.resizes
+end-leads s pages = by pages.resizes pages.brackets
   where
-    by : (on : Bool) → Leads (private_mode 40 on ∷ []) (on_pages s pages.other pages.alternate)
-        (record { display = s; pages = record pages { resizes = on } })
-    by true = record { is = refl; silent = refl }
-    by false = record { is = refl; silent = refl }
+    by : (on brackets : Bool) → Leads (private_mode 40 on ∷ paste_item brackets) (on_pages s pages.other pages.alternate)
+        (record { display = s; pages = record pages { resizes = on; brackets = brackets } })
+    by true true = record { is = refl; silent = refl }
+    by true false = record { is = refl; silent = refl }
+    by false true = record { is = refl; silent = refl }
+    by false false = record { is = refl; silent = refl }
 
 -- the display that shows a sound page is sound
 other-sound : (page : PageState) → IsSoundPage page → IsSoundDisplay display_at_power_up
@@ -150,7 +153,7 @@ all-leads w u i start =
     let other = w.pages.other in
     let hidden = with_page other display_at_power_up in
     let s = w.state.display in
-    then-leads (reset_to_initial_state ∷ private_mode 40 true ∷ private_mode 47 (not alternate) ∷ []) _ u
+    then-leads (private_mode 40 true ∷ reset_to_initial_state ∷ private_mode 47 (not alternate) ∷ []) _ u
     (on_pages display_at_power_up page_at_power_up (not alternate)) (screens_of w)
     (start-leads alternate u)
     (then-leads (made_events hidden) _ (on_pages display_at_power_up page_at_power_up (not alternate))
@@ -238,7 +241,7 @@ module _ (split : SplitLaw) (start : IsSound power_up)
     λ i. subst (λ (x : Whole). IsSoundWhole x) i.2 (keeps (behind power_up front_at_power_up) [] i.0 power),
   )
 
-pub short : (w : Whole) → IsSound power_up → IsSoundWhole w → length (xterm_repaint w) ≤ 187052
+pub short : (w : Whole) → IsSound power_up → IsSoundWhole w → length (xterm_repaint w) ≤ 187060
 unfolding xterm_repaint
 short w start i =
     let within = repaint-within w (other-sound w.pages.other i.other start.display) i.state.display in

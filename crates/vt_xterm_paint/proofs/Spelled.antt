@@ -19,7 +19,7 @@ use Rattle.vt_controls.proofs.Speech.{speaks-ascii}
 use Rattle.vt_paint.specs.Repaint.{made_events}
 use Rattle.vt_paint.proofs.Within.{made_within}
 use Rattle.vt_xterm.specs.Play.{Whole}
-use Rattle.vt_xterm_paint.specs.Repaint.{other_shown, xterm_repaint_events}
+use Rattle.vt_xterm_paint.specs.Repaint.{other_shown, paste_item, xterm_repaint_events}
 
 -- events of at most n bytes, which are ASCII
 pub record AreAsciiWithin (n : ℕ) (es : List Event) : Type 0 where
@@ -78,6 +78,11 @@ unfolding digits
 page-within true = one-within (private_mode 47 true) (mode-is 47 true (omega arith)) refl
 page-within false = one-within (private_mode 47 false) (mode-is 47 false (omega arith)) refl
 
+paste-within : (brackets : Bool) → AreAsciiWithin 8 (paste_item brackets)
+unfolding digits
+paste-within true = one-within (private_mode 2004 true) (mode-is 2004 true (omega arith)) refl
+paste-within false = record { events = All-nil IsEvent; short = omega arith; ascii = small-ascii [] refl }
+
 narrow-within : AreAsciiWithin 5 (private_mode 3 false ∷ [])
 unfolding digits
 narrow-within = one-within (private_mode 3 false) (mode-is 3 false (omega arith)) refl
@@ -88,14 +93,15 @@ items-within s i =
     record { events = within.events; short = within.short; ascii = speaks-ascii (spell_events (made_events s)) within.speaks }
 
 pub repaint-within : (w : Whole) → IsSoundDisplay (other_shown w.pages) → IsSoundDisplay w.state.display
-    → AreAsciiWithin 187051 (xterm_repaint_events w)
+    → AreAsciiWithin 187059 (xterm_repaint_events w)
 unfolding xterm_repaint_events
 repaint-within w i j =
     let a = w.pages.alternate in
-    then-within 2 187049 (reset_to_initial_state ∷ []) _ reset-within
-    (then-within 6 187043 (private_mode 40 true ∷ []) _ (allow-within true)
-    (then-within 6 187037 (private_mode 47 (not a) ∷ []) _ (page-within (not a))
-    (then-within 93510 93527 (made_events (other_shown w.pages)) _ (items-within (other_shown w.pages) i)
-    (then-within 6 93521 (private_mode 47 a ∷ []) _ (page-within a)
-    (then-within 5 93516 (private_mode 3 false ∷ []) _ narrow-within
-    (then-within 93510 6 (made_events w.state.display) _ (items-within w.state.display j) (allow-within w.pages.resizes)))))))
+    then-within 6 187053 (private_mode 40 true ∷ []) _ (allow-within true)
+    (then-within 2 187051 (reset_to_initial_state ∷ []) _ reset-within
+    (then-within 6 187045 (private_mode 47 (not a) ∷ []) _ (page-within (not a))
+    (then-within 93510 93535 (made_events (other_shown w.pages)) _ (items-within (other_shown w.pages) i)
+    (then-within 6 93529 (private_mode 47 a ∷ []) _ (page-within a)
+    (then-within 5 93524 (private_mode 3 false ∷ []) _ narrow-within
+    (then-within 93510 14 (made_events w.state.display) _ (items-within w.state.display j)
+    (then-within 6 8 (private_mode 40 w.pages.resizes ∷ []) _ (allow-within w.pages.resizes) (paste-within w.pages.brackets))))))))

@@ -1,7 +1,8 @@
 -- The repaint under TERM=xterm: one byte string for each session, which rebuilds it on any terminal and front. (this profile)
-use Rattle.std.specs.Prelude.{◌≡◌, ◌≤◌, ℕ, List, [], ◌∷◌, ◌++◌, true, false, not, All}
+use Rattle.std.specs.Prelude.{◌≡◌, ◌≤◌, ℕ, List, [], ◌∷◌, ◌++◌, Bool, true, false, not, All}
 use Rattle.vt_syntax.specs.declared.event.Event.{Event}
 use Rattle.vt_syntax.specs.Spelling.{spell_events}
+use Rattle.vt_screen.specs.Same.{when}
 use Rattle.vt_term.specs.State.{Display, State, display_at_power_up, power_up}
 use Rattle.vt_term.specs.Sound.{IsSound}
 use Rattle.vt_term.specs.Pages.{with_page}
@@ -15,23 +16,28 @@ use Rattle.vt_xterm.specs.Play.{Whole, play_xterm, behind, front_at_power_up}
 abbrev pub other_shown : PagesState → Display
 other_shown pages = with_page pages.other display_at_power_up
 
+-- ?2004, if it is set
+abbrev pub paste_item : Bool → List Event
+paste_item brackets = when brackets (private_mode 2004 true ∷ [])
+
 -- a terminal that shows that page
 abbrev pub showing_other : PagesState → State
 showing_other pages = record power_up { display = other_shown pages }
 
--- After RIS the main page is shown. The items of the page that isn't shown come first, on that page: ?47 chooses it. ?40 is set, so
--- that DECCOLM has an effect. Then ?47 exchanges the pages, and ?3 makes the display as at power-up. The items of the display that
--- is shown follow.
+-- ?40 is set, so that DECCOLM has an effect, and RIS gives 80 columns. After RIS the main page is shown. The items of the page that
+-- isn't shown come first, on that page: ?47 chooses it. Then ?47 exchanges the pages, and ?3 makes the display as at power-up. The
+-- items of the display that is shown follow, and at the end ?40, and ?2004 if it is set.
 unfoldable pub xterm_repaint_events : Whole → List Event
 xterm_repaint_events w =
-    reset_to_initial_state
-    ∷ private_mode 40 true
+    private_mode 40 true
+    ∷ reset_to_initial_state
     ∷ private_mode 47 (not w.pages.alternate)
     ∷ (made_events (other_shown w.pages)
     ++ private_mode 47 w.pages.alternate
     ∷ private_mode 3 false
     ∷ (made_events w.state.display
-    ++ private_mode 40 w.pages.resizes ∷ []))
+    ++ private_mode 40 w.pages.resizes
+    ∷ paste_item w.pages.brackets))
 
 -- in 7-bit form
 unfoldable pub xterm_repaint : Whole → List ℕ

@@ -16,8 +16,8 @@ use vt_xterm::laws::soundness as session_soundness;
 
 /// States that the repaint of a session between sequences rebuilds it on every terminal and front, and gives no report.
 ///
-/// A session is a terminal, the page that isn't shown, which page is shown, and whether DECCOLM has an effect. The repaint leaves
-/// exactly these, and nothing is pending.
+/// A session is a terminal, the page that isn't shown, which page is shown, whether DECCOLM has an effect, and whether pasted text is
+/// wanted in brackets. The repaint leaves exactly these, and nothing is pending.
 pub fn rebuilds()
     ensures { (w : Whole) → IsSoundWhole w → w.state.held ≡ Nothing → IsRebuilt w }
 {

@@ -6,7 +6,7 @@ ghost use Rattle.vt_syntax.specs.Spelling.{spell_events};
 ghost use Rattle.vt_term.specs.Sound.{IsSound};
 ghost use Rattle.vt_controls.specs.Controls.{private_mode};
 ghost use Rattle.vt_xterm.specs.Play.{IsSoundWhole, behind};
-ghost use Rattle.vt_xterm_paint.specs.Repaint.{other_shown, showing_other, xterm_repaint, IsRebuilt};
+ghost use Rattle.vt_xterm_paint.specs.Repaint.{other_shown, showing_other, paste_item, xterm_repaint, IsRebuilt};
 
 use crate::laws::rebuilds;
 use vt_controls::{DECCOLM, Function, push_bytes};
@@ -14,10 +14,10 @@ use vt_paint::{PAINT_LIMIT, PaintError, repaint_items_reserved};
 use vt_term::Terminal;
 use vt_xterm::Front;
 
-/// The limit of a repaint in bytes: that of a VT220's repaint for each of two pages, and 28 for what is between.
-pub const XTERM_PAINT_LIMIT: usize = 2 * PAINT_LIMIT + 28;
+/// The limit of a repaint in bytes: that of a VT220's repaint for each of two pages, and 36 for what is between and behind them.
+pub const XTERM_PAINT_LIMIT: usize = 2 * PAINT_LIMIT + 36;
 
-const _: () = prove!(XTERM_PAINT_LIMIT == 187052);
+const _: () = prove!(XTERM_PAINT_LIMIT == 187060);
 
 /// Appends ?40: whether DECCOLM has an effect.
 fn push_resizes(on: bool, out: &mut Vec<u8>)
@@ -44,6 +44,18 @@ fn push_page(alternate: bool, out: &mut Vec<u8>)
         push_bytes(b"\x1B[?47h", out);
     } else {
         push_bytes(b"\x1B[?47l", out);
+    }
+}
+
+/// Appends ?2004, if pasted text is wanted in brackets.
+fn push_paste(brackets: bool, out: &mut Vec<u8>)
+    requires { vec_len out.old + 8 ≤ vec_capacity out.old }
+    ensures items { out.new.items ≡ out.old.items ++ spell_events (paste_item brackets) }
+    ensures bounded { vec_len out.new ≤ vec_len out.old + 8 }
+    ensures capacity { vec_capacity out.old ≤ vec_capacity out.new }
+{
+    if brackets {
+        push_bytes(b"\x1B[?2004h", out);
     }
 }
 
@@ -113,12 +125,13 @@ pub fn repaint_xterm_reserved(
     let alternate = front.is_alternate();
     front.show_other(scratch);
     soundness(t, front, scratch);
-    Function::reset().push(out);
     push_resizes(true, out);
+    Function::reset().push(out);
     push_page(!alternate, out);
     repaint_items_reserved(scratch, out);
     push_page(alternate, out);
     Function::mode(DECCOLM, false).push(out);
     repaint_items_reserved(t, out);
     push_resizes(front.resizes(), out);
+    push_paste(front.brackets(), out);
 }

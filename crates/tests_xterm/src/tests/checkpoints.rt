@@ -5,16 +5,18 @@ use vt_term::Terminal;
 use vt_xterm::Front;
 use vt_xterm_paint::repaint_xterm;
 
-/// Bytes that come before a repaint: a page of 132 columns, the alternate page, a sequence and a character that aren't complete.
-const BEFORE: [&[u8]; 4] = [
+/// Bytes that come before a repaint: pages of 132 columns, also without ?40, bracketed paste, the alternate page, a sequence and a character that aren't
+/// complete.
+const BEFORE: [&[u8]; 5] = [
     b"",
     b"\x1b[?40h\x1b[?3hwide\x1b7\x1b[?1049h\x1b[?3l\x1b[4hx",
+    b"\x1b[?40h\x1b[?3h\x1b[?40lwide\x1b7\x1b[?2004h\x1b[?47hwide\x1b]0;t",
     b"\x1b[?40h\x1b[?47h\x1b[5;9r\x1b[?6h\x1b[12",
     b"a\x1b[?1049h\xE2\x82",
 ];
 
 /// A name, and what a session is fed.
-const SESSIONS: [(&str, &[u8]); 9] = [
+const SESSIONS: [(&str, &[u8]); 10] = [
     ("power-up", b""),
     ("the main page is shown", b"ab\x1b[5;5H\x1b[1;7mc\x1b7"),
     (
@@ -42,12 +44,14 @@ const SESSIONS: [(&str, &[u8]); 9] = [
         b"\x1b[3g\x1b[1;7H\x1bH\x1b[5;9r\x1b[?6h\x1b[4h\x1b)0\x0e\x1b[?1049hq",
     ),
     ("a pending single shift", b"\x1b[?1047h\x1b*0\x1bN"),
+    ("bracketed paste", b"\x1b[?2004h\x1b[?47hab"),
 ];
 
 /// Returns whether two fronts show the same of the two pages, and nothing is pending in the second one.
 fn fronts_agree(one: &Front, two: &Front) -> bool {
     one.is_alternate() == two.is_alternate()
         && one.resizes() == two.resizes()
+        && one.brackets() == two.brackets()
         && two.pending().is_empty()
 }
 

@@ -44,7 +44,7 @@ const COLUMNS: [Row; 17] = [
 ];
 
 // xterm's control sequences: DECSET 3, 40, 47, 1047, 1048 and 1049, DECSTR, DECSCL, and RIS
-const PAGES: [Row; 19] = [
+const PAGES: [Row; 24] = [
     (
         "?1049h shows a blank page",
         "ab\x1b[?1049hx",
@@ -88,6 +88,12 @@ const PAGES: [Row; 19] = [
         (1, 2),
     ),
     (
+        "?1047l leaves what DECSC saved",
+        "\x1b[?1047h\x1b[3;3H\x1b7x\x1b[?1047l\x1b[?47h\x1b[H\x1b8",
+        "\n\n\n",
+        (3, 3),
+    ),
+    (
         "?1048",
         "\x1b[2;3H\x1b[?1048h\x1b[H\x1b[?1048lx",
         "\n  x\n",
@@ -110,6 +116,30 @@ const PAGES: [Row; 19] = [
         "\x1b[?1049hx\x1bcy\x1b[?47h",
         "\n",
         (1, 2),
+    ),
+    (
+        "RIS leaves 132 columns",
+        "\x1b[?40h\x1b[?3h\x1b[?40lab\x1bc\x1b[132G",
+        "\n",
+        (1, 132),
+    ),
+    (
+        "RIS after ?40h gives 80 columns",
+        "\x1b[?40h\x1b[?3hab\x1bc\x1b[132G",
+        "\n",
+        (1, 80),
+    ),
+    (
+        "RIS leaves ?40h",
+        "\x1b[?40h\x1bc\x1b[?3h\x1b[132G",
+        "\n",
+        (1, 132),
+    ),
+    (
+        "RIS resets all else of 132 columns",
+        "\x1b[?40h\x1b[?3h\x1b[?40l\x1b[?7l\x1b[4h\x1b[5;9r\x1b[9;99H\x1b7\x1bc\x1b8\x1b[2Bx",
+        "\n\nx\n",
+        (3, 2),
     ),
     ("?3 has no effect", "ab\x1b[?3h", "ab\n", (1, 3)),
     ("?3 after ?40", "ab\x1b[?40h\x1b[?3h", "\n", (1, 1)),
@@ -203,6 +233,35 @@ fn pages(rt: HostRuntime) {
 #[test]
 fn edits(rt: HostRuntime) {
     all_show(&rt, rt.alloc(), &EDITS);
+}
+
+// xterm's control sequences: DECSET 2004, DECSTR, DECSCL, RIS
+const PASTES: [(&str, &[u8], bool); 8] = [
+    ("at power-up", b"", false),
+    ("?2004h", b"\x1b[?2004h", true),
+    ("?2004l", b"\x1b[?2004h\x1b[?2004l", false),
+    ("2004 without the marker", b"\x1b[2004h", false),
+    (
+        "on the other page, too",
+        b"\x1b[?1049;2004h\x1b[?1049l",
+        true,
+    ),
+    ("DECSTR", b"\x1b[?2004h\x1b[!p", true),
+    ("DECSCL", b"\x1b[?2004h\x1b[62\"p", true),
+    ("RIS", b"\x1b[?2004h\x1bc", false),
+];
+
+/// Returns whether a front that was fed this wants pasted text in brackets, or doesn't.
+fn wants_brackets(alloc: Global, input: &[u8], wanted: bool) -> Result<bool, AllocError> {
+    let fed = fed::<Front>(alloc, input, 1)?;
+    Ok(fed.front.brackets() == wanted)
+}
+
+#[test]
+fn pastes(rt: HostRuntime) {
+    for (name, input, wanted) in &PASTES {
+        holds(&rt, name, wants_brackets(rt.alloc(), input, *wanted));
+    }
 }
 
 /// Returns whether a front shows the alternate page, lets DECCOLM resize, and has one byte of a character.

@@ -7,7 +7,7 @@ use vt_utf8::{Decoder, cells, shown_as};
 /// A name, what is fed, the first lines of the screen, and the cursor's row and column.
 type Row = (&'static str, &'static str, &'static str, (u16, u16));
 
-const GLYPHS: [Row; 12] = [
+const GLYPHS: [Row; 15] = [
     ("German", "Grüße, Öl", "Grüße, Öl\n", (1, 10)),
     (
         "the 204",
@@ -26,9 +26,17 @@ const GLYPHS: [Row; 12] = [
         (1, 16),
     ),
     ("dashes and dots", "–—−… •", "---. ·\n", (1, 7)),
-    ("arrows and blocks", "←↑→↓█▌░", "<^>v▒▒▒\n", (1, 8)),
+    ("arrows and blocks", "←↑→↓█▌░", "<^>v#▒:\n", (1, 8)),
+    ("a progress bar", "███▌▓▒░░", "###▒▒▒::\n", (1, 9)),
+    ("levels", "▁▂▃▄▅▆▇█", "⎽⎽⎼▒▒▒▒#\n", (1, 9)),
     ("marks", "✓✗×÷€", "+xx/¤\n", (1, 6)),
     ("letters", "Łódź Čapek", "Lódz Capek\n", (1, 11)),
+    (
+        "strokes, dots and hooks",
+        "ŦŧĐđĿŀŉŊŋıſ",
+        "TtDdLlnNnis\n",
+        (1, 12),
+    ),
     ("others", "Ж∞", "␦␦\n", (1, 3)),
 ];
 

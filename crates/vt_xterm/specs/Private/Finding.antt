@@ -1,26 +1,13 @@
--- Events that a front leaves to the terminal, and the law of the observer that finds the others. Of the public clauses one cites
--- this, `terminals` of laws::transparent.
+-- The law of the observer that finds the events that a front doesn't leave to the terminal.
 use Rattle.std.specs.Prelude.{◌≡◌, ℕ, ◌++◌, ◌∷◌, List, [], ⊤}
 use Rattle.std.proofs.Common.{subst, sym}
 use Rattle.vt_syntax.specs.declared.event.Event.{Event}
 use Rattle.vt_syntax.specs.Held.{events_from}
 use Rattle.vt_syntax.specs.Laws.{SplitLaw}
 use Rattle.vt_term.specs.State.{State}
-use Rattle.vt_term.specs.Functions.{effect}
 use Rattle.vt_term.specs.Play.{play}
-use Rattle.vt_term.specs.Scrolling.{line_off}
 use Rattle.vt_term.specs.Observing.{AreCut}
-use Rattle.vt_xterm.specs.Pages.{Screens, on_display}
-use Rattle.vt_xterm.specs.Front.{xterm_effect}
-use Rattle.vt_xterm.specs.Log.{page_line_off}
-
--- the event has a VT220's effect, and scrolls off what it scrolls off there
-abbrev pub IsTerminals : Event → Type 0
-IsTerminals event = (s : Screens) → (xterm_effect event s ≡ on_display (effect event) s) × (page_line_off event s.display ≡ line_off event s.display)
-
-unfoldable pub AreTerminals : List Event → Type 0
-AreTerminals [] = ⊤
-AreTerminals (event ∷ events) = IsTerminals event × AreTerminals events
+use Rattle.vt_xterm.specs.Terminals.{AreTerminals, PlaysTerminals}
 
 pub terminals-append : (xs ys : List Event) → AreTerminals xs → AreTerminals ys → AreTerminals (xs ++ ys)
 unfolding AreTerminals
@@ -30,10 +17,6 @@ terminals-append (x ∷ xs) ys first second = (first.0, terminals-append xs ys f
 pub terminals-none : (events : List Event) → events ≡ [] → AreTerminals events
 unfolding AreTerminals
 terminals-none events is = subst AreTerminals (sym is) tt
-
--- all events of bytes have a VT220's effect
-abbrev pub PlaysTerminals : State → List ℕ → Type 0
-PlaysTerminals s bytes = AreTerminals (events_from s.held bytes)
 
 plays-more : SplitLaw → (s : State) (a b : List ℕ) → PlaysTerminals s a → PlaysTerminals (play s a).state b
     → PlaysTerminals s (a ++ b)

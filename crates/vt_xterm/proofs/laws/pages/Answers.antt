@@ -1,5 +1,8 @@
-use Rattle.vt_xterm.proofs.Stays.{event-stays}
+use Rattle.vt_xterm.proofs.Stays.{event-stays, event-but}
 use Rattle.vt_xterm.proofs.laws.pages.Goals as goal
 
 pub returns : goal.returns
-returns c = λ event s h. event-stays event h s
+returns c = record {
+  stay = λ event s h k. event-stays event h k s;
+  brackets = λ event s h. event-but event h s;
+}

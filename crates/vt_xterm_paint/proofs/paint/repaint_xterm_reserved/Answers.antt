@@ -9,6 +9,7 @@ pub returns-clause-items : goal.returns-clause-items
 unfolding xterm_repaint xterm_repaint_events digits
 returns-clause-items c =
     rw (
+      c.push_paste.ensures.items,
       c.push_resizes-2.ensures.items,
       c.repaint_items_reserved-2.ensures.items,
       c.push-2.ensures.items,
@@ -16,12 +17,13 @@ returns-clause-items c =
       c.push_page-2.ensures.items,
       c.repaint_items_reserved.ensures.items,
       c.push_page.ensures.items,
-      c.push_resizes.ensures.items,
       c.push.ensures.items,
       c.reset.ensures.value,
+      c.push_resizes.ensures.items,
       c.show_other.ensures,
       c.is_alternate-alternate.ensures,
       c.resizes.ensures,
+      c.brackets.ensures,
     )
     (simp (flat_map-append, append_assoc))
 
@@ -41,6 +43,23 @@ push_resizes-requires-2 c =
       c.repaint_items_reserved-2.ensures,
     )
 
+pub push_paste-requires : goal.push_paste-requires
+push_paste-requires c =
+    omega (
+      arith,
+      c.requires.room,
+      c.reset.ensures.short,
+      c.mode.ensures.short,
+      c.push.ensures,
+      c.push_resizes.ensures,
+      c.push_page.ensures,
+      c.repaint_items_reserved.ensures,
+      c.push_page-2.ensures,
+      c.push-2.ensures,
+      c.repaint_items_reserved-2.ensures,
+      c.push_resizes-2.ensures,
+    )
+
 pub returns-clause-rebuilds : goal.returns-clause-rebuilds
 returns-clause-rebuilds c = c.rebuilds.ensures (behind c.args.t.now c.args.front.now) c.soundness.ensures c.requires.between
 
@@ -58,4 +77,5 @@ returns-clause-bounded c =
       c.push-2.ensures.bounded,
       c.repaint_items_reserved-2.ensures.bounded,
       c.push_resizes-2.ensures.bounded,
+      c.push_paste.ensures.bounded,
     )

@@ -2,6 +2,7 @@
 #
 #   make              the program, the library for C and the session keeper
 #   make program      crates/vt220/out/vt220, which ./vt220 runs
+#   make try          prints the screen that the bytes of standard input leave, or those of a small example. The core runs without a proof
 #   make screen       crates/screen/out/screen, the smallest program over the core, which is proved first
 #   make lib          the library for C in out/: libvt220.a, libvt220.so and vt220.pc, with its headers
 #   make keeper       out/vt220-keep
@@ -63,10 +64,15 @@ PROGRAM := crates/vt220/out/vt220
 CHUNKS := crates/chunks/out/chunks
 SCREEN := crates/screen/out/screen
 
-.PHONY: everything program screen lib keeper js install install-lib uninstall crates version help
+.PHONY: everything program try screen lib keeper js install install-lib uninstall crates version help
 everything: program lib keeper
 program: $(PROGRAM)
 screen: $(SCREEN)
+# What rt prints besides the screen is shown if it fails.
+try:
+	@echo 'make try: nothing is proved here; "make screen" proves the core first' >&2
+	@if [ -t 0 ]; then exec <crates/screen/stdin; fi; log=$$(mktemp); trap 'rm -f "$$log"' EXIT; \
+	  cd crates/screen; rt try 2>"$$log" || { cat "$$log" >&2; exit 1; }
 lib: $(OUT)/libvt220.a $(OUT)/libvt220.so $(OUT)/vt220.pc $(addprefix $(OUT)/,$(notdir $(HEADERS)))
 keeper: $(OUT)/vt220-keep
 

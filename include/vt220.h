@@ -352,8 +352,9 @@ uint32_t vt220_show(const vt220 *t, vt220_scratch *s, uint8_t *out, size_t size,
  * Returns VT220_OK, VT220_ROOM or VT220_CLOSED. */
 uint32_t vt220_picture(const vt220 *t, vt220_scratch *s, uint8_t *out, size_t size, size_t *written);
 
-/* Writes the repaint: bytes that, fed to any terminal of this library in any state, leave it in exactly the state of `t`. They
- * cause no replies. Other terminals lack some of these functions.
+/* Writes the repaint: bytes that, fed by vt220_feed or vt220_feed_utf8 to any terminal, whatever its state, leave it in exactly the state
+ * of `t`. They cause no replies. vt220_feed_xterm may play them differently: vt220_xterm_repaint is for it. Terminals of others lack some
+ * of these functions.
  *   out, size   the output buffer; VT220_PAINT_LIMIT bytes are always enough
  *   written     receives the length; 0 if a handle is closed or the terminal is inside a sequence
  * Returns VT220_OK, VT220_ROOM, VT220_CLOSED or VT220_PARTIAL. */

@@ -488,7 +488,8 @@ func (t *Terminal) Saved() Saved {
 	}
 }
 
-// Repaint returns bytes that leave any terminal of this library in this one's state. It returns ErrPartial inside a sequence.
+// Repaint returns bytes that, fed by Feed or FeedUTF8 to any terminal, whatever its state, leave it in this one's state. For a session under
+// TERM=xterm there is Xterm.Repaint. It returns ErrPartial inside a sequence.
 func (t *Terminal) Repaint(s *Scratch) ([]byte, error) {
 	return s.written(func(length *C.size_t) C.uint32_t {
 		return C.vt220_repaint(&t.handle, &s.handle, &s.out[0], UpdateLimit, length)

@@ -160,7 +160,7 @@ export declare class Terminal {
   show(): string;
   /** Returns the screen as an SVG document. */
   picture(): string;
-  /** Returns bytes that leave any terminal of this library in exactly this state. Throws PARTIAL inside a sequence. */
+  /** Returns bytes that leave any terminal but one of TERM=xterm in exactly this state. Throws PARTIAL inside a sequence. */
   repaint(): Uint8Array;
   /**
    * Returns bytes that leave any terminal of TERM=xterm in exactly this state, with both pages. What is pending of UTF-8 is left out. Throws

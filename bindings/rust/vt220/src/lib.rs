@@ -484,7 +484,8 @@ impl Terminal {
         scratch.text(|s, out, written| unsafe { sys::vt220_picture(&self.0, s, out, PICTURE_LIMIT, written) }).expect("a picture has no error")
     }
 
-    /// Returns bytes that leave any terminal of this library in the state of this one.
+    /// Returns bytes that, fed by `feed` or `feed_utf8` to any terminal, whatever its state, leave it in the state of this one. For a session
+    /// under TERM=xterm there is `Xterm::repaint`.
     ///
     /// # Errors
     ///

@@ -1,5 +1,5 @@
 //! Has what the tests share: the names of the events of some bytes.
-use crate::common::holds;
+use crate::common::gives;
 use std::alloc::{AllocError, Global};
 use std::process::Abort;
 use vt_syntax::{Parser, Values};
@@ -26,14 +26,9 @@ fn names(alloc: Global, input: &[u8]) -> Result<Vec<u8>, AllocError> {
     Ok(out)
 }
 
-/// Returns whether the events of the bytes have these names.
-fn are_named(alloc: Global, row: &Row) -> Result<bool, AllocError> {
-    Ok(names(alloc, row.0)?.as_slice() == row.1)
-}
-
 /// Asserts that the events of each row's bytes have the row's names.
 pub(super) fn are_all_named(rt: &impl Abort, alloc: Global, rows: &[Row]) {
     for row in rows {
-        holds(rt, row.0, are_named(alloc, row));
+        gives(rt, alloc, row, names(alloc, row.0));
     }
 }

@@ -1,7 +1,7 @@
 //! Summaries of bytes, by hand.
 ghost use Rattle.std.specs.Prelude.{◌≤◌};
 
-use crate::common::holds;
+use crate::common::gives;
 use std::alloc::{AllocError, Global};
 use vt_trace::{SUMMARY_LIMIT, Summary};
 
@@ -40,24 +40,24 @@ const SUMMARIES: [Row; 7] = [
     ),
 ];
 
-/// Returns whether the bytes have this summary, in chunks of a size.
-fn has_summary(alloc: Global, row: &Row, size: usize) -> Result<bool, AllocError>
+/// Returns the summary of some bytes, in chunks of a size.
+fn summary(alloc: Global, input: &[u8], size: usize) -> Result<Vec<u8>, AllocError>
     requires { 1 ≤ size }
 {
-    let mut summary = Summary::new(alloc)?;
-    for chunk in row.0.chunks(size) {
-        summary.count(chunk);
+    let mut counts = Summary::new(alloc)?;
+    for chunk in input.chunks(size) {
+        counts.count(chunk);
     }
     let mut out = Vec::with_capacity(alloc, SUMMARY_LIMIT)?;
-    summary.push_summary(&mut out);
-    Ok(out.as_slice() == row.1)
+    counts.push_summary(&mut out);
+    Ok(out)
 }
 
 #[test]
 fn summaries_of_chunks(rt: HostRuntime) {
     for row in &SUMMARIES {
         for size in [1, 3, 4096] {
-            holds(&rt, row.0, has_summary(rt.alloc(), row, size));
+            gives(&rt, rt.alloc(), row, summary(rt.alloc(), row.0, size));
         }
     }
 }

@@ -10,6 +10,7 @@
 #                     and the fleet's page need
 #   make install      installs these under PREFIX with their manual pages and completions, and prints each file
 #   make install-lib  installs the library alone, with its headers and its manual page
+#   make install-page installs the command vt220-page under PREFIX, over `make js`
 #   make uninstall    removes it, and the directories that are then empty
 #   make crates OF=.. prints the crates of this repository that some crates depend on, and themselves, lowest first
 #   make version      prints the version
@@ -64,7 +65,7 @@ PROGRAM := crates/vt220/out/vt220
 CHUNKS := crates/chunks/out/chunks
 SCREEN := crates/screen/out/screen
 
-.PHONY: everything program try screen lib keeper js install install-lib uninstall crates version help
+.PHONY: everything program try screen lib keeper js install install-lib install-page uninstall crates version help
 everything: program lib keeper
 program: $(PROGRAM)
 screen: $(SCREEN)
@@ -120,7 +121,12 @@ FILES = $(PROGRAM):$(PREFIX)/bin/vt220:755 $(OUT)/vt220-keep:$(PREFIX)/bin/vt220
   $(foreach header,$(HEADERS),$(header):$(PREFIX)/include/$(notdir $(header)):644) $(OUT)/libvt220.a:$(LIBDIR)/libvt220.a:644 \
   $(OUT)/libvt220.so.$(VERSION):$(LIBDIR)/libvt220.so.$(VERSION):755 /dev/stdin:$(LIBDIR)/pkgconfig/vt220.pc:644
 LINKS = libvt220.so.$(VERSION):$(LIBDIR)/$(SONAME) $(SONAME):$(LIBDIR)/libvt220.so
-INSTALLED = $(foreach file,$(LINKS) $(FILES),$(word 2,$(subst :, ,$(file))))
+# The command vt220-page has what it needs next to it: the program that reads recordings, the module that writes a page, and the template.
+PAGE = $(PREFIX)/lib/vt220
+PAGE_FILES = js/vt220-page:$(PAGE)/vt220-page:755 $(CHUNKS):$(PAGE)/chunks:755 /dev/null:$(PAGE)/vt220/__init__.py:644 \
+  bindings/python/vt220/page.py:$(PAGE)/vt220/page.py:644 out/js/page.html:$(PAGE)/vt220/page.html:644 man/vt220-page.1:$(SHARE)/man/man1/vt220-page.1:644
+PAGE_LINKS = ../lib/vt220/vt220-page:$(PREFIX)/bin/vt220-page
+INSTALLED = $(foreach file,$(LINKS) $(FILES) $(PAGE_LINKS) $(PAGE_FILES),$(word 2,$(subst :, ,$(file))))
 # A directory and those above it, up to PREFIX or LIBDIR. The directories that every system has stay.
 up = $(if $(filter $(PREFIX)/% $(LIBDIR) $(LIBDIR)/%,$(1)),$(1) $(call up,$(patsubst %/,%,$(dir $(1)))))
 STAY = $(if $(DESTDIR),,$(addprefix /usr/local/,bin include lib share share/man) $(if $(filter /usr,$(PREFIX)),/usr/%))
@@ -130,11 +136,14 @@ LOADER = DESTDIR='$(DESTDIR)' packaging/loader
 install: everything
 install-lib: lib
 install-lib: FILES := $(filter man/vt220.3:% include/% $(OUT)/libvt220.% /dev/stdin:%,$(FILES))
-install install-lib:
+install-page: js
+install-page: FILES := $(PAGE_FILES)
+install-page: LINKS := $(PAGE_LINKS)
+install install-lib install-page:
 	$(IS_ABSOLUTE)@$(FILL) packaging/vt220.pc.in | for file in $(FILES); do \
 	  IFS=: read -r from to mode <<<"$$file"; install -D -m $$mode $$from $(DESTDIR)$$to; echo "installed $(DESTDIR)$$to"; done
-	@for link in $(LINKS); do ln -sf $${link%:*} $(DESTDIR)$${link#*:}; echo "installed $(DESTDIR)$${link#*:}"; done
-	@$(LOADER) $(LIBDIR)/$(SONAME)
+	@for link in $(LINKS); do mkdir -p $$(dirname $(DESTDIR)$${link#*:}); ln -sf $${link%:*} $(DESTDIR)$${link#*:}; echo "installed $(DESTDIR)$${link#*:}"; done
+	@$(if $(findstring $(SONAME),$(LINKS)),$(LOADER) $(LIBDIR)/$(SONAME))
 uninstall:
 	$(IS_ABSOLUTE)@for file in $(addprefix $(DESTDIR),$(INSTALLED)); do [ ! -e $$file ] && [ ! -L $$file ] || { rm $$file; echo "removed $$file"; }; done
 	@rmdir $(addprefix $(DESTDIR),$(filter-out $(STAY),$(foreach file,$(INSTALLED),$(call up,$(patsubst %/,%,$(dir $(file))))))) 2>/dev/null || true

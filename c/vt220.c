@@ -269,12 +269,12 @@ INLINED size_t process(player by, const uint8_t *bytes, size_t len, buffer *repl
 /* Does the same and drops the replies. It isn't inlined, so that no other call has this buffer on its stack. */
 __attribute__((noinline)) static size_t process_unanswered(player by, const uint8_t *bytes, size_t len, buffer *lines) {
     uint8_t dropped[REPLIES];
-    size_t taken = 0, now;
-    do {
+    size_t taken = 0, now = 1;
+    while (now > 0 && taken < len) {
         buffer replies = empty(dropped, sizeof dropped);
         now = process(by, bytes + taken, len - taken, &replies, lines);
         taken += now;
-    } while (now > 0 && taken < len);
+    }
     return taken;
 }
 

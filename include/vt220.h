@@ -63,7 +63,7 @@ extern "C" {
 #endif
 
 /* The version of this header: 10000 * major + 100 * minor + patch. */
-#define VT220_VERSION 300
+#define VT220_VERSION 400
 
 /* The statuses, which calls of type uint32_t return. On an error nothing has changed. */
 #define VT220_OK 0          /* success */

@@ -1,8 +1,30 @@
 """Joins modules of js/ into one script: js/pack and js/template do so."""
+import functools
 import pathlib
 import re
+import subprocess
 
 JS = pathlib.Path(__file__).resolve().parent
+
+
+def printed(*command):
+    """Returns what a script of packaging/ prints."""
+    name, *words = command
+    return subprocess.run([JS.parent / "packaging" / name, *words], check=True, capture_output=True, text=True).stdout
+
+
+def version():
+    """Returns the version of the package, in the form of npm."""
+    return printed("version", "semver").strip()
+
+
+@functools.cache
+def notices():
+    """Returns a comment for a script that has the WebAssembly: the version, LICENCE, and the notices of others' code in it."""
+    licence = (JS.parent / "LICENCE").read_text().rsplit("\n\n", 1)[0]  # the last paragraph is about the file
+    text = f"vt220 {version()}\n\n{licence}\n\nIt contains code of others, with these notices:\n{printed('third-party', '--library')}"
+    assert "*/" not in text and "</" not in text, "the notices would end the comment or the script"
+    return f"/*!\n{text}*/\n"
 
 
 def bundle(*names):

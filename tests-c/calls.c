@@ -315,11 +315,29 @@ static void logs(void) {
     vt220_close(&u);
 }
 
+/* Feeds nothing by each call, from and to null pointers. The replies are wanted or dropped. */
+static void feed_nothing(vt220 *t, size_t *written) {
+    vt220_utf8 u = {{0}, 0};
+    vt220_xterm x = VT220_INIT;
+    size_t logged = 9;
+    CHECK(vt220_xterm_open(&x) == VT220_OK);
+    CHECK(vt220_feed(t, NULL, 0, NULL, 0, written) == 0 && vt220_feed_utf8(t, &u, NULL, 0, NULL, 0, written) == 0);
+    CHECK(vt220_feed_xterm(t, &x, NULL, 0, NULL, 0, written) == 0);
+    CHECK(vt220_feed_log(t, &s, NULL, 0, NULL, 0, written, NULL, 0, &logged) == 0 && logged == 0);
+    CHECK(vt220_feed_log_utf8(t, &s, &u, NULL, 0, NULL, 0, written, NULL, 0, &logged) == 0 && logged == 0);
+    CHECK(vt220_feed_log_xterm(t, &s, &x, NULL, 0, NULL, 0, written, NULL, 0, &logged) == 0 && logged == 0);
+    vt220_xterm_close(&x);
+}
+
 /* A null pointer of length 0 is allowed. */
 static void null_pointers(void) {
-    vt220 t = opened("abc");
+    vt220 t = opened("abc"), before = opened("abc");
     size_t written = 9;
-    CHECK(vt220_feed(&t, NULL, 0, NULL, 0, &written) == 0 && written == 0);
+    feed_nothing(&t, &written);
+    CHECK(written == 0);
+    feed_nothing(&t, NULL);
+    CHECK(vt220_same_state(&t, &before));
+    vt220_close(&before);
     CHECK(vt220_feed(&t, (const uint8_t *)"d", 1, NULL, 0, &written) == 0 && written == 0);
     CHECK(vt220_text(&t, &s, NULL, 0, &written) == VT220_ROOM && written == 4 + 23);
     CHECK(vt220_repaint(&t, &s, NULL, 0, &written) == VT220_ROOM && written > 0);
@@ -336,7 +354,6 @@ static void dropped_replies(void) {
     CHECK(vt220_feed(&t, many, sizeof many, NULL, 0, NULL) == sizeof many && vt220_bells(&t) == sizeof many / 5);
     memset(out, 0xA5, sizeof out);
     CHECK(vt220_feed(&t, many, sizeof many, out, sizeof out, NULL) == sizeof many && out[0] == 0xA5 && vt220_same_state(&t, &u));
-    CHECK(vt220_feed(&t, NULL, 0, NULL, 0, NULL) == 0);
     /* As many lines as have room, whatever the replies. */
     memset(many, 'x', sizeof many);
     for (size_t i = 0; i + 80 < sizeof many; i += 81) memcpy(many + i, "\033[6n", 4);

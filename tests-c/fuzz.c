@@ -340,6 +340,17 @@ static void look(const vt220 *t) {
     see(38, (unsigned)saved.row), see(39, (unsigned)saved.col / 8), see(40, saved.wrap + 2u * saved.origin), see(41, (unsigned)vt220_width(t));
 }
 
+/* Feeds nothing to `c` by each call, from and to null pointers. The replies are wanted or dropped. */
+static void feed_nothing(size_t *written) {
+    vt220_utf8 u = {{0}, 0};
+    size_t logged;
+    MUST(vt220_feed(&c, NULL, 0, NULL, 0, written) == 0 && vt220_feed_utf8(&c, &u, NULL, 0, NULL, 0, written) == 0);
+    MUST(vt220_feed_xterm(&c, &x, NULL, 0, NULL, 0, written) == 0);
+    MUST(vt220_feed_log(&c, &s, NULL, 0, NULL, 0, written, NULL, 0, &logged) == 0 && logged == 0);
+    MUST(vt220_feed_log_utf8(&c, &s, &u, NULL, 0, NULL, 0, written, NULL, 0, &logged) == 0 && logged == 0);
+    MUST(vt220_feed_log_xterm(&c, &s, &x, NULL, 0, NULL, 0, written, NULL, 0, &logged) == 0 && logged == 0);
+}
+
 static void open_all(void) {
     vt220 *all[] = {&a, &b, &c, &power_up};
     for (int i = 0; i < 4; i++) MUST(vt220_open(all[i]) == VT220_OK);
@@ -366,6 +377,11 @@ int LLVMFuzzerTestOneInput(const uint8_t *data, size_t len) {
     MUST(vt220_bells(&a) - bells_a == bells && vt220_bells(&b) - bells_b == bells && vt220_bells(&c) - bells_c == bells);
     MUST(vt220_same_state(&c, &a) && vt220_reset(&c) == VT220_OK);
     MUST(vt220_feed(&c, bytes, len, NULL, 0, NULL) == len && vt220_same_state(&c, &a) && vt220_bells(&c) - bells_c == 2 * bells);
+    size_t written;
+    feed_nothing(&written);
+    MUST(written == 0);
+    feed_nothing(NULL);
+    MUST(vt220_same_state(&c, &a));
     /* A log changes nothing of this, and doesn't depend on the cuts either. */
     static uint8_t lines_a[VT220_ROW_TEXT_LIMIT * LONGEST], lines_b[VT220_ROW_TEXT_LIMIT * LONGEST];
     MUST(vt220_reset(&c) == VT220_OK && vt220_reset(&b) == VT220_OK);

@@ -2,8 +2,9 @@
 
 package vt220
 
-// The installed static library: the program then runs without libvt220.so. If the compiler doesn't look in its directories, CGO_CFLAGS
-// and CGO_LDFLAGS name them.
+// The installed static library, as pkg-config finds it: the program then runs without libvt220.so. pkg-config also names that one, and
+// --as-needed leaves it out.
 
-// #cgo LDFLAGS: -l:libvt220.a
+// #cgo pkg-config: vt220
+// #cgo LDFLAGS: -l:libvt220.a -Wl,--as-needed
 import "C"

@@ -34,7 +34,7 @@ const (
 	XtermPaintLimit = 187060
 	KeyLimit        = 5
 	TypedLimit      = 16
-	Version         = 300 // 10000 * major + 100 * minor + patch
+	Version         = 400 // 10000 * major + 100 * minor + patch
 )
 
 // The errors of the calls. A call that returns an error has changed nothing.

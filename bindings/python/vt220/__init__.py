@@ -43,7 +43,7 @@ XTERM_PAINT_LIMIT = 187060
 UPDATE_LIMIT = 94152
 KEY_LIMIT = 5
 TYPED_LIMIT = 16
-VERSION = 300
+VERSION = 400
 HELD = ("nothing", "escape", "control", "string")
 # The encodings of what a host sends: the VT220's own bytes, and UTF-8.
 ENCODINGS = ("dec", "utf-8")

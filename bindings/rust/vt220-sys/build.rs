@@ -19,7 +19,7 @@ fn pkg_config() -> Option<String> {
 
 /// Links what pkg-config names. Returns false if it knows no such library.
 fn link_by_pkg_config() -> bool {
-    let arguments = ["--libs", "vt220 >= 0.3"];
+    let arguments = ["--libs", "vt220 >= 0.4"];
     let words = match pkg_config().map(|program| Command::new(program).args(arguments).output()) {
         Some(Ok(done)) if done.status.success() => String::from_utf8_lossy(&done.stdout).into_owned(),
         _ => return false,

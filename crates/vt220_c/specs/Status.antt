@@ -29,6 +29,6 @@ status_room = 5
 abbrev pub status_no_row : ℕ
 status_no_row = 7
 
--- 0.3.0, as 10000 * major + 100 * minor + patch
+-- 0.4.0, as 10000 * major + 100 * minor + patch
 abbrev pub version : ℕ
-version = 300
+version = 400

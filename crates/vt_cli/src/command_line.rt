@@ -28,7 +28,7 @@ const LIMIT_MOST: u64 = 1099511627776;
 pub(crate) const BAD_COMMAND_LINE: &str = "vt220: bad command line\n";
 
 /// The version of the program and of all its crates: `vt220 --version` prints it after the name.
-const VERSION: &str = "0.3.0";
+const VERSION: &str = "0.4.0";
 
 /// Says what the program is for.
 const ABOUT: &str =

@@ -3,7 +3,7 @@
 use std::os::raw::{c_char, c_void};
 use core::ptr;
 
-pub const VT220_VERSION: u32 = 300;
+pub const VT220_VERSION: u32 = 400;
 
 pub const VT220_OK: u32 = 0;
 pub const VT220_MEMORY: u32 = 1;

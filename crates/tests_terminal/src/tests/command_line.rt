@@ -542,7 +542,7 @@ const REFUSED: [(&str, u8, &str); 23] = [
         "The screen with its attributes, for a terminal of today",
     ),
     ("vt220 picture --help", 0, "The screen as a picture (SVG)"),
-    ("vt220 --version", 0, "vt220 0.3.0\n"),
+    ("vt220 --version", 0, "vt220 0.4.0\n"),
 ];
 
 /// Returns whether a line is refused with this status, and a text that begins so.

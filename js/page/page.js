@@ -93,8 +93,7 @@ class Page {
   /** Shows the moment of the link, or the poster; then perhaps plays. */
   start() {
     const { options, player } = this;
-    if (!this.follow()) player.go(options.poster ?? options.start);
-    this.waitsAt = location.hash === "" ? options.start : null;
+    if (!this.follow()) player.wait(options.poster ?? options.start, options.start);
     this.tell("ready", player.now);
     if (options.autoplay) this.toggle();
   }
@@ -114,8 +113,6 @@ class Page {
   toggle() {
     const { player } = this;
     if (player.isPlaying) return player.pause();
-    if (this.waitsAt !== null) player.now = this.waitsAt;
-    this.waitsAt = null;
     player.play();
     let before = performance.now();
     const frame = (now) => {

@@ -105,6 +105,14 @@ class Chromium(Page):
         nodes = self.call("Accessibility.getFullAXTree")["nodes"]
         return [(node.get("role", {}).get("value"), node.get("name", {}).get("value")) for node in nodes if not node.get("ignored")]
 
+    def live(self):
+        """Returns the ids of the elements whose changes a screen reader reads out."""
+        nodes = self.call("Accessibility.getFullAXTree")["nodes"]
+        live = [node for node in nodes if any(each["name"] == "live" and each["value"]["value"] != "off" for each in node.get("properties", []))]
+        objects = [self.call("DOM.resolveNode", backendNodeId=node["backendDOMNodeId"])["object"]["objectId"] for node in live]
+        ids = [self.call("Runtime.callFunctionOn", objectId=each, functionDeclaration="function () { return this.id; }", returnByValue=True) for each in objects]
+        return {each["result"]["value"] for each in ids if each["result"].get("value")}
+
     def media(self, **features):
         self.call("Emulation.setEmulatedMedia", media=features.pop("media", ""), features=[{"name": n.replace("_", "-"), "value": v} for n, v in features.items()])
 

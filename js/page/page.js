@@ -6,6 +6,8 @@ import { Screen } from "./screen.js";
 
 const SPEEDS = [0.25, 0.5, 1, 2, 4, 8, 16];
 const FAR = 5; // seconds of the arrow keys; with Shift they go a tenth
+// A character that a Mac may type with Option. With Alt, letters, digits and blanks are for the browser.
+const SIGN = /^[^\w\s]$/;
 
 const $ = (id) => document.getElementById(id);
 
@@ -60,6 +62,8 @@ class Page {
     this.line = line;
     this.options = options;
     this.screen = new Screen(core, $("screen"));
+    // Whether the focus was last moved by a pointer, what was selected then, and whether the last click on the screen plays or pauses.
+    Object.assign(this, { isPointed: false, hadSelection: false, isClick: false });
     this.player = new Player(line, { changed: () => this.draw(), told: (event, time) => this.tell(event, time) });
     Object.assign(this.player, { loops: options.loop === true ? Infinity : Number(options.loop), longestPause: options.pause, stops: options.stops, markers: options.markers.map(([time]) => time) });
     $("full").hidden = !document.fullscreenEnabled;
@@ -84,6 +88,8 @@ class Page {
     $("skip").addEventListener("change", (event) => (player.skips = event.target.checked));
     $("needle").addEventListener("input", (event) => event.target.value === "" && this.search(""));
     $("search").addEventListener("submit", (event) => (event.preventDefault(), this.submit()));
+    $("screen").addEventListener("click", (event) => this.click(event));
+    document.addEventListener("pointerdown", () => Object.assign(this, { isPointed: true, hadSelection: !getSelection().isCollapsed }));
     document.addEventListener("keydown", (event) => this.key(event));
     addEventListener("hashchange", () => this.follow());
     addEventListener("resize", () => this.drawMarks());
@@ -162,10 +168,18 @@ class Page {
     if (to !== undefined) this.player.go(to);
   }
 
+  /** Plays or pauses by a click on the screen. One that selects text does neither, and the second one of a double click takes back the first. */
+  click(event) {
+    if (event.detail < 2) this.isClick = !this.hadSelection && getSelection().isCollapsed;
+    if (event.detail <= 2 && this.isClick) this.toggle();
+  }
+
   key(event) {
-    if (event.ctrlKey || event.altKey || event.metaKey) return;
+    if (event.key === "Tab") this.isPointed = false;
+    if (event.ctrlKey || event.metaKey || (event.altKey && !SIGN.test(event.key))) return;
     if (event.target.matches("input[type=search], select") && event.key !== "Escape") return;
-    if (event.key === " " && event.target.matches("button, summary, input")) return;
+    // Space presses a control that Tab reached. A control that was clicked has the focus, too, and Space plays.
+    if (event.key === " " && !this.isPointed && event.target.matches("button, summary, input[type=checkbox]")) return;
     const { player } = this, far = event.shiftKey ? this.line.duration / 10 : FAR;
     const acts = {
       " ": () => this.toggle(), ArrowLeft: () => player.go(player.now - far), ArrowRight: () => player.go(player.now + far), ",": () => player.step(-1),

@@ -88,17 +88,18 @@ class Chromium(Page):
             raise RuntimeError(got["exceptionDetails"].get("exception", {}).get("description", got["exceptionDetails"]))
         return got["result"].get("value")
 
-    def press(self, key, code=None, text=None, shift=False):
-        words = {"key": key, "code": code or key, "modifiers": 8 if shift else 0, **({"text": text} if text else {})}
+    def press(self, key, code=None, text=None, shift=False, alt=False):
+        words = {"key": key, "code": code or key, "modifiers": 8 * shift + alt, **({"text": text} if text else {})}
         self.call("Input.dispatchKeyEvent", type="keyDown", **words)
         self.call("Input.dispatchKeyEvent", type="keyUp", **words)
 
-    def click(self, selector, part=0.5):
-        """Clicks an element, at a part of its width."""
+    def click(self, selector, part=0.5, to=None, count=1):
+        """Clicks an element at a part of its width, or drags the mouse from there to another part. `count` is 2 for the second of a double click."""
         place = self.evaluate(f"(() => {{ const e = document.querySelector({json.dumps(selector)}); e.scrollIntoView({{ block: 'nearest' }}); return e.getBoundingClientRect().toJSON(); }})()")
-        words = {"x": place["x"] + part * place["width"], "y": place["y"] + place["height"] / 2, "button": "left", "clickCount": 1}
-        for kind in ("mousePressed", "mouseReleased"):
-            self.call("Input.dispatchMouseEvent", type=kind, **words)
+        words = {"y": place["y"] + place["height"] / 2, "button": "left", "clickCount": count}
+        end = part if to is None else to
+        for kind, at in (("mousePressed", part), *([("mouseMoved", end)] if to is not None else []), ("mouseReleased", end)):
+            self.call("Input.dispatchMouseEvent", type=kind, x=place["x"] + at * place["width"], **words)
 
     def names(self):
         """Returns the accessibility tree as pairs of role and name."""

@@ -120,7 +120,8 @@ function send(what) {
 }
 
 function pressed(event) {
-  if (!isTyping || event.isComposing || event.altKey || event.metaKey) return;
+  // A Mac may type a sign such as @ with Option. With Alt, letters, digits and blanks are for the browser.
+  if (!isTyping || event.isComposing || event.metaKey || (event.altKey && !/^[^\w\s]$/.test(event.key))) return;
   if (event.ctrlKey && event.key === "]") {
     setTyping(false);
     $("type").focus();

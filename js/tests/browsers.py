@@ -120,6 +120,12 @@ class Chromium(Page):
     def size(self, width, height):
         self.call("Emulation.setDeviceMetricsOverride", width=width, height=height, deviceScaleFactor=1, mobile=False)
 
+    def pixels(self, selector, part, size=8):
+        """Returns a picture of a square inside an element, at a part of its width."""
+        place = self.evaluate(f"document.querySelector({json.dumps(selector)}).getBoundingClientRect().toJSON()")
+        clip = {"x": round(place["x"] + part * place["width"]), "y": round(place["y"] + (place["height"] - size) / 2), "width": size, "height": size, "scale": 1}
+        return self.call("Page.captureScreenshot", format="png", clip=clip)["data"]
+
     def picture(self, path):
         with open(path, "wb") as file:
             file.write(base64.b64decode(self.call("Page.captureScreenshot", format="png")["data"]))

@@ -5,6 +5,7 @@ import { Player } from "./player.js";
 import { Screen } from "./screen.js";
 
 const SPEEDS = [0.25, 0.5, 1, 2, 4, 8, 16];
+const SLICE = 1 << 20; // bytes
 const FAR = 5; // seconds of the arrow keys; with Shift they go a tenth
 // A character that a Mac may type with Option. With Alt, letters, digits and blanks are for the browser.
 const SIGN = /^[^\w\s]$/;
@@ -12,7 +13,8 @@ const SIGN = /^[^\w\s]$/;
 const $ = (id) => document.getElementById(id);
 
 async function unpacked(id) {
-  const packed = Uint8Array.from(atob($(id).textContent), (c) => c.charCodeAt(0));
+  const text = atob($(id).textContent), packed = new Uint8Array(text.length);
+  for (let i = 0; i < text.length; i++) packed[i] = text.charCodeAt(i);
   const stream = new Blob([packed]).stream().pipeThrough(new DecompressionStream("gzip"));
   return new Uint8Array(await new Response(stream).arrayBuffer());
 }
@@ -26,12 +28,23 @@ function recording(bytes, list) {
 
 const WAYS = ["as a similar one", "as \u2426", "not at all"];
 
+/** Counts the characters beyond ASCII of bytes in UTF-8, a slice at a time, so that the page can be used meanwhile. */
+async function counted(bytes) {
+  const counts = new Map(), decoder = new TextDecoder();
+  for (let at = 0; at < bytes.length; at += SLICE) {
+    const text = decoder.decode(bytes.subarray(at, at + SLICE), { stream: true });
+    for (const [character] of text.matchAll(/[^\0-\x9f]/gu)) counts.set(character, (counts.get(character) ?? 0) + 1);
+    await new Promise((resolve) => setTimeout(resolve));
+  }
+  return counts;
+}
+
 /** Returns a sentence on the characters of bytes in UTF-8 that a VT220 lacks, or "". */
-function lacking(core, bytes) {
+async function lacking(core, bytes) {
   const counts = [0, 0, 0];
-  for (const [character] of new TextDecoder().decode(bytes).matchAll(/[^\0-\x9f]/gu)) {
+  for (const [character, count] of await counted(bytes)) {
     const [shown = ""] = core.shown(character);
-    if (shown !== character) counts[shown === "\u2426" ? 1 : shown === "" ? 2 : 0] += 1;
+    if (shown !== character) counts[shown === "\u2426" ? 1 : shown === "" ? 2 : 0] += count;
   }
   const parts = WAYS.map((way, i) => `${counts[i]} ${way}`).filter((_, i) => counts[i] > 0);
   return parts.length === 0 ? "" : `Characters that a VT220 lacks are shown otherwise: ${parts.join(", ")}.`;
@@ -225,8 +238,16 @@ class Page {
     save(`vt220-${rounded(this.player.now)}.svg`, "image/svg+xml", this.line.terminal.picture());
   }
 
-  /** Shows the notes, if there are any, with one on characters that a VT220 lacks. */
-  note(text) {
+  /** Shows the notes, if there are any. After the first frame it adds one on characters that a VT220 lacks. */
+  async note(core, bytes) {
+    this.addNote("");
+    if (this.line.terminal.encoding !== "utf-8") return;
+    await new Promise((resolve) => requestAnimationFrame(() => setTimeout(resolve)));
+    this.addNote(await lacking(core, bytes));
+  }
+
+  /** Adds a note, if its text isn't "". */
+  addNote(text) {
     const list = $("notes").querySelector("ul");
     if (text !== "") list.append(Object.assign(document.createElement("li"), { textContent: text }));
     $("notes").hidden = list.children.length === 0;
@@ -286,9 +307,12 @@ async function begin() {
   const [wasm, bytes, list] = await Promise.all(["wasm", "bytes", "chunks"].map(unpacked));
   const core = await load(wasm), options = JSON.parse($("options").textContent);
   const page = new Page(core, new Timeline(core, recording(bytes, list), { encoding: options.encoding, terminal: options.terminal }), options);
-  page.note(page.line.terminal.encoding === "utf-8" ? lacking(core, bytes) : "");
+  $("controls").disabled = false;
+  page.say("");
   page.start();
   page.drawMarks();
+  /** A promise of the end of the notes. */
+  page.noted = page.note(core, bytes);
   globalThis.page = page;
   document.documentElement.dataset.state = "ready";
 }

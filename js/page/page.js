@@ -57,6 +57,15 @@ function clock(time) {
   return hours > 0 ? `${hours}:${String(minutes).padStart(2, "0")}:${seconds}` : `${minutes}:${seconds}`;
 }
 
+/** Reads a part of a link. Returns null if it isn't well-formed. */
+function decoded(text) {
+  try {
+    return decodeURIComponent(text);
+  } catch {
+    return null;
+  }
+}
+
 /** Reads a time in seconds, or in minutes or hours with colons. */
 const seconds = (text) => text.split(":").reduce((sum, part) => 60 * sum + Number(part), 0);
 
@@ -117,11 +126,18 @@ class Page {
     if (options.autoplay) this.toggle();
   }
 
+  /** Goes to the moment or the search of the link. Returns whether it led to a moment. */
   follow() {
-    const [, name, value] = /^#([tq])=(.*)$/.exec(location.hash) ?? [];
-    if (name === "t") this.player.go(seconds(value));
-    if (name === "q") this.search(decodeURIComponent(value));
-    return name !== undefined;
+    const { player } = this, [, name, value] = /^#([tq])=(.*)$/.exec(location.hash) ?? [];
+    if (name === undefined) return false;
+    const place = name === "t" ? seconds(value) : decoded(value);
+    if (place === null || Number.isNaN(place)) {
+      this.say(`The end of the link can't be read: ${location.hash}. It may be #t=SECONDS or #q=TEXT, in which % is %25.`);
+      return false;
+    }
+    if (name === "t") player.go(place);
+    else this.search(place);
+    return name === "t" || player.spans.length > 0;
   }
 
   link() {
@@ -303,10 +319,24 @@ class Page {
   }
 }
 
+/** Begins the page. If that fails, it says whether the browser or the recording is the reason. */
 async function begin() {
-  const [wasm, bytes, list] = await Promise.all(["wasm", "bytes", "chunks"].map(unpacked));
-  const core = await load(wasm), options = JSON.parse($("options").textContent);
-  const page = new Page(core, new Timeline(core, recording(bytes, list), { encoding: options.encoding, terminal: options.terminal }), options);
+  let reason = "This page needs a browser of 2023 or later with WebAssembly.";
+  try {
+    const core = await load(await unpacked("wasm"));
+    reason = "The recording of this page is damaged.";
+    const [bytes, list] = await Promise.all(["bytes", "chunks"].map(unpacked)), options = JSON.parse($("options").textContent);
+    const line = new Timeline(core, recording(bytes, list), { encoding: options.encoding, terminal: options.terminal });
+    reason = "This page has a fault.";
+    begun(new Page(core, line, options), core, bytes);
+  } catch (error) {
+    document.documentElement.dataset.state = "failed";
+    $("said").textContent = `${reason} (${error.message})`;
+  }
+}
+
+/** Opens the controls, and shows the first frame. */
+function begun(page, core, bytes) {
   $("controls").disabled = false;
   page.say("");
   page.start();
@@ -317,7 +347,4 @@ async function begin() {
   document.documentElement.dataset.state = "ready";
 }
 
-begin().catch((error) => {
-  document.documentElement.dataset.state = "failed";
-  $("said").textContent = `This page needs a browser of 2023 or later with WebAssembly. (${error.message})`;
-});
+begin();

@@ -71,6 +71,16 @@ const seconds = (text) => text.split(":").reduce((sum, part) => 60 * sum + Numbe
 
 const rounded = (time) => String(Math.round(time * 1e6) / 1e6);
 
+/** Writes a text to the clipboard. Returns whether the browser allows that. */
+async function copied(text) {
+  try {
+    await navigator.clipboard.writeText(text);
+    return true;
+  } catch {
+    return false;
+  }
+}
+
 function save(name, type, text) {
   const link = document.createElement("a");
   link.href = URL.createObjectURL(new Blob([text], { type }));
@@ -101,7 +111,7 @@ class Page {
     const { player } = this;
     const clicks = {
       play: () => this.toggle(), back: () => player.step(-1), forth: () => player.step(1), previous: () => this.hit(-1), next: () => this.hit(1),
-      picture: () => this.savePicture(), copy: () => this.copy(this.text(), "The text is copied"), link: () => this.copy(this.link(), "The link is copied"),
+      picture: () => this.savePicture(), copy: () => this.copyText(), link: () => this.copyLink(),
       full: () => this.fill(),
     };
     for (const [id, act] of Object.entries(clicks)) $(id).addEventListener("click", act);
@@ -241,13 +251,17 @@ class Page {
     return this.line.terminal.text().trimEnd() + "\n";
   }
 
-  async copy(text, done) {
-    try {
-      await navigator.clipboard.writeText(text);
-      this.say(done);
-    } catch {
-      this.say(text);
-    }
+  /** Copies the text of the screen. If the browser doesn't allow that, it selects the text. */
+  async copyText() {
+    if (await copied(this.text())) return this.say("The text is copied");
+    getSelection().selectAllChildren($("screen"));
+    this.say("The browser allows no copying here. The text is selected.");
+  }
+
+  /** Copies a link to this moment or search. If the browser doesn't allow that, it shows the link. */
+  async copyLink() {
+    const link = this.link();
+    this.say((await copied(link)) ? "The link is copied" : link);
   }
 
   savePicture() {

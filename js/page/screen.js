@@ -41,6 +41,12 @@ function element({ text, name, isHit }) {
   return made;
 }
 
+/** Copies what is selected, without the blanks at the ends of lines. */
+function copy(event) {
+  event.clipboardData.setData("text/plain", String(getSelection()).replace(/ +$/gm, ""));
+  event.preventDefault();
+}
+
 export class Screen {
   constructor(core, place) {
     this.place = place;
@@ -49,6 +55,7 @@ export class Screen {
     this.needle = "";
     this.cursorRow = 0;
     this.isStale = true;
+    place.oncopy = copy;
   }
 
   /** Frees its memory. The place keeps what was drawn last. */

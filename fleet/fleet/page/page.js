@@ -157,11 +157,6 @@ $("screen").addEventListener("keydown", pressed);
 $("screen").addEventListener("paste", (event) => {
   if (isTyping) send({ text: event.clipboardData.getData("text").replace(/\r?\n/g, "\r") });
 });
-// The blanks at the ends of lines aren't copied.
-$("screen").addEventListener("copy", (event) => {
-  event.clipboardData.setData("text/plain", String(getSelection()).replace(/ +$/gm, ""));
-  event.preventDefault();
-});
 $("announce").addEventListener("change", () => { $("said").textContent = ""; });
 vt220.load().then((loaded) => {
   core = loaded;

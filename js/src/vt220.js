@@ -40,12 +40,9 @@ async function compiled(source) {
   return WebAssembly.compile(source);
 }
 
-/** Returns the bytes of vt220.wasm next to this module, in browsers and in node. */
+/** Returns the bytes of vt220.wasm next to this module, as a response. In node, node.js reads the file. */
 async function nearby() {
-  const url = new URL("../vt220.wasm", import.meta.url);
-  if (url.protocol !== "file:") return fetch(url);
-  const { readFile } = await import("node:fs/promises");
-  return readFile(url);
+  return fetch(new URL("../vt220.wasm", import.meta.url));
 }
 
 export async function load(source = nearby()) {

@@ -49,7 +49,7 @@ export async function load(source = nearby()) {
   return new Core((await WebAssembly.instantiate(await compiled(source))).exports);
 }
 
-/** Returns the exports of the module. After a trap, which leaves the memory as it is, each of them throws. */
+/** Returns the exports of the module, and whether one has trapped, which leaves the memory as it is. After that each of them throws. */
 function guarded(exports) {
   let isInside = false;
   const calls = {};
@@ -63,7 +63,7 @@ function guarded(exports) {
       return result;
     };
   }
-  return calls;
+  return { calls, isBroken: () => isInside };
 }
 
 function joined(parts) {
@@ -90,14 +90,22 @@ class Core {
   #memory;
   #bytes;
   #left;
+  #isBroken;
 
   constructor(exports) {
+    const { calls, isBroken } = guarded(exports);
     this.#memory = exports.memory;
-    this.calls = guarded(exports);
+    this.calls = calls;
+    this.#isBroken = isBroken;
     this.expect(this.calls.start());
     this.version = this.calls.version();
     this.inputSize = this.calls.input_size();
-    this.#left = new FinalizationRegistry(([close, at]) => this.calls[close](at));
+    this.#left = new FinalizationRegistry(([close, at]) => this.#free(close, at));
+  }
+
+  /** Frees what a call of the module frees. Nothing of a broken core is freed. */
+  #free(close, at) {
+    if (!this.#isBroken()) this.calls[close](at);
   }
 
   /** The memory, which has a new buffer after it has grown. */
@@ -147,8 +155,8 @@ class Core {
 
   close(terminal, at, xterm) {
     this.#left.unregister(terminal);
-    this.calls.close(at);
-    if (xterm !== 0) this.calls.xterm_close(xterm);
+    this.#free("close", at);
+    if (xterm !== 0) this.#free("xterm_close", xterm);
   }
 
   key(key, modes) {

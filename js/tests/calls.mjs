@@ -236,6 +236,7 @@ async function faults({ load, Terminal }, wasm, check) {
   const t = new Terminal(core);
   check("a fault", thrown(() => core.calls.text(0xfffffff0)) === "RuntimeError");
   check("after a fault", thrown(() => t.text()) === "BROKEN" && thrown(() => new Terminal(core)) === "BROKEN");
+  check("a terminal is closed after a fault", thrown(() => t.close()) === null && !t.isOpen && thrown(() => t.text()) === "BROKEN");
   check("another core after a fault", new Terminal(other).width === 80);
 }
 

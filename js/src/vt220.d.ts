@@ -16,10 +16,10 @@ export interface Core {
   /** The version: 10000 * major + 100 * minor + patch. */
   readonly version: number;
   /**
-   * Returns what a key sends under these modes. The key is one character, a name such as "Up" or "C-c", or the sequence that a modern
-   * terminal sends for it. Throws NO_KEY or NO_CHARACTER.
+   * Returns what a key sends under these modes, of which those that are left out aren't set. The key is one character, a name such as "Up" or
+   * "C-c", or the sequence that a modern terminal sends for it. Throws NO_KEY or NO_CHARACTER.
    */
-  key(key: string, modes: Partial<Modes>): Uint8Array;
+  key(key: string, modes?: Partial<Modes>): Uint8Array;
   /** Returns how many bytes the first key has of what was typed on a modern terminal, and 0 if its end is missing. */
   keyLength(typed: Uint8Array): number;
   /**

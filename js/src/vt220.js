@@ -29,15 +29,14 @@ export class Vt220Error extends Error {
   }
 }
 
-/** Compiles the module: bytes, a module, a response, or the file next to this one. */
+/** Compiles the module: bytes, a module, or a response. */
 async function compiled(source) {
   source = await source;
+  if (typeof source !== "object" || source === null) throw new TypeError("load() takes the bytes of vt220.wasm, its module, or a response with it");
   if (source instanceof WebAssembly.Module) return source;
-  if (typeof Response !== "undefined" && source instanceof Response) {
-    if (!source.ok) throw new TypeError(`vt220.wasm could not be fetched: status ${source.status}`);
-    return WebAssembly.compile(await source.arrayBuffer());
-  }
-  return WebAssembly.compile(source);
+  if (typeof source.arrayBuffer !== "function") return WebAssembly.compile(source);
+  if (source.ok === false) throw new TypeError(`vt220.wasm could not be fetched: status ${source.status}`);
+  return WebAssembly.compile(await source.arrayBuffer());
 }
 
 /** Returns the bytes of vt220.wasm next to this module, as a response. In node, node.js reads the file. */
@@ -159,7 +158,7 @@ class Core {
     if (xterm !== 0) this.#free("xterm_close", xterm);
   }
 
-  key(key, modes) {
+  key(key, modes = {}) {
     const len = this.input(encoder.encode(key));
     const set = MODES.reduce((bits, name, i) => (modes[name] ? bits | (1 << i) : bits), 0);
     this.expect(this.calls.key(set, len));

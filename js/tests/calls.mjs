@@ -208,6 +208,23 @@ async function exhausted(vt220, wasm, check) {
   check("a terminal of which one part has no memory is closed", left > 0);
 }
 
+/** Tests that twice as many terminals need few more growths of the memory, each of which makes a new buffer. */
+function growths({ Terminal }, core, check) {
+  const made = [];
+  let { buffer } = core.bytes, count = 0;
+  const open = (terminals) => {
+    for (count = 0; made.length < terminals; ) {
+      made.push(new Terminal(core));
+      if (core.bytes.buffer !== buffer) count++, ({ buffer } = core.bytes);
+    }
+    return count;
+  };
+  open(1000);
+  // An eighth more, six times, is twice as much.
+  check(`the growths of the memory for 1000 more terminals: ${open(2000)}`, count > 0 && count <= 7);
+  made.forEach((terminal) => terminal.close());
+}
+
 /** Tests many terminals and checkpoints, which are closed and made again in the same memory. */
 function memory({ Terminal, Timeline }, core, check) {
   const round = (options) => {
@@ -249,6 +266,7 @@ export async function calls(vt220, wasm, check) {
   errors(vt220, core, other, check);
   keys(core, check);
   memory(vt220, core, check);
+  growths(vt220, await vt220.load(wasm), check);
   sizes(vt220, core, check);
   await handles(wasm, check);
   await exhausted(vt220, wasm, check);

@@ -179,7 +179,13 @@ class Page {
     $("needle").value = needle;
     this.player.search(needle);
     this.drawMarks();
+    this.reveal();
     this.say(needle === "" ? "" : this.found());
+  }
+
+  /** Scrolls to a hit, which may be at the side of a screen that doesn't fit. */
+  reveal() {
+    $("screen").querySelector("mark")?.scrollIntoView({ block: "nearest", inline: "nearest" });
   }
 
   /** Searches for what was typed, or goes to the next span of it. */
@@ -198,6 +204,7 @@ class Page {
   hit(by) {
     if (by > 0) this.player.nextSpan();
     else this.player.previousSpan();
+    this.reveal();
     if (this.player.needle !== "") this.say(this.found());
   }
 

@@ -383,6 +383,8 @@ def the_page_sends_the_keys_of_a_vt220(machine, _):
             (lambda: browser.press("F10", code=121), b"\x9b21~"),
             (lambda: browser.press("c", code=67, modifiers=2), b"\x03"),
             (lambda: browser.type("éœÿ"), b"\xe9\xf7\xfd"),
+            # A German keyboard of a Mac has these by Option and L, 5, 7. Alt and a letter is for the browser.
+            (lambda: [browser.press(sign, sign, code, modifiers=1) for sign, code in (("f", 70), ("@", 76), ("[", 53), ("|", 55))], b"@[|"),
             (lambda: browser.type("3÷4"), b"34"),
         ):
             pressed()

@@ -11,20 +11,27 @@ typedef struct block {
 
 extern uint8_t __heap_base;
 
-/* PAGE is WebAssembly's. LIMIT is the end of a memory of 32 bits, without its last page. */
-static const uintptr_t PAGE = 65536, LIMIT = 0xFFFF0000;
+/* PAGE is WebAssembly's. LIMIT is the end of a memory of 32 bits, without its last page. STEP is the smallest growth, in pages. */
+static const uintptr_t PAGE = 65536, LIMIT = 0xFFFF0000, STEP = 16;
 
 static block *freed;
 static uintptr_t end; /* of the last block, or 0 before the first */
 
 static size_t rounded(size_t n) { return (n + 15) & ~(size_t)15; }
 
-/* Returns whether the memory reaches so far, if necessary after it has grown. The size tells that: if the memory can't grow, the
- * instruction returns -1 in 64 bits, but a number of 32 bits after the lowering. */
+/* Lets the memory grow to so many pages. Returns whether it has them. The size tells that: if the memory can't grow, the instruction
+ * returns -1 in 64 bits, but a number of 32 bits after the lowering. */
+static bool grows(size_t pages) {
+    size_t now = __builtin_wasm_memory_size(0);
+    if (pages > now) __builtin_wasm_memory_grow(0, pages - now);
+    return pages <= __builtin_wasm_memory_size(0);
+}
+
+/* Returns whether the memory reaches so far, if necessary after it has grown. It grows by an eighth, and at least by STEP, since each
+ * growth makes a new buffer for JavaScript. If it can't, it grows as far as is needed. */
 static bool reaches(uintptr_t to) {
-    size_t wanted = (to + PAGE - 1) / PAGE, now = __builtin_wasm_memory_size(0);
-    if (wanted > now) __builtin_wasm_memory_grow(0, wanted - now);
-    return wanted <= __builtin_wasm_memory_size(0);
+    size_t wanted = (to + PAGE - 1) / PAGE, now = __builtin_wasm_memory_size(0), more = now / 8 > STEP ? now / 8 : STEP;
+    return wanted <= now || grows(wanted > now + more ? wanted : now + more) || grows(wanted);
 }
 
 static block *new_block(size_t size) {

@@ -5,12 +5,16 @@ import { Player } from "./player.js";
 import { Screen } from "./screen.js";
 
 const SPEEDS = [0.25, 0.5, 1, 2, 4, 8, 16];
+const SLICE = 1 << 20; // bytes
 const FAR = 5; // seconds of the arrow keys; with Shift they go a tenth
+// A character that a Mac may type with Option. With Alt, letters, digits and blanks are for the browser.
+const SIGN = /^[^\w\s]$/;
 
 const $ = (id) => document.getElementById(id);
 
 async function unpacked(id) {
-  const packed = Uint8Array.from(atob($(id).textContent), (c) => c.charCodeAt(0));
+  const text = atob($(id).textContent), packed = new Uint8Array(text.length);
+  for (let i = 0; i < text.length; i++) packed[i] = text.charCodeAt(i);
   const stream = new Blob([packed]).stream().pipeThrough(new DecompressionStream("gzip"));
   return new Uint8Array(await new Response(stream).arrayBuffer());
 }
@@ -24,12 +28,23 @@ function recording(bytes, list) {
 
 const WAYS = ["as a similar one", "as \u2426", "not at all"];
 
+/** Counts the characters beyond ASCII of bytes in UTF-8, a slice at a time, so that the page can be used meanwhile. */
+async function counted(bytes) {
+  const counts = new Map(), decoder = new TextDecoder();
+  for (let at = 0; at < bytes.length; at += SLICE) {
+    const text = decoder.decode(bytes.subarray(at, at + SLICE), { stream: true });
+    for (const [character] of text.matchAll(/[^\0-\x9f]/gu)) counts.set(character, (counts.get(character) ?? 0) + 1);
+    await new Promise((resolve) => setTimeout(resolve));
+  }
+  return counts;
+}
+
 /** Returns a sentence on the characters of bytes in UTF-8 that a VT220 lacks, or "". */
-function lacking(core, bytes) {
+async function lacking(core, bytes) {
   const counts = [0, 0, 0];
-  for (const [character] of new TextDecoder().decode(bytes).matchAll(/[^\0-\x9f]/gu)) {
+  for (const [character, count] of await counted(bytes)) {
     const [shown = ""] = core.shown(character);
-    if (shown !== character) counts[shown === "\u2426" ? 1 : shown === "" ? 2 : 0] += 1;
+    if (shown !== character) counts[shown === "\u2426" ? 1 : shown === "" ? 2 : 0] += count;
   }
   const parts = WAYS.map((way, i) => `${counts[i]} ${way}`).filter((_, i) => counts[i] > 0);
   return parts.length === 0 ? "" : `Characters that a VT220 lacks are shown otherwise: ${parts.join(", ")}.`;
@@ -42,10 +57,29 @@ function clock(time) {
   return hours > 0 ? `${hours}:${String(minutes).padStart(2, "0")}:${seconds}` : `${minutes}:${seconds}`;
 }
 
+/** Reads a part of a link. Returns null if it isn't well-formed. */
+function decoded(text) {
+  try {
+    return decodeURIComponent(text);
+  } catch {
+    return null;
+  }
+}
+
 /** Reads a time in seconds, or in minutes or hours with colons. */
 const seconds = (text) => text.split(":").reduce((sum, part) => 60 * sum + Number(part), 0);
 
 const rounded = (time) => String(Math.round(time * 1e6) / 1e6);
+
+/** Writes a text to the clipboard. Returns whether the browser allows that. */
+async function copied(text) {
+  try {
+    await navigator.clipboard.writeText(text);
+    return true;
+  } catch {
+    return false;
+  }
+}
 
 function save(name, type, text) {
   const link = document.createElement("a");
@@ -60,6 +94,8 @@ class Page {
     this.line = line;
     this.options = options;
     this.screen = new Screen(core, $("screen"));
+    // Whether the focus was last moved by a pointer, what was selected then, and whether the last click on the screen plays or pauses.
+    Object.assign(this, { isPointed: false, hadSelection: false, isClick: false });
     this.player = new Player(line, { changed: () => this.draw(), told: (event, time) => this.tell(event, time) });
     Object.assign(this.player, { loops: options.loop === true ? Infinity : Number(options.loop), longestPause: options.pause, stops: options.stops, markers: options.markers.map(([time]) => time) });
     $("full").hidden = !document.fullscreenEnabled;
@@ -75,7 +111,7 @@ class Page {
     const { player } = this;
     const clicks = {
       play: () => this.toggle(), back: () => player.step(-1), forth: () => player.step(1), previous: () => this.hit(-1), next: () => this.hit(1),
-      picture: () => this.savePicture(), copy: () => this.copy(this.text(), "The text is copied"), link: () => this.copy(this.link(), "The link is copied"),
+      picture: () => this.savePicture(), copy: () => this.copyText(), link: () => this.copyLink(),
       full: () => this.fill(),
     };
     for (const [id, act] of Object.entries(clicks)) $(id).addEventListener("click", act);
@@ -84,6 +120,8 @@ class Page {
     $("skip").addEventListener("change", (event) => (player.skips = event.target.checked));
     $("needle").addEventListener("input", (event) => event.target.value === "" && this.search(""));
     $("search").addEventListener("submit", (event) => (event.preventDefault(), this.submit()));
+    $("screen").addEventListener("click", (event) => this.click(event));
+    document.addEventListener("pointerdown", () => Object.assign(this, { isPointed: true, hadSelection: !getSelection().isCollapsed }));
     document.addEventListener("keydown", (event) => this.key(event));
     addEventListener("hashchange", () => this.follow());
     addEventListener("resize", () => this.drawMarks());
@@ -93,17 +131,23 @@ class Page {
   /** Shows the moment of the link, or the poster; then perhaps plays. */
   start() {
     const { options, player } = this;
-    if (!this.follow()) player.go(options.poster ?? options.start);
-    this.waitsAt = location.hash === "" ? options.start : null;
+    if (!this.follow()) player.wait(options.poster ?? options.start, options.start);
     this.tell("ready", player.now);
     if (options.autoplay) this.toggle();
   }
 
+  /** Goes to the moment or the search of the link. Returns whether it led to a moment. */
   follow() {
-    const [, name, value] = /^#([tq])=(.*)$/.exec(location.hash) ?? [];
-    if (name === "t") this.player.go(seconds(value));
-    if (name === "q") this.search(decodeURIComponent(value));
-    return name !== undefined;
+    const { player } = this, [, name, value] = /^#([tq])=(.*)$/.exec(location.hash) ?? [];
+    if (name === undefined) return false;
+    const place = name === "t" ? seconds(value) : decoded(value);
+    if (place === null || Number.isNaN(place)) {
+      this.say(`The end of the link can't be read: ${location.hash}. It may be #t=SECONDS or #q=TEXT, in which % is %25.`);
+      return false;
+    }
+    if (name === "t") player.go(place);
+    else this.search(place);
+    return name === "t" || player.spans.length > 0;
   }
 
   link() {
@@ -114,8 +158,6 @@ class Page {
   toggle() {
     const { player } = this;
     if (player.isPlaying) return player.pause();
-    if (this.waitsAt !== null) player.now = this.waitsAt;
-    this.waitsAt = null;
     player.play();
     let before = performance.now();
     const frame = (now) => {
@@ -137,7 +179,13 @@ class Page {
     $("needle").value = needle;
     this.player.search(needle);
     this.drawMarks();
+    this.reveal();
     this.say(needle === "" ? "" : this.found());
+  }
+
+  /** Scrolls to a hit, which may be at the side of a screen that doesn't fit. */
+  reveal() {
+    $("screen").querySelector("mark")?.scrollIntoView({ block: "nearest", inline: "nearest" });
   }
 
   /** Searches for what was typed, or goes to the next span of it. */
@@ -156,6 +204,7 @@ class Page {
   hit(by) {
     if (by > 0) this.player.nextSpan();
     else this.player.previousSpan();
+    this.reveal();
     if (this.player.needle !== "") this.say(this.found());
   }
 
@@ -165,10 +214,18 @@ class Page {
     if (to !== undefined) this.player.go(to);
   }
 
+  /** Plays or pauses by a click on the screen. One that selects text does neither, and the second one of a double click takes back the first. */
+  click(event) {
+    if (event.detail < 2) this.isClick = !this.hadSelection && getSelection().isCollapsed;
+    if (event.detail <= 2 && this.isClick) this.toggle();
+  }
+
   key(event) {
-    if (event.ctrlKey || event.altKey || event.metaKey) return;
+    if (event.key === "Tab") this.isPointed = false;
+    if (event.ctrlKey || event.metaKey || (event.altKey && !SIGN.test(event.key))) return;
     if (event.target.matches("input[type=search], select") && event.key !== "Escape") return;
-    if (event.key === " " && event.target.matches("button, summary, input")) return;
+    // Space presses a control that Tab reached. A control that was clicked has the focus, too, and Space plays.
+    if (event.key === " " && !this.isPointed && event.target.matches("button, summary, input[type=checkbox]")) return;
     const { player } = this, far = event.shiftKey ? this.line.duration / 10 : FAR;
     const acts = {
       " ": () => this.toggle(), ArrowLeft: () => player.go(player.now - far), ArrowRight: () => player.go(player.now + far), ",": () => player.step(-1),
@@ -201,21 +258,33 @@ class Page {
     return this.line.terminal.text().trimEnd() + "\n";
   }
 
-  async copy(text, done) {
-    try {
-      await navigator.clipboard.writeText(text);
-      this.say(done);
-    } catch {
-      this.say(text);
-    }
+  /** Copies the text of the screen. If the browser doesn't allow that, it selects the text. */
+  async copyText() {
+    if (await copied(this.text())) return this.say("The text is copied");
+    getSelection().selectAllChildren($("screen"));
+    this.say("The browser allows no copying here. The text is selected.");
+  }
+
+  /** Copies a link to this moment or search. If the browser doesn't allow that, it shows the link. */
+  async copyLink() {
+    const link = this.link();
+    this.say((await copied(link)) ? "The link is copied" : link);
   }
 
   savePicture() {
     save(`vt220-${rounded(this.player.now)}.svg`, "image/svg+xml", this.line.terminal.picture());
   }
 
-  /** Shows the notes, if there are any, with one on characters that a VT220 lacks. */
-  note(text) {
+  /** Shows the notes, if there are any. After the first frame it adds one on characters that a VT220 lacks. */
+  async note(core, bytes) {
+    this.addNote("");
+    if (this.line.terminal.encoding !== "utf-8") return;
+    await new Promise((resolve) => requestAnimationFrame(() => setTimeout(resolve)));
+    this.addNote(await lacking(core, bytes));
+  }
+
+  /** Adds a note, if its text isn't "". */
+  addNote(text) {
     const list = $("notes").querySelector("ul");
     if (text !== "") list.append(Object.assign(document.createElement("li"), { textContent: text }));
     $("notes").hidden = list.children.length === 0;
@@ -271,18 +340,32 @@ class Page {
   }
 }
 
+/** Begins the page. If that fails, it says whether the browser or the recording is the reason. */
 async function begin() {
-  const [wasm, bytes, list] = await Promise.all(["wasm", "bytes", "chunks"].map(unpacked));
-  const core = await load(wasm), options = JSON.parse($("options").textContent);
-  const page = new Page(core, new Timeline(core, recording(bytes, list), { encoding: options.encoding, terminal: options.terminal }), options);
-  page.note(page.line.terminal.encoding === "utf-8" ? lacking(core, bytes) : "");
+  let reason = "This page needs a browser of 2023 or later with WebAssembly.";
+  try {
+    const core = await load(await unpacked("wasm"));
+    reason = "The recording of this page is damaged.";
+    const [bytes, list] = await Promise.all(["bytes", "chunks"].map(unpacked)), options = JSON.parse($("options").textContent);
+    const line = new Timeline(core, recording(bytes, list), { encoding: options.encoding, terminal: options.terminal });
+    reason = "This page has a fault.";
+    begun(new Page(core, line, options), core, bytes);
+  } catch (error) {
+    document.documentElement.dataset.state = "failed";
+    $("said").textContent = `${reason} (${error.message})`;
+  }
+}
+
+/** Opens the controls, and shows the first frame. */
+function begun(page, core, bytes) {
+  $("controls").disabled = false;
+  page.say("");
   page.start();
   page.drawMarks();
+  /** A promise of the end of the notes. */
+  page.noted = page.note(core, bytes);
   globalThis.page = page;
   document.documentElement.dataset.state = "ready";
 }
 
-begin().catch((error) => {
-  document.documentElement.dataset.state = "failed";
-  $("said").textContent = `This page needs a browser of 2023 or later with WebAssembly. (${error.message})`;
-});
+begin();

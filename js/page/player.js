@@ -16,6 +16,8 @@ export class Player {
     this.markers = [];
     this.stops = false;
     this.isPlaying = false;
+    /** Where it begins to play, if that isn't the moment that is shown. */
+    this.from = null;
     this.spans = [];
     this.needle = "";
   }
@@ -26,6 +28,8 @@ export class Player {
 
   play() {
     if (this.isPlaying) return;
+    this.now = this.from ?? this.now;
+    this.from = null;
     if (this.now >= this.line.duration) this.now = 0;
     this.isPlaying = true;
     this.tell("play");
@@ -78,8 +82,15 @@ export class Player {
 
   go(time) {
     this.now = Math.max(0, Math.min(Number(time) || 0, this.line.duration));
+    this.from = null;
     this.tell("seek");
     this.changed();
+  }
+
+  /** Shows a moment, and begins to play at another one, unless it goes somewhere before. */
+  wait(shown, from) {
+    this.go(shown);
+    this.from = from;
   }
 
   /** Stops, and goes to the chunk after the one that is shown, or to the one before it. Chunks of one time are one. */

@@ -12,11 +12,21 @@ function look(cell, isCursor) {
   return names.join(" ");
 }
 
-/** Cuts the cells of a row into runs of equal looks. `hit` is the span of columns of a text that was found, from 0, or null. */
-function runs(cells, cursor, hit) {
+/** Returns the columns, from 0, that a text covers in a line, wherever it is there. */
+function covered(line, needle) {
+  const columns = new Set();
+  if (needle === "") return columns;
+  for (let at = line.indexOf(needle); at >= 0; at = line.indexOf(needle, at + needle.length)) {
+    for (let i = at; i < at + needle.length; i++) columns.add(i);
+  }
+  return columns;
+}
+
+/** Cuts the cells of a row into runs of equal looks. `hits` are the columns, from 0, of what was found. */
+function runs(cells, cursor, hits) {
   const made = [];
   cells.forEach((cell, i) => {
-    const name = look(cell, i + 1 === cursor), isHit = hit !== null && i >= hit.from && i < hit.to, last = made.at(-1);
+    const name = look(cell, i + 1 === cursor), isHit = hits.has(i), last = made.at(-1);
     if (last && last.name === name && last.isHit === isHit) last.text += cell.glyph;
     else made.push({ text: cell.glyph, name, isHit });
   });
@@ -31,6 +41,12 @@ function element({ text, name, isHit }) {
   return made;
 }
 
+/** Copies what is selected, without the blanks at the ends of lines. */
+function copy(event) {
+  event.clipboardData.setData("text/plain", String(getSelection()).replace(/ +$/gm, ""));
+  event.preventDefault();
+}
+
 export class Screen {
   constructor(core, place) {
     this.place = place;
@@ -39,6 +55,7 @@ export class Screen {
     this.needle = "";
     this.cursorRow = 0;
     this.isStale = true;
+    place.oncopy = copy;
   }
 
   /** Frees its memory. The place keeps what was drawn last. */
@@ -66,8 +83,7 @@ export class Screen {
   }
 
   drawRow(terminal, row, cursor) {
-    const from = this.needle === "" ? -1 : terminal.rowText(row + 1).toLowerCase().indexOf(this.needle);
-    const hit = from < 0 ? null : { from, to: from + this.needle.length };
-    this.rows[row].replaceChildren(...runs(terminal.cells(row + 1), cursor, hit).map(element));
+    const hits = covered(terminal.rowText(row + 1).toLowerCase(), this.needle);
+    this.rows[row].replaceChildren(...runs(terminal.cells(row + 1), cursor, hits).map(element));
   }
 }

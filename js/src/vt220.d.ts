@@ -16,10 +16,10 @@ export interface Core {
   /** The version: 10000 * major + 100 * minor + patch. */
   readonly version: number;
   /**
-   * Returns what a key sends under these modes. The key is one character, a name such as "Up" or "C-c", or the sequence that a modern
-   * terminal sends for it. Throws NO_KEY or NO_CHARACTER.
+   * Returns what a key sends under these modes, of which those that are left out aren't set. The key is one character, a name such as "Up" or
+   * "C-c", or the sequence that a modern terminal sends for it. Throws NO_KEY or NO_CHARACTER.
    */
-  key(key: string, modes: Partial<Modes>): Uint8Array;
+  key(key: string, modes?: Partial<Modes>): Uint8Array;
   /** Returns how many bytes the first key has of what was typed on a modern terminal, and 0 if its end is missing. */
   keyLength(typed: Uint8Array): number;
   /**
@@ -34,13 +34,19 @@ export type Encoding = "dec" | "utf-8";
 /** The terminal that a host writes for: a VT220, or what programs send under TERM=xterm or xterm-256color. */
 export type TerminalName = "vt220" | "xterm";
 
-/**
- * Loads the core. The source is the bytes of vt220.wasm, its module, or a response with it, or a promise of one of these. Without one,
- * it is the file of this package.
- */
-export declare function load(
-  source?: BufferSource | WebAssembly.Module | Response | Promise<BufferSource | WebAssembly.Module | Response>
-): Promise<Core>;
+/** A Response of fetch, as far as load() needs it. */
+export interface Fetched {
+  readonly ok: boolean;
+  readonly status: number;
+  arrayBuffer(): Promise<ArrayBuffer>;
+}
+/** WebAssembly.Module, or nothing if no library of the project declares it. */
+type Module = typeof globalThis extends { WebAssembly: { Module: { prototype: infer Declared } } } ? Declared & object : never;
+/** What load() takes: the bytes of vt220.wasm, its module, or a response with it. */
+export type Source = ArrayBuffer | ArrayBufferView | Fetched | Module;
+
+/** Loads the core of a source, or of a promise of one. Without a source, it is the file of this package. */
+export declare function load(source?: Source | Promise<Source>): Promise<Core>;
 
 export interface Attributes {
   bold: boolean;

@@ -28,30 +28,26 @@ export class Vt220Error extends Error {
   }
 }
 
-/** Compiles the module: bytes, a module, a response, or the file next to this one. */
+/** Compiles the module: bytes, a module, or a response. */
 async function compiled(source) {
   source = await source;
+  if (typeof source !== "object" || source === null) throw new TypeError("load() takes the bytes of vt220.wasm, its module, or a response with it");
   if (source instanceof WebAssembly.Module) return source;
-  if (typeof Response !== "undefined" && source instanceof Response) {
-    if (!source.ok) throw new TypeError(`vt220.wasm could not be fetched: status ${source.status}`);
-    return WebAssembly.compile(await source.arrayBuffer());
-  }
-  return WebAssembly.compile(source);
+  if (typeof source.arrayBuffer !== "function") return WebAssembly.compile(source);
+  if (source.ok === false) throw new TypeError(`vt220.wasm could not be fetched: status ${source.status}`);
+  return WebAssembly.compile(await source.arrayBuffer());
 }
 
-/** Returns the bytes of vt220.wasm next to this module, in browsers and in node. */
+/** Returns the bytes of vt220.wasm next to this module, as a response. In node, node.js reads the file. */
 async function nearby() {
-  const url = new URL("../vt220.wasm", import.meta.url);
-  if (url.protocol !== "file:") return fetch(url);
-  const { readFile } = await import("node:fs/promises");
-  return readFile(url);
+  return fetch(new URL("../vt220.wasm", import.meta.url));
 }
 
 export async function load(source = nearby()) {
   return new Core((await WebAssembly.instantiate(await compiled(source))).exports);
 }
 
-/** Returns the exports of the module. After a trap, which leaves the memory as it is, each of them throws. */
+/** Returns the exports of the module, and whether one has trapped, which leaves the memory as it is. After that each of them throws. */
 function guarded(exports) {
   let isInside = false;
   const calls = {};
@@ -65,7 +61,7 @@ function guarded(exports) {
       return result;
     };
   }
-  return calls;
+  return { calls, isBroken: () => isInside };
 }
 
 function joined(parts) {
@@ -93,14 +89,22 @@ class Core {
   #memory;
   #bytes;
   #left;
+  #isBroken;
 
   constructor(exports) {
+    const { calls, isBroken } = guarded(exports);
     this.#memory = exports.memory;
-    this.calls = guarded(exports);
+    this.calls = calls;
+    this.#isBroken = isBroken;
     this.expect(this.calls.start());
     this.version = this.calls.version();
     this.inputSize = this.calls.input_size();
-    this.#left = new FinalizationRegistry(([close, at]) => this.calls[close](at));
+    this.#left = new FinalizationRegistry(([close, at]) => this.#free(close, at));
+  }
+
+  /** Frees what a call of the module frees. Nothing of a broken core is freed. */
+  #free(close, at) {
+    if (!this.#isBroken()) this.calls[close](at);
   }
 
   /** The memory, which has a new buffer after it has grown. */
@@ -150,11 +154,11 @@ class Core {
 
   close(terminal, at, xterm) {
     this.#left.unregister(terminal);
-    this.calls.close(at);
-    if (xterm !== 0) this.calls.xterm_close(xterm);
+    this.#free("close", at);
+    if (xterm !== 0) this.#free("xterm_close", xterm);
   }
 
-  key(key, modes) {
+  key(key, modes = {}) {
     const len = this.input(encoder.encode(key));
     const set = MODES.reduce((bits, name, i) => (modes[name] ? bits | (1 << i) : bits), 0);
     this.expect(this.calls.key(set, len));

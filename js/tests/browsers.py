@@ -88,28 +88,43 @@ class Chromium(Page):
             raise RuntimeError(got["exceptionDetails"].get("exception", {}).get("description", got["exceptionDetails"]))
         return got["result"].get("value")
 
-    def press(self, key, code=None, text=None, shift=False):
-        words = {"key": key, "code": code or key, "modifiers": 8 if shift else 0, **({"text": text} if text else {})}
+    def press(self, key, code=None, text=None, shift=False, alt=False):
+        words = {"key": key, "code": code or key, "modifiers": 8 * shift + alt, **({"text": text} if text else {})}
         self.call("Input.dispatchKeyEvent", type="keyDown", **words)
         self.call("Input.dispatchKeyEvent", type="keyUp", **words)
 
-    def click(self, selector, part=0.5):
-        """Clicks an element, at a part of its width."""
+    def click(self, selector, part=0.5, to=None, count=1):
+        """Clicks an element at a part of its width, or drags the mouse from there to another part. `count` is 2 for the second of a double click."""
         place = self.evaluate(f"(() => {{ const e = document.querySelector({json.dumps(selector)}); e.scrollIntoView({{ block: 'nearest' }}); return e.getBoundingClientRect().toJSON(); }})()")
-        words = {"x": place["x"] + part * place["width"], "y": place["y"] + place["height"] / 2, "button": "left", "clickCount": 1}
-        for kind in ("mousePressed", "mouseReleased"):
-            self.call("Input.dispatchMouseEvent", type=kind, **words)
+        words = {"y": place["y"] + place["height"] / 2, "button": "left", "clickCount": count}
+        end = part if to is None else to
+        for kind, at in (("mousePressed", part), *([("mouseMoved", end)] if to is not None else []), ("mouseReleased", end)):
+            self.call("Input.dispatchMouseEvent", type=kind, x=place["x"] + at * place["width"], **words)
 
     def names(self):
         """Returns the accessibility tree as pairs of role and name."""
         nodes = self.call("Accessibility.getFullAXTree")["nodes"]
         return [(node.get("role", {}).get("value"), node.get("name", {}).get("value")) for node in nodes if not node.get("ignored")]
 
+    def live(self):
+        """Returns the ids of the elements whose changes a screen reader reads out."""
+        nodes = self.call("Accessibility.getFullAXTree")["nodes"]
+        live = [node for node in nodes if any(each["name"] == "live" and each["value"]["value"] != "off" for each in node.get("properties", []))]
+        objects = [self.call("DOM.resolveNode", backendNodeId=node["backendDOMNodeId"])["object"]["objectId"] for node in live]
+        ids = [self.call("Runtime.callFunctionOn", objectId=each, functionDeclaration="function () { return this.id; }", returnByValue=True) for each in objects]
+        return {each["result"]["value"] for each in ids if each["result"].get("value")}
+
     def media(self, **features):
         self.call("Emulation.setEmulatedMedia", media=features.pop("media", ""), features=[{"name": n.replace("_", "-"), "value": v} for n, v in features.items()])
 
     def size(self, width, height):
         self.call("Emulation.setDeviceMetricsOverride", width=width, height=height, deviceScaleFactor=1, mobile=False)
+
+    def pixels(self, selector, part, size=8):
+        """Returns a picture of a square inside an element, at a part of its width."""
+        place = self.evaluate(f"document.querySelector({json.dumps(selector)}).getBoundingClientRect().toJSON()")
+        clip = {"x": round(place["x"] + part * place["width"]), "y": round(place["y"] + (place["height"] - size) / 2), "width": size, "height": size, "scale": 1}
+        return self.call("Page.captureScreenshot", format="png", clip=clip)["data"]
 
     def picture(self, path):
         with open(path, "wb") as file:

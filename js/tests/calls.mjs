@@ -98,6 +98,7 @@ function keys(core, check) {
   const rows = [["a", {}, "a"], ["\u00e9", {}, "\xe9"], ["\u0153", {}, "\xf7"], ["Return", {}, "\r"], ["Return", { lnm: true }, "\r\n"], ["Up", {}, "\x1b[A"], ["Up", { decckm: true }, "\x1bOA"],
     ["Up", set, "\x8fA"], ["F20", set, "\x9b34~"], ["C-c", {}, "\x03"], ["KP5", { keypadApplication: true }, "\x1bOu"], ["\x1b[A", { decckm: true }, "\x1bOA"]];
   for (const [key, modes, sent] of rows) check(`the key ${key}`, text(core.key(key, modes)) === sent);
+  check("a key without modes", text(core.key("Up")) === "\x1b[A");
   check("no such keys", thrown(() => core.key("F5", {})) === "NO_KEY" && thrown(() => core.key("\u00f7", {})) === "NO_CHARACTER");
   check("a very long key", thrown(() => core.key("x".repeat(100000), {})) === "NO_KEY");
   check("the length of keys", core.keyLength(bytes("\x1b[A\x1b[B")) === 3 && core.keyLength(bytes("\x1b[")) === 0 && core.keyLength(bytes("ab")) === 1);
@@ -112,9 +113,9 @@ async function modules({ load, Terminal }, wasm, check) {
   check("a load from a module", new Terminal(await load(module)).width === 80);
   check("a load from a promise", new Terminal(await load(Promise.resolve(wasm))).width === 80);
   if (typeof Response !== "undefined") check("a load from a response", new Terminal(await load(new Response(wasm))).width === 80);
-  let isRefused = false;
-  await load(Uint8Array.of(1, 2, 3)).catch(() => (isRefused = true));
-  check("a load of other bytes", isRefused);
+  const refused = (source) => load(source).then(() => "", String);
+  check("a load of other bytes", (await refused(Uint8Array.of(1, 2, 3))) !== "");
+  for (const source of ["vt220.wasm", 5, null]) check(`a load of ${source}`, (await refused(source)).startsWith("TypeError: load() takes the bytes of vt220.wasm"));
 }
 
 /** The exports that take closed handles, which the package never passes: their arguments, and what they return. t and x are closed. */
@@ -207,6 +208,23 @@ async function exhausted(vt220, wasm, check) {
   check("a terminal of which one part has no memory is closed", left > 0);
 }
 
+/** Tests that twice as many terminals need few more growths of the memory, each of which makes a new buffer. */
+function growths({ Terminal }, core, check) {
+  const made = [];
+  let { buffer } = core.bytes, count = 0;
+  const open = (terminals) => {
+    for (count = 0; made.length < terminals; ) {
+      made.push(new Terminal(core));
+      if (core.bytes.buffer !== buffer) count++, ({ buffer } = core.bytes);
+    }
+    return count;
+  };
+  open(1000);
+  // An eighth more, six times, is twice as much.
+  check(`the growths of the memory for 1000 more terminals: ${open(2000)}`, count > 0 && count <= 7);
+  made.forEach((terminal) => terminal.close());
+}
+
 /** Tests many terminals and checkpoints, which are closed and made again in the same memory. */
 function memory({ Terminal, Timeline }, core, check) {
   const round = (options) => {
@@ -236,6 +254,7 @@ async function faults({ load, Terminal }, wasm, check) {
   const t = new Terminal(core);
   check("a fault", thrown(() => core.calls.text(0xfffffff0)) === "RuntimeError");
   check("after a fault", thrown(() => t.text()) === "BROKEN" && thrown(() => new Terminal(core)) === "BROKEN");
+  check("a terminal is closed after a fault", thrown(() => t.close()) === null && !t.isOpen && thrown(() => t.text()) === "BROKEN");
   check("another core after a fault", new Terminal(other).width === 80);
 }
 
@@ -247,6 +266,7 @@ export async function calls(vt220, wasm, check) {
   errors(vt220, core, other, check);
   keys(core, check);
   memory(vt220, core, check);
+  growths(vt220, await vt220.load(wasm), check);
   sizes(vt220, core, check);
   await handles(wasm, check);
   await exhausted(vt220, wasm, check);

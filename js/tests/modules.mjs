@@ -12,7 +12,7 @@ import { vectors } from "./vectors.mjs";
 
 const [place, vectorFile, hashFile, first] = process.argv.slice(2);
 const from = (name) => import(new URL(name, pathToFileURL(`${place}/`)));
-const vt220 = { ...(await from("src/vt220.js")), ...(await from("src/timeline.js")) };
+const vt220 = { ...(await from("src/node.js")), ...(await from("src/timeline.js")) };
 let passed = 0, failed = 0;
 const say = (what) => {
   console.error(`failed: ${what}`);
@@ -40,7 +40,7 @@ timelines(vt220, core, check);
 const table = (name) => readFile(new URL(`../../tests-c/${name}.txt`, import.meta.url), "utf8");
 tables(vt220, core, { utf8: await table("utf8"), xterm: await table("xterm") }, check);
 
-const script = `import { load, Terminal } from ${JSON.stringify(pathToFileURL(`${place}/src/vt220.js`).href)};
+const script = `import { load, Terminal } from ${JSON.stringify(pathToFileURL(`${place}/src/node.js`).href)};
 import { parentPort } from "node:worker_threads";
 const terminal = new Terminal(await load());
 terminal.feed(new TextEncoder().encode("in a worker"));

@@ -20,6 +20,8 @@ export async function use(bytes: Uint8Array): Promise<string> {
   } catch (error) {
     if (error instanceof Vt220Error) { const code: Code = error.code; return code; }
   }
+  // @ts-expect-error: a name isn't the module
+  await load("vt220.wasm");
   // @ts-expect-error: text isn't bytes
   terminal.feed("text");
   // @ts-expect-error: the width is read

@@ -120,7 +120,8 @@ function send(what) {
 }
 
 function pressed(event) {
-  if (!isTyping || event.isComposing || event.altKey || event.metaKey) return;
+  // A Mac may type a sign such as @ with Option. With Alt, letters, digits and blanks are for the browser.
+  if (!isTyping || event.isComposing || event.metaKey || (event.altKey && !/^[^\w\s]$/.test(event.key))) return;
   if (event.ctrlKey && event.key === "]") {
     setTyping(false);
     $("type").focus();
@@ -155,11 +156,6 @@ $("type").addEventListener("click", () => setTyping(!isTyping));
 $("screen").addEventListener("keydown", pressed);
 $("screen").addEventListener("paste", (event) => {
   if (isTyping) send({ text: event.clipboardData.getData("text").replace(/\r?\n/g, "\r") });
-});
-// The blanks at the ends of lines aren't copied.
-$("screen").addEventListener("copy", (event) => {
-  event.clipboardData.setData("text/plain", String(getSelection()).replace(/ +$/gm, ""));
-  event.preventDefault();
 });
 $("announce").addEventListener("change", () => { $("said").textContent = ""; });
 vt220.load().then((loaded) => {

@@ -35,12 +35,13 @@ def test_all_that_is_offered_has_a_docstring():
 TYPED = """
 from vt220.rig import ENTER, UP, F10
 from vt220.rig import {names}
-from vt220.rig import Key, run
+from vt220.rig import Key, alt, ctrl, run, shift
 from vt220.pytest_plugin import Session
 
 def test_it(vt: Session) -> None:
     less = vt.run("less", "notes.txt", columns=132)
     less.keys("/", UP, F10, ENTER, {names})
+    less.keys(ctrl("c") + "x", ctrl(UP), alt(shift(F10)))
     row: int = less.wait("x", row=24).at("x").row
     keys: "list[Key]" = [{names}]
     with run("less", "notes.txt", cwd="/", timeout=5) as rig:

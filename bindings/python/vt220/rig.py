@@ -21,7 +21,7 @@ from typing import Callable, Dict, List, NamedTuple, Optional, Pattern, Sequence
 
 from . import Bytes, Modes, Terminal
 from .expected import expression_as_shown, expression_of_text, text_as_shown
-from .keyboard import Key, ctrl, spelled
+from .keyboard import Chord, Key, alt, ctrl, shift, spelled
 from .page import NoTemplate, page
 from .picture import svg
 from .process import TERMS, Process, environment
@@ -54,6 +54,7 @@ F1 = Key.F1
 F2 = Key.F2
 F3 = Key.F3
 F4 = Key.F4
+F5 = Key.F5
 F6 = Key.F6
 F7 = Key.F7
 F8 = Key.F8
@@ -90,7 +91,8 @@ TAB = Key.TAB
 DELETE = Key.DELETE
 BACKSPACE = Key.BACKSPACE
 ESCAPE = Key.ESCAPE
-__all__ = ["Failure", "KeyboardLocked", "Place", "Reports", "Rig", "Screen", "Key", "MASK", "ctrl", "run", "spelled", *Key.__members__]
+__all__ = ["Chord", "Failure", "KeyboardLocked", "Place", "Reports", "Rig", "Screen", "Key", "MASK", "alt", "ctrl", "run", "shift", "spelled",
+           *Key.__members__]
 
 
 class Failure(AssertionError):
@@ -290,10 +292,11 @@ class Rig:
             self._fail("keys were pressed, and the program has locked the keyboard (KAM)", kind=KeyboardLocked)
         return modes
 
-    def keys(self, *keys: Union[str, Key]) -> None:
+    def keys(self, *keys: Union[str, Key, Chord]) -> None:
         """Presses keys: each character of a text, in the program's encoding, or a Key, as the terminal's modes ask for it now.
 
-        What the program has written by now is played first, since it may change the modes.
+        With the terminal "xterm" a key may also be a Chord, such as shift(TAB) or ctrl(LEFT). What the program has written by now is played
+        first, since it may change the modes.
         """
         __tracebackhide__ = True
         modes = self._typing()

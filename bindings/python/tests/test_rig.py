@@ -228,6 +228,21 @@ def test_wait_for_each_kind_of_condition():
             rig.wait(lambda screen: True, text="never", timeout=0.1)
 
 
+@pytest.mark.parametrize("options", [{"what": "x", "row": 1.5}, {"what": "x", "row": "1"}, {"text": "x", "col": 2.0}, {"cursor": (1.0, 1)}, {"cursor": (1, 1.5)}])
+def test_a_place_that_is_no_integer_is_refused_at_once(options):
+    with shell("sleep 1000") as rig:
+        with pytest.raises(TypeError):
+            rig.wait(timeout=0.1, **options)
+        with pytest.raises(TypeError):
+            rig.screen.at("x", row=1.5)
+
+
+@pytest.mark.parametrize("mask, fault", [((0, 1, 1), vt220.NoRow), ((25, 1, 1), vt220.NoRow), ((1, 0, 1), ValueError), ((1, 133, 1), ValueError), ((1.5, 1, 1), TypeError)])
+def test_a_mask_that_no_screen_has_is_refused(mask, fault):
+    with pytest.raises(fault):
+        screen_of(b"x").stored([mask])
+
+
 @pytest.mark.parametrize("options, fault", [
     ({"what": "x", "row": 0}, vt220.NoRow), ({"what": "x", "row": 25}, vt220.NoRow), ({"text": "x", "row": -1}, vt220.NoRow),
     ({"cursor": (25, 1)}, vt220.NoRow), ({"what": "x", "col": 0}, ValueError), ({"what": "x", "col": 133}, ValueError),

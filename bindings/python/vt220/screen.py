@@ -1,10 +1,11 @@
 """Holds a screen as it was at one moment, and the text file that a screen is stored in."""
 import functools
 import itertools
+import operator
 import re
 from typing import Dict, Iterable, Iterator, List, NamedTuple, Optional, Sequence, Tuple, Union
 
-from . import COLUMNS, ROWS, Brush, Cell, Cursor, Margins, Modes, NoRow, Saved, Sets, Terminal
+from . import COLUMNS, ROWS, Brush, Cell, Cursor, Margins, Modes, Saved, Sets, Terminal, _check_row
 from .expected import expression_as_shown, expression_of_text, text_as_shown
 
 # The name of each attribute in a stored screen, in the order of Cell's fields after the glyph.
@@ -185,6 +186,8 @@ class Screen:
                         if found.end() > found.start():
                             yield row, found.start() + 1, found.end() - found.start()
             else:
+                check_row(mask[0])
+                check_column(mask[1])
                 yield mask
 
     def _state(self) -> Iterator[str]:
@@ -222,14 +225,14 @@ def _runs(raw: bytes) -> str:
 
 
 def check_row(row: Optional[int]) -> None:
-    """Raises NoRow if a row is given that no screen has."""
-    if row is not None and not 1 <= row <= ROWS:
-        raise NoRow(f"{NoRow.words}, so there is no row {row}")
+    """Raises NoRow if a row is given that no screen has, and TypeError if it isn't an integer."""
+    if row is not None:
+        _check_row(row)
 
 
 def check_column(col: Optional[int]) -> None:
-    """Raises ValueError if a column is given that no screen has."""
-    if col is not None and not 1 <= col <= COLUMNS:
+    """Raises ValueError if a column is given that no screen has, and TypeError if it isn't an integer."""
+    if col is not None and not 1 <= operator.index(col) <= COLUMNS:
         raise ValueError(f"columns count from 1 to {COLUMNS}, so there is no column {col}")
 
 

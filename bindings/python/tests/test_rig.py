@@ -256,6 +256,59 @@ def test_a_place_that_no_screen_has_is_refused_at_once(options, fault):
             rig.screen.at("x", row=25)
 
 
+@pytest.mark.parametrize("prompt, spaces", [(">>> ", 1), ("$ ", 1), ("Name:   ", 3)])
+def test_a_text_that_ends_in_spaces_is_found_up_to_the_cursor(prompt, spaces):
+    plain = prompt.rstrip()
+    with shell(f"printf '%s' '{prompt}'; sleep 1000") as rig:
+        screen = rig.wait(text=prompt)
+        for what in (f"^{re.escape(prompt)}", f"^{re.escape(prompt)}$", f"^{re.escape(plain)}$", re.compile(f"{re.escape(plain)} {{{spaces}}}$")):
+            assert rig.wait(what) == rig.wait(what, row=1, col=1) == screen
+        assert rig.wait(text=" ", row=1, col=len(plain) + 1) == screen
+        place = screen.at(prompt)
+        assert (place.row, place.col, len(place.cells)) == (1, 1, len(prompt))
+        # There is one more blank cell, which is after the cursor.
+        for options in ({"text": prompt + " "}, {"what": f"^{re.escape(prompt)} "}, {"text": " ", "row": 2}):
+            with pytest.raises(Failure):
+                rig.wait(timeout=0.1, **options)
+        assert not screen.at(prompt + " ")
+        # The readers have no spaces at the ends of lines.
+        assert (screen.rows[0], screen.text.split("\n")[0]) == (plain, plain) and screen.stored().startswith(f"{plain}\n")
+
+
+def test_a_row_has_its_spaces_up_to_the_last_cell_that_isnt_blank():
+    """SGR 7 is reverse, SGR 4 underlined, and DECSCA 1 protects from a selective erase (EK-VT220-RM, chapter 4)."""
+    screen = screen_of(b"one\033[7m   \033[m\r\ntwo  \r\n\033[4m    \033[m\r\nfour \033[1\"q \033[0\"q\r\n" + b"x" * 78 + b"  ")
+    assert [screen.at(" ", row=row, nth=nth).col for row, nth in ((1, 1), (1, 3), (3, 4), (4, 2), (5, 2))] == [4, 6, 4, 6, 80]
+    assert not screen.at(" ", row=1, nth=4) and not screen.at(" ", row=2) and not screen.at(" ", row=3, nth=5) and not screen.at(" ", row=4, nth=3)
+    assert screen.cursor == (5, 80, True) and screen._finds(re.compile("x  $"), 5) and screen._finds(re.compile("x$"), 5) and not screen._finds(re.compile("x $"), 5)
+    assert screen.rows[:5] == ("one", "two", "", "four", "x" * 78)
+
+
+def test_an_expression_that_the_screen_has_as_text_has_a_hint():
+    with shell("printf '%s' 'cost: $5 (total)'; sleep 1000") as rig:
+        rig.wait("cost")
+        for options in ({}, {"row": 1}, {"row": 1, "col": 7}):
+            for what in ("$5 (total)", re.compile("$5 (total)")):
+                with pytest.raises(Failure) as caught:
+                    rig.wait(what, timeout=0.1, **options)
+                assert "\nthe screen has this text as it is: write text='$5 (total)'\n" in str(caught.value)
+        assert rig.wait(text="$5 (total)", row=1, col=7)
+        # Text that isn't there, or isn't at this place, and an expression that was found, have no hint.
+        for options in ({"what": "$6 (total)"}, {"what": "$5 (total)", "row": 2}, {"what": "$5 (total)", "col": 1}, {"what": "cost", "cursor": (9, 9)}, {"text": "$6"}):
+            with pytest.raises(Failure) as caught:
+                rig.wait(timeout=0.1, **options)
+            assert "write text=" not in str(caught.value), options
+
+
+def test_an_expression_that_never_came_has_the_hint_too():
+    with run("printf", "%s", "name?") as rig:
+        with pytest.raises(Failure, match=r"ended with status 0, and /\^name\?\$/ never came\n\n"):
+            rig.wait("^name?$")
+    with run("printf", "%s", "[ok]") as rig:
+        with pytest.raises(Failure, match=r"never came\nthe screen has this text as it is: write text='\[ok\]'\n"):
+            rig.wait("[ok]", row=1, col=1)
+
+
 def test_no_state_is_looked_at_inside_a_sequence():
     seen = []
 

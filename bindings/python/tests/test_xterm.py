@@ -141,6 +141,13 @@ def test_a_program_gets_keys_with_modifiers():
             spelled(key, POWER_UP, "utf-8", "xterm")
 
 
+@pytest.mark.parametrize("options, blinks", [({}, False), ({"terminal": "vt220"}, True), ({"terminal": "vt220", "encoding": "dec"}, True)])
+def test_a_colour_is_read_under_xterm_alone(options, blinks):
+    """A VT220 takes 38, 5 and 208 for three attributes, of which it has 5. In xterm's control sequences they are one colour."""
+    with run("printf", "\\033[38;5;208mbat", **options) as rig:
+        assert rig.ended().at("bat").blink == blinks
+
+
 def test_home_and_end_follow_decckm():
     assert spelled(HOME, POWER_UP, "utf-8", "xterm") == b"\033[H" and spelled(END, POWER_UP, "utf-8", "xterm") == b"\033[F"
     assert spelled(HOME, POWER_UP) == b"\033[1~" and spelled(END, POWER_UP) == b"\033[4~"

@@ -5,6 +5,7 @@ import subprocess
 import sys
 
 import vt220
+import vt220.cast
 import vt220.expected
 import vt220.keyboard
 import vt220.picture
@@ -13,7 +14,7 @@ import vt220.pytest_plugin
 import vt220.rig
 import vt220.screen
 
-MODULES = [vt220, vt220.expected, vt220.keyboard, vt220.picture, vt220.process, vt220.pytest_plugin, vt220.rig, vt220.screen]
+MODULES = [vt220, vt220.cast, vt220.expected, vt220.keyboard, vt220.picture, vt220.process, vt220.pytest_plugin, vt220.rig, vt220.screen]
 
 
 def offered(module):

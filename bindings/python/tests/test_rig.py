@@ -17,6 +17,7 @@ import pytest
 
 import vt220
 from vt220 import rig as rig_module
+from vt220.cast import asciicast
 from vt220.page import NoTemplate, page
 from vt220.picture import svg
 from vt220.pytest_plugin import file_name
@@ -354,10 +355,44 @@ def test_a_time_out_says_what_was_waited_for_and_what_there_was(tmp_path):
             rig.wait("Hello", row=3, timeout=0.2)
     words = str(caught.value)
     assert "/Hello/ in row 3 didn't come in 0.2 s" in words and " 1|Name? Eve" in words and "test    Eve" in words
-    assert "python3 -m vt220" in words and sorted(path.name for path in (tmp_path / "r").iterdir()) == ["stable-1.bytes", "stable-1.svg"]
+    assert "python3 -m vt220" in words and sorted(path.name for path in (tmp_path / "r").iterdir()) == ["stable-1.bytes", "stable-1.cast", "stable-1.svg"]
     played = subprocess.run([sys.executable, "-m", "vt220", str(tmp_path / "r" / "stable-1.bytes")], capture_output=True, text=True,
                             env={**os.environ, "PYTHONPATH": str(pathlib.Path(vt220.__file__).parents[1])})
     assert played.stdout.startswith("Name? Eve\n")
+
+
+ASCIICAST = [
+    ({}, "vt220", 80, "C.UTF-8"), ({"columns": 132}, "vt220", 132, "C.UTF-8"), ({"terminal": "xterm"}, "xterm-256color", 80, "C.UTF-8"), ({"term": "vt100"}, "vt100", 80, "C.UTF-8"),
+    ({"env": {"TERM": "xterm"}, "terminal": "xterm", "columns": 132}, "xterm", 132, "C.UTF-8"), ({"encoding": "dec"}, "vt220", 80, "C"),
+]
+
+
+@pytest.mark.parametrize("options, term, width, locale", ASCIICAST)
+def test_the_asciicast_of_a_failure_names_term_and_the_size(tmp_path, options, term, width, locale):
+    """The format is that of asciinema's documentation, 'asciicast v2'."""
+    with shell("echo $TERM; stty size; read answer; echo $answer; read more", reports=Reports(tmp_path / "r", "stable-1"), **options) as rig:
+        rig.wait(f"^24 {width}$", row=2)
+        rig.keys("yes", ENTER)
+        rig.wait("^yes$", row=4)
+        words = rig.report()
+    path = tmp_path / "r" / "stable-1.cast"
+    assert f"\nasciicast: {path}\n" in words
+    head, *events = [json.loads(line) for line in path.read_text(encoding="utf-8").splitlines()]
+    assert (head["version"], head["width"], head["height"], head["env"]) == (2, width, 24, {"TERM": term, "LC_ALL": locale})
+    assert head["command"].startswith("/bin/sh -c 'echo $TERM; stty size")
+    # The program had the TERM that the header names.
+    assert rig.last.rows[:2] == (term, f"24 {width}")
+    assert "".join(data for _, code, data in events if code == "o").encode() == bytes(rig.recording)
+    assert "".join(data for _, code, data in events if code == "i") == "yes\r" and [at for at, *_ in events] == sorted(at for at, *_ in events)
+
+
+def test_an_asciicast_has_whole_characters():
+    """RFC 3629 has the bytes. U+FFFD is for what is ill-formed, also at the end."""
+    parts = [(0.5, "o", b"a\xe2"), (1.25, "i", b"\xe2\x82\xac"), (1.5, "o", b"\x82"), (2, "o", b"\xac\xff"), (3, "o", b"\xe2\x82")]
+    head, *events = [json.loads(line) for line in asciicast({"width": 80}, parts, "utf-8")]
+    assert head == {"version": 2, "width": 80}
+    assert events == [[0.5, "o", "a"], [1.25, "i", "\u20ac"], [2, "o", "\u20ac\ufffd"], [3, "o", "\ufffd"]]
+    assert [json.loads(line)[2] for line in [*asciicast({}, [(0, "o", b"a\xe9\x9b")], "dec")][1:]] == ["a\xe9\x9b"]
 
 
 def unpacked(text):
@@ -761,7 +796,7 @@ def test_the_plugin_stores_compares_and_names_stale_screens(tmp_path):
     (tmp_path / "screens" / "two.txt").write_text("three\n")
     done = go("--color", "yes")
     assert done.returncode == 1 and "\033[31m- three" in done.stdout
-    assert sorted(path.name for path in (tmp_path / "vt220-failures").iterdir()) == ["test_it.py-test_two-1.bytes", "test_it.py-test_two-1.svg"]
+    assert sorted(path.name for path in (tmp_path / "vt220-failures").iterdir()) == [f"test_it.py-test_two-1.{kind}" for kind in ("bytes", "cast", "svg")]
     go("--update-screens")
     assert go().returncode == 0 and not list((tmp_path / "vt220-failures").iterdir())
 
@@ -801,7 +836,7 @@ def test_many_rigs_under_xdist(tmp_path):
     done = subprocess.run(command, cwd=tmp_path, env=inner_environment(), capture_output=True, text=True)
     assert "5 failed" in done.stdout, done.stdout
     reports = sorted(path.name for path in (tmp_path / "vt220-failures").iterdir())
-    assert reports == sorted(f"test_it.py-test_it-{number}-{rig}.{kind}" for number in (5, 15, 17, 25, 35) for rig in (1, 2, 3) for kind in ("bytes", "svg"))
+    assert reports == sorted(f"test_it.py-test_it-{number}-{rig}.{kind}" for number in (5, 15, 17, 25, 35) for rig in (1, 2, 3) for kind in ("bytes", "cast", "svg"))
 
 
 PLAIN = """
@@ -860,7 +895,7 @@ def test_a_plain_assert_leaves_screen_picture_and_recording(tmp_path, options):
     # Each program is shown once, also that whose failure shows it itself.
     assert done.stdout.count("the command: ") == sum(counts.values()), done.stdout
     found = sorted(path.name for path in (tmp_path / "vt220-failures").iterdir())
-    assert found == sorted(f"test_it.py-test_{name}-{number}.{kind}" for name, count in counts.items() for number in range(1, count + 1) for kind in ("bytes", "svg"))
+    assert found == sorted(f"test_it.py-test_{name}-{number}.{kind}" for name, count in counts.items() for number in range(1, count + 1) for kind in ("bytes", "cast", "svg"))
     assert all(f"vt220-failures/{name}" in done.stdout for name in found)
     assert (tmp_path / "vt220-failures" / "test_it.py-test_plain-2.bytes").read_bytes() == b"other\r\n"
 
@@ -876,7 +911,7 @@ def test_the_files_of_tests_are_their_own(tmp_path):
         assert f"{len(words)} failed" in done.stdout, done.stdout
         files = list((tmp_path / "vt220-failures").iterdir())
         assert sorted(path.read_bytes().decode().replace("\r\n", "") for path in files if path.suffix == ".bytes") == sorted(words)
-        assert len(files) == 2 * len(words) and all(str(path) in done.stdout for path in files)
+        assert len(files) == 3 * len(words) and all(str(path) in done.stdout for path in files)
 
 
 def test_names_of_files_are_readable_and_different():

@@ -18,9 +18,10 @@ import re
 import select
 import shlex
 import time
-from typing import Callable, Dict, List, NamedTuple, Optional, Pattern, Sequence, Tuple, Union
+from typing import Callable, Dict, Iterator, List, NamedTuple, Optional, Pattern, Sequence, Tuple, Union
 
-from . import Bytes, Modes, Terminal
+from . import ROWS, Bytes, Modes, Terminal
+from .cast import asciicast
 from .expected import NoGlyph, expression_as_shown, expression_of_text, text_as_shown
 from .keyboard import Chord, Key, alt, ctrl, shift, spelled
 from .page import NoTemplate, page
@@ -31,6 +32,8 @@ from .screen import MASK, Mask, Place, Screen, Stored, check_column, check_row, 
 TIMEOUT = 10.0
 # How long a program must be silent before --update-screens stores its screen.
 SETTLED_MS = 500
+# The endings of a failure's files: the picture, the recording as bytes and as an asciicast, and the page.
+ENDINGS = ("svg", "bytes", "cast", "html")
 
 Directory = Union[str, "os.PathLike[str]"]
 Condition = Union[str, Pattern[str], Callable[[Screen], object]]
@@ -123,13 +126,13 @@ class Reports(NamedTuple):
 
     def write(self, name: str, rig: "Rig", marks: Sequence[Tuple[int, int]]) -> str:
         """Writes the picture, the recording and the page, and returns the lines that name them, or why they couldn't be written."""
-        stem = self.directory / (self.name or name)
-        picture, recording = f"{stem}.svg", f"{stem}.bytes"
+        picture, recording, cast, playing = (f"{self.directory / (self.name or name)}.{ending}" for ending in ENDINGS)
         try:
             self.directory.mkdir(parents=True, exist_ok=True)
             pathlib.Path(recording).write_bytes(rig.recording)
             pathlib.Path(picture).write_text(svg(rig.last, marks), encoding="utf-8")
-            playing = _write_page(f"{stem}.html", rig)
+            pathlib.Path(cast).write_bytes(b"".join(_asciicast(rig)))
+            page_line = _write_page(playing, rig)
         except OSError as fault:
             return f"no picture and no recording: {fault}"
         if rig.terminal.terminal == "xterm":
@@ -137,8 +140,8 @@ class Reports(NamedTuple):
         else:
             option = [] if rig.encoding == "dec" else ["--encoding", rig.encoding]
         words = " ".join([*option, shlex.quote(recording)])
-        playing = f"{playing}play it:   python3 -m vt220 {words}   (or: vt220 show {words})"
-        return f"picture:   {picture}\nrecording: {recording}\n{playing}"
+        files = f"picture:   {picture}\nrecording: {recording}\nasciicast: {cast}\n{page_line}"
+        return f"{files}play it:   python3 -m vt220 {words}   (or: vt220 show {words})"
 
 
 class Rig:
@@ -158,9 +161,10 @@ class Rig:
         self.screens, self.update = pathlib.Path(screens if screens is not None else "screens"), update
         self.reports, self._used = reports or Reports(), used
         self.terminal, self.recording, self.events = Terminal(encoding, terminal), bytearray(), []  # type: ignore[var-annotated]
-        self.encoding = self.terminal.encoding
+        self.encoding, self.columns = self.terminal.encoding, columns
+        self.environment = environment(term or TERMS[terminal], self.encoding, env)
         self._output, self._is_open, self._started = bytearray(), True, time.monotonic()
-        self.process = Process(self.argv, environment(term or TERMS[terminal], self.encoding, env), cwd, columns, self.encoding)
+        self.process = Process(self.argv, self.environment, cwd, columns, self.encoding)
         if columns == 132:
             # The recording begins with it, so that it shows the same when it is played.
             self._play(b"\033[?3h" if terminal == "vt220" else b"\033[?40h\033[?3h\033[?40l")
@@ -434,6 +438,14 @@ class Rig:
             lines.append(_UTF_8)
         lines.append(self.reports.write(re.sub(r"\W+", "-", pathlib.Path(self.argv[0]).name), self, marks))
         return "\n".join(lines)
+
+
+def _asciicast(rig: Rig) -> Iterator[bytes]:
+    """Returns the lines of an asciicast of all that went over the line. Its first line has the size, and TERM and LC_ALL as the program had them."""
+    kept = {name: rig.environment[name] for name in ("TERM", "LC_ALL")}
+    head = {"width": rig.columns, "height": ROWS, "command": shlex.join(rig.argv), "env": kept}
+    events = ((event.at, "o" if event.who == "program" else "i", event.data) for event in rig.events)
+    return asciicast(head, events, rig.encoding)
 
 
 def _write_page(path: str, rig: Rig) -> str:

@@ -105,7 +105,7 @@ struct keys {
     uint8_t held[VT220_TYPED_LIMIT]; /* the beginning of a key whose end hasn't come */
     size_t held_len;
     bool is_utf8;    /* characters beyond ASCII are sent as they are typed */
-    bool is_xterm;   /* Home, End, F5 and F13 to F20 are sent as xterm sends them */
+    bool is_xterm;   /* keys are sent as xterm sends them */
     bool rings;      /* something was typed that a VT220 has no key for */
     bool can_scroll; /* PageUp with Shift, Alt or Ctrl isn't sent */
     bool scrolls;    /* it was typed */
@@ -113,7 +113,7 @@ struct keys {
 
 enum {
     KEYS_GROWTH = 2, /* a key has at most this many times the bytes that were typed */
-    KEY_LIMIT = 8    /* the most bytes of a key that has a name */
+    KEY_LIMIT = 8    /* the most bytes of a key that has a name, and a byte */
 };
 
 size_t keys_translate(struct keys *keys, const vt220 *t, const uint8_t *typed, size_t len, uint8_t *to);

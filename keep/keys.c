@@ -39,12 +39,50 @@ static size_t as_xterm(const vt220_mode_set *modes, uint8_t *sent, size_t len) {
     return len;
 }
 
-/* Writes what the key F5 sends, which a VT220 doesn't have: what F6 sends, with another number. */
-static size_t put_f5(const vt220_mode_set *modes, uint8_t *to) {
-    size_t len;
-    vt220_key(modes, "F6", 2, to, KEY_LIMIT, &len);
-    memcpy(to + len - 3, "15", 2);
-    return len;
+/* Writes CSI in the form that the program asked for, and what comes after it. */
+static size_t put_control(const vt220_mode_set *modes, const char *code, uint8_t *to) {
+    const char *control = modes->reports_8bit ? "\x9B" : "\033[";
+    size_t head = strlen(control), len = strlen(code);
+    memcpy(to, control, head);
+    memcpy(to + head, code, len);
+    return head + len;
+}
+
+/* Writes what a key of an xterm sends without modifiers. Returns 0 if there is no such key. */
+static size_t put_xterm_key(const vt220_mode_set *modes, const char *name, uint8_t *to) {
+    size_t put;
+    if (strcasecmp(name, "F5") == 0) return put_control(modes, "15~", to);
+    vt220_key(modes, name, strlen(name), to, KEY_LIMIT, &put);
+    return as_xterm(modes, to, put);
+}
+
+/* The modifiers, and what each adds to the number that xterm puts before the final byte. Without any that is 1 (ctlseqs, 'PC-Style Function
+ * Keys'). */
+static const struct {
+    char letter;
+    int bit;
+} modifiers[] = {{'S', 1}, {'A', 2}, {'C', 4}};
+
+/* Returns what the modifier at the front of a name adds. Returns 0 if there is none: C-x and the like are keys by themselves. */
+static int modifier_of(const char *name) {
+    if (strlen(name) < 4 || name[1] != '-') return 0;
+    for (size_t i = 0; i < sizeof modifiers / sizeof *modifiers; i++) {
+        if ((name[0] & ~0x20) == modifiers[i].letter) return modifiers[i].bit;
+    }
+    return 0;
+}
+
+/* Writes what a function key of an xterm, or Tab with Shift, sends with modifiers. Returns 0 if there is no such key. */
+static size_t put_with_modifiers(const vt220_mode_set *modes, int held, const char *name, uint8_t *to) {
+    char code[32];
+    int number = 1, own = 1;
+    size_t len = put_xterm_key(modes, name, to), head = modes->reports_8bit ? 1 : 2;
+    if (len == 1 && *to == '\t' && held == 1) return put_control(modes, "Z", to);
+    if (len <= head || strchr("ABCDFHPQRS~", to[len - 1]) == NULL) return 0;
+    to[len] = 0;
+    sscanf((const char *)to + head, "%d;%d", &number, &own);
+    snprintf(code, sizeof code, "%d;%d%c", number, 1 + (held | (own - 1)), to[len - 1]);
+    return put_control(modes, code, to);
 }
 
 /* Writes a key that was typed. One that a VT220 doesn't have passes as it came, and so does a character beyond ASCII if the session is in
@@ -99,10 +137,14 @@ size_t keys_flush(struct keys *keys, uint8_t *to) {
 
 size_t keys_named(const struct keys *keys, const vt220 *t, const char *name, uint8_t *to) {
     vt220_mode_set modes = modes_of(t);
+    int held = 0;
     size_t put;
-    if (keys->is_xterm && strcasecmp(name, "F5") == 0) return put_f5(&modes, to);
-    vt220_key(&modes, name, strlen(name), to, KEY_LIMIT, &put);
-    return keys->is_xterm ? as_xterm(&modes, to, put) : put;
+    if (!keys->is_xterm) {
+        vt220_key(&modes, name, strlen(name), to, KEY_LIMIT, &put);
+        return put;
+    }
+    for (int one; (one = modifier_of(name)) != 0; name += 2) held |= one;
+    return held == 0 ? put_xterm_key(&modes, name, to) : put_with_modifiers(&modes, held, name, to);
 }
 
 /* Tries a word with one character more, less or another one at a place. Returns whether that is a key's name, which `meant` then has. */
@@ -120,13 +162,15 @@ static bool is_near(const struct keys *keys, const vt220 *t, const char *word, s
     return false;
 }
 
-/* Returns whether a word that is no key was hardly meant as text: ^ and a character, F and a number, or a word with a capital that differs
- * from a key's name by one character. `meant` then has that name, or nothing. */
+/* Returns whether a word that is no key was hardly meant as text: ^ and a character, F and a number, a key of an xterm, or a word with a
+ * capital that differs from a key's name by one character. `meant` then has that name, or nothing. */
 bool keys_meant(const struct keys *keys, const vt220 *t, const char *word, char *meant, size_t room) {
+    const struct keys xterm = {.is_xterm = true};
+    uint8_t key[KEY_LIMIT];
     size_t len = strlen(word);
     bool is_function = word[0] == 'F' && len > 1 && strspn(word + 1, "0123456789") == len - 1;
     *meant = 0;
-    if ((word[0] == '^' && len == 2) || is_function) return true;
+    if ((word[0] == '^' && len == 2) || is_function || keys_named(&xterm, t, word, key) > 0) return true;
     if (len < 4 || len + 2 > room || word[0] < 'A' || word[0] > 'Z') return false;
     for (size_t at = 0; at < len; at++) {
         if (is_near(keys, t, word, at, meant, room)) return true;

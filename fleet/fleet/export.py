@@ -1,10 +1,10 @@
 """What a session wrote, for other programs: its bytes, or a recording with the moments, as asciicast 2, ttyrec or a page that plays it."""
-import codecs
-import json
+import itertools
 import os
 import struct
 import subprocess
 
+import vt220.cast
 import vt220.page
 from vt220.process import TERMS
 
@@ -35,22 +35,15 @@ def language(store, incarnation):
 
 
 def asciicast(store, incarnation, title, out):
-    """Writes an asciicast, version 2. Of a session in UTF-8 the characters are written, with U+FFFD for what is ill-formed. Otherwise
-    the bytes 80 to FF are the code points U+0080 to U+00FF."""
-    begin, (encoding, terminal) = None, language(store, incarnation)
-    decode = codecs.getincrementaldecoder("utf-8" if encoding == "utf-8" else "latin-1")("replace").decode
-    for _, moment, data in bytes_of(store, incarnation):
-        if begin is None:
-            begin = moment
-            head = {"version": 2, "width": 80, "height": 24, "timestamp": begin // 1000, "title": title, "env": {"TERM": TERMS[terminal]}}
-            out.write(json.dumps(head).encode() + b"\n")
-        out.write(event(moment - begin, decode(data)))
-    if begin is not None and (rest := decode(b"", True)):
-        out.write(event(moment - begin, rest))
-
-
-def event(milliseconds, text):
-    return json.dumps([round(milliseconds / 1000, 3), "o", text]).encode() + b"\n"
+    """Writes an asciicast, version 2."""
+    encoding, terminal = language(store, incarnation)
+    parts = bytes_of(store, incarnation)
+    if not (first := next(parts, None)):
+        return
+    _, begin, _ = first
+    head = {"width": 80, "height": 24, "timestamp": begin // 1000, "title": title, "env": {"TERM": TERMS[terminal]}}
+    events = (((moment - begin) / 1000, "o", data) for _, moment, data in itertools.chain([first], parts))
+    out.writelines(vt220.cast.asciicast(head, events, encoding))
 
 
 def ttyrec(store, incarnation, out):

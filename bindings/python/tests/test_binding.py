@@ -137,6 +137,62 @@ def test_feed_refuses_what_is_not_bytes(wrong):
     assert terminal.text() == "\n" * 24
 
 
+# What a terminal may have played before: nothing, a screen, a mode, other sets, a part of a sequence, and a part of a character.
+BEFORE = [b"", b"x" * 2000, b"\033[?6h\033[4h\033[3;9r", b"\033(0\016\033[?3h", b"\033[5;", b"\033P1$q", b"caf\xc3"]
+
+
+@pytest.mark.parametrize("data", [b"", b"\033[?3h\033[3;130Hwide", b"\033[7mtext\033[5;9r\033[?6h\0337\033[3g", b"\033[4h\033)0\016q"])
+def test_a_repaint_is_for_terminals_that_read_a_vt220s_bytes_or_utf_8(data):
+    """include/vt220.h has it: the bytes of vt220_repaint are fed to a terminal, and those of vt220_xterm_repaint by vt220_feed_xterm."""
+    source, xterm = vt220.Terminal(), vt220.Terminal(terminal="xterm")
+    source.feed(data)
+    xterm.feed(b"\033[?40h" + data + b"\033[?47hother page")
+    for before in BEFORE:
+        for encoding in vt220.ENCODINGS:
+            for made, wanted in ((source.repaint(), source), (xterm.repaint(), xterm)):
+                with vt220.Terminal(encoding) as other:
+                    other.feed(before)
+                    assert other.feed(made) == b"" and other.same_state(wanted) and other.pending() == b""
+        with vt220.Terminal(terminal="xterm") as other:
+            other.feed(before)
+            other.feed(xterm.xterm_repaint())
+            assert other.same_state(xterm) and other.alternate() and other.xterm_repaint() == xterm.xterm_repaint()
+
+
+def test_a_repaint_is_not_for_terminals_of_term_xterm():
+    """?3 has an effect under TERM=xterm only after ?40 (docs/SPECIFICATION.md, 'Under TERM=xterm')."""
+    source, xterm = vt220.Terminal(), vt220.Terminal(terminal="xterm")
+    source.feed(b"\033[?3h")
+    xterm.feed(source.repaint())
+    assert (source.width(), xterm.width()) == (132, 80)
+
+
+# The calls that take the number of a row.
+ROW_CALLS = {"row": vt220.Terminal.row, "row_text": vt220.Terminal.row_text, "changed": lambda terminal, row: terminal.changed(vt220.Terminal(), row)}
+
+
+@pytest.mark.parametrize("call", ROW_CALLS)
+def test_a_number_is_a_row_from_1_to_24(call):
+    terminal = vt220.Terminal()
+    terminal.feed(b"one\033[24Hlast")
+    for wrong in (0, -1, 25, 2**32 + 1, 2**64, 2**64 + 1, 2**64 + 24, -(2**64) + 1):
+        with pytest.raises(vt220.NoRow, match=f"rows count from 1 to 24, so there is no row {wrong}$"):
+            ROW_CALLS[call](terminal, wrong)
+    for wrong in (1.0, 1.5, "1", None, b"1", [1]):
+        with pytest.raises(TypeError):
+            ROW_CALLS[call](terminal, wrong)
+    assert ROW_CALLS[call](terminal, True) == ROW_CALLS[call](terminal, 1)  # a bool is an int
+
+
+def test_the_text_of_a_status_is_that_of_its_number():
+    assert vt220.status_text(7) == "there is no such row"
+    for other in (10, 99, 2**32 - 1, 2**32 + 7, 2**64 + 7, -1):
+        assert vt220.status_text(other) == "unknown status"
+    for wrong in (7.0, "7", None):
+        with pytest.raises(TypeError):
+            vt220.status_text(wrong)
+
+
 @pytest.mark.parametrize("kind", [bytes, bytearray, memoryview])
 def test_feed_takes_what_is_bytes(kind):
     terminal = vt220.Terminal()
@@ -192,7 +248,7 @@ def test_a_file_that_is_no_library_is_refused(tmp_path):
 
 
 def test_an_import_needs_no_library():
-    modules = ["vt220", "vt220.expected", "vt220.keyboard", "vt220.picture", "vt220.process", "vt220.pytest_plugin", "vt220.rig", "vt220.screen", "vt220.__main__"]
+    modules = ["vt220", "vt220.cast", "vt220.expected", "vt220.keyboard", "vt220.picture", "vt220.process", "vt220.pytest_plugin", "vt220.rig", "vt220.screen", "vt220.__main__"]
     for module in modules:
         done = python(f"import {module}; print('imported')", VT220_LIBRARY="/no/such/file")
         assert (done.returncode, done.stdout) == (0, "imported\n"), done.stderr

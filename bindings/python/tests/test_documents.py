@@ -5,6 +5,7 @@ import subprocess
 import sys
 
 import vt220
+import vt220.cast
 import vt220.expected
 import vt220.keyboard
 import vt220.picture
@@ -13,7 +14,7 @@ import vt220.pytest_plugin
 import vt220.rig
 import vt220.screen
 
-MODULES = [vt220, vt220.expected, vt220.keyboard, vt220.picture, vt220.process, vt220.pytest_plugin, vt220.rig, vt220.screen]
+MODULES = [vt220, vt220.cast, vt220.expected, vt220.keyboard, vt220.picture, vt220.process, vt220.pytest_plugin, vt220.rig, vt220.screen]
 
 
 def offered(module):
@@ -35,12 +36,13 @@ def test_all_that_is_offered_has_a_docstring():
 TYPED = """
 from vt220.rig import ENTER, UP, F10
 from vt220.rig import {names}
-from vt220.rig import Key, run
+from vt220.rig import Key, alt, ctrl, run, shift
 from vt220.pytest_plugin import Session
 
 def test_it(vt: Session) -> None:
     less = vt.run("less", "notes.txt", columns=132)
     less.keys("/", UP, F10, ENTER, {names})
+    less.keys(ctrl("c") + "x", ctrl(UP), alt(shift(F10)))
     row: int = less.wait("x", row=24).at("x").row
     keys: "list[Key]" = [{names}]
     with run("less", "notes.txt", cwd="/", timeout=5) as rig:

@@ -6,7 +6,7 @@ import pytest
 
 import vt220
 from vt220 import Terminal
-from vt220.keyboard import Key, ctrl, spelled, typed
+from vt220.keyboard import Key, alt, ctrl, shift, spelled, typed
 
 ROWS = pathlib.Path(__file__).parents[3] / "tests-c/keys.txt"
 POWER_UP = Terminal().modes()
@@ -44,7 +44,12 @@ def test_each_key_of_the_enumeration_is_a_row_of_its_name():
         for setting in SETTINGS:
             modes = POWER_UP._replace(**setting)
             row = sent.get((name.replace("_", "").lower(), modes)) or sent[(key.value.lower(), modes)]
-            assert spelled(key, modes) == bytes.fromhex(row), name
+            if row in ERRORS:
+                assert key is Key.F5
+                with pytest.raises(ERRORS[row], match="a VT220 has no key F5"):
+                    spelled(key, modes)
+            else:
+                assert spelled(key, modes) == bytes.fromhex(row), name
 
 
 def test_texts():
@@ -82,14 +87,20 @@ def test_what_is_typed_on_a_modern_terminal_for_one_in_utf_8():
     assert typed("\033[A\u0153\u201cx\u4e16".encode() + b"\xe2\x80", modes, "utf-8") == (b"\033OA" + "\u0153\u201cx\u4e16".encode(), b"\xe2\x80", "")
 
 
-def test_f5_sends_nothing_on_a_vt220():
-    assert "F5" not in Key.__members__
+def test_f5_and_modifiers_send_nothing_on_a_vt220():
+    """EK-VT220-RM, chapter 3: F1 to F5 are local keys."""
+    for name in ("F5", "S-Up", "C-Left", "A-F6", "S-Tab"):
+        with pytest.raises(vt220.NoKey):
+            vt220.key(name, POWER_UP)
+    for key in (Key.F5, shift(Key.UP), ctrl(Key.LEFT), alt(Key.F6), shift(Key.TAB)):
+        with pytest.raises(vt220.NoKey, match="a VT220 has no key"):
+            spelled(key, POWER_UP)
 
 
 def test_function_keys_are_those_of_terminfo():
     """The entry vt220 of terminfo was written by others: each of its function keys is ours."""
     entry = subprocess.run(["infocmp", "-1", "vt220"], capture_output=True, text=True, check=True).stdout
-    names = {"kf%d" % number: "F%d" % number for number in range(1, 21)}
+    names = {"kf%d" % number: "F%d" % number for number in range(1, 21) if number != 5}
     names.update(kfnd="FIND", kich1="INSERT_HERE", kdch1="REMOVE", kslt="SELECT", kpp="PREV_SCREEN", knp="NEXT_SCREEN", khlp="HELP", krdo="DO",
                  kcuu1="UP", kcud1="DOWN", kcuf1="RIGHT", kcub1="LEFT")
     seen = 0

@@ -17,6 +17,7 @@ import pytest
 
 import vt220
 from vt220 import rig as rig_module
+from vt220.cast import asciicast
 from vt220.page import NoTemplate, page
 from vt220.picture import svg
 from vt220.pytest_plugin import file_name
@@ -228,6 +229,21 @@ def test_wait_for_each_kind_of_condition():
             rig.wait(lambda screen: True, text="never", timeout=0.1)
 
 
+@pytest.mark.parametrize("options", [{"what": "x", "row": 1.5}, {"what": "x", "row": "1"}, {"text": "x", "col": 2.0}, {"cursor": (1.0, 1)}, {"cursor": (1, 1.5)}])
+def test_a_place_that_is_no_integer_is_refused_at_once(options):
+    with shell("sleep 1000") as rig:
+        with pytest.raises(TypeError):
+            rig.wait(timeout=0.1, **options)
+        with pytest.raises(TypeError):
+            rig.screen.at("x", row=1.5)
+
+
+@pytest.mark.parametrize("mask, fault", [((0, 1, 1), vt220.NoRow), ((25, 1, 1), vt220.NoRow), ((1, 0, 1), ValueError), ((1, 133, 1), ValueError), ((1.5, 1, 1), TypeError)])
+def test_a_mask_that_no_screen_has_is_refused(mask, fault):
+    with pytest.raises(fault):
+        screen_of(b"x").stored([mask])
+
+
 @pytest.mark.parametrize("options, fault", [
     ({"what": "x", "row": 0}, vt220.NoRow), ({"what": "x", "row": 25}, vt220.NoRow), ({"text": "x", "row": -1}, vt220.NoRow),
     ({"cursor": (25, 1)}, vt220.NoRow), ({"what": "x", "col": 0}, ValueError), ({"what": "x", "col": 133}, ValueError),
@@ -239,6 +255,59 @@ def test_a_place_that_no_screen_has_is_refused_at_once(options, fault):
             rig.wait(timeout=0.1, **options)
         with pytest.raises(vt220.NoRow):
             rig.screen.at("x", row=25)
+
+
+@pytest.mark.parametrize("prompt, spaces", [(">>> ", 1), ("$ ", 1), ("Name:   ", 3)])
+def test_a_text_that_ends_in_spaces_is_found_up_to_the_cursor(prompt, spaces):
+    plain = prompt.rstrip()
+    with shell(f"printf '%s' '{prompt}'; sleep 1000") as rig:
+        screen = rig.wait(text=prompt)
+        for what in (f"^{re.escape(prompt)}", f"^{re.escape(prompt)}$", f"^{re.escape(plain)}$", re.compile(f"{re.escape(plain)} {{{spaces}}}$")):
+            assert rig.wait(what) == rig.wait(what, row=1, col=1) == screen
+        assert rig.wait(text=" ", row=1, col=len(plain) + 1) == screen
+        place = screen.at(prompt)
+        assert (place.row, place.col, len(place.cells)) == (1, 1, len(prompt))
+        # There is one more blank cell, which is after the cursor.
+        for options in ({"text": prompt + " "}, {"what": f"^{re.escape(prompt)} "}, {"text": " ", "row": 2}):
+            with pytest.raises(Failure):
+                rig.wait(timeout=0.1, **options)
+        assert not screen.at(prompt + " ")
+        # The readers have no spaces at the ends of lines.
+        assert (screen.rows[0], screen.text.split("\n")[0]) == (plain, plain) and screen.stored().startswith(f"{plain}\n")
+
+
+def test_a_row_has_its_spaces_up_to_the_last_cell_that_isnt_blank():
+    """SGR 7 is reverse, SGR 4 underlined, and DECSCA 1 protects from a selective erase (EK-VT220-RM, chapter 4)."""
+    screen = screen_of(b"one\033[7m   \033[m\r\ntwo  \r\n\033[4m    \033[m\r\nfour \033[1\"q \033[0\"q\r\n" + b"x" * 78 + b"  ")
+    assert [screen.at(" ", row=row, nth=nth).col for row, nth in ((1, 1), (1, 3), (3, 4), (4, 2), (5, 2))] == [4, 6, 4, 6, 80]
+    assert not screen.at(" ", row=1, nth=4) and not screen.at(" ", row=2) and not screen.at(" ", row=3, nth=5) and not screen.at(" ", row=4, nth=3)
+    assert screen.cursor == (5, 80, True) and screen._finds(re.compile("x  $"), 5) and screen._finds(re.compile("x$"), 5) and not screen._finds(re.compile("x $"), 5)
+    assert screen.rows[:5] == ("one", "two", "", "four", "x" * 78)
+
+
+def test_an_expression_that_the_screen_has_as_text_has_a_hint():
+    with shell("printf '%s' 'cost: $5 (total)'; sleep 1000") as rig:
+        rig.wait("cost")
+        for options in ({}, {"row": 1}, {"row": 1, "col": 7}):
+            for what in ("$5 (total)", re.compile("$5 (total)")):
+                with pytest.raises(Failure) as caught:
+                    rig.wait(what, timeout=0.1, **options)
+                assert "\nthe screen has this text as it is: write text='$5 (total)'\n" in str(caught.value)
+        assert rig.wait(text="$5 (total)", row=1, col=7)
+        # Text that isn't there, or isn't at this place, and an expression that was found, have no hint.
+        for options in ({"what": "$6 (total)"}, {"what": "$5 (total)", "row": 2}, {"what": "$5 (total)", "col": 1}, {"what": "cost", "cursor": (9, 9)}, {"text": "$6"}):
+            with pytest.raises(Failure) as caught:
+                rig.wait(timeout=0.1, **options)
+            assert "write text=" not in str(caught.value), options
+
+
+def test_an_expression_that_never_came_has_the_hint_too():
+    with run("printf", "%s", "name?") as rig:
+        with pytest.raises(Failure, match=r"ended with status 0, and /\^name\?\$/ never came\n\n"):
+            rig.wait("^name?$")
+    with run("printf", "%s", "[ok]") as rig:
+        with pytest.raises(Failure, match=r"never came\nthe screen has this text as it is: write text='\[ok\]'\n"):
+            rig.wait("[ok]", row=1, col=1)
 
 
 def test_no_state_is_looked_at_inside_a_sequence():
@@ -286,10 +355,44 @@ def test_a_time_out_says_what_was_waited_for_and_what_there_was(tmp_path):
             rig.wait("Hello", row=3, timeout=0.2)
     words = str(caught.value)
     assert "/Hello/ in row 3 didn't come in 0.2 s" in words and " 1|Name? Eve" in words and "test    Eve" in words
-    assert "python3 -m vt220" in words and sorted(path.name for path in (tmp_path / "r").iterdir()) == ["stable-1.bytes", "stable-1.svg"]
+    assert "python3 -m vt220" in words and sorted(path.name for path in (tmp_path / "r").iterdir()) == ["stable-1.bytes", "stable-1.cast", "stable-1.svg"]
     played = subprocess.run([sys.executable, "-m", "vt220", str(tmp_path / "r" / "stable-1.bytes")], capture_output=True, text=True,
                             env={**os.environ, "PYTHONPATH": str(pathlib.Path(vt220.__file__).parents[1])})
     assert played.stdout.startswith("Name? Eve\n")
+
+
+ASCIICAST = [
+    ({}, "vt220", 80, "C.UTF-8"), ({"columns": 132}, "vt220", 132, "C.UTF-8"), ({"terminal": "xterm"}, "xterm-256color", 80, "C.UTF-8"), ({"term": "vt100"}, "vt100", 80, "C.UTF-8"),
+    ({"env": {"TERM": "xterm"}, "terminal": "xterm", "columns": 132}, "xterm", 132, "C.UTF-8"), ({"encoding": "dec"}, "vt220", 80, "C"),
+]
+
+
+@pytest.mark.parametrize("options, term, width, locale", ASCIICAST)
+def test_the_asciicast_of_a_failure_names_term_and_the_size(tmp_path, options, term, width, locale):
+    """The format is that of asciinema's documentation, 'asciicast v2'."""
+    with shell("echo $TERM; stty size; read answer; echo $answer; read more", reports=Reports(tmp_path / "r", "stable-1"), **options) as rig:
+        rig.wait(f"^24 {width}$", row=2)
+        rig.keys("yes", ENTER)
+        rig.wait("^yes$", row=4)
+        words = rig.report()
+    path = tmp_path / "r" / "stable-1.cast"
+    assert f"\nasciicast: {path}\n" in words
+    head, *events = [json.loads(line) for line in path.read_text(encoding="utf-8").splitlines()]
+    assert (head["version"], head["width"], head["height"], head["env"]) == (2, width, 24, {"TERM": term, "LC_ALL": locale})
+    assert head["command"].startswith("/bin/sh -c 'echo $TERM; stty size")
+    # The program had the TERM that the header names.
+    assert rig.last.rows[:2] == (term, f"24 {width}")
+    assert "".join(data for _, code, data in events if code == "o").encode() == bytes(rig.recording)
+    assert "".join(data for _, code, data in events if code == "i") == "yes\r" and [at for at, *_ in events] == sorted(at for at, *_ in events)
+
+
+def test_an_asciicast_has_whole_characters():
+    """RFC 3629 has the bytes. U+FFFD is for what is ill-formed, also at the end."""
+    parts = [(0.5, "o", b"a\xe2"), (1.25, "i", b"\xe2\x82\xac"), (1.5, "o", b"\x82"), (2, "o", b"\xac\xff"), (3, "o", b"\xe2\x82")]
+    head, *events = [json.loads(line) for line in asciicast({"width": 80}, parts, "utf-8")]
+    assert head == {"version": 2, "width": 80}
+    assert events == [[0.5, "o", "a"], [1.25, "i", "\u20ac"], [2, "o", "\u20ac\ufffd"], [3, "o", "\ufffd"]]
+    assert [json.loads(line)[2] for line in [*asciicast({}, [(0, "o", b"a\xe9\x9b")], "dec")][1:]] == ["a\xe9\x9b"]
 
 
 def unpacked(text):
@@ -693,7 +796,7 @@ def test_the_plugin_stores_compares_and_names_stale_screens(tmp_path):
     (tmp_path / "screens" / "two.txt").write_text("three\n")
     done = go("--color", "yes")
     assert done.returncode == 1 and "\033[31m- three" in done.stdout
-    assert sorted(path.name for path in (tmp_path / "vt220-failures").iterdir()) == ["test_it.py-test_two-1.bytes", "test_it.py-test_two-1.svg"]
+    assert sorted(path.name for path in (tmp_path / "vt220-failures").iterdir()) == [f"test_it.py-test_two-1.{kind}" for kind in ("bytes", "cast", "svg")]
     go("--update-screens")
     assert go().returncode == 0 and not list((tmp_path / "vt220-failures").iterdir())
 
@@ -733,7 +836,7 @@ def test_many_rigs_under_xdist(tmp_path):
     done = subprocess.run(command, cwd=tmp_path, env=inner_environment(), capture_output=True, text=True)
     assert "5 failed" in done.stdout, done.stdout
     reports = sorted(path.name for path in (tmp_path / "vt220-failures").iterdir())
-    assert reports == sorted(f"test_it.py-test_it-{number}-{rig}.{kind}" for number in (5, 15, 17, 25, 35) for rig in (1, 2, 3) for kind in ("bytes", "svg"))
+    assert reports == sorted(f"test_it.py-test_it-{number}-{rig}.{kind}" for number in (5, 15, 17, 25, 35) for rig in (1, 2, 3) for kind in ("bytes", "cast", "svg"))
 
 
 PLAIN = """
@@ -792,7 +895,7 @@ def test_a_plain_assert_leaves_screen_picture_and_recording(tmp_path, options):
     # Each program is shown once, also that whose failure shows it itself.
     assert done.stdout.count("the command: ") == sum(counts.values()), done.stdout
     found = sorted(path.name for path in (tmp_path / "vt220-failures").iterdir())
-    assert found == sorted(f"test_it.py-test_{name}-{number}.{kind}" for name, count in counts.items() for number in range(1, count + 1) for kind in ("bytes", "svg"))
+    assert found == sorted(f"test_it.py-test_{name}-{number}.{kind}" for name, count in counts.items() for number in range(1, count + 1) for kind in ("bytes", "cast", "svg"))
     assert all(f"vt220-failures/{name}" in done.stdout for name in found)
     assert (tmp_path / "vt220-failures" / "test_it.py-test_plain-2.bytes").read_bytes() == b"other\r\n"
 
@@ -808,7 +911,7 @@ def test_the_files_of_tests_are_their_own(tmp_path):
         assert f"{len(words)} failed" in done.stdout, done.stdout
         files = list((tmp_path / "vt220-failures").iterdir())
         assert sorted(path.read_bytes().decode().replace("\r\n", "") for path in files if path.suffix == ".bytes") == sorted(words)
-        assert len(files) == 2 * len(words) and all(str(path) in done.stdout for path in files)
+        assert len(files) == 3 * len(words) and all(str(path) in done.stdout for path in files)
 
 
 def test_names_of_files_are_readable_and_different():

@@ -13,7 +13,7 @@ import pytest
 import vt220
 from vt220 import rig as rig_module
 from vt220.expected import expression_as_shown, expression_of_text
-from vt220.rig import DELETE, DOWN, ENTER, ESCAPE, F7, F10, Failure, Reports, Screen
+from vt220.rig import DELETE, DOWN, ENTER, ESCAPE, F7, F10, Failure, NoGlyph, Reports, Screen
 
 # A limit that only says that something hangs.
 LONG = 300
@@ -95,10 +95,11 @@ def test_another_encoding_is_refused():
 ])
 def test_a_text_is_found_by_what_is_shown_for_it(text, shown, row):
     with shell(f"printf 'before {text}'; sleep 1000") as rig:
-        screen = rig.wait(text, row=1, col=8)
-        assert rig.wait(text=text, col=8) == rig.wait(text=shown.rstrip()) == rig.wait(lambda screen: screen.at(text)) == screen
+        options = {"allow_substitutes": "\u2426" in shown}
+        screen = rig.wait(text, row=1, col=8, **options)
+        assert rig.wait(text=text, col=8, **options) == rig.wait(text=shown.rstrip()) == rig.wait(lambda screen: screen.at(text, **options)) == screen
         assert screen.rows[0] == f"before {row}" and vt220.shown(text) == shown
-        place = screen.at(text)
+        place = screen.at(text, **options)
         assert (place.row, place.col, "".join(cell.glyph for cell in place.cells)) == (1, 8, shown)
 
 
@@ -117,9 +118,72 @@ PATTERNS = [
 @pytest.mark.parametrize("pattern, found, missed", PATTERNS)
 def test_an_expression_finds_what_is_shown(pattern, found, missed):
     for expression in (pattern, re.compile(pattern)):
-        mapped = expression_as_shown(expression, "utf-8")
+        mapped = expression_as_shown(expression, "utf-8", allow_substitutes=True)
         assert [row for row in found + missed if mapped.search(row)] == found, mapped.pattern
     assert expression_as_shown(pattern, "dec").pattern == pattern
+
+
+# What a program prints, and a text of another meaning. A VT220 has a glyph for none of these characters.
+WRONG = [("\u5931\u6557 (failed)", "\u6210\u529f"), ("\u043d\u0435\u0442", "\u0434\u043e\u043c"), ("\U0001f4a5 broken", "\U0001f389"), ("\u03b1\u03b2\u03b3", "\u03c9\u03c8\u03c6")]
+
+
+@pytest.mark.parametrize("printed, expected", WRONG)
+def test_a_text_that_the_screen_cannot_tell_from_others_is_refused(tmp_path, printed, expected):
+    (tmp_path / "screens").mkdir()
+    (tmp_path / "screens" / "it.txt").write_text(screen_of("ok").stored(), encoding="utf-8")
+    with run("printf", "%s", printed) as rig:
+        screen = rig.ended()
+        for refused in (lambda: rig.wait(expected), lambda: rig.wait(re.compile(expected)), lambda: rig.wait(text=expected), lambda: rig.wait(lambda now: now.at(expected)),
+                        lambda: screen.at(expected), lambda: screen.stored([expected]), lambda: rig.matches("it", masks=[expected])):
+            with pytest.raises(NoGlyph) as caught:
+                refused()
+            assert f"{expected[0]!r} (U+{ord(expected[0]):04X}): it is shown as \u2426" in str(caught.value) and "allow_substitutes=True" in str(caught.value)
+        # A test that means it says so, and finds what it found before.
+        assert rig.wait(expected[0], allow_substitutes=True) == rig.wait(text=expected[0], allow_substitutes=True) == screen
+        assert screen.at(expected[0], allow_substitutes=True).col == 1 and screen.at("\u2426").col == 1
+
+
+@pytest.mark.parametrize("pattern, named", [
+    ("[a\u6210]", "U+6210"), ("[^\u6210]", "U+6210"), (r"\u6210", "U+6210"), (r"[\u6210]", "U+6210"), (r"\N{SNOWMAN}", "U+2603"), ("[\u4e00-\u9fff]", "U+4E00"), ("\ufffd", "U+FFFD"),
+    ("x|\u0436", "U+0436"),
+])
+def test_an_expression_names_the_character_that_is_refused(pattern, named):
+    with pytest.raises(NoGlyph, match=re.escape(named)):
+        expression_as_shown(pattern, "utf-8")
+    # The bytes of a VT220 have no such character, so nothing is mapped, and nothing is found wrongly.
+    assert expression_as_shown(pattern, "dec").pattern == pattern
+
+
+@pytest.mark.parametrize("pattern", ["\u2426", "[\u2426x]", "\u201c\u2026\u2714\u20ac", "e\u0301", r"[^\x00-\x7f]", r"\W."])
+def test_what_is_shown_and_what_is_similar_are_not_refused(pattern):
+    expression_as_shown(pattern, "utf-8")
+
+
+def test_a_stored_screen_that_cannot_be_told_from_others_is_refused(tmp_path):
+    """What is shown for a character without a glyph is the same for all of them. So the stored screen of one is that of another."""
+    for printed in ("done: \u6210\u529f", "done: \u5931\u6557"):
+        with run("printf", "%s", printed, update=True) as rig:
+            rig.ended()
+            with pytest.raises(NoGlyph, match="screens/done.txt has \u2426 in row 1, column 7"):
+                rig.matches("done")
+            assert not (tmp_path / "screens" / "done.txt").exists()
+    with run("printf", "%s", "done: \u6210\u529f", update=True) as rig:
+        rig.ended()
+        rig.matches("meant", allow_substitutes=True)
+        rig.matches("masked", masks=[(1, 7, 4)])
+        rig.matches("ascii", masks=["\u6210\u529f"], allow_substitutes=True)
+    with run("printf", "%s", "done: \u5931\u6557") as rig:
+        rig.ended()
+        with pytest.raises(NoGlyph, match="screens/meant.txt has \u2426 in row 1, column 7"):
+            rig.matches("meant")
+        rig.matches("meant", allow_substitutes=True)
+        rig.matches("masked", masks=[(1, 7, 4)])
+        rig.matches("ascii", masks=["\u6210\u529f"], allow_substitutes=True)
+    # A byte without a character is shown so on a VT220. Its screen has all that the byte does.
+    with run("printf", "%b", "\\032x", encoding="dec", update=True) as rig:
+        rig.ended()
+        rig.matches("dec")
+    assert (tmp_path / "screens" / "dec.txt").read_text(encoding="utf-8").startswith("\u2426x\n")
 
 
 def test_an_expression_keeps_its_flags_and_its_errors():
@@ -144,8 +208,9 @@ def terminal_of(data):
 
 def test_masks_and_places_of_a_screen():
     screen = screen_of("load \u201c12\u201d \u4e16 end \u4e16")
-    assert screen.stored(["\u201c\\d+\u201d", "\u4e16"]).startswith("load \u2588\u2588\u2588\u2588 \u2588\u2588 end \u2588\n")
-    assert (screen.at("\u4e16").col, screen.at("\u4e16", nth=2).col, len(screen.at("\u4e16", nth=2).cells)) == (11, 18, 2)
+    assert screen.stored(["\u201c\\d+\u201d", "\u4e16"], allow_substitutes=True).startswith("load \u2588\u2588\u2588\u2588 \u2588\u2588 end \u2588\n")
+    first, second = (screen.at("\u4e16", nth=nth, allow_substitutes=True) for nth in (1, 2))
+    assert (first.col, second.col, len(second.cells)) == (11, 18, 2)
     assert repr(screen.at("\u201d")) == "<'\"' at row 1, column 6>" and repr(screen.at("\u201dx")) == "<'\u201dx' isn't on the screen>"
     assert not Screen(screen.repaint).at("\u201d") and Screen(screen.repaint) == screen
 
@@ -233,7 +298,7 @@ def test_python_prints_what_it_is_given(tmp_path):
     text = "\u201cStra\u00dfe\u201d \u2026 \u251c\u2500\u2500 \u2714 \u20ac 5 \u4e16\u754c \u03a9."
     (tmp_path / "it.py").write_text(f"print({text!r})\nprint(ascii(input({text!r})))\n")
     with run("python3", "it.py") as rig:
-        rig.wait(text=text, row=2, col=1)
+        rig.wait(text=text, row=2, col=1, allow_substitutes=True)
         # The table: quotes, the ellipsis, the check mark and the Euro sign have similar glyphs; the rest is U+2426 in as many cells.
         assert rig.screen.rows[0] == '"Stra\u00dfe" . \u251c\u2500\u2500 + \u00a4 5 \u2426 \u2426  \u2426.'
         rig.keys("\u201c\u4e16", ENTER)
@@ -258,7 +323,7 @@ def test_vim_writes_what_is_typed(tmp_path):
     with run("vim", "-u", "NONE", "-i", "NONE", "-N", "-n", "brief") as rig:
         rig.wait("brief.*New", row=24)
         rig.keys("i", "\u201eStra\u00dfe\u201c 1 \u2013 \u4e16 end", ENTER, "x\u00e9\u4e16", DELETE, DELETE, "y", ESCAPE)
-        rig.wait("^\u201eStra\u00dfe\u201c 1 \u2013 \u4e16 end$", row=1)
+        rig.wait("^\u201eStra\u00dfe\u201c 1 \u2013 \u4e16 end$", row=1, allow_substitutes=True)
         rig.wait("^xy$", row=2)
         rig.wait(lambda screen: not screen.at("INSERT"))
         # vim's help has 'ga': it prints the number of the character under the cursor.
@@ -273,12 +338,14 @@ def test_dialog_keeps_its_frame_around_wide_characters(tmp_path):
     command = "exec dialog --output-fd 3 --menu 'Gr\u00f6\u00dfe \u2026' 12 40 4 1 '\u201ckurz\u201d' 2 '\u4e16\u754c x' 3 'S\u00e3o' 3>chosen"
     with run("sh", "-c", command, cwd=tmp_path) as rig:
         rig.wait("S\u00e3o")
-        screen = rig.wait(lambda screen: all(screen.at(text) for text in ("Gr\u00f6\u00dfe \u2026", "\u201ckurz\u201d", "\u4e16\u754c x", "S\u00e3o", "\u2518")))
+        wide, chosen = "\u4e16\u754c x", lambda screen: screen.at("\u4e16\u754c x", allow_substitutes=True)
+        screen = rig.wait(lambda screen: chosen(screen) and all(screen.at(text) for text in ("Gr\u00f6\u00dfe \u2026", "\u201ckurz\u201d", "S\u00e3o", "\u2518")))
         # The lines left and right of the entries are in the same columns, whatever is between them.
-        sides = [[found.start() for found in re.finditer("\u2502", screen.rows[screen.at(text).row - 1])] for text in ("\u201ckurz\u201d", "\u4e16\u754c x", "S\u00e3o")]
+        entries = [screen.at(text, allow_substitutes=True) for text in ("\u201ckurz\u201d", wide, "S\u00e3o")]
+        sides = [[found.start() for found in re.finditer("\u2502", screen.rows[place.row - 1])] for place in entries]
         assert len(sides[0]) >= 4 and sides[0] == sides[1] == sides[2]
         rig.keys(DOWN)
-        rig.wait(lambda screen: screen.at("\u4e16\u754c x").reverse)
+        rig.wait(lambda screen: chosen(screen).reverse)
         rig.keys(ENTER)
         rig.ended()
     assert (tmp_path / "chosen").read_text() == "2"

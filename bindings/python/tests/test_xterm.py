@@ -1,4 +1,5 @@
 """Tests the rig with programs that have TERM=xterm-256color."""
+import pathlib
 import re
 import subprocess
 import sys
@@ -7,9 +8,12 @@ import pytest
 
 import vt220
 from vt220 import rig as rig_module
-from vt220.keyboard import Key, spelled, typed
+from vt220.keyboard import Key, alt, ctrl, pressed, shift, spelled, typed
 from vt220.page import template
-from vt220.rig import END, HOME, Failure, Reports
+from vt220.rig import END, F5, HOME, LEFT, TAB, UP, Failure, Reports
+
+sys.path.insert(0, str(pathlib.Path(__file__).resolve().parents[3] / "tests"))
+import xterm_keys
 
 # A limit that only says that something hangs.
 LONG = 300
@@ -80,7 +84,7 @@ def test_a_failure_names_the_terminal(tmp_path):
 def test_keys_are_those_of_terminfo():
     """The entry xterm-256color has the keys under DECCKM and DECKPAM. Each of them that is a key here sends the same."""
     entry = subprocess.run(["infocmp", "-1", "xterm-256color"], capture_output=True, text=True, check=True).stdout
-    names = {"kf%d" % number: "F%d" % number for number in range(1, 21) if number != 5}
+    names = {"kf%d" % number: "F%d" % number for number in range(1, 21)}
     names.update(khome="HOME", kend="END", kich1="INSERT_HERE", kdch1="REMOVE", kpp="PREV_SCREEN", knp="NEXT_SCREEN", kcuu1="UP", kcud1="DOWN",
                  kcuf1="RIGHT", kcub1="LEFT", kent="KP_ENTER")
     modes, seen = POWER_UP._replace(decckm=True, keypad_application=True), 0
@@ -90,6 +94,58 @@ def test_keys_are_those_of_terminfo():
             assert spelled(Key[names[name]], modes, "utf-8", "xterm") == code.replace("\\E", "\033").encode(), name
             seen += 1
     assert seen == len(names)
+
+
+@pytest.mark.parametrize("is_8bit", [False, True])
+def test_each_key_sends_what_the_control_sequences_of_xterm_say(is_8bit):
+    rows = xterm_keys.rows(is_8bit)
+    assert len(rows) > 250
+    for name, *sent in rows:
+        for decckm in (False, True):
+            modes = POWER_UP._replace(decckm=decckm, reports_8bit=is_8bit)
+            assert pressed(name, modes, "xterm") == pressed(name.lower(), modes, "xterm") == sent[decckm], name
+
+
+def test_the_keys_with_modifiers_are_those_of_terminfo():
+    """terminfo(5) and user_caps(5) have the names: kLFT is Shift with the cursor key, and kLFT3 to kLFT7 have the number of xterm."""
+    entry = subprocess.run(["infocmp", "-1x", "xterm-256color"], capture_output=True, text=True, check=True).stdout
+    held = {"": "S-", "3": "A-", "4": "S-A-", "5": "C-", "6": "S-C-", "7": "A-C-"}
+    kinds = {"kUP": "Up", "kDN": "Down", "kRIT": "Right", "kLFT": "Left", "kHOM": "Home", "kEND": "End", "kIC": "Insert", "kDC": "Remove", "kPRV": "PageUp", "kNXT": "PageDown"}
+    names = {f"{kind}{number}": prefix + key for kind, key in kinds.items() for number, prefix in held.items()}
+    names.update(kri="S-Up", kind="S-Down", kcbt="S-Tab", kf5="F5")
+    names.update((f"kf{first + number}", f"{prefix}F{number}") for first, prefix in ((12, "S-"), (24, "C-"), (36, "S-C-"), (48, "A-"), (60, "S-A-")) for number in range(1, 13))
+    rows, seen = {name: sent for name, _, sent in xterm_keys.rows()}, 0
+    for line in entry.splitlines():
+        name, _, code = line.strip().rstrip(",").partition("=")
+        if name in names:
+            sent = code.replace("\\E", "\033").encode()
+            assert rows[names[name]] == sent == pressed(names[name], POWER_UP._replace(decckm=True), "xterm"), name
+            seen += 1
+    # The entry has kf1 to kf63, and no names beyond.
+    assert seen == len(names) - 9
+
+
+def test_a_program_gets_keys_with_modifiers():
+    shows = "stty raw -echo; printf ready; while :; do dd bs=100 count=1 2>/dev/null | od -An -tx1 -v; printf '\\r'; done"
+    for keys, sent in (((F5,), "1b 5b 31 35 7e"), ((shift(TAB),), "1b 5b 5a"), ((ctrl(LEFT), alt(UP)), "1b 5b 31 3b 35 44 1b 5b 31 3b 33 41"), ((ctrl(shift(HOME)), "x"), "1b 5b 31 3b 36 48 78")):
+        with run("/bin/sh", "-c", shows) as rig:
+            rig.wait("ready")
+            rig.keys(*keys)
+            rig.wait(text=sent)
+    with run("/bin/sh", "-c", shows, terminal="vt220") as rig:
+        for key in (F5, shift(TAB)):
+            with pytest.raises(vt220.NoKey, match="a VT220 has no key"):
+                rig.keys(key)
+    for key in (shift(Key.KP_5), ctrl(Key.ENTER), alt(TAB), shift(Key.DELETE)):
+        with pytest.raises(vt220.NoKey, match="an xterm has no key"):
+            spelled(key, POWER_UP, "utf-8", "xterm")
+
+
+@pytest.mark.parametrize("options, blinks", [({}, False), ({"terminal": "vt220"}, True), ({"terminal": "vt220", "encoding": "dec"}, True)])
+def test_a_colour_is_read_under_xterm_alone(options, blinks):
+    """A VT220 takes 38, 5 and 208 for three attributes, of which it has 5. In xterm's control sequences they are one colour."""
+    with run("printf", "\\033[38;5;208mbat", **options) as rig:
+        assert rig.ended().at("bat").blink == blinks
 
 
 def test_home_and_end_follow_decckm():

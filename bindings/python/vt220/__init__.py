@@ -17,6 +17,7 @@ parallel. feed() and feed_log() let other threads run after each 64 KB.
 import ctypes
 import ctypes.util
 import functools
+import operator
 import os
 import pathlib
 import struct
@@ -51,6 +52,8 @@ ENCODINGS = ("dec", "utf-8")
 TERMINALS = ("vt220", "xterm")
 # The most bytes that one call of the library plays: other threads wait for its end.
 _PIECE = 65536
+# The highest number of a status. No call returns it.
+_NO_STATUS = 2**32 - 1
 
 Bytes = Union[bytes, bytearray, memoryview]
 
@@ -369,13 +372,23 @@ def version() -> int:
 
 
 def status_text(status: int) -> str:
-    """Returns a short English text for a status of the library."""
-    return str(_library.vt220_status_text(status).decode())
+    """Returns a short English text for a status of the library. Raises TypeError if the status isn't an integer."""
+    # ctypes would cut a longer number to 32 bits. The library has no status of the highest one.
+    number = operator.index(status)
+    return str(_library.vt220_status_text(number if 0 <= number < _NO_STATUS else _NO_STATUS).decode())
 
 
 def _expect(status: int) -> None:
     if status != 0:
         raise _STATUSES.get(status, Error)()
+
+
+def _check_row(row: int) -> int:
+    """Returns the number of a row. Raises NoRow if no screen has this row, and TypeError if the number isn't an integer."""
+    number = operator.index(row)
+    if not 1 <= number <= ROWS:
+        raise NoRow(f"{NoRow.words}, so there is no row {number}")
+    return number
 
 
 def key(key: Union[str, Bytes], modes: Modes) -> bytes:
@@ -605,11 +618,9 @@ class Terminal:
         return self._written(_library.vt220_text, self._opened()).decode()
 
     def row_text(self, row: int) -> str:
-        """Returns one line of text(), that of a row from 1 to 24. Raises NoRow if there is no such row."""
-        written = ctypes.c_size_t()
-        if row < 0:
-            raise NoRow()
-        _expect(_library.vt220_row_text(self._opened(), _work.scratch.handle, row, _work.out, ROW_TEXT_LIMIT, written))
+        """Returns one line of text(), that of a row from 1 to 24. Raises as row() does."""
+        written, number = ctypes.c_size_t(), _check_row(row)
+        _expect(_library.vt220_row_text(self._opened(), _work.scratch.handle, number, _work.out, ROW_TEXT_LIMIT, written))
         return ctypes.string_at(_work.out, written.value).decode()
 
     def show(self) -> str:
@@ -621,7 +632,10 @@ class Terminal:
         return self._written(_library.vt220_picture, self._opened()).decode()
 
     def repaint(self) -> bytes:
-        """Returns bytes that leave any terminal in this one's state. Raises Partial inside a sequence."""
+        """Returns bytes that leave any terminal which reads a VT220's bytes or UTF-8 in this one's state. Raises Partial inside a sequence.
+
+        Of a terminal of TERM=xterm it is the state with the page that is shown. xterm_repaint() is for terminals of TERM=xterm.
+        """
         return self._written(_library.vt220_repaint, self._opened())
 
     def xterm_repaint(self) -> bytes:
@@ -636,19 +650,17 @@ class Terminal:
     def update(self, to: "Terminal") -> bytes:
         """Brings this terminal to the state of `to`, and returns bytes that do the same to any terminal in this one's old state.
 
-        Raises Partial if one of the two is inside a sequence. The update to itself is empty.
+        They are for terminals that read a VT220's bytes or UTF-8. Raises Partial if one of the two is inside a sequence. The update to itself is empty.
         """
         return self._written(_library.vt220_update, self._opened(), to._opened())
 
     def changed(self, to: "Terminal", row: int) -> List[int]:
-        """Returns the columns of a row of `to`, 1 to 24, in which this terminal has another cell or none. Raises NoRow.
+        """Returns the columns of a row of `to`, 1 to 24, in which this terminal has another cell or none. Raises as row() does.
 
         If the two differ in width(), redraw the whole screen instead: columns after the width of `to` aren't in the list.
         """
-        marks = _Marks()
-        if row < 0:
-            raise NoRow()
-        _expect(_library.vt220_row_changes(self._opened(), to._opened(), row, marks))
+        marks, number = _Marks(), _check_row(row)
+        _expect(_library.vt220_row_changes(self._opened(), to._opened(), number, marks))
         return [place + 1 for place, changed in enumerate(marks.changed) if changed]
 
     def copy_from(self, other: "Terminal") -> None:
@@ -690,16 +702,15 @@ class Terminal:
 
     def _raw(self, row: int) -> bytes:
         """Returns a row's cells as the library writes them: 12 bytes a cell, the glyph's number and five booleans."""
-        if not 1 <= row <= ROWS:
-            raise NoRow()
-        cells = _work.cells
-        count = _library.vt220_row(self._handle, row, cells, COLUMNS)
+        number, cells = _check_row(row), _work.cells
+        count = _library.vt220_row(self._handle, number, cells, COLUMNS)
         if not count:
             raise Closed()
         return cells.raw[: 12 * count]
 
     def row(self, row: int) -> List[Cell]:
-        """Returns the cells of a row, 1 to 24. Raises NoRow, which is an IndexError, if there is no such row."""
+        """Returns the cells of a row, 1 to 24. Raises NoRow, which is an IndexError, if there is no such row, and TypeError if the
+        number isn't an integer."""
         return list(_rows[self._raw(row)])
 
     def _told(self, function: Callable[..., bool], kind: Any, result: Any) -> Any:

@@ -8,7 +8,7 @@ from typing import Any, Dict, Iterator, List, Optional, Set
 import pytest
 
 from . import ENCODINGS
-from .rig import TIMEOUT, Directory, Failure, Reports, Rig
+from .rig import ENDINGS, TIMEOUT, Directory, Failure, Reports, Rig
 
 _KEY = "vt220_screens"
 # The ids of tests that are still different when each other character is a hyphen: their parts have none.
@@ -40,7 +40,7 @@ class Session:
         self.colour = config.get_terminal_writer().hasmarkup
         self.rigs: List[Rig] = []
         for old in self.directory.glob(f"{self.name}-*"):
-            if re.fullmatch(r"-\d+\.(svg|bytes|html)", old.name[len(self.name) :]):
+            if re.fullmatch(rf"-\d+\.({'|'.join(ENDINGS)})", old.name[len(self.name) :]):
                 old.unlink(missing_ok=True)
 
     def run(self, *argv: str, columns: int = 80, cwd: Optional[Directory] = None, env: Optional[Dict[str, str]] = None,

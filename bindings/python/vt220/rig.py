@@ -11,25 +11,29 @@ With pytest the fixture `vt` does the same, and ends each program with its test.
 """
 import codecs
 import errno
+import functools
 import os
 import pathlib
 import re
 import select
 import shlex
 import time
-from typing import Callable, Dict, List, NamedTuple, Optional, Pattern, Sequence, Tuple, Union
+from typing import Callable, Dict, Iterator, List, NamedTuple, Optional, Pattern, Sequence, Tuple, Union
 
-from . import Bytes, Modes, Terminal
-from .expected import expression_as_shown, expression_of_text, text_as_shown
-from .keyboard import Key, ctrl, spelled
+from . import ROWS, Bytes, Modes, Terminal
+from .cast import asciicast
+from .expected import NoGlyph, expression_as_shown, expression_of_text, text_as_shown
+from .keyboard import Chord, Key, alt, ctrl, shift, spelled
 from .page import NoTemplate, page
 from .picture import svg
 from .process import TERMS, Process, environment
-from .screen import MASK, Mask, Place, Screen, Stored, check_column, check_row, difference, differing, renewed
+from .screen import MASK, Mask, Place, Screen, Stored, check_column, check_row, check_substitutes, difference, differing, renewed
 
 TIMEOUT = 10.0
 # How long a program must be silent before --update-screens stores its screen.
 SETTLED_MS = 500
+# The endings of a failure's files: the picture, the recording as bytes and as an asciicast, and the page.
+ENDINGS = ("svg", "bytes", "cast", "html")
 
 Directory = Union[str, "os.PathLike[str]"]
 Condition = Union[str, Pattern[str], Callable[[Screen], object]]
@@ -54,6 +58,7 @@ F1 = Key.F1
 F2 = Key.F2
 F3 = Key.F3
 F4 = Key.F4
+F5 = Key.F5
 F6 = Key.F6
 F7 = Key.F7
 F8 = Key.F8
@@ -90,7 +95,8 @@ TAB = Key.TAB
 DELETE = Key.DELETE
 BACKSPACE = Key.BACKSPACE
 ESCAPE = Key.ESCAPE
-__all__ = ["Failure", "KeyboardLocked", "Place", "Reports", "Rig", "Screen", "Key", "MASK", "ctrl", "run", "spelled", *Key.__members__]
+__all__ = ["Chord", "Failure", "KeyboardLocked", "NoGlyph", "Place", "Reports", "Rig", "Screen", "Key", "MASK", "alt", "ctrl", "run", "shift", "spelled",
+           *Key.__members__]
 
 
 class Failure(AssertionError):
@@ -120,13 +126,13 @@ class Reports(NamedTuple):
 
     def write(self, name: str, rig: "Rig", marks: Sequence[Tuple[int, int]]) -> str:
         """Writes the picture, the recording and the page, and returns the lines that name them, or why they couldn't be written."""
-        stem = self.directory / (self.name or name)
-        picture, recording = f"{stem}.svg", f"{stem}.bytes"
+        picture, recording, cast, playing = (f"{self.directory / (self.name or name)}.{ending}" for ending in ENDINGS)
         try:
             self.directory.mkdir(parents=True, exist_ok=True)
             pathlib.Path(recording).write_bytes(rig.recording)
             pathlib.Path(picture).write_text(svg(rig.last, marks), encoding="utf-8")
-            playing = _write_page(f"{stem}.html", rig)
+            pathlib.Path(cast).write_bytes(b"".join(_asciicast(rig)))
+            page_line = _write_page(playing, rig)
         except OSError as fault:
             return f"no picture and no recording: {fault}"
         if rig.terminal.terminal == "xterm":
@@ -134,8 +140,8 @@ class Reports(NamedTuple):
         else:
             option = [] if rig.encoding == "dec" else ["--encoding", rig.encoding]
         words = " ".join([*option, shlex.quote(recording)])
-        playing = f"{playing}play it:   python3 -m vt220 {words}   (or: vt220 show {words})"
-        return f"picture:   {picture}\nrecording: {recording}\n{playing}"
+        files = f"picture:   {picture}\nrecording: {recording}\nasciicast: {cast}\n{page_line}"
+        return f"{files}play it:   python3 -m vt220 {words}   (or: vt220 show {words})"
 
 
 class Rig:
@@ -155,9 +161,10 @@ class Rig:
         self.screens, self.update = pathlib.Path(screens if screens is not None else "screens"), update
         self.reports, self._used = reports or Reports(), used
         self.terminal, self.recording, self.events = Terminal(encoding, terminal), bytearray(), []  # type: ignore[var-annotated]
-        self.encoding = self.terminal.encoding
+        self.encoding, self.columns = self.terminal.encoding, columns
+        self.environment = environment(term or TERMS[terminal], self.encoding, env)
         self._output, self._is_open, self._started = bytearray(), True, time.monotonic()
-        self.process = Process(self.argv, environment(term or TERMS[terminal], self.encoding, env), cwd, columns, self.encoding)
+        self.process = Process(self.argv, self.environment, cwd, columns, self.encoding)
         if columns == 132:
             # The recording begins with it, so that it shows the same when it is played.
             self._play(b"\033[?3h" if terminal == "vt220" else b"\033[?40h\033[?3h\033[?40l")
@@ -252,8 +259,8 @@ class Rig:
         self._play(data)
         return True
 
-    def _until(self, met: Callable[[], object], wanted: str, timeout: Optional[float]) -> None:
-        """Reads until `met` holds. It is looked at after each read that doesn't end inside a sequence."""
+    def _until(self, met: Callable[[], object], wanted: str, timeout: Optional[float], hint: Callable[[], str] = str) -> None:
+        """Reads until `met` holds. It is looked at after each read that doesn't end inside a sequence. A failure ends with the hint."""
         __tracebackhide__ = True
         limit = self.timeout if timeout is None else timeout
         deadline = time.monotonic() + limit
@@ -267,9 +274,9 @@ class Rig:
                 if self.terminal.is_between() and met():
                     return
             elif has_ended:
-                self._fail(f"the program ended with status {self.process.ended()}, and {wanted} never came")
+                self._fail(f"the program ended with status {self.process.ended()}, and {wanted} never came{hint()}")
             if left <= 0:
-                self._fail(f"{wanted} didn't come in {limit:g} s")
+                self._fail(f"{wanted} didn't come in {limit:g} s{hint()}")
 
     # What a test does.
 
@@ -290,10 +297,11 @@ class Rig:
             self._fail("keys were pressed, and the program has locked the keyboard (KAM)", kind=KeyboardLocked)
         return modes
 
-    def keys(self, *keys: Union[str, Key]) -> None:
+    def keys(self, *keys: Union[str, Key, Chord]) -> None:
         """Presses keys: each character of a text, in the program's encoding, or a Key, as the terminal's modes ask for it now.
 
-        What the program has written by now is played first, since it may change the modes.
+        With the terminal "xterm" a key may also be a Chord, such as shift(TAB) or ctrl(LEFT). What the program has written by now is played
+        first, since it may change the modes.
         """
         __tracebackhide__ = True
         modes = self._typing()
@@ -307,35 +315,35 @@ class Rig:
         self.send(spelled(Key.ENTER, modes).join(spelled(line, modes, self.encoding) for line in lines))
 
     def wait(self, what: Optional[Condition] = None, *, text: Optional[str] = None, row: Optional[int] = None, col: Optional[int] = None,
-             cursor: Optional[Tuple[int, int]] = None, timeout: Optional[float] = None) -> Screen:
+             cursor: Optional[Tuple[int, int]] = None, timeout: Optional[float] = None, allow_substitutes: bool = False) -> Screen:
         """Waits until the screen meets every condition given, and returns it.
 
         `what` is a regular expression that is searched in each row, or a function of the Screen; `text` is a text as it is. `row`
-        and `col` say the row, and the column of the first character. `cursor` is the cursor's row and column. Characters that a
-        VT220 lacks are found as what is shown for them.
+        and `col` say the row, and the column of the first character. `cursor` is the cursor's row and column. Spaces at the end of a row
+        are found up to the cursor. Characters that have a similar glyph are found as that. Raises NoGlyph for any other that a VT220
+        lacks. With allow_substitutes=True it is found as U+2426, as all of these are.
         """
         __tracebackhide__ = True
-        check_row(row)
-        check_column(col)
-        if cursor is not None:
-            check_row(cursor[0])
-            check_column(cursor[1])
+        for place in ((row, col), cursor or (None, None)):
+            check_row(place[0])
+            check_column(place[1])
         conditions: List[Callable[[Screen], object]] = []
         expressions: List["Pattern[str]"] = []
         if callable(what):
             conditions.append(what)
         elif what is not None:
-            expressions.append(expression_as_shown(what, self.encoding))
+            expressions.append(expression_as_shown(what, self.encoding, allow_substitutes))
         if text is not None:
-            expressions.append(expression_of_text(text, self.encoding))
+            expressions.append(expression_of_text(text, self.encoding, allow_substitutes))
         if not expressions and (row is not None or col is not None):
             raise TypeError("row and col are of a text or an expression, and wait() has neither")
-        conditions += [_search(expression, row, col) for expression in expressions]
+        conditions += [functools.partial(Screen._finds, expression=expression, row=row, col=col) for expression in expressions]
         if cursor is not None:
             conditions.append(lambda screen: screen.cursor[:2] == cursor)
         if not conditions:
             raise TypeError("wait() needs a text, an expression, a function or a cursor")
-        self._until(lambda: all(condition(self.last) for condition in conditions), _wanted(what, text, row, col, cursor, self.encoding), timeout)
+        wanted = _wanted(what, text, row, col, cursor, self.encoding)
+        self._until(lambda: all(condition(self.last) for condition in conditions), wanted, timeout, lambda: _hint(self.last, what, row, col))
         return self.last
 
     def still(self, ms: float = 200, timeout: Optional[float] = None) -> Screen:
@@ -376,10 +384,11 @@ class Rig:
             self._until(lambda: True, "the end of a sequence", None)
         return self.last
 
-    def matches(self, name: str, *, masks: Sequence[Mask] = (), timeout: Optional[float] = None) -> None:
+    def matches(self, name: str, *, masks: Sequence[Mask] = (), timeout: Optional[float] = None, allow_substitutes: bool = False) -> None:
         """Waits until the screen is the one that is stored as `name`.txt. Fails with the difference if it never is.
 
-        `masks` are parts that aren't compared: regular expressions, or (row, column, length).
+        `masks` are parts that aren't compared: regular expressions, or (row, column, length). Raises NoGlyph if a mask has a character that
+        is shown as U+2426, or the stored screen of a program in UTF-8 has U+2426, unless allow_substitutes is true.
         """
         __tracebackhide__ = True
         path = self.screens / f"{name}.txt"
@@ -387,16 +396,20 @@ class Rig:
             self._used(path)
         if self.update:
             self.still(SETTLED_MS)
-            path.parent.mkdir(parents=True, exist_ok=True)
-            path.write_text(self.last.stored(masks), encoding="utf-8")
-            return
-        if not path.exists():
+        elif not path.exists():
             self._fail(f"{path} isn't there; --update-screens makes it")
-        stored = renewed(path.read_text(encoding="utf-8"))
+        found = functools.partial(Screen.stored, masks=masks, allow_substitutes=allow_substitutes)
+        stored = found(self.last) if self.update else renewed(path.read_text(encoding="utf-8"))
+        if self.encoding != "dec" and not allow_substitutes:
+            check_substitutes(str(path), stored)
+        if self.update:
+            path.parent.mkdir(parents=True, exist_ok=True)
+            path.write_text(stored, encoding="utf-8")
+            return
         try:
-            self._until(lambda: self.last.stored(masks) == stored, f"the screen {name}", timeout)
+            self._until(lambda: found(self.last) == stored, f"the screen {name}", timeout)
         except Failure as fault:
-            self._differs(path, str(fault).split("\n")[0], Stored(stored), Stored(self.last.stored(masks)))
+            self._differs(path, str(fault).split("\n")[0], Stored(stored), Stored(found(self.last)))
 
     # What is said when it fails.
 
@@ -425,6 +438,14 @@ class Rig:
             lines.append(_UTF_8)
         lines.append(self.reports.write(re.sub(r"\W+", "-", pathlib.Path(self.argv[0]).name), self, marks))
         return "\n".join(lines)
+
+
+def _asciicast(rig: Rig) -> Iterator[bytes]:
+    """Returns the lines of an asciicast of all that went over the line. Its first line has the size, and TERM and LC_ALL as the program had them."""
+    kept = {name: rig.environment[name] for name in ("TERM", "LC_ALL")}
+    head = {"width": rig.columns, "height": ROWS, "command": shlex.join(rig.argv), "env": kept}
+    events = ((event.at, "o" if event.who == "program" else "i", event.data) for event in rig.events)
+    return asciicast(head, events, rig.encoding)
 
 
 def _write_page(path: str, rig: Rig) -> str:
@@ -462,15 +483,14 @@ def _short(data: bytes) -> str:
     return shown if len(data) <= 100 else f"({len(data)} bytes) ..{shown}"
 
 
-def _search(expression: "Pattern[str]", row: Optional[int], col: Optional[int]) -> Callable[[Screen], object]:
-    """Returns a function that searches an expression in one row or in all, from a column or from any."""
-    def search(screen: Screen) -> bool:
-        rows = screen.rows if row is None else screen.rows[row - 1 : row]
-        if col is None:
-            return any(expression.search(line) for line in rows)
-        return any(expression.match(line, col - 1) for line in rows)
-
-    return search
+def _hint(screen: Screen, what: Optional[Condition], row: Optional[int], col: Optional[int]) -> str:
+    """Returns a line for an expression that isn't found if the screen has its text as it is, and otherwise nothing."""
+    if what is None or callable(what):
+        return ""
+    text = re.compile(what).pattern
+    if screen._finds(expression_as_shown(what, screen.encoding, True), row, col) or not screen._finds(expression_of_text(text, screen.encoding, True), row, col):
+        return ""
+    return f"\nthe screen has this text as it is: write text={text!r}"
 
 
 def _named(sign: str, given: str, shown: str) -> str:
@@ -486,7 +506,7 @@ def _wanted(what: Optional[Condition], text: Optional[str], row: Optional[int], 
         code = getattr(what, "__code__", None)
         parts.append("what %s asks for" % (f"line {code.co_firstlineno} of {pathlib.Path(code.co_filename).name}" if code else what))
     elif what is not None:
-        parts.append(_named("/", re.compile(what).pattern, expression_as_shown(what, encoding).pattern))
+        parts.append(_named("/", re.compile(what).pattern, expression_as_shown(what, encoding, True).pattern))
     if text is not None:
         parts.append(_named("'", text, text_as_shown(text, encoding)))
     if row is not None:

@@ -1,11 +1,12 @@
 """Holds a screen as it was at one moment, and the text file that a screen is stored in."""
 import functools
 import itertools
+import operator
 import re
-from typing import Dict, Iterable, Iterator, List, NamedTuple, Optional, Sequence, Tuple, Union
+from typing import Dict, Iterable, Iterator, List, NamedTuple, Optional, Pattern, Sequence, Tuple, Union
 
-from . import COLUMNS, ROWS, Brush, Cell, Cursor, Margins, Modes, NoRow, Saved, Sets, Terminal
-from .expected import expression_as_shown, expression_of_text, text_as_shown
+from . import COLUMNS, ROWS, Brush, Cell, Cursor, Margins, Modes, Saved, Sets, Terminal, _check_row
+from .expected import SUBSTITUTE, NoGlyph, expression_as_shown, expression_of_text, text_as_shown
 
 # The name of each attribute in a stored screen, in the order of Cell's fields after the glyph.
 ATTRIBUTES = ("bold", "underline", "blink", "reverse", "protected")
@@ -15,6 +16,9 @@ MODES = tuple({"keypad_application": "DECKPAM", "reports_8bit": "S8C1T"}.get(nam
 MASK = "\u2588"
 # The names of the graphic sets by their final bytes, as docs/SPECIFICATION.md has them.
 SETS = {ord("B"): "ASCII", ord("A"): "British", ord("K"): "German", ord("0"): "special graphics", ord("<"): "supplemental"}
+
+# A space without attributes. The terminal doesn't keep whether it was written.
+_BLANK = Cell(" ", *[False] * len(ATTRIBUTES))
 
 Mask = Union[str, Tuple[int, int, int]]
 Places = Dict[Tuple[int, int], str]
@@ -147,13 +151,33 @@ class Screen:
         """
         return tuple(_hidden(self._terminal))
 
-    def at(self, text: str, row: Optional[int] = None, nth: int = 1) -> Place:
-        """Returns the place of a text, in one row or in any: the first one, or the `nth` from the top. False if there is none."""
+    def _padded(self, row: int) -> str:
+        """Returns a row with spaces at its end: up to the cursor, and up to the last cell that isn't a space without attributes."""
+        last = max((col for col, cell in enumerate(self.cells[row - 1], 1) if cell != _BLANK), default=0)
+        if row == self.cursor.row:
+            last = max(last, self.cursor.col - 1 + self.cursor.wrap)
+        return self.rows[row - 1].ljust(last)
+
+    def _finds(self, expression: Pattern[str], row: Optional[int] = None, col: Optional[int] = None) -> bool:
+        """Returns whether an expression is found in one row or in any, from a column or from any.
+
+        It is searched in a row without the spaces at its end, and then in the row with those up to the cursor and up to the last cell that
+        isn't a space without attributes. The expression is compared as it is.
+        """
+        numbers = range(1, ROWS + 1) if row is None else [row]
+        lines = itertools.chain((self.rows[number - 1] for number in numbers), map(self._padded, numbers))
+        return any(expression.search(line) if col is None else expression.match(line, col - 1) for line in lines)
+
+    def at(self, text: str, row: Optional[int] = None, nth: int = 1, *, allow_substitutes: bool = False) -> Place:
+        """Returns the place of a text, in one row or in any: the first one, or the `nth` from the top. False if there is none.
+
+        Raises NoGlyph if the text has a character that is shown as U+2426. With allow_substitutes=True it is found by that.
+        """
         check_row(row)
-        left, expression, length = nth, expression_of_text(text, self.encoding), len(text_as_shown(text, self.encoding))
-        for number, line in enumerate(self.rows, 1):
-            if row is not None and row != number:
-                continue
+        left, expression = nth, expression_of_text(text, self.encoding, allow_substitutes)
+        length = len(text_as_shown(text, self.encoding))
+        for number in range(1, ROWS + 1) if row is None else [row]:
+            line = self._padded(number)
             found = expression.search(line)
             while found:
                 left -= 1
@@ -163,10 +187,13 @@ class Screen:
         where = "on the screen" if row is None else f"in row {row}"
         return Place(0, 0, (), f"{text!r} isn't {where}" + (f" {nth} times" if nth > 1 else ""))
 
-    def stored(self, masks: Sequence[Mask] = ()) -> str:
-        """Returns the text file of this screen: 24 lines, and beneath them the cursor, and attributes and modes if there are any."""
+    def stored(self, masks: Sequence[Mask] = (), *, allow_substitutes: bool = False) -> str:
+        """Returns the text file of this screen: 24 lines, and beneath them the cursor, and attributes and modes if there are any.
+
+        Raises NoGlyph if the expression of a mask has a character that is shown as U+2426, unless allow_substitutes is true.
+        """
         lines, raws = list(self.rows), [self._terminal._raw(row) for row in range(1, ROWS + 1)]
-        for row, col, length in self._masked(masks):
+        for row, col, length in self._masked(masks, allow_substitutes):
             line, raw = lines[row - 1].ljust(self.width), raws[row - 1]
             lines[row - 1] = (line[: col - 1] + MASK * length + line[col - 1 + length :]).rstrip(" ")
             raws[row - 1] = raw[: 12 * (col - 1)] + bytes(12 * length) + raw[12 * (col - 1 + length) :]
@@ -175,16 +202,18 @@ class Screen:
         lines += self.hidden
         return "\n".join(lines) + "\n"
 
-    def _masked(self, masks: Sequence[Mask]) -> Iterator[Tuple[int, int, int]]:
+    def _masked(self, masks: Sequence[Mask], allow_substitutes: bool) -> Iterator[Tuple[int, int, int]]:
         """Returns the row, the column and the length of each masked part."""
         for mask in masks:
             if isinstance(mask, str):
-                expression = expression_as_shown(mask, self.encoding)
+                expression = expression_as_shown(mask, self.encoding, allow_substitutes)
                 for row, line in enumerate(self.rows, 1):
                     for found in expression.finditer(line):
                         if found.end() > found.start():
                             yield row, found.start() + 1, found.end() - found.start()
             else:
+                check_row(mask[0])
+                check_column(mask[1])
                 yield mask
 
     def _state(self) -> Iterator[str]:
@@ -222,15 +251,23 @@ def _runs(raw: bytes) -> str:
 
 
 def check_row(row: Optional[int]) -> None:
-    """Raises NoRow if a row is given that no screen has."""
-    if row is not None and not 1 <= row <= ROWS:
-        raise NoRow(f"{NoRow.words}, so there is no row {row}")
+    """Raises NoRow if a row is given that no screen has, and TypeError if it isn't an integer."""
+    if row is not None:
+        _check_row(row)
 
 
 def check_column(col: Optional[int]) -> None:
-    """Raises ValueError if a column is given that no screen has."""
-    if col is not None and not 1 <= col <= COLUMNS:
+    """Raises ValueError if a column is given that no screen has, and TypeError if it isn't an integer."""
+    if col is not None and not 1 <= operator.index(col) <= COLUMNS:
         raise ValueError(f"columns count from 1 to {COLUMNS}, so there is no column {col}")
+
+
+def check_substitutes(name: str, text: str) -> None:
+    """Raises NoGlyph if the text of a stored screen has U+2426, since that is shown for most characters that a VT220 lacks."""
+    for row, line in enumerate(text.split("\n")[:ROWS], 1):
+        if SUBSTITUTE in line:
+            raise NoGlyph(f"{name} has {SUBSTITUTE} in row {row}, column {line.index(SUBSTITUTE) + 1}: it is shown for any character without a "
+                          "similar glyph. So this test would pass on a wrong text. Mask it, or write allow_substitutes=True")
 
 
 class _Parts(NamedTuple):

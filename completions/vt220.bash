@@ -1,7 +1,7 @@
 # Completions of vt220 for bash.
 _vt220() {
   local commands='text reports repaint status show picture log pages trace summary content help'
-  local options='--piece --limit --format --timing --until --encoding --terminal --quiet -h --help'
+  local options='--piece --limit --format --timing --until --encoding --terminal --columns --quiet -h --help'
   local formats='raw script ttyrec asciicast auto'
   local word=${COMP_WORDS[COMP_CWORD]} before=${COMP_WORDS[COMP_CWORD - 1]} words=
   # Readline cuts --format=raw into three words. Without = in COMP_WORDBREAKS it is one word.
@@ -15,8 +15,9 @@ _vt220() {
     case $before in
       --piece | --limit | --until) COMPREPLY=(); return ;;
       --format) words=$formats ;;
-      --encoding) words='dec utf-8' ;;
-      --terminal) words='vt220 xterm' ;;
+      --encoding) words='dec utf-8 auto' ;;
+      --terminal) words='vt220 xterm auto' ;;
+      --columns) words='80 132 auto' ;;
       help) words=${commands% help} ;;
       *) if [[ $word == -* && $before != --timing ]]; then words=$options; fi ;;
     esac

@@ -19,8 +19,9 @@ complete -c vt220 -n "__fish_seen_subcommand_from $commands" -l limit -x -d 'The
 complete -c vt220 -n "__fish_seen_subcommand_from $commands" -l format -x -a 'raw script ttyrec asciicast auto' -d 'How the input was recorded'
 complete -c vt220 -n "__fish_seen_subcommand_from $commands" -l timing -r -d 'The times of a recording by script'
 complete -c vt220 -n "__fish_seen_subcommand_from $commands" -l until -x -d 'Only what came before'
-complete -c vt220 -n "__fish_seen_subcommand_from $commands" -l encoding -x -a 'dec utf-8' -d 'How the bytes are read'
-complete -c vt220 -n "__fish_seen_subcommand_from $commands" -l terminal -x -a 'vt220 xterm' -d 'The terminal for which the host sends'
+complete -c vt220 -n "__fish_seen_subcommand_from $commands" -l encoding -x -a 'dec utf-8 auto' -d 'How the bytes are read'
+complete -c vt220 -n "__fish_seen_subcommand_from $commands" -l terminal -x -a 'vt220 xterm auto' -d 'The terminal for which the host sends'
+complete -c vt220 -n "__fish_seen_subcommand_from $commands" -l columns -x -a '80 132 auto' -d 'The columns of the screen'
 complete -c vt220 -n "__fish_seen_subcommand_from $commands" -l quiet -d 'No notes'
 complete -c vt220 -n "__fish_seen_subcommand_from help" -f -a "$commands"
 complete -c vt220 -s h -l help -d 'Print the help'

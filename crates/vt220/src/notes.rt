@@ -1,44 +1,96 @@
-//! The notes on standard error: what the input looks like, and at which size it was recorded. They change nothing else.
+//! The notes on standard error: what the input looks like, for which terminal and at which size it was recorded. They change
+//! nothing else.
 
 use crate::reasons::name_of;
-use vt_replay::{Compression, Detected, Format, Part, Request, detect};
+use vt_replay::{
+    Compression, Detected, Encoding, Format, Heading, Host, Part, Request, TerminalType, Word, detect, heading_of,
+    host_for,
+};
 
-/// A size of a screen: columns and rows.
-#[derive(Clone, Copy, PartialEq, Eq)]
-struct Size {
-    columns: u32,
-    rows: u32,
-}
+/// The number of rows of the terminal.
+const ROWS: u32 = 24;
 
-/// The sizes of the terminal.
-const SIZES: [Size; 2] = [
-    Size {
-        columns: 80,
-        rows: 24,
-    },
-    Size {
-        columns: 132,
-        rows: 24,
-    },
-];
+/// Sequences of xterm that programs send and a VT220 doesn't have: the alternate screen, and a colour of 256.
+const XTERM_SEQUENCES: [&[u8]; 2] = [b"\x1B[?1049h", b"\x1B[38;5;"];
 
 /// Prints what there is to note of an input that begins so and was read in a format, unless the notes are left out.
-pub(crate) fn print_notes(rt: &impl Eprint, request: &Request, format: Format, beginning: &[u8]) {
+pub(crate) fn print_notes<R: Eprint + AllocGlobal>(
+    rt: &R,
+    request: &Request,
+    format: Format,
+    beginning: &[u8],
+) {
     if request.quiet {
         return;
     }
     let name = name_of(request, Part::Recording);
-    if format == Format::Raw {
-        if let Some(hint) = hint_of(detect(beginning)) {
-            let _ = eprintln!(rt; "vt220: {name}: {hint}");
+    let Ok(heading) = heading_of(rt.alloc(), beginning, format) else {
+        return;
+    };
+    let host = host_for(request, format, heading);
+    let hint = if format == Format::Raw { hint_of(detect(beginning)) } else { None };
+    if let Some(hint) = hint.or(language_hint(request, heading, host, beginning)) {
+        let _ = eprintln!(rt; "vt220: {name}: {hint}");
+    }
+    if let (Some(columns), Some(rows)) = (heading.columns, heading.rows) {
+        let width = if host.wide { 132 } else { 80 };
+        if columns != width || rows != ROWS {
+            let _ = eprintln!(rt; "vt220: {name}: recorded at {columns}x{rows}, played on {width}x{ROWS}");
         }
     }
-    if let Some(size) = recorded_size(format, beginning) {
-        if !SIZES.contains(&size) {
-            let (columns, rows) = (size.columns, size.rows);
-            let _ = eprintln!(rt; "vt220: {name}: recorded at {columns}x{rows}, played on 80x24");
-        }
+}
+
+/// Returns what the host seems to send for, if it isn't what was played, or none.
+fn language_hint(
+    request: &Request,
+    heading: Heading,
+    host: Host,
+    beginning: &[u8],
+) -> Option<&'static str> {
+    if host.terminal == TerminalType::Xterm {
+        return match request.word {
+            Word::Pages | Word::Trace | Word::Summary => {
+                Some("recorded for an xterm, and this command plays a VT220")
+            }
+            Word::Replay(_) | Word::Log | Word::Content => None,
+        };
     }
+    if request.terminal.is_some() || request.encoding.is_some() {
+        return None;
+    }
+    if heading.terminal.is_none() && has_any(beginning, &XTERM_SEQUENCES) {
+        return Some("it has sequences of an xterm: use --terminal xterm");
+    }
+    if host.encoding == Encoding::Dec && is_utf8(beginning) {
+        return Some("it looks like UTF-8: use --encoding utf-8");
+    }
+    None
+}
+
+/// Returns whether bytes have one of these sequences.
+fn has_any(bytes: &[u8], sequences: &[&[u8]]) -> bool {
+    let mut rest = bytes;
+    for _ in 0..bytes.len() {
+        for sequence in sequences {
+            if rest.starts_with(sequence) {
+                return true;
+            }
+        }
+        rest = rest.get(1..).unwrap_or(b"");
+    }
+    false
+}
+
+/// Returns whether bytes are UTF-8 up to the last byte of ASCII, and not all of them ASCII.
+fn is_utf8(bytes: &[u8]) -> bool {
+    let mut front = bytes;
+    while let Some((last, before)) = front.split_last() {
+        if last.is_ascii() {
+            break;
+        }
+        front = before;
+    }
+    !front.is_ascii() && std::str::from_utf8(front).is_ok()
 }
 
 /// Returns what to do with a file that isn't raw, or none if it is raw.
@@ -67,59 +119,4 @@ pub(crate) fn hint_of(detected: Detected) -> Option<&'static str> {
             Some("it looks like a file of bzip2: give what bzip2 -dc writes")
         }
     }
-}
-
-/// Returns the size that the first line of a recording gives.
-fn recorded_size(format: Format, beginning: &[u8]) -> Option<Size> {
-    match format {
-        Format::Raw => None,
-        Format::Ttyrec => None,
-        Format::Script => size_in(first_line(beginning)?, b"COLUMNS=\"", b"LINES=\""),
-        Format::Asciicast => asciicast_size(first_line(beginning)?),
-    }
-}
-
-/// Returns the bytes up to the first LF.
-fn first_line(bytes: &[u8]) -> Option<&[u8]> {
-    bytes.split(|byte| *byte == b'\n').next()
-}
-
-/// Returns the size that the first line of an asciicast gives.
-fn asciicast_size(line: &[u8]) -> Option<Size> {
-    match size_in(line, b"\"width\"", b"\"height\"") {
-        Some(size) => Some(size),
-        None => size_in(line, b"\"cols\"", b"\"rows\""),
-    }
-}
-
-/// Returns the size of which a line gives the columns and the rows, each after its name.
-fn size_in(line: &[u8], columns: &[u8], rows: &[u8]) -> Option<Size> {
-    Some(Size {
-        columns: number_after(line, columns)?,
-        rows: number_after(line, rows)?,
-    })
-}
-
-/// Returns the number after a name, with white space and a colon between them.
-fn number_after(line: &[u8], name: &[u8]) -> Option<u32> {
-    let mut rest = line;
-    for _ in 0..line.len() {
-        if rest.starts_with(name) {
-            break;
-        }
-        rest = rest.get(1..)?;
-    }
-    let rest = rest.strip_prefix(name)?;
-    let mut number = None;
-    for byte in rest {
-        match *byte {
-            b'0'..=b'9' => {
-                let digit = (*byte - b'0') as u32;
-                number = Some(number.unwrap_or(0u32).checked_mul(10)?.checked_add(digit)?);
-            }
-            b' ' | b':' if number.is_none() => {}
-            _ => return number,
-        }
-    }
-    number
 }

@@ -41,7 +41,7 @@ impl Output for SessionOutput {
 
     ghost counted = { λ o. 0 };
 
-    ghost reserve = { λ o. 187052 };
+    ghost reserve = { λ o. 187060 };
 
     fn capacity(&self) -> usize {
         XTERM_PAINT_LIMIT

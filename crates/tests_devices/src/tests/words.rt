@@ -18,7 +18,8 @@ struct Asked {
     timing: Option<&'static [u8]>,
     until: Option<Moment>,
     encoding: Option<Encoding>,
-    terminal: TerminalType,
+    terminal: Option<TerminalType>,
+    wide: Option<bool>,
 }
 
 /// Returns the outcome of a request that reads so many bytes at a time, and what was written.
@@ -40,6 +41,7 @@ fn carried_out(
         format: Some(asked.format),
         encoding: asked.encoding,
         terminal: asked.terminal,
+        wide: asked.wide,
         timing: None,
         until: asked.until,
         quiet: false,
@@ -66,7 +68,8 @@ const RAW: Asked = Asked {
     timing: None,
     until: None,
     encoding: None,
-    terminal: TerminalType::Vt220,
+    terminal: None,
+    wide: None,
 };
 
 /// The host's UTF-8.
@@ -77,7 +80,7 @@ const UTF8: Asked = Asked {
 
 /// A request of bytes that a host sends for xterm.
 const XTERM: Asked = Asked {
-    terminal: TerminalType::Xterm,
+    terminal: Some(TerminalType::Xterm),
     ..UTF8
 };
 
@@ -374,6 +377,94 @@ const XTERM_ROWS: &[Row] = &[
     ),
 ];
 
+/// The text of a recording by asciinema.
+const CAST_TEXT: Asked = Asked {
+    word: Word::Replay(What::Text),
+    format: Format::Asciicast,
+    ..RAW
+};
+
+/// The text of a recording by script(1).
+const SCRIPT_TEXT: Asked = Asked {
+    word: Word::Replay(What::Text),
+    format: Format::Script,
+    ..RAW
+};
+
+/// A recording by asciinema of version 2 under xterm, whose program leaves the alternate page.
+const XTERM_CAST: &[u8] = b"{\"version\":2,\"width\":80,\"height\":24,\"env\":{\"TERM\":\"xterm-256color\"}}\n[0.1,\"o\",\"shell\\u001b[?1049hfull\"]\n[0.2,\"o\",\"\\u001b[?1049l\"]\n";
+
+/// A recording by asciinema of version 3 on 132 columns.
+const WIDE_CAST: &[u8] = b"{\"version\":3,\"term\":{\"cols\":132,\"rows\":24,\"type\":\"xterm\"}}\n[0.1,\"o\",\"\\u001b[81GA\\u001b[132GB\"]\n";
+
+/// A recording by script(1) under xterm.
+const XTERM_SCRIPT: &[u8] = b"Script started on 2026-11-27 14:04:01+00:00 [TERM=\"xterm\" TTY=\"/dev/pts/0\" COLUMNS=\"80\" LINES=\"24\"]\ncaf\xc3\xa9\x1b[?1049hB\x1b[?1049l";
+
+/// A recording by script(1) under vt220.
+const VT220_SCRIPT: &[u8] = b"Script started on 2026-11-27 14:04:01+00:00 [TERM=\"vt220\" TTY=\"/dev/pts/0\" COLUMNS=\"80\" LINES=\"24\"]\ncaf\xc3\xa9\x1b[?1049hB\x1b[?1049l";
+
+/// Rows by hand of recordings whose first line decides, from docs/SPECIFICATION.md and xterm's control sequences.
+const DECIDED_ROWS: &[Row] = &[
+    (
+        "a recording under xterm has the main page again",
+        XTERM_CAST,
+        CAST_TEXT,
+        DONE,
+        b"shell\n\n\n\n\n\n\n\n\n\n\n\n\n\n\n\n\n\n\n\n\n\n\n\n",
+    ),
+    (
+        "the same for a VT220, which has no other page",
+        XTERM_CAST,
+        Asked {
+            terminal: Some(TerminalType::Vt220),
+            ..CAST_TEXT
+        },
+        DONE,
+        b"shellfull\n\n\n\n\n\n\n\n\n\n\n\n\n\n\n\n\n\n\n\n\n\n\n\n",
+    ),
+    (
+        "the same in dec, which only a VT220 reads",
+        XTERM_CAST,
+        Asked {
+            encoding: Some(Encoding::Dec),
+            ..CAST_TEXT
+        },
+        DONE,
+        b"shellfull\n\n\n\n\n\n\n\n\n\n\n\n\n\n\n\n\n\n\n\n\n\n\n\n",
+    ),
+    (
+        "script under xterm is UTF-8, with both pages",
+        XTERM_SCRIPT,
+        SCRIPT_TEXT,
+        DONE,
+        b"caf\xc3\xa9\n\n\n\n\n\n\n\n\n\n\n\n\n\n\n\n\n\n\n\n\n\n\n\n",
+    ),
+    (
+        "script under vt220 is a VT220's bytes",
+        VT220_SCRIPT,
+        SCRIPT_TEXT,
+        DONE,
+        b"caf\xc3\x83\xc2\xa9B\n\n\n\n\n\n\n\n\n\n\n\n\n\n\n\n\n\n\n\n\n\n\n\n",
+    ),
+    (
+        "script under vt220 for an xterm, if it is asked for",
+        VT220_SCRIPT,
+        Asked {
+            terminal: Some(TerminalType::Xterm),
+            ..SCRIPT_TEXT
+        },
+        DONE,
+        b"caf\xc3\xa9\n\n\n\n\n\n\n\n\n\n\n\n\n\n\n\n\n\n\n\n\n\n\n\n",
+    ),
+    (
+        "132 columns by the first line",
+        WIDE_CAST,
+        CAST_TEXT,
+        DONE,
+        b"                                                                                A                                                  B\n\n\n\n\n\n\n\n\n\n\n\n\n\n\n\n\n\n\n\n\n\n\n\n",
+    ),
+];
+
 /// Returns whether a request is carried out as its row says, in chunks of so many bytes.
 fn is_due(alloc: Global, row: &Row, piece: usize) -> Result<bool, Failed>
     requires { (1 ≤ piece) × (piece ≤ 65536) }
@@ -407,4 +498,9 @@ fn words_are_carried_out_in_utf8(rt: HostRuntime) {
 #[test]
 fn words_are_carried_out_for_xterm(rt: HostRuntime) {
     are_due(&rt, rt.alloc(), XTERM_ROWS);
+}
+
+#[test]
+fn words_are_carried_out_as_a_recording_decides(rt: HostRuntime) {
+    are_due(&rt, rt.alloc(), DECIDED_ROWS);
 }

@@ -168,7 +168,8 @@ struct Options {
     timing: Option<&'static str>,
     until: Option<Moment>,
     encoding: Option<Encoding>,
-    terminal: TerminalType,
+    terminal: Option<TerminalType>,
+    wide: Option<bool>,
     quiet: bool,
 }
 
@@ -178,7 +179,8 @@ const NONE: Options = Options {
     timing: None,
     until: None,
     encoding: None,
-    terminal: TerminalType::Vt220,
+    terminal: None,
+    wide: None,
     quiet: false,
 };
 
@@ -218,9 +220,19 @@ const UTF8: Options = Options {
     ..NONE
 };
 
+const VT220: Options = Options {
+    terminal: Some(TerminalType::Vt220),
+    ..NONE
+};
+
 const XTERM: Options = Options {
-    terminal: TerminalType::Xterm,
-    ..UTF8
+    terminal: Some(TerminalType::Xterm),
+    ..NONE
+};
+
+const WIDE: Options = Options {
+    wide: Some(true),
+    ..NONE
 };
 
 /// A line of words, its word, and what its options ask for.
@@ -329,6 +341,21 @@ const ENCODED: &[Asked] = &[
     ("vt220 trace --encoding dec a", Word::Trace, DEC),
     ("vt220 trace --encoding utf-8", Word::Trace, UTF8),
     ("vt220 summary --encoding=utf-8 a", Word::Summary, UTF8),
+    ("vt220 text --encoding auto", Word::Replay(What::Text), NONE),
+];
+
+const FOR_COLUMNS: &[Asked] = &[
+    ("vt220 text --columns 132", Word::Replay(What::Text), WIDE),
+    ("vt220 trace --columns=132 a", Word::Trace, WIDE),
+    (
+        "vt220 log --columns 80",
+        Word::Log,
+        Options {
+            wide: Some(false),
+            ..NONE
+        },
+    ),
+    ("vt220 log --columns auto", Word::Log, NONE),
 ];
 
 const FOR_TERMINALS: &[Asked] = &[
@@ -336,13 +363,18 @@ const FOR_TERMINALS: &[Asked] = &[
     (
         "vt220 text --terminal vt220",
         Word::Replay(What::Text),
-        NONE,
+        VT220,
     ),
-    ("vt220 log --terminal vt220", Word::Log, NONE),
+    ("vt220 log --terminal vt220", Word::Log, VT220),
+    ("vt220 log --terminal auto", Word::Log, NONE),
+    ("vt220 trace --terminal=auto", Word::Trace, NONE),
     (
         "vt220 show --terminal=vt220 --encoding utf-8 a",
         Word::Replay(What::Show),
-        UTF8,
+        Options {
+            encoding: Some(Encoding::Utf8),
+            ..VT220
+        },
     ),
     (
         "vt220 repaint --format auto --terminal xterm a",
@@ -355,7 +387,10 @@ const FOR_TERMINALS: &[Asked] = &[
     (
         "vt220 picture --terminal=xterm --encoding utf-8",
         Word::Replay(What::Picture),
-        XTERM,
+        Options {
+            encoding: Some(Encoding::Utf8),
+            ..XTERM
+        },
     ),
     ("vt220 content --terminal xterm a", Word::Content, XTERM),
 ];
@@ -371,6 +406,7 @@ fn is_recorded(found: &Request, options: &Options) -> bool {
 fn is_played(found: &Request, options: &Options) -> bool {
     found.encoding == options.encoding
         && found.terminal == options.terminal
+        && found.wide == options.wide
         && found.quiet == options.quiet
 }
 
@@ -419,8 +455,15 @@ fn words_ask_for_a_terminal(rt: HostRuntime) {
     holds(&rt, line, is_refused(rt.alloc(), line, 2, NO_SETTINGS));
 }
 
+#[test]
+fn words_ask_for_columns(rt: HostRuntime) {
+    all_have_options(&rt, rt.alloc(), FOR_COLUMNS);
+    let line = "vt220 text --columns 80";
+    holds(&rt, line, is_refused(rt.alloc(), line, 2, NO_SETTINGS));
+}
+
 /// A line that is refused, and the sentences that say why.
-const MISFITS: [(&str, &str); 23] = [
+const MISFITS: [(&str, &str); 25] = [
     (
         "vt220 text --format cast",
         "vt220: --format is raw, script, ttyrec or asciicast\n\
@@ -452,6 +495,8 @@ const MISFITS: [(&str, &str); 23] = [
     ("vt220 text --encoding latin-1", NO_ENCODING),
     ("vt220 trace --encoding UTF-8", NO_ENCODING),
     ("vt220 text --terminal vt100", NO_TERMINAL),
+    ("vt220 text --columns 120", NO_COLUMNS),
+    ("vt220 log --columns=0132", NO_COLUMNS),
     (
         "vt220 text --terminal xterm --encoding dec",
         "vt220: --terminal xterm reads UTF-8, and not --encoding dec\n",
@@ -462,12 +507,14 @@ const MISFITS: [(&str, &str); 23] = [
     ("vt220 summary --terminal xterm --encoding utf-8", NO_XTERM),
 ];
 
-const NO_TERMINAL: &str = "vt220: --terminal is vt220 or xterm\n";
+const NO_TERMINAL: &str = "vt220: --terminal is vt220, xterm or auto\n";
+
+const NO_COLUMNS: &str = "vt220: --columns is 80, 132 or auto\n";
 
 const NO_XTERM: &str = "vt220: pages, trace and summary play no xterm\n\
      vt220: text, show, picture, status, reports, repaint, log and content do\n";
 
-const NO_ENCODING: &str = "vt220: --encoding is dec or utf-8\n";
+const NO_ENCODING: &str = "vt220: --encoding is dec, utf-8 or auto\n";
 
 const NO_MOMENT: &str = "vt220: --until is seconds, as 12.5 or 12:31, or bytes, as 4096b\n";
 

@@ -19,7 +19,7 @@ use std::fs::{File, Files};
 use std::io::{self, ErrorKind, Input, Read, Write};
 use std::process::ExitCode;
 use vt_replay::{
-    Fault, Format, Outcome, Part, Refused, Request, Watched, What, Word, carry_out, detect,
+    Break, Detected, Fault, Format, Outcome, Part, Refused, Request, Watched, What, Word, carry_out, detect,
     format_of, lacks_times, read_recording, request,
 };
 
@@ -141,12 +141,26 @@ fn carry_out_on<R: Print + AllocGlobal, D: Read + Drop>(
         }
     }
     let format = format_of(request.format, input.beginning());
-    if lacks_times(format, timing.is_some(), request.until) {
-        let mut ended = ended_early(rt, request, Fault::NoTimes, Part::Recording, None);
+    if let Some(fault) = refusal_of(request, format, timing.is_some(), input.beginning()) {
+        let mut ended = ended_early(rt, request, fault, Part::Recording, None);
         ended.format = format;
+        ended.beginning = input.into_beginning();
         return ended;
     }
     carry_out_in(rt, input, format, timing, request)
+}
+
+/// Returns why an input that begins so isn't played, if it isn't: its beginning was to decide on its format, and it is
+/// compressed, or it has no times, and the moment is one.
+fn refusal_of(request: &Request, format: Format, timed: bool, beginning: &[u8]) -> Option<Fault> {
+    if request.format.is_none() && matches!(detect(beginning), Detected::Compressed(_)) {
+        let part = Part::Recording;
+        return Some(Fault::Broken(Break { part, at: 0 }));
+    }
+    if lacks_times(format, timed, request.until) {
+        return Some(Fault::NoTimes);
+    }
+    None
 }
 
 /// Carries out a request on an input in a format, to standard output, and flushes that, after a fault too.
@@ -266,6 +280,7 @@ fn seen_of(ended: &Ended) -> Seen {
         error: ended.error,
         format: ended.format,
         detected: detect(&ended.beginning),
+        is_empty: ended.beginning.is_empty(),
     }
 }
 

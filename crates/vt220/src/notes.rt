@@ -28,7 +28,11 @@ pub(crate) fn print_notes<R: Eprint + AllocGlobal>(
         return;
     };
     let host = host_for(request, format, heading);
-    let hint = if format == Format::Raw { hint_of(detect(beginning)) } else { None };
+    let hint = if request.format == Some(Format::Raw) {
+        hint_of(detect(beginning))
+    } else {
+        None
+    };
     if let Some(hint) = hint.or(language_hint(request, heading, host, beginning)) {
         let _ = eprintln!(rt; "vt220: {name}: {hint}");
     }

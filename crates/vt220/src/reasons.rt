@@ -22,6 +22,8 @@ pub(crate) struct Seen {
     pub(crate) format: Format,
     /// The kind of input as its first bytes show it.
     pub(crate) detected: Detected,
+    /// Whether the input has no byte.
+    pub(crate) is_empty: bool,
 }
 
 /// Prints the second line of a fault, after its own: the file, and the reason. A failed allocation has no second line.
@@ -62,6 +64,12 @@ pub(crate) fn print_reason<R: Eprint + AllocGlobal>(
 /// Prints what the format has at a place that breaks it, and what the recording looks like, if that is another format.
 fn print_broken(rt: &impl Eprint, request: &Request, place: Break, seen: Seen) {
     let name = name_of(request, place.part);
+    if let (None, Detected::Compressed(_), Some(hint)) =
+        (request.format, seen.detected, hint_of(seen.detected))
+    {
+        let _ = eprintln!(rt; "vt220: {name}: {hint}");
+        return;
+    }
     let expected = expected(seen.format, place);
     let _ = match other_look(place, seen) {
         Some(look) => eprintln!(rt; "vt220: {name}: {expected}; {look}"),
@@ -73,6 +81,9 @@ fn print_broken(rt: &impl Eprint, request: &Request, place: Break, seen: Seen) {
 fn other_look(place: Break, seen: Seen) -> Option<&'static str> {
     if place.part != Part::Recording || seen.detected == Detected::Recording(seen.format) {
         return None;
+    }
+    if seen.is_empty {
+        return Some("the file is empty");
     }
     Some(hint_of(seen.detected).unwrap_or("it looks like raw bytes: use --format raw"))
 }

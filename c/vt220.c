@@ -29,6 +29,7 @@ size_t core_feed_log_utf8(handle *t, handle *s, vt220_utf8 *u, const uint8_t *by
 uint32_t core_xterm_open(handle *x);
 void core_xterm_close(handle *x);
 bool core_xterm_alternate(handle *x);
+bool core_xterm_bracketed_paste(handle *x);
 bool core_xterm_pending(handle *x, vt220_utf8 *u);
 uint32_t core_xterm_copy(handle *to, handle *from);
 uint32_t core_xterm_repaint(handle *t, handle *x, handle *s, uint8_t *out, size_t size, size_t *written);
@@ -177,6 +178,11 @@ bool vt220_xterm_is_open(const vt220_xterm *x) { return x->is_open; }
 bool vt220_xterm_alternate(const vt220_xterm *x) {
     handle h = own_xterm(x);
     return h.is_open && core_xterm_alternate(&h);
+}
+
+bool vt220_xterm_bracketed_paste(const vt220_xterm *x) {
+    handle h = own_xterm(x);
+    return h.is_open && core_xterm_bracketed_paste(&h);
 }
 
 bool vt220_xterm_pending(const vt220_xterm *x, vt220_utf8 *u) {

@@ -243,6 +243,9 @@ bool vt220_xterm_is_open(const vt220_xterm *x);
 /* Returns whether the alternate page is shown; false if it is closed. */
 bool vt220_xterm_alternate(const vt220_xterm *x);
 
+/* Returns whether the program wants pasted text between ESC [ 200 ~ and ESC [ 201 ~ (?2004); false if it is closed. */
+bool vt220_xterm_bracketed_paste(const vt220_xterm *x);
+
 /* Writes what is pending of UTF-8 to *u.
  * Returns true, or false if it is closed, and then writes nothing. */
 bool vt220_xterm_pending(const vt220_xterm *x, vt220_utf8 *u);

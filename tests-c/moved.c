@@ -73,6 +73,7 @@ void core_close(handle *t) { closes(t); }
 void core_scratch_close(handle *s) { closes(s); }
 void core_xterm_close(handle *x) { closes(x); }
 bool core_xterm_alternate(handle *x) { return stay(x), true; }
+bool core_xterm_bracketed_paste(handle *x) { return stay(x), true; }
 bool core_xterm_pending(handle *x, vt220_utf8 *u) { return stay(x), true; }
 uint32_t core_xterm_copy(handle *to, handle *from) { return move(to), stay(from), VT220_OK; }
 
@@ -173,7 +174,7 @@ static void handles_have_the_new_blocks(void) {
         CHECK(vt220_feed_utf8(&t, &pending, BYTES("a\ab"), out, sizeof out, &written) == 3);
         CHECK(vt220_feed_log_utf8(&t, &s, &pending, BYTES("a\ab"), out, sizeof out, &written, lines, sizeof lines, &logged) == 3);
         CHECK(vt220_feed_xterm(&t, &x, BYTES("a\ab"), out, sizeof out, &written) == 3 && vt220_xterm_alternate(&x) && vt220_xterm_pending(&x, &pending));
-        CHECK(vt220_feed_xterm(&t, &x, BYTES("a\ab"), NULL, 0, NULL) == 3);
+        CHECK(vt220_feed_xterm(&t, &x, BYTES("a\ab"), NULL, 0, NULL) == 3 && vt220_xterm_bracketed_paste(&x));
         CHECK(vt220_feed_log_xterm(&t, &s, &x, BYTES("a\ab"), out, sizeof out, &written, lines, sizeof lines, &logged) == 3);
         CHECK(vt220_feed_log_xterm(&t, &s, &x, BYTES("a\ab"), NULL, 0, NULL, lines, sizeof lines, &logged) == 3);
         CHECK(vt220_xterm_copy(&y, &x) == VT220_OK && vt220_xterm_copy(&x, &y) == VT220_OK && vt220_xterm_copy(&x, &x) == VT220_OK);

@@ -81,6 +81,7 @@ int main(void) {
         STAYS(core_feed_log_xterm(&u, &s, &x, bytes, len, true, out, sizeof out, &written, lines, sizeof lines, &logged, &rung));
         STAYS(core_xterm_copy(&y, &x));
         STAYS(core_xterm_alternate(&x));
+        STAYS(core_xterm_bracketed_paste(&x));
         STAYS(core_xterm_pending(&x, &pending));
         STAYS(core_copy(&u, &t));
         STAYS(core_reset(&u));

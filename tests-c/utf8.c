@@ -128,7 +128,7 @@ static void any_content(void) {
     vt220 t = opened(), v = opened();
     vt220_utf8 u = {{0xE2, 0x96, 0xFF}, 2};
     CHECK(vt220_reset(&t) == VT220_OK && vt220_copy(&v, &t) == VT220_OK && u.len == 2);
-    CHECK(feed(&t, &u, BYTES("\x88"), 1, reports) == 0 && shows(&t, "▒\n") && is_pending(&u, ""));
+    CHECK(feed(&t, &u, BYTES("\x88"), 1, reports) == 0 && shows(&t, "#\n") && is_pending(&u, ""));
     vt220_close(&t);
     vt220_close(&v);
 }
@@ -152,11 +152,11 @@ static void refusals(void) {
     CHECK(vt220_feed_log_utf8(&t, &s, &u, BYTES("\x88"), reports, 10, &written, lines, VT220_UTF8_LINES_LIMIT - 1, &off) == 0);
     CHECK(is_pending(&u, "\xE2\x96") && shows(&t, "\n"));
     CHECK(vt220_feed_log_utf8(&t, &s, &u, BYTES("\x88"), reports, 10, &written, lines, VT220_UTF8_LINES_LIMIT, &off) == 1);
-    CHECK(written == 0 && off == 0 && is_pending(&u, "") && shows(&t, "▒\n"));
+    CHECK(written == 0 && off == 0 && is_pending(&u, "") && shows(&t, "#\n"));
     /* a null `written` drops the replies */
-    CHECK(vt220_feed_utf8(&t, &u, BYTES("é\033[6n\033[cü\xC3"), NULL, 0, NULL) == 12 && shows(&t, "▒éü\n") && is_pending(&u, "\xC3"));
+    CHECK(vt220_feed_utf8(&t, &u, BYTES("é\033[6n\033[cü\xC3"), NULL, 0, NULL) == 12 && shows(&t, "#éü\n") && is_pending(&u, "\xC3"));
     CHECK(vt220_feed_log_utf8(&t, &s, &u, BYTES("\xA9\033[6n"), NULL, 0, NULL, lines, sizeof lines, &off) == 5 && off == 0);
-    CHECK(shows(&t, "▒éüé\n") && is_pending(&u, ""));
+    CHECK(shows(&t, "#éüé\n") && is_pending(&u, ""));
     vt220_close(&t);
 }
 

@@ -61,7 +61,7 @@ typedef struct row {
     const char *name;
     struct bytes data, reports, pending;
     char text[1024], lines[1024], brush[64];
-    unsigned long cursor_row, cursor_col, alternate, bells;
+    unsigned long cursor_row, cursor_col, alternate, paste, bells;
 } row;
 
 static void append_hex(struct bytes *to, const char *hex) {
@@ -89,6 +89,7 @@ static void set_field(row *r, const char *field, char *value) {
     else if (strcmp(field, "reports") == 0) append_hex(&r->reports, value);
     else if (strcmp(field, "pending") == 0) append_hex(&r->pending, value);
     else if (strcmp(field, "alternate") == 0) r->alternate = strtoul(value, NULL, 10);
+    else if (strcmp(field, "paste") == 0) r->paste = strtoul(value, NULL, 10);
     else if (strcmp(field, "bells") == 0) r->bells = strtoul(value, NULL, 10);
     else if (strcmp(field, "cursor") == 0) r->cursor_row = strtoul(value, &value, 10), r->cursor_col = strtoul(value + 1, NULL, 10);
     else check(false, field, "a field's name");
@@ -140,6 +141,7 @@ static void play_row(const row *r, size_t chunk, const sizes *size) {
     check(shows(&p.t, r->text), r->name, "the text");
     check(vt220_cursor(&p.t, &cursor) && cursor.row == r->cursor_row && cursor.col == r->cursor_col, r->name, "the cursor");
     check(vt220_xterm_alternate(&p.x) == (r->alternate != 0), r->name, "the page");
+    check(vt220_xterm_bracketed_paste(&p.x) == (r->paste != 0), r->name, "bracketed paste");
     check(has_brush(&p.t, r->brush), r->name, "the brush");
     check(vt220_bells(&p.t) == r->bells, r->name, "the bells");
     check(same_bytes(&replies, r->reports.at, r->reports.len), r->name, "the replies");
@@ -156,6 +158,7 @@ static void same_pages(pair *p, pair *q) {
         size_t len = strlen(switches[i]);
         CHECK(vt220_feed_xterm(&p->t, &p->x, bytes, len, NULL, 0, NULL) == len && vt220_feed_xterm(&q->t, &q->x, bytes, len, NULL, 0, NULL) == len);
         CHECK(vt220_same_state(&p->t, &q->t) && vt220_xterm_alternate(&p->x) == vt220_xterm_alternate(&q->x));
+        CHECK(vt220_xterm_bracketed_paste(&p->x) == vt220_xterm_bracketed_paste(&q->x));
     }
 }
 
@@ -186,6 +189,7 @@ static void rebuild(const pair *p, const struct bytes *made, const char *before,
     check(vt220_xterm_pending(&q.x, &v) && u.len == v.len && memcmp(u.bytes, v.bytes, sizeof u.bytes) == 0, name, "what is pending after it");
     CHECK(vt220_copy(&like.t, &p->t) == VT220_OK && vt220_xterm_copy(&like.x, &p->x) == VT220_OK);
     check(vt220_same_state(&q.t, &like.t) && vt220_xterm_alternate(&q.x) == vt220_xterm_alternate(&like.x), name, "the state after it");
+    check(vt220_xterm_bracketed_paste(&q.x) == vt220_xterm_bracketed_paste(&like.x), name, "bracketed paste after it");
     same_pages(&q, &like);
     free(replies.at), free(again.at);
     closed(&q), closed(&like);
@@ -194,7 +198,7 @@ static void rebuild(const pair *p, const struct bytes *made, const char *before,
 /* The repaint of a session rebuilds it over other ones, whatever these show, keep and hold. */
 static void rebuild_over_others(const pair *p, const char *name) {
     static const char *const others[] = {"", "main\033[?47h\033[?1048halt\xE2", "\033[?40h\033[?3hwide\0337\033[?47h\033[2", "\033[?47h\033[?40h\033[?3h\033]0;x",
-                                         "\033[?40h\033[?3hwide\0337\033[?40l\033[?47hwide"};
+                                         "\033[?40h\033[?3hwide\0337\033[?40l\033[?2004h\033[?47hwide"};
     struct bytes made = repaint(p);
     for (size_t i = 0; i < sizeof others / sizeof others[0] && made.len > 0; i++) rebuild(p, &made, others[i], i % 2 == 0 ? LEN : 7, name);
     free(made.at);
@@ -212,7 +216,7 @@ static void rebuild_row(const row *r) {
 /* Sessions whose screens and other pages differ in their width, with and without ?40. */
 static void rebuild_widths(void) {
     static const char *const inputs[] = {"\033[?40h\033[?3hwide\033[?47hx\033[?3lnarrow", "\033[?40h\033[?3h\033[?3lx", "\033[?40h\033[?3hwide\033[?40l\033[?47h\0337\xF0\x9F",
-                                         "main\033[?1049halt\033[?40h", "main\033[3;4H\0337\033[?47halt\033[?47l\033[1;7m\033(0q\033[?6h"};
+                                         "main\033[?1049halt\033[?40h\033[?2004h", "main\033[3;4H\0337\033[?47halt\033[?47l\033[1;7m\033(0q\033[?6h"};
     for (size_t i = 0; i < sizeof inputs / sizeof inputs[0]; i++) {
         pair p = opened();
         size_t len = strlen(inputs[i]);
@@ -274,7 +278,7 @@ static void handles(void) {
     uint8_t out[20];
     size_t written = 9;
     vt220_utf8 u = {{1, 2, 3}, 4};
-    CHECK(!vt220_xterm_is_open(&x) && !vt220_xterm_alternate(&x));
+    CHECK(!vt220_xterm_is_open(&x) && !vt220_xterm_alternate(&x) && !vt220_xterm_bracketed_paste(&x));
     CHECK(!vt220_xterm_pending(&x, &u) && u.bytes[2] == 3 && u.len == 4);
     vt220_xterm_close(&x);
     CHECK(vt220_feed_xterm(&t, &x, BYTES("a"), out, sizeof out, &written) == 0 && written == 0);

@@ -246,6 +246,9 @@ func (x *Xterm) Close() { C.vt220_xterm_close(&x.handle) }
 // Alternate returns whether the alternate page is shown, and false if it is closed.
 func (x *Xterm) Alternate() bool { return bool(C.vt220_xterm_alternate(&x.handle)) }
 
+// BracketedPaste returns whether the program wants pasted text between ESC [200~ and ESC [201~ (?2004), and false if it is closed.
+func (x *Xterm) BracketedPaste() bool { return bool(C.vt220_xterm_bracketed_paste(&x.handle)) }
+
 // Pending returns the bytes at the end of the input that begin a character of UTF-8, at most three.
 func (x *Xterm) Pending() []byte {
 	var d Decoder

@@ -7,10 +7,10 @@ import (
 )
 
 // xtermRow is what a row of tests-c/xterm.txt has.
-type xtermRow struct{ text, lines, cursor, alternate, brush, bells, pending, reports string }
+type xtermRow struct{ text, lines, cursor, alternate, paste, brush, bells, pending, reports string }
 
 func xtermRowOf(t *testing.T, fields []string) (wanted xtermRow) {
-	wanted = xtermRow{cursor: "1;1", alternate: "0", bells: "0"}
+	wanted = xtermRow{cursor: "1;1", alternate: "0", paste: "0", bells: "0"}
 	for _, field := range fields {
 		name, value, _ := strings.Cut(field, "=")
 		bytes := func() string { return string(unhex(t, value)) }
@@ -23,6 +23,8 @@ func xtermRowOf(t *testing.T, fields []string) (wanted xtermRow) {
 			wanted.cursor = value
 		case "alternate":
 			wanted.alternate = value
+		case "paste":
+			wanted.paste = value
 		case "brush":
 			wanted.brush = value
 		case "bells":
@@ -105,6 +107,7 @@ func fedXterm(t *testing.T, s *Scratch, input []byte, size int) (found xtermRow)
 	}
 	found.text, found.cursor = strings.TrimRight(text, "\n"), fmt.Sprintf("%d;%d", cursor.Row, cursor.Col)
 	found.alternate = map[bool]string{true: "1", false: "0"}[x.Alternate()]
+	found.paste = map[bool]string{true: "1", false: "0"}[x.BracketedPaste()]
 	found.brush, found.bells, found.pending = strings.Join(names, " "), fmt.Sprint(terminal.Bells()), string(x.Pending())
 	return found
 }

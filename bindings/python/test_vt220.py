@@ -168,7 +168,7 @@ def fed_xterm(data, size, feed):
     with vt220.Terminal(terminal="xterm") as terminal:
         told = [feed(terminal, data[at : at + size]) for at in range(0, len(data), size)]
         cursor, brush = terminal.cursor(), terminal.brush()
-        return {"text": terminal.text().rstrip("\n"), "cursor": f"{cursor.row};{cursor.col}", "alternate": str(int(terminal.alternate())),
+        return {"text": terminal.text().rstrip("\n"), "cursor": f"{cursor.row};{cursor.col}", "alternate": str(int(terminal.alternate())), "paste": str(int(terminal.bracketed_paste())),
                 "brush": " ".join(name for name in ("bold", "underline", "blink", "reverse") if getattr(brush, name)), "bells": str(terminal.bells()),
                 "pending": terminal.pending(), "reports": b"".join(reports for reports, _ in told), "lines": "".join(lines for _, lines in told)}
 
@@ -205,7 +205,7 @@ def rebuilt_xterm(data, at):
 def xterm():
     """Each row of tests-c/xterm.txt, whole and byte by byte, and from a copy and a repaint at each byte."""
     rows = [line.split("\t") for line in XTERM.read_text(encoding="utf-8").splitlines() if not line.startswith("#")]
-    at_power_up = {"text": "", "cursor": "1;1", "alternate": "0", "brush": "", "bells": "0", "pending": "", "reports": "", "lines": ""}
+    at_power_up = {"text": "", "cursor": "1;1", "alternate": "0", "paste": "0", "brush": "", "bells": "0", "pending": "", "reports": "", "lines": ""}
     for name, data, *fields in rows:
         data, wanted = bytes.fromhex(data), at_power_up | dict(field.split("=", 1) for field in fields)
         wanted = {of: bytes.fromhex(value) if of in ("pending", "reports") else value.replace("\\n", "\n") for of, value in wanted.items()}

@@ -211,6 +211,7 @@ EXPORT(xterm_close) void js_xterm_close(uint32_t x) {
 
 EXPORT(xterm_copy) uint32_t js_xterm_copy(uint32_t to, uint32_t from) { return vt220_xterm_copy(AT(vt220_xterm, to), AT(vt220_xterm, from)); }
 EXPORT(xterm_alternate) uint32_t js_xterm_alternate(uint32_t x) { return vt220_xterm_alternate(AT(vt220_xterm, x)); }
+EXPORT(xterm_bracketed_paste) uint32_t js_xterm_bracketed_paste(uint32_t x) { return vt220_xterm_bracketed_paste(AT(vt220_xterm, x)); }
 
 /* Writes the pending part to what `utf8` returns. */
 EXPORT(xterm_pending) void js_xterm_pending(uint32_t x) { vt220_xterm_pending(AT(vt220_xterm, x), &utf8); }

@@ -133,6 +133,9 @@ export declare class Terminal {
   readonly terminal: TerminalName;
   /** Whether the alternate page is shown. A VT220 has none. The page that isn't shown is no part of sameState, repaint and update. */
   readonly alternate: boolean;
+
+  /** Whether the program wants pasted text between ESC [200~ and ESC [201~ (?2004). A VT220 has no such mode. */
+  readonly bracketedPaste: boolean;
   /** Frees the terminal's memory. Does nothing if it is closed. */
   close(): void;
   readonly isOpen: boolean;

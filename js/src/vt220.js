@@ -330,6 +330,10 @@ export class Terminal {
     return this.#handle && this.#xterm !== 0 && this.#core.calls.xterm_alternate(this.#xterm) !== 0;
   }
 
+  get bracketedPaste() {
+    return this.#handle && this.#xterm !== 0 && this.#core.calls.xterm_bracketed_paste(this.#xterm) !== 0;
+  }
+
   get pending() {
     return this.#handle && this.#pending.slice(0, this.#pending[PENDING - 1]);
   }

@@ -126,7 +126,7 @@ const CLOSED = [
   ["held_kind", ["t"], 0], ["same_state", ["t", "open"], 0], ["same_state", ["open", "t"], 0], ["same_state", ["t", "t"], 0], ["feed", ["t", 0, 1], 0], ["feed_log", ["t", 0, 1], 0],
   ["feed_utf8", ["t", 0, 1], 0], ["feed_log_utf8", ["t", 0, 1], 0], ["feed_xterm", ["t", "pages", 0, 1], 0], ["feed_xterm", ["open", "x", 0, 1], 0],
   ["feed_log_xterm", ["t", "pages", 0, 1], 0], ["feed_log_xterm", ["open", "x", 0, 1], 0], ["xterm_copy", ["x", "pages"], 3], ["xterm_copy", ["pages", "x"], 3],
-  ["xterm_copy", ["pages", "pages"], 0], ["copy", ["open", "open"], 0], ["xterm_alternate", ["x"], 0], ["row_text", ["open", 0], 7], ["row_text", ["open", 25], 7], ["row", ["open", 0], 0],
+  ["xterm_copy", ["pages", "pages"], 0], ["copy", ["open", "open"], 0], ["xterm_alternate", ["x"], 0], ["xterm_bracketed_paste", ["x"], 0], ["row_text", ["open", 0], 7], ["row_text", ["open", 25], 7], ["row", ["open", 0], 0],
   ["row", ["open", 25], 0], ["row", ["open", 24], 80], ["row_changes", ["open", "open", 0], 7], ["row_changes", ["open", "open", 25], 7], ["changed_rows", ["open", "open"], 0], ["start", [], 2],
 ];
 const PARTS = ["cursor", "margins", "modes", "brush", "sets", "saved", "stops"];

@@ -8,14 +8,15 @@ const equal = (a, b) => a.length === b.length && a.every((byte, i) => byte === b
 const COMMON = { text: "", pending: "", reports: "", lines: "" };
 const TABLES = {
   utf8: { options: { encoding: "utf-8" }, atPowerUp: COMMON, least: 30 },
-  xterm: { options: { terminal: "xterm" }, atPowerUp: { ...COMMON, cursor: "1;1", alternate: "0", brush: "", bells: "0" }, least: 50 },
+  xterm: { options: { terminal: "xterm" }, atPowerUp: { ...COMMON, cursor: "1;1", alternate: "0", paste: "0", brush: "", bells: "0" }, least: 50 },
 };
 
 /** Returns what is read of a terminal, by the names of the tables. */
 function read(terminal) {
-  const { cursor, brush, alternate, bells, pending } = terminal;
+  const { cursor, brush, alternate, bracketedPaste, bells, pending } = terminal;
   return {
     text: terminal.text().replace(/\n+$/, ""), pending: hex(pending), cursor: `${cursor.row};${cursor.column}`, alternate: String(Number(alternate)),
+    paste: String(Number(bracketedPaste)),
     brush: ["bold", "underline", "blink", "reverse"].filter((name) => brush[name]).join(" "), bells: String(bells),
   };
 }

@@ -288,6 +288,7 @@ def _declare(library: ctypes.PyDLL) -> None:
         ("xterm_open", status, [handle]),
         ("xterm_close", None, [handle]),
         ("xterm_alternate", boolean, [handle]),
+        ("xterm_bracketed_paste", boolean, [handle]),
         ("xterm_pending", boolean, [handle, pending]),
         ("xterm_copy", status, [handle, handle]),
         ("feed_xterm", size, [handle, handle, buffer, size, buffer, size, told]),
@@ -528,6 +529,11 @@ class Terminal:
         """Returns whether the alternate page is shown. A VT220 has none."""
         self._opened()
         return self._xterm is not None and bool(_library.vt220_xterm_alternate(self._xterm.handle))
+
+    def bracketed_paste(self) -> bool:
+        """Returns whether the program wants pasted text between ESC [200~ and ESC [201~ (?2004). A VT220 has no such mode."""
+        self._opened()
+        return self._xterm is not None and bool(_library.vt220_xterm_bracketed_paste(self._xterm.handle))
 
     def pending(self) -> bytes:
         """Returns the bytes at the end of the input that begin a character of UTF-8, at most three. Nothing shows them yet."""

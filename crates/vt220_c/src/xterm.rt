@@ -61,6 +61,21 @@ pub extern "C" fn core_xterm_alternate(x: &mut Vt220Xterm, alloc: Global) -> boo
     alternate
 }
 
+/// Returns whether pasted text is wanted in brackets (?2004). Returns false if the handle is closed.
+#[unsafe(no_mangle)]
+pub extern "C" fn core_xterm_bracketed_paste(x: &mut Vt220Xterm, alloc: Global) -> bool
+    ensures same { x.new.kept.inside ≡ x.old.kept.inside }
+    ensures brackets { IfSome x.old.kept.inside (λ front. result ≡ front.pages.brackets) }
+    ensures closed { x.old.kept.inside ≡ None → result ≡ false }
+{
+    let Some(front) = x.take(alloc) else {
+        return false;
+    };
+    let brackets = front.brackets();
+    x.put(front);
+    brackets
+}
+
 /// Writes what is pending of UTF-8. Returns false, and leaves `u` unchanged, if the handle is closed.
 #[unsafe(no_mangle)]
 pub extern "C" fn core_xterm_pending(x: &mut Vt220Xterm, u: &mut Vt220Utf8, alloc: Global) -> bool

@@ -236,6 +236,7 @@ extern "C" {
     pub fn vt220_xterm_close(x: *mut vt220_xterm);
     pub fn vt220_xterm_is_open(x: *const vt220_xterm) -> bool;
     pub fn vt220_xterm_alternate(x: *const vt220_xterm) -> bool;
+    pub fn vt220_xterm_bracketed_paste(x: *const vt220_xterm) -> bool;
     pub fn vt220_xterm_pending(x: *const vt220_xterm, u: *mut vt220_utf8) -> bool;
     pub fn vt220_xterm_copy(to: *mut vt220_xterm, from: *const vt220_xterm) -> u32;
     pub fn vt220_feed_xterm(

@@ -253,6 +253,12 @@ impl Xterm {
         unsafe { sys::vt220_xterm_alternate(&self.0) }
     }
 
+    /// Returns whether the program wants pasted text between `ESC [ 200 ~` and `ESC [ 201 ~` (?2004).
+    pub fn bracketed_paste(&self) -> bool {
+        // SAFETY: the handle is open.
+        unsafe { sys::vt220_xterm_bracketed_paste(&self.0) }
+    }
+
     /// Returns what is pending of UTF-8.
     pub fn pending(&self) -> Decoder {
         let mut decoder = Decoder::new();

@@ -4,13 +4,14 @@ mod rows;
 use rows::{bytes_of, each_way, rows_of};
 use vt220::{Error, Scratch, Terminal, Xterm};
 
-/// A row's values: the screen, the lines that scroll off, the cursor, the page, the attributes, the bells, the pending bytes and the reports.
+/// A row's values: the screen, the lines that scroll off, the cursor, the page, bracketed paste, the attributes, the bells, the pending bytes and the reports.
 #[derive(Debug, PartialEq)]
 struct Row {
     text: String,
     lines: String,
     cursor: String,
     alternate: bool,
+    paste: bool,
     brush: String,
     bells: u64,
     pending: Vec<u8>,
@@ -19,13 +20,14 @@ struct Row {
 
 fn row_of(fields: &[String]) -> Row {
     let none = String::new;
-    let mut row = Row { text: none(), lines: none(), cursor: "1;1".to_string(), alternate: false, brush: none(), bells: 0, pending: vec![], reports: vec![] };
+    let mut row = Row { text: none(), lines: none(), cursor: "1;1".to_string(), alternate: false, paste: false, brush: none(), bells: 0, pending: vec![], reports: vec![] };
     for field in fields {
         match field.split_once('=').unwrap() {
             ("text", text) => row.text = text.replace("\\n", "\n"),
             ("lines", lines) => row.lines = lines.replace("\\n", "\n"),
             ("cursor", place) => row.cursor = place.to_string(),
             ("alternate", shown) => row.alternate = shown == "1",
+            ("paste", wanted) => row.paste = wanted == "1",
             ("brush", names) => row.brush = names.to_string(),
             ("bells", count) => row.bells = count.parse().unwrap(),
             ("pending", hex) => row.pending = bytes_of(hex),
@@ -73,6 +75,7 @@ fn fed(input: &[u8], size: usize, scratch: &mut Scratch) -> Row {
         lines,
         cursor: format!("{};{}", cursor.row, cursor.col),
         alternate: xterm.alternate(),
+        paste: xterm.bracketed_paste(),
         brush: set.iter().filter(|(is_set, _)| *is_set).map(|(_, name)| *name).collect::<Vec<_>>().join(" "),
         bells: terminal.bells(),
         pending: xterm.pending().pending().to_vec(),

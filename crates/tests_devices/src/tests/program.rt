@@ -63,11 +63,6 @@ fn has_line(
     Ok(fault.status() == status && fault.line() == line && has_message)
 }
 
-/// Returns the fault of a part that is broken at this byte.
-const fn broken(part: Part, at: u64) -> Fault {
-    Fault::Broken(Break { part, at })
-}
-
 const FAULTS: &[(Fault, u8, &str, &str)] = &[
     (Fault::Memory, 1, "vt220: out of memory", ""),
     (
@@ -86,13 +81,19 @@ const FAULTS: &[(Fault, u8, &str, &str)] = &[
         "",
     ),
     (
-        broken(Part::Recording, 14),
+        Fault::Broken(Break {
+            part: Part::Recording,
+            at: 14,
+        }),
         7,
         "vt220: the recording is broken",
         " at byte 14",
     ),
     (
-        broken(Part::Timing, 0),
+        Fault::Broken(Break {
+            part: Part::Timing,
+            at: 0,
+        }),
         7,
         "vt220: the timing file is broken",
         " at byte 0",

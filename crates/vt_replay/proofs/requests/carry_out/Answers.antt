@@ -29,11 +29,11 @@ returns-then-is_streamed-clause-answer g c = grind (arith, common_steps)
 pub returns-then-is_streamed-clause-whole : goal.returns-then-is_streamed-clause-whole
 returns-then-is_streamed-clause-whole g c = grind (arith, common_steps)
 
-pub returns-in-Ok-take_apart-clause-answer : goal.returns-in-Ok-take_apart-clause-answer
-returns-in-Ok-take_apart-clause-answer g c = grind (arith, common_steps)
+pub returns-in-Ok-prepare-clause-answer : goal.returns-in-Ok-prepare-clause-answer
+returns-in-Ok-prepare-clause-answer g c = grind (arith, common_steps)
 
-pub returns-in-Ok-take_apart-clause-whole : goal.returns-in-Ok-take_apart-clause-whole
-returns-in-Ok-take_apart-clause-whole g c = grind (arith, common_steps)
+pub returns-in-Ok-prepare-clause-whole : goal.returns-in-Ok-prepare-clause-whole
+returns-in-Ok-prepare-clause-whole g c = grind (arith, common_steps)
 
 pub returns-in-Ok-clause-answer : goal.returns-in-Ok-clause-answer
 returns-in-Ok-clause-answer g c = grind (arith, common_steps)

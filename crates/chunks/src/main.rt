@@ -2,6 +2,8 @@
 //! The recording is standard input, and its beginning shows its format. `--timing FILE` names the timing file of script(1), and the
 //! recording is then one by script. The characters of a recording by asciinema are UTF-8. Each line of the list has a word and numbers:
 //!
+//! - `terminal vt220` or `terminal xterm`: the terminal that the first line of the recording names
+//! - `size COLUMNS ROWS`: the size that it names
 //! - `chunk MICROS BYTES`: so many bytes of the content came at this time, in microseconds from the beginning. A time that is earlier
 //!   than the one before it is given as that one. The bytes in turn are the content
 //! - `broken OFFSET`: the recording breaks its format here, and what follows isn't listed
@@ -24,7 +26,7 @@ use crate::script::list_script;
 use crate::ttyrec::list_ttyrec;
 use std::io::{self, Input, Read, Write};
 use std::{env, fs};
-use vt_recording::{Detected, Encoding, Format, detect, take_apart};
+use vt_recording::{Detected, Encoding, Format, TerminalType, detect, heading_of, take_apart};
 
 fn main(rt: HostRuntime) -> io::Result<()> {
     let mut recording = Vec::new(rt.alloc());
@@ -39,10 +41,29 @@ fn main(rt: HostRuntime) -> io::Result<()> {
     if wants_content {
         write_content(&rt, &recording, timing.as_deref())
     } else if let Some(timing) = timing {
+        list_heading(&rt, &recording, Format::Script)?;
         list_script(&rt, &recording, &timing)
     } else {
         list(&rt, &recording)
     }
+}
+
+/// Lists what the first line of a recording names.
+fn list_heading(
+    rt: &(impl Print + AllocGlobal),
+    recording: &[u8],
+    format: Format,
+) -> io::Result<()> {
+    let heading = heading_of(rt.alloc(), recording, format)?;
+    match heading.terminal {
+        Some(TerminalType::Vt220) => println!(rt; "terminal vt220")?,
+        Some(TerminalType::Xterm) => println!(rt; "terminal xterm")?,
+        None => {}
+    }
+    if let (Some(columns), Some(rows)) = (heading.columns, heading.rows) {
+        println!(rt; "size {columns} {rows}")?;
+    }
+    Ok(())
 }
 
 /// Returns whether an argument is this word.
@@ -72,6 +93,9 @@ fn write_content(
 
 /// Lists the chunks of a recording without a timing file.
 fn list(rt: &(impl Print + AllocGlobal), recording: &[u8]) -> io::Result<()> {
+    if let Detected::Recording(format) = detect(recording) {
+        list_heading(rt, recording, format)?;
+    }
     match detect(recording) {
         Detected::Recording(Format::Asciicast) => list_cast(rt, recording),
         Detected::Recording(Format::Ttyrec) => list_ttyrec(rt, recording),

@@ -64,10 +64,8 @@ pub(crate) fn print_reason<R: Eprint + AllocGlobal>(
 /// Prints what the format has at a place that breaks it, and what the recording looks like, if that is another format.
 fn print_broken(rt: &impl Eprint, request: &Request, place: Break, seen: Seen) {
     let name = name_of(request, place.part);
-    if let (None, Detected::Compressed(_), Some(hint)) =
-        (request.format, seen.detected, hint_of(seen.detected))
-    {
-        let _ = eprintln!(rt; "vt220: {name}: {hint}");
+    if let (None, Detected::Compressed(_)) = (request.format, seen.detected) {
+        let _ = eprintln!(rt; "vt220: {name}: {}", hint_of(seen.detected).unwrap_or(""));
         return;
     }
     let expected = expected(seen.format, place);
@@ -77,9 +75,13 @@ fn print_broken(rt: &impl Eprint, request: &Request, place: Break, seen: Seen) {
     };
 }
 
-/// Returns what a recording looks like that is broken at a place, or none if it looks like the format in which it was read.
+/// Returns what a recording looks like that is broken at a place, or none if it looks like the format in which it was read. It
+/// does, too, if it isn't broken at its beginning.
 fn other_look(place: Break, seen: Seen) -> Option<&'static str> {
-    if place.part != Part::Recording || seen.detected == Detected::Recording(seen.format) {
+    if place.part != Part::Recording || place.at > 0 {
+        return None;
+    }
+    if seen.detected == Detected::Recording(seen.format) {
         return None;
     }
     if seen.is_empty {

@@ -19,8 +19,8 @@ use std::fs::{File, Files};
 use std::io::{self, ErrorKind, Input, Read, Write};
 use std::process::ExitCode;
 use vt_replay::{
-    Break, Detected, Fault, Format, Outcome, Part, Refused, Request, Watched, What, Word, carry_out, detect,
-    format_of, lacks_times, read_recording, request,
+    Break, Detected, Fault, Format, Outcome, Part, Refused, Request, Watched, What, Word,
+    carry_out, detect, format_of, lacks_times, read_recording, request,
 };
 
 /// The exit status of a wrong command line.

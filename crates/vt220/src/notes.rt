@@ -3,8 +3,8 @@
 
 use crate::reasons::name_of;
 use vt_replay::{
-    Compression, Detected, Encoding, Format, Heading, Host, Part, Request, TerminalType, Word, detect, heading_of,
-    host_for,
+    Compression, Detected, Encoding, Format, Heading, Host, Part, Request, TerminalType, Word,
+    detect, heading_of, host_for,
 };
 
 /// The number of rows of the terminal.
@@ -39,7 +39,9 @@ pub(crate) fn print_notes<R: Eprint + AllocGlobal>(
     if let (Some(columns), Some(rows)) = (heading.columns, heading.rows) {
         let width = if host.wide { 132 } else { 80 };
         if columns != width || rows != ROWS {
-            let _ = eprintln!(rt; "vt220: {name}: recorded at {columns}x{rows}, played on {width}x{ROWS}");
+            let _ = eprintln!(rt;
+                "vt220: {name}: recorded at {columns}x{rows}, played on {width}x{ROWS}"
+            );
         }
     }
 }

@@ -180,10 +180,7 @@ fn plays_xterm(command: &str) -> bool
 }
 
 /// Returns xterm, for a command and the encoding that was asked for.
-fn xterm_for(
-    command: &str,
-    encoding: Option<Encoding>,
-) -> Result<Option<TerminalType>, Complaint>
+fn xterm_for(command: &str, encoding: Option<Encoding>) -> Result<Option<TerminalType>, Complaint>
     ensures { result ≡ xterm_for command.now encoding }
 {
     match encoding {

@@ -392,16 +392,20 @@ const SCRIPT_TEXT: Asked = Asked {
 };
 
 /// A recording by asciinema of version 2 under xterm, whose program leaves the alternate page.
-const XTERM_CAST: &[u8] = b"{\"version\":2,\"width\":80,\"height\":24,\"env\":{\"TERM\":\"xterm-256color\"}}\n[0.1,\"o\",\"shell\\u001b[?1049hfull\"]\n[0.2,\"o\",\"\\u001b[?1049l\"]\n";
+const XTERM_CAST: &[u8] =
+    b"{\"version\":2,\"width\":80,\"height\":24,\"env\":{\"TERM\":\"xterm-256color\"}}\n[0.1,\"o\",\"shell\\u001b[?1049hfull\"]\n[0.2,\"o\",\"\\u001b[?1049l\"]\n";
 
 /// A recording by asciinema of version 3 on 132 columns.
-const WIDE_CAST: &[u8] = b"{\"version\":3,\"term\":{\"cols\":132,\"rows\":24,\"type\":\"xterm\"}}\n[0.1,\"o\",\"\\u001b[81GA\\u001b[132GB\"]\n";
+const WIDE_CAST: &[u8] =
+    b"{\"version\":3,\"term\":{\"cols\":132,\"rows\":24,\"type\":\"xterm\"}}\n[0.1,\"o\",\"\\u001b[81GA\\u001b[132GB\"]\n";
 
 /// A recording by script(1) under xterm.
-const XTERM_SCRIPT: &[u8] = b"Script started on 2026-11-27 14:04:01+00:00 [TERM=\"xterm\" TTY=\"/dev/pts/0\" COLUMNS=\"80\" LINES=\"24\"]\ncaf\xc3\xa9\x1b[?1049hB\x1b[?1049l";
+const XTERM_SCRIPT: &[u8] =
+    b"Script started on 2026-11-27 14:04:01+00:00 [TERM=\"xterm\" TTY=\"/dev/pts/0\" COLUMNS=\"80\" LINES=\"24\"]\ncaf\xc3\xa9\x1b[?1049hB\x1b[?1049l";
 
 /// A recording by script(1) under vt220.
-const VT220_SCRIPT: &[u8] = b"Script started on 2026-11-27 14:04:01+00:00 [TERM=\"vt220\" TTY=\"/dev/pts/0\" COLUMNS=\"80\" LINES=\"24\"]\ncaf\xc3\xa9\x1b[?1049hB\x1b[?1049l";
+const VT220_SCRIPT: &[u8] =
+    b"Script started on 2026-11-27 14:04:01+00:00 [TERM=\"vt220\" TTY=\"/dev/pts/0\" COLUMNS=\"80\" LINES=\"24\"]\ncaf\xc3\xa9\x1b[?1049hB\x1b[?1049l";
 
 /// Rows by hand of recordings whose first line decides, from docs/SPECIFICATION.md and xterm's control sequences.
 const DECIDED_ROWS: &[Row] = &[

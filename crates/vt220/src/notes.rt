@@ -13,6 +13,10 @@ const ROWS: u32 = 24;
 /// Sequences of xterm that programs send and a VT220 doesn't have: the alternate screen, and a colour of 256.
 const XTERM_SEQUENCES: [&[u8]; 2] = [b"\x1B[?1049h", b"\x1B[38;5;"];
 
+/// The code of an event in a recording by asciinema that changes the size of the window. In a text its quotes would have
+/// backslashes.
+const RESIZE_CODE: &[u8] = b"\"r\"";
+
 /// Prints what there is to note of an input that begins so and was read in a format, unless the notes are left out.
 pub(crate) fn print_notes<R: Eprint + AllocGlobal>(
     rt: &R,
@@ -36,13 +40,18 @@ pub(crate) fn print_notes<R: Eprint + AllocGlobal>(
     if let Some(hint) = hint.or(language_hint(request, heading, host, beginning)) {
         let _ = eprintln!(rt; "vt220: {name}: {hint}");
     }
+    let width = if host.wide { 132 } else { 80 };
     if let (Some(columns), Some(rows)) = (heading.columns, heading.rows) {
-        let width = if host.wide { 132 } else { 80 };
         if columns != width || rows != ROWS {
             let _ = eprintln!(rt;
                 "vt220: {name}: recorded at {columns}x{rows}, played on {width}x{ROWS}"
             );
         }
+    }
+    if format == Format::Asciicast && has_any(beginning, &[RESIZE_CODE]) {
+        let _ = eprintln!(rt;
+            "vt220: {name}: the window changes its size, and the screen stays at {width}x{ROWS}"
+        );
     }
 }
 
@@ -89,14 +98,16 @@ fn has_any(bytes: &[u8], sequences: &[&[u8]]) -> bool {
 
 /// Returns whether bytes are UTF-8 up to the last byte of ASCII, and not all of them ASCII.
 fn is_utf8(bytes: &[u8]) -> bool {
-    let mut front = bytes;
-    while let Some((last, before)) = front.split_last() {
-        if last.is_ascii() {
-            break;
+    let mut front = 0;
+    for (i, byte) in bytes.iter().enumerate() {
+        if byte.is_ascii() {
+            front = i;
         }
-        front = before;
     }
-    !front.is_ascii() && std::str::from_utf8(front).is_ok()
+    match bytes.get(..front) {
+        Some(front) => !front.is_ascii() && std::str::from_utf8(front).is_ok(),
+        None => false,
+    }
 }
 
 /// Returns what to do with a file that isn't raw, or none if it is raw.

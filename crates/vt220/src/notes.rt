@@ -70,7 +70,8 @@ fn language_hint(
             Word::Replay(_) | Word::Log | Word::Content => None,
         };
     }
-    if request.terminal.is_some() || request.encoding.is_some() {
+    let is_chosen = request.terminal.is_some() || request.encoding.is_some();
+    if is_chosen || request.word == Word::Content {
         return None;
     }
     if heading.terminal.is_none() && has_any(beginning, &XTERM_SEQUENCES) {

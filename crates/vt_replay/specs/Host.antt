@@ -39,12 +39,22 @@ wide_for (Some wide) columns = wide
 wide_for None (Some columns) = nat_eq columns 132
 wide_for None None = false
 
+-- whether the terminal that the recording names decides: content is the host's bytes, for whatever terminal they are
+abbrev pub named_for : Word → (named : Option TerminalType) → Option TerminalType
+named_for (Replay what) named = named
+named_for Log named = named
+named_for Pages named = named
+named_for Trace named = named
+named_for Summary named = named
+named_for Content named = None
+
+abbrev pub host_by : TerminalType → Request → Format → (columns : Option ℕ) → Host
+host_by terminal r format columns =
+    record { terminal = terminal; encoding = encoding_for terminal r.encoding format; wide = wide_for r.wide columns }
+
 abbrev pub host_for : Request → Format → Heading → Host
-host_for r format heading = record {
-  terminal = terminal_for r.terminal r.encoding heading.terminal;
-  encoding = encoding_for (terminal_for r.terminal r.encoding heading.terminal) r.encoding format;
-  wide = wide_for r.wide heading.columns;
-}
+host_for r format heading =
+    host_by (terminal_for r.terminal r.encoding (named_for r.word heading.terminal)) r format heading.columns
 
 -- for what the host of a recording sent
 abbrev pub host_of : Request → Format → (bytes : List ℕ) → Host
@@ -59,6 +69,11 @@ abbrev pub widening : TerminalType → List ℕ
 widening Vt220 = 0x1B ∷ codes "[?3h"
 widening Xterm = 0x1B ∷ codes "[?40h" ++ 0x1B ∷ codes "[?3h" ++ 0x1B ∷ codes "[?40l"
 
+-- content for an xterm makes the VT220 so wide that is sent it. Otherwise it is what the host sent
+abbrev pub widening_shown : TerminalType → List ℕ
+widening_shown Vt220 = []
+widening_shown Xterm = widening Xterm
+
 -- the bytes that are played before those of a recording. A trace and a summary are of what the host sent alone
 abbrev pub opening : Word → Host → List ℕ
 opening (Replay what) host = cond host.wide (widening host.terminal) []
@@ -66,4 +81,4 @@ opening Log host = cond host.wide (widening host.terminal) []
 opening Pages host = cond host.wide (widening host.terminal) []
 opening Trace host = []
 opening Summary host = []
-opening Content host = cond host.wide (widening host.terminal) []
+opening Content host = cond host.wide (widening_shown host.terminal) []

@@ -1,6 +1,7 @@
 //! For what a host sends: the terminal, the encoding and the width, as a request and the first line of a recording give them.
 ghost use Rattle.std.specs.Prelude.{◌≡◌};
-ghost use Rattle.vt_replay.specs.Host.{terminal_for, encoding_of, encoding_for, wide_for, host_for, plain_host, widening, opening};
+ghost use Rattle.vt_replay.specs.Host.{terminal_for, encoding_of, encoding_for, wide_for, named_for, host_for, plain_host};
+ghost use Rattle.vt_replay.specs.Host.{widening, widening_shown, opening};
 
 use vt_cli::{Encoding, Format, Request, TerminalType, Word};
 use vt_recording::Heading;
@@ -69,11 +70,27 @@ fn wide_for(wanted: Option<bool>, columns: Option<u32>) -> bool
     }
 }
 
+/// Returns the terminal that a recording names, if that decides on what a word plays. Content is the host's bytes, for whatever
+/// terminal they are.
+fn named_for(word: Word, named: Option<TerminalType>) -> Option<TerminalType>
+    ensures { result ≡ named_for word named }
+{
+    match word {
+        Word::Replay(_) => named,
+        Word::Log => named,
+        Word::Pages => named,
+        Word::Trace => named,
+        Word::Summary => named,
+        Word::Content => None,
+    }
+}
+
 /// Returns for what the host of a recording in a format sent, as a request and the recording's heading give it.
 pub fn host_for(request: &Request, format: Format, heading: Heading) -> Host
     ensures { result ≡ host_for request.now format heading }
 {
-    let terminal = terminal_for(request.terminal, request.encoding, heading.terminal);
+    let named = named_for(request.word, heading.terminal);
+    let terminal = terminal_for(request.terminal, request.encoding, named);
     Host {
         terminal,
         encoding: encoding_for(terminal, request.encoding, format),
@@ -103,6 +120,16 @@ fn widening(terminal: TerminalType) -> &'static [u8]
     }
 }
 
+/// Returns the bytes that make the VT220 132 columns wide that is sent the content for a terminal.
+fn widening_shown(terminal: TerminalType) -> &'static [u8]
+    ensures { result.now ≡ widening_shown terminal }
+{
+    match terminal {
+        TerminalType::Vt220 => b"",
+        TerminalType::Xterm => widening(TerminalType::Xterm),
+    }
+}
+
 /// Returns the bytes that are played before those of a recording.
 pub(crate) fn opening(word: Word, host: Host) -> &'static [u8]
     ensures { result.now ≡ opening word host }
@@ -116,6 +143,6 @@ pub(crate) fn opening(word: Word, host: Host) -> &'static [u8]
         Word::Pages => widening(host.terminal),
         Word::Trace => b"",
         Word::Summary => b"",
-        Word::Content => widening(host.terminal),
+        Word::Content => widening_shown(host.terminal),
     }
 }

@@ -155,7 +155,7 @@ pub fn lacks_times(format: Format, timed: bool, until: Option<Moment>) -> bool
 /// The terminal is the request's, otherwise the one that the first line of a recording by asciinema or by script names,
 /// otherwise a VT220. If the request's encoding is dec, it is a VT220. For an xterm the host sends UTF-8. For a VT220 it sends in
 /// the request's encoding, otherwise in dec, and in a recording by asciinema in UTF-8. Pages, trace and summary play a VT220,
-/// whatever the terminal. Content for xterm is bytes with which a VT220 shows the same: an update for each chunk.
+/// whatever the terminal. Content is the host's bytes, unless the request is for xterm. Then it is bytes with which a VT220 shows the same: an update for each chunk.
 ///
 /// The screen has 132 columns if the request asks for them, or if it leaves the width to a recording whose first line names
 /// 132. Then bytes that set DECCOLM are played first, except for trace and summary.

@@ -1,5 +1,5 @@
 -- The bytes that each word writes. (this profile)
-use Rattle.std.specs.Prelude.{ℕ, List, Bool, Result}
+use Rattle.std.specs.Prelude.{ℕ, List, Result}
 use Rattle.vt_device.specs.Runs.{Flags}
 use Rattle.vt_term.specs.State.{power_up}
 use Rattle.vt_replay.specs.Pages.{pages}

@@ -159,3 +159,15 @@ def test_keys_that_were_typed_on_another_terminal():
     wanted = b"\033OH\033OF\033[1;2P\033[19;2~\033[1;2P\033[15~\033OA\303\251"
     assert typed(b"\033[1~\033[F\033[25~\033[34~\033[1;2P\033[15~\033[A\303\251", POWER_UP._replace(decckm=True), "utf-8", "xterm").sent == wanted
     assert typed(b"\033[1~\033[25~", POWER_UP, "utf-8").sent == b"\033[1~\033[25~"
+
+
+@pytest.mark.parametrize("terminal, wanted", [("xterm", ["$ echo one", "echo two", "one", "two"]), ("vt220", ["$ echo one", "one", "$ echo two", "two"])])
+def test_bash_runs_pasted_lines_at_return_if_they_are_in_brackets(terminal, wanted):
+    """bash asks for brackets under TERM=xterm: then it inserts the lines, and runs them together."""
+    with rig_module.run("bash", "--norc", "--noprofile", terminal=terminal, timeout=LONG, env={"PS1": "$ ", "INPUTRC": "/dev/null"}) as rig:
+        rig.wait(text="$ ")
+        rig.paste("echo one\necho two")
+        rig.wait("echo two")
+        rig.keys(Key.ENTER)
+        screen = rig.wait("^two$")
+        assert screen.text.splitlines()[:4] == wanted

@@ -308,11 +308,16 @@ class Rig:
         self.send(b"".join(spelled(key, modes, self.encoding, self.terminal.terminal) for key in keys))
 
     def paste(self, text: str) -> None:
-        """Sends a text as it would be typed quickly: each line feed as the Return key. A VT220 has no bracketed paste."""
+        """Sends a text as it would be typed quickly: each line feed as the Return key.
+
+        With the terminal "xterm" it is sent between ESC [200~ and ESC [201~ if the program has asked for that (?2004). A VT220 has no such
+        mode.
+        """
         __tracebackhide__ = True
         modes = self._typing()
         lines = text.replace("\r\n", "\n").split("\n")
-        self.send(spelled(Key.ENTER, modes).join(spelled(line, modes, self.encoding) for line in lines))
+        typed = spelled(Key.ENTER, modes).join(spelled(line, modes, self.encoding) for line in lines)
+        self.send(b"\x1b[200~" + typed + b"\x1b[201~" if self.terminal.bracketed_paste() else typed)
 
     def wait(self, what: Optional[Condition] = None, *, text: Optional[str] = None, row: Optional[int] = None, col: Optional[int] = None,
              cursor: Optional[Tuple[int, int]] = None, timeout: Optional[float] = None, allow_substitutes: bool = False) -> Screen:

@@ -195,6 +195,9 @@ static void take_frame(char letter, const uint8_t *bytes, size_t len) {
     } else if (letter == FRAME_BELL) {
         draw_bell();
         it.is_behind = true;
+    } else if (letter == FRAME_PASTE) {
+        draw_brackets(len == 1 && *bytes == 1);
+        it.is_behind = true;
     } else if (letter == FRAME_SCREEN || letter == FRAME_LINES || letter == FRAME_LOGGED) {
         scroll_take(letter, bytes, len);
         it.is_behind = true;

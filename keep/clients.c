@@ -74,6 +74,17 @@ static void put_update(struct client *c) {
     c->changes = the.changes;
 }
 
+/* Returns whether a client isn't told yet whether the program wants pasted text in brackets. */
+static bool needs_brackets(const struct client *c) {
+    return c->version >= PROTOCOL_PASTE && c->brackets != (the.is_xterm && vt220_xterm_bracketed_paste(&the.settled_front));
+}
+
+static void put_brackets(struct client *c) {
+    if (!needs_brackets(c)) return;
+    c->brackets = the.is_xterm && vt220_xterm_bracketed_paste(&the.settled_front) ? BRACKETS_ON : BRACKETS_OFF;
+    put(c, FRAME_PASTE, &(uint8_t){c->brackets == BRACKETS_ON}, 1);
+}
+
 /* Begins the log: the text of the screen as it is now. Its lines follow in separate frames. */
 static void put_screen(struct client *c) {
     uint8_t *room = frame_room(c);
@@ -125,7 +136,7 @@ static void send_log(struct client *c, long long time) {
 }
 
 static bool has_news(const struct client *c) {
-    return c->changes != the.changes || c->rings || c->needs_repaint;
+    return c->changes != the.changes || c->rings || c->needs_repaint || needs_brackets(c);
 }
 
 /* Does what is due for a client at this time. */
@@ -137,6 +148,7 @@ void serve(struct client *c, long long time) {
         if (is_due && has_news(c)) {
             if (c->needs_repaint) put_repaint(c);
             else if (c->changes != the.changes) put_update(c);
+            put_brackets(c);
             if (c->rings) put(c, FRAME_BELL, NULL, 0);
             c->rings = false;
             c->due = time + INTERVAL;
@@ -189,6 +201,7 @@ static void admit(struct client *c, bool removes) {
     c->state = ATTACHED;
     c->deadline = LLONG_MAX;
     put_repaint(c);
+    put_brackets(c);
     if (!the.is_over) return;
     put_ending(c);
     c->awaits_seen = removes; /* otherwise it only looks: the session and its log stay */
@@ -238,6 +251,7 @@ static void begin(struct client *c) {
     int len = snprintf((char *)told + 4, sizeof told - 4, "%d.%d.%d", VT220_VERSION / 10000, VT220_VERSION / 100 % 100, VT220_VERSION % 100);
     put(c, FRAME_HELLO, told, 4 + (size_t)len);
     c->ask = (char)c->in[HELLO_ASK];
+    c->version = told[0];
     if (types_keys(c->ask) && told[0] >= PROTOCOL_ENCODING) put(c, FRAME_ENCODING, &(uint8_t){the.is_utf8}, 1);
     if (types_keys(c->ask) && told[0] >= PROTOCOL_TERMINAL) put(c, FRAME_TERMINAL, &(uint8_t){the.is_xterm}, 1);
     uint8_t flags = c->in[HELLO_FLAGS];

@@ -30,6 +30,8 @@ static struct {
     bool has_cursor;     /* whether its cursor is shown */
     bool rings;          /* whether a bell is to be rung */
     bool has_keypad;     /* whether its keypad sends application sequences */
+    bool has_brackets;   /* whether it sends pasted text in brackets */
+    bool wants_brackets; /* whether it is to do so */
     size_t top, left;    /* how many rows and columns of the kept screen are above and left of it */
     char hint[PIECE];    /* which part is shown; empty if all is */
     size_t hint_row, hint_col;
@@ -159,6 +161,8 @@ static void draw_modes(const vt220_mode_set *modes) {
     outer.rings = false;
     if (outer.has_keypad != modes->keypad_application) put(modes->keypad_application ? "\033=" : "\033>");
     outer.has_keypad = modes->keypad_application;
+    if (outer.has_brackets != outer.wants_brackets) put(outer.wants_brackets ? "\033[?2004h" : "\033[?2004l");
+    outer.has_brackets = outer.wants_brackets;
 }
 
 void draw(vt220 *t) {
@@ -215,6 +219,10 @@ void draw_bell(void) {
     outer.rings = true;
 }
 
+void draw_brackets(bool on) {
+    outer.wants_brackets = on;
+}
+
 /* Asks for the size of the outer screen. Returns false if allocation fails. */
 static bool set_size(void) {
     struct winsize size = {0};
@@ -256,13 +264,14 @@ bool draw_enter(void) {
     return true;
 }
 
-/* Restores the outer terminal's screen, cursor and keypad. A drawing that has begun is completed, unless the outer
+/* Restores the outer terminal's screen, cursor, keypad and pasting. A drawing that has begun is completed, unless the outer
  * terminal takes nothing for longer than `patience`. */
 void draw_leave(void) {
     struct pollfd line = {outer.line, POLLOUT, 0};
     if (out == NULL) return;
     put(outer.has_keypad ? "\033>\033[0m\033[?25h\033[?1049l" : "\033[0m\033[?25h\033[?1049l");
-    outer.has_keypad = false;
+    if (outer.has_brackets) put("\033[?2004l");
+    outer.has_keypad = outer.has_brackets = false;
     do draw_on();
     while (!draw_is_done() && poll(&line, 1, patience) > 0);
 }

@@ -15,11 +15,12 @@
 
 enum {
     PROTOCOL_LOWEST = 1,
-    PROTOCOL_HIGHEST = 5,
+    PROTOCOL_HIGHEST = 6,
     PROTOCOL_LOG = 2,    /* since this version there is a log */
     PROTOCOL_UPGRADE = 3, /* since this version a keeper can become another program */
     PROTOCOL_ENCODING = 4, /* since this version a client knows whether keys are sent in UTF-8 */
-    PROTOCOL_TERMINAL = 5 /* since this version a client knows whether keys are those of xterm */
+    PROTOCOL_TERMINAL = 5, /* since this version a client knows whether keys are those of xterm */
+    PROTOCOL_PASTE = 6     /* since this version a client knows whether pasted text goes in brackets */
 };
 enum { HELLO_LENGTH = 8, HELLO_MAGIC = 4, HELLO_LOWEST = 4, HELLO_HIGHEST = 5, HELLO_ASK = 6, HELLO_FLAGS = 7 };
 
@@ -57,6 +58,7 @@ enum {
     FRAME_TERMINAL = 'X', /* since version 5, right after FRAME_ENCODING: 1 if the program has TERM=xterm-256color, otherwise 0 */
     FRAME_PLAY = 'P',     /* a repaint first, then updates: the client plays them on its terminal */
     FRAME_BELL = 'B',     /* the program rang the bell */
+    FRAME_PASTE = 'V',    /* since version 6: 1 if the program wants pasted text in brackets (?2004), otherwise 0, as at the beginning */
     FRAME_SCREEN = 'T',   /* the log begins: the text of the screen, which follows the last line of the log */
     FRAME_LINES = 'L',    /* whole lines of the log, the oldest first */
     FRAME_LOGGED = 'Z',   /* the end of the log: empty, or how many bytes of it were left out, as a uint64_t. Older keepers don't tell */

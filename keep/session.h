@@ -27,6 +27,8 @@ struct client {
     int socket;
     enum { ASKING, ATTACHED, SENDING, READING, WAITING, LEAVING } state; /* READING: it asked for the log. The numbers are handed over */
     char ask; /* 0 until it has asked */
+    uint8_t version;       /* of the protocol; 0 if it isn't known */
+    enum { BRACKETS_OFF, BRACKETS_ON, BRACKETS_UNKNOWN } brackets; /* what it was told of FRAME_PASTE; unknown after it was handed over */
     int program;           /* the file that it passed, a new program for the keeper; -1 if it passed none */
     bool is_read_only, rings, awaits_seen;
     bool needs_repaint;    /* it was handed over, and `shown` isn't what it shows */

@@ -60,7 +60,8 @@ struct handed_session {
 
 struct handed_client {
     int32_t socket;
-    uint8_t state, ask, is_read_only, rings, awaits_seen, wants_log, is_reading, unused;
+    uint8_t state, ask, is_read_only, rings, awaits_seen, wants_log, is_reading;
+    uint8_t version; /* 0 in the state of a program that knows no version 6 */
     uint32_t in_len, out_len;
     uint64_t log_at, log_end;
     int64_t deadline, came;
@@ -143,7 +144,7 @@ static void put_log(FILE *to) {
 static void put_client(FILE *to, const struct client *c) {
     const struct handed_client it = {
         .socket = c->socket, .state = (uint8_t)c->state, .ask = (uint8_t)c->ask, .is_read_only = c->is_read_only, .rings = c->rings,
-        .awaits_seen = c->awaits_seen, .wants_log = c->wants_log, .is_reading = c->is_reading, .in_len = (uint32_t)c->in_len,
+        .awaits_seen = c->awaits_seen, .wants_log = c->wants_log, .is_reading = c->is_reading, .version = c->version, .in_len = (uint32_t)c->in_len,
         .out_len = (uint32_t)(c->len - c->at), .log_at = c->log_at, .log_end = c->log_end, .deadline = c->deadline, .came = c->came};
     put_head(to, ITEM_CLIENT, sizeof it + it.in_len + it.out_len);
     fwrite(&it, sizeof it, 1, to);
@@ -328,6 +329,8 @@ static bool take_client(const uint8_t *bytes, size_t len) {
     c->awaits_seen = it.awaits_seen;
     c->wants_log = it.wants_log;
     c->is_reading = it.is_reading;
+    c->version = it.version;
+    c->brackets = BRACKETS_UNKNOWN;
     c->log_at = it.log_at;
     c->log_end = it.log_end;
     c->deadline = it.deadline;

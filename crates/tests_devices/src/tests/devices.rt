@@ -4,7 +4,7 @@ ghost use Rattle.std.specs.Prelude.{◌≤◌};
 use super::common::Failed;
 use crate::common::holds;
 use std::alloc::{AllocError, Global};
-use vt_replay::{Fault, Format, Request, TerminalType, Watched, What, Word, carry_out, feed_pages};
+use vt_replay::{Fault, Format, Request, Watched, What, Word, carry_out, feed_pages};
 use vt_term::Terminal;
 use vt_vectors::{ShortReader, ShortWriter, vector, vector_count};
 
@@ -101,7 +101,8 @@ fn replayed(
         file: None,
         format: Some(Format::Raw),
         encoding: None,
-        terminal: TerminalType::Vt220,
+        terminal: None,
+        wide: None,
         timing: None,
         until: None,
         quiet: false,

@@ -7,9 +7,7 @@ use std::alloc::{AllocError, Global};
 use testing::{BLOCKS, Growing, Scarce, follows_ok, refusals};
 use vt_paint::{PAINT_LIMIT, PaintError, repaint, repaint_reserved};
 use vt_picture::{PICTURE_LIMIT, SHOW_LIMIT, picture, picture_reserved, show, show_reserved};
-use vt_replay::{
-    Fault, Format, Refused, Request, TerminalType, Watched, What, Word, carry_out, request,
-};
+use vt_replay::{Fault, Format, Refused, Request, Watched, What, Word, carry_out, request};
 use vt_term::{ROW_TEXT_LIMIT, ROWS, TEXT_LIMIT, Terminal};
 use vt_vectors::{Mismatch, Vector, check, vector, vector_count};
 
@@ -289,7 +287,8 @@ fn request_is_refused(alloc: Global, input: &[u8], word: Word, what: What) -> Re
             file: None,
             format: Some(Format::Raw),
             encoding: None,
-            terminal: TerminalType::Vt220,
+            terminal: None,
+            wide: None,
             timing: None,
             until: None,
             quiet: false,

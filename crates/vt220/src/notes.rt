@@ -10,6 +10,9 @@ use vt_replay::{
 /// The number of rows of the terminal.
 const ROWS: u32 = 24;
 
+/// The number of first bytes that are looked at for what a host sends. More would cost as much as to play them.
+const LOOKED_AT: usize = 4096;
+
 /// Sequences of xterm that programs send and a VT220 doesn't have: the alternate screen, and a colour of 256.
 const XTERM_SEQUENCES: [&[u8]; 2] = [b"\x1B[?1049h", b"\x1B[38;5;"];
 
@@ -48,7 +51,7 @@ pub(crate) fn print_notes<R: Eprint + AllocGlobal>(
             );
         }
     }
-    if format == Format::Asciicast && has_any(beginning, &[RESIZE_CODE]) {
+    if format == Format::Asciicast && has_any(beginning, b'"', &[RESIZE_CODE]) {
         let _ = eprintln!(rt;
             "vt220: {name}: the window changes its size, and the screen stays at {width}x{ROWS}"
         );
@@ -70,29 +73,31 @@ fn language_hint(
             Word::Replay(_) | Word::Log | Word::Content => None,
         };
     }
+    let front = beginning.get(..LOOKED_AT).unwrap_or(beginning);
     let is_chosen = request.terminal.is_some() || request.encoding.is_some();
     if is_chosen || request.word == Word::Content {
         return None;
     }
-    if heading.terminal.is_none() && has_any(beginning, &XTERM_SEQUENCES) {
+    if heading.terminal.is_none() && has_any(front, 0x1B, &XTERM_SEQUENCES) {
         return Some("it has sequences of an xterm: use --terminal xterm");
     }
-    if host.encoding == Encoding::Dec && is_utf8(beginning) {
+    if host.encoding == Encoding::Dec && !front.is_ascii() && is_utf8(front) {
         return Some("it looks like UTF-8: use --encoding utf-8");
     }
     None
 }
 
-/// Returns whether bytes have one of these sequences.
-fn has_any(bytes: &[u8], sequences: &[&[u8]]) -> bool {
-    let mut rest = bytes;
-    for _ in 0..bytes.len() {
-        for sequence in sequences {
-            if rest.starts_with(sequence) {
-                return true;
+/// Returns whether bytes have one of these sequences, all of which begin with one byte.
+fn has_any(bytes: &[u8], first: u8, sequences: &[&[u8]]) -> bool {
+    for (i, byte) in bytes.iter().enumerate() {
+        if *byte == first {
+            let rest = bytes.get(i..).unwrap_or(b"");
+            for sequence in sequences {
+                if rest.starts_with(sequence) {
+                    return true;
+                }
             }
         }
-        rest = rest.get(1..).unwrap_or(b"");
     }
     false
 }

@@ -2,9 +2,10 @@
 use Rattle.std.proofs.Common.{◌≡◌, ◌∙◌, ℕ, List, [], ◌++◌, ap, refl}
 use Rattle.vt_term.specs.State.{State, power_up}
 use Rattle.vt_term.specs.Sound.{IsSound}
-use Rattle.vt_term.specs.Play.{play, both}
+use Rattle.vt_term.specs.Play.{Played, play, both}
+use Rattle.vt_term.specs.Scrolling.{log}
 use Rattle.vt_utf8.specs.Decoding.{pending_after}
-use Rattle.vt_utf8.specs.Play.{play_utf8}
+use Rattle.vt_utf8.specs.Play.{play_utf8, translated}
 use Rattle.vt_term.specs.Text.{text}
 use Rattle.vt_xterm.specs.Play.{Whole, WholePlayed, FrontState, play_xterm, xterm_log, behind, both as both_whole}
 use Rattle.vt_recording.specs.declared.format.Encoding.{Encoding}
@@ -82,6 +83,35 @@ session_after s t front after chunk two parts state pages left = record {
       (pending_after front.pending chunk) more).whole part) (parts front.pending chunk more));
   none = refl;
 }
+
+-- the log of UTF-8, and its screen
+pub utf8_log_after : (s t : State) (pending after chunk : List ℕ)
+    → ((s : State) (pending a b : List ℕ) → IsSound s → play_utf8 s pending (a ++ b)
+    ≡ both (play_utf8 s pending a) (play_utf8 (play_utf8 s pending a).state (pending_after pending a) b))
+    → ((s : State) (pending a b : List ℕ) → IsSound s → translated s pending (a ++ b)
+    ≡ translated s pending a ++ translated (play_utf8 s pending a).state (pending_after pending a) b)
+    → ((s : State) (a b : List ℕ) → log s (a ++ b) ≡ log s a ++ log (play s a).state b)
+    → ((s : State) → IsSound s → log s [] ≡ [])
+    → ((s : State) (bytes : List ℕ) → IsSound s → IsSound (play s bytes).state)
+    → IsSound s → t ≡ (play_utf8 s pending chunk).state → after ≡ pending_after pending chunk
+    → IsAfter (λ x. log s (translated s pending x)) (λ x. text (play_utf8 s pending x).state) always chunk
+    (λ x. log t (translated t after x)) (λ x. text (play_utf8 t after x).state) always
+unfolding play_utf8 translated
+utf8_log_after s t pending after chunk two cut log_two log_none stays sound state left = record {
+  on = λ more. rw (state, left)
+      (ap (λ (x : List ℕ). log s x) (cut s pending chunk more sound)
+      ∙ log_two s (translated s pending chunk) (translated (play_utf8 s pending chunk).state (pending_after pending chunk) more));
+  end_on = λ more. rw (state, left)
+      (ap (λ (p : Played). text p.state) (two s pending chunk more sound));
+  there_on = λ more. refl;
+  none = log_none t (rw (state) (stays s (translated s pending chunk) sound));
+}
+
+-- no bytes log nothing
+pub utf8_log_none : (s : State) (pending : List ℕ) → ((s : State) → IsSound s → log s [] ≡ []) → IsSound s
+    → log s (translated s pending []) ≡ []
+unfolding translated
+utf8_log_none s pending none sound = none s sound
 
 -- UTF-8 is played as what it is translated to
 pub as_decoded : (encoding : Encoding) (bytes : List ℕ)

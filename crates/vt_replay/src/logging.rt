@@ -6,7 +6,8 @@ ghost use Rattle.vt_term.specs.Text.{text};
 ghost use Rattle.vt_term.specs.Scrolling.{log};
 ghost use Rattle.vt_device.specs.Runs.{Moves};
 ghost use Rattle.vt_xterm.specs.Play.{play_xterm, xterm_log, behind};
-ghost use Rattle.vt_replay.specs.declared.language.Language.TheVariants.{Xterm};
+ghost use Rattle.vt_replay.specs.declared.language.Language.TheVariants.{Utf8, Xterm};
+ghost use Rattle.vt_utf8.specs.Play.{play_utf8, translated};
 ghost use Rattle.vt_replay.specs.Log.{lines, screen, lines_in, screen_in};
 ghost use Rattle.vt_output.specs.Output.{OutputTable, always};
 
@@ -21,6 +22,8 @@ use vt_output::Output;
 use vt_recording::Fault;
 use vt_term::laws::{cuts, log_cuts, soundness};
 use vt_term::{REPORT_LIMIT, ROW_TEXT_LIMIT, TEXT_LIMIT, Terminal};
+use vt_utf8::laws::cuts as utf8_cuts;
+use vt_utf8::{Decoder, UTF8_LINES_LIMIT, feed_utf8_log_reserved};
 use vt_xterm::laws::{cuts as xterm_cuts, log_cuts as xterm_log_cuts};
 use vt_xterm::{Front, LINES_LIMIT as XTERM_LINES_LIMIT, feed_xterm_log_reserved};
 
@@ -30,6 +33,8 @@ const LINES_LIMIT: usize = 64 * ROW_TEXT_LIMIT;
 const _: () = prove!(TEXT_LIMIT <= LINES_LIMIT);
 
 const _: () = prove!(XTERM_LINES_LIMIT <= LINES_LIMIT);
+
+const _: () = prove!(UTF8_LINES_LIMIT <= LINES_LIMIT);
 
 /// Plays the reader's bytes on a new terminal, and writes its log: the lines that scroll off the top of the screen, in
 /// order, and after the whole input the text of the screen. Neither device has failed before, and the reader hasn't ended.
@@ -83,10 +88,12 @@ pub fn write_log_from<S: Source, W: Write>(
         (λ b w. OutputTable (lines_in language) (screen_in language) always result piece b w (record { reader_failed = S.failed reader.new; reader_ended = S.ended reader.new; writer_failed = writer.new.failed }) limit) }
     ensures whole { S.ended reader.new ≡ true → IsAtEnd (S.remaining reader.new) }
 {
-    let (dec, utf8) = (Encoding::Dec, Encoding::Utf8);
+    let dec = Encoding::Dec;
     match language {
         Language::Dec => write_word::<LogOutput, S, W>(alloc, reader, writer, dec, piece, limit),
-        Language::Utf8 => write_word::<LogOutput, S, W>(alloc, reader, writer, utf8, piece, limit),
+        Language::Utf8 => {
+            write_word::<Utf8LogOutput, S, W>(alloc, reader, writer, dec, piece, limit)
+        }
         Language::Xterm => {
             write_word::<XtermLogOutput, S, W>(alloc, reader, writer, dec, piece, limit)
         }
@@ -152,6 +159,79 @@ impl WordOutput for LogOutput {
         soundness();
         Ok(LogOutput {
             reports: Vec::with_capacity(alloc, REPORT_LIMIT * piece)?,
+            terminal: Terminal::new(alloc)?,
+        })
+    }
+}
+
+/// The lines that UTF-8 scrolls off, and at the end the screen.
+#[derive(Drop)]
+struct Utf8LogOutput {
+    terminal: Terminal,
+    decoder: Decoder,
+    /// The reports of a chunk, which are dropped.
+    reports: Vec<u8>,
+}
+
+impl Output for Utf8LogOutput {
+    ghost written = { λ o bytes. log o.terminal (translated o.terminal o.decoder bytes) };
+
+    ghost ending = { λ o bytes. text (play_utf8 o.terminal o.decoder bytes).state };
+
+    ghost there = { λ o bytes. true };
+
+    ghost most = { λ o. vec_capacity o.reports / 10 };
+
+    ghost counted = { λ o. 0 };
+
+    ghost reserve = { λ o. 25408 };
+
+    fn capacity(&self) -> usize {
+        LINES_LIMIT
+    }
+
+    fn feed(&mut self, chunk: &[u8], out: &mut Vec<u8>) -> usize {
+        let _ = self.terminal.width();
+        utf8_cuts();
+        log_cuts();
+        soundness();
+        self.reports.clear();
+        let count = front_for(chunk, &self.reports);
+        feed_utf8_log_reserved(
+            &mut self.terminal,
+            &mut self.decoder,
+            &chunk[..count],
+            &mut self.reports,
+            out,
+            LINES_LIMIT,
+        )
+    }
+
+    fn is_there(&self) -> bool {
+        true
+    }
+
+    fn end(&mut self, out: &mut Vec<u8>) {
+        let _ = self.terminal.width();
+        utf8_cuts();
+        self.terminal.text_reserved(out)
+    }
+}
+
+impl WordOutput for Utf8LogOutput {
+    ghost writes = { lines_in Utf8 };
+
+    ghost ends = { screen_in Utf8 };
+
+    ghost ready = { always };
+
+    fn new(alloc: Global, piece: usize) -> Result<Utf8LogOutput, AllocError> {
+        log_cuts();
+        utf8_cuts();
+        soundness();
+        Ok(Utf8LogOutput {
+            reports: Vec::with_capacity(alloc, REPORT_LIMIT * piece)?,
+            decoder: Decoder::new(),
             terminal: Terminal::new(alloc)?,
         })
     }

@@ -290,3 +290,28 @@ pub passed-state : PlaceLaws → SplitLaw → SpellingLaw → (s t : Display) (h
 passed-state places split spelling s t h piece run at sound none row between is fits lines some within end enough =
     rw (between, is) (passed-piece places split spelling s piece run at (omega (arith, sound.margins.two_rows))
     sound.margins.to_last_row none sound.grid.shape row fits lines some within end enough)
+
+-- the same of the bytes of lines at the front
+pub passed-front : PlaceLaws → SplitLaw → SpellingLaw → (s t : Display) (h : Held) (piece : List ℕ) (run at : ℕ)
+    → IsSoundDisplay s → s.sets.pending ≡ None → s.cursor.row ≡ s.margins.bottom → h ≡ Nothing → t ≡ carriage_return s
+    → run ≤ length piece → All IsOfLines (take run piece) → 1 ≤ at → at ≤ run
+    → get_or (take run piece) (at - 1) 0 ≡ 0x0D → 24 ≤ feeds (drop at (take run piece))
+    → play (record { display = t; held = h }) (drop at (take run piece)) ≡ play (record { display = s; held = h }) (take run piece)
+passed-front places split spelling s t h piece run at sound none row between is fits lines some within end enough =
+    let whole : take run (take run piece) ≡ take run piece = take-take run run piece (omega arith) in
+    let long : length (take run piece) ≡ run = length-take-le run piece fits in
+    passed-state places split spelling s t h (take run piece) run at sound none row between is (omega (arith, long))
+    (rw whole lines) some within (rw whole end) (rw whole enough)
+
+-- bytes of lines make no report
+pub lines-unreported : SplitLaw → SpellingLaw → (s : State) (bytes : List ℕ) → s.held ≡ Nothing → All IsOfLines bytes
+    → (play s bytes).reports ≡ []
+unfolding play
+lines-unreported split spelling s bytes between all =
+    rw (between, lines-events split spelling bytes all) (lines-silent bytes all s.display)
+
+-- nor do no bytes
+pub none-unreported : SplitLaw → (s : State) (piece : List ℕ) (n : ℕ) → IsSound s → n ≡ 0
+    → (play s (take n piece)).reports ≡ []
+none-unreported split s piece n sound none =
+    ap (λ (k : ℕ). (play s (take k piece)).reports) none ∙ ap (λ (p : Played). p.reports) (play-nothing split s sound)

@@ -1,7 +1,8 @@
 //! Speed: lines that nobody sees aren't written. At the bottom margin each line feed moves the scroll region up by one
 //! row. So what stood in it is gone after as many line feeds as it has rows, at most 24.
-ghost use Rattle.std.specs.Prelude.{◌≡◌, ◌≤◌, ◌-◌, ℕ, None, length, drop, slice_index};
+ghost use Rattle.std.specs.Prelude.{◌≡◌, ◌≤◌, ◌-◌, [], ℕ, All, None, length, take, drop, slice_index};
 ghost use Rattle.std.specs.Bool.{OnTrue};
+ghost use Rattle.vt_syntax.specs.Class.{IsOfLines};
 ghost use Rattle.vt_syntax.specs.declared.held.Held.TheVariants.{Nothing};
 ghost use Rattle.vt_term.specs.Play.{play};
 ghost use Rattle.vt_term.specs.Unseen.{feeds};
@@ -25,7 +26,7 @@ const NEAR: usize = 512;
 pub struct Passed {
     /// The number of bytes that nobody sees and that aren't played.
     pub unseen: usize,
-    /// The number of bytes that were looked at. Behind them it may be called again.
+    /// The number of bytes that were looked at. They are bytes of lines. It may be called again after them.
     pub looked_at: usize,
 }
 
@@ -55,7 +56,8 @@ impl Display {
 
 impl Terminal {
     /// Passes lines at the front of a chunk that scroll out of the scroll region before the chunk ends. It doesn't write
-    /// them. Playing what is left of the chunk then leaves the state and the reports of the whole chunk.
+    /// them. Playing what is left of the chunk then leaves the state and the reports of the whole chunk. So does playing what
+    /// is left of the bytes that were looked at, which cause no report.
     ///
     /// It passes lines if nothing is held, no single shift is pending and the cursor is in the row of the bottom margin.
     /// They consist of graphic bytes, BS, HT, LF, VT, FF, CR and DEL, and 24 line feeds follow them.
@@ -64,7 +66,13 @@ impl Terminal {
         ensures within { result.unseen ≤ result.looked_at }
         ensures whole { result.looked_at ≤ length piece.now }
         ensures same { play self.new (drop result.unseen piece.now) ≡ play self.old piece.now }
+        ensures same_front { play self.new (drop result.unseen (take result.looked_at piece.now))
+            ≡ play self.old (take result.looked_at piece.now) }
+        ensures silent { (play self.old (take result.looked_at piece.now)).reports ≡ [] }
+        ensures lines { All IsOfLines (take result.looked_at piece.now) }
     {
+        self.soundness();
+        one_split();
         if piece.len() < LEAST || !self.display.feeds_scroll() || !self.parser.is_between() {
             return Passed::nothing();
         }
@@ -80,6 +88,10 @@ impl Terminal {
         ensures within { result.unseen ≤ result.looked_at }
         ensures whole { result.looked_at ≤ length piece.now }
         ensures same { play self.new (drop result.unseen piece.now) ≡ play self.old piece.now }
+        ensures same_front { play self.new (drop result.unseen (take result.looked_at piece.now))
+            ≡ play self.old (take result.looked_at piece.now) }
+        ensures silent { (play self.old (take result.looked_at piece.now)).reports ≡ [] }
+        ensures lines { All IsOfLines (take result.looked_at piece.now) }
     {
         self.soundness();
         one_split();

@@ -1,14 +1,17 @@
 -- The codes of the tables encode the glyphs of the definition's charts and rows.
-use Rattle.std.proofs.Common.{◌≡◌, ℕ, ◌-◌, ◌≤◌, Bool, true, false, List, [], ◌∷◌, map, refl, sym, ap, ◌∙◌, arith, ◌&&◌}
+use Rattle.std.proofs.Common.{◌≡◌, ℕ, ◌+◌, ◌-◌, ◌≤◌, ◌<◌, Bool, true, false, List, [], ◌∷◌, map, refl, sym, ap, ◌∙◌, arith, ◌&&◌}
+use Rattle.std.proofs.Common.{get_or}
 use Rattle.std.specs.Prelude.{nat_lt, nat_le, if◌then◌else◌}
+use Rattle.std.specs.List.{range_with_len}
+use Rattle.std.proofs.lemmas.List.FromFn.{get_or-map-range_with_len}
 use Rattle.std.proofs.Math.ListN.{get_or-map}
 use Rattle.std.proofs.lemmas.Bool.Decides.{nat_tests}
 use Rattle.vt_glyph.specs.Tables.{glyph_of, substitute_glyph}
 use Rattle.vt_glyph.specs.Spell.{spelling_of}
 use Rattle.vt_glyph.specs.Encoding.{encoded_spelling, encoded_glyph}
 use Rattle.vt_utf8.specs.Similar.{latin, lines, letters, signs, shown, in_rows, in_chart, ascii_of_fullwidth}
-use Rattle.vt_utf8.specs.Private.Codes.{code_by, is_code}
-use Rattle.vt_utf8.specs.declared.similar.TheConstants.{SUBSTITUTE, LATIN, LINES, LETTERS, SIGNS}
+use Rattle.vt_utf8.specs.Private.Codes.{code_by, is_code, sign_of}
+use Rattle.vt_utf8.specs.declared.similar.TheConstants.{SUBSTITUTE, LATIN, LINES, LETTERS}
 
 -- a row with its entry changed
 abbrev on_row : {A : Type 0} → (ℕ → A) → ℕ × ℕ × ℕ → ℕ × ℕ × A
@@ -41,6 +44,15 @@ chart : {A : Type 0} (f g : ℕ → A) (d e : ℕ) (xs ys : List ℕ) (first c :
 chart f g d e xs ys first c other same =
     sym (get_or-map f xs (c - first) d) ∙ rw (other, same) (get_or-map g ys (c - first) e)
 
+-- two functions that have the same values in a range
+within : {A : Type 0} (f g : ℕ → A) (a n c : ℕ) → map f (range_with_len a n) ≡ map g (range_with_len a n) → a ≤ c → c < a + n
+    → f c ≡ g c
+within {A} f g a n c same low high =
+    let fits : c - a < n = omega (arith, low, high) in
+    let at : a + (c - a) ≡ c = omega (arith, low) in
+    sym (get_or-map-range_with_len f a n (c - a) c (f c) fits at) ∙ ap (λ (xs : List A). get_or xs (c - a) (f c)) same
+    ∙ get_or-map-range_with_len g a n (c - a) c (f c) fits at
+
 -- ---- the tables, entry by entry, by computing
 
 substitute : encoded_spelling SUBSTITUTE ≡ spelling_of substitute_glyph
@@ -59,8 +71,9 @@ letters-same : map (on_row encoded_spelling) LETTERS ≡ map (on_row spelling_of
 unfolding spelling_of glyph_of letters
 letters-same = refl
 
-signs-same : map (on_row encoded_spelling) SIGNS ≡ map (on_row spelling_of) signs
-unfolding spelling_of glyph_of signs
+signs-same : map (λ c. encoded_spelling (sign_of c)) (range_with_len 0x2000 0x1100)
+    ≡ map (λ c. spelling_of (in_rows substitute_glyph signs c)) (range_with_len 0x2000 0x1100)
+unfolding spelling_of glyph_of signs sign_of
 signs-same = refl
 
 -- an ASCII code is its own spelling
@@ -77,10 +90,11 @@ code_by-shown c =
     (λ _. chart encoded_spelling spelling_of SUBSTITUTE substitute_glyph LATIN latin 0xA0 c substitute latin-same)
     (λ _. either encoded_spelling spelling_of (nat_lt c 0x2000) _ _ _ _
     (λ _. rows encoded_spelling spelling_of SUBSTITUTE substitute_glyph LETTERS letters c substitute letters-same)
-    (λ _. either encoded_spelling spelling_of (nat_le 0x2500 c && nat_le c 0x257F) _ _ _ _
+    (λ low. either encoded_spelling spelling_of (nat_le 0x2500 c && nat_le c 0x257F) _ _ _ _
     (λ _. chart encoded_spelling spelling_of SUBSTITUTE substitute_glyph LINES lines 0x2500 c substitute lines-same)
     (λ _. either encoded_spelling spelling_of (nat_lt c 0x3100) _ _ _ _
-    (λ _. rows encoded_spelling spelling_of SUBSTITUTE substitute_glyph SIGNS signs c substitute signs-same)
+    (λ high. within (λ k. encoded_spelling (sign_of k)) (λ k. spelling_of (in_rows substitute_glyph signs k)) 0x2000 0x1100 c
+    signs-same (grind (arith, nat_tests)) (grind (arith, nat_tests)))
     (λ _. either encoded_spelling spelling_of (nat_le 0xFF01 c && nat_le c 0xFF5E) _ _ _ _
     (λ is. fullwidth (ascii_of_fullwidth c) (grind (arith, nat_tests)) (grind (arith, nat_tests)))
     (λ _. substitute)))))
@@ -103,8 +117,9 @@ letters-glyph : map (on_row encoded_glyph) LETTERS ≡ map (on_row (λ n. n)) le
 unfolding encoded_glyph glyph_of letters
 letters-glyph = refl
 
-signs-glyph : map (on_row encoded_glyph) SIGNS ≡ map (on_row (λ n. n)) signs
-unfolding encoded_glyph glyph_of signs
+signs-glyph : map (λ c. encoded_glyph (sign_of c)) (range_with_len 0x2000 0x1100)
+    ≡ map (λ c. in_rows substitute_glyph signs c) (range_with_len 0x2000 0x1100)
+unfolding encoded_glyph glyph_of signs sign_of
 signs-glyph = refl
 
 fullwidth-glyph : (n : ℕ) → 0x20 ≤ n → n ≤ 0x7E → encoded_glyph n ≡ n
@@ -118,10 +133,11 @@ code_by-glyph c =
     (λ _. chart encoded_glyph (λ n. n) SUBSTITUTE substitute_glyph LATIN latin 0xA0 c substitute-glyph latin-glyph)
     (λ _. either encoded_glyph (λ n. n) (nat_lt c 0x2000) _ _ _ _
     (λ _. rows encoded_glyph (λ n. n) SUBSTITUTE substitute_glyph LETTERS letters c substitute-glyph letters-glyph)
-    (λ _. either encoded_glyph (λ n. n) (nat_le 0x2500 c && nat_le c 0x257F) _ _ _ _
+    (λ low. either encoded_glyph (λ n. n) (nat_le 0x2500 c && nat_le c 0x257F) _ _ _ _
     (λ _. chart encoded_glyph (λ n. n) SUBSTITUTE substitute_glyph LINES lines 0x2500 c substitute-glyph lines-glyph)
     (λ _. either encoded_glyph (λ n. n) (nat_lt c 0x3100) _ _ _ _
-    (λ _. rows encoded_glyph (λ n. n) SUBSTITUTE substitute_glyph SIGNS signs c substitute-glyph signs-glyph)
+    (λ high. within (λ k. encoded_glyph (sign_of k)) (λ k. in_rows substitute_glyph signs k) 0x2000 0x1100 c signs-glyph
+    (grind (arith, nat_tests)) (grind (arith, nat_tests)))
     (λ _. either encoded_glyph (λ n. n) (nat_le 0xFF01 c && nat_le c 0xFF5E) _ _ _ _
     (λ is. fullwidth-glyph (ascii_of_fullwidth c) (grind (arith, nat_tests)) (grind (arith, nat_tests)))
     (λ _. substitute-glyph)))))
@@ -139,8 +155,8 @@ letters-codes : map (on_row is_code) LETTERS ≡ map (on_row (λ n. true)) lette
 unfolding letters
 letters-codes = refl
 
-signs-codes : map (on_row is_code) SIGNS ≡ map (on_row (λ n. true)) signs
-unfolding signs
+signs-codes : map (λ c. is_code (sign_of c)) (range_with_len 0x2000 0x1100) ≡ map (λ c. true) (range_with_len 0x2000 0x1100)
+unfolding sign_of
 signs-codes = refl
 
 fullwidth-code : (n : ℕ) → 0x20 ≤ n → n ≤ 0x7E → is_code n ≡ true
@@ -152,10 +168,11 @@ code_by-code c =
     (λ _. chart is_code (λ n. true) SUBSTITUTE substitute_glyph LATIN latin 0xA0 c refl latin-codes)
     (λ _. either is_code (λ n. true) (nat_lt c 0x2000) _ 0 _ 0
     (λ _. rows is_code (λ n. true) SUBSTITUTE substitute_glyph LETTERS letters c refl letters-codes)
-    (λ _. either is_code (λ n. true) (nat_le 0x2500 c && nat_le c 0x257F) _ 0 _ 0
+    (λ low. either is_code (λ n. true) (nat_le 0x2500 c && nat_le c 0x257F) _ 0 _ 0
     (λ _. chart is_code (λ n. true) SUBSTITUTE substitute_glyph LINES lines 0x2500 c refl lines-codes)
     (λ _. either is_code (λ n. true) (nat_lt c 0x3100) _ 0 _ 0
-    (λ _. rows is_code (λ n. true) SUBSTITUTE substitute_glyph SIGNS signs c refl signs-codes)
+    (λ high. within (λ k. is_code (sign_of k)) (λ k. true) 0x2000 0x1100 c signs-codes (grind (arith, nat_tests))
+    (grind (arith, nat_tests)))
     (λ _. either is_code (λ n. true) (nat_le 0xFF01 c && nat_le c 0xFF5E) _ 0 _ 0
     (λ is. fullwidth-code (ascii_of_fullwidth c) (grind (arith, nat_tests)) (grind (arith, nat_tests)))
     (λ _. refl)))))

@@ -1,6 +1,6 @@
 -- The bytes that write a glyph write it, and leave the sets with no single shift pending.
 use Rattle.std.proofs.Common.{◌≡◌, ℕ, ◌%◌, ◌<◌, ◌≤◌, Bool, true, false, List, [], ◌∷◌, ◌++◌, length, Option, Some, None, refl, sym, ap, subst, ◌∙◌, arith, append_assoc, append-nil}
-use Rattle.std.specs.Prelude.{nat_lt, ◌==◌, ◌&&◌, if◌then◌else◌, is_none}
+use Rattle.std.specs.Prelude.{nat_lt, ◌==◌, ◌&&◌, not, if◌then◌else◌, is_none}
 use Rattle.std.proofs.lemmas.Bool.{and_parts, eqb-true}
 use Rattle.std.proofs.lemmas.Bool.Decides.{nat_tests}
 use Rattle.std.proofs.lemmas.List.{set-set, set-get_or, get_or-set_same}
@@ -33,7 +33,8 @@ use Rattle.vt_term.specs.Writing.{write_glyph, put_glyph, print}
 use Rattle.vt_term.specs.Functions.{effect, control, escape_with, with_sets}
 use Rattle.vt_term.specs.Play.{Played, play, after_events}
 use Rattle.vt_utf8.specs.Translation.{shifted, designation, while_designated, through_g2, reads_ascii}
-use Rattle.vt_utf8.specs.Translation.{spelled_in, written, unshifted, translation, glyph_off}
+use Rattle.vt_utf8.specs.Translation.{spelled_in, written, unshifted, translation, glyph_off, write_wide}
+use Rattle.vt_utf8.specs.Translation.{is_at_end as is_full}
 use Rattle.vt_utf8.specs.Similar.{shown}
 use Rattle.vt_utf8.specs.Cells.{cells}
 use Rattle.vt_utf8.proofs.Silence.{silent-reports, SpellQuietly, spell-append, spell-printed, spell-ss2, spell-ss3, spell-designation, shown-glyph}
@@ -349,4 +350,16 @@ written-itself s t c n none played is written =
     written
     ∙ ap (λ (m : ℕ). record s { display = write_glyph m s.display }) is
     ∙ ap (λ (d : Display). record s { display = write_glyph (shown c) d }) (sym (unshifted-same s.display none))
+    ∙ sym (ap (λ (p : Played). p.state) played)
+
+-- a wide character's glyph and the space after it are, if two cells are left in the row
+pub wide-itself : (s t : State) (c : ℕ) → is_full s.display ≡ false
+    → play s (translation s c) ≡ record { state = record s { display = write_wide (shown c) s.display }; reports = [] }
+    → t ≡ record s { display = write_glyph space (write_glyph (shown c) s.display) } → t ≡ (play s (translation s c)).state
+wide-itself s t c fits played written =
+    written
+    ∙ ap (λ (b : Bool). record s {
+      display = if not b then write_glyph space (write_glyph (shown c) s.display) else (
+          if s.display.modes.decawm then write_glyph space (write_glyph (shown c) (next_line s.display)) else s.display);
+    }) (sym fits)
     ∙ sym (ap (λ (p : Played). p.state) played)

@@ -5,6 +5,7 @@ ghost use Rattle.std.specs.Bool.{OnTrue};
 ghost use Rattle.std.specs.Option.{option_to_list};
 ghost use Rattle.std.specs.declared.option.Option.TheVariants.{None};
 ghost use Rattle.bstr.specs.Utf8.{replacement};
+ghost use Rattle.vt_glyph.specs.Tables.{space};
 ghost use Rattle.vt_syntax.specs.declared.held.Held.TheVariants.{Nothing};
 ghost use Rattle.vt_term.specs.Play.{play};
 ghost use Rattle.vt_term.specs.Scrolling.{log, scrolled_off};
@@ -21,8 +22,10 @@ use crate::ascii::ascii_run;
 use crate::decoder::{Decoder, whole_character};
 use crate::laws::{ascii, cuts, one_byte, silence, writes};
 use crate::log::BytesLog;
-use crate::similar::glyph_of_code;
-use crate::translation::{BYTE_LIMIT, TRANSLATION_LIMIT, narrow_code, translation};
+use crate::similar::{code_of, glyph_of_code};
+use crate::translation::{
+    BYTE_LIMIT, TRANSLATION_LIMIT, cells, is_at_end, narrow_code, translation,
+};
 use std::alloc::AllocError;
 use vt_syntax::Held;
 use vt_syntax::laws::one_split;
@@ -414,7 +417,8 @@ fn writes_glyphs(terminal: &Terminal) -> bool
     }
 }
 
-/// Plays a character beyond ASCII, which causes no report. Speed: most characters are one glyph between sequences.
+/// Plays a character beyond ASCII, which causes no report. Speed: most characters are one glyph between sequences, or one and
+/// a space.
 #[inline(always)]
 pub fn feed_beyond_ascii(terminal: &mut Terminal, c: char, out: &mut Vec<u8>)
     requires beyond { 0x80 ≤ c }
@@ -432,8 +436,23 @@ pub fn feed_beyond_ascii(terminal: &mut Terminal, c: char, out: &mut Vec<u8>)
             terminal.write_glyph(glyph_of_code(code));
             return;
         }
+        if cells(c) == 2 && !is_at_end(terminal) {
+            write_both(terminal, c);
+            return;
+        }
     }
     feed_translated(terminal, c, out);
+}
+
+/// Writes the glyph that is shown for a character, and a space after it.
+#[inline(never)]
+fn write_both(terminal: &mut Terminal, c: char)
+    ensures { terminal.new ≡ record terminal.old {
+      display = write_glyph space (write_glyph (shown c) terminal.old.display);
+    } }
+{
+    terminal.write_glyph(glyph_of_code(code_of(c)));
+    terminal.write_glyph(Glyph::blank());
 }
 
 /// Plays the bytes that a character beyond ASCII is translated to, which cause no report.

@@ -142,7 +142,7 @@ fn append_both(c: char, sets: &Sets, bytes: &mut Bytes)
 
 /// Returns whether one cell is left in the cursor's row.
 #[inline(always)]
-fn is_at_end(terminal: &Terminal) -> bool
+pub(crate) fn is_at_end(terminal: &Terminal) -> bool
     ensures { result ≡ is_at_end terminal.now.display }
 {
     let cursor = terminal.cursor();

@@ -1,5 +1,6 @@
-use Rattle.std.proofs.Common.{◌∙◌}
-use Rattle.vt_utf8.proofs.Written.{written-itself}
+use Rattle.std.proofs.Common.{◌≡◌, ◌∙◌, false, rules}
+use Rattle.vt_utf8.specs.Translation.{is_at_end}
+use Rattle.vt_utf8.proofs.Written.{written-itself, wide-itself}
 use Rattle.vt_utf8.proofs.feeding.feed_beyond_ascii.Goals as goal
 
 pub returns-clause-silent : goal.returns-clause-silent
@@ -13,3 +14,11 @@ returns-in-Some-clause-state c =
     (c.writes.ensures.one c.args.terminal.now c.args.c c.width.ensures.sound is.0 c.requires.beyond
     c.in-Some.ensures.0)
     (c.glyph_of_code.ensures ∙ c.in-Some.ensures.1) c.write_glyph.ensures
+
+pub returns-then-not-is_at_end-clause-state : goal.returns-then-not-is_at_end-clause-state
+returns-then-not-is_at_end-clause-state c =
+    let is = c.if-writes_glyphs.ensures in
+    let fits : is_at_end c.args.terminal.now.display ≡ false = search rules in
+    wide-itself c.args.terminal.now c.write_both.new.terminal c.args.c fits
+    (c.writes.ensures.two c.args.terminal.now c.args.c c.width.ensures.sound is.0 is.1 c.requires.beyond (search rules))
+    c.write_both.ensures

@@ -10,4 +10,4 @@ returns-then-c-lt12544 c =
     let no_line : nat_le 0x2500 c.args.c && nat_le c.args.c 0x257F ≡ false =
     sym c.is_in.ensures ∙ c.if-is_in.false in
     let sign : nat_lt c.args.c 0x3100 ≡ true = grind (arith, nat_tests) in
-    rw (no_latin, no_letter, no_line, sign) c.in_rows-then-c-lt12544.ensures
+    rw (no_latin, no_letter, no_line, sign) c.sign.ensures

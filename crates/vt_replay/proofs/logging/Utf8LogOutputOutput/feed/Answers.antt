@@ -1,0 +1,39 @@
+use Rattle.std.proofs.lemmas.Grind.{common_steps}
+use Rattle.std.proofs.Common.{◌≡◌, ◌≤◌, take, arith}
+use Rattle.std.proofs.lemmas.List.{length-take, take-take}
+use Rattle.vt_replay.proofs.Players.{utf8_log_after, utf8_log_none}
+use Rattle.vt_replay.proofs.logging.Utf8LogOutputOutput.feed.Goals as goal
+
+pub returns-clause-after : goal.returns-clause-after
+returns-clause-after c =
+    let fed = c.feed_utf8_log_reserved.ensures in
+    let long = simp length-take at fed.within in
+    let short : c.feed_utf8_log_reserved.result ≤ c.front_for-count.result = omega (arith, long) in
+    let front : take c.feed_utf8_log_reserved.result (take c.front_for-count.result c.args.chunk.now)
+    ≡ take c.feed_utf8_log_reserved.result c.args.chunk.now =
+    take-take c.feed_utf8_log_reserved.result c.front_for-count.result c.args.chunk.now short in
+    rw (← front)
+    (utf8_log_after _ _ _ _ _ c.cuts.ensures.two c.cuts.ensures.translated c.log_cuts.ensures.two c.log_cuts.ensures.none c.soundness.ensures.play c.width.ensures.sound fed.state fed.pending)
+
+pub returns-clause-some : goal.returns-clause-some
+returns-clause-some c =
+    let none = utf8_log_none c.args.self.now.terminal c.args.self.now.decoder c.log_cuts.ensures.none c.width.ensures.sound in
+    grind (arith, common_steps, none)
+
+pub returns-clause-within : goal.returns-clause-within
+returns-clause-within c = grind (arith, common_steps)
+
+pub returns-clause-written : goal.returns-clause-written
+returns-clause-written c = grind (arith, common_steps)
+
+pub returns-clause-most : goal.returns-clause-most
+returns-clause-most c = grind (arith, common_steps)
+
+pub returns-clause-counted : goal.returns-clause-counted
+returns-clause-counted c = grind (arith, common_steps)
+
+pub returns-clause-reserve : goal.returns-clause-reserve
+returns-clause-reserve c = grind (arith, common_steps)
+
+pub returns-clause-capacity : goal.returns-clause-capacity
+returns-clause-capacity c = grind (arith, common_steps)

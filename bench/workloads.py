@@ -1,4 +1,4 @@
-"""The benchmark's inputs: eleven workloads, three in UTF-8, and three screens, the same bytes on every machine.
+"""The benchmark's inputs: eleven workloads, seven in UTF-8, and three screens, the same bytes on every machine.
 
 Four workloads are what frequent programs write on a terminal line: `seq`, `find`, make with gcc, and `git log --color`. The programs' words
 are fixed, and all others are made from the seed.
@@ -142,10 +142,31 @@ def boxes(source):
     return f"│{'│'.join(cells)}│\r\n├{rule}┤\r\n".encode()
 
 
+def lettered(source, letters):
+    """A line of up to 40 characters, among these letters and spaces."""
+    return "".join(source.among(letters) if source.below(6) else " " for _ in range(source.below(41))).encode() + b"\r\n"
+
+
+def japanese(source):
+    """A line of hiragana, each of two cells."""
+    return lettered(source, [chr(0x3042 + letter) for letter in range(64)])
+
+
+def blocks(source):
+    """A line of block elements."""
+    return lettered(source, "█▓▒░▀▄▌▐▁▂▃▅▆▇")
+
+
+def braille(source):
+    """A line of braille patterns, as a plot has them."""
+    return lettered(source, [chr(0x2800 + dots) for dots in range(256)])
+
+
 WORKLOADS = {"plain lines": plain, "addressing, SGR": addressing, "region, IL, DL": region,
              "supplemental": supplemental, "random bytes": random_bytes, "scroll region": scrolling, "bells": bells,
              "seq": seq, "find": find, "compile": compilation, "git log --color": git_log}
-UTF_8 = {"plain lines": plain, "German": german, "boxes": boxes}
+UTF_8 = {"plain lines": plain, "German": german, "boxes": boxes, "Japanese": japanese, "blocks": blocks, "braille": braille,
+         "ill-formed": supplemental}
 
 
 def make(name, size, among=WORKLOADS):

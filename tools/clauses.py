@@ -9,7 +9,7 @@ import re
 
 ROOT = pathlib.Path(__file__).resolve().parent.parent / "crates"
 WORD = re.compile(r"[A-Za-z_][\w'-]*(?:\.[A-Za-z_][\w'-]*)*|◌[^\s.{},]+◌")
-TEXT = re.compile(r'"[^"]*"')
+TEXT = re.compile(r'"(?:[^"\\]|\\.)*"')
 DATA = re.compile(r"(?:pub )?data ")
 CONSTRUCTOR = re.compile(r"\s+(\S+) :")
 START = re.compile(r"(?:(?:abbrev|unfoldable|pub|data|record) )*([A-Za-z_][\w'-]*)(?= :| \(| \{| ⟦|$)")
@@ -182,8 +182,8 @@ class Item:
 
 
 def crates():
-    """Returns the names of all crates but those of tests."""
-    return sorted(path.name for path in ROOT.iterdir() if (path / "src").exists() and not path.name.startswith("tests_"))
+    """Returns the names of all crates but those of tests and the frozen promises."""
+    return sorted(path.name for path in ROOT.iterdir() if (path / "src").exists() and not path.name.startswith(("tests_", "promises")))
 
 
 def exported(crate):

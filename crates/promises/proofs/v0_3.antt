@@ -1,0 +1,17 @@
+pub mod syntax
+pub mod glyph
+pub mod screen
+pub mod term
+pub mod controls
+pub mod paint
+pub mod update
+pub mod picture
+pub mod trace
+pub mod utf8
+pub mod xterm
+pub mod xterm_paint
+pub mod device
+pub mod recording
+pub mod output
+pub mod cli
+pub mod replay

@@ -15,3 +15,4 @@ pub mod recording
 pub mod output
 pub mod cli
 pub mod replay
+pub mod vectors

@@ -3,20 +3,21 @@
 //! `tools/freeze` wrote this crate, and no other crate needs it. If it isn't proved, a promise is broken.
 #![tactic(auto)]
 
-pub mod syntax;
-pub mod glyph;
-pub mod screen;
-pub mod term;
+pub mod cli;
 pub mod controls;
+pub mod device;
+pub mod glyph;
+pub mod output;
 pub mod paint;
-pub mod update;
 pub mod picture;
+pub mod recording;
+pub mod replay;
+pub mod screen;
+pub mod syntax;
+pub mod term;
 pub mod trace;
+pub mod update;
 pub mod utf8;
+pub mod vectors;
 pub mod xterm;
 pub mod xterm_paint;
-pub mod device;
-pub mod recording;
-pub mod output;
-pub mod cli;
-pub mod replay;

@@ -2,8 +2,7 @@
 ghost use Rattle.promises.specs.v0_3.term.Play.{play};
 ghost use Rattle.std.specs.Prelude.{drop, length, ◌≡◌, ◌≤◌};
 
-use vt_term::Passed;
-use vt_term::Terminal;
+use vt_term::{Passed, Terminal};
 
 /// Promises what `terminal.pass_unseen` promises.
 pub fn terminal_pass_unseen(terminal: &mut Terminal, piece: &[u8]) -> Passed

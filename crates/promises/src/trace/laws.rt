@@ -20,7 +20,6 @@ ghost use Rattle.vt_trace.specs.Summary.{HasPart};
 ghost use Rattle.vt_trace.specs.Trace.{IsAfter};
 ghost use Rattle.vt_trace.specs.declared.tracing.Tracer.{Tracer};
 
-
 /// Promises what `vt_trace::laws::ignored` promises.
 pub fn ignored()
     ensures has_no_effect { (event : Event) → is_ignored event ≡ true → HasNoEffect event }

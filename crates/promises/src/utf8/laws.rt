@@ -20,7 +20,6 @@ ghost use Rattle.vt_term.specs.Sound.{IsSound};
 ghost use Rattle.vt_term.specs.State.{State};
 ghost use Rattle.vt_utf8.specs.Placing.{TakesText};
 
-
 /// Promises what `vt_utf8::laws::soundness` promises.
 pub fn soundness()
     ensures { (s : State) (pending bytes : List ℕ) → IsSound s → IsSound (play_utf8 s pending bytes).state }

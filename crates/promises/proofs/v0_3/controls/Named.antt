@@ -1,5 +1,5 @@
 -- 0.3: vt_controls/specs/Named is today's.
-use Rattle.promises.proofs.v0_3.term.Functions.{controls-same, plain_sequences-same, quote_sequences-same}
+use Rattle.promises.proofs.v0_3.term.Functions.{controls-same, plain_sequences-same}
 use Rattle.promises.specs.v0_3.controls.Named as frozen
 use Rattle.std.proofs.Common.{refl, ◌≡◌}
 use Rattle.std.specs.Prelude.{[], bytes_eq, codes, find, None, option_map, Some, unwrap_or, ℕ, ◌++◌, ◌∷◌}
@@ -7,7 +7,7 @@ use Rattle.vt_controls.specs.Controls.{sequence_of}
 use Rattle.vt_controls.specs.Named as today
 use Rattle.vt_controls.specs.Named.{newly_set, rendition_text, resets}
 use Rattle.vt_syntax.specs.declared.event.Event.TheVariants.{Control, Sequence}
-use Rattle.vt_term.specs.Functions.{Function}
+use Rattle.vt_term.specs.Functions.{Function, quote_sequences}
 
 pub byte_named-same : frozen.byte_named ≡ today.byte_named
 unfolding frozen.byte_named today.byte_named
@@ -24,7 +24,7 @@ pub unless_one-same : frozen.unless_one ≡ today.unless_one
 unless_one-same = refl
 
 pub no_protection-same : frozen.no_protection ≡ today.no_protection
-no_protection-same = λ ι. Sequence None (record { items = [] }) (Some 0x22) ((byte_named-same ι) (quote_sequences-same ι) (codes "DECSCA"))
+no_protection-same = λ ι. Sequence None (record { items = [] }) (Some 0x22) ((byte_named-same ι) quote_sequences (codes "DECSCA"))
 
 pub resets-same : frozen.resets ≡ today.resets
 resets-same = refl

@@ -21,16 +21,15 @@ use Rattle.vt_glyph.specs.Tables.{substitute_glyph}
 use Rattle.vt_syntax.specs.declared.event.Event.TheVariants.{Control, Escape, Print, Sequence}
 use Rattle.vt_syntax.specs.declared.event.Event.{Event}
 use Rattle.vt_term.specs.Answers.{primary_reports, private_reports, secondary_reports, silent, status_reports}
-use Rattle.vt_term.specs.Editing.{names_area}
 use Rattle.vt_term.specs.Functions as today
-use Rattle.vt_term.specs.Functions.{byte, designate_to, no_function, numbers_of, of_any, of_first, of_pair, set_name}
-use Rattle.vt_term.specs.Functions.{taking, with_sets}
-use Rattle.vt_term.specs.Modes.{ansi_modes, keypad_mode, report_form}
+use Rattle.vt_term.specs.Functions.{byte, changing, counted, designate_to, erasing, intermediate_tables, no_function}
+use Rattle.vt_term.specs.Functions.{numbers_of, of_any, of_first, of_pair, paired, plain, selected, set_name}
+use Rattle.vt_term.specs.Functions.{space_escapes, with_sets}
+use Rattle.vt_term.specs.Modes.{ansi_modes, keypad_mode}
 use Rattle.vt_term.specs.Moving.{are_margins, backspace, carriage_return, cursor_backward, cursor_down}
 use Rattle.vt_term.specs.Moving.{cursor_forward, cursor_position, cursor_up, set_margins}
-use Rattle.vt_term.specs.Parameters.{count, first, second}
-use Rattle.vt_term.specs.Rendition.{rendition_changes, select_character_attribute}
-use Rattle.vt_term.specs.Resets.{is_level, set_conformance_level, soft_reset}
+use Rattle.vt_term.specs.Parameters.{first}
+use Rattle.vt_term.specs.Rendition.{rendition_changes}
 use Rattle.vt_term.specs.Saving.{restore_cursor, save_cursor}
 use Rattle.vt_term.specs.Tabs.{horizontal_tab, set_tab}
 
@@ -57,19 +56,19 @@ pub FunctionTable-same : frozen.FunctionTable ≡ today.FunctionTable
 FunctionTable-same = refl
 
 pub changing-same : frozen.changing ≡ today.changing
-changing-same = λ ι name effect. record { name = name; takes = λ values. true; effect = effect; report = λ p. silent }
+changing-same = refl
 
 pub plain-same : frozen.plain ≡ today.plain
-plain-same = λ ι name effect. (changing-same ι) name (λ values. effect)
+plain-same = refl
 
 pub counted-same : frozen.counted ≡ today.counted
-counted-same = λ ι name effect. (changing-same ι) name (λ values. effect (count values))
+counted-same = refl
 
 pub selected-same : frozen.selected ≡ today.selected
-selected-same = λ ι name effect. (changing-same ι) name (λ values. effect (first values))
+selected-same = refl
 
 pub paired-same : frozen.paired ≡ today.paired
-paired-same = λ ι name effect. (changing-same ι) name (λ values. effect (first values) (second values))
+paired-same = refl
 
 pub taking-same : frozen.taking ≡ today.taking
 taking-same = refl
@@ -84,7 +83,7 @@ pub of_pair-same : frozen.of_pair ≡ today.of_pair
 of_pair-same = refl
 
 pub erasing-same : frozen.erasing ≡ today.erasing
-erasing-same = λ ι name effect. taking (λ values. names_area (first values)) ((selected-same ι) name effect)
+erasing-same = refl
 
 pub numbers_of-same : {X : Type 0} → frozen.numbers_of {X = X} ≡ today.numbers_of {X = X}
 numbers_of-same = refl
@@ -98,7 +97,7 @@ reporting-same = λ ι name reports. record {
 }
 
 pub modal-same : frozen.modal ≡ today.modal
-modal-same = λ ι name modes on. of_any (numbers_of modes) ((changing-same ι) name ((change_modes-same ι) modes on))
+modal-same = λ ι name modes on. of_any (numbers_of modes) (changing name ((change_modes-same ι) modes on))
 
 pub no_function-same : frozen.no_function ≡ today.no_function
 no_function-same = refl
@@ -111,21 +110,21 @@ with_sets-same = refl
 
 pub controls-same : frozen.controls ≡ today.controls
 controls-same = λ ι.
-    (0x08, (plain-same ι) (codes "BS") backspace)
-    ∷ (0x09, (plain-same ι) (codes "HT") horizontal_tab)
-    ∷ (0x0A, (plain-same ι) (codes "LF") (line_feed-same ι))
-    ∷ (0x0B, (plain-same ι) (codes "VT") (line_feed-same ι))
-    ∷ (0x0C, (plain-same ι) (codes "FF") (line_feed-same ι))
-    ∷ (0x0D, (plain-same ι) (codes "CR") carriage_return)
-    ∷ (0x0E, (plain-same ι) (codes "SO") (with_sets (locked_left 1)))
-    ∷ (0x0F, (plain-same ι) (codes "SI") (with_sets (locked_left 0)))
-    ∷ (0x1A, (plain-same ι) (codes "SUB") ((write_glyph-same ι) substitute_glyph))
-    ∷ (0x84, (plain-same ι) (codes "IND") (index-same ι))
-    ∷ (0x85, (plain-same ι) (codes "NEL") (next_line-same ι))
-    ∷ (0x88, (plain-same ι) (codes "HTS") set_tab)
-    ∷ (0x8D, (plain-same ι) (codes "RI") (reverse_index-same ι))
-    ∷ (0x8E, (plain-same ι) (codes "SS2") (with_sets (shifted_once 2)))
-    ∷ (0x8F, (plain-same ι) (codes "SS3") (with_sets (shifted_once 3)))
+    (0x08, plain (codes "BS") backspace)
+    ∷ (0x09, plain (codes "HT") horizontal_tab)
+    ∷ (0x0A, plain (codes "LF") (line_feed-same ι))
+    ∷ (0x0B, plain (codes "VT") (line_feed-same ι))
+    ∷ (0x0C, plain (codes "FF") (line_feed-same ι))
+    ∷ (0x0D, plain (codes "CR") carriage_return)
+    ∷ (0x0E, plain (codes "SO") (with_sets (locked_left 1)))
+    ∷ (0x0F, plain (codes "SI") (with_sets (locked_left 0)))
+    ∷ (0x1A, plain (codes "SUB") ((write_glyph-same ι) substitute_glyph))
+    ∷ (0x84, plain (codes "IND") (index-same ι))
+    ∷ (0x85, plain (codes "NEL") (next_line-same ι))
+    ∷ (0x88, plain (codes "HTS") set_tab)
+    ∷ (0x8D, plain (codes "RI") (reverse_index-same ι))
+    ∷ (0x8E, plain (codes "SS2") (with_sets (shifted_once 2)))
+    ∷ (0x8F, plain (codes "SS3") (with_sets (shifted_once 3)))
     ∷ (0x9A, (reporting-same ι) (codes "DECID") primary_reports)
     ∷ []
 
@@ -135,26 +134,23 @@ control-same = λ ι b. ((function_in-same ι) (controls-same ι) b).effect []
 
 pub plain_escapes-same : frozen.plain_escapes ≡ today.plain_escapes
 plain_escapes-same = λ ι.
-    (byte (codes "7"), (plain-same ι) (codes "DECSC") save_cursor)
-    ∷ (byte (codes "8"), (plain-same ι) (codes "DECRC") restore_cursor)
-    ∷ (byte (codes "="), (plain-same ι) (codes "DECKPAM") (keypad_mode true))
-    ∷ (byte (codes ">"), (plain-same ι) (codes "DECKPNM") (keypad_mode false))
-    ∷ (byte (codes "c"), (plain-same ι) (codes "RIS") (reset_to_initial_state-same ι))
-    ∷ (byte (codes "n"), (plain-same ι) (codes "LS2") (with_sets (locked_left 2)))
-    ∷ (byte (codes "o"), (plain-same ι) (codes "LS3") (with_sets (locked_left 3)))
-    ∷ (byte (codes "~"), (plain-same ι) (codes "LS1R") (with_sets (locked_right 1)))
-    ∷ (byte (codes "}"), (plain-same ι) (codes "LS2R") (with_sets (locked_right 2)))
-    ∷ (byte (codes "|"), (plain-same ι) (codes "LS3R") (with_sets (locked_right 3)))
+    (byte (codes "7"), plain (codes "DECSC") save_cursor)
+    ∷ (byte (codes "8"), plain (codes "DECRC") restore_cursor)
+    ∷ (byte (codes "="), plain (codes "DECKPAM") (keypad_mode true))
+    ∷ (byte (codes ">"), plain (codes "DECKPNM") (keypad_mode false))
+    ∷ (byte (codes "c"), plain (codes "RIS") (reset_to_initial_state-same ι))
+    ∷ (byte (codes "n"), plain (codes "LS2") (with_sets (locked_left 2)))
+    ∷ (byte (codes "o"), plain (codes "LS3") (with_sets (locked_left 3)))
+    ∷ (byte (codes "~"), plain (codes "LS1R") (with_sets (locked_right 1)))
+    ∷ (byte (codes "}"), plain (codes "LS2R") (with_sets (locked_right 2)))
+    ∷ (byte (codes "|"), plain (codes "LS3R") (with_sets (locked_right 3)))
     ∷ []
 
 pub space_escapes-same : frozen.space_escapes ≡ today.space_escapes
-space_escapes-same = λ ι.
-    (byte (codes "F"), (plain-same ι) (codes "S7C1T") (report_form false))
-    ∷ (byte (codes "G"), (plain-same ι) (codes "S8C1T") (report_form true))
-    ∷ []
+space_escapes-same = refl
 
 pub number_sign_escapes-same : frozen.number_sign_escapes ≡ today.number_sign_escapes
-number_sign_escapes-same = λ ι. (byte (codes "8"), (plain-same ι) (codes "DECALN") (screen_alignment-same ι)) ∷ []
+number_sign_escapes-same = λ ι. (byte (codes "8"), plain (codes "DECALN") (screen_alignment-same ι)) ∷ []
 
 pub set_name-same : frozen.set_name ≡ today.set_name
 set_name-same = refl
@@ -175,7 +171,7 @@ designation-same = λ ι slot name last. record {
 
 pub escape_tables-same : frozen.escape_tables ≡ today.escape_tables
 escape_tables-same = λ ι.
-    (byte (codes " "), (function_in-same ι) (space_escapes-same ι))
+    (byte (codes " "), (function_in-same ι) space_escapes)
     ∷ (byte (codes "#"), (function_in-same ι) (number_sign_escapes-same ι))
     ∷ (byte (codes "("), (designation-same ι) 0 (codes "SCS G0 "))
     ∷ (byte (codes ")"), (designation-same ι) 1 (codes "SCS G1 "))
@@ -196,32 +192,32 @@ escape_with-same = λ ι inter last. ((escape_function-same ι) inter last).effe
 
 pub plain_sequences-same : frozen.plain_sequences ≡ today.plain_sequences
 plain_sequences-same = λ ι.
-    (byte (codes "@"), (counted-same ι) (codes "ICH") (insert_character-same ι))
-    ∷ (byte (codes "A"), (counted-same ι) (codes "CUU") cursor_up)
-    ∷ (byte (codes "B"), (counted-same ι) (codes "CUD") cursor_down)
-    ∷ (byte (codes "C"), (counted-same ι) (codes "CUF") cursor_forward)
-    ∷ (byte (codes "D"), (counted-same ι) (codes "CUB") cursor_backward)
-    ∷ (byte (codes "H"), (paired-same ι) (codes "CUP") cursor_position)
-    ∷ (byte (codes "J"), (erasing-same ι) (codes "ED") ((erase_in_display-same ι) false))
-    ∷ (byte (codes "K"), (erasing-same ι) (codes "EL") ((erase_in_line-same ι) false))
-    ∷ (byte (codes "L"), (counted-same ι) (codes "IL") (insert_line-same ι))
-    ∷ (byte (codes "M"), (counted-same ι) (codes "DL") (delete_line-same ι))
-    ∷ (byte (codes "P"), (counted-same ι) (codes "DCH") (delete_character-same ι))
-    ∷ (byte (codes "X"), (counted-same ι) (codes "ECH") (erase_character-same ι))
+    (byte (codes "@"), counted (codes "ICH") (insert_character-same ι))
+    ∷ (byte (codes "A"), counted (codes "CUU") cursor_up)
+    ∷ (byte (codes "B"), counted (codes "CUD") cursor_down)
+    ∷ (byte (codes "C"), counted (codes "CUF") cursor_forward)
+    ∷ (byte (codes "D"), counted (codes "CUB") cursor_backward)
+    ∷ (byte (codes "H"), paired (codes "CUP") cursor_position)
+    ∷ (byte (codes "J"), erasing (codes "ED") ((erase_in_display-same ι) false))
+    ∷ (byte (codes "K"), erasing (codes "EL") ((erase_in_line-same ι) false))
+    ∷ (byte (codes "L"), counted (codes "IL") (insert_line-same ι))
+    ∷ (byte (codes "M"), counted (codes "DL") (delete_line-same ι))
+    ∷ (byte (codes "P"), counted (codes "DCH") (delete_character-same ι))
+    ∷ (byte (codes "X"), counted (codes "ECH") (erase_character-same ι))
     ∷ (byte (codes "c"), (reporting-same ι) (codes "DA") primary_reports)
-    ∷ (byte (codes "f"), (paired-same ι) (codes "HVP") cursor_position)
-    ∷ (byte (codes "g"), of_first (0 ∷ 3 ∷ []) ((selected-same ι) (codes "TBC") (clear_tabs-same ι)))
+    ∷ (byte (codes "f"), paired (codes "HVP") cursor_position)
+    ∷ (byte (codes "g"), of_first (0 ∷ 3 ∷ []) (selected (codes "TBC") (clear_tabs-same ι)))
     ∷ (byte (codes "h"), (modal-same ι) (codes "SM") ansi_modes true)
     ∷ (byte (codes "l"), (modal-same ι) (codes "RM") ansi_modes false)
-    ∷ (byte (codes "m"), of_any (numbers_of rendition_changes) ((changing-same ι) (codes "SGR") (select_graphic_rendition-same ι)))
+    ∷ (byte (codes "m"), of_any (numbers_of rendition_changes) (changing (codes "SGR") (select_graphic_rendition-same ι)))
     ∷ (byte (codes "n"), (reporting-same ι) (codes "DSR") status_reports)
-    ∷ (byte (codes "r"), of_pair are_margins ((paired-same ι) (codes "DECSTBM") set_margins))
+    ∷ (byte (codes "r"), of_pair are_margins (paired (codes "DECSTBM") set_margins))
     ∷ []
 
 pub private_sequences-same : frozen.private_sequences ≡ today.private_sequences
 private_sequences-same = λ ι.
-    (byte (codes "J"), (erasing-same ι) (codes "DECSED") ((erase_in_display-same ι) true))
-    ∷ (byte (codes "K"), (erasing-same ι) (codes "DECSEL") ((erase_in_line-same ι) true))
+    (byte (codes "J"), erasing (codes "DECSED") ((erase_in_display-same ι) true))
+    ∷ (byte (codes "K"), erasing (codes "DECSEL") ((erase_in_line-same ι) true))
     ∷ (byte (codes "h"), (modal-same ι) (codes "SM") (private_modes-same ι) true)
     ∷ (byte (codes "l"), (modal-same ι) (codes "RM") (private_modes-same ι) false)
     ∷ (byte (codes "n"), (reporting-same ι) (codes "DSR") private_reports)
@@ -231,13 +227,10 @@ pub greater_sequences-same : frozen.greater_sequences ≡ today.greater_sequence
 greater_sequences-same = λ ι. (byte (codes "c"), (reporting-same ι) (codes "DA") secondary_reports) ∷ []
 
 pub quote_sequences-same : frozen.quote_sequences ≡ today.quote_sequences
-quote_sequences-same = λ ι.
-    (byte (codes "p"), of_pair is_level ((paired-same ι) (codes "DECSCL") set_conformance_level))
-    ∷ (byte (codes "q"), of_first (0 ∷ 1 ∷ 2 ∷ []) ((selected-same ι) (codes "DECSCA") select_character_attribute))
-    ∷ []
+quote_sequences-same = refl
 
 pub exclamation_sequences-same : frozen.exclamation_sequences ≡ today.exclamation_sequences
-exclamation_sequences-same = λ ι. (byte (codes "p"), (plain-same ι) (codes "DECSTR") soft_reset) ∷ []
+exclamation_sequences-same = refl
 
 pub table_after-same : frozen.table_after ≡ today.table_after
 table_after-same = λ ι tables b. unwrap_or ((look_up-same ι) tables b) []
@@ -246,13 +239,13 @@ pub marker_tables-same : frozen.marker_tables ≡ today.marker_tables
 marker_tables-same = λ ι. (byte (codes "?"), (private_sequences-same ι)) ∷ (byte (codes ">"), (greater_sequences-same ι)) ∷ []
 
 pub intermediate_tables-same : frozen.intermediate_tables ≡ today.intermediate_tables
-intermediate_tables-same = λ ι. (0x22, (quote_sequences-same ι)) ∷ (byte (codes "!"), (exclamation_sequences-same ι)) ∷ []
+intermediate_tables-same = refl
 
 pub sequences_of-at : (x0 : Option ℕ) (x1 : Option ℕ) → frozen.sequences_of x0 x1 ≡ today.sequences_of x0 x1
 unfolding frozen.sequences_of today.sequences_of
 sequences_of-at None None = λ ι. (plain_sequences-same ι)
 sequences_of-at (Some marker) None = λ ι. (table_after-same ι) (marker_tables-same ι) marker
-sequences_of-at None (Some inter) = λ ι. (table_after-same ι) (intermediate_tables-same ι) inter
+sequences_of-at None (Some inter) = λ ι. (table_after-same ι) intermediate_tables inter
 sequences_of-at (Some marker) (Some inter) = λ ι. []
 
 pub sequences_of-same : frozen.sequences_of ≡ today.sequences_of

@@ -5,7 +5,7 @@ use Rattle.std.proofs.Common.{refl, ◌≡◌}
 use Rattle.std.specs.Prelude.{[], if◌then◌else◌, length, List, nat_lt, None, Option, slice_index, Some, take, ℕ, ◌&&◌}
 use Rattle.std.specs.Prelude.{◌++◌, ◌==◌, ◌∷◌, ◌≡◌}
 use Rattle.vt_utf8.specs.Decoding as today
-use Rattle.vt_utf8.specs.Decoding.{given_up}
+use Rattle.vt_utf8.specs.Decoding.{read_apart}
 
 pub is_begun-same : frozen.is_begun ≡ today.is_begun
 unfolding frozen.is_begun today.is_begun
@@ -39,11 +39,11 @@ read_first-same = λ ι b.
     else record { characters = or_replacement (decoded (b ∷ [])).char ∷ []; pending = [] }
 
 pub read_apart-same : frozen.read_apart ≡ today.read_apart
-read_apart-same = λ ι pending read. record read { characters = given_up pending ++ read.characters }
+read_apart-same = refl
 
 pub read_last-at : (x0 : List ℕ) (x1 : ℕ) (x2 : Option ℕ) → frozen.read_last x0 x1 x2 ≡ today.read_last x0 x1 x2
 read_last-at pending b (Some c) = λ ι. record { characters = c ∷ []; pending = [] }
-read_last-at pending b None = λ ι. (read_apart-same ι) pending ((read_first-same ι) b)
+read_last-at pending b None = λ ι. read_apart pending ((read_first-same ι) b)
 
 pub read_last-same : frozen.read_last ≡ today.read_last
 read_last-same = λ ι x0 x1 x2. read_last-at x0 x1 x2 ι
